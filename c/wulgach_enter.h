@@ -197,6 +197,9 @@ int32_t wulgach_last_argument_fault(const struct wulgach_argument *argument);
 /* The fault of a mask of this size, or 0: -22 unless it is 8, then -14 if it can't be read. It matters where the call is to sleep. */
 int32_t wulgach_mask_fault(uint64_t size, bool is_readable);
 
+/* Whether a call that is to sleep reads its mask, behind so many sleeps: before the first. It sleeps with that until it returns. */
+bool wulgach_reads_mask(uint32_t sleeps);
+
 /* What a submission comes to that came to this, and behind which the argument has this fault, or 0: the fault counts where nothing was
  * submitted. */
 int64_t wulgach_submission_with_fault(int64_t submitted, int32_t fault);
@@ -217,6 +220,9 @@ struct wulgach_rounds {
 
 /* A call that is asked to submit so many entries, without a round so far. */
 void wulgach_rounds_begin(struct wulgach_rounds *rounds, uint32_t to_submit);
+
+/* Returns how many positions the next round takes at most: all that is published. */
+uint32_t wulgach_round_takes(const struct wulgach_rounds *rounds);
 
 /* A round has come to this. Whether there is one more: exactly if it has taken a position. Else what the submission comes to is written: as
  * many entries as were asked for, or -11 if memory was refused before any position was taken. */

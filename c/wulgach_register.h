@@ -17,8 +17,7 @@ struct wulgach_asked_ring {
     uint32_t entries;       /* of the submission ring, */
     uint32_t cq_entries;    /* and of the completion ring, with IORING_SETUP_CQSIZE */
     uint32_t flags;         /* IORING_SETUP_.. */
-    uint32_t processor;     /* where the ring's thread is to run, with IORING_SETUP_SQ_AFF, */
-    uint32_t processors;    /* and how many there are */
+    bool is_online;         /* with IORING_SETUP_SQ_AFF: the processor on which the ring's thread is to run is online */
     bool has_reserved;      /* a reserved field isn't 0 */
     bool is_open;           /* with IORING_SETUP_ATTACH_WQ: the descriptor is open, */
     bool is_ring;           /* a ring, */
@@ -58,10 +57,26 @@ enum wulgach_region {
     WULGACH_ENTRIES = 2
 };
 
-/* The part of a ring's memory at an offset (enum wulgach_region), where both rings stand in one mapping; and why so many bytes aren't mapped
- * from an offset on, or 0: -22 (EINVAL) of none, -12 (ENOMEM) of an offset that names no part. A mapping may be longer than its part. */
+/* The part of a ring's memory at an offset (enum wulgach_region), where both rings stand in one mapping. */
 uint32_t wulgach_region_of(uint64_t offset);
-int32_t wulgach_mapping_fault(uint64_t size, uint64_t offset);
+
+/* What a call of mmap asks for. */
+struct wulgach_mapping {
+    uint64_t at;            /* at which address, */
+    uint64_t size;          /* how many bytes, */
+    uint64_t offset;        /* from where on */
+    uint32_t protection;    /* PROT_.. */
+    uint32_t flags;         /* MAP_.. */
+};
+
+/* Whether such a call, with these flags, maps what a descriptor names. */
+bool wulgach_names_descriptor(uint32_t flags);
+
+/* Why a ring's memory isn't mapped so, or 0. -22 (EINVAL) of an offset within a page, of huge pages and of no bytes; -12 (ENOMEM) of more bytes
+ * than there are addresses; -22 of an address, since the kernel chooses that; -12 of an offset that names no part; -22 of what is neither
+ * shared nor private, and -95 (EOPNOTSUPP) of a flag that MAP_SHARED_VALIDATE doesn't know; -1 (EPERM) of memory to be run, -22 of a stack,
+ * and -19 (ENODEV) of a private copy that is to be written. A mapping may be longer than its part. */
+int32_t wulgach_mapping_fault(const struct wulgach_mapping *asked);
 
 enum wulgach_fate {
     WULGACH_RING_STAYS = 0,
@@ -72,6 +87,39 @@ enum wulgach_fate {
 /* Returns what becomes of a ring (enum wulgach_fate) of this process or another, with so many calls on it, once one of its descriptors is
  * closed or another ring is made: it is freed once no call is on it and no descriptor is open on it, if that is known. */
 uint32_t wulgach_ring_fate(bool is_own, uint32_t calls, bool knows, bool is_open);
+
+/* ---- what can't be asked, as where there is no /proc ---- */
+
+enum wulgach_matter {
+    WULGACH_IS_REACHED = 0,     /* a descriptor is open on a ring */
+    WULGACH_IS_EVENTFD = 1,     /* it is an eventfd's, as a call says */
+    WULGACH_IS_COUNTER = 2,     /* one of no kind of file counts, as an eventfd or a timerfd does */
+    WULGACH_IS_ONLINE = 3       /* a processor is online */
+};
+
+/* Whether this is taken to be so (enum wulgach_matter), where it is known to be so or not, or isn't known: then all but a counter are. */
+bool wulgach_is_taken_so(uint32_t matter, bool knows, bool is_so);
+
+/* ---- memory that is registered ---- */
+
+/* Memory that is to be registered as a buffer, or as a ring of buffers, and what is known of it. */
+struct wulgach_memory {
+    uint64_t from;          /* its address, */
+    uint64_t size;          /* and its bytes */
+    uint64_t page;          /* the bytes of a page */
+    bool is_asked;          /* its pages could be asked for, to be written, */
+    bool is_there;          /* and are there */
+    bool is_listed;         /* it is known with which files it is shared, */
+    bool is_written_back;   /* and one of them is written back */
+};
+
+/* The fault of registering it, or 0: -75 (EOVERFLOW) if its last page has no end, -14 (EFAULT) if a page isn't there or can't be written, or
+ * is shared with a file that the kernel writes back. What isn't known is no fault. */
+int32_t wulgach_pinning_fault(const struct wulgach_memory *memory);
+
+/* Whether the kernel writes back a file that is shared: if its device has a major number, or else if its file system keeps files elsewhere
+ * than in memory. `kind` is statfs's, if that is known. */
+bool wulgach_is_written_back(uint32_t major, bool knows, uint64_t kind);
 
 /* ---- calls of io_uring_register(2) ---- */
 

@@ -149,6 +149,7 @@ static void read_arguments(void)
     check(wulgach_last_argument_fault(&argument) == -22, "one of another size");
     argument.is_extended = false;
     check(wulgach_last_argument_fault(&argument) == 0, "a mask");
+    check(wulgach_reads_mask(0) && !wulgach_reads_mask(1) && !wulgach_reads_mask(UINT32_MAX), "when a mask is read");
     check(wulgach_mask_fault(8, true) == 0 && wulgach_mask_fault(8, false) == -14 && wulgach_mask_fault(3, false) == -22, "its faults");
     check(wulgach_submission_with_fault(0, -14) == -14 && wulgach_submission_with_fault(2, -14) == 2 && wulgach_submission_with_fault(-11, -14) == -11 && wulgach_submission_with_fault(2, 0) == 2, "what counts");
 }
@@ -160,6 +161,7 @@ static void take_in_rounds(void)
     struct wulgach_rounds rounds;
     int64_t submitted = 99;
     wulgach_rounds_begin(&rounds, 5);
+    check(wulgach_round_takes(&rounds) == UINT32_MAX, "a round takes all that is published");
     check(wulgach_rounds_go_on(&rounds, &any, &submitted) && submitted == 99, "behind a position there is one more round");
     check(!wulgach_rounds_go_on(&rounds, &none, &submitted) && submitted == 5, "behind none there isn't");
     submitted = 99;

@@ -44,9 +44,9 @@ static void refuse_flags(void)
     demand(SET_UP(.entries = 1, .flags = DEFER) == -22 && SET_UP(.entries = 1, .flags = DEFER | SINGLE) == 20001 && SET_UP(.entries = 1, .flags = SINGLE) == 20001, "deferred work");
     demand(SET_UP(.entries = 1, .flags = FLAG) == -22 && SET_UP(.entries = 1, .flags = FLAG | COOP) == 20001 && SET_UP(.entries = 1, .flags = FLAG | DEFER | SINGLE) == 20001, "its flag");
     demand(SET_UP(.entries = 1, .flags = SQPOLL) == 20001 && SET_UP(.entries = 1, .flags = SQPOLL | COOP) == -22 && SET_UP(.entries = 1, .flags = SQPOLL | FLAG) == -22 && SET_UP(.entries = 1, .flags = SQPOLL | DEFER | SINGLE) == -22, "a thread");
-    demand(SET_UP(.entries = 1, .flags = SQ_AFF, .processors = 4) == -22 && SET_UP(.entries = 1, .flags = SQ_AFF | SQPOLL, .processor = 3, .processors = 4) == 20001 && SET_UP(.entries = 1, .flags = SQ_AFF | SQPOLL, .processor = 4, .processors = 4) == -22, "its processor");
+    demand(SET_UP(.entries = 1, .flags = SQ_AFF, .is_online = true) == -22 && SET_UP(.entries = 1, .flags = SQ_AFF | SQPOLL, .is_online = true) == 20001 && SET_UP(.entries = 1, .flags = SQ_AFF | SQPOLL) == -22, "its processor");
     demand(SET_UP(.entries = 1, .flags = ATTACH_WQ) == -6 && SET_UP(.entries = 1, .flags = ATTACH_WQ, .is_open = true) == -22 && SET_UP(.entries = 1, .flags = ATTACH_WQ, .is_open = true, .is_ring = true) == 20001, "workers that are shared");
-    demand(SET_UP(.entries = 1, .flags = ATTACH_WQ | SQPOLL, .is_open = true, .is_ring = true) == -22 && SET_UP(.entries = 1, .flags = ATTACH_WQ | SQPOLL | SQ_AFF, .is_open = true, .is_ring = true, .has_thread = true, .processor = 9) == 20001, "a thread that is shared");
+    demand(SET_UP(.entries = 1, .flags = ATTACH_WQ | SQPOLL, .is_open = true, .is_ring = true) == -22 && SET_UP(.entries = 1, .flags = ATTACH_WQ | SQPOLL | SQ_AFF, .is_open = true, .is_ring = true, .has_thread = true) == 20001, "a thread that is shared");
     demand(SET_UP(.entries = 0, .flags = ATTACH_WQ) == -22 && SET_UP(.entries = 1, .flags = ATTACH_WQ | SQ_AFF) == -6, "which comes first");
 }
 
@@ -250,16 +250,50 @@ static void go_through_set_ups(void)
     demand(wulgach_set_up_next(WULGACH_SET_UP_MAKES, 0) == WULGACH_SET_UP_TELLS && wulgach_set_up_next(WULGACH_SET_UP_TELLS, 0) == WULGACH_SET_UP_IS_DONE, "its end");
     demand(wulgach_set_up_next(WULGACH_SET_UP_READS, -14) == WULGACH_SET_UP_FAILS && wulgach_set_up_next(WULGACH_SET_UP_TELLS, -14) == WULGACH_SET_UP_DROPS, "its faults");
     demand(wulgach_region_of(0) == WULGACH_RINGS && wulgach_region_of(0x8001000) == WULGACH_RINGS && wulgach_region_of(0x10000000) == WULGACH_ENTRIES && wulgach_region_of(0x18000000) == WULGACH_NO_REGION, "what is mapped");
-    demand(wulgach_mapping_fault(0, 0) == -22 && wulgach_mapping_fault(1, 1ull << 31) == -12 && wulgach_mapping_fault(1 << 20, 1ull << 32) == 0, "why it isn't");
     demand(wulgach_ring_fate(false, 0, true, false) == WULGACH_RING_STAYS && wulgach_ring_fate(true, 1, true, false) == WULGACH_RING_STAYS && wulgach_ring_fate(true, 0, false, false) == WULGACH_RING_ASKS, "rings that stay");
     demand(wulgach_ring_fate(true, 0, true, true) == WULGACH_RING_STAYS && wulgach_ring_fate(true, 0, true, false) == WULGACH_RING_GOES, "one that goes");
     demand(wulgach_holding_fault(-1, false) == -9 && wulgach_holding_fault(3, true) == -9 && wulgach_holding_fault(3, false) == 0 && wulgach_telling_fault(true) == 0 && wulgach_telling_fault(false) == -14, "files");
+}
+
+#define MAPPED(...) wulgach_mapping_fault(&(struct wulgach_mapping){__VA_ARGS__})
+
+static void map_rings(void)
+{
+    enum { READ = 1, WRITE = 2, RUN = 4, SHARED = 1, PRIVATE = 2, VALIDATED = 3, FIXED = 0x10, STACK = 0x100, HUGE_PAGES = 0x40000, SYNC = 0x80000, UNTAKEN = 0x100000 };
+    demand(MAPPED(.size = 1, .protection = READ | WRITE, .flags = SHARED) == 0 && MAPPED(.size = 1 << 20, .offset = 1ull << 32, .flags = VALIDATED) == 0 && MAPPED(.size = 1, .at = 4095, .flags = SHARED) == 0 && MAPPED(.size = 1, .protection = READ, .flags = PRIVATE) == 0, "what is mapped");
+    demand(MAPPED(.flags = SHARED) == -22 && MAPPED(.size = 1, .offset = 1, .flags = SHARED) == -22 && MAPPED(.size = 1, .flags = SHARED | HUGE_PAGES) == -22 && MAPPED(.size = 1ull << 47, .at = 4096, .flags = SHARED) == -12, "what is none");
+    demand(MAPPED(.size = (1ull << 47) - 4096, .at = 4096, .flags = SHARED) == -22 && MAPPED(.size = 1, .at = 4095, .flags = SHARED | FIXED) == -22 && MAPPED(.size = 1, .at = 1, .offset = 1ull << 29, .flags = SHARED | UNTAKEN) == -22, "an address");
+    demand(MAPPED(.size = 1, .offset = 1ull << 31, .protection = RUN) == -12 && MAPPED(.size = 1, .flags = SHARED | FIXED) == 0, "an offset");
+    demand(MAPPED(.size = 1, .protection = RUN) == -22 && MAPPED(.size = 1, .protection = RUN, .flags = 8) == -22 && MAPPED(.size = 1, .protection = RUN, .flags = VALIDATED | SYNC) == -95 && MAPPED(.size = 1, .flags = SHARED | SYNC) == 0, "a kind");
+    demand(MAPPED(.size = 1, .protection = RUN, .flags = SHARED | STACK) == -1 && MAPPED(.size = 1, .flags = SHARED | STACK) == -22 && MAPPED(.size = 1, .protection = WRITE, .flags = PRIVATE) == -19, "a use");
+    demand(wulgach_names_descriptor(SHARED) && !wulgach_names_descriptor(SHARED | 0x20), "memory of no file");
+}
+
+#define PINNED(...) wulgach_pinning_fault(&(struct wulgach_memory){.page = 4096, __VA_ARGS__})
+
+static void keep_pages(void)
+{
+    demand(PINNED(.from = 4096, .size = 1, .is_asked = true, .is_there = true, .is_listed = true) == 0 && PINNED(.from = 4096, .size = 1) == 0, "memory");
+    demand(PINNED(.from = 4096, .size = 1, .is_asked = true) == -14 && PINNED(.from = 4096, .size = 1, .is_asked = true, .is_there = true, .is_listed = true, .is_written_back = true) == -14 && PINNED(.from = 4096, .size = 1, .is_written_back = true) == 0, "pages that can't be kept");
+    demand(PINNED(.from = UINT64_MAX - 4095, .size = 1, .is_asked = true) == -75 && PINNED(.from = UINT64_MAX - 4096, .size = 1, .is_asked = true) == -14 && PINNED(.from = 2, .size = UINT64_MAX) == -75, "memory without an end");
+    demand(wulgach_is_written_back(254, false, 0) && wulgach_is_written_back(254, true, 0x01021994) && wulgach_is_written_back(0, true, 0x9123683e), "files that are written back");
+    demand(!wulgach_is_written_back(0, false, 0x9123683e) && !wulgach_is_written_back(0, true, 0x01021994) && !wulgach_is_written_back(0, true, 0x858458f6) && !wulgach_is_written_back(0, true, 0x958458f6), "files in memory");
+}
+
+static void take_what_is_unknown(void)
+{
+    demand(wulgach_is_taken_so(WULGACH_IS_REACHED, false, false) && wulgach_is_taken_so(WULGACH_IS_EVENTFD, false, false) && !wulgach_is_taken_so(WULGACH_IS_COUNTER, false, true) && wulgach_is_taken_so(WULGACH_IS_ONLINE, false, false), "what isn't known");
+    for (uint32_t matter = WULGACH_IS_REACHED; matter <= WULGACH_IS_ONLINE; matter++)
+        demand(wulgach_is_taken_so(matter, true, true) && !wulgach_is_taken_so(matter, true, false), "what is");
 }
 
 int main(void)
 {
     make_rings();
     go_through_set_ups();
+    map_rings();
+    keep_pages();
+    take_what_is_unknown();
     refuse_flags();
     make_calls();
     read_contents();

@@ -47,7 +47,8 @@ void end_asking(void)
 static bool is_counter(int fd)
 {
     char name[MOST_OF_NAME];
-    return wulgach_is_counter_name((uint8_t *)name, name_of_descriptor(fd, name));
+    size_t length = name_of_descriptor(fd, name);
+    return wulgach_is_taken_so(WULGACH_IS_COUNTER, length > 0, wulgach_is_counter_name((uint8_t *)name, length));
 }
 
 /* Asks a descriptor what it is: nothing, if it isn't open. */

@@ -1,28 +1,14 @@
-/* Registered buffers. The kernel pins their pages; here they are asked for once, so that what can't be written is told
- * where the kernel tells it. A request that is started keeps its buffer, whatever becomes of the slot: its tag waits. What slots hold,
- * what a row of a list does, what is refused, when a buffer is gone and which bytes are its is the library's decision.
+/* Registered buffers. The kernel pins their pages; here they are asked for once (pinning.c), so that what can't be written is told where the
+ * kernel tells it. A request that is started keeps its buffer, whatever becomes of the slot: its tag waits. What slots hold, what a row of a
+ * list does, what is refused, when a buffer is gone and which bytes are its is the library's decision.
  */
 #define _GNU_SOURCE
 #include "buffers.h"
 #include "copying.h"
+#include "pinning.h"
 #include "ring.h"
 
-#include <errno.h>
 #include <stdlib.h>
-#include <sys/mman.h>
-#include <unistd.h>
-
-#ifndef MADV_POPULATE_WRITE
-#define MADV_POPULATE_WRITE 23
-#endif
-
-bool is_there(const struct iovec *buffer)
-{
-    uintptr_t page = (uintptr_t)sysconf(_SC_PAGESIZE), at = (uintptr_t)buffer->iov_base, start = at / page * page;
-    if (at + buffer->iov_len < at)
-        return false;
-    return madvise((void *)start, at - start + buffer->iov_len, MADV_POPULATE_WRITE) == 0 || errno == EINVAL || errno == ENOSYS;
-}
 
 void release_buffer(struct buffer *buffer)
 {
@@ -67,13 +53,14 @@ static int make_buffer(struct ring *ring, uint64_t *word, const struct iovec *by
     return 0;
 }
 
-static int make_there(struct ring *ring, uint64_t *word, const struct iovec *bytes, uint64_t tag)
+static int make_there(struct ring *ring, struct known_memory *known, uint64_t *word, const struct iovec *bytes, uint64_t tag)
 {
-    return is_there(bytes) ? make_buffer(ring, word, bytes, tag) : wulgach_missing_fault(WULGACH_NO_MEMORY);
+    int fault = pinning_fault(known, bytes);
+    return fault < 0 ? fault : make_buffer(ring, word, bytes, tag);
 }
 
 /* Makes the buffer of a row, if the row has one. */
-static int make_row(struct ring *ring, uint64_t *word, uint64_t vectors, uint64_t tags, uint32_t index)
+static int make_row(struct ring *ring, struct known_memory *known, uint64_t *word, uint64_t vectors, uint64_t tags, uint32_t index)
 {
     struct iovec bytes;
     uint64_t tag;
@@ -82,7 +69,7 @@ static int make_row(struct ring *ring, uint64_t *word, uint64_t vectors, uint64_
     int result = read_row(&bytes, &tag, vectors, tags, index);
     if (result < 0 || wulgach_buffer_row((uintptr_t)bytes.iov_base, bytes.iov_len, tag, &fault) != WULGACH_ROW_FILLS)
         return result < 0 ? result : fault;
-    return make_there(ring, word, &bytes, tag);
+    return make_there(ring, known, word, &bytes, tag);
 }
 
 /* Of a table that isn't registered after all, no tag is told. */
@@ -108,8 +95,10 @@ int register_buffers(struct ring *ring, uint64_t vectors, uint64_t tags, uint32_
     uint64_t *words = calloc(count, sizeof *words);
     if (!words)
         return wulgach_missing_fault(WULGACH_NO_MEMORY_OWN);
+    struct known_memory known = {0};
     for (uint32_t i = 0; result == 0 && i < count && (vectors || tags); i++)
-        result = make_row(ring, &words[i], vectors, tags, i);
+        result = make_row(ring, &known, &words[i], vectors, tags, i);
+    forget_memory(&known);
     if (result < 0) {
         drop_tags(words, count);
         free_words(words, count);
@@ -136,7 +125,7 @@ void free_buffers(struct ring *ring)
 }
 
 /* Does with a slot what the library says that a row does, step by step. It gets the buffer that was made, or none. */
-static int update_buffer(struct ring *ring, uint32_t slot, const struct iovec *bytes, uint64_t tag)
+static int update_buffer(struct ring *ring, struct known_memory *known, uint32_t slot, const struct iovec *bytes, uint64_t tag)
 {
     struct buffers *buffers = &ring->buffers;
     int32_t fault;
@@ -144,7 +133,7 @@ static int update_buffer(struct ring *ring, uint32_t slot, const struct iovec *b
     uint32_t steps = wulgach_row_steps(wulgach_buffer_row((uintptr_t)bytes->iov_base, bytes->iov_len, tag, &fault), false);
     for (; steps && fault == 0; steps &= steps - 1)
         if (__builtin_ctz(steps) == WULGACH_STEP_MAKES)
-            fault = make_there(ring, &word, bytes, tag);
+            fault = make_there(ring, known, &word, bytes, tag);
         else
             release_buffer(buffer_of(wulgach_table_fill(&buffers->table, buffers->words, buffers->table.count, slot, word)));
     return fault;
@@ -154,14 +143,16 @@ int update_buffers(struct ring *ring, uint32_t offset, uint64_t vectors, uint64_
 {
     int result = wulgach_table_updating_fault(&ring->buffers.table, offset, count);
     uint32_t done = 0;
+    struct known_memory known = {0};
     while (result == 0 && done < count) {
         struct iovec bytes;
         uint64_t tag;
         result = vectors ? read_row(&bytes, &tag, vectors, tags, done) : wulgach_missing_fault(WULGACH_NO_MEMORY);
         if (result == 0)
-            result = update_buffer(ring, offset + done, &bytes, tag);
+            result = update_buffer(ring, &known, offset + done, &bytes, tag);
         done += result == 0;
     }
+    forget_memory(&known);
     return wulgach_updated(done, result);
 }
 

@@ -34,9 +34,6 @@ int unregister_buffers(struct ring *ring, bool has_argument);
 void free_buffers(struct ring *ring);
 int update_buffers(struct ring *ring, uint32_t offset, uint64_t vectors, uint64_t tags, uint32_t count);
 
-/* Whether all the pages of a buffer are there. A kernel that can't be asked says yes. */
-bool is_there(const struct iovec *buffer);
-
 /* The buffer of an index, one use more, if these bytes lie in it: 0, or its fault. */
 int use_buffer(struct ring *ring, uint32_t index, const struct iovec *bytes, struct buffer **used);
 

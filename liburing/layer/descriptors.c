@@ -77,14 +77,13 @@ static int find_descriptor(const struct ring *ring)
     if (is_reached_by(ring, ring->fd))
         return ring->fd;
     DIR *folder = opendir("/proc/self/fd");
-    if (!folder)
-        return ring->fd;
     int found = -1;
-    for (struct dirent *entry; found < 0 && (entry = readdir(folder));)
+    for (struct dirent *entry; folder && found < 0 && (entry = readdir(folder));)
         if (is_reached_by(ring, atoi(entry->d_name)))
             found = atoi(entry->d_name);
-    closedir(folder);
-    return found;
+    if (folder)
+        closedir(folder);
+    return found < 0 && wulgach_is_taken_so(WULGACH_IS_REACHED, folder != NULL, false) ? ring->fd : found;
 }
 
 /* Whether a ring is to be freed now. A call begins under the list's lock. It ends without: behind that it doesn't touch the ring. */

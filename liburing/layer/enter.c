@@ -32,6 +32,7 @@ struct waiting {
     uint64_t mask;                  /* unless the call gives one, at this address */
     size_t mask_size;
     sigset_t *given;                /* room for that */
+    uint32_t sleeps;                /* how often the call has begun to sleep */
     uint32_t flags;
     int fault;                      /* of the last argument, read behind the submission; 0: none */
 };
@@ -55,10 +56,10 @@ static int read_extended(struct waiting *waiting)
     return 0;
 }
 
-/* Reads the mask with which the call sleeps, if it gives one: the first 64 bits of the C library's. Returns its fault, or 0. */
+/* Reads the mask with which the call sleeps, if it gives one, and when the library says: the first 64 bits of the C library's. Returns its fault, or 0. */
 static int read_mask(struct waiting *waiting)
 {
-    if (!waiting->mask)
+    if (!waiting->mask || !wulgach_reads_mask(waiting->sleeps++))
         return 0;
     sigemptyset(waiting->given);
     waiting->signals = waiting->given;
@@ -88,7 +89,7 @@ static int submit_published(struct ring *ring, uint32_t to_submit)
     wulgach_rounds_begin(&rounds, to_submit);
     do {
         uint32_t head = ring->head;
-        round.is_refused = submit(ring, UINT32_MAX) < 0;
+        round.is_refused = submit(ring, wulgach_round_takes(&rounds)) < 0;
         round.positions = ring->head - head;
     } while (wulgach_rounds_go_on(&rounds, &round, &submitted));
     return (int)submitted;

@@ -12,10 +12,12 @@
 #include <poll.h>
 #include <unistd.h>
 
+/* The kernel says what a descriptor is open on, where there is a /proc. */
 static bool is_eventfd(int fd)
 {
     char name[MOST_OF_NAME];
-    return wulgach_is_eventfd_name((uint8_t *)name, name_of_descriptor(fd, name));
+    size_t length = name_of_descriptor(fd, name);
+    return wulgach_is_taken_so(WULGACH_IS_EVENTFD, length > 0, wulgach_is_eventfd_name((uint8_t *)name, length));
 }
 
 int register_eventfd(struct ring *ring, uint64_t at, bool is_async)

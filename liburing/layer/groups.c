@@ -2,6 +2,7 @@
  * is the library's decision. */
 #include "groups.h"
 #include "copying.h"
+#include "pinning.h"
 #include "ring.h"
 
 #include <errno.h>
@@ -116,8 +117,11 @@ int register_buffer_ring(struct ring *ring, uint64_t at, uint32_t count)
     if (result < 0)
         return result;
     struct iovec cells = {(void *)(uintptr_t)asked.ring_addr, asked.ring_entries * sizeof(struct io_uring_buf)};
-    if (!is_there(&cells))
-        return wulgach_missing_fault(WULGACH_NO_MEMORY);
+    struct known_memory known = {0};
+    result = pinning_fault(&known, &cells);
+    forget_memory(&known);
+    if (result < 0)
+        return result;
     struct group *group = any_group(ring, asked.bgid);
     if (!group)
         return wulgach_missing_fault(WULGACH_NO_MEMORY_OWN);

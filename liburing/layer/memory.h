@@ -37,8 +37,10 @@ int make_file(void);
  * is negative, and tells the parameters where everything stands. Returns 0 or the negative of an error number. */
 int make_memory(struct memory *memory, int fd, uint32_t sq_entries, uint32_t cq_entries, struct io_uring_params *params);
 
-/* Maps a part of memory without a file once more, as mmap would at this offset. */
-void *map_again(const struct memory *memory, size_t size, uint64_t offset);
+struct wulgach_mapping;
+
+/* Maps a part of memory without a file once more, as mmap would that is asked so. */
+void *map_again(const struct memory *memory, const struct wulgach_mapping *asked);
 
 void free_memory(struct memory *memory);
 

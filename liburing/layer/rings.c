@@ -12,6 +12,7 @@
 #include "passing.h"
 #include "policy.h"
 #include "process.h"
+#include "processors.h"
 #include "profile.h"
 #include "readiness.h"
 #include "ring.h"
@@ -25,7 +26,6 @@
 #include <string.h>
 #include <sys/mman.h>
 #include <sys/stat.h>
-#include <sys/sysinfo.h>
 #include <unistd.h>
 
 void free_ring(struct ring *ring)
@@ -58,11 +58,11 @@ void free_ring(struct ring *ring)
 /* What a set-up asks for, by which rules, and what is so of the ring and of the processor that it names. */
 static struct wulgach_asked_ring asked_ring(uint32_t entries, const struct io_uring_params *params)
 {
-    struct wulgach_asked_ring asked = {.entries = entries, .cq_entries = params->cq_entries, .flags = params->flags, .processor = params->sq_thread_cpu, .linux_rules = is_profile_linux()};
+    struct wulgach_asked_ring asked = {.entries = entries, .cq_entries = params->cq_entries, .flags = params->flags, .linux_rules = is_profile_linux()};
     for (size_t i = 0; i < sizeof params->resv / sizeof *params->resv; i++)
         asked.has_reserved |= params->resv[i] != 0;
     if (params->flags & IORING_SETUP_SQ_AFF)
-        asked.processors = (uint32_t)get_nprocs_conf();
+        asked.is_online = is_online(params->sq_thread_cpu);
     if (params->flags & IORING_SETUP_ATTACH_WQ) {
         struct ring *shared = hold_ring((int)params->wq_fd);
         asked.is_open = counts_as_open((int)params->wq_fd, false);
@@ -197,9 +197,10 @@ void *map_file(void *at, size_t size, int protection, int flags, int fd, int64_t
 {
     sigset_t own;
     block_signals(&own);
-    struct ring *ring = lock_ring(fd);
+    struct wulgach_mapping asked = {.at = (uintptr_t)at, .size = size, .offset = (uint64_t)offset, .protection = (uint32_t)protection, .flags = (uint32_t)flags};
+    struct ring *ring = wulgach_names_descriptor(asked.flags) ? lock_ring(fd) : NULL;
     bool is_polled = ring && ring->ready_fd >= 0;
-    void *mapped = is_polled ? map_again(&ring->memory, size, (uint64_t)offset) : map_passing(at, size, protection, flags, fd, offset);
+    void *mapped = is_polled ? map_again(&ring->memory, &asked) : map_passing(at, size, protection, flags, fd, offset);
     if (ring)
         unlock_ring(ring);
     allow_signals(&own);

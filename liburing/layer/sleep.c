@@ -21,7 +21,9 @@
 bool has_threads(void)
 {
     struct stat status;
-    return stat("/proc/self/task", &status) == 0 && status.st_nlink > 3;
+    bool knows = stat("/proc/self/task", &status) == 0;
+    /* (two links are the folder's own) */
+    return wulgach_may_have_others(knows, knows ? status.st_nlink - 2 : 0);
 }
 
 /* Adds what has passed since `start` to the ring's time. */

@@ -13,7 +13,7 @@ struct sleeper {
     struct pollfd polled[]; /* what it sleeps for */
 };
 
-/* Whether the process has another thread, which could call on a ring. */
+/* Whether the process may have another thread, which could call on a ring. */
 bool has_threads(void);
 
 /* Sleeps until a stream is ready, another thread's call has changed something, or the ring's time would be `until`. Adds the time that was slept to virtual time. Returns 0 or the negative of an error

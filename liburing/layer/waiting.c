@@ -34,13 +34,13 @@ static bool is_streaming(const struct ring *ring)
     return false;
 }
 
-/* By what a call of this ring may be woken. Of other threads it is only asked where no timeout runs, since it doesn't matter else. */
+/* By what a call of this ring may be woken. Of other threads it is asked where the library says that it matters. */
 static struct wulgach_wake_sources wake_sources(const struct ring *ring)
 {
     bool has_streams = is_streaming(ring);
     return (struct wulgach_wake_sources){
         .has_streams = has_streams,
-        .has_threads = !has_streams && ring->times.count == 0 && has_threads(),
+        .has_threads = wulgach_times_asks_threads(&ring->times, has_streams) && has_threads(),
         .is_real = is_time_real(),
     };
 }

@@ -128,7 +128,20 @@ static void no_op(void)
     WANT(close(ring.fd) == 0);
 }
 
-/* Memory that is shared with files, and written, goes to the kernel. */
+/* Memory of a ring is mapped to be read alone, or refused. */
+static void mapped(void)
+{
+    struct ring ring = set_up(0);
+    void *place = mmap(NULL, 4096, PROT_NONE, MAP_PRIVATE | MAP_ANONYMOUS, -1, 0);
+    void *words = mmap(NULL, 4096, PROT_READ, MAP_SHARED, ring.fd, IORING_OFF_SQ_RING);
+    WANT(place != MAP_FAILED && words != MAP_FAILED && mprotect(words, 4096, PROT_NONE) == 0);
+    WANT(mmap(place, 4096, PROT_READ | PROT_WRITE, MAP_SHARED, ring.fd, IORING_OFF_SQES) == MAP_FAILED && errno == EINVAL);
+    WANT(mmap(place, 4096, PROT_READ | PROT_WRITE, MAP_SHARED | MAP_FIXED_NOREPLACE, ring.fd, IORING_OFF_SQES) == MAP_FAILED && errno == EINVAL);
+    WANT(mmap(NULL, 4096, PROT_READ, MAP_SHARED, ring.fd, 1 << 29) == MAP_FAILED && errno == ENOMEM);
+    WANT(close(ring.fd) == 0);
+}
+
+/* Memory that is shared with files goes to the kernel. */
 static void shared(void)
 {
     char letter;
@@ -138,8 +151,11 @@ static void shared(void)
     WANT(memory != MAP_FAILED);
     *memory = 's';
     WANT(pread(file, &letter, 1, 4096) == 1 && letter == 's');
+    const char *seen = mmap(NULL, 4096, PROT_READ, MAP_SHARED, file, 4096);
+    WANT(seen != MAP_FAILED && *seen == 's');
     WANT(mmap(NULL, 4096, PROT_READ | PROT_WRITE, MAP_SHARED, all, 0) == MAP_FAILED && errno == ENODEV);
     WANT(mmap(NULL, 4096, PROT_READ | PROT_WRITE, MAP_SHARED, -1, 0) == MAP_FAILED && errno == EBADF);
+    mapped();
     no_op();
 }
 

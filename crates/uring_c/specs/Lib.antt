@@ -11,3 +11,5 @@ pub mod DutyForm
 pub mod MissingForm
 pub mod SleepForm
 pub mod MeansForm
+pub mod PinningForm
+pub mod UnknownForm

@@ -1,10 +1,14 @@
 //! What a set-up does, what is mapped of a ring and when it is freed, for C: functions of `c/wulgach_register.h`.
 ghost use Rattle.std.specs.Prelude.{◌≡◌};
+ghost use Rattle.uring_enter.specs.Mappings as mappings;
 ghost use Rattle.uring_enter.specs.Ringing as spec;
 ghost use Rattle.uring_register.specs.Holding as holding;
 ghost use Rattle.uring_c.specs.RingForm.{word_of_region, word_of_onto, stage_of, word_of_fate, known_if};
 
-use uring_enter::{Fate, Onto, Region, Stage, fate_of, mapping_fault, next_stage, region_of};
+use uring_enter::{
+    Fate, Mapping, Onto, Region, Stage, fate_of, mapping_fault, names_descriptor, next_stage,
+    region_of,
+};
 use uring_register::{holding_fault, telling_fault};
 
 /// The part of a ring's memory at an offset, or 0.
@@ -19,12 +23,20 @@ pub extern "C" fn wulgach_region_of(offset: u64) -> u32
     }
 }
 
-/// Why so many bytes aren't mapped from an offset on, or 0.
+/// Whether a call of mmap with these flags maps what a descriptor names.
 #[unsafe(no_mangle)]
-pub extern "C" fn wulgach_mapping_fault(size: u64, offset: u64) -> i32
-    ensures { result ≡ spec.mapping_fault size offset }
+pub extern "C" fn wulgach_names_descriptor(flags: u32) -> bool
+    ensures { result ≡ mappings.names_descriptor flags }
 {
-    mapping_fault(size, offset)
+    names_descriptor(flags)
+}
+
+/// Why a ring's memory isn't mapped so, or 0.
+#[unsafe(no_mangle)]
+pub extern "C" fn wulgach_mapping_fault(asked: &Mapping) -> i32
+    ensures { result ≡ mappings.mapping_fault asked.now }
+{
+    mapping_fault(asked)
 }
 
 /// Returns what a set-up does behind this, which came to `res`.

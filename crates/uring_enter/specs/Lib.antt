@@ -58,6 +58,8 @@ pub mod Visits
 pub mod Afresh
 pub mod CoreEntries
 pub mod Ringing
+pub mod Mappings
+pub mod Unknown
 pub mod SystemCalls
 pub mod Means
 pub mod TransferCalls

@@ -26,12 +26,6 @@ abbrev pub is_region : Option Region → Bool
 is_region (Some _) = true
 is_region None = false
 
--- why nothing is mapped, or 0: -22 (EINVAL) of no bytes, mmap(2), and -12 (ENOMEM) of an offset that names no part. A mapping may be longer than its part; what Linux 6.18 was seen to do
-abbrev pub mapping_fault : ℕ → ℕ → ℤ
-mapping_fault size offset =
-    if size == 0 then error 22 else
-    if is_region (region_of offset) then pos 0 else error 12
-
 -- what a set-up does behind this, once that went well: it reads the parameters, asks the kernel where the ring is strict, makes the ring, and tells its parameters. Our own rule, but that the parameters are read first and told last
 abbrev pub behind_stage : Option Stage → Onto
 behind_stage None = Does Reads

@@ -4,6 +4,10 @@ use Rattle.uring_entry.specs.Errors.{error}
 use Rattle.uring_enter.specs.declared.rounds.Round.{Round}
 use Rattle.uring_enter.specs.declared.rounds.Rounds.{Rounds}
 
+-- how many positions a round takes at most: all that is published, however many the call was asked to submit, which is what the kernel does. Index words count no more
+abbrev pub most_of_a_round : ℕ
+most_of_a_round = 4294967295
+
 -- a round takes a position, be it one whose word names no slot
 abbrev pub takes_any : Round → Bool
 takes_any round = not round.is_refused && nat_lt 0 round.positions

@@ -1,5 +1,5 @@
 -- Which rings a set-up makes, and with which error it refuses others. io_uring_setup(2), DESCRIPTION and ERRORS; which flags want or can't have which, and the order of faults, are the kernel's, and the limits of the sizes our own rule.
-use Rattle.std.specs.Prelude.{◌≡◌, ℕ, ℤ, pos, ◌+◌, Bool, true, false, not, ◌&&◌, ◌||◌, ◌⊎◌, nat_le, min, Option, Some, None, if◌then◌else◌}
+use Rattle.std.specs.Prelude.{◌≡◌, ℕ, ℤ, pos, ◌+◌, Bool, true, false, not, ◌&&◌, ◌||◌, ◌⊎◌, min, Option, Some, None, if◌then◌else◌}
 use Rattle.uring_entry.specs.Setup.{Setup, IsSetupFor}
 use Rattle.uring_enter.specs.declared.asked_ring.AskedRing.{AskedRing}
 use Rattle.uring_enter.specs.Clocks.{has_some}
@@ -37,11 +37,11 @@ sharing_fault a =
     if not a.is_open then error 6 else
     if not a.is_ring || has_some a.flags 2 && not a.has_thread then error 22 else pos 0
 
--- IORING_SETUP_SQ_AFF (4) wants a thread, and a processor that there is; of a thread that is shared it isn't looked at
+-- IORING_SETUP_SQ_AFF (4) wants a thread, and a processor that is online, as Linux 6.18 does; of a thread that is shared it isn't looked at
 abbrev pub has_bad_processor : AskedRing → Bool
 has_bad_processor a =
     has_some a.flags 4
-    && (if has_some a.flags 2 then not (has_some a.flags 32) && nat_le a.processors a.processor else true)
+    && (if has_some a.flags 2 then not (has_some a.flags 32) && not a.is_online else true)
 
 -- the fault of what a set-up names, or 0
 abbrev pub place_fault : AskedRing → ℤ

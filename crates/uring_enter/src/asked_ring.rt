@@ -18,11 +18,8 @@ pub struct AskedRing {
 
     pub flags: u32,
 
-    /// On which processor the ring's thread is to run, with IORING_SETUP_SQ_AFF.
-    pub processor: u32,
-
-    /// How many there are.
-    pub processors: u32,
+    /// With IORING_SETUP_SQ_AFF, the processor on which the ring's thread is to run is online.
+    pub is_online: bool,
 
     /// A reserved field isn't 0.
     pub has_reserved: bool,
@@ -147,14 +144,14 @@ fn sharing_fault(asked: &AskedRing) -> i32
     }
 }
 
-/// Whether a processor is named without a thread, or one that there isn't for a thread of the ring's own.
+/// Whether a processor is named without a thread, or one that isn't online for a thread of the ring's own.
 fn has_bad_processor(asked: &AskedRing) -> bool
     ensures { result ≡ spec.has_bad_processor asked.now }
 {
     let is_named = asked.flags & 4 != 0;
     is_named
         && if asked.flags & 2 != 0 {
-            asked.flags & 32 == 0 && asked.processors <= asked.processor
+            asked.flags & 32 == 0 && !asked.is_online
         } else {
             true
         }

@@ -66,19 +66,6 @@ pub fn region_of(offset: u64) -> Option<Region>
     }
 }
 
-/// Why so many bytes aren't mapped from an offset on, or 0.
-pub fn mapping_fault(size: u64, offset: u64) -> i32
-    ensures { result ≡ spec.mapping_fault size offset }
-{
-    if size == 0 {
-        -22
-    } else if region_of(offset).is_some() {
-        0
-    } else {
-        -12
-    }
-}
-
 /// What a set-up does behind this, which came to `res`. `None`: at first.
 pub fn next_stage(last: Option<Stage>, res: i32) -> Onto
     ensures { result ≡ spec.next_of last res }

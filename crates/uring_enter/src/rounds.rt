@@ -1,7 +1,7 @@
 //! What the thread that takes entries takes of a ring with IORING_SETUP_SQPOLL, and what the call returns that wakes it. io_uring_setup(2), IORING_SETUP_SQPOLL.
 
 ghost use Rattle.std.specs.Prelude.{◌≡◌, ℕ, List, [], ◌∷◌};
-ghost use Rattle.uring_enter.specs.Rounds.{KeepsRounds, returned};
+ghost use Rattle.uring_enter.specs.Rounds.{KeepsRounds, most_of_a_round, returned};
 
 /// What came of a round, in which the thread takes what is published.
 #[repr(C)]
@@ -34,6 +34,13 @@ impl Rounds {
             to_submit,
             has_taken: false,
         }
+    }
+
+    /// How many positions the next round takes at most.
+    pub fn takes(&self) -> u32
+        ensures { result ≡ most_of_a_round }
+    {
+        u32::MAX
     }
 
     /// A round has come to this. Says what the submission comes to: as many entries as were asked for, or -11 if memory was refused before any position was taken. `None`: there is one more round.

@@ -3,6 +3,7 @@ pub mod TableLaws
 pub mod Registering
 pub mod Restricting
 pub mod Holding
+pub mod Pinning
 pub mod Issuing
 pub mod IssuingLaws
 pub mod Telling

@@ -1,0 +1,23 @@
+//! Which memory may be registered, for C: functions of `c/wulgach_register.h`.
+ghost use Rattle.std.specs.Prelude.{◌≡◌};
+ghost use Rattle.uring_register.specs.Pinning as spec;
+ghost use Rattle.uring_c.specs.PinningForm.{known_of};
+
+use uring_register::{Memory, is_written_back, pinning_fault};
+
+/// The fault of registering this memory, or 0.
+#[unsafe(no_mangle)]
+pub extern "C" fn wulgach_pinning_fault(memory: &Memory) -> i32
+    ensures { result ≡ spec.pinning_fault memory.now }
+{
+    pinning_fault(memory)
+}
+
+/// Whether the kernel writes a file back that is shared.
+#[unsafe(no_mangle)]
+pub extern "C" fn wulgach_is_written_back(major: u32, knows: bool, kind: u64) -> bool
+    ensures { result ≡ spec.is_written_back major (known_of knows kind) }
+{
+    let kind = if knows { Some(kind) } else { None };
+    is_written_back(major, kind)
+}

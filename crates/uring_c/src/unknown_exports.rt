@@ -1,0 +1,70 @@
+//! What is taken to be so where it can't be asked, and what of it is asked once or only if it matters, for C: functions of `c/wulgach_register.h`, `c/wulgach_times.h` and `c/wulgach_enter.h`.
+ghost use Rattle.std.specs.Prelude.{◌≡◌, List};
+ghost use Rattle.uring_enter.specs.declared.timeout.Timeout.{Timeout};
+ghost use Rattle.uring_enter.specs.Timeouts.{Event, running};
+ghost use Rattle.uring_enter.specs.Kept.{KeepsTime};
+ghost use Rattle.uring_enter.specs.Waits.{has_any};
+ghost use Rattle.uring_enter.specs.Rounds.{most_of_a_round};
+ghost use Rattle.uring_enter.specs.Unknown as unknown;
+ghost use Rattle.uring_c.specs.UnknownForm.{known_of, matter_of};
+
+use uring_enter::{Matter, Rounds, Times, is_taken_so, may_have_others, reads_mask};
+
+/// Whether something is taken to be so, where it is known, or isn't.
+#[unsafe(no_mangle)]
+pub extern "C" fn wulgach_is_taken_so(matter_word: u32, knows: bool, is_so: bool) -> bool
+    ensures { result ≡ unknown.is_taken_so (matter_of matter_word) (known_of knows is_so) }
+{
+    let known = if knows { Some(is_so) } else { None };
+    is_taken_so(matter(matter_word), known)
+}
+
+fn matter(word: u32) -> Matter
+    ensures { result ≡ matter_of word }
+{
+    match word {
+        0 => Matter::Reached,
+        1 => Matter::Eventfd,
+        2 => Matter::Counter,
+        _ => Matter::Processor,
+    }
+}
+
+fn number(knows: bool, number: u64) -> Option<u64>
+    ensures { result ≡ known_of knows number }
+{
+    if knows { Some(number) } else { None }
+}
+
+/// Whether another thread of the process may make a call, where it has so many, if that is known.
+#[unsafe(no_mangle)]
+pub extern "C" fn wulgach_may_have_others(knows: bool, threads: u64) -> bool
+    ensures { result ≡ unknown.may_have_others (known_of knows threads) }
+{
+    may_have_others(number(knows, threads))
+}
+
+/// Whether it matters to a call that waits whether another thread may make one.
+#[unsafe(no_mangle)]
+pub extern "C" fn wulgach_times_asks_threads(times: &Times, has_streams: bool) -> bool
+    ensures { (log : List Event) (rows : List Timeout) → KeepsTime log times.now rows
+        → result ≡ unknown.asks_threads has_streams (has_any (running log)) }
+{
+    times.asks_threads(has_streams)
+}
+
+/// Whether a call that is to sleep reads its signal mask, behind so many sleeps.
+#[unsafe(no_mangle)]
+pub extern "C" fn wulgach_reads_mask(sleeps: u32) -> bool
+    ensures { result ≡ unknown.reads_mask sleeps }
+{
+    reads_mask(sleeps)
+}
+
+/// Returns how many positions the next round takes at most.
+#[unsafe(no_mangle)]
+pub extern "C" fn wulgach_round_takes(rounds: &Rounds) -> u32
+    ensures { result ≡ most_of_a_round }
+{
+    rounds.takes()
+}

@@ -1,0 +1,28 @@
+-- What is taken to be so where it can't be asked, as in a process without /proc; and what is asked once, or only if it matters. Our own rules, but where a source is named.
+use Rattle.std.specs.Prelude.{ℕ, Bool, true, false, not, ◌||◌, ◌==◌, Option, Some, None}
+use Rattle.uring_enter.specs.declared.unknown.Matter.{Matter}
+use Rattle.uring_enter.specs.declared.unknown.Matter.TheVariants.{Reached, Eventfd, Counter, Processor}
+
+-- a ring stays as long as a descriptor may be open on it, and a program means what it says of an eventfd and of a processor: nothing is taken away and nothing refused for what isn't known. A descriptor is one that counts only if that is known: of another a short transfer waits, and the system call refuses it then
+abbrev pub unless_known : Matter → Bool
+unless_known Reached = true
+unless_known Eventfd = true
+unless_known Counter = false
+unless_known Processor = true
+
+abbrev pub is_taken_so : Matter → Option Bool → Bool
+is_taken_so matter (Some is_so) = is_so
+is_taken_so matter None = unless_known matter
+
+-- another thread may make a call, unless the process is known to have exactly one
+abbrev pub may_have_others : Option ℕ → Bool
+may_have_others (Some threads) = not (threads == 1)
+may_have_others None = true
+
+-- a call reads its mask before it sleeps for the first time, and sleeps with that until it returns, whatever becomes of the memory: what Linux 6.18 was seen to do
+abbrev pub reads_mask : ℕ → Bool
+reads_mask sleeps = sleeps == 0
+
+-- of other threads it is asked only where no request waits for a descriptor and no timeout runs
+abbrev pub asks_threads : Bool → Bool → Bool
+asks_threads has_streams has_timeouts = not (has_streams || has_timeouts)

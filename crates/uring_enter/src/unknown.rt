@@ -1,0 +1,71 @@
+//! What is taken to be so where it can't be asked, as in a process without /proc; and what is asked once, or only if it matters.
+
+ghost use Rattle.std.specs.Prelude.{◌≡◌, false, Bool, List, ℕ, Option};
+ghost use Rattle.uring_enter.specs.declared.timeout.Timeout.{Timeout};
+ghost use Rattle.uring_enter.specs.Timeouts.{Event, running};
+ghost use Rattle.uring_enter.specs.Kept.{KeepsTime};
+ghost use Rattle.uring_enter.specs.Waits.{wait_of, has_any};
+ghost use Rattle.uring_enter.specs.Unknown as spec;
+
+use crate::times::Times;
+use crate::wait::WakeSources;
+
+/// What the system may be asked, and may not answer.
+#[derive(Clone, Copy, Drop)]
+pub enum Matter {
+    /// Whether a descriptor is open on a ring.
+    Reached,
+
+    /// Whether one is an eventfd's, as a call says.
+    Eventfd,
+
+    /// Whether one that is of no kind of file counts, as an eventfd or a timerfd does.
+    Counter,
+
+    /// Whether a processor is online.
+    Processor,
+}
+
+/// Whether it is taken to be so, where this is known of it, or nothing.
+pub fn is_taken_so(matter: Matter, known: Option<bool>) -> bool
+    ensures { result ≡ spec.is_taken_so matter known }
+{
+    match known {
+        Some(is_so) => is_so,
+        None => !matches!(matter, Matter::Counter),
+    }
+}
+
+/// Whether another thread of the process may make a call, where it has so many, if that is known.
+pub fn may_have_others(threads: Option<u64>) -> bool
+    ensures { result ≡ spec.may_have_others threads }
+{
+    match threads {
+        Some(count) => count != 1,
+        None => true,
+    }
+}
+
+/// Whether a call that is to sleep reads its signal mask, behind so many sleeps.
+pub fn reads_mask(sleeps: u32) -> bool
+    ensures { result ≡ spec.reads_mask sleeps }
+{
+    sleeps == 0
+}
+
+impl Times {
+    /// Whether it matters to a call that waits whether another thread may make one, where a request waits for a descriptor or none does.
+    pub fn asks_threads(&self, has_streams: bool) -> bool
+        ensures { (log : List Event) (rows : List Timeout) → KeepsTime log self.now rows
+            → result ≡ spec.asks_threads has_streams (has_any (running log)) }
+    {
+        !has_streams && self.count == 0
+    }
+}
+
+/// Where that isn't asked, a call waits as it would if there were other threads, and if there were none.
+pub fn waits_alike_unasked()
+    ensures { (sources : WakeSources) (has_timeouts other : Bool) (until : Option ℕ)
+        → spec.asks_threads sources.has_streams has_timeouts ≡ false
+        → wait_of sources has_timeouts until ≡ wait_of (record sources { has_threads = other }) has_timeouts until }
+{}

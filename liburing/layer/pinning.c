@@ -1,0 +1,138 @@
+/* Which memory may be registered: the kernel is asked for its pages, to be written, and with which files it is shared is looked up in
+ * /proc. What these come to is the library's decision.
+ */
+#define _GNU_SOURCE
+#include "pinning.h"
+#include "passing.h"
+#include "wulgach_register.h"
+
+#include <fcntl.h>
+#include <stdint.h>
+#include <stdio.h>
+#include <stdlib.h>
+#include <string.h>
+#include <sys/mman.h>
+#include <sys/vfs.h>
+#include <unistd.h>
+
+#ifndef MADV_POPULATE_WRITE
+#define MADV_POPULATE_WRITE 23
+#endif
+
+struct span {
+    uintptr_t start, end;
+};
+
+static bool ask_for(uintptr_t at, size_t size, uintptr_t page)
+{
+    uintptr_t start = at / page * page;
+    return madvise((void *)start, at - start + size, MADV_POPULATE_WRITE) == 0;
+}
+
+/* Whether this kernel can be asked for pages: it is asked for one that is there. */
+static bool can_ask(uintptr_t page)
+{
+    char here;
+    return ask_for((uintptr_t)&here, 1, page);
+}
+
+/* Reads a file to its end, with a 0 behind it. NULL: it can't be read, or there is no memory for it. */
+static char *read_file(const char *path)
+{
+    size_t length = 0, room = 0;
+    char *text = NULL;
+    long count = 0, fd = pass(SYS_openat, AT_FDCWD, (long)path, O_RDONLY | O_CLOEXEC, 0, 0, 0);
+    for (; fd >= 0 && count >= 0; length += (size_t)count) {
+        if (room - length < 4096) {
+            char *more = realloc(text, room = 2 * room + 16384);
+            if (!more)
+                break;
+            text = more;
+        }
+        count = pass(SYS_read, fd, (long)(text + length), (long)(room - length - 1), 0, 0, 0);
+        if (count == 0)
+            break;
+    }
+    if (fd >= 0)
+        pass(SYS_close, fd, 0, 0, 0, 0, 0);
+    if (fd >= 0 && count == 0 && text) {
+        text[length] = '\0';
+        return text;
+    }
+    free(text);
+    return NULL;
+}
+
+static bool is_written_back(unsigned major, const char *path)
+{
+    struct statfs status;
+    bool knows = path[0] == '/' && statfs(path, &status) == 0;
+    return wulgach_is_written_back(major, knows, knows ? (uint64_t)(uint32_t)status.f_type : 0);
+}
+
+/* Whether a line of /proc/self/maps is of memory that is shared with a file which is written back, and where that is. */
+static bool is_of_a_file(const char *line, struct span *span)
+{
+    char rights[8];
+    unsigned major;
+    int path = 0;
+    bool is_read = sscanf(line, "%lx-%lx %7s %*x %x:%*x %*u %n", &span->start, &span->end, rights, &major, &path) == 4 && path;
+    return is_read && rights[3] == 's' && is_written_back(major, line + path);
+}
+
+/* Notes the memory of each line. Returns false if there is no room. */
+static bool note_lines(struct known_memory *known, char *text)
+{
+    size_t room = 0;
+    char *rest = NULL;
+    for (char *line = strtok_r(text, "\n", &rest); line; line = strtok_r(NULL, "\n", &rest)) {
+        if (known->count == room) {
+            struct span *more = realloc(known->spans, (room = 2 * room + 8) * sizeof *more);
+            if (!more)
+                return false;
+            known->spans = more;
+        }
+        known->count += is_of_a_file(line, &known->spans[known->count]);
+    }
+    return true;
+}
+
+static void look_up(struct known_memory *known)
+{
+    char *text = read_file("/proc/self/maps");
+    known->is_looked_up = true;
+    known->is_listed = text && note_lines(known, text);
+    free(text);
+}
+
+static bool is_shared(const struct known_memory *known, const struct iovec *bytes)
+{
+    uintptr_t at = (uintptr_t)bytes->iov_base;
+    for (size_t i = 0; i < known->count; i++)
+        if (known->spans[i].start < at + bytes->iov_len && at < known->spans[i].end)
+            return true;
+    return false;
+}
+
+int pinning_fault(struct known_memory *known, const struct iovec *bytes)
+{
+    uintptr_t page = (uintptr_t)sysconf(_SC_PAGESIZE);
+    if (!known->is_looked_up)
+        look_up(known);
+    bool is_there = ask_for((uintptr_t)bytes->iov_base, bytes->iov_len, page);
+    struct wulgach_memory memory = {
+        .from = (uintptr_t)bytes->iov_base,
+        .size = bytes->iov_len,
+        .page = page,
+        .is_asked = is_there || can_ask(page),
+        .is_there = is_there,
+        .is_listed = known->is_listed,
+        .is_written_back = is_shared(known, bytes),
+    };
+    return wulgach_pinning_fault(&memory);
+}
+
+void forget_memory(struct known_memory *known)
+{
+    free(known->spans);
+}
