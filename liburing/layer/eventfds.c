@@ -33,7 +33,7 @@ int register_eventfd(struct ring *ring, uint64_t at, bool is_async)
         return copy;
     ring->eventfd = copy;
     wulgach_eventfd_register(&ring->telling, is_async);
-    return 0;
+    return result;
 }
 
 int unregister_eventfd(struct ring *ring)
@@ -43,7 +43,7 @@ int unregister_eventfd(struct ring *ring)
         return result;
     close(ring->eventfd);
     wulgach_eventfd_unregister(&ring->telling);
-    return 0;
+    return result;
 }
 
 /* Whether its counter takes 1 at once. */

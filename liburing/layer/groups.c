@@ -127,7 +127,7 @@ int register_buffer_ring(struct ring *ring, uint64_t at, uint32_t count)
         return wulgach_missing_fault(WULGACH_NO_MEMORY_OWN);
     group->ring = asked.ring_addr;
     wulgach_group_register(&group->kept, (uint16_t)asked.ring_entries);
-    return 0;
+    return result;
 }
 
 int unregister_buffer_ring(struct ring *ring, uint64_t at, uint32_t count)
@@ -143,7 +143,7 @@ int unregister_buffer_ring(struct ring *ring, uint64_t at, uint32_t count)
         return result;
     wulgach_group_unregister(&group->kept);
     drop_group(ring, group);
-    return 0;
+    return result;
 }
 
 static bool find_in_ring(const struct group *group, struct wulgach_buffer *found)
