@@ -70,6 +70,12 @@ static bool is_reached_by(const struct ring *ring, int fd)
     return fstat(fd, &status) == 0 && status.st_dev == ring->device && status.st_ino == ring->inode;
 }
 
+/* Whether one that was open on this ring is so still. */
+static bool is_still_reached_by(const struct ring *ring, int fd)
+{
+    return ring->ready_fd >= 0 ? is_still_polled_by(ring, fd) : is_reached_by(ring, fd);
+}
+
 /* A descriptor that is open on a ring in this process: its first one, or another; negative: there is none. Where that can't be found out, the
  * first. */
 static int find_descriptor(const struct ring *ring)
@@ -171,7 +177,7 @@ static struct ring *find_ring(int fd)
     if (fd < 0)
         return NULL;
     struct ring *ring = (size_t)fd < by_number_room ? by_number[fd] : NULL;
-    if (ring && is_own(ring) && is_reached_by(ring, fd))
+    if (ring && is_own(ring) && is_still_reached_by(ring, fd))
         return ring;
     ring = search_rings(fd);
     if (ring)

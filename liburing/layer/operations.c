@@ -180,13 +180,6 @@ static struct wulgach_nature nature_without_buffer(const struct request *request
     return nature;
 }
 
-/* What the descriptor of one is that has no buffer. */
-static struct wulgach_nature nature_without_buffer(const struct request *request)
-{
-    struct wulgach_nature nature = nature_without_buffer(request);
-    return nature;
-}
-
 int32_t fault_without_buffer(const struct request *request)
 {
     struct wulgach_nature nature = nature_without_buffer(request);

@@ -1,6 +1,6 @@
 /* The descriptor is an epoll instance: poll and epoll take it, read and write refuse it, as they do a ring of the kernel.
  * In it are an eventfd of the layer's, which is set while completions wait or something can go on, and the descriptors
- * of the streams that running requests wait for. The eventfd also tells the instance from others.
+ * of the streams that running requests wait for. The eventfd also tells the instance from others, and so does a mark.
  *
  * The layer isn't told when the application reaps: so the eventfd stays set until the next call, and meanwhile
  * IORING_SQ_TASKRUN makes a peek that finds nothing call.
@@ -9,6 +9,7 @@
 #include "readiness.h"
 #include "numbers.h"
 #include "operations.h"
+#include "passing.h"
 #include "progress.h"
 #include "waiting.h"
 
@@ -18,7 +19,25 @@
 #include <sys/epoll.h>
 #include <sys/eventfd.h>
 #include <sys/single_threaded.h>
+#include <sys/ioctl.h>
+#include <sys/random.h>
 #include <unistd.h>
+
+/* An instance keeps how whoever waits on it looks for what a network brings: 31 bits of microseconds and 6 of a count, which any program may set and a kernel
+ * since 6.9 keeps. Nobody waits on a ring's, so there it has the ring's mark. */
+#define SETS_MARK _IOW(0x8a, 1, uint64_t)
+#define GETS_MARK _IOR(0x8a, 2, uint64_t)
+#define BITS_OF_MARK 0x3f7fffffffu
+
+/* Draws a mark, and gives it to an instance. 0: it has none. */
+static uint64_t make_mark(int fd)
+{
+    uint64_t mark;
+    if (getrandom(&mark, sizeof mark, GRND_NONBLOCK) != sizeof mark)
+        return 0;
+    mark &= BITS_OF_MARK;
+    return ioctl(fd, SETS_MARK, &mark) == 0 ? mark : 0;
+}
 
 int make_polled(struct ring *ring)
 {
@@ -26,6 +45,7 @@ int make_polled(struct ring *ring)
     int fd = epoll_create1(EPOLL_CLOEXEC);
     if (fd < 0)
         return -errno;
+    ring->mark = make_mark(fd);
     ring->ready_fd = moved_high(eventfd(0, EFD_CLOEXEC | EFD_NONBLOCK));
     if (ring->ready_fd >= 0 && epoll_ctl(fd, EPOLL_CTL_ADD, ring->ready_fd, &event) == 0)
         return fd;
@@ -47,6 +67,15 @@ bool is_polled_by(const struct ring *ring, int fd)
 {
     struct epoll_event event = {.events = EPOLLIN};
     return epoll_ctl(fd, EPOLL_CTL_MOD, ring->ready_fd, &event) == 0;
+}
+
+/* (to ask for the mark takes two thirds of the time) */
+bool is_still_polled_by(const struct ring *ring, int fd)
+{
+    uint64_t mark;
+    if (!ring->mark)
+        return is_polled_by(ring, fd);
+    return pass(SYS_ioctl, fd, GETS_MARK, (long)&mark, 0, 0, 0) >= 0 && mark == ring->mark;
 }
 
 static int by_descriptor(const void *one, const void *other)

@@ -11,6 +11,9 @@ void free_polled(struct ring *ring);
 /* Whether a descriptor is open on this ring, which has one that polls. */
 bool is_polled_by(const struct ring *ring, int fd);
 
+/* The same of a descriptor that was open on it: by the ring's mark, which no other has but by a chance in 2^37. */
+bool is_still_polled_by(const struct ring *ring, int fd);
+
 /* A descriptor of the layer's may be closed: it isn't polled for any more, until the next call lists it again. */
 void unwatch(struct ring *ring, int fd);
 

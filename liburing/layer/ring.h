@@ -40,6 +40,7 @@ struct ring {
     int fd;                             /* the first descriptor: it may be closed, or another file's by now */
     int called_fd;                      /* the one of the call that has its lock, or of the last one */
     int ready_fd;                       /* an eventfd, if the descriptor polls; or negative: the descriptor is memory */
+    uint64_t mark;                      /* and by what that descriptor is known, or 0: by the eventfd alone */
     bool is_readable;                   /* the eventfd is set, */
     uint32_t told_posted;               /* last when so many completions were posted, in a count that wraps */
     struct watched *watched;            /* the streams that the descriptor polls for */

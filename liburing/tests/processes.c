@@ -7,6 +7,8 @@
 #include <linux/time_types.h>
 #include <poll.h>
 #include <pthread.h>
+#include <sys/epoll.h>
+#include <sys/eventfd.h>
 #include <sys/stat.h>
 #include <sys/wait.h>
 
@@ -33,6 +35,38 @@ static void test_two_rings(void)
     check(results[1] == 0 && results[2] == 0);
     close_ring(&one);
     close_ring(&two);
+}
+
+/* A number that was a ring's: another ring's by now, that of what is none, or again its own. */
+static void use_number_again(void)
+{
+    struct ring one, two;
+    make_ring(&one, 4, 0, 0);
+    make_ring(&two, 4, 0, 0);
+    int kept = dup(one.fd), others[] = {epoll_create1(0), eventfd(0, 0), make_file()};
+    for (size_t i = 0; i < sizeof others / sizeof *others; i++) {
+        submit_nop(&one, i);
+        check(wait_for_one(&one) == 0);
+        check(dup2(others[i], one.fd) == one.fd && enter(&one, 0, 0, 0) == -EOPNOTSUPP);
+        put(&two, IORING_OP_NOP, i, 0);
+        check(dup2(two.fd, one.fd) == one.fd && enter(&one, 1, 0, 0) == 1);
+        check(wait_for_one(&two) == 0);
+        close(one.fd);
+        check(enter(&one, 0, 0, 0) == -EBADF);
+        check(dup2(kept, one.fd) == one.fd);
+        close(others[i]);
+    }
+    close(kept);
+    close_ring(&one);
+    close_ring(&two);
+}
+
+static void test_numbers(void)
+{
+    use_number_again();
+    setenv("WULGACH_TEST_POLLED", "yes", 1);
+    use_number_again();
+    unsetenv("WULGACH_TEST_POLLED");
 }
 
 static void *set_up_again_and_again(void *stop)
@@ -176,6 +210,7 @@ int main(int count, char **words)
 {
     static const struct named tests[] = {
         {"two rings", test_two_rings},
+        {"numbers", test_numbers},
         {"forks", test_forks},
         {"kept files", test_kept_files},
         {"many rings", test_many_rings},

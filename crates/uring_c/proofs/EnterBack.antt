@@ -66,20 +66,17 @@ of_ok (Err e) wanted P is holds = cc
 pub next_after : (a : Asked) (log : List Reply) (r parsed : Reply) (held enter moved : Enter)
     (w : EnterWords) (result : Result Command WrongReply) (wanted : Command)
     → Some enter ≡ Some held → Some parsed ≡ Some r → IsAfter a log held
-    → (IsAfter a log enter → IfOk result (λ c. c ≡ due a (parsed ∷ log)))
     → (IsAfter a log enter → IfOk result (λ _. IsAfter a (parsed ∷ log) moved))
     → result_ok result ≡ Some wanted → w ≡ words_of_enter moved
-    → (Some wanted ≡ Some (due a (r ∷ log))) × AreAfter a (r ∷ log) w
-next_after a log r parsed held enter moved w result wanted same_call same_reply after to_due to_after ok words =
+    → (Some w.wanted ≡ Some (words_of_command (due a (r ∷ log)))) × AreAfter a (r ∷ log) w
+next_after a log r parsed held enter moved w result wanted same_call same_reply after to_after ok words =
     let call : enter ≡ held = cc in
     let reply : parsed ≡ r = cc in
     let Fits : Enter → Type 0 = λ v. IsAfter a log v in
     let Moved : Reply → Type 0 = λ v. IsAfter a (v ∷ log) moved in
     let fits = subst Fits (sym call) after in
-    let is : wanted ≡ due a (parsed ∷ log) =
-    of_ok result wanted (λ c. c ≡ due a (parsed ∷ log)) ok (to_due fits) in
     let went : IsAfter a (parsed ∷ log) moved =
     of_ok result wanted (λ _. IsAfter a (parsed ∷ log) moved) ok (to_after fits) in (
-      ap (λ v. Some v) (is ∙ ap (λ v. due a (v ∷ log)) reply),
+      ap (λ (v : EnterWords). Some v.wanted) words ∙ ap (λ v. Some (words_of_command v)) (subst Moved reply went).wanted,
       (moved, ap enter_of words ∙ enter_back moved, subst Moved reply went),
     )

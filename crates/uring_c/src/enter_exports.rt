@@ -8,7 +8,7 @@ ghost use Rattle.uring_crossing.specs.EnterForm.{on_ring_of, reply_of, words_of_
 use uring_crossing::enter_words::{
     AskedWords, CommandWords, EnterWords, ReplyWords, command_words, enter_words,
 };
-use uring_enter::{Command, Enter};
+use uring_enter::Enter;
 
 /// Begins a call, and writes what it wants first. Returns 0, or -22 if there is no such policy; then nothing is written.
 #[unsafe(no_mangle)]
@@ -50,15 +50,15 @@ pub extern "C" fn wulgach_enter_next(
     let Some(wanted) = take_reply(call, reply) else {
         return -22;
     };
-    *command = command_words(wanted);
+    *command = wanted;
     0
 }
 
 /// Takes a reply, and returns what the call wants then, unless the reply doesn't answer what it wanted.
-fn take_reply(call: &mut EnterWords, reply: &ReplyWords) -> Option<Command>
+fn take_reply(call: &mut EnterWords, reply: &ReplyWords) -> Option<CommandWords>
     ensures next { (a : Asked) (log : List Reply) (r : Reply) → AreAfter a log call.old
         → reply_of reply.now ≡ Some r → is_reply_to (due a log) r ≡ true
-        → (result ≡ Some (due a (r ∷ log))) × AreAfter a (r ∷ log) call.new }
+        → (result ≡ Some (words_of_command (due a (r ∷ log)))) × AreAfter a (r ∷ log) call.new }
     ensures wrong { (a : Asked) (log : List Reply) (r : Reply) → AreAfter a log call.old
         → reply_of reply.now ≡ Some r → is_reply_to (due a log) r ≡ false → result ≡ None }
     ensures none { reply_of reply.now ≡ None → result ≡ None }
@@ -67,6 +67,7 @@ fn take_reply(call: &mut EnterWords, reply: &ReplyWords) -> Option<Command>
     let mut enter = call.enter()?;
     let reply = reply.reply()?;
     let wanted = enter.next(reply).ok()?;
-    *call = enter_words(enter);
-    Some(wanted)
+    let words = enter_words(enter);
+    *call = words;
+    Some(words.wanted)
 }
