@@ -6,12 +6,6 @@
 
 #include <signal.h>
 
-/* A thread that sleeps in a call on a ring. */
-struct sleeper {
-    int wake;               /* an eventfd that another's call writes to; or negative */
-    struct sleeper *next;
-};
-
 /* Whether the process has another thread, which could call on a ring. */
 bool has_threads(void);
 
