@@ -185,9 +185,9 @@ int setup(uint32_t entries, struct io_uring_params *params, bool is_polled)
 {
     sigset_t own;
     serve_at_set_up();
+    block_signals(&own);
     read_policy();
     read_injection();
-    block_signals(&own);
     int result = set_up(entries, params, is_polled);
     allow_signals(&own);
     return result;
