@@ -47,6 +47,7 @@ void free_ring(struct ring *ring)
     free_buffers(ring);
     free_groups(ring);
     free_inbox(&ring->inbox);
+    free_request(ring->unposted);
     unregister_eventfd(ring);
     free(ring->waiting);
     free(ring->timeouts);
