@@ -7,6 +7,7 @@
 #include "callers.h"
 #include "descriptors.h"
 #include "enter.h"
+#include "sleepers.h"
 
 #include <errno.h>
 #include <pthread.h>
@@ -23,11 +24,15 @@ SEEN void *wulgach_mmap(void *at, size_t size, int protection, int flags, int fd
 SEEN int wulgach_close(int fd);
 
 /* A thread isn't cancelled in the middle of a call, as it isn't in the kernel's: the layer's own calls of the C library would end there,
- * with its locks held. */
-static int forbid_cancellation(void)
+ * with its locks held. Sleeps that were left by a jump are left first. (it is inlined: where it stands on the stack is where the call does) */
+__attribute__((always_inline)) static inline int forbid_cancellation(void)
 {
     int before;
     pthread_setcancelstate(PTHREAD_CANCEL_DISABLE, &before);
+    if (own_sleeps.innermost)
+        before = leave_jumped_sleeps(&before, before);
+    else
+        own_sleeps.cancel_state = before;
     return before;
 }
 

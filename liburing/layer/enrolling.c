@@ -12,10 +12,11 @@
 #include "wulgach_register.h"
 
 #include <fcntl.h>
+#include <limits.h>
 #include <linux/io_uring.h>
 #include <pthread.h>
+#include <stdbool.h>
 #include <stdlib.h>
-#include <unistd.h>
 
 enum { MOST = 16 };
 
@@ -25,31 +26,62 @@ static __thread pid_t owner;
 static pthread_key_t key;
 static pthread_once_t once = PTHREAD_ONCE_INIT;
 
-static void close_table(void *argument)
+static bool is_parents(void)
 {
-    uint64_t *rows = argument, fd;
+    return table && owner != this_process();
+}
+
+static void free_table(void)
+{
+    free(table);
+    table = NULL;
+}
+
+/* A program that has closed the number itself may have it for a file of its own. */
+static void close_row(int fd)
+{
+    forget_kept(fd);
+    if (is_ring(fd))
+        close_descriptor(fd);
+}
+
+static void close_rows(void)
+{
+    uint64_t fd;
     for (uint32_t i = 0; i < MOST; i++)
-        if (wulgach_enrolled_named(rows, MOST, i, &fd) == 0)
-            close_descriptor((int)fd);
-    free(rows);
+        if (wulgach_enrolled_named(table, MOST, i, &fd) == 0)
+            close_row((int)fd);
+}
+
+/* The C library has the destructors of a thread's keys run in so many rounds. Until the last one those of the program may call: the rows are there, as in
+ * the kernel. */
+static void end_thread(void *rows)
+{
+    static __thread unsigned rounds;
+    sigset_t signals;
+    if (++rounds < PTHREAD_DESTRUCTOR_ITERATIONS) {
+        pthread_setspecific(key, rows);
+        return;
+    }
+    block_signals(&signals);
+    if (!is_parents())
+        close_rows();
+    free_table();
+    allow_signals(&signals);
 }
 
 static void make_key(void)
 {
-    pthread_key_create(&key, close_table);
+    pthread_key_create(&key, end_thread);
 }
 
-/* A child has none of its parent's rows, but copies of their descriptors. */
+/* A child has none of its parent's rows. The copies of their descriptors were closed as it was forked; one that was made by a system call of the
+ * program's own keeps them open. */
 static void leave_parents_table(void)
 {
-    uint64_t fd;
-    if (!table || owner == this_process())
+    if (!is_parents())
         return;
-    for (uint32_t i = 0; i < MOST; i++)
-        if (wulgach_enrolled_named(table, MOST, i, &fd) == 0)
-            close((int)fd);
-    free(table);
-    table = NULL;
+    free_table();
     pthread_setspecific(key, NULL);
 }
 
@@ -73,6 +105,7 @@ static int enroll(int fd, uint32_t row)
     int copy = own_copy_of(fd);
     if (copy < 0)
         return copy;
+    note_kept(copy, true);
     wulgach_enroll(table, MOST, row, (uint32_t)copy);
     return 0;
 }
@@ -81,7 +114,7 @@ static void dismiss(uint32_t row)
 {
     uint64_t fd;
     if (wulgach_enrolled_named(table, MOST, row, &fd) == 0)
-        close((int)fd);
+        close_row((int)fd);
     wulgach_dismiss(table, MOST, row);
 }
 

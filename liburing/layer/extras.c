@@ -18,12 +18,6 @@
 #include <fcntl.h>
 #include <stdlib.h>
 
-bool can_post_extra(struct ring *ring)
-{
-    bool has_memory = reserve_all(ring, 1);
-    return wulgach_drains_may_post(&ring->drains, ring->staged.count, ring->is_linux, has_memory);
-}
-
 /* A request of the layer's own was accepted: ends it with this result, and returns that of the core's. */
 static int32_t end_own(struct ring *ring, struct request *request, int32_t res)
 {
@@ -44,23 +38,21 @@ static int32_t end_own(struct ring *ring, struct request *request, int32_t res)
     return TOLD_SUCCESS;
 }
 
-static void post(struct ring *ring, uint64_t call, bool is_message, uint64_t user_data, int32_t res, uint32_t flags)
+static void stage_own(struct ring *ring, const struct request *request)
 {
     struct wulgach_entry entry;
-    do_duties_before_posting(ring);
-    struct request *request = make_request(&ring->requests);
-    demand(request != NULL, "out of memory");
-    request->entry.user_data = request->token = user_data;
-    request->mapping = (enum mapping)wulgach_extra_of(ring->is_linux, &request->entry.opcode);
-    request->flags = flags;
-    request->call = call;
-    request->is_message = is_message;
     write_token(&entry, request);
     load_head(ring);
     fill_slot(ring, 0, &entry);
     index_word(ring, 0);
     store_tail(ring);
-    demand(begin_call(ring, 1), "out of memory");
+}
+
+/* Has the core take what is staged, and post it. False: memory was refused, and it waits. */
+static bool take_own(struct ring *ring, struct request *request, int32_t res)
+{
+    if (!begin_call(ring, 1))
+        return false;
     demand(take_position(ring), "the core drops a no-op");
     end_call(ring);
     ring->own_positions++;
@@ -71,11 +63,64 @@ static void post(struct ring *ring, uint64_t call, bool is_message, uint64_t use
     trace_note(ring, "request %llu: a completion of the layer's own", (unsigned long long)request->number);
     int32_t told = end_own(ring, request, res);
     end_of(ring, request, res, told);
+    return true;
 }
 
-void post_extra(struct ring *ring, uint64_t call, uint64_t user_data, int32_t res, uint32_t flags)
+static void put_off(struct ring *ring, struct request *request, int32_t res)
 {
-    post(ring, call, false, user_data, res, flags);
+    ring->unposted = request;
+    ring->unposted_res = res;
+    __atomic_add_fetch(&ring->inbox.count, 1, __ATOMIC_SEQ_CST);
+}
+
+bool post_unposted(struct ring *ring)
+{
+    struct request *request = ring->unposted;
+    if (!request)
+        return true;
+    ring->unposted = NULL;
+    if (!reserve_all(ring, 1) || !take_own(ring, request, ring->unposted_res)) {
+        ring->unposted = request;
+        return false;
+    }
+    __atomic_sub_fetch(&ring->inbox.count, 1, __ATOMIC_SEQ_CST);
+    return true;
+}
+
+bool can_post_extra(struct ring *ring)
+{
+    if (!wulgach_drains_may_post(&ring->drains, ring->staged.count, ring->is_linux, true))
+        return false;
+    bool has_memory = post_unposted(ring) && reserve_all(ring, 1) && reserve_request(&ring->requests);
+    return wulgach_drains_may_post(&ring->drains, ring->staged.count, ring->is_linux, has_memory);
+}
+
+static bool post(struct ring *ring, uint64_t call, bool is_message, uint64_t user_data, int32_t res, uint32_t flags)
+{
+    do_duties_before_posting(ring);
+    struct request *request = make_request(&ring->requests);
+    demand(request != NULL, "a completion is posted for which nothing was reserved");
+    request->entry.user_data = request->token = user_data;
+    request->mapping = (enum mapping)wulgach_extra_of(ring->is_linux, &request->entry.opcode);
+    request->flags = flags;
+    request->call = call;
+    request->is_message = is_message;
+    stage_own(ring, request);
+    bool is_posted = take_own(ring, request, res);
+    if (!is_posted)
+        put_off(ring, request, res);
+    return is_posted;
+}
+
+bool post_extra(struct ring *ring, uint64_t call, uint64_t user_data, int32_t res, uint32_t flags)
+{
+    return post(ring, call, false, user_data, res, flags);
+}
+
+void change_unposted(struct ring *ring, int32_t res, uint32_t flags)
+{
+    ring->unposted_res = res;
+    ring->unposted->flags = flags;
 }
 
 bool has_messages(struct ring *ring)

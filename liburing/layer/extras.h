@@ -29,8 +29,12 @@ struct inbox {
 /* Whether an extra completion can be posted now: by the manual pages' rules no drain is outstanding; and there is memory. */
 bool can_post_extra(struct ring *ring);
 
-/* Posts one, of a request that the call of this number has submitted. It can be posted. */
-void post_extra(struct ring *ring, uint64_t call, uint64_t user_data, int32_t res, uint32_t flags);
+/* Posts one, of a request that the call of this number has submitted. It can be posted. False: the core refused memory for it, and it is put off. */
+bool post_extra(struct ring *ring, uint64_t call, uint64_t user_data, int32_t res, uint32_t flags);
+
+/* Posts what was put off, if something was. False: memory is refused still. And has it show this instead. */
+bool post_unposted(struct ring *ring);
+void change_unposted(struct ring *ring, int32_t res, uint32_t flags);
 
 /* A message that is yet to be put; NULL if memory was refused. */
 struct message *make_message_of(uint64_t user_data, int32_t res);

@@ -59,11 +59,16 @@ void note_kept(int fd)
         __atomic_or_fetch(&kept[fd / BITS], (uint64_t)1 << fd % BITS, __ATOMIC_RELAXED);
 }
 
-/* (not noted any more first: another may have the number as soon as it is closed) */
-static void close_noted(int fd)
+void forget_kept(int fd)
 {
     if (fd < MOST_NOTED)
         __atomic_and_fetch(&kept[fd / BITS], ~((uint64_t)1 << fd % BITS), __ATOMIC_RELAXED);
+}
+
+/* (not noted any more first: another may have the number as soon as it is closed) */
+static void close_noted(int fd)
+{
+    forget_kept(fd);
     close(fd);
 }
 

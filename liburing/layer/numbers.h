@@ -15,8 +15,9 @@ int own_copy_of(int fd);
  * negative. */
 int moved_high(int fd);
 
-/* A copy keeps a file of the application's open from now on. A child closes those that it got by a fork: what they keep open is its parent's. */
+/* A copy keeps a file of the application's open from now on, or no more. A child closes those that it got by a fork: what they keep open is its parent's. */
 void note_kept(int fd);
+void forget_kept(int fd);
 void close_parents(void);
 
 /* Closes such a copy. A process loses its locks on a regular file (fcntl(2)) with the first descriptor that it closes: where it has any, the copy

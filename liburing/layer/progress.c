@@ -59,10 +59,10 @@ static bool goes_on_behind(const struct ring *ring, const struct request *reques
     return request->needs.goes_on && wulgach_goes_on(&ring->completions.at, submission_of(&request->entry), request->done, res, ring->memory.cq_entries);
 }
 
-/* Posts a completion of a request before its end. It counts as of the call that submitted the request. */
-static void post_event(struct ring *ring, const struct request *request, int32_t res, enum wulgach_part part)
+/* Posts a completion of a request before its end. It counts as of the call that submitted the request. False: it is put off. */
+static bool post_event(struct ring *ring, const struct request *request, int32_t res, enum wulgach_part part)
 {
-    post_extra(ring, request->call, request->entry.user_data, res, wulgach_completion_flags(part, request->flags));
+    return post_extra(ring, request->call, request->entry.user_data, res, wulgach_completion_flags(part, request->flags));
 }
 
 /* Carries an operation out. False: it goes on running, since it would have to wait, or brought something and goes on. */
@@ -96,7 +96,12 @@ static int32_t notify(struct ring *ring, struct request *request, int32_t res)
     bool reports = request->entry.ioprio & IORING_SEND_ZC_REPORT_USAGE;
     if (!wulgach_course_notice(&request->course, reports, can_post_extra(ring), &shown))
         return res;
-    post_event(ring, request, res, WULGACH_PART_SENT);
+    if (!post_event(ring, request, res, WULGACH_PART_SENT)) {
+        /* (what is put off comes last: so that is the notice) */
+        change_unposted(ring, shown, wulgach_completion_flags(WULGACH_PART_NOTICE, 0));
+        request->flags = wulgach_completion_flags(WULGACH_PART_SENT, request->flags);
+        return res;
+    }
     request->flags = wulgach_completion_flags(WULGACH_PART_NOTICE, 0);
     note_fact(request, WULGACH_FACT_NOTIFIED, shown);
     return shown;

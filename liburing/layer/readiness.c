@@ -51,8 +51,6 @@ int make_polled(struct ring *ring)
         return fd;
     int error = errno;
     close(fd);
-    if (ring->ready_fd >= 0)
-        close(ring->ready_fd);
     return -error;
 }
 

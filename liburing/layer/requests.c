@@ -11,15 +11,22 @@
 /* The C library's own: for so many bytes it is quicker than what compilers put in its place. */
 static void *(*volatile const clear)(void *, int, size_t) = memset;
 
+bool reserve_request(struct requests *requests)
+{
+    if (requests->kept)
+        return true;
+    requests->kept = malloc(sizeof *requests->kept);
+    if (requests->kept)
+        requests->kept->next = NULL;
+    return requests->kept;
+}
+
 struct request *make_request(struct requests *requests)
 {
-    struct request *request = requests->kept;
-    if (!request)
-        request = malloc(sizeof *request);
-    else
-        requests->kept = request->next;
-    if (!request)
+    if (!reserve_request(requests))
         return NULL;
+    struct request *request = requests->kept;
+    requests->kept = request->next;
     clear(request, 0, sizeof *request);
     request->epoll = -1;
     return request;

@@ -75,8 +75,9 @@ struct requests {
     struct request *kept;           /* ended, and kept to be used again */
 };
 
-/* An empty request; NULL if memory was refused. */
+/* An empty request; NULL if memory was refused. And making sure that one can be made; false if memory was refused. */
 struct request *make_request(struct requests *requests);
+bool reserve_request(struct requests *requests);
 
 /* Makes sure that this many more can be added; false if memory was refused. */
 bool reserve_requests(struct requests *requests, size_t more);

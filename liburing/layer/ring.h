@@ -75,6 +75,8 @@ struct ring {
     struct group *groups;               /* of provided buffers */
     struct pipes pipes;                 /* that polls wait for */
     struct inbox inbox;
+    struct request *unposted;           /* a completion of the layer's own that the core was given and refused memory for, or NULL: it is posted before */
+    int32_t unposted_res;               /* anything else is submitted or posted, and counts as a message till then; and its result */
     uint32_t head;                      /* the submission ring's, as the application was told it */
     uint32_t own_positions;             /* how many positions of the core's submission ring were the layer's own */
     struct wulgach_eventfd telling;     /* whether an eventfd is registered, and of what it is told; */

@@ -47,6 +47,7 @@ void free_ring(struct ring *ring)
     free_buffers(ring);
     free_groups(ring);
     free_inbox(&ring->inbox);
+    free_request(ring->unposted);
     unregister_eventfd(ring);
     free(ring->waiting);
     free(ring->timeouts);
@@ -185,9 +186,9 @@ int setup(uint32_t entries, struct io_uring_params *params, bool is_polled)
 {
     sigset_t own;
     serve_at_set_up();
+    block_signals(&own);
     read_policy();
     read_injection();
-    block_signals(&own);
     int result = set_up(entries, params, is_polled);
     allow_signals(&own);
     return result;

@@ -7,13 +7,12 @@
 #include "clock.h"
 #include "descriptors.h"
 #include "ends.h"
-#include "numbers.h"
 #include "operations.h"
+#include "sleepers.h"
 
 #include <errno.h>
 #include <poll.h>
 #include <stdlib.h>
-#include <sys/eventfd.h>
 #include <sys/stat.h>
 #include <time.h>
 #include <unistd.h>
@@ -70,42 +69,31 @@ static nfds_t list_streams(const struct ring *ring, struct pollfd *streams)
     return count;
 }
 
-static void leave(struct ring *ring, struct sleeper *sleeper)
-{
-    struct sleeper **at = &ring->sleepers;
-    while (*at != sleeper)
-        at = &(*at)->next;
-    *at = sleeper->next;
-    if (sleeper->wake >= 0)
-        close(sleeper->wake);
-    free(sleeper);
-}
-
-/* Polls without the ring's lock. */
-static int poll_unlocked(struct ring *ring, struct pollfd *polled, nfds_t count, const struct wulgach_limit *limit, const sigset_t *signals)
+/* Polls without the ring's lock. Handlers of signals run meanwhile. */
+static int poll_unlocked(struct ring *ring, struct sleeper *self, nfds_t count, const struct wulgach_limit *limit, const sigset_t *signals)
 {
     struct timespec time = {(time_t)(limit->at / 1000000000), (long)(limit->at % 1000000000)};
     int fd = ring->called_fd;
     pthread_mutex_unlock(&ring->lock);
     /* A message that came before that is posted, and wakes this thread. */
     visit_ring(ring, fd);
-    int result = ppoll(polled, count, limit->is_set ? &time : NULL, signals);
+    int result = ppoll(self->polled, count, limit->is_set ? &time : NULL, signals);
     if (result < 0)
         result = -errno;
+    leave_inner_sleeps(self);
     pthread_mutex_lock(&ring->lock);
     call_by(ring, fd);
     return result;
 }
 
-int sleep_until(struct ring *ring, const struct wulgach_limit *until, const sigset_t *signals)
+/* (it has a frame of its own, below that of the call: by this a sleep that was left is known) */
+__attribute__((noinline)) int sleep_until(struct ring *ring, const struct wulgach_limit *until, const sigset_t *signals)
 {
-    struct sleeper *self = calloc(1, sizeof *self + (ring->running.count + 3) * sizeof *self->polled);
+    volatile uint64_t place;
+    wake_sleepers(ring);
+    struct sleeper *self = begin_sleep(ring, ring->running.count + 3, &place);
     if (!self)
         return wulgach_missing_fault(WULGACH_NO_MEMORY_OWN);
-    wake_sleepers(ring);
-    self->wake = moved_high(eventfd(0, EFD_CLOEXEC | EFD_NONBLOCK));
-    self->next = ring->sleepers;
-    ring->sleepers = self;
     nfds_t count = list_streams(ring, self->polled);
     self->polled[count++] = (struct pollfd){.fd = self->wake, .events = POLLIN};
     if (wulgach_polls_writes(ring->pipes.count))
@@ -114,8 +102,9 @@ int sleep_until(struct ring *ring, const struct wulgach_limit *until, const sigs
     wulgach_times_sleeps_for(&ring->times, until, self->wake >= 0, &limit);
     wulgach_times_comes_to(&ring->times, until, self->wake >= 0, &end);
     uint64_t start = real_time();
-    int result = poll_unlocked(ring, self->polled, count, &limit, signals);
-    leave(ring, self);
+    int result = poll_unlocked(ring, self, count, &limit, signals);
+    end_sleep(self);
+    place = 0;
     add_slept(ring, start);
     wulgach_times_wake(&ring->times, &end, result);
     return result < 0 ? result : 0;

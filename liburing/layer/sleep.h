@@ -6,13 +6,6 @@
 
 #include <signal.h>
 
-/* A thread that sleeps in a call on a ring. It isn't on that thread's stack: a signal's handler may leave the call by a jump, and then it stays. */
-struct sleeper {
-    int wake;               /* an eventfd that another's call writes to; or negative */
-    struct sleeper *next;
-    struct pollfd polled[]; /* what it sleeps for */
-};
-
 /* Whether the process may have another thread, which could call on a ring. */
 bool has_threads(void);
 

@@ -5,6 +5,7 @@
 #include "submit.h"
 #include "account.h"
 #include "callers.h"
+#include "extras.h"
 #include "fault.h"
 #include "issuable.h"
 #include "operations.h"
@@ -197,6 +198,8 @@ int submit(struct ring *ring, uint32_t count)
     uint32_t cell, most = wulgach_taking_begin(&taking, &asked, &cell);
     if (most == 0)
         return 0;
+    if (!post_unposted(ring))
+        return wulgach_refusal_fault(0, true);
     int32_t fault = stage_taken(ring, &taking, most, cell);
     return fault < 0 ? fault : take_staged(ring, given, taking.next);
 }

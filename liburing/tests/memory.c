@@ -4,6 +4,9 @@
 #define _GNU_SOURCE
 #include "engines.h"
 
+#include <netinet/in.h>
+#include <poll.h>
+#include <sys/socket.h>
 #include <sys/uio.h>
 
 /* So many are allowed, or all if it is negative; then one is refused, or as many as `refusals` says. */
@@ -118,12 +121,136 @@ static void test_refused_reaps(void)
     }
 }
 
+/* A message is refused memory at each place, where so many requests wait on the other ring: it is sent or not, and posted once, behind
+ * what comes before it. */
+static bool send_refused(unsigned outstanding, long allowed, long refused)
+{
+    struct ring ring, other;
+    int ends[2];
+    check(pipe(ends) == 0);
+    make_ring(&ring, 4, 0, 0);
+    make_ring(&other, 16, 0, 0);
+    for (unsigned i = 0; i < outstanding; i++)
+        put_plain(&other, IORING_OP_POLL_ADD, i, ends[0])->poll32_events = POLLIN;
+    check(enter(&other, outstanding, 0, 0) == (long)outstanding);
+    struct io_uring_sqe *entry = put_plain(&ring, IORING_OP_MSG_RING, 0, other.fd);
+    entry->len = 77;
+    entry->off = 55;
+    allocations_left = allowed;
+    refusals = refused;
+    long result = enter(&ring, 1, 0, 0);
+    bool is_refused = allocations_left <= 0;
+    allocations_left = -1;
+    refusals = 0;
+    check(result == 1 || result == -EAGAIN);
+    check(result == 1 || enter(&ring, 1, 0, 0) == 1);
+    int32_t sent = next_of(&ring).res;
+    check(sent == 0 || sent == -ENOMEM);
+    submit_nop(&other, 66);
+    struct seen first = next_of(&other), second = sent == 0 ? next_of(&other) : first;
+    check(sent == 0 ? first.user_data == 55 && first.res == 77 && second.user_data == 66 : first.user_data == 66);
+    check(enter(&other, 0, 0, IORING_ENTER_GETEVENTS) == 0 && count_ready(&other) == 0);
+    close(ends[0]), close(ends[1]);
+    close_ring(&ring);
+    close_ring(&other);
+    return is_refused;
+}
+
+/* Events of as many polls that go on are refused memory: each comes once. */
+static bool tell_refused(unsigned polls, long allowed, long refused)
+{
+    struct ring ring;
+    int ends[8][2];
+    unsigned seen = 0;
+    make_ring(&ring, 8, 0, 0);
+    for (unsigned i = 0; i < polls; i++) {
+        check(pipe(ends[i]) == 0);
+        struct io_uring_sqe *entry = put_plain(&ring, IORING_OP_POLL_ADD, i, ends[i][0]);
+        entry->poll32_events = POLLIN;
+        entry->len = IORING_POLL_ADD_MULTI;
+    }
+    check(enter(&ring, polls, 0, 0) == (long)polls && enter_for(&ring, 1, 1000) == -ETIME);
+    for (unsigned i = 0; i < polls; i++)
+        check(write(ends[i][1], "x", 1) == 1);
+    allocations_left = allowed;
+    refusals = refused;
+    long result = enter(&ring, 0, polls, IORING_ENTER_GETEVENTS);
+    bool is_refused = allocations_left <= 0;
+    allocations_left = -1;
+    refusals = 0;
+    check(result == 0 || is_refused);
+    for (unsigned i = 0; i < polls; i++) {
+        struct seen found = next_of(&ring);
+        check(found.res == POLLIN && found.flags == IORING_CQE_F_MORE && !(seen & 1u << found.user_data));
+        seen |= 1u << found.user_data;
+    }
+    submit_nop(&ring, 66);
+    check(next_of(&ring).user_data == 66);
+    for (unsigned i = 0; i < polls; i++)
+        close(ends[i][0]), close(ends[i][1]);
+    close_ring(&ring);
+    return is_refused;
+}
+
+static void test_refused_extras(void)
+{
+    for (unsigned count = 0; count <= 8; count++) {
+        for (long refused = 1; refused <= 3; refused++) {
+            for (long allowed = 0; send_refused(count, allowed, refused); allowed++)
+                continue;
+            for (long allowed = 0; count > 0 && tell_refused(count, allowed, refused); allowed++)
+                continue;
+        }
+    }
+}
+
+/* A send without copies that is refused memory as it ends has its notice last, or none. */
+static void test_refused_notice(void)
+{
+    struct sockaddr_in address = {.sin_family = AF_INET, .sin_addr.s_addr = htonl(INADDR_LOOPBACK)};
+    socklen_t size = sizeof address;
+    int listener = socket(AF_INET, SOCK_STREAM, 0), sender = socket(AF_INET, SOCK_STREAM, 0);
+    check(bind(listener, (void *)&address, size) == 0 && listen(listener, 1) == 0 && getsockname(listener, (void *)&address, &size) == 0);
+    check(connect(sender, (void *)&address, size) == 0);
+    int receiver = accept(listener, NULL, NULL);
+    for (unsigned count = 0; count < 6; count++) {
+        bool is_refused = true;
+        for (long turn = 0; is_refused; turn++) {
+            struct ring ring;
+            make_ring(&ring, 8, 0, 0);
+            for (unsigned i = 0; i < count; i++)
+                put_plain(&ring, IORING_OP_POLL_ADD, i, listener)->poll32_events = POLLIN;
+            put_transfer(&ring, IORING_OP_SEND_ZC, 9, 0, sender, "four", 4, 0);
+            check(enter(&ring, count + 1, 0, 0) == count + 1);
+            allocations_left = turn / 2;
+            refusals = 1 + turn % 2;
+            long result = enter(&ring, 0, 1, IORING_ENTER_GETEVENTS);
+            is_refused = allocations_left <= 0;
+            allocations_left = -1;
+            refusals = 0;
+            check(result == 0 || is_refused);
+            struct seen first = next_of(&ring);
+            check(first.user_data == 9 && first.res == 4 && !(first.flags & IORING_CQE_F_NOTIF));
+            if (first.flags & IORING_CQE_F_MORE) {
+                struct seen second = next_of(&ring);
+                check(second.user_data == 9 && second.res == 0 && second.flags == IORING_CQE_F_NOTIF);
+            }
+            submit_nop(&ring, 66);
+            check(next_of(&ring).user_data == 66);
+            close_ring(&ring);
+        }
+    }
+    close(listener), close(sender), close(receiver);
+}
+
 int main(int count, char **words)
 {
     static const struct named tests[] = {
         {"refused memory", test_refused_memory},
         {"refused call", test_refused_call},
         {"refused reaps", test_refused_reaps},
+        {"refused extras", test_refused_extras},
+        {"refused notice", test_refused_notice},
     };
     return run_tests(tests, sizeof tests / sizeof *tests, count > 1 ? words[1] : NULL);
 }

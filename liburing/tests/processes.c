@@ -136,6 +136,132 @@ static void test_kept_files(void)
     }
 }
 
+/* ---- rings by number ---- */
+
+static uint32_t enroll(const struct ring *ring)
+{
+    struct io_uring_rsrc_update row = {.offset = UINT32_MAX, .data = (uint32_t)ring->fd};
+    check(register_at(ring->fd, IORING_REGISTER_RING_FDS, &row, 1) == 1);
+    return row.offset;
+}
+
+static long enter_by_number(uint32_t number)
+{
+    return wulgach_syscall(SYS_io_uring_enter, number, 0u, 0u, IORING_ENTER_REGISTERED_RING, NULL, (size_t)0);
+}
+
+static void want_success(pid_t child)
+{
+    int status;
+    check(waitpid(child, &status, 0) == child && status == 0);
+}
+
+enum { ROUNDS = 4, LOWEST = 512, HIGHEST = 530 };
+
+/* A child closes all it has, and takes the numbers for files of its own. */
+static void take_numbers(void)
+{
+    check(close_range(3, UINT32_MAX, 0) == 0);
+    for (int fd = LOWEST; fd < HIGHEST; fd++)
+        check(dup2(1, fd) == fd);
+}
+
+static bool has_numbers(void)
+{
+    struct stat own, found;
+    check(fstat(1, &own) == 0);
+    for (int fd = LOWEST; fd < HIGHEST; fd++)
+        if (fstat(fd, &found) < 0 || found.st_dev != own.st_dev || found.st_ino != own.st_ino)
+            return false;
+    return true;
+}
+
+/* It loses none of them as it enrolls a ring. */
+static void test_numbers_of_child(void)
+{
+    struct ring ring, own;
+    make_ring(&ring, 4, 0, 0);
+    check(enter_by_number(enroll(&ring)) == 0);
+    pid_t child = fork();
+    if (child == 0) {
+        take_numbers();
+        make_ring(&own, 4, 0, 0);
+        check(enter_by_number(0) == -1 && enter_by_number(enroll(&own)) == 0 && has_numbers());
+        _exit(0);
+    }
+    want_success(child);
+    close_ring(&ring);
+}
+
+static pthread_key_t last_key;
+static uint32_t last_number;
+static int last_round;
+
+/* In the last round of a thread's destructors. */
+static void want_own_files(void *of)
+{
+    if (++last_round < ROUNDS) {
+        pthread_setspecific(last_key, of);
+        return;
+    }
+    _exit(has_numbers() ? 0 : 1);
+}
+
+static void *fork_in_thread(void *of)
+{
+    enroll(of);
+    pid_t child = fork();
+    if (child > 0) {
+        want_success(child);
+        return NULL;
+    }
+    take_numbers();
+    check(pthread_key_create(&last_key, want_own_files) == 0 && pthread_setspecific(last_key, of) == 0);
+    return NULL;
+}
+
+/* Nor where it is a thread's, and ends as that thread would, without a call. */
+static void test_thread_of_child(void)
+{
+    struct ring ring;
+    pthread_t thread;
+    make_ring(&ring, 4, 0, 0);
+    last_round = 0;
+    check(pthread_create(&thread, NULL, fork_in_thread, &ring) == 0 && pthread_join(thread, NULL) == 0);
+    close_ring(&ring);
+}
+
+static void call_last(void *of)
+{
+    check(enter_by_number(last_number) == 0);
+    if (++last_round < ROUNDS - 1)
+        pthread_setspecific(last_key, of);
+}
+
+static void *enroll_in_thread(void *of)
+{
+    last_number = enroll(of);
+    check(pthread_key_create(&last_key, call_last) == 0 && pthread_setspecific(last_key, of) == 0);
+    return NULL;
+}
+
+/* A program's destructors may call by number, and the thread's numbers go with it. */
+static void test_numbers_of_thread(void)
+{
+    struct ring ring;
+    pthread_t thread;
+    make_ring(&ring, 4, 0, 0);
+    int free_number = fcntl(0, F_DUPFD, LOWEST), next;
+    close(free_number);
+    last_round = 0;
+    check(pthread_create(&thread, NULL, enroll_in_thread, &ring) == 0 && pthread_join(thread, NULL) == 0);
+    check(last_round == ROUNDS - 1);
+    next = fcntl(0, F_DUPFD, LOWEST);
+    check(next == free_number && close(next) == 0);
+    pthread_key_delete(last_key);
+    close_ring(&ring);
+}
+
 static unsigned long questions;
 
 int __real_fstat(int fd, struct stat *status);
@@ -213,6 +339,9 @@ int main(int count, char **words)
         {"numbers", test_numbers},
         {"forks", test_forks},
         {"kept files", test_kept_files},
+        {"numbers of a child", test_numbers_of_child},
+        {"thread of a child", test_thread_of_child},
+        {"numbers of a thread", test_numbers_of_thread},
         {"many rings", test_many_rings},
         {"bad addresses", test_bad_addresses},
     };

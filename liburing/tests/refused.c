@@ -80,6 +80,16 @@ int __wrap_fcntl(int fd, int command, ...)
     return is_refused("fcntl", EMFILE) ? -1 : __real_fcntl(fd, command, word);
 }
 
+/* This one isn't refused: but the layer closes no number twice, which may be another file's by then. */
+int __real_close(int fd);
+int __wrap_close(int fd);
+int __wrap_close(int fd)
+{
+    int result = __real_close(fd);
+    check(result == 0 || !is_in_layer);
+    return result;
+}
+
 /* ---- what is done meanwhile ---- */
 
 static long enter_refused(struct ring *ring, unsigned to_submit, unsigned min_complete)

@@ -1,0 +1,148 @@
+/* Whether a sleep was left by a jump is seen on the stack. A mark stands there, in the frame of the sleep, while that lasts: if it has
+ * changed, the sleep was left. And on the stack that the thread was made with, a handler that comes in a sleep has its frames
+ * below: if the next call has its own above, the sleep was left.
+ */
+#define _GNU_SOURCE
+#include "sleepers.h"
+#include "copying.h"
+#include "descriptors.h"
+#include "fault.h"
+#include "numbers.h"
+#include "process.h"
+#include "ring.h"
+
+#include <stdlib.h>
+#include <sys/eventfd.h>
+#include <unistd.h>
+
+__thread struct sleeps own_sleeps;
+
+static pthread_key_t key;
+static pthread_once_t once = PTHREAD_ONCE_INIT;
+
+static uint64_t next_mark(void)
+{
+    static uint64_t count = 0x9e3779b97f4a7c15u;
+    return __atomic_add_fetch(&count, 0x9e3779b97f4a7c15u, __ATOMIC_RELAXED) | 1;
+}
+
+/* Takes a sleep out of its ring's, whose lock is held. */
+static void take_out(struct sleeper *sleeper)
+{
+    struct sleeper **at = &sleeper->ring->sleepers;
+    while (*at != sleeper)
+        at = &(*at)->next;
+    *at = sleeper->next;
+}
+
+/* The innermost sleep of the thread is over. */
+static void forget(struct sleeper *sleeper)
+{
+    own_sleeps.innermost = sleeper->outer;
+    free(sleeper);
+}
+
+void end_sleep(struct sleeper *sleeper)
+{
+    take_out(sleeper);
+    if (sleeper->wake >= 0)
+        close(sleeper->wake);
+    forget(sleeper);
+}
+
+/* Leaves the innermost sleep, and its call, for the thread. A child that was forked in one leaves its parent's ring as it is: its lock may
+ * be held by another thread of the parent's, and the descriptor's number may be the child's own by now. */
+static void leave(struct sleeper *sleeper)
+{
+    struct ring *ring = sleeper->ring;
+    if (ring->process != this_process()) {
+        forget(sleeper);
+        return;
+    }
+    pthread_mutex_lock(&ring->lock);
+    end_sleep(sleeper);
+    unlock_ring(ring);
+}
+
+static void leave_all(void *none)
+{
+    sigset_t signals;
+    (void)none;
+    block_signals(&signals);
+    while (own_sleeps.innermost)
+        leave(own_sleeps.innermost);
+    allow_signals(&signals);
+}
+
+static void make_key(void)
+{
+    pthread_key_create(&key, leave_all);
+}
+
+/* A thread that leaves the C library's ppoll by a jump could be cancelled at any moment from then on: so how it can be is remembered. */
+static void note_cancel_type(void)
+{
+    pthread_setcanceltype(PTHREAD_CANCEL_DEFERRED, &own_sleeps.cancel_type);
+    pthread_setcanceltype(own_sleeps.cancel_type, NULL);
+}
+
+struct sleeper *begin_sleep(struct ring *ring, size_t most, volatile uint64_t *place)
+{
+    struct sleeper *sleeper = calloc(1, sizeof *sleeper + most * sizeof *sleeper->polled);
+    if (!sleeper)
+        return NULL;
+    pthread_once(&once, make_key);
+    pthread_setspecific(key, &own_sleeps);
+    if (!own_sleeps.innermost)
+        note_cancel_type();
+    *sleeper = (struct sleeper){.next = ring->sleepers, .outer = own_sleeps.innermost, .ring = ring, .place = place, .mark = next_mark()};
+    sleeper->wake = moved_high(eventfd(0, EFD_CLOEXEC | EFD_NONBLOCK));
+    *place = sleeper->mark;
+    ring->sleepers = own_sleeps.innermost = sleeper;
+    return sleeper;
+}
+
+void leave_inner_sleeps(const struct sleeper *sleeper)
+{
+    while (own_sleeps.innermost != sleeper) {
+        demand(own_sleeps.innermost != NULL, "a sleep goes on that was left by a jump");
+        leave(own_sleeps.innermost);
+    }
+}
+
+static bool has_mark(const struct sleeper *sleeper)
+{
+    uint64_t mark;
+    return copy_in(&mark, (uintptr_t)sleeper->place, sizeof mark) < 0 || mark == sleeper->mark;
+}
+
+/* Whether both stand on the stack that the thread was made with: a handler, or a program's own threads, may have others. */
+static bool are_on_own_stack(const volatile void *one, const volatile void *other)
+{
+    pthread_attr_t attributes;
+    void *lowest = NULL;
+    size_t size = 0;
+    if (pthread_getattr_np(pthread_self(), &attributes) != 0)
+        return false;
+    pthread_attr_getstack(&attributes, &lowest, &size);
+    pthread_attr_destroy(&attributes);
+    return (uintptr_t)one - (uintptr_t)lowest < size && (uintptr_t)other - (uintptr_t)lowest < size;
+}
+
+static bool is_left(const struct sleeper *sleeper, const void *here)
+{
+    return !has_mark(sleeper) || ((uintptr_t)here > (uintptr_t)sleeper->place && are_on_own_stack(here, sleeper->place));
+}
+
+int leave_jumped_sleeps(const void *here, int cancel_state)
+{
+    sigset_t signals;
+    block_signals(&signals);
+    while (own_sleeps.innermost && is_left(own_sleeps.innermost, here))
+        leave(own_sleeps.innermost);
+    allow_signals(&signals);
+    if (own_sleeps.innermost)
+        return cancel_state;
+    pthread_setcanceltype(own_sleeps.cancel_type, NULL);
+    return own_sleeps.cancel_state;
+}

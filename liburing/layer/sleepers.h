@@ -1,0 +1,43 @@
+/* The threads that sleep in calls. A signal's handler may leave a sleep by a jump, which ends it as the end of its thread does: it is left
+ * when its thread calls next, or ends.
+ */
+#ifndef SLEEPERS_H
+#define SLEEPERS_H
+
+#include <poll.h>
+#include <stddef.h>
+#include <stdint.h>
+
+struct ring;
+
+/* A thread that sleeps in a call on a ring. It stands in memory of the layer's: the call's stack is gone behind a jump. */
+struct sleeper {
+    int wake;                   /* an eventfd that another's call writes to; or negative */
+    struct sleeper *next;       /* of the same ring */
+    struct sleeper *outer;      /* of the same thread: the sleep in which a handler came that has called; or NULL */
+    struct ring *ring;
+    const volatile uint64_t *place;     /* on the call's stack, where this mark stands while the sleep lasts */
+    uint64_t mark;
+    struct pollfd polled[];     /* what it polls */
+};
+
+/* What a thread has: the innermost sleep, or NULL; and of its outermost call, whether the thread could be cancelled as it began, and how. */
+struct sleeps {
+    struct sleeper *innermost;
+    int cancel_state, cancel_type;
+};
+
+extern __thread struct sleeps own_sleeps;
+
+/* Begins a sleep of this thread, which polls so many at most, and whose mark stands at this place; NULL if memory was refused. */
+struct sleeper *begin_sleep(struct ring *ring, size_t most, volatile uint64_t *place);
+
+/* Ends this thread's sleep: first, without the ring's lock, those that a handler has begun in it and left; and then, with that lock, itself. */
+void leave_inner_sleeps(const struct sleeper *sleeper);
+void end_sleep(struct sleeper *sleeper);
+
+/* A call begins, with its frame here, of a thread that sleeps or has left a sleep by a jump: leaves those that were left so. Returns whether
+ * the thread could be cancelled outside of its calls: by what it was told of that just now, unless it is in none any more. */
+int leave_jumped_sleeps(const void *here, int cancel_state);
+
+#endif

@@ -1,0 +1,96 @@
+/* A program that is linked with nothing of ours, whose signals' handlers call on its ring or leave a wait by a jump. It is run by uring-run.
+ *
+ *   interrupted handlers | jumps
+ *
+ * Status 0: all was as it is to be. Else a line says what wasn't.
+ */
+#define _GNU_SOURCE
+#include "trapped.h"
+
+#include <fcntl.h>
+#include <setjmp.h>
+#include <signal.h>
+#include <stdlib.h>
+#include <sys/time.h>
+
+static void raise_often(long microseconds, long again)
+{
+    const struct itimerval often = {.it_value.tv_usec = microseconds, .it_interval.tv_usec = again};
+    WANT(setitimer(ITIMER_REAL, &often, NULL) == 0);
+}
+
+static void catch(void (*handler)(int))
+{
+    const struct sigaction action = {.sa_handler = handler, .sa_flags = SA_RESTART};
+    WANT(sigaction(SIGALRM, &action, NULL) == 0);
+}
+
+static const struct ring *called;
+static volatile sig_atomic_t calls;
+
+static void call_in_handler(int number)
+{
+    (void)number;
+    WANT(enter(called, 0, 0, NULL) == 0);
+    calls++;
+}
+
+/* Whoever handles a signal may call, whatever trapped call it comes in. */
+static void handlers(void)
+{
+    int ends[2];
+    struct ring ring = set_up(0);
+    called = &ring;
+    WANT(pipe(ends) == 0);
+    catch(call_in_handler);
+    raise_often(53, 53);
+    for (int i = 0; i < 3000; i++) {
+        struct io_uring_params params = {0};
+        WANT(call(SYS_io_uring_register, ring.fd, IORING_REGISTER_FILES, (long)ends, 2, 0, 0) == 0);
+        WANT(call(SYS_io_uring_register, ring.fd, IORING_UNREGISTER_FILES, 0, 0, 0, 0) == 0);
+        WANT(i % 64 > 0 || close((int)call(SYS_io_uring_setup, 4, (long)&params, 0, 0, 0, 0)) == 0);
+    }
+    raise_often(0, 0);
+    WANT(calls > 0);
+}
+
+static sigjmp_buf back;
+
+static void jump(int number)
+{
+    siglongjmp(back, number);
+}
+
+/* A wait is left by a jump, again and again: what a sleep takes is given back. */
+static void jumps(void)
+{
+    int ends[2];
+    volatile int number = 0;
+    struct ring ring = set_up(0);
+    WANT(pipe(ends) == 0);
+    catch(jump);
+    publish(&ring, (struct io_uring_sqe){.opcode = IORING_OP_POLL_ADD, .fd = ends[0], .poll32_events = POLLIN});
+    WANT(enter(&ring, 1, 0, NULL) == 1);
+    for (volatile int i = 0; i < 20; i++) {
+        if (sigsetjmp(back, 1) == 0) {
+            raise_often(5000, 0);
+            WANT(enter(&ring, 0, 1, NULL) < 0 && number < 0);
+        }
+        WANT(enter(&ring, 0, 0, NULL) == 0);
+        int lowest = fcntl(0, F_DUPFD, 512);
+        WANT(close(lowest) == 0 && (i == 0 || lowest == number));
+        number = lowest;
+    }
+}
+
+int main(int argc, char **argv)
+{
+    const char *name = argc > 1 ? argv[1] : "";
+    if (strcmp(name, "handlers") == 0)
+        handlers();
+    else if (strcmp(name, "jumps") == 0)
+        jumps();
+    else
+        return 2;
+    return 0;
+}
