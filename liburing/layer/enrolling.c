@@ -105,7 +105,7 @@ static int enroll(int fd, uint32_t row)
     int copy = own_copy_of(fd);
     if (copy < 0)
         return copy;
-    note_kept(copy, true);
+    note_kept(copy);
     wulgach_enroll(table, MOST, row, (uint32_t)copy);
     return 0;
 }
