@@ -145,7 +145,7 @@ struct wulgach_resting {
     bool is_polled;             /* the ring's descriptor polls */
 };
 
-/* What it does before it is decided whether it sleeps: files are found, those of what runs are kept, and where requests run, or pipes are watched,
+/* What it does before it is decided whether it sleeps: files are found, what runs, or was accepted, keeps them, and where requests run, or pipes are watched,
  * pipes are, unless it is to fail with a fault. */
 uint32_t wulgach_duties_before_sleep(const struct wulgach_resting *resting, bool has_fault);
 
@@ -153,9 +153,9 @@ uint32_t wulgach_duties_before_sleep(const struct wulgach_resting *resting, bool
  * that polls tells of it. */
 uint32_t wulgach_duties_at_rest(const struct wulgach_resting *resting);
 
-/* What it does as it returns: files are found; where requests run, their files are kept; where some run, or pipes are watched, pipes are; then as
- * above; and the flags are shown at last. */
-uint32_t wulgach_duties_at_return(const struct wulgach_resting *resting);
+/* What it does as it returns: files are found; what runs, or was accepted, keeps its files; where some run, or pipes are watched, pipes are; then as
+ * above; and the flags are shown at last. The ring is told by values, since each call asks. */
+uint32_t wulgach_duties_at_return(uint64_t waiting, uint64_t looked_at, bool has_due, bool runs, bool has_new, bool has_watches, bool has_ends, bool is_polled);
 
 /* What the call of io_uring_register(2) of this number does as it begins, and as it returns. One that may post completions, since it ends requests
  * or takes files or buffers out of their table, does what any call does, and hears the application as it begins; another does nothing. */

@@ -89,7 +89,7 @@ void do_duties_at_rest(struct ring *ring)
 void do_duties_at_return(struct ring *ring)
 {
     struct wulgach_resting at = resting(ring);
-    do_all(ring, wulgach_duties_at_return(&at));
+    do_all(ring, wulgach_duties_at_return(at.waiting, at.looked_at, at.has_due, at.runs, at.has_new, at.has_watches, at.has_ends, at.is_polled));
 }
 
 void do_duties_at_register_begin(struct ring *ring, uint32_t code)

@@ -42,17 +42,19 @@ pub extern "C" fn wulgach_duties_at_return(
     looked_at: u64,
     has_due: bool,
     runs: bool,
+    has_new: bool,
     has_watches: bool,
     has_ends: bool,
     is_polled: bool,
 ) -> u32
-    ensures { result ≡ word_of_duties (spec.at_return (record { waiting = waiting; looked_at = looked_at; has_due = has_due; runs = runs; has_watches = has_watches; has_ends = has_ends; is_polled = is_polled })) }
+    ensures { result ≡ word_of_duties (spec.at_return (record { waiting = waiting; looked_at = looked_at; has_due = has_due; runs = runs; has_new = has_new; has_watches = has_watches; has_ends = has_ends; is_polled = is_polled })) }
 {
     duties_word(duties_at_return(&Resting {
         waiting,
         looked_at,
         has_due,
         runs,
+        has_new,
         has_watches,
         has_ends,
         is_polled,
