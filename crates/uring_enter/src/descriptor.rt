@@ -249,8 +249,11 @@ pub fn asks_counter(entry: &Submission, length: u64, nature: &Nature) -> bool
 pub fn no_buffer_fault(entry: &Submission, nature: &Nature) -> i32
     ensures { result ≡ spec.no_buffer_fault entry.now nature.now }
 {
-    let why = if entry.flags & 32 != 0 { -105 } else { -14 };
-    buffer_fault(entry, nature, why)
+    if entry.flags & 32 != 0 {
+        buffer_fault(entry, nature, -105)
+    } else {
+        buffer_fault(entry, nature, -14)
+    }
 }
 
 /// With what the transfer of an entry, of so many bytes, fails as it starts, where its descriptor is this; or 0.
