@@ -51,8 +51,9 @@ enum wulgach_form {
  * What the entry points to isn't looked at. */
 uint32_t wulgach_form_of(const struct wulgach_submission *entry, int32_t refusal, bool is_allowed, int32_t *fault);
 
-/* Returns what an entry is that no cancel of the core's is, once what it points to is copied with this fault, or 0: one with a fault is refused. */
-uint32_t wulgach_form_copied(int32_t fault);
+/* Returns what an entry is that was this before (enum wulgach_form), once what it points to is copied with this fault, or 0: one with a fault
+ * is refused, and another stays what it was. */
+uint32_t wulgach_form_copied(uint32_t was, int32_t fault);
 
 /* Writes what an entry says of its chain: IOSQE_IO_LINK or IO_HARDLINK links the next, and IORING_OP_LINK_TIMEOUT limits the one before. */
 void wulgach_link_of(const struct wulgach_submission *entry, struct wulgach_link *link);
@@ -108,6 +109,9 @@ int32_t wulgach_next_piece(const struct wulgach_submission *entry, const struct 
 /* Whether an entry is one of READ, WRITE, READ_FIXED and WRITE_FIXED, and no other. True: whatever stands before it, the piece that is told first is its
  * one buffer, and then, where that has no fault, nothing more, and 0. */
 bool wulgach_has_one_buffer(const struct wulgach_submission *entry);
+
+/* How many bytes of a provided buffer the request of an entry takes at most, which asks for so many: these; or 0, if it takes none. */
+uint64_t wulgach_wanted_of(const struct wulgach_submission *entry, uint64_t length);
 
 /* The fault of a path that was read, or of an attribute's name, which is of so many letters and has its end, or not, in what was read of it;
  * or 0. Of a path without an end -36 (ENAMETOOLONG), and of an empty one -2 (ENOENT), but of the first path of a STATX or a LINKAT with

@@ -48,6 +48,9 @@ enum wulgach_need {
 /* Writes what the operation of an entry needs, and of which kind it is. */
 void wulgach_needs_of(const struct wulgach_submission *entry, struct wulgach_needs *needs);
 
+/* Writes what the request of an entry needs that is this to the core (enum wulgach_form): nothing, all zeros, but of a token. */
+void wulgach_needs_as(const struct wulgach_submission *entry, uint32_t form, struct wulgach_needs *needs);
+
 /* When the files and the buffer of a request are found. */
 enum wulgach_found {
     WULGACH_FOUND_AT_START = 0,     /* when it starts */
@@ -62,8 +65,14 @@ enum wulgach_found {
  * call that may change slots it finds them in its turn. */
 uint32_t wulgach_drains_find_file(const struct wulgach_drains *drains, const struct wulgach_member *request, bool linux_rules, bool behind_change, bool knows_start, bool may_start);
 
-/* Whether the operation of an entry may change what the slots of its ring's table of files hold. */
-bool wulgach_changes_slots(const struct wulgach_submission *entry);
+/* The entries of a call, one behind the other, as far as they were seen. */
+struct wulgach_changes {
+    bool may_change_slots;      /* the operation of one may change what the slots of its ring's table of files hold */
+};
+
+/* Begins with none; and sees the next one. */
+void wulgach_changes_begin(struct wulgach_changes *changes);
+void wulgach_changes_see(struct wulgach_changes *changes, const struct wulgach_submission *entry);
 
 /* What an operation, or a call, looks for. */
 enum wulgach_missing {
@@ -133,11 +142,18 @@ uint32_t wulgach_find_kind(const struct wulgach_submission *entry, const struct 
  * one. */
 int32_t wulgach_no_buffer_fault(const struct wulgach_submission *entry, const struct wulgach_nature *nature);
 
+/* With what the request of an entry ends whose buffer has this fault (`why`), where its descriptor is this: -9 and -88 as above, else with that. */
+int32_t wulgach_buffer_fault(const struct wulgach_submission *entry, const struct wulgach_nature *nature, int32_t why);
+
 /* With what the transfer of an entry, of so many bytes, fails as it starts, where its descriptor is this: -22 (EINVAL) of fewer than 8 bytes of
  * what counts; or 0. */
 int32_t wulgach_start_fault(const struct wulgach_submission *entry, uint64_t length, const struct wulgach_nature *nature);
 
 /* ---- whether it can be finished ---- */
+
+/* Whether a descriptor counts as ready of which a poll(2) that doesn't wait came to this, and shows these events: if it shows one, or if the poll
+ * failed, since then the operation's own call tells why, or would wait. */
+bool wulgach_counts_as_ready(int32_t came, uint16_t events);
 
 /* How a request stands that runs. */
 struct wulgach_standing {

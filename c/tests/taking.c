@@ -137,6 +137,7 @@ static void copy_pieces(void)
     demand(wulgach_time_fault(0, 0) == 0 && wulgach_time_fault(-1, 5) == -22 && wulgach_time_fault(5, -1) == -22, "a time");
     struct wulgach_submission selects = {.opcode = RECVMSG, .flags = 32};
     demand(wulgach_message_vectors(&selects, 0) == 1 && wulgach_message_vectors(&selects, 2) == 2 && wulgach_message_vectors(&(struct wulgach_submission){.opcode = RECVMSG}, 0) == 0, "its vectors");
+    demand(wulgach_wanted_of(&selects, 9) == 9 && wulgach_wanted_of(&(struct wulgach_submission){.opcode = RECVMSG}, 9) == 0, "how much of a buffer");
     struct wulgach_core_entry made;
     struct wulgach_submission cancel = {.opcode = 14, .flags = 255, .user_data = 5, .addr = 6};
     wulgach_core_entry_of(&cancel, WULGACH_FORM_CANCEL, &made);

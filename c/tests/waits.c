@@ -40,6 +40,35 @@ static void look_at_needs(void)
     demand(NEEDS(.opcode = POLL_ADD, .op_flags = 0x10005).events == 0x203d && NEEDS(.opcode = READ).events == 1 && NEEDS(.opcode = CONNECT).events == 4 && NEEDS(.opcode = NOP).events == 0, "events");
 }
 
+/* Which entries of a call may change slots, as each is seen in turn. */
+static void see_changes(void)
+{
+    static const struct { uint8_t opcode; uint32_t slot; bool changes; } rows[] = {
+        {CLOSE, 1, true}, {CLOSE, 0, false}, {FILES_UPDATE, 0, true}, {READ, 1, false}, {18, 1, true}, {28, 1, true}, {ACCEPT, 1, true}, {45, 1, true}, {18, 0, false}, {40, 1, false},
+    };
+    for (size_t i = 0; i < sizeof rows / sizeof *rows; i++) {
+        struct wulgach_changes changes;
+        wulgach_changes_begin(&changes);
+        demand(!changes.may_change_slots, "no entry");
+        wulgach_changes_see(&changes, &(struct wulgach_submission){.opcode = rows[i].opcode, .file_index = rows[i].slot});
+        demand(changes.may_change_slots == rows[i].changes, "who changes slots");
+        wulgach_changes_see(&changes, &(struct wulgach_submission){.opcode = READ});
+        demand(changes.may_change_slots == rows[i].changes, "one before has changed them");
+    }
+}
+
+static void need_as_told(void)
+{
+    struct wulgach_submission read = {.opcode = READ};
+    struct wulgach_needs token, cancel, refused;
+    wulgach_needs_as(&read, WULGACH_FORM_TOKEN, &token);
+    wulgach_needs_as(&read, WULGACH_FORM_CANCEL, &cancel);
+    wulgach_needs_as(&read, WULGACH_FORM_REFUSED, &refused);
+    demand(token.needs_file && token.is_read && token.sought == 17, "a token");
+    demand(!cancel.needs_file && cancel.sought == 0 && !refused.is_read && refused.events == 0, "what is no token needs nothing");
+    demand(wulgach_counts_as_ready(1, 1) && !wulgach_counts_as_ready(0, 0) && wulgach_counts_as_ready(-1, 0) && !wulgach_counts_as_ready(2, 0), "what a poll tells");
+}
+
 static void find_files(void)
 {
     struct wulgach_drains drains;
@@ -48,7 +77,6 @@ static void find_files(void)
     wulgach_drains_begin(&drains);
     demand(wulgach_drains_find_file(&drains, &first, false, false, false, false) == WULGACH_FOUND_BY_CALL && wulgach_drains_find_file(&drains, &second, false, true, true, true) == WULGACH_FOUND_AT_START, "behind a link");
     demand(wulgach_drains_find_file(&drains, &first, false, true, false, false) == WULGACH_FOUND_IN_TURN, "behind a change of slots");
-    demand(wulgach_changes_slots(&(struct wulgach_submission){.opcode = CLOSE, .file_index = 1}) && !wulgach_changes_slots(&(struct wulgach_submission){.opcode = CLOSE}) && wulgach_changes_slots(&(struct wulgach_submission){.opcode = FILES_UPDATE}) && !wulgach_changes_slots(&(struct wulgach_submission){.opcode = READ, .file_index = 1}), "who changes slots");
     wulgach_chain_first(&chain, 2);
     wulgach_drains_accept(&drains, &chain);
     demand(wulgach_drains_find_file(&drains, &first, false, false, true, true) == WULGACH_FOUND_AT_START && wulgach_drains_find_file(&drains, &first, true, false, false, true) == WULGACH_ASKS_START, "behind a drain");
@@ -78,6 +106,7 @@ static void look_at_descriptors(void)
     struct wulgach_known nothing = {0}, status = {.status = true, .nature = pipe}, offsets = {.status = true, .offsets = true, .nature = pipe};
     struct wulgach_submission selecting = {.opcode = READ, .flags = 32}, receive = {.opcode = RECV, .flags = 32}, fixed = {.opcode = 4};
     demand(wulgach_no_buffer_fault(&selecting, &none) == -9 && wulgach_no_buffer_fault(&selecting, &pipe) == -105 && wulgach_no_buffer_fault(&receive, &pipe) == -88 && wulgach_no_buffer_fault(&receive, &socket) == -105 && wulgach_no_buffer_fault(&fixed, &none) == -9 && wulgach_no_buffer_fault(&fixed, &file) == -14, "no buffer");
+    demand(wulgach_buffer_fault(&fixed, &none, -14) == -9 && wulgach_buffer_fault(&fixed, &file, -14) == -14 && wulgach_buffer_fault(&fixed, &file, -105) == -105 && wulgach_buffer_fault(&receive, &pipe, -14) == -88, "what is wrong with a buffer");
     struct wulgach_nature counter = {.is_open = true, .is_counter = true, .can_read = true};
     demand(wulgach_start_fault(&entry, 7, &counter) == -22 && wulgach_start_fault(&entry, 8, &counter) == 0 && wulgach_start_fault(&entry, 7, &pipe) == 0 && wulgach_start_fault(&selecting, 7, &counter) == 0, "what counts");
     demand(wulgach_find_kind(&entry, &plain, &nothing) == WULGACH_ASK_STATUS && wulgach_find_kind(&entry, &plain, &status) == WULGACH_ASK_OFFSETS && wulgach_find_kind(&entry, &plain, &offsets) == WULGACH_ASK_ACCESS, "what is asked");
@@ -203,6 +232,8 @@ static void poll_one(void)
 int main(void)
 {
     look_at_needs();
+    see_changes();
+    need_as_told();
     find_files();
     look_at_descriptors();
     finish();

@@ -131,6 +131,12 @@ int find_kind(struct request *request)
     return wulgach_start_fault(submission_of(&request->entry), request->length, &known.nature);
 }
 
+static int find_buffer(struct ring *ring, struct request *request)
+{
+    int why = use_buffer(ring, request->entry.buf_index, request->vectors, &request->buffer);
+    return why < 0 ? fault_of_buffer(request, why) : 0;
+}
+
 /* Looks for what is needed. Returns its fault, or 0. */
 static int look_for(struct ring *ring, struct request *request, enum wulgach_need need)
 {
@@ -144,7 +150,7 @@ static int look_for(struct ring *ring, struct request *request, enum wulgach_nee
     case WULGACH_NEEDS_OPEN:
         return fcntl(request->fd, F_GETFD) < 0 ? wulgach_missing_fault(WULGACH_NO_FILE) : 0;
     case WULGACH_NEEDS_BUFFER:
-        return use_buffer(ring, entry->buf_index, request->vectors, &request->buffer) < 0 ? fault_without_buffer(request) : 0;
+        return find_buffer(ring, request);
     case WULGACH_NEEDS_KIND:
         return find_kind(request);
     }

@@ -60,5 +60,5 @@ int copy_text(struct text *text, uint64_t from, size_t most)
         length = end ? (size_t)(end - letters) : length + piece;
     }
     *text = (struct text){.letters = strndup(letters, length), .length = length, .has_end = end};
-    return text->letters ? 0 : -ENOMEM;
+    return text->letters ? 0 : wulgach_missing_fault(WULGACH_NO_MEMORY_OWN);
 }

@@ -123,7 +123,7 @@ static int32_t copy_pieces(struct request *request, const struct request *before
     struct wulgach_copied copied = {.has_before = before};
     struct wulgach_piece piece;
     int32_t next;
-    if (before && request->entry.opcode == IORING_OP_LINK_TIMEOUT)      /* it matters to no other */
+    if (before)
         copied.before = before->link;
     while ((next = wulgach_next_piece(submission_of(&request->entry), &copied, &piece)) > 0) {
         copied.fault = copy_piece(request, &piece);
@@ -135,19 +135,18 @@ static int32_t copy_pieces(struct request *request, const struct request *before
 
 int copy_behind(struct request *request, const struct request *before)
 {
-    if (request->mapping == CANCEL)
-        return 0;
-    wulgach_needs_of(submission_of(&request->entry), &request->needs);
+    const struct wulgach_submission *entry = submission_of(&request->entry);
+    wulgach_needs_as(entry, request->mapping, &request->needs);
     /* (nothing is copied of one buffer, and it has no fault) */
-    int32_t next = wulgach_has_one_buffer(submission_of(&request->entry)) ? make_vector(request) : copy_pieces(request, before);
+    int32_t next = wulgach_has_one_buffer(entry) ? make_vector(request) : copy_pieces(request, before);
     if (next == -ENOMEM)
         return next;
-    if (request->entry.flags & IOSQE_BUFFER_SELECT)
-        request->wanted = request->length;
     request->fault = next;
+    request->wanted = wulgach_wanted_of(entry, request->length);
+    /* (without a fault it stays what it is, and so does what it needs) */
     if (next < 0) {
-        request->mapping = (enum mapping)wulgach_form_copied(next);
-        request->needs = (struct wulgach_needs){0};
+        request->mapping = (enum mapping)wulgach_form_copied(request->mapping, next);
+        wulgach_needs_as(entry, request->mapping, &request->needs);
     }
     return 0;
 }

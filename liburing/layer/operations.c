@@ -52,10 +52,15 @@ bool is_impatient(const struct request *request)
     return wulgach_is_impatient(submission_of(&request->entry), &patience);
 }
 
+bool shows_ready(struct pollfd at)
+{
+    int came = poll(&at, 1, 0);
+    return wulgach_counts_as_ready(came, (uint16_t)at.revents);
+}
+
 bool is_polled(const struct request *request)
 {
-    struct pollfd at = poll_of(request);
-    return poll(&at, 1, 0) != 0;
+    return shows_ready(poll_of(request));
 }
 
 bool is_ready(const struct request *request)
@@ -172,12 +177,25 @@ static bool is_open_file(int fd)
     return flags >= 0 && !(flags & O_PATH);
 }
 
-int32_t fault_without_buffer(const struct request *request)
+/* What the descriptor of one is that has no buffer. */
+static struct wulgach_nature nature_without_buffer(const struct request *request)
 {
     struct stat status = {0};
     struct wulgach_nature nature = {.is_open = is_open_file(request->fd)};
     nature.is_socket = fstat(request->fd, &status) == 0 && S_ISSOCK(status.st_mode);
+    return nature;
+}
+
+int32_t fault_without_buffer(const struct request *request)
+{
+    struct wulgach_nature nature = nature_without_buffer(request);
     return wulgach_no_buffer_fault(submission_of(&request->entry), &nature);
+}
+
+int32_t fault_of_buffer(const struct request *request, int32_t why)
+{
+    struct wulgach_nature nature = nature_without_buffer(request);
+    return wulgach_buffer_fault(submission_of(&request->entry), &nature, why);
 }
 
 /* What a request ends with that something failed of when it started. Of one that is to take a provided buffer, and finds none, that counts

@@ -45,6 +45,9 @@ bool is_impatient(const struct request *request);
 /* Whether the group of which it takes a provided buffer has one. Notes that it has found one. */
 bool finds_buffer(struct ring *ring, struct request *request);
 
+/* Whether what a poll(2) that doesn't wait says of a descriptor counts as ready. */
+bool shows_ready(struct pollfd at);
+
 /* Whether its descriptor is ready. */
 bool is_polled(const struct request *request);
 
@@ -60,8 +63,9 @@ bool can_have(const struct request *request, enum injection fault);
 /* Carries the operation out, and returns its result, or WOULD_WAIT. */
 int32_t carry_out(struct ring *ring, struct request *request, enum injection fault);
 
-/* With what a request ends that finds no buffer, provided or registered: its descriptor is asked what it is only then. */
+/* With what a request ends that finds no provided buffer, or whose registered one has this fault: its descriptor is asked what it is only then. */
 int32_t fault_without_buffer(const struct request *request);
+int32_t fault_of_buffer(const struct request *request, int32_t why);
 
 /* Whether a result is a success, as links and IOSQE_CQE_SKIP_SUCCESS see it. */
 bool is_success(const struct ring *ring, const struct request *request, int32_t res);

@@ -4,6 +4,7 @@
  */
 #define _GNU_SOURCE
 #include "pipes.h"
+#include "operations.h"
 #include "polls.h"
 #include "ring.h"
 
@@ -203,8 +204,7 @@ static void drop_watches(struct pipes *pipes)
 
 static bool has_something(const struct request *request)
 {
-    struct pollfd at = {.fd = request->fd, .events = POLLIN};
-    return poll(&at, 1, 0) != 0;
+    return shows_ready((struct pollfd){.fd = request->fd, .events = POLLIN});
 }
 
 /* A poll has heard of a write: what was written is there still, or gone. */

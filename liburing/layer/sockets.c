@@ -61,7 +61,7 @@ int copy_message(struct request *request, uint64_t from)
 {
     struct addressed *addressed = request->value = calloc(1, sizeof *addressed);
     if (!addressed)
-        return -ENOMEM;
+        return wulgach_missing_fault(WULGACH_NO_MEMORY_OWN);
     struct msghdr *message = &addressed->message;
     int32_t fault = copy_in(message, from, sizeof *message);
     struct wulgach_header header = header_of(message);

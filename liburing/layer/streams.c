@@ -30,9 +30,9 @@ enum { MOST_AT_ONCE = 64 };
 /* Looks at these, and notes what was found. */
 static void look_at_some(const struct ring *ring, struct request **requests, struct pollfd *polled, nfds_t count)
 {
-    bool is_done = poll(polled, count, 0) >= 0;
+    int came = poll(polled, count, 0);
     for (nfds_t i = 0; i < count; i++)
-        note_look(ring, requests[i], is_done ? polled[i].revents != 0 || is_impatient(requests[i]) : is_ready(requests[i]));
+        note_look(ring, requests[i], came < 0 ? is_ready(requests[i]) : wulgach_counts_as_ready(came, (uint16_t)polled[i].revents) || is_impatient(requests[i]));
 }
 
 /* Looks at all of them. */

@@ -128,15 +128,16 @@ static void find_for(struct ring *ring, struct request *request, bool behind)
 static void note_chains(struct ring *ring, size_t first)
 {
     struct request **rows = ring->requests.rows;
-    bool changes = false;
+    struct wulgach_changes changes;
+    wulgach_changes_begin(&changes);
     begin_asking();
     for (size_t end; first < ring->requests.count; first = end) {
         for (end = first + 1; end < ring->requests.count && wulgach_is_one_chain(&rows[end]->member, &rows[first]->member);)
             end++;
         mark_draining(ring, first, end);
         for (size_t i = first; i < end; i++) {
-            find_for(ring, rows[i], changes);
-            changes = changes || wulgach_changes_slots(submission_of(&rows[i]->entry));
+            find_for(ring, rows[i], changes.may_change_slots);
+            wulgach_changes_see(&changes, submission_of(&rows[i]->entry));
         }
     }
     end_asking();

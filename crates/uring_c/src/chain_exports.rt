@@ -1,11 +1,11 @@
 //! Whether a chain drains, who can start beside drains, and how long that is known, for C: functions of `c/wulgach_enter.h` and `c/wulgach_waits.h`.
 ghost use Rattle.std.specs.Prelude.{◌≡◌, ◌+◌, ◌<◌, ◌^◌, ℕ, length, List, [], ◌∷◌};
-ghost use Rattle.uring_enter.specs.Drainings.{Drainage, KeepsChain, KeepsDrains, keeps_startable, oldest_starts, when_found};
+ghost use Rattle.uring_enter.specs.Drainings.{Drainage, KeepsChain, KeepsDrains, keeps_startable, may_change_slots, oldest_starts, when_found};
 ghost use Rattle.uring_enter.specs.Drainings as spec;
-ghost use Rattle.uring_enter.specs.Means.{changes_slots};
+ghost use Rattle.uring_enter.specs.declared.submission.Submission.{Submission as Seen};
 ghost use Rattle.uring_c.specs.DecisionForm.{word_of_when};
 
-use uring_enter::{Chain, Drains, Member, Submission, WhenFound, changes_slots, lets_others_start};
+use uring_enter::{Chain, Changes, Drains, Member, Submission, WhenFound, lets_others_start};
 
 /// The first member of a chain has these flags.
 #[unsafe(no_mangle)]
@@ -45,12 +45,21 @@ pub extern "C" fn wulgach_drains_find_file(
     }
 }
 
-/// Whether the operation of an entry may change what the slots of a ring's table of files hold.
+/// Begins the entries of a call, of which none was seen.
 #[unsafe(no_mangle)]
-pub extern "C" fn wulgach_changes_slots(entry: &Submission) -> bool
-    ensures { result ≡ changes_slots entry.now }
+pub extern "C" fn wulgach_changes_begin(changes: &mut Changes)
+    ensures { changes.new.may_change_slots ≡ may_change_slots [] }
 {
-    changes_slots(entry)
+    *changes = Changes::begin();
+}
+
+/// The next one is this.
+#[unsafe(no_mangle)]
+pub extern "C" fn wulgach_changes_see(changes: &mut Changes, entry: &Submission)
+    ensures { (earlier : List Seen) → changes.old.may_change_slots ≡ may_change_slots earlier
+        → changes.new.may_change_slots ≡ may_change_slots (entry.now ∷ earlier) }
+{
+    changes.sees(entry);
 }
 
 /// Whether the oldest outstanding request can start, if it hasn't.

@@ -17,8 +17,8 @@ ghost use Rattle.uring_crossing.specs.CourseForm.{fact_of, word_of_act, res_of_a
 use uring_crossing::completion_words::CompletionWords;
 use uring_crossing::course_words::{act_res, act_word, fact, last, part};
 use uring_enter::{
-    Carried, Course, EndedEarly, Entry, Fact, Member, Posted, Shown, Submission,
-    completion_flags, has_succeeded, looks_for_next, looks_for_running, shown_of,
+    Carried, Course, EndedEarly, Entry, Fact, Member, Posted, Shown, Submission, completion_flags,
+    has_succeeded, looks_for_next, looks_for_running, shown_of,
 };
 
 /// A request that was accepted just now.

@@ -55,7 +55,7 @@ pub extern "C" fn wulgach_extra_of(linux_rules: bool, code: &mut u8) -> u32
     form_word(extra.form)
 }
 
-fn form_by_word(word: u32) -> Form
+pub(crate) fn form_by_word(word: u32) -> Form
     ensures { result ≡ form_of_word word }
 {
     match word {

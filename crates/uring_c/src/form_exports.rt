@@ -1,13 +1,15 @@
 //! What an entry is to the core, and which requests go on, for C: the functions of `c/wulgach_form.h`.
-ghost use Rattle.std.specs.Prelude.{◌≡◌, List, false};
+ghost use Rattle.std.specs.Prelude.{◌≡◌, List};
 ghost use Rattle.uring_enter.specs.Copies as copies;
-ghost use Rattle.uring_enter.specs.Forms.{form_by, form_of};
+ghost use Rattle.uring_enter.specs.Forms.{form_copied, form_of};
 ghost use Rattle.uring_enter.specs.Rules.{rule_of, is_rule};
 ghost use Rattle.uring_enter.specs.Showing.{Change, KeepsShown};
 ghost use Rattle.uring_enter.specs.Shots.{goes_on, has_room, shot_of, tells};
 ghost use Rattle.uring_c.specs.EntryForm.{word_of_form, fault_of_form};
+ghost use Rattle.uring_c.specs.RingForm.{form_of_word};
 
-use uring_enter::{Entry, Form, Posted, Shown, Submission, form_by, form_of, link_of, rule_of};
+use crate::entry_exports::form_by_word;
+use uring_enter::{Entry, Form, Posted, Shown, Submission, form_copied, form_of, link_of, rule_of};
 
 /// Returns what an entry is to the core, and writes its fault, or 0. `refusal` is the error with which a strict ring refuses it, or 0.
 #[unsafe(no_mangle)]
@@ -25,12 +27,12 @@ pub extern "C" fn wulgach_form_of(
     form_word(form)
 }
 
-/// Returns what an entry is that the core isn't to cancel by, once what it points to is copied with this fault, or 0.
+/// Returns what an entry is that was this before, once what it points to is copied with this fault, or 0.
 #[unsafe(no_mangle)]
-pub extern "C" fn wulgach_form_copied(fault: i32) -> u32
-    ensures { result ≡ word_of_form (form_by fault false) }
+pub extern "C" fn wulgach_form_copied(was: u32, fault: i32) -> u32
+    ensures { result ≡ word_of_form (form_copied (form_of_word was) fault) }
 {
-    form_word(form_by(fault, false))
+    form_word(form_copied(form_by_word(was), fault))
 }
 
 /// Writes what an entry says of its chain.

@@ -16,7 +16,7 @@ use uring_crossing::course_words::entry_if;
 use uring_enter::{
     Copying, Entry, Header, Piece, Submission, What, has_one_buffer, how_fault, length_with,
     message_vectors, name_fault, next_message_piece, next_piece, open_fault, time_fault,
-    vector_fault,
+    vector_fault, wanted_of,
 };
 
 /// A piece that is copied: `struct wulgach_piece` of the header.
@@ -150,6 +150,14 @@ pub extern "C" fn wulgach_next_message_piece(
         }
         Copying::Ends(fault) => fault,
     }
+}
+
+/// How many bytes of a provided buffer the request of an entry takes at most, which asks for so many; or 0.
+#[unsafe(no_mangle)]
+pub extern "C" fn wulgach_wanted_of(entry: &Submission, length: u64) -> u64
+    ensures { result ≡ copies.wanted_of entry.now length }
+{
+    wanted_of(entry, length)
 }
 
 /// The fault of the path that an entry acts on, or of its second path or an attribute's name, of so many letters, or 0.

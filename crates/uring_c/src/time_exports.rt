@@ -17,8 +17,8 @@ use uring_crossing::time_words::{
     LimitWords, WaitWords, WokenWords, clock_word, limit_words, wait_words, woken_words,
 };
 use uring_enter::{
-    Course, Start, Submission, Timeout, Times, WakeSources, clock_of, count_of, lasts,
-    left_until, linked_outcome, nanoseconds_of,
+    Course, Start, Submission, Timeout, Times, WakeSources, clock_of, count_of, lasts, left_until,
+    linked_outcome, nanoseconds_of,
 };
 
 /// The nanoseconds of a time in seconds and nanoseconds.

@@ -6,15 +6,17 @@ ghost use Rattle.uring_enter.specs.Readiness as ready;
 ghost use Rattle.uring_enter.specs.Tries as tried;
 ghost use Rattle.uring_enter.specs.CallTries as called;
 ghost use Rattle.uring_enter.specs.Instances as instances;
+ghost use Rattle.uring_c.specs.RingForm.{form_of_word};
 ghost use Rattle.uring_crossing.specs.WaitForm.{word_of_finding, word_of_step, end_of_step, task_of, word_of_turn, end_of_turn, doing_of};
 
+use crate::entry_exports::form_by_word;
 use uring_crossing::wait_words::{
     doing, finding_word, step_end, step_word, task, turn_end, turn_word,
 };
 use uring_enter::{
     Call, Known, Nature, Needs, Patience, PollStart, Submission, Transfer, Trial, asks_instance,
-    instance_events, is_impatient, needs_of, next_finding, next_step, next_turn, no_buffer_fault,
-    poll_result, poll_start, start_fault,
+    buffer_fault, counts_as_ready, instance_events, is_impatient, needs_as, needs_of, next_finding,
+    next_step, next_turn, no_buffer_fault, poll_result, poll_start, start_fault,
 };
 
 /// Writes what the operation of an entry needs.
@@ -25,12 +27,28 @@ pub extern "C" fn wulgach_needs_of(entry: &Submission, needs: &mut Needs)
     *needs = needs_of(entry);
 }
 
+/// Writes what the request of an entry needs that is this to the core.
+#[unsafe(no_mangle)]
+pub extern "C" fn wulgach_needs_as(entry: &Submission, form: u32, needs: &mut Needs)
+    ensures { needs.new ≡ needed.needs_as entry.now (form_of_word form) }
+{
+    *needs = needs_as(entry, form_by_word(form));
+}
+
 /// Returns what is to be asked next of a descriptor, or what the request of an entry is on it.
 #[unsafe(no_mangle)]
 pub extern "C" fn wulgach_find_kind(entry: &Submission, trial: &Trial, known: &Known) -> u32
     ensures { result ≡ word_of_finding (found.next_of entry.now trial.now known.now) }
 {
     finding_word(next_finding(entry, trial, known))
+}
+
+/// Whether a descriptor counts as ready of which a poll(2) that doesn't wait came to this, and shows these events.
+#[unsafe(no_mangle)]
+pub extern "C" fn wulgach_counts_as_ready(came: i32, events: u16) -> bool
+    ensures { result ≡ ready.counts_as_ready came events }
+{
+    counts_as_ready(came, events)
 }
 
 /// Whether a request doesn't wait, whatever its descriptor has.
@@ -114,6 +132,14 @@ pub extern "C" fn wulgach_poll_starts(events: u16, goes_on: bool, res: i32, star
     ensures { start.new ≡ instances.poll_start events goes_on res }
 {
     *start = poll_start(events, goes_on, res);
+}
+
+/// With what the request of an entry ends whose buffer has this fault, where its descriptor is this.
+#[unsafe(no_mangle)]
+pub extern "C" fn wulgach_buffer_fault(entry: &Submission, nature: &Nature, why: i32) -> i32
+    ensures { result ≡ found.buffer_fault entry.now nature.now why }
+{
+    buffer_fault(entry, nature, why)
 }
 
 /// With what the request of an entry ends that finds no buffer, provided or registered, where its descriptor is this.

@@ -36,3 +36,7 @@ next_of e copied fault vectors before =
 -- READ_FIXED, WRITE_FIXED, READ and WRITE
 abbrev pub has_one_buffer : Submission → Bool
 has_one_buffer e = e.opcode == 4 || e.opcode == 5 || e.opcode == 22 || e.opcode == 23
+
+-- how many bytes of a provided buffer a request takes at most: as many as it asks for, if it takes one (IOSQE_BUFFER_SELECT, 32). 0 is all of it. read(2)
+abbrev pub wanted_of : Submission → ℕ → ℕ
+wanted_of e length = if has_some e.flags 32 then length else 0

@@ -98,12 +98,15 @@ abbrev pub AsksOnce : Type 0
 AsksOnce = (e : Submission) (t : Trial) (k : Known) (question : Question)
     → next_of e t k ≡ Asks question → was_asked question k ≡ false
 
+-- with what a request ends whose buffer has this fault, where its descriptor is this: that isn't open counts first, and then that it is no socket
+abbrev pub buffer_fault : Submission → Nature → ℤ → ℤ
+buffer_fault e d why =
+    if needs_file e.opcode && not d.is_open then error 9 else
+    if is_of_sockets e.opcode && not d.is_socket then error 88 else why
+
 -- with what a request ends that finds no buffer, provided or registered, where its descriptor is this: what isn't open counts first, -9 (EBADF), and then what is no socket, of an operation of sockets, -88 (ENOTSOCK); else it is -105 (ENOBUFS) of a provided buffer and -14 (EFAULT) of a registered one. What Linux 6.18 was seen to do
 abbrev pub no_buffer_fault : Submission → Nature → ℤ
-no_buffer_fault e d =
-    if needs_file e.opcode && not d.is_open then error 9 else
-    if is_of_sockets e.opcode && not d.is_socket then error 88 else
-    if has_some e.flags 32 then error 105 else error 14
+no_buffer_fault e d = buffer_fault e d (if has_some e.flags 32 then error 105 else error 14)
 
 -- with what a transfer fails as it starts, though its descriptor might have to be waited for: -22 (EINVAL) of fewer than 8 bytes of what counts. 0: it doesn't. eventfd(2), timerfd_create(2)
 abbrev pub start_fault : Submission → ℕ → Nature → ℤ

@@ -1,6 +1,8 @@
 -- Which outstanding requests drain, by what has happened, the newest first. io_uring_enter(2), IOSQE_IO_DRAIN. That a completion which belongs to no end of a request waits behind them by the manual pages' rules is our own rule: it is a request of its own to the core, and so would wait. By Linux's rules it is a request whose entry has a fault, and so waits for no drain.
 use Rattle.std.specs.Prelude.{◌≡◌, ℕ, ◌+◌, ◌-◌, Bool, true, false, not, ◌&&◌, ◌||◌, ◌==◌, ◌⊎◌, length, List, [], ◌∷◌, if◌then◌else◌}
 use Rattle.uring_enter.specs.CoreEntries.{is_drain}
+use Rattle.uring_enter.specs.Means.{changes_slots}
+use Rattle.uring_enter.specs.declared.submission.Submission.{Submission}
 use Rattle.uring_enter.specs.declared.drains.Chain.{Chain}
 use Rattle.uring_enter.specs.declared.drains.Drains.{Drains}
 use Rattle.uring_enter.specs.declared.drains.WhenFound.{WhenFound}
@@ -44,6 +46,11 @@ finds_file log request linux may_start =
 -- by the call, but behind a request of it that may change slots each in its turn: the kernel begins the requests of a call in their order, and carries out at once what need not wait. So behind a close of a slot in one call none finds its file, and behind an update one finds the new one
 abbrev pub by_call : (behind_change : Bool) → WhenFound
 by_call behind_change = if behind_change then InItsTurn else ByTheCall
+
+-- whether one of these entries, which stand before a request in its call, may change slots
+abbrev pub may_change_slots : List Submission → Bool
+may_change_slots [] = false
+may_change_slots (entry ∷ earlier) = changes_slots entry || may_change_slots earlier
 
 -- the same, as far as it is known whether the core lets it start: that is asked only where it matters
 abbrev pub when_found : List Drainage → Member → (linux behind_change knows_start may_start : Bool) → WhenFound

@@ -149,6 +149,10 @@ form_by fault is_cancel =
     if is_below fault then form.Refused fault else
     if is_cancel then form.Cancel else form.Token
 
+-- one whose pieces have a fault is refused; another stays what it is
+abbrev pub form_copied : Form → ℤ → Form
+form_copied was fault = if is_below fault then form.Refused fault else was
+
 -- an entry with a fault is refused with it. Else it is a cancel of the core's, or a token of it: our own rule
 abbrev pub form_of : Submission → ℤ → Bool → Form
 form_of e refusal allowed = form_by (fault_of e refusal allowed) (is_plain_cancel e)

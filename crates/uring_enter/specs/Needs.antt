@@ -1,8 +1,10 @@
 -- What carrying out an operation needs, and of which kind it is, by lists of operations. io_uring_enter(2), at each operation; the numbers are those of <linux/io_uring.h>.
-use Rattle.std.specs.Prelude.{ℕ, Bool, not, ◌&&◌, ◌||◌, ◌==◌, ◌^◌, if◌then◌else◌}
+use Rattle.std.specs.Prelude.{ℕ, Bool, false, not, ◌&&◌, ◌||◌, ◌==◌, ◌^◌, if◌then◌else◌}
 use Rattle.std.specs.Int.RustNames.{bit_and, bit_or}
 use Rattle.uring_enter.specs.declared.submission.Submission.{Submission}
 use Rattle.uring_enter.specs.declared.needs.Needs.{Needs}
+use Rattle.uring_enter.specs.declared.form.Form.{Form}
+use Rattle.uring_enter.specs.declared.form.Form.TheVariants.{Token}
 use Rattle.uring_enter.specs.Clocks.{has_some}
 use Rattle.uring_enter.specs.NoOps.{wants_file, is_of_slot, wants_buffer}
 
@@ -150,3 +152,30 @@ needs_of e = record {
   events = events_of e;
   sought = sought_of e;
 }
+
+-- only a token is carried out outside of the core: a cancel of the core's and what is refused need nothing
+abbrev pub nothing : Needs
+nothing = record {
+  needs_file = false;
+  is_registered = false;
+  needs_second = false;
+  is_second_registered = false;
+  uses_buffer = false;
+  selects = false;
+  goes_on = false;
+  is_timeout = false;
+  can_make_ready = false;
+  is_read = false;
+  is_write = false;
+  is_poll = false;
+  is_of_sockets = false;
+  is_receive = false;
+  fills_buffer = false;
+  is_zero_copy = false;
+  events = 0;
+  sought = 0;
+}
+
+abbrev pub needs_as : Submission → Form → Needs
+needs_as e Token = needs_of e
+needs_as e _ = nothing

@@ -10,6 +10,7 @@ use Rattle.uring_enter.specs.declared.ready.Wanted.{Wanted}
 use Rattle.uring_enter.specs.declared.ready.Wanted.TheVariants.{Count, Posting, Buffer, Readiness}
 use Rattle.uring_enter.specs.declared.ready.Look.{Look}
 use Rattle.uring_enter.specs.declared.ready.Look.TheVariants.{Asks, Waits, Finishes}
+use Rattle.uring_entry.specs.Errors.{is_below}
 use Rattle.uring_enter.specs.Clocks.{has_some}
 use Rattle.uring_enter.specs.Needs.{is_transfer, is_of_sockets, is_splice}
 
@@ -25,6 +26,10 @@ can_finish s n has_to_wait is_cancelled m =
     if n.is_timeout then m.has_counted else
     if n.goes_on && not m.may_post then false else
     if s.is_stream then finds_what_it_wants s n m else true
+
+-- whether a descriptor counts as ready, by what a poll(2) that doesn't wait came to and the events that it shows: if there is one; and if it failed, so that the descriptor's own call tells of that, or would wait. poll(2); that is our own rule
+abbrev pub counts_as_ready : ℤ → ℕ → Bool
+counts_as_ready came events = is_below came || not (events == 0)
 
 -- whether a request asks for its events as it starts: a poll does, unless it has failed by then
 abbrev pub starts_poll : Needs → ℤ → Bool

@@ -75,6 +75,13 @@ fn last_fault(entry: &Submission, vectors: u32, before: Option<Entry>) -> i32
     }
 }
 
+/// How many bytes of a provided buffer the request of an entry takes at most, which asks for so many; 0: all, if it takes one.
+pub fn wanted_of(entry: &Submission, length: u64) -> u64
+    ensures { result ≡ spec.wanted_of entry.now length }
+{
+    if entry.flags & 32 != 0 { length } else { 0 }
+}
+
 /// What an entry says of its chain.
 pub fn link_of(entry: &Submission) -> Entry
     ensures { result ≡ spec.link_of entry.now }

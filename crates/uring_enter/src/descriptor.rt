@@ -189,18 +189,27 @@ fn is_open_for(code: u8, nature: &Nature) -> bool
     }
 }
 
-/// With what the request of an entry ends that finds no buffer, provided or registered, where its descriptor is this: what isn't open, or is no socket, counts first.
-pub fn no_buffer_fault(entry: &Submission, nature: &Nature) -> i32
-    ensures { result ≡ spec.no_buffer_fault entry.now nature.now }
+/// With what the request of an entry ends whose buffer has this fault, where its descriptor is this: what isn't open, or is no socket, counts first.
+pub fn buffer_fault(entry: &Submission, nature: &Nature, why: i32) -> i32
+    ensures { result ≡ spec.buffer_fault entry.now nature.now why }
 {
     if needs_file(entry.opcode) && !nature.is_open {
         -9
     } else if is_of_sockets(entry.opcode) && !nature.is_socket {
         -88
-    } else if entry.flags & 32 != 0 {
-        -105
     } else {
-        -14
+        why
+    }
+}
+
+/// With what the request of an entry ends that finds no buffer, provided or registered, where its descriptor is this: what isn't open, or is no socket, counts first.
+pub fn no_buffer_fault(entry: &Submission, nature: &Nature) -> i32
+    ensures { result ≡ spec.no_buffer_fault entry.now nature.now }
+{
+    if entry.flags & 32 != 0 {
+        buffer_fault(entry, nature, -105)
+    } else {
+        buffer_fault(entry, nature, -14)
     }
 }
 

@@ -1,9 +1,10 @@
 //! Which outstanding requests drain; so whether a completion that belongs to no end of a request may be posted, when files are found, who can start, and how long that is known.
 
 ghost use Rattle.std.specs.Prelude.{◌≡◌, ◌+◌, ◌<◌, ◌^◌, ℕ, length, List, [], ◌∷◌};
-ghost use Rattle.uring_enter.specs.Drainings.{Drainage, Accepted, Ended, KeepsChain, KeepsDrains, FindsInTime, drains, keeps_startable, oldest_starts, outstanding, may_post, when_found};
+ghost use Rattle.uring_enter.specs.Drainings.{Drainage, Accepted, Ended, KeepsChain, KeepsDrains, FindsInTime, drains, keeps_startable, may_change_slots, oldest_starts, outstanding, may_post, when_found};
 ghost use Rattle.uring_enter.specs.Drainings as spec;
 ghost use Rattle.uring_enter.specs.Means.{changes_slots};
+ghost use Rattle.uring_enter.specs.declared.submission.Submission.{Submission as Seen};
 
 use crate::core_entry::is_drain;
 use crate::member::Member;
@@ -153,6 +154,33 @@ impl Drains {
     }
 }
 
+/// The entries of a call, as they are seen one behind the other: what they may change.
+#[repr(C)]
+#[derive(Clone, Copy, Drop)]
+pub struct Changes {
+    /// The operation of one may change slots.
+    pub may_change_slots: bool,
+}
+
+impl Changes {
+    /// None was seen.
+    pub fn begin() -> Changes
+        ensures { result.may_change_slots ≡ may_change_slots [] }
+    {
+        Changes {
+            may_change_slots: false,
+        }
+    }
+
+    /// The next entry is this one.
+    pub fn sees(&mut self, entry: &Submission)
+        ensures { (earlier : List Seen) → self.old.may_change_slots ≡ may_change_slots earlier
+            → self.new.may_change_slots ≡ may_change_slots (entry.now ∷ earlier) }
+    {
+        self.may_change_slots = changes_slots(entry) || self.may_change_slots;
+    }
+}
+
 fn by_call(behind_change: bool) -> WhenFound
     ensures { result ≡ spec.by_call behind_change }
 {
@@ -164,7 +192,7 @@ fn by_call(behind_change: bool) -> WhenFound
 }
 
 /// Whether the operation of an entry may change what the slots of a ring's table of files hold.
-pub fn changes_slots(entry: &Submission) -> bool
+fn changes_slots(entry: &Submission) -> bool
     ensures { result ≡ changes_slots entry.now }
 {
     match entry.opcode {

@@ -147,8 +147,15 @@ pub fn form_of(entry: &Submission, refusal: i32, is_allowed: bool) -> Form
     form_by(fault_of(entry, refusal, is_allowed), is_plain_cancel(entry))
 }
 
+/// What an entry is that was this before, once what it points to is copied with this fault, or without one.
+pub fn form_copied(was: Form, fault: i32) -> Form
+    ensures { result ≡ spec.form_copied was fault }
+{
+    if fault < 0 { Form::Refused(fault) } else { was }
+}
+
 /// What an entry is with this fault, or without one.
-pub fn form_by(fault: i32, is_cancel: bool) -> Form
+fn form_by(fault: i32, is_cancel: bool) -> Form
     ensures { result ≡ spec.form_by fault is_cancel }
 {
     if fault < 0 {

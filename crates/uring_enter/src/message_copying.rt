@@ -135,7 +135,10 @@ fn room_fault(entry: &Submission, header: &Header) -> i32
 fn has_no_room(header: &Header) -> bool
     ensures { result ≡ spec.has_no_room header.now }
 {
-    match header.control_size.checked_add(16 + header.name_size as u64) {
+    match header
+        .control_size
+        .checked_add(16 + header.name_size as u64)
+    {
         None => true,
         Some(size) => header.name_size > 0x7fff_ffff || size > 0x7fff_ffff,
     }

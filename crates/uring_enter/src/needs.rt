@@ -3,6 +3,7 @@
 ghost use Rattle.std.specs.Prelude.{◌≡◌, if◌then◌else◌};
 ghost use Rattle.uring_enter.specs.Needs as spec;
 
+use crate::form::Form;
 use crate::no_op::{is_of_slot, wants_buffer, wants_file};
 use crate::submission::Submission;
 
@@ -92,6 +93,41 @@ pub fn needs_of(entry: &Submission) -> Needs
             sought: sought(true, false, false, false),
         },
         _ => needs_of_any(entry),
+    }
+}
+
+/// What the request of an entry needs that is this to the core: only a token is carried out outside of that.
+pub fn needs_as(entry: &Submission, form: Form) -> Needs
+    ensures { result ≡ spec.needs_as entry.now form }
+{
+    match form {
+        Form::Token => needs_of(entry),
+        Form::Cancel | Form::Refused(_) => nothing(),
+    }
+}
+
+fn nothing() -> Needs
+    ensures { result ≡ spec.nothing }
+{
+    Needs {
+        needs_file: false,
+        is_registered: false,
+        needs_second: false,
+        is_second_registered: false,
+        uses_buffer: false,
+        selects: false,
+        goes_on: false,
+        is_timeout: false,
+        can_make_ready: false,
+        is_read: false,
+        is_write: false,
+        is_poll: false,
+        is_of_sockets: false,
+        is_receive: false,
+        fills_buffer: false,
+        is_zero_copy: false,
+        events: 0,
+        sought: 0,
     }
 }
 

@@ -46,6 +46,13 @@ pub struct Moment {
     pub is_ready: bool,
 }
 
+/// Whether a descriptor counts as ready of which a poll(2) that doesn't wait came to this, and shows these events. One that can't be polled does: its call tells why.
+pub fn counts_as_ready(came: i32, events: u16) -> bool
+    ensures { result ≡ spec.counts_as_ready came events }
+{
+    came < 0 || events != 0
+}
+
 /// What is asked of a moment.
 #[derive(Clone, Copy, Drop)]
 pub enum Wanted {
