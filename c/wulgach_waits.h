@@ -220,6 +220,15 @@ bool wulgach_polls(const struct wulgach_standing *standing);
  * and no registered file and no epoll instance keeps its file open. */
 bool wulgach_keeps_open(const struct wulgach_standing *standing, bool has_registered, bool has_epoll);
 
+/* For what a splice or a tee is polled. */
+struct wulgach_splice_poll {
+    bool is_of_source;          /* what it reads from is polled, else what it writes to, */
+    uint16_t events;            /* for these, as poll(2) has them */
+};
+
+/* Writes for what a splice or a tee is polled: for what it reads from, and once that was found ready for what it writes to. */
+void wulgach_splice_polls(bool is_source_ready, struct wulgach_splice_poll *asked);
+
 /* How far a request has come. */
 struct wulgach_patience {
     uint64_t length;            /* the bytes of its vectors */

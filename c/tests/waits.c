@@ -245,6 +245,10 @@ static void open_descriptors(void)
     static const uint8_t counts[] = "anon_inode:[eventfd]", timer[] = "anon_inode:[timerfd]", longer[] = "anon_inode:[eventfd]s", other[] = "anon_inode:[eventpoll]";
     demand(wulgach_is_eventfd_name(counts, 20) && !wulgach_is_eventfd_name(timer, 20) && !wulgach_is_eventfd_name(longer, 21) && !wulgach_is_eventfd_name(counts, 0), "an eventfd");
     demand(wulgach_is_counter_name(counts, 20) && wulgach_is_counter_name(timer, 20) && !wulgach_is_counter_name(other, 22) && !wulgach_is_counter_name(timer, 19), "what counts by its name");
+    struct wulgach_splice_poll source, target;
+    wulgach_splice_polls(false, &source);
+    wulgach_splice_polls(true, &target);
+    demand(source.is_of_source && source.events == 1 && !target.is_of_source && target.events == 4, "what a splice is polled for");
 }
 
 int main(void)

@@ -1,12 +1,18 @@
-/* Splices and tees are asked not to wait, and again once both descriptors are ready. */
+/* Splices and tees are asked not to wait, and again once both descriptors are ready. Which is polled, and for what, is the library's decision. */
 #include "splices.h"
 #include "operations.h"
+#include "wulgach_waits.h"
 
-/* The one that isn't ready: what is read from, or else what is written to. */
+/* What is polled where what it reads from was found ready, or wasn't. */
+static struct pollfd poll_behind(const struct request *request, bool is_source_ready)
+{
+    struct wulgach_splice_poll asked;
+    wulgach_splice_polls(is_source_ready, &asked);
+    return (struct pollfd){.fd = asked.is_of_source ? request->second_fd : request->fd, .events = (short)asked.events};
+}
+
 struct pollfd poll_of_splice(const struct request *request)
 {
-    struct pollfd in = {.fd = request->second_fd, .events = POLLIN};
-    if (!shows_ready(in))
-        return in;
-    return (struct pollfd){.fd = request->fd, .events = POLLOUT};
+    struct pollfd source = poll_behind(request, false);
+    return shows_ready(source) ? poll_behind(request, true) : source;
 }

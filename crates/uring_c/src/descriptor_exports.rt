@@ -1,12 +1,14 @@
-//! What counts as an open descriptor or a count, what an operation ends with that had a fault as it started, and which signal is taken back, for C: functions of `c/wulgach_waits.h` and `c/wulgach_calls.h`.
+//! What counts as an open descriptor or a count, what an operation ends with that had a fault as it started, for what a splice is polled, and which signal is taken back, for C: functions of `c/wulgach_waits.h` and `c/wulgach_calls.h`.
 ghost use Rattle.std.specs.Prelude.{◌≡◌};
 ghost use Rattle.uring_enter.specs.Descriptors as found;
 ghost use Rattle.uring_enter.specs.Openness as opened;
+ghost use Rattle.uring_enter.specs.Readiness as ready;
 ghost use Rattle.uring_enter.specs.Signals as signals;
 
 use uring_enter::{
-    Nature, Openness, Submission, asks_counter, asks_openness, counts_as_open, ends_at_start,
-    fault_asks_buffer, is_counter_name, is_eventfd_name, is_missing, is_signal_of_call, may_signal,
+    Nature, Openness, SplicePoll, Submission, asks_counter, asks_openness, counts_as_open,
+    ends_at_start, fault_asks_buffer, is_counter_name, is_eventfd_name, is_missing,
+    is_signal_of_call, may_signal, splice_poll,
 };
 
 /// Whether a descriptor counts as open that is this, and is named by its number, or by the slot that holds its file.
@@ -97,4 +99,12 @@ pub extern "C" fn wulgach_is_signal_of_call(code: i32, is_own: bool) -> bool
     ensures { result ≡ signals.is_of_call code is_own }
 {
     is_signal_of_call(code, is_own)
+}
+
+/// Writes for what a splice or a tee is polled, where what it reads from was found ready, or wasn't.
+#[unsafe(no_mangle)]
+pub extern "C" fn wulgach_splice_polls(is_source_ready: bool, asked: &mut SplicePoll)
+    ensures { asked.new ≡ ready.splice_poll is_source_ready }
+{
+    *asked = splice_poll(is_source_ready);
 }

@@ -6,6 +6,7 @@ use Rattle.uring_enter.specs.declared.needs.Needs.{Needs}
 use Rattle.uring_enter.specs.declared.ready.Standing.{Standing}
 use Rattle.uring_enter.specs.declared.ready.Moment.{Moment}
 use Rattle.uring_enter.specs.declared.ready.Patience.{Patience}
+use Rattle.uring_enter.specs.declared.ready.SplicePoll.{SplicePoll}
 use Rattle.uring_enter.specs.declared.ready.Wanted.{Wanted}
 use Rattle.uring_enter.specs.declared.ready.Wanted.TheVariants.{Count, Posting, Buffer, Readiness}
 use Rattle.uring_enter.specs.declared.ready.Look.{Look}
@@ -142,3 +143,8 @@ is_impatient e p =
     || (e.opcode == 16 || is_splice e.opcode) && not p.has_begun
     || has_message_flags e.opcode && has_some e.op_flags 64
     || is_transfer e.opcode && is_impatient_transfer e p.length
+
+-- a splice or a tee waits for what it reads from, by POLLIN (1), and once that is ready for what it writes to, by POLLOUT (4). poll(2); which comes first is our own rule
+abbrev pub splice_poll : (is_source_ready : Bool) → SplicePoll
+splice_poll is_source_ready =
+    record { is_of_source = not is_source_ready; events = if is_source_ready then 4 else 1 }

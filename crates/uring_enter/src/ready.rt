@@ -226,6 +226,27 @@ pub fn polls_what_matters()
     ensures { PollsWhatMatters }
 {}
 
+/// For what a splice or a tee is polled.
+#[repr(C)]
+#[derive(Clone, Copy, Drop)]
+pub struct SplicePoll {
+    /// What it reads from is polled, else what it writes to.
+    pub is_of_source: bool,
+
+    /// As poll(2) has them.
+    pub events: u16,
+}
+
+/// For what a splice or a tee is polled, where what it reads from was found ready, or wasn't.
+pub fn splice_poll(is_source_ready: bool) -> SplicePoll
+    ensures { result ≡ spec.splice_poll is_source_ready }
+{
+    SplicePoll {
+        is_of_source: !is_source_ready,
+        events: if is_source_ready { 4 } else { 1 },
+    }
+}
+
 /// One that waits for its descriptor alone can't be finished while that isn't ready.
 pub fn needs_no_look()
     ensures { NeedsNoLook }
