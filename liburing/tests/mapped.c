@@ -8,6 +8,7 @@
 
 #include <poll.h>
 #include <pthread.h>
+#include <sys/eventfd.h>
 #include <sys/stat.h>
 #include <sys/sysinfo.h>
 #include <sys/uio.h>
@@ -21,16 +22,26 @@ enum { IS_REAL = 0 };
 
 enum { PAGE = 4096, BOTH = 2 * PAGE };
 
-/* Calls of stat are refused, as where there is no /proc. */
-static bool has_no_stat;
+/* Calls of stat and readlink are refused, as where there is no /proc. */
+static bool has_no_proc;
 
 int __real_stat(const char *path, struct stat *status);
 int __wrap_stat(const char *path, struct stat *status);
+ssize_t __real_readlink(const char *path, char *target, size_t room);
+ssize_t __wrap_readlink(const char *path, char *target, size_t room);
 
 int __wrap_stat(const char *path, struct stat *status)
 {
-    if (!has_no_stat)
+    if (!has_no_proc)
         return __real_stat(path, status);
+    errno = ENOENT;
+    return -1;
+}
+
+ssize_t __wrap_readlink(const char *path, char *target, size_t room)
+{
+    if (!has_no_proc)
+        return __real_readlink(path, target, room);
     errno = ENOENT;
     return -1;
 }
@@ -227,14 +238,31 @@ static void test_unknown_threads(void)
     pthread_t thread;
     struct waiter waiter = {&ring, NULL, 99};
     make_ring(&ring, 8, 0, 0);
-    has_no_stat = true;
+    has_no_proc = true;
     check(pthread_create(&thread, NULL, wait_with_mask, &waiter) == 0);
     usleep(100000);
     check(waiter.result == 99);
     submit_nop(&ring, 1);
     check(pthread_join(thread, NULL) == 0 && waiter.result == 0);
-    has_no_stat = false;
+    has_no_proc = false;
     check(next_of(&ring).user_data == 1);
+    close_ring(&ring);
+}
+
+/* Where it can't be asked what a descriptor is, an eventfd is taken as one. */
+static void test_unknown_eventfd(void)
+{
+    struct ring ring;
+    uint64_t told;
+    int fd = eventfd(0, EFD_NONBLOCK);
+    make_ring(&ring, 8, 0, 0);
+    has_no_proc = true;
+    check(register_at(ring.fd, IORING_REGISTER_EVENTFD, &fd, 1) == 0);
+    has_no_proc = false;
+    submit_nop(&ring, 1);
+    check(read(fd, &told, sizeof told) == sizeof told && told == 1);
+    check(next_of(&ring).user_data == 1);
+    close(fd);
     close_ring(&ring);
 }
 
@@ -259,6 +287,7 @@ int main(int count, char **words)
         {"rights", test_rights},
         {"mask is read once", test_mask_is_read_once},
         {"unknown threads", test_unknown_threads},
+        {"unknown eventfd", test_unknown_eventfd},
         {"processors", test_processors},
     };
     struct io_uring_params params = {0};

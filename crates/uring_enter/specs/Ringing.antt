@@ -1,5 +1,5 @@
 -- What a program maps of a ring, in which order a set-up is refused, and when a ring is freed. io_uring_setup(2), but where the kernel or our own rule is named.
-use Rattle.std.specs.Prelude.{ℕ, ℤ, pos, Bool, true, false, not, ◌||◌, ◌==◌, Option, Some, None, if◌then◌else◌}
+use Rattle.std.specs.Prelude.{ℕ, ℤ, Bool, true, false, not, ◌||◌, ◌==◌, Option, Some, None, if◌then◌else◌}
 use Rattle.std.specs.Int.RustNames.{bit_and}
 use Rattle.uring_enter.specs.declared.ringing.Region.{Region}
 use Rattle.uring_enter.specs.declared.ringing.Region.TheVariants.{Rings, Entries}
@@ -9,7 +9,7 @@ use Rattle.uring_enter.specs.declared.ringing.Onto.{Onto}
 use Rattle.uring_enter.specs.declared.ringing.Onto.TheVariants.{Does, Fails, Drops, IsDone}
 use Rattle.uring_enter.specs.declared.ringing.Fate.{Fate}
 use Rattle.uring_enter.specs.declared.ringing.Fate.TheVariants.{Stays, Asks, Goes}
-use Rattle.uring_entry.specs.Errors.{error, is_below}
+use Rattle.uring_entry.specs.Errors.{is_below}
 
 -- the five bits of an offset that name a part; Linux 6.18 was seen to look at no others
 abbrev pub naming_bits : ℕ → ℕ
