@@ -31,10 +31,12 @@ static bool is_parents(void)
     return table && owner != this_process();
 }
 
+/* (a signal's handler may call meanwhile) */
 static void free_table(void)
 {
-    free(table);
+    uint64_t *rows = table;
     table = NULL;
+    free(rows);
 }
 
 /* A program that has closed the number itself may have it for a file of its own. */
@@ -53,8 +55,8 @@ static void close_rows(void)
             close_row((int)fd);
 }
 
-/* The C library has the destructors of a thread's keys run in so many rounds. Until the last one those of the program may call: the rows are there, as in
- * the kernel. */
+/* The C library has the destructors of a thread's keys run in so many rounds. Until the last one those of the program may call: the rows are
+ * there, as in the kernel. */
 static void end_thread(void *rows)
 {
     static __thread unsigned rounds;
