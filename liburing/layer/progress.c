@@ -116,7 +116,8 @@ static void finish_running(struct ring *ring, struct request *request)
             return;
     } else {
         do_duties_before_posting(ring);
-        /* (one that goes on has those of its last event) */
+        /* (one that goes on has those of its last event, which was put off, maybe) */
+        post_unposted(ring);
         request->flags = wulgach_completion_flags(WULGACH_PART_CANCELLED, request->flags);
     }
     int32_t told = is_success(ring, request, res) ? TOLD_SUCCESS : TOLD_FAILURE;

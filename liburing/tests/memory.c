@@ -156,8 +156,8 @@ static bool send_refused(unsigned outstanding, long allowed, long refused)
     return is_refused;
 }
 
-/* Events of as many polls that go on are refused memory: each comes once. */
-static bool tell_refused(unsigned polls, long allowed, long refused)
+/* Events of as many polls that go on are refused memory: each comes once, or, where they are cancelled then, before their end. */
+static bool tell_refused(unsigned polls, long allowed, long refused, bool is_cancelled)
 {
     struct ring ring;
     int ends[8][2];
@@ -174,15 +174,22 @@ static bool tell_refused(unsigned polls, long allowed, long refused)
         check(write(ends[i][1], "x", 1) == 1);
     allocations_left = allowed;
     refusals = refused;
-    long result = enter(&ring, 0, polls, IORING_ENTER_GETEVENTS);
+    long result = enter(&ring, 0, is_cancelled ? 0 : polls, IORING_ENTER_GETEVENTS);
     bool is_refused = allocations_left <= 0;
     allocations_left = -1;
     refusals = 0;
     check(result == 0 || is_refused);
-    for (unsigned i = 0; i < polls; i++) {
+    struct io_uring_sync_cancel_reg all = {.flags = IORING_ASYNC_CANCEL_ALL | IORING_ASYNC_CANCEL_ANY, .timeout = {-1, -1}};
+    check(!is_cancelled || register_at(ring.fd, IORING_REGISTER_SYNC_CANCEL, &all, 1) >= 0);
+    for (unsigned ended = 0; ended < polls;) {
         struct seen found = next_of(&ring);
-        check(found.res == POLLIN && found.flags == IORING_CQE_F_MORE && !(seen & 1u << found.user_data));
-        seen |= 1u << found.user_data;
+        unsigned bit = 1u << found.user_data;
+        /* Of one that was cancelled no event comes behind its end. */
+        check(!(seen & bit) && (found.res == POLLIN) == (found.flags == IORING_CQE_F_MORE) && (is_cancelled || found.res == POLLIN));
+        if (found.res == POLLIN && is_cancelled)
+            continue;
+        seen |= bit;
+        ended++;
     }
     submit_nop(&ring, 66);
     check(next_of(&ring).user_data == 66);
@@ -198,7 +205,9 @@ static void test_refused_extras(void)
         for (long refused = 1; refused <= 3; refused++) {
             for (long allowed = 0; send_refused(count, allowed, refused); allowed++)
                 continue;
-            for (long allowed = 0; count > 0 && tell_refused(count, allowed, refused); allowed++)
+            for (long allowed = 0; count > 0 && tell_refused(count, allowed, refused, false); allowed++)
+                continue;
+            for (long allowed = 0; count > 0 && tell_refused(count, allowed, refused < 3 ? refused : 1000, true); allowed++)
                 continue;
         }
     }
