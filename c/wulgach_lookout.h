@@ -148,6 +148,28 @@ bool wulgach_waiter_misses(struct wulgach_waiter *waiter, const struct wulgach_l
  * write. */
 bool wulgach_waiter_takes(struct wulgach_waiter *waiter, const struct wulgach_lookout *lookout);
 
+/* ---- files that are kept ---- */
+
+/* Whether a request keeps its file before a close is carried out: it was accepted before the close, and is on the descriptor that this closes. */
+bool wulgach_keeps_before_close(uint64_t number, int32_t fd, uint64_t closing, int32_t closed);
+
+/* Whether the end of a request may close the last descriptor of a file that it keeps, if it keeps one: it is a slot's, or the number that its entry
+ * names isn't open on the same file. */
+bool wulgach_may_close_last(bool has_file, bool is_of_slot, bool is_same);
+
+/* Whether a copy of a file's descriptor stays open that nobody needs: the process has locks on the file, which it would lose; where fewer than so
+ * many stay already. */
+bool wulgach_stays_open(bool is_locked, uint64_t left, uint64_t most);
+
+/* ---- what others hear ---- */
+
+/* Whether a pipe counts as written to behind an event: events were dropped, or it tells of a write to this pipe. */
+bool wulgach_counts_as_written(bool is_dropped, bool is_write, bool is_own);
+
+/* Whether whoever polls a ring's descriptor is told anew: that it is readable now, or isn't any more; or that more was posted while it was, where
+ * another thread may wait for an edge. */
+bool wulgach_tells_anew(bool was_readable, bool is_readable, bool has_posted, bool may_have_others);
+
 #ifdef __cplusplus
 }
 #endif

@@ -36,10 +36,10 @@ __attribute__((noinline)) static void forget_descriptor(struct ring *ring, struc
     leave_pipe(ring, request);
 }
 
-/* Whether a request has a file which is open without it. */
-static bool is_open_elsewhere(const struct file *file, bool is_registered, int fd)
+/* Whether its end may close the last descriptor of this file, or none, which is a slot's, or named by this number. */
+static bool may_close(const struct file *file, bool is_of_slot, int fd)
 {
-    return !file || (!is_registered && is_file_of(file, fd));
+    return wulgach_may_close_last(file, is_of_slot, file && !is_of_slot && is_file_of(file, fd));
 }
 
 /* Whether its end may close the last descriptor of a file while others wait, as that of a pipe's other end. */
@@ -48,7 +48,7 @@ static bool may_close_last(const struct ring *ring, const struct request *reques
     const struct io_uring_sqe *entry = &request->entry;
     if ((!request->file && !request->second_file) || ring->running.count + ring->dormant.count == 0)
         return false;
-    return !is_open_elsewhere(request->file, request->needs.is_registered, entry->fd) || !is_open_elsewhere(request->second_file, request->needs.is_second_registered, entry->splice_fd_in);
+    return may_close(request->file, request->needs.is_registered, entry->fd) || may_close(request->second_file, request->needs.is_second_registered, entry->splice_fd_in);
 }
 
 void end_of(struct ring *ring, struct request *request, int32_t res, int32_t told)

@@ -64,7 +64,7 @@ static int32_t carry_out_by(struct ring *ring, struct request *request, const st
     case WULGACH_BY_OPENING:
         return open_file(ring, means);
     case WULGACH_BY_SYNC:
-        return is_taken_for_synced(request->fd) ? 0 : make_call(&means->call);
+        return is_taken_for_synced(request->fd) ? wulgach_done_result(submission_of(entry), 0, 0) : make_call(&means->call);
     case WULGACH_BY_CLOSE:
         return close_file(ring, request, &means->call);
     case WULGACH_BY_CONNECT:

@@ -2,6 +2,8 @@
 #define _GNU_SOURCE
 #include "numbers.h"
 #include "process.h"
+#include "wulgach.h"
+#include "wulgach_lookout.h"
 
 #include <errno.h>
 #include <fcntl.h>
@@ -130,7 +132,7 @@ void close_kept(int fd, bool is_regular)
     }
     pthread_mutex_lock(&left.lock);
     close_left();
-    if (left.count < MOST_LEFT && is_locked(fd))
+    if (wulgach_stays_open(is_locked(fd), left.count, MOST_LEFT))
         left.fds[left.count++] = fd;
     else
         close_noted(fd);

@@ -238,20 +238,26 @@ static void note_write(struct pipes *pipes, struct watch *watch)
     watch->is_written = true;
 }
 
-/* Notes what an event says: where there was no room for one, each pipe may have been written to. Returns whether one was that is
- * watched. */
+/* Notes what an event says of a pipe. Returns whether that counts as written to. */
+static bool note_event_of(struct pipes *pipes, const struct inotify_event *event, struct watch *watch)
+{
+    bool is_dropped = event->mask & IN_Q_OVERFLOW, is_write = event->mask & IN_MODIFY;
+    bool is_written = wulgach_counts_as_written(is_dropped, is_write, watch->number == event->wd);
+    if (is_written)
+        note_write(pipes, watch);
+    return is_written;
+}
+
+/* Notes what an event says: of its pipe, or where it names none, of each. Returns whether one counts as written to that is watched. */
 static bool note_event(struct pipes *pipes, const struct inotify_event *event)
 {
-    if (event->mask & IN_Q_OVERFLOW) {
-        for (size_t i = 0; i < pipes->count; i++)
-            note_write(pipes, &pipes->watches[i]);
-        return pipes->count > 0;
-    }
+    bool is_any = false;
     struct watch *watch = watch_by(pipes, event->wd);
-    if (!(event->mask & IN_MODIFY) || !watch)
-        return false;
-    note_write(pipes, watch);
-    return true;
+    if (watch)
+        return note_event_of(pipes, event, watch);
+    for (size_t i = 0; i < pipes->count; i++)
+        is_any |= note_event_of(pipes, event, &pipes->watches[i]);
+    return is_any;
 }
 
 /* Reads the writes that were told since they were last read, and passes them on, or drops them. Returns whether a poll has heard of one. */

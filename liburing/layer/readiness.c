@@ -181,13 +181,12 @@ static void watch_streams(struct ring *ring, int fd)
     ring->watched_count = count;
 }
 
-/* Whether completions were posted since the descriptor was told last. Another thread may have an epoll instance tell of it by edges: then it is told of
- * them, though it is readable already. This thread has had an edge as the call asked whether the descriptor is the ring's. */
-static bool has_news(struct ring *ring)
+/* Whether completions were posted since the descriptor was told last. */
+static bool has_posted(struct ring *ring)
 {
     uint32_t posted = ring->completions.at.head + (uint32_t)ring->completions.at.posted, before = ring->told_posted;
     ring->told_posted = posted;
-    return posted != before && !__libc_single_threaded;
+    return posted != before;
 }
 
 void show_readiness(struct ring *ring)
@@ -197,8 +196,7 @@ void show_readiness(struct ring *ring)
     /* Whether a call may bring something matters only if no completion waits. */
     uint32_t head = load_word(&ring->memory.cq->head);
     bool is_readable = wulgach_shown_is_readable(&ring->completions.at, head, false) || wulgach_shown_is_readable(&ring->completions.at, head, can_go_on(ring) || can_pass_time(ring));
-    bool is_news = has_news(ring) && is_readable;
-    if (is_readable == ring->is_readable && !is_news)
+    if (!wulgach_tells_anew(ring->is_readable, is_readable, has_posted(ring), !__libc_single_threaded))
         return;
     ring->is_readable = is_readable;
     ssize_t done = is_readable ? write(ring->ready_fd, &one, sizeof one) : read(ring->ready_fd, &one, sizeof one);

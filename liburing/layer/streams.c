@@ -120,7 +120,7 @@ void hold_files_before(struct ring *ring, const struct request *closing)
 {
     const struct requests *requests = &ring->requests;
     struct holder last = {-1, NULL};
-    for (size_t i = 0; i < requests->count && requests->rows[i]->number < closing->number; i++)
-        if (requests->rows[i]->fd == closing->entry.fd)
+    for (size_t i = 0; i < requests->count; i++)
+        if (wulgach_keeps_before_close(requests->rows[i]->number, requests->rows[i]->fd, closing->number, closing->entry.fd))
             hold_beside(requests->rows[i], &last);
 }

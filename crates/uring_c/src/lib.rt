@@ -17,6 +17,7 @@ mod enrolling_exports;
 mod enter_exports;
 mod entry_exports;
 mod form_exports;
+mod keeping_exports;
 mod lookout_exports;
 mod machine_exports;
 mod message_exports;

@@ -69,3 +69,4 @@ pub mod Duties
 pub mod CallResults
 pub mod Openness
 pub mod Signals
+pub mod Keeping

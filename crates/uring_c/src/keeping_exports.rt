@@ -1,0 +1,57 @@
+//! What a request's file is kept for, and what others hear of its end, for C: functions of `c/wulgach_lookout.h`.
+ghost use Rattle.std.specs.Prelude.{◌≡◌};
+ghost use Rattle.uring_enter.specs.Keeping as keeping;
+
+use uring_enter::{
+    counts_as_written, keeps_before_close, may_close_last, stays_open, tells_anew,
+};
+
+/// Whether the request of this number, on this descriptor, keeps its file before a close of this number, of this descriptor.
+#[unsafe(no_mangle)]
+pub extern "C" fn wulgach_keeps_before_close(
+    number: u64,
+    fd: i32,
+    closing: u64,
+    closed: i32,
+) -> bool
+    ensures { result ≡ keeping.keeps_before_close number fd closing closed }
+{
+    keeps_before_close(number, fd, closing, closed)
+}
+
+/// Whether the end of a request may close the last descriptor of a file that it keeps, if it keeps one.
+#[unsafe(no_mangle)]
+pub extern "C" fn wulgach_may_close_last(has_file: bool, is_of_slot: bool, is_same: bool) -> bool
+    ensures { result ≡ keeping.may_close_last has_file is_of_slot is_same }
+{
+    may_close_last(has_file, is_of_slot, is_same)
+}
+
+/// Whether a pipe counts as written to behind an event.
+#[unsafe(no_mangle)]
+pub extern "C" fn wulgach_counts_as_written(is_dropped: bool, is_write: bool, is_own: bool) -> bool
+    ensures { result ≡ keeping.counts_as_written is_dropped is_write is_own }
+{
+    counts_as_written(is_dropped, is_write, is_own)
+}
+
+/// Whether whoever polls a ring's descriptor is told anew.
+#[unsafe(no_mangle)]
+pub extern "C" fn wulgach_tells_anew(
+    was_readable: bool,
+    is_readable: bool,
+    has_posted: bool,
+    may_have_others: bool,
+) -> bool
+    ensures { result ≡ keeping.tells_anew was_readable is_readable has_posted may_have_others }
+{
+    tells_anew(was_readable, is_readable, has_posted, may_have_others)
+}
+
+/// Whether a copy of a file's descriptor stays open that nobody needs.
+#[unsafe(no_mangle)]
+pub extern "C" fn wulgach_stays_open(is_locked: bool, left: u64, most: u64) -> bool
+    ensures { result ≡ keeping.stays_open is_locked left most }
+{
+    stays_open(is_locked, left, most)
+}

@@ -1,0 +1,25 @@
+-- What a request's file is kept for, and what others hear of its end. Our own rules, but where it is said what a kernel does: there a request has its file from the moment in which it begins, and each write and each end is told as it comes.
+use Rattle.std.specs.Prelude.{◌≡◌, ℕ, ℤ, Bool, not, ◌&&◌, ◌||◌, nat_lt}
+use Rattle.std.specs.Ordering.{int_eq}
+
+-- whether a request keeps its file before a close is carried out: it was accepted before that, so that a kernel would have begun it, and is on the descriptor that is closed
+abbrev pub keeps_before_close : (number : ℕ) → (fd : ℤ) → (closing : ℕ) → (closed : ℤ) → Bool
+keeps_before_close number fd closing closed = nat_lt number closing && int_eq fd closed
+
+-- whether the end of a request may close the last descriptor of a file that it keeps: no other of the application's is known to be open on it. That of a slot may be gone, and the number that its entry names may be another file's by now
+abbrev pub may_close_last : (has_file is_of_slot is_same : Bool) → Bool
+may_close_last has_file is_of_slot is_same = has_file && (is_of_slot || not is_same)
+
+-- whether a pipe counts as written to behind an event: it tells of a write to that pipe, or that events were dropped, among which there may have been such a one
+abbrev pub counts_as_written : (is_dropped is_write is_own : Bool) → Bool
+counts_as_written is_dropped is_write is_own = is_dropped || is_write && is_own
+
+-- whether whoever polls a ring's descriptor is told anew: it has become readable, or isn't any more; or it is readable still, more was posted since it was told last, and another thread may wait for an edge of it (epoll(7), EPOLLET), which a kernel gives for each completion
+abbrev pub tells_anew : (was_readable is_readable has_posted may_have_others : Bool) → Bool
+tells_anew was_readable is_readable has_posted may_have_others =
+    (is_readable && not was_readable) || (was_readable && not is_readable)
+    || is_readable && has_posted && may_have_others
+
+-- whether a copy of a file's descriptor stays open that nobody needs: the process has locks on the file, which it would lose with the first descriptor that it closes (fcntl(2)); a kernel's ring has no descriptor of it. So many stay at most
+abbrev pub stays_open : (is_locked : Bool) → (left most : ℕ) → Bool
+stays_open is_locked left most = is_locked && nat_lt left most
