@@ -142,7 +142,8 @@ int copy_behind(struct request *request, const struct request *before)
     if (next == -ENOMEM)
         return next;
     request->fault = next;
-    request->wanted = wulgach_wanted_of(entry, request->length);
+    if (request->needs.selects)         /* (of another it is 0) */
+        request->wanted = wulgach_wanted_of(entry, request->length);
     /* (without a fault it stays what it is, and so does what it needs) */
     if (next < 0) {
         request->mapping = (enum mapping)wulgach_form_copied(request->mapping, next);
