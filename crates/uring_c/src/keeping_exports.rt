@@ -2,9 +2,7 @@
 ghost use Rattle.std.specs.Prelude.{◌≡◌};
 ghost use Rattle.uring_enter.specs.Keeping as keeping;
 
-use uring_enter::{
-    counts_as_written, keeps_before_close, may_close_last, stays_open, tells_anew,
-};
+use uring_enter::{counts_as_written, keeps_before_close, may_close_last, stays_open, tells_anew};
 
 /// Whether the request of this number, on this descriptor, keeps its file before a close of this number, of this descriptor.
 #[unsafe(no_mangle)]
