@@ -34,10 +34,11 @@ static void lock_for_fork(void)
     block_signals(&own);
     pthread_mutex_lock(&rings_lock);
     lock_choices();
+    lock_kept();
     forker = own;
 }
 
-static void unlock_after_fork(void)
+static void end_fork(void)
 {
     sigset_t own = forker;
     unlock_choices();
@@ -45,15 +46,21 @@ static void unlock_after_fork(void)
     allow_signals(&own);
 }
 
-static void begin_child(void)
+static void go_on_as_parent(void)
+{
+    unlock_kept();
+    end_fork();
+}
+
+static void begin_as_child(void)
 {
     close_parents();
-    unlock_after_fork();
+    end_fork();
 }
 
 __attribute__((constructor)) static void watch_forks(void)
 {
-    pthread_atfork(lock_for_fork, unlock_after_fork, begin_child);
+    pthread_atfork(lock_for_fork, go_on_as_parent, begin_as_child);
 }
 
 static bool is_own(const struct ring *ring)
@@ -253,6 +260,8 @@ void visit_ring(struct ring *ring, int fd)
 
 void unlock_ring(struct ring *ring)
 {
+    if (ring->is_parents)
+        return;
     int fd = ring->called_fd;
     wake_sleepers(ring);
     pthread_mutex_unlock(&ring->lock);

@@ -74,7 +74,7 @@ static bool enlist(struct ring *ring, struct request *request)
     request->is_enlisted = change(ring, EPOLL_CTL_ADD, request, &polled);
     if (request->is_enlisted || errno != EEXIST)
         return request->is_enlisted;
-    request->duplicate = hold_file(polled.fd, true);
+    request->duplicate = hold_file(polled.fd);
     request->is_enlisted = request->duplicate && change(ring, EPOLL_CTL_ADD, request, &polled);
     return request->is_enlisted;
 }

@@ -49,6 +49,8 @@ static void do_duty(struct ring *ring, enum wulgach_duty duty)
 /* Does what is in a set, by rising bits. */
 static void do_all(struct ring *ring, uint32_t duties)
 {
+    if (ring->is_parents)
+        return;
     for (; duties; duties &= duties - 1)
         do_duty(ring, (enum wulgach_duty)__builtin_ctz(duties));
 }

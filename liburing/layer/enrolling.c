@@ -104,10 +104,9 @@ static int make_table(void)
 /* Puts a ring into the row that it gets. */
 static int enroll(int fd, uint32_t row)
 {
-    int copy = own_copy_of(fd);
+    int copy = kept_copy_of(fd, true);
     if (copy < 0)
         return copy;
-    note_kept(copy);
     wulgach_enroll(table, MOST, row, (uint32_t)copy);
     return 0;
 }

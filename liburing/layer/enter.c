@@ -183,6 +183,8 @@ static enum wulgach_reply_kind do_wanted(struct ring *ring, struct waiting *wait
 
 static void see(struct ring *ring, struct wulgach_reply *reply)
 {
+    if (ring->is_parents)
+        return;
     reply->ready = count_ready(ring);
     reply->expired = ring->times.expired;
     reply->is_due = has_expired(ring);

@@ -28,7 +28,7 @@ int register_eventfd(struct ring *ring, uint64_t at, bool is_async)
     int result = wulgach_eventfd_registering_fault(&ring->telling, is_read, is_open, is_open && is_eventfd(fd));
     if (result < 0)
         return result;
-    int copy = own_copy_of(fd);
+    int copy = kept_copy_of(fd, true);
     if (copy < 0)
         return copy;
     ring->eventfd = copy;
@@ -41,7 +41,7 @@ int unregister_eventfd(struct ring *ring)
     int result = wulgach_eventfd_unregistering_fault(&ring->telling);
     if (result < 0)
         return result;
-    close(ring->eventfd);
+    close_kept(ring->eventfd, false);
     wulgach_eventfd_unregister(&ring->telling);
     return result;
 }

@@ -106,26 +106,25 @@ static bool is_regular(int fd)
 }
 
 /* A registered file of a descriptor that stays the application's, with a tag, which its ring is told once it is gone, or NULL. */
-static int make_file_with(struct file **made, int fd, bool is_stream, struct inbox *told, struct message *tag)
+static int make_file_with(struct file **made, int fd, struct inbox *told, struct message *tag)
 {
     int32_t fault = wulgach_holding_fault(fd, is_ring(fd));
-    int copy = fault < 0 ? fault : high_copy_of(fd);
+    int copy = fault < 0 ? fault : kept_copy_of(fd, false);
     if (copy < 0)
         return copy;
     *made = malloc(sizeof **made);
     if (!*made) {
-        close(copy);
+        close_kept(copy, false);
         return wulgach_missing_fault(WULGACH_NO_MEMORY_OWN);
     }
-    **made = (struct file){.fd = copy, .is_regular = !is_stream && is_regular(copy), .told = told, .tag = tag};
-    note_kept(copy);
+    **made = (struct file){.fd = copy, .is_regular = is_regular(copy), .told = told, .tag = tag};
     wulgach_uses_begin(&(*made)->uses, tag != NULL);
     return 0;
 }
 
 static int make_file_of(struct file **made, int fd)
 {
-    return make_file_with(made, fd, false, NULL, NULL);
+    return make_file_with(made, fd, NULL, NULL);
 }
 
 /* The same of what the application names by its number, with a tag. 0 is none. */
@@ -136,16 +135,16 @@ static int make_tagged_file(struct ring *ring, struct file **made, int fd, uint6
     struct message *message = tag ? make_message_of(tag, 0) : NULL;
     if (tag && !message)
         return wulgach_missing_fault(WULGACH_NO_MEMORY_OWN);
-    int result = make_file_with(made, fd, false, &ring->inbox, message);
+    int result = make_file_with(made, fd, &ring->inbox, message);
     if (result < 0)
         free(message);
     return result;
 }
 
-struct file *hold_file(int fd, bool is_stream)
+struct file *hold_file(int fd)
 {
     struct file *file;
-    return make_file_with(&file, fd, is_stream, NULL, NULL) < 0 ? NULL : file;
+    return make_file_of(&file, fd) < 0 ? NULL : file;
 }
 
 struct file *share_file(struct file *file)

@@ -53,8 +53,8 @@ int pass_file(struct ring *target, const struct file *file, uint32_t file_index)
 /* The file of an index, one use more; NULL if there is none. */
 struct file *use_file(struct ring *ring, uint32_t index);
 
-/* A file of a descriptor that stays the application's, and whether that is a stream; NULL if there is none to be had. And one use more of it. */
-struct file *hold_file(int fd, bool is_stream);
+/* A file of a descriptor that stays the application's; NULL if there is none to be had. And one use more of it. */
+struct file *hold_file(int fd);
 struct file *share_file(struct file *file);
 
 /* One use less. Nothing, of NULL. Returns whether it was the last, and the file's descriptor is closed. */

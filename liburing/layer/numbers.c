@@ -16,12 +16,23 @@
 
 enum { HIGH_NUMBER = 512, MOST_LEFT = 256 };
 
-/* Copies that are left open, since the process has locks on their files. */
+/* Copies that are left open, since the process has locks on their files. Under the lock copies are made and noted, and closed: a fork holds it, so
+ * a child knows of each. */
 static struct {
     pthread_mutex_t lock;
     int fds[MOST_LEFT];
     size_t count;
 } left = {.lock = PTHREAD_MUTEX_INITIALIZER};
+
+void lock_kept(void)
+{
+    pthread_mutex_lock(&left.lock);
+}
+
+void unlock_kept(void)
+{
+    pthread_mutex_unlock(&left.lock);
+}
 
 static int copy_from(int fd, int lowest)
 {
@@ -29,13 +40,13 @@ static int copy_from(int fd, int lowest)
     return copy < 0 ? -errno : copy;
 }
 
-int high_copy_of(int fd)
+static int high_copy_of(int fd)
 {
     int copy = copy_from(fd, HIGH_NUMBER);
     return copy == -EINVAL ? copy_from(fd, 0) : copy;
 }
 
-int own_copy_of(int fd)
+static int any_copy_of(int fd)
 {
     int copy = copy_from(fd, HIGH_NUMBER);
     return copy < 0 ? copy_from(fd, 0) : copy;
@@ -55,10 +66,14 @@ enum { MOST_NOTED = 1 << 16, BITS = 64 };
 
 static uint64_t kept[MOST_NOTED / BITS];
 
-void note_kept(int fd)
+int kept_copy_of(int fd, bool may_be_low)
 {
-    if (fd < MOST_NOTED)
-        __atomic_or_fetch(&kept[fd / BITS], (uint64_t)1 << fd % BITS, __ATOMIC_RELAXED);
+    lock_kept();
+    int copy = may_be_low ? any_copy_of(fd) : high_copy_of(fd);
+    if (copy >= 0 && copy < MOST_NOTED)
+        __atomic_or_fetch(&kept[copy / BITS], (uint64_t)1 << copy % BITS, __ATOMIC_RELAXED);
+    unlock_kept();
+    return copy;
 }
 
 void forget_kept(int fd)
@@ -126,15 +141,12 @@ static void close_left(void)
 
 void close_kept(int fd, bool is_regular)
 {
-    if (!is_regular) {
-        close_noted(fd);
-        return;
-    }
-    pthread_mutex_lock(&left.lock);
-    close_left();
-    if (wulgach_stays_open(is_locked(fd), left.count, MOST_LEFT))
+    lock_kept();
+    if (is_regular)
+        close_left();
+    if (is_regular && wulgach_stays_open(is_locked(fd), left.count, MOST_LEFT))
         left.fds[left.count++] = fd;
     else
         close_noted(fd);
-    pthread_mutex_unlock(&left.lock);
+    unlock_kept();
 }

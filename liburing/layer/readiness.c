@@ -18,7 +18,6 @@
 #include <string.h>
 #include <sys/epoll.h>
 #include <sys/eventfd.h>
-#include <sys/single_threaded.h>
 #include <sys/ioctl.h>
 #include <sys/random.h>
 #include <unistd.h>
@@ -196,7 +195,8 @@ void show_readiness(struct ring *ring)
     /* Whether a call may bring something matters only if no completion waits. */
     uint32_t head = load_word(&ring->memory.cq->head);
     bool is_readable = wulgach_shown_is_readable(&ring->completions.at, head, false) || wulgach_shown_is_readable(&ring->completions.at, head, can_go_on(ring) || can_pass_time(ring));
-    if (!wulgach_tells_anew(ring->is_readable, is_readable, has_posted(ring), !__libc_single_threaded))
+    /* (another thread or process may wait for an edge, or this one between its calls) */
+    if (!wulgach_tells_anew(ring->is_readable, is_readable, has_posted(ring), true))
         return;
     ring->is_readable = is_readable;
     ssize_t done = is_readable ? write(ring->ready_fd, &one, sizeof one) : read(ring->ready_fd, &one, sizeof one);

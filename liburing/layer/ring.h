@@ -37,6 +37,7 @@ struct ring {
     dev_t device;                       /* the memfd's device and inode: how a descriptor is known as this ring's */
     ino_t inode;
     pid_t process;                      /* who made it: a forked child has the memory, and not the core */
+    bool is_parents;                    /* a child that a handler has forked returns from its parent's sleep: it leaves the ring as it is */
     int fd;                             /* the first descriptor: it may be closed, or another file's by now */
     int called_fd;                      /* the one of the call that has its lock, or of the last one */
     int ready_fd;                       /* an eventfd, if the descriptor polls; or negative: the descriptor is memory */

@@ -7,12 +7,23 @@
 #include "wulgach_calls.h"
 
 #include <signal.h>
+#include <stdbool.h>
+#include <sys/resource.h>
 #include <sys/syscall.h>
 #include <unistd.h>
+
+/* Where a file may be as long as it likes, the kernel sends none. */
+static bool has_limit(void)
+{
+    struct rlimit limit;
+    return getrlimit(RLIMIT_FSIZE, &limit) == 0 && limit.rlim_cur != RLIM_INFINITY;
+}
 
 void take_back_signal(void)
 {
     static const struct timespec no_time = {0, 0};
+    if (!has_limit())
+        return;
     siginfo_t told;
     sigset_t signals;
     sigemptyset(&signals);

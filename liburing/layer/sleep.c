@@ -8,6 +8,7 @@
 #include "descriptors.h"
 #include "ends.h"
 #include "operations.h"
+#include "process.h"
 #include "sleepers.h"
 
 #include <errno.h>
@@ -81,6 +82,9 @@ static int poll_unlocked(struct ring *ring, struct sleeper *self, nfds_t count, 
     if (result < 0)
         result = -errno;
     leave_inner_sleeps(self);
+    ring->is_parents = ring->process != this_process();
+    if (ring->is_parents)
+        return -EINTR;
     pthread_mutex_lock(&ring->lock);
     call_by(ring, fd);
     return result;

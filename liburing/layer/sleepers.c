@@ -44,6 +44,10 @@ static void forget(struct sleeper *sleeper)
 
 void end_sleep(struct sleeper *sleeper)
 {
+    if (sleeper->ring->is_parents) {
+        forget(sleeper);
+        return;
+    }
     take_out(sleeper);
     if (sleeper->wake >= 0)
         close(sleeper->wake);
@@ -97,6 +101,7 @@ struct sleeper *begin_sleep(struct ring *ring, size_t most, volatile uint64_t *p
         note_cancel_type();
     *sleeper = (struct sleeper){.next = ring->sleepers, .outer = own_sleeps.innermost, .ring = ring, .place = place, .mark = next_mark()};
     sleeper->wake = moved_high(eventfd(0, EFD_CLOEXEC | EFD_NONBLOCK));
+    sigaltstack(NULL, &sleeper->for_handlers);
     *place = sleeper->mark;
     ring->sleepers = own_sleeps.innermost = sleeper;
     return sleeper;
@@ -129,9 +134,23 @@ static bool are_on_own_stack(const volatile void *one, const volatile void *othe
     return (uintptr_t)one - (uintptr_t)lowest < size && (uintptr_t)other - (uintptr_t)lowest < size;
 }
 
+/* Whether a handler runs on a stack of its own, which may lie in the thread's: as it is told now, or was as the sleep began. */
+static bool is_on_handlers_stack(const struct sleeper *sleeper, const void *here)
+{
+    stack_t now = {.ss_flags = SS_DISABLE};
+    const stack_t *then = &sleeper->for_handlers;
+    sigaltstack(NULL, &now);
+    return now.ss_flags & SS_ONSTACK || (!(then->ss_flags & SS_DISABLE) && (uintptr_t)here - (uintptr_t)then->ss_sp < then->ss_size);
+}
+
+static bool is_above(const struct sleeper *sleeper, const void *here)
+{
+    return (uintptr_t)here > (uintptr_t)sleeper->place && are_on_own_stack(here, sleeper->place) && !is_on_handlers_stack(sleeper, here);
+}
+
 static bool is_left(const struct sleeper *sleeper, const void *here)
 {
-    return !has_mark(sleeper) || ((uintptr_t)here > (uintptr_t)sleeper->place && are_on_own_stack(here, sleeper->place));
+    return !has_mark(sleeper) || is_above(sleeper, here);
 }
 
 int leave_jumped_sleeps(const void *here, int cancel_state)

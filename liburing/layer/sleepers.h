@@ -5,6 +5,7 @@
 #define SLEEPERS_H
 
 #include <poll.h>
+#include <signal.h>
 #include <stddef.h>
 #include <stdint.h>
 
@@ -18,6 +19,7 @@ struct sleeper {
     struct ring *ring;
     const volatile uint64_t *place;     /* on the call's stack, where this mark stands while the sleep lasts */
     uint64_t mark;
+    stack_t for_handlers;       /* the stack on which the thread's handlers ran as it began */
     struct pollfd polled[];     /* what it polls */
 };
 

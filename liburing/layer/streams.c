@@ -88,7 +88,7 @@ static void hold_beside(struct request *request, struct holder *last)
     if (last->file && last->fd == fd && !request->standing.is_stream)
         request->file = share_file(last->file);
     else
-        request->file = hold_file(fd, request->standing.is_stream);
+        request->file = hold_file(fd);
     *last = (struct holder){fd, request->file};
     if (request->file)
         request->fd = request->file->fd;

@@ -267,6 +267,26 @@ static void test_locks(void)
     close_ring(&ring);
 }
 
+/* So does one that a splice has waited for. */
+static void test_locks_behind_a_splice(void)
+{
+    struct ring ring;
+    struct flock lock = {.l_type = F_WRLCK, .l_whence = SEEK_SET};
+    int fd = make_named("file"), ends[2];
+    check(pipe(ends) == 0 && fcntl(fd, F_SETLK, &lock) == 0);
+    make_ring(&ring, 4, 0, 0);
+    struct io_uring_sqe *entry = put_plain(&ring, IORING_OP_SPLICE, 0, fd);
+    entry->splice_fd_in = ends[0];
+    entry->splice_off_in = (uint64_t)-1;
+    entry->len = 4;
+    check(enter(&ring, 1, 0, 0) == 1 && write(ends[1], "abcd", 4) == 4);
+    check(wait_for_one(&ring) == 4 && is_locked_for_others(fd));
+    close(ends[0]);
+    close(ends[1]);
+    close(fd);
+    close_ring(&ring);
+}
+
 int main(int count, char **words)
 {
     static const struct named tests[] = {
@@ -276,6 +296,7 @@ int main(int count, char **words)
         {"closed behind a submission", test_closed_behind_a_submission},
         {"closed by an entry", test_closed_by_an_entry},
         {"locks", test_locks},
+        {"locks behind a splice", test_locks_behind_a_splice},
     };
     alarm((unsigned)(PATIENCE * patience()));
     return run_tests(tests, sizeof tests / sizeof *tests, count > 1 ? words[1] : NULL);

@@ -242,15 +242,13 @@ static void *do_nothing(void *semaphore)
     return NULL;
 }
 
-static void test_edges(void)
+static void tell_by_edges(void)
 {
     struct ring ring;
     struct epoll_event event = {.events = EPOLLIN | EPOLLET};
-    pthread_t thread;
     char byte;
     int ends[2];
-    check(pipe(ends) == 0 && sem_init(&may_begin, 0, 0) == 0);
-    check(pthread_create(&thread, NULL, do_nothing, &may_begin) == 0);
+    check(pipe(ends) == 0);
     make_ring(&ring, 4, 0, 0);
     int loop = epoll_create1(EPOLL_CLOEXEC);
     check(loop >= 0 && epoll_ctl(loop, EPOLL_CTL_ADD, ring.fd, &event) == 0);
@@ -266,10 +264,18 @@ static void test_edges(void)
     }
     told_by_edges = -1;
     close(loop);
-    check(sem_post(&may_begin) == 0 && pthread_join(thread, NULL) == 0);
     close(ends[0]);
     close(ends[1]);
     close_ring(&ring);
+}
+
+static void test_edges(void)
+{
+    pthread_t thread;
+    tell_by_edges();
+    check(sem_init(&may_begin, 0, 0) == 0 && pthread_create(&thread, NULL, do_nothing, &may_begin) == 0);
+    tell_by_edges();
+    check(sem_post(&may_begin) == 0 && pthread_join(thread, NULL) == 0);
 }
 
 int main(int count, char **words)

@@ -7,6 +7,7 @@
 
 #include <setjmp.h>
 #include <signal.h>
+#include <sys/wait.h>
 #include <time.h>
 
 static sigjmp_buf outside;
@@ -89,11 +90,82 @@ static void test_calls_from_signals(void)
     close_ring(&ring);
 }
 
+static void submit_from_signal(int number)
+{
+    (void)number;
+    submit_nop(called, 7);
+}
+
+/* A handler's stack may lie in the thread's own: a sleep goes on behind a handler that calls there. */
+static void test_stack_in_a_stack(void)
+{
+    char room[65536];
+    stack_t stack = {.ss_sp = room, .ss_size = sizeof room}, none = {.ss_flags = SS_DISABLE};
+    struct sigaction action = {.sa_handler = submit_from_signal, .sa_flags = SA_ONSTACK};
+    struct sigevent event = {.sigev_notify = SIGEV_SIGNAL, .sigev_signo = SIGUSR2};
+    struct itimerspec soon = {.it_value.tv_nsec = 20000000};
+    struct ring ring, other;
+    timer_t timer;
+    int ends[2];
+    char byte;
+    check(pipe(ends) == 0 && sigaltstack(&stack, NULL) == 0);
+    make_ring(&ring, 4, 0, 0);
+    make_ring(&other, 4, 0, 0);
+    called = &other;
+    check(sigaction(SIGUSR2, &action, NULL) == 0 && timer_create(CLOCK_MONOTONIC, &event, &timer) == 0);
+    put_transfer(&ring, IORING_OP_READ, 0, 0, ends[0], &byte, 1, 0);
+    check(enter(&ring, 1, 0, 0) == 1 && timer_settime(timer, 0, &soon, NULL) == 0);
+    check(enter(&ring, 0, 1, IORING_ENTER_GETEVENTS) == -EINTR);
+    check(wait_for_one(&other) == 0);
+    check(timer_delete(timer) == 0 && write(ends[1], "x", 1) == 1 && wait_for_one(&ring) == 1);
+    check(sigaltstack(&none, NULL) == 0);
+    close(ends[0]);
+    close(ends[1]);
+    close_ring(&other);
+    close_ring(&ring);
+}
+
+static pid_t child;
+
+static void fork_from_signal(int number)
+{
+    (void)number;
+    child = fork();
+}
+
+/* A child that returns from its parent's sleep leaves the ring as it is. */
+static void test_fork_from_signal(void)
+{
+    struct sigaction action = {.sa_handler = fork_from_signal};
+    struct sigevent event = {.sigev_notify = SIGEV_SIGNAL, .sigev_signo = SIGUSR2};
+    struct itimerspec soon = {.it_value.tv_nsec = 20000000};
+    struct ring ring;
+    timer_t timer;
+    int ends[2], status = -1;
+    char byte;
+    check(pipe(ends) == 0);
+    make_ring(&ring, 4, 0, 0);
+    check(sigaction(SIGUSR2, &action, NULL) == 0 && timer_create(CLOCK_MONOTONIC, &event, &timer) == 0);
+    put_transfer(&ring, IORING_OP_READ, 0, 0, ends[0], &byte, 1, 0);
+    check(enter(&ring, 1, 0, 0) == 1 && timer_settime(timer, 0, &soon, NULL) == 0);
+    int result = enter(&ring, 0, 1, IORING_ENTER_GETEVENTS);
+    if (child == 0)
+        _exit(result == -EINTR && enter(&ring, 0, 0, 0) == -EOPNOTSUPP ? 0 : 1);
+    check(result == -EINTR && waitpid(child, &status, 0) == child && status == 0);
+    check(timer_delete(timer) == 0);
+    check(write(ends[1], "x", 1) == 1 && wait_for_one(&ring) == 1);
+    close(ends[0]);
+    close(ends[1]);
+    close_ring(&ring);
+}
+
 int main(int count, char **words)
 {
     static const struct named tests[] = {
         {"calls from signals", test_calls_from_signals},
         {"jump", test_jump},
+        {"stack in a stack", test_stack_in_a_stack},
+        {"fork from a signal", test_fork_from_signal},
     };
     alarm((unsigned)(PATIENCE * patience()));
     return run_tests(tests, sizeof tests / sizeof *tests, count > 1 ? words[1] : NULL);
