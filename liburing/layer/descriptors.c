@@ -41,15 +41,10 @@ static void lock_for_fork(void)
 static void end_fork(void)
 {
     sigset_t own = forker;
+    unlock_kept();
     unlock_choices();
     pthread_mutex_unlock(&rings_lock);
     allow_signals(&own);
-}
-
-static void go_on_as_parent(void)
-{
-    unlock_kept();
-    end_fork();
 }
 
 static void begin_as_child(void)
@@ -60,7 +55,7 @@ static void begin_as_child(void)
 
 __attribute__((constructor)) static void watch_forks(void)
 {
-    pthread_atfork(lock_for_fork, go_on_as_parent, begin_as_child);
+    pthread_atfork(lock_for_fork, end_fork, begin_as_child);
 }
 
 static bool is_own(const struct ring *ring)

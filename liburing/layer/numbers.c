@@ -94,7 +94,6 @@ void close_parents(void)
     for (int i = 0; i < MOST_NOTED / BITS; i++)
         for (; kept[i]; kept[i] &= kept[i] - 1)
             close(i * BITS + __builtin_ctzll(kept[i]));
-    pthread_mutex_init(&left.lock, NULL);
     left.count = 0;
 }
 
