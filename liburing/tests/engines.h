@@ -38,6 +38,12 @@ static inline void submit_nop(struct ring *ring, uint64_t user_data)
     check(enter(ring, 1, 0, 0) == 1);
 }
 
+/* Whether it runs under valgrind, which maps no ring whose descriptor polls, and tells of each address where nothing is. */
+static inline bool is_under_valgrind(void)
+{
+    return getenv("WULGACH_TEST_VALGRIND");
+}
+
 /* Waits for one completion, and returns its result. */
 static inline int32_t wait_for_one(struct ring *ring)
 {

@@ -64,6 +64,8 @@ static void use_number_again(void)
 static void test_numbers(void)
 {
     use_number_again();
+    if (is_under_valgrind())
+        return;
     setenv("WULGACH_TEST_POLLED", "yes", 1);
     use_number_again();
     unsetenv("WULGACH_TEST_POLLED");

@@ -378,6 +378,8 @@ static void test_refused_messages(void)
     struct ring ring;
     int32_t results[2];
     int ends[2];
+    if (is_under_valgrind())
+        return;
     check(socketpair(AF_UNIX, SOCK_DGRAM, 0, ends) == 0);
     make_ring(&ring, 8, 0, 0);
     for (size_t i = 0; i < sizeof rows / sizeof *rows; i++) {
