@@ -280,11 +280,7 @@ impl LinuxDispatch {
         ensures counts { HasStarted self.old self.new }
     {
         if let Some(request) = self.window.copy(n) {
-            let running = Request {
-                is_running: true,
-                ..request
-            };
-            self.window.write(n, running);
+            self.window.note_start(n);
             self.running += 1;
         }
     }

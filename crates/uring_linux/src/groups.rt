@@ -76,13 +76,7 @@ impl Window {
         ensures limit { end_of self.new < 2 ^ 63 }
     {
         let group = self.group_of(&request);
-        let ended = Request {
-            is_running: false,
-            has_ended: true,
-            has_failed,
-            ..request
-        };
-        self.write(n, ended);
+        self.note_end(n, has_failed);
         self.keep_group(with_end(group, n, breaks(&request, has_failed)));
     }
 
@@ -98,7 +92,7 @@ impl Window {
         ensures running { running_among self.new.items ≡ running_among self.old.items }
     {
         if let Some(first) = self.copy(group.from) {
-            self.write(group.from, Request { group, ..first });
+            self.note_group(group.from, group);
         }
     }
 

@@ -9,6 +9,7 @@ ghost use Rattle.uring_entry.specs.Groups.{first_member};
 ghost use Rattle.uring_linux.specs.Issues as issues;
 ghost use Rattle.uring_linux.specs.Window.{at, end_of, unended_among, running_among, passes, said, Tells, Shows, IsWithin, IsOver};
 
+use crate::group::Group;
 use crate::request::{Request, Test};
 use std::alloc::{AllocError, Global};
 use std::collections::VecDeque;
@@ -162,14 +163,60 @@ impl Window {
         self.room -= 1;
     }
 
-    /// Says anew what is kept of request `n`.
-    pub(crate) fn write(&mut self, n: u64, request: Request)
+    /// Notes that the kept request `n` runs.
+    pub(crate) fn note_start(&mut self, n: u64)
         requires { IsWithin self.old n }
-        ensures written { self.new
-            ≡ record self.old { items = slice_set self.old.items (n - self.old.first) request } }
+        ensures written { (q : Request) → at self.old n ≡ Some q → self.new ≡ record self.old {
+          items = slice_set self.old.items (n - self.old.first) (record q { is_running = true });
+        } }
+        ensures first { self.new.first ≡ self.old.first }
+        ensures end { end_of self.new ≡ end_of self.old }
+        ensures room { self.new.room ≡ self.old.room }
         ensures limit { end_of self.new < 2 ^ 63 }
     {
-        put(&mut self.items, (n - self.first) as usize, request);
+        put_start(&mut self.items, (n - self.first) as usize);
+    }
+
+    /// Notes that it has ended, with a failure or without.
+    pub(crate) fn note_end(&mut self, n: u64, has_failed: bool)
+        requires { IsWithin self.old n }
+        ensures written { (q : Request) → at self.old n ≡ Some q → self.new ≡ record self.old {
+          items = slice_set self.old.items (n - self.old.first) (record q { is_running = false; has_ended = true; has_failed = has_failed });
+        } }
+        ensures first { self.new.first ≡ self.old.first }
+        ensures end { end_of self.new ≡ end_of self.old }
+        ensures room { self.new.room ≡ self.old.room }
+        ensures limit { end_of self.new < 2 ^ 63 }
+    {
+        put_end(&mut self.items, (n - self.first) as usize, has_failed);
+    }
+
+    /// Says anew what is kept of its group with it.
+    pub(crate) fn note_group(&mut self, n: u64, group: Group)
+        requires { IsWithin self.old n }
+        ensures written { (q : Request) → at self.old n ≡ Some q → self.new ≡ record self.old {
+          items = slice_set self.old.items (n - self.old.first) (record q { group = group });
+        } }
+        ensures first { self.new.first ≡ self.old.first }
+        ensures end { end_of self.new ≡ end_of self.old }
+        ensures room { self.new.room ≡ self.old.room }
+        ensures limit { end_of self.new < 2 ^ 63 }
+    {
+        put_group(&mut self.items, (n - self.first) as usize, group);
+    }
+
+    /// Notes that it is the last of its group.
+    fn note_last(&mut self, n: u64)
+        requires { IsWithin self.old n }
+        ensures written { (q : Request) → at self.old n ≡ Some q → self.new ≡ record self.old {
+          items = slice_set self.old.items (n - self.old.first) (record q { is_last = true });
+        } }
+        ensures first { self.new.first ≡ self.old.first }
+        ensures end { end_of self.new ≡ end_of self.old }
+        ensures room { self.new.room ≡ self.old.room }
+        ensures limit { end_of self.new < 2 ^ 63 }
+    {
+        put_last(&mut self.items, (n - self.first) as usize);
     }
 
     /// Ends a submission call: the last request is the last of its group.
@@ -188,13 +235,7 @@ impl Window {
         let Some(request) = self.copy(end - 1) else {
             return;
         };
-        self.write(
-            end - 1,
-            Request {
-                is_last: true,
-                ..request
-            },
-        );
+        self.note_last(end - 1);
     }
 
     /// Lets go of the first groups, as far as they have ended whole. It looks at these, and at the first members of the next that have ended.
@@ -274,14 +315,51 @@ pub(crate) fn passes(request: &Request, test: Test) -> bool
     }
 }
 
-/// Writes a request in this place.
-fn put(items: &mut VecDeque<Request>, place: usize, request: Request)
+/// Notes that the request in this place runs.
+fn put_start(items: &mut VecDeque<Request>, place: usize)
     requires { place < deque_len items.old }
-    ensures items { items.new.items ≡ slice_set items.old.items place request }
+    ensures items { (q : Request) → slice_get items.old.items place ≡ Some q
+        → items.new.items ≡ slice_set items.old.items place (record q { is_running = true }) }
     ensures len { deque_len items.new ≡ deque_len items.old }
     ensures capacity { deque_capacity items.new ≡ deque_capacity items.old }
 {
-    items[place] = request;
+    items[place].is_running = true;
+}
+
+/// Notes that the request in this place has ended.
+fn put_end(items: &mut VecDeque<Request>, place: usize, has_failed: bool)
+    requires { place < deque_len items.old }
+    ensures items { (q : Request) → slice_get items.old.items place ≡ Some q
+        → items.new.items ≡ slice_set items.old.items place (record q { is_running = false; has_ended = true; has_failed = has_failed }) }
+    ensures len { deque_len items.new ≡ deque_len items.old }
+    ensures capacity { deque_capacity items.new ≡ deque_capacity items.old }
+{
+    let request = &mut items[place];
+    request.is_running = false;
+    request.has_ended = true;
+    request.has_failed = has_failed;
+}
+
+/// Says anew what is kept of a group with the request in this place.
+fn put_group(items: &mut VecDeque<Request>, place: usize, group: Group)
+    requires { place < deque_len items.old }
+    ensures items { (q : Request) → slice_get items.old.items place ≡ Some q
+        → items.new.items ≡ slice_set items.old.items place (record q { group = group }) }
+    ensures len { deque_len items.new ≡ deque_len items.old }
+    ensures capacity { deque_capacity items.new ≡ deque_capacity items.old }
+{
+    items[place].group = group;
+}
+
+/// Notes that the request in this place is the last of its group.
+fn put_last(items: &mut VecDeque<Request>, place: usize)
+    requires { place < deque_len items.old }
+    ensures items { (q : Request) → slice_get items.old.items place ≡ Some q
+        → items.new.items ≡ slice_set items.old.items place (record q { is_last = true }) }
+    ensures len { deque_len items.new ≡ deque_len items.old }
+    ensures capacity { deque_capacity items.new ≡ deque_capacity items.old }
+{
+    items[place].is_last = true;
 }
 
 /// The request in this place, if there is one.
