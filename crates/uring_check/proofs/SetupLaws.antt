@@ -1,5 +1,5 @@
 -- What a first line says of a set-up, and what follows of the lines that are taken in.
-use Rattle.std.proofs.Common.{◌≡◌, ℕ, ◌≤◌, ◌<◌, inl, inr, Bool, true, false, List, [], ◌∷◌, Option, Some, None, Result, Err, refl, sym, ap, subst, ◌∙◌, length, map, drop, Bor, arith}
+use Rattle.std.proofs.Common.{◌≡◌, ℕ, ◌≤◌, ◌<◌, inl, inr, Bool, true, false, List, [], ◌∷◌, Option, Some, None, Result, Err, refl, sym, ap, subst, ◌∙◌, Bor, arith}
 use Rattle.std.specs.Prelude.{◌↔◌, codes, IsErrOf, if◌then◌else◌}
 use Rattle.std.specs.Str.{bytes_eq}
 use Rattle.std.proofs.Math.ListN.{get_or}
@@ -7,7 +7,7 @@ use Rattle.std.specs.Int.{IsNextPowerOfTwo}
 use Rattle.uring_entry.specs.Setup.{Setup, IsSetupFor, IsBadSq, IsBadCq, IsBadFiles, IsOutside}
 use Rattle.uring_entry.specs.declared.bad_setup.BadSetup.{BadSetup}
 use Rattle.uring_entry.specs.declared.bad_setup.BadSetup.TheVariants.{BadSq, BadCq, BadFiles}
-use Rattle.uring_check.specs.SetupLines.{IsSaidBy, IsSaidOf, MissesSetup, begins_setup, named_number, sizes_in, sizes_of, sizes_said, words_said}
+use Rattle.uring_check.specs.SetupLines.{IsSaidBy, IsSaidOf, MissesSetup, begins_setup, named_number, sizes_in, sizes_of, sizes_said}
 use Rattle.uring_check.specs.declared.setup_line.Said.{Said}
 use Rattle.uring_check.specs.declared.setup_line.Said.TheVariants.{Nothing, Says, Misses}
 use Rattle.uring_check.specs.declared.setup_line.Sizes.{Sizes}
@@ -81,16 +81,3 @@ Tokens = List (Bor (List ℕ))
 abbrev pub sizes_at : Option Asked → Bor (List ℕ) → Tokens → Option Sizes
 sizes_at asked d xs =
     sizes_of asked (named_number (codes "--sq") (get_or xs 0 d).now (get_or xs 1 d).now) (named_number (codes "--cq") (get_or xs 2 d).now (get_or xs 3 d).now) (named_number (codes "--files") (get_or xs 4 d).now (get_or xs 5 d).now) (named_number (codes "--start") (get_or xs 6 d).now (get_or xs 7 d).now)
-
-pub said_at : (d : Bor (List ℕ)) (xs : Tokens) → 8 ≤ length xs
-    → sizes_said (map (λ (t : Bor (List ℕ)). t.now) xs)
-    ≡ sizes_at (words_said (map (λ (t : Bor (List ℕ)). t.now) (drop 8 xs))) d xs
-said_at d [] le = absurd (omega (arith, le))
-said_at d (a ∷ []) le = absurd (omega (arith, le))
-said_at d (a ∷ b ∷ []) le = absurd (omega (arith, le))
-said_at d (a ∷ b ∷ c ∷ []) le = absurd (omega (arith, le))
-said_at d (a ∷ b ∷ c ∷ e ∷ []) le = absurd (omega (arith, le))
-said_at d (a ∷ b ∷ c ∷ e ∷ f ∷ []) le = absurd (omega (arith, le))
-said_at d (a ∷ b ∷ c ∷ e ∷ f ∷ g ∷ []) le = absurd (omega (arith, le))
-said_at d (a ∷ b ∷ c ∷ e ∷ f ∷ g ∷ h ∷ []) le = absurd (omega (arith, le))
-said_at d (a ∷ b ∷ c ∷ e ∷ f ∷ g ∷ h ∷ i ∷ more) le = refl

@@ -1,12 +1,12 @@
 -- Rows of steps that are made at once: one entry, one take or one completion more at their end, and what their answers are known to be.
-use Rattle.std.proofs.Common.{◌≡◌, ℕ, suc, ◌+◌, ◌≤◌, ◌<◌, Bool, true, false, cond, List, [], ◌∷◌, ◌++◌, length, take, set, get_or, Option, Some, None, is_some, refl, sym, ap, subst, ◌∙◌, arith, inl, inr}
+use Rattle.std.proofs.Common.{◌≡◌, ℕ, suc, ◌+◌, ◌≤◌, ◌<◌, Bool, true, false, cond, List, [], ◌∷◌, ◌++◌, length, take, set, get_or, is_some, refl, sym, ap, subst, ◌∙◌, arith, inl, inr}
 use Rattle.std.proofs.lemmas.List.{take_more, length-take-le}
 use Rattle.std.proofs.lemmas.Grind.{common_steps}
 use Rattle.uring_entry.specs.Setup.{Setup}
 use Rattle.uring_entry.specs.Layout.{Sqe, Cqe}
 use Rattle.uring_entry.specs.Submission.{call_length}
 use Rattle.uring_core.specs.World.{World}
-use Rattle.uring_core.specs.StepAnswers.{CalledForApart, OrAgain, begin_answer, is_spent, take_answer, reap_answer_of}
+use Rattle.uring_core.specs.StepAnswers.{CalledForApart, OrAgain, begin_answer, is_spent, take_answer}
 use Rattle.uring_core.specs.Histories.{History, world}
 use Rattle.uring_core.specs.Core.{Core, FitsApart, HasNoLessMemory, IsShortFor, elements_for_call}
 use Rattle.uring_core.specs.WholeCalls.{after_fill, after_index, after_entries, after_takes, after_reaps}
@@ -68,11 +68,6 @@ pub reaps_next : (completions : List Cqe) (i : ℕ) (completion : Cqe) (h : Hist
 reaps_next completions i completion h within =
     let next : take (i + 1) (set completions i completion) ≡ take i completions ++ completion ∷ [] = grind (arith, common_steps) in
     ap (λ xs. after_reaps xs h) next ∙ after_reaps_snoc (take i completions) completion h
-
--- a reap that gave none: none is shown
-pub none_shown : (o : Option Cqe) → answer.Nothing ≡ reap_answer_of o → o ≡ None
-none_shown None e = refl
-none_shown (Some completion) e = absurd (let f : answer.Nothing ≡ answer.Reaped completion = e in cc)
 
 -- A change of the submission ring alone, and then another.
 pub submission_then : (p q r : Core) → q ≡ record p { sq = q.sq } → r ≡ record q { sq = r.sq }

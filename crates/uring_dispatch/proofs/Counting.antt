@@ -131,28 +131,11 @@ get_all_below p (suc n) m lt e =
       | inr other ↦ get_left (all_below p n) _ (count_below p m) m (get_all_below p n m (omega arith) e)
     ]
 
--- what stands at a place of two lists is in one of them
-get_either : (xs ys : List ℕ) (k x : ℕ) → slice_get (xs ++ ys) k ≡ Some x
-    → (slice_get xs k ≡ Some x) ⊎ ((j : ℕ) × (slice_get ys j ≡ Some x))
-get_either [] ys k x e = inr (k, e)
-get_either (y ∷ xs) ys zero x e = inl e
-get_either (y ∷ xs) ys (suc k) x e = get_either xs ys k x e
-
 get_one : (holds : Bool) (n j x : ℕ) → slice_get (cond holds (n ∷ []) []) j ≡ Some x
     → (n ≡ x) × (holds ≡ true)
 get_one false n j x e = absurd (let f : None ≡ Some x = e in cc)
 get_one true n zero x e = (same_Some n x e, refl)
 get_one true n (suc j) x e = absurd (let f : None ≡ Some x = e in cc)
-
--- what stands at a place is counted
-pub all_below_gives : (p : ℕ → Bool) (n k x : ℕ) → slice_get (all_below p n) k ≡ Some x
-    → (x < n) × (p x ≡ true)
-all_below_gives p zero k x e = absurd (let f : None ≡ Some x = e in cc)
-all_below_gives p (suc n) k x e =
-    elim (get_either (all_below p n) (cond (p n) (n ∷ []) []) k x e) [
-      | inl below ↦ let found = all_below_gives p n k x below in (omega (arith, found.0), found.1)
-      | inr here ↦ let is = get_one (p n) n here.0 x here.1 in (omega (arith, is.0), ap p (sym is.0) ∙ is.1)
-    ]
 
 -- The numbers of a block of 64.
 

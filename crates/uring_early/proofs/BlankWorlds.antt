@@ -138,9 +138,6 @@ close_made : (w : World) (a : Answer) → closing (blank_world w) a ≡ blank_wo
 close_made w answer.Shut = refl
 close_made w _ = refl
 
-with_completions : World → Completions → World
-with_completions w l = record w { requests = blank_requests w.requests; completions = l }
-
 pub made_same : (g : Setup) (w : World) (s : Step) (a : Answer)
     → happens g (blank_world w) s (blank_answer s a) ≡ blank_world (happens g w s a)
 made_same g w (step.Fill slot entry) a = fill_made w slot entry a

@@ -77,9 +77,6 @@ pub record ImagesUpTo (logs : List Log) (choices images : List (List ℕ)) (n : 
   pub each : (place : ℕ) (log : Log) → place < n → slice_get logs place ≡ Some log
       → IsImageBy log (get_or choices place []) (get_or images place [])
 
-pub images_none : (logs : List Log) (choices : List (List ℕ)) → ImagesUpTo logs choices [] 0
-images_none logs choices = record { many = refl; each = λ place log below is. absurd (omega (arith, below)) }
-
 pub images_more : (logs : List Log) (choices images : List (List ℕ)) (n : ℕ) (log : Log) (now : List ℕ)
     → slice_get logs n ≡ Some log → IsImageBy log (get_or choices n []) now → ImagesUpTo logs choices images n
     → ImagesUpTo logs choices (images ++ now ∷ []) (suc n)

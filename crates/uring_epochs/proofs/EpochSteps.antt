@@ -2,13 +2,13 @@
 use Rattle.std.proofs.Common.{◌≡◌, ℕ, List, ◌∷◌, length, map, Bool, true, false, Option, Some, None, if◌then◌else◌, refl, sym, subst, ◌∙◌, ap}
 use Rattle.uring_entry.specs.Setup.{Setup}
 use Rattle.uring_entry.specs.Preparation.{operation_of}
-use Rattle.uring_entry.specs.Requests.{Requests, entry_of, is_running, operation_running}
+use Rattle.uring_entry.specs.Requests.{Requests, entry_of, operation_running}
 use Rattle.uring_entry.specs.declared.operation.Op.{Op}
 use Rattle.uring_entry.specs.declared.operation.Outcome.{Outcome}
 use Rattle.uring_files.specs.Contents.{FileContents}
 use Rattle.uring_files.specs.Operations.{after, IsOutcome, result_of}
 use Rattle.uring_core.specs.World.{World}
-use Rattle.uring_core.specs.StepAnswers.{CalledForApart, FinishesApart}
+use Rattle.uring_core.specs.StepAnswers.{CalledForApart}
 use Rattle.uring_core.specs.CalledFor.{EndsOn}
 use Rattle.uring_core.specs.Core.{FitsApart, IsNoFinish, IsFinished}
 use Rattle.uring_core.specs.Histories.{History, world, IsLawfulApart}
@@ -132,26 +132,6 @@ not_running : {X : Type 0} (op : X) (running : Bool) → None ≡ (if running th
     → running ≡ false
 not_running op true e = absurd cc
 not_running op false e = refl
-
--- a Finish of what doesn't run
-pub idle_fits : (m : CrashMachine) (n : ℕ) (e : Epoch) (earlier : List Epoch)
-    → ((h : History) → FitsApart m.core h → None ≡ operation_running (world m.core.setup h).requests n)
-    → FitsRun m e earlier → FitsRun m (with_step (step.Finish n) answer.NotRunning e) earlier
-idle_fits m n e earlier asks f =
-    let r : Requests = (world m.core.setup e.history).requests in
-    let idle : is_running r n ≡ false = not_running (operation_of (entry_of r n)) (is_running r n) (asks e.history f.core) in
-    record {
-      core = record {
-        shows = f.core.shows;
-        lawful = (subst (λ b. FinishesApart b answer.NotRunning) (sym idle) refl, f.core.lawful);
-      };
-      files = f.files;
-      logs =
-          map_same (λ log. logged r r (step.Finish n) answer.NotRunning log) m.logs (λ log. refl)
-          ∙ logs_then m.core.setup m.unit m.logs e (step.Finish n) answer.NotRunning f.logs;
-      many = f.many;
-      run = ((subst (λ b. EndsOn (files_from e.first (world m.core.setup e.history)) r n b answer.NotRunning) (sym idle) refl, f.run.0), f.run.1, f.run.2);
-    }
 
 logged_other : (r q : Requests) (s : Step) (a : Answer) (log : Log) → ((n : ℕ) → s ≡ step.Issue n → ⊥)
     → ((n : ℕ) → s ≡ step.Finish n → ⊥) → log ≡ logged r q s a log

@@ -12,9 +12,6 @@ number_short n (m ∷ q) = elim (cases_Bool (m == n)) [
   | inr other ↦ omega (arith, cond-false (m == n) (suc (length q)) (number_of n q) other, number_short n q)
 ]
 
-pub number_new : (n : ℕ) (q : List ℕ) → number_of n (n ∷ q) ≡ suc (length q)
-number_new n q = cond-true (n == n) (suc (length q)) (number_of n q) (eq-eqb n n refl)
-
 pub number_old : (m n : ℕ) (q : List ℕ) → (m == n) ≡ false → number_of n (m ∷ q) ≡ number_of n q
 number_old m n q other = cond-false (m == n) (suc (length q)) (number_of n q) other
 

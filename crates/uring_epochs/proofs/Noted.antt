@@ -14,11 +14,6 @@ set_noted f [] i d within = absurd (omega (arith, within))
 set_noted f (x ∷ xs) zero d within = refl
 set_noted f (x ∷ xs) (suc i) d within = ap (λ ys. f x ∷ ys) (set_noted f xs i d (omega (arith, within)))
 
-pub all_noted : {X : Type 0} (f : X → X) (xs : List X)
-    → map f (take (length xs) xs) ++ drop (length xs) xs ≡ map f xs
-all_noted f [] = refl
-all_noted f (x ∷ xs) = ap (λ ys. f x ∷ ys) (all_noted f xs)
-
 -- none is changed
 pub map_same : {X : Type 0} (f : X → X) (xs : List X) → ((x : X) → x ≡ f x) → xs ≡ map f xs
 map_same f [] same = refl

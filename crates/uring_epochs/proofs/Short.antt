@@ -5,7 +5,7 @@ use Rattle.uring_files.specs.Contents.{max_len}
 use Rattle.uring_volume.specs.Writes.{Write}
 use Rattle.uring_volume.specs.Events.{writes}
 use Rattle.uring_volume.specs.Images.{IsIn, IsImage, end_of, length_over}
-use Rattle.uring_volume.specs.Volume.{Volume, with_write}
+use Rattle.uring_volume.specs.Volume.{Volume}
 use Rattle.uring_epochs.specs.Epochs.{IsShort}
 
 ends_by : (w : Write) → w.off + length w.bytes ≤ max_len → end_of w ≤ max_len
@@ -13,27 +13,6 @@ ends_by w short = elim (cases_Bool (length w.bytes == 0)) [
   | inl none ↦ omega (arith, cond-true (length w.bytes == 0) 0 (w.off + length w.bytes) none)
   | inr some ↦ omega (arith, short, cond-false (length w.bytes == 0) 0 (w.off + length w.bytes) some)
 ]
-
--- a write more
-pub short_write : (v : Volume) (off : ℕ) (bytes : List ℕ) → off + length bytes ≤ max_len → IsShort v
-    → IsShort (with_write off bytes v)
-short_write v off bytes short s =
-    let new : Write = record { number = v.next; off = off; bytes = bytes } in
-    record {
-      first = s.first;
-      writes = λ w is. elim is [
-        | inl same ↦ subst (λ (x : Write). end_of x ≤ max_len) (sym same) (ends_by new short)
-        | inr old ↦ s.writes w old
-      ];
-    }
-
--- an event that is no write
-pub short_same : (v v' : Volume) → v'.first ≡ v.first → writes v'.history ≡ writes v.history
-    → IsShort v → IsShort v'
-short_same v v' firsts same s = record {
-  first = subst (λ (bs : List ℕ). length bs ≤ max_len) (sym firsts) s.first;
-  writes = λ w is. s.writes w (subst (λ (ws : List Write). IsIn w ws) same is);
-}
 
 longest : (len : ℕ) (order : List Write) → len ≤ max_len → ((w : Write) → IsIn w order → end_of w ≤ max_len)
     → length_over len order ≤ max_len

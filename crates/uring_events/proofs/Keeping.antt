@@ -1,11 +1,9 @@
 -- What is kept stays in its place, so that events that were recorded stay as they are.
 use Rattle.std.proofs.Common.{◌≡◌, ℕ, zero, suc, ◌+◌, ◌<◌, ◌≤◌, List, [], ◌∷◌, ◌++◌, length, get_or, refl, sym, ap, subst, arith, ◌∙◌, length-append}
-use Rattle.std.proofs.lemmas.List.{get_or_append_left, map-append, length-map}
-use Rattle.std.proofs.lemmas.Option.{slice_get_within, get_or_from_slice_get}
-use Rattle.std.specs.Prelude.{Some, vec_capacity}
-use Rattle.std.specs.List.{AllByRecursion, slice_get}
+use Rattle.std.proofs.lemmas.List.{map-append, length-map}
+use Rattle.std.specs.Prelude.{vec_capacity}
+use Rattle.std.specs.List.{AllByRecursion}
 use Rattle.uring_entry.specs.Layout.{Sqe}
-use Rattle.uring_entry.specs.Requests.{no_bytes}
 use Rattle.uring_core.specs.Histories.{Event}
 use Rattle.uring_core.specs.declared.step.Step.TheVariants as step
 use Rattle.uring_core.specs.declared.answer.Answer.TheVariants as answer
@@ -19,19 +17,6 @@ use Rattle.uring_events.specs.Events.{Events}
 use Rattle.uring_events.specs.Store.{entry_at, bytes_of, step_of, answer_of, event_of, events_of, IsStepWithin, IsAnswerWithin, IsWithin, Stays, Goes, IsSame, HasRoom, AreStored}
 
 -- Lists that grow.
-
--- an element keeps its place
-pub element_stays : {A : Type 0} (xs : List A) (y d : A) (place : ℕ) → place < length xs
-    → (get_or (xs ++ y ∷ []) place d ≡ get_or xs place d) × (place < length (xs ++ y ∷ []))
-element_stays xs y d place within =
-    (get_or_append_left xs (y ∷ []) d place within, omega (arith, length-append xs (y ∷ [])))
-
--- bytes keep their place
-pub bytes_stay : (xs : List (List ℕ)) (y : List ℕ) (place : ℕ) → place ≤ length xs
-    → (bytes_of (xs ++ y ∷ []) place ≡ bytes_of xs place) × (place ≤ length (xs ++ y ∷ []))
-bytes_stay xs y zero within = (refl, omega arith)
-bytes_stay xs y (suc place) within =
-    (get_or_append_left xs (y ∷ []) no_bytes place (omega arith), omega (arith, length-append xs (y ∷ [])))
 
 -- Stores that grow.
 
@@ -69,13 +54,6 @@ event_stays s t b stays within =
     ((λ i. (one.0 i, other.0 i)), (one.1, other.1))
 
 -- Stores stay as they are, and grow twice.
-
-pub stays_same : (s : Store) → Stays s s
-stays_same s = record {
-  filled = λ place within. (refl, within);
-  others = λ place within. (refl, within);
-  bytes = λ place within. (refl, within);
-}
 
 pub stays_then : (s t u : Store) → Stays s t → Stays t u → Stays s u
 stays_then s t u a b = record {
@@ -247,11 +225,3 @@ all_at : {A : Type 0} (P : A → Type 0) (xs : List A) (d : A) (place : ℕ) →
 all_at P [] d place all within = absurd (omega (arith, within))
 all_at P (x ∷ xs) d zero all within = all.0
 all_at P (x ∷ xs) d (suc place) all within = all_at P xs d place all.1 (omega (arith, within))
-
--- what is long in one of them is kept
-pub within_at : (s : Store) (briefs : List Brief) (place : ℕ) (b : Brief)
-    → AllByRecursion (IsWithin s) briefs
-    → slice_get briefs place ≡ Some b
-    → IsWithin s b
-within_at s briefs place b all is =
-    subst (IsWithin s) (get_or_from_slice_get briefs place b b is) (all_at (IsWithin s) briefs b place all (slice_get_within briefs place b is))

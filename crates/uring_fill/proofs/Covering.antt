@@ -7,7 +7,6 @@ use Rattle.std.proofs.lemmas.List.Elements.{Contains-append_left, Contains-appen
 use Rattle.std.specs.declared.vec.Vec.{Vec}
 use Rattle.std.specs.declared.alloc.Global.{Global}
 use Rattle.uring_entry.specs.Setup.{Setup}
-use Rattle.uring_entry.specs.Requests.{outstanding_in}
 use Rattle.uring_core.specs.Histories.{Event, History, world, history_of, IsLawfulApart}
 use Rattle.uring_core.proofs.Following.{history_of_snoc}
 use Rattle.uring_fill.specs.Filling.{seen_in, completions_in, IsFilling, IsPart}
@@ -16,7 +15,7 @@ use Rattle.uring_fill.specs.declared.search.Fate.{Fate}
 use Rattle.uring_fill.specs.declared.search.Fate.TheVariants as fate
 use Rattle.uring_fill.specs.declared.search.Reach.{Reach}
 use Rattle.uring_fill.specs.Parts.{paths_of, onto, IsWhole, GoesOn, OneGoesOn, IsReach, IsSearch, HasLonger}
-use Rattle.uring_fill.proofs.Begun.{begins_all, begins_whole}
+use Rattle.uring_fill.proofs.Begun.{begins_all}
 use Rattle.uring_fill.proofs.Going.{lawful_onto, goes_by, onto_is}
 
 -- Lists.
@@ -171,16 +170,6 @@ whole_fills g seen h part whole = record {
   shows = whole.shows;
   none_outstanding = whole.none_outstanding;
   posted = whole.posted;
-}
-
--- it is whole by its counts
-pub whole_by : (g : Setup) (seen : List Event) (h : History) → IsPart g seen h
-    → length (seen_in h) ≡ length seen → outstanding_in (world g h).requests ≡ 0
-    → length (world g h).completions.posted ≡ length (completions_in seen) → IsWhole g seen h
-whole_by g seen h part shows none posts = record {
-  shows = begins_whole (seen_in h) seen part.shows shows;
-  none_outstanding = none;
-  posted = begins_whole (world g h).completions.posted (completions_in seen) part.posts posts;
 }
 
 -- Vectors.

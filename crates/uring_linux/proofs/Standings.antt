@@ -21,7 +21,7 @@ use Rattle.uring_linux.specs.KeptDrains.{KeptDrains}
 use Rattle.uring_linux.specs.Drains.{Drains}
 use Rattle.uring_linux.specs.LinuxRequests.{LinuxRequests, comes_past, is_let_in, has_fault, is_in_faulty_group, is_in_turn, is_doomed, is_deferred, is_issuable, found_by, cancel_result, doomed_result, after_going_on, with_started, with_ended}
 use Rattle.uring_linux.specs.Laws.{is_refusal}
-use Rattle.uring_linux.specs.Issues.{issued, issued_ready, ended_with, after_end}
+use Rattle.uring_linux.specs.Issues.{issued, issued_ready, ended_with}
 use Rattle.uring_linux.specs.Window.{Window, at, end_of, Tells, Shows}
 use Rattle.uring_linux.specs.LinuxDispatch.{LinuxDispatch, dispatch_of, ShowsRequests}
 use Rattle.uring_linux.proofs.WindowLemmas.{not_none}
@@ -134,11 +134,6 @@ ended_outstanding l n res p e = go (is_outstanding l.requests n) _ e
     go : (o : Bool) (x : Issued) → (if not o then Unknown else x) ≡ Ended res p → o ≡ true
     go true x e = refl
     go false x e = absurd (cc)
-
-pub after_some : (l : LinuxRequests) (n : ℕ) (res : ℤ) (bytes : List ℕ) (o : Option Posts) → is_some o ≡ true
-    → after_end l n res bytes o ≡ with_ended l n res bytes
-after_some l n res bytes None e = absurd (both_ways false refl e)
-after_some l n res bytes (Some p) e = refl
 
 -- Cancels.
 

@@ -59,10 +59,6 @@ unmet w wanted p parts other = (
   λ are. among_behind (w ∷ wanted) p parts are,
 )
 
--- none is wanted
-pub none_wanted : (p : List ℕ) (parts : List (List ℕ)) → AreAmong [] (p ∷ parts) ↔ AreAmong [] parts
-none_wanted p parts = (λ are. tt, λ are. tt)
-
 -- among no parts stand none
 some_in_none : (before after : List (List ℕ)) (w : List ℕ) → [] ≡ before ++ w ∷ after → ⊥
 some_in_none [] after w e = cc

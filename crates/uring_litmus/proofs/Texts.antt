@@ -1,9 +1,8 @@
 -- Texts in lists, one more at a time.
 use Rattle.std.proofs.Common.{◌≡◌, Bool, true, false, ℕ, ◌+◌, ◌<◌, List, [], ◌∷◌, ◌++◌, length, map, take, get_or, refl, sym, ap, subst, ◌∙◌, append_assoc}
-use Rattle.std.specs.Prelude.{flat_map, string_bytes}
+use Rattle.std.specs.Prelude.{string_bytes}
 use Rattle.std.specs.List.{AllZip}
-use Rattle.std.proofs.lemmas.List.{take_more, map-append, append-nil}
-use Rattle.std.proofs.lemmas.List.Concat.{flat_map-append}
+use Rattle.std.proofs.lemmas.List.{take_more, map-append}
 use Rattle.std.specs.declared.string.String.{String}
 use Rattle.std.specs.declared.alloc.Global.{Global}
 use Rattle.uring_litmus.specs.Parts.{texts_of}
@@ -26,15 +25,6 @@ pub map_more : {X Y : Type 0} (f : X → Y) (xs : List X) (i : ℕ) (x : X) (bef
 map_more f xs i x before so after low is a b =
     b ∙ ap (λ l. l ++ f x ∷ []) a ∙ append_assoc before (map f (take i xs)) (f x ∷ [])
     ∙ ap (λ l. before ++ l) (sym (ap (map f) (next_taken xs i x low is) ∙ map-append f (take i xs) (x ∷ [])))
-
--- the same if it gives lists, which are put together
-pub flat_more : {X Y : Type 0} (f : X → List Y) (xs : List X) (i : ℕ) (x : X) (before so after : List Y)
-    → i < length xs → x ≡ get_or xs i x → so ≡ before ++ flat_map f (take i xs) → after ≡ so ++ f x
-    → after ≡ before ++ flat_map f (take (i + 1) xs)
-flat_more f xs i x before so after low is a b =
-    let one : flat_map f (x ∷ []) ≡ f x = append-nil (f x) in
-    b ∙ ap (λ l. l ++ f x) a ∙ append_assoc before (flat_map f (take i xs)) (f x)
-    ∙ ap (λ l. before ++ l) (sym (ap (flat_map f) (next_taken xs i x low is) ∙ flat_map-append f (take i xs) (x ∷ []) ∙ ap (λ l. flat_map f (take i xs) ++ l) one))
 
 -- one more on both sides
 pub zip_push : {X Y : Type 0} (R : X → Y → Type 0) (xs : List X) (ys : List Y) (x : X) (y : Y)

@@ -1,5 +1,5 @@
 -- Verdicts on claims of what was found, and outcomes that are chosen among it.
-use Rattle.std.proofs.Common.{◌≡◌, ◌↔◌, ◌+◌, ◌-◌, ◌<◌, ◌≤◌, ℕ, zero, suc, Bool, true, false, not, List, [], ◌∷◌, ◌++◌, length, map, take, get_or, Option, Some, None, Result, Ok, Err, refl, sym, ap, subst, ◌∙◌, inl, inr, arith}
+use Rattle.std.proofs.Common.{◌≡◌, ◌↔◌, ◌+◌, ◌-◌, ◌<◌, ◌≤◌, ℕ, Bool, true, false, not, List, [], ◌∷◌, ◌++◌, length, map, take, get_or, Option, Some, None, Result, Ok, Err, refl, sym, ap, subst, ◌∙◌, inl, inr, arith}
 use Rattle.std.specs.Prelude.{Contains, slice_get, string_bytes, MatchOption}
 use Rattle.std.proofs.lemmas.Option.{slice_get_within, slice_get_read}
 use Rattle.std.specs.Option.{ok_or}
@@ -21,7 +21,7 @@ use Rattle.uring_litmus.specs.Parts.{texts_of, completion_parts, files_texts, Is
 use Rattle.uring_litmus.specs.Lines.{IsLineOf, IsSortedOnce}
 use Rattle.uring_litmus.specs.Listings.{AreFound, Finds}
 use Rattle.uring_litmus.specs.Claims.{parts_in, is_so, ShowsSome, IsSoOf, IsAgainst, IsVerdict, Judges, so_of}
-use Rattle.uring_litmus.specs.Choices.{HasNoLine, IsChosen, IsPlaceBy, IsPlaceOf, Chooses}
+use Rattle.uring_litmus.specs.Choices.{IsChosen, IsPlaceBy, IsPlaceOf, Chooses}
 use Rattle.uring_litmus.proofs.Texts.{next_taken}
 use Rattle.uring_litmus.proofs.Places.{at_place, zip_at}
 use Rattle.uring_litmus.proofs.Listed.{all_shown}
@@ -135,17 +135,6 @@ not_at_all each i line past none has =
     none (subst (λ l. Contains (texts_of l) line) (sym (take_all i each past)) has)
 
 -- The line of a number.
-
-pub past_all : (lines : List (List ℕ)) (number count : ℕ) → (number ≡ 0 → ⊥) → count ≡ length lines
-    → slice_get lines (number - 1) ≡ None → HasNoLine lines number count
-past_all lines number count some many none = record {
-  many = sym many;
-  past = inr (let past = none_past lines (number - 1) none in omega arith);
-} where
-  none_past : {X : Type 0} (xs : List X) (k : ℕ) → slice_get xs k ≡ None → length xs ≤ k
-  none_past [] k none = omega arith
-  none_past (x ∷ xs) zero none = absurd cc
-  none_past (x ∷ xs) (suc k) none = let r = none_past xs k none in omega arith
 
 -- it is somewhere among those that were sorted
 pub found_by : (each lines : List (List ℕ)) (number count : ℕ) (line : List ℕ) (first : Option ℕ) (found : Result ℕ ℕ)

@@ -23,14 +23,6 @@ abbrev InOrder : ℕ → List Deferred → ℕ → Type 0
 InOrder low [] high = low ≤ high
 InOrder low (g ∷ rest) high = (low ≤ g.from) × (g.from < g.end) × InOrder g.end rest high
 
-order_spans : (low : ℕ) (xs : List Deferred) (high : ℕ) → InOrder low xs high → low ≤ high
-order_spans low [] high o = o
-order_spans low (g ∷ rest) high o =
-    let later = order_spans g.end rest high o.2 in
-    let low_from : low ≤ g.from = o.0 in
-    let some : g.from < g.end = o.1 in
-    omega arith
-
 order_lower : (a low : ℕ) (xs : List Deferred) (high : ℕ) → a ≤ low → InOrder low xs high
     → InOrder a xs high
 order_lower a low [] high le o = let e : low ≤ high = o in omega arith
@@ -59,17 +51,6 @@ order_above low (g ∷ rest) high k o e =
     elim (or_cases (is_among k g) (is_in_some rest k) e) [
       | inl here ↦ (let from : g.from ≤ k = (among_tells k g here).0 in omega arith)
       | inr later ↦ (let past : g.end ≤ k = order_above g.end rest high k o.2 later in omega arith)
-    ]
-
--- and not past the last
-order_below : (low : ℕ) (xs : List Deferred) (high k : ℕ) → InOrder low xs high
-    → is_in_some xs k ≡ true → k < high
-order_below low [] high k o e = absurd (let f : false ≡ true = e in cc)
-order_below low (g ∷ rest) high k o e =
-    let spans : g.end ≤ high = order_spans g.end rest high o.2 in
-    elim (or_cases (is_among k g) (is_in_some rest k) e) [
-      | inl here ↦ (let end : k < g.end = (among_tells k g here).1 in omega arith)
-      | inr later ↦ order_below g.end rest high k o.2 later
     ]
 
 -- a group more

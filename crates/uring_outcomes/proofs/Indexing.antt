@@ -1,15 +1,14 @@
 -- Endings and the places that are noted for their marks: what is there is found, and what is added is noted.
-use Rattle.std.proofs.Common.{◌≡◌, ℕ, ◌+◌, ◌<◌, Bool, true, false, List, [], ◌∷◌, ◌++◌, length, get_or, Some, None, refl, sym, subst, ap, ◌∙◌, arith, inl, inr, cond}
+use Rattle.std.proofs.Common.{◌≡◌, ℕ, ◌+◌, ◌<◌, Bool, true, false, List, [], ◌∷◌, ◌++◌, Some, None, refl, sym, subst, ap, ◌∙◌, cond}
 use Rattle.std.specs.Prelude.{Contains, IsSomeAnd, slice_get, nat_eq, ◌⊎◌}
 use Rattle.std.specs.HashMap.{HashMap, get}
 use Rattle.std.specs.declared.vec.Vec.{Vec}
 use Rattle.std.specs.declared.alloc.Global.{Global}
-use Rattle.std.proofs.lemmas.Bool.{cases_lt, eq-eqb, eqb-true, both_ways}
-use Rattle.std.proofs.lemmas.List.{length_push, get_or_append_left, get_or-append-add}
+use Rattle.std.proofs.lemmas.Bool.{eq-eqb, eqb-true, both_ways}
 use Rattle.std.proofs.lemmas.Option.{slice_get-get_or, slice_get_within, get_or_from_slice_get}
 use Rattle.std.proofs.lemmas.List.Elements.{Contains-append_left, Contains-push}
 use Rattle.uring_outcomes.specs.Outcomes.{Ending}
-use Rattle.uring_outcomes.specs.Index.{mark_of, HasPlace, NotesPlace}
+use Rattle.uring_outcomes.specs.Index.{HasPlace, NotesPlace}
 
 -- what stands in a list stands at a place of it
 pub place_of : (xs : List Ending) (e : Ending) → Contains xs e → (k : ℕ) × (slice_get xs k ≡ Some e)
@@ -18,29 +17,6 @@ place_of xs e there =
 
 pub at_place : (xs : List Ending) (e : Ending) (k : ℕ) → slice_get xs k ≡ Some e → Contains xs e
 at_place xs e k is = (k, slice_get_within xs k e is, get_or_from_slice_get xs k e e is)
-
--- what stands in a list with one more stands in the list, or is the one more, at its end
-pub place_more : (xs : List Ending) (x e : Ending) (k : ℕ) → slice_get (xs ++ x ∷ []) k ≡ Some e
-    → (slice_get xs k ≡ Some e) ⊎ ((k ≡ length xs) × (x ≡ e))
-place_more xs x e k is =
-    elim (cases_lt k (length xs)) [
-      | inl low ↦ inl (slice_get-get_or xs k e low ∙ ap (λ y. Some y) (sym (get_or_append_left xs (x ∷ []) e k low) ∙ get_or_from_slice_get (xs ++ x ∷ []) k e e is))
-      | inr high ↦
-          let within : k < length (xs ++ x ∷ []) = slice_get_within (xs ++ x ∷ []) k e is in
-          let last : k ≡ length xs = omega (arith, high, within, length_push xs x) in
-          let at : k ≡ length xs + 0 = omega (arith, last) in
-          inr (last, sym (get_or-append-add xs (x ∷ []) 0 e) ∙ sym (ap (λ j. get_or (xs ++ x ∷ []) j e) at) ∙ get_or_from_slice_get (xs ++ x ∷ []) k e e is)
-    ]
-
-pub indexed_more : {S : Type 0} (old new : HashMap ℕ (Vec ℕ Global) S) (xs ys : List Ending) (x : Ending) (mark place : ℕ)
-    → NotesPlace old new mark place → mark ≡ mark_of x.posted → place ≡ length xs → ys ≡ xs ++ x ∷ []
-    → ((k : ℕ) (e : Ending) → slice_get xs k ≡ Some e → HasPlace old (mark_of e.posted) k)
-    → (k : ℕ) (e : Ending) → slice_get ys k ≡ Some e → HasPlace new (mark_of e.posted) k
-indexed_more old new xs ys x mark place notes marked at is before k e there =
-    elim (place_more xs x e k (sym (ap (λ zs. slice_get zs k) is) ∙ there)) [
-      | inl old_one ↦ notes.kept (mark_of e.posted) k (before k e old_one)
-      | inr last ↦ subst (λ m. HasPlace new m k) (marked ∙ ap (λ (y : Ending). mark_of y.posted) last.1) (subst (HasPlace new mark) (at ∙ sym last.0) notes.noted)
-    ]
 
 -- the places that were known for a mark, and one more, are noted for it
 pub noted_more : {S : Type 0} (old mid new : HashMap ℕ (Vec ℕ Global) S) (known more : Vec ℕ Global) (mark place : ℕ)

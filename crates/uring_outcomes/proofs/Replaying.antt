@@ -2,7 +2,7 @@
 use Rattle.std.proofs.Common.{◌≡◌, ℕ, suc, ◌+◌, ◌<◌, ◌≤◌, Bool, true, false, List, [], ◌∷◌, ◌++◌, length, take, drop, get_or, Option, Some, None, refl, sym, subst, ap, ◌∙◌, arith, inl, inr}
 use Rattle.std.specs.Prelude.{Contains}
 use Rattle.std.specs.Option.{option_and_then}
-use Rattle.std.proofs.lemmas.List.{take_more, take_all, take-append-drop, get_or_default}
+use Rattle.std.proofs.lemmas.List.{take_more, take-append-drop, get_or_default}
 use Rattle.std.proofs.Math.Seq.{drop-cons}
 use Rattle.std.proofs.lemmas.Bool.{cases_lt}
 use Rattle.uring_entry.specs.Layout.{Sqe}
@@ -15,7 +15,7 @@ use Rattle.uring_moves.specs.Direct.{IsNextUnnamed}
 use Rattle.uring_outcomes.specs.Runs.{among, StandsAt, Stands, MadeAs, LedTo, HasNext, IsQuiet, HasBelow}
 use Rattle.uring_outcomes.specs.declared.run.Run.{Run}
 use Rattle.uring_outcomes.proofs.Covering.{moves_behind}
-use Rattle.uring_outcomes.proofs.Moving.{made_so, not_made, issue_can, finish_can, issuable_accepted, finishable_tells}
+use Rattle.uring_outcomes.proofs.Moving.{not_made, issue_can, finish_can, issuable_accepted, finishable_tells}
 
 -- what is so of a move that was made, and of one that wasn't
 pub record IsMade (P : Moment → Type 0) (o : Option Moment) : Type 0 where
@@ -88,12 +88,6 @@ pub led_nowhere_at : (calls : List (List Sqe)) (m : Moment) (path : List Move) (
     → MadeAs false (after_moves m path) (StandsAt calls new)
 led_nowhere_at calls m path k d old new made low led is makes =
     led_nowhere calls m path k (get_or path k d) old new low (get_or_default path k d (get_or path k d) low) led (λ n at. subst (λ b. MadeAs b (moved n (get_or path k d)) (StandsAt calls new)) is (makes n at))
-
-pub led_all : (calls : List (List Sqe)) (m : Moment) (path : List Move) (k : ℕ) (run : Run)
-    → length path ≤ k → LedTo calls m (take k path) run
-    → MadeAs true (after_moves m path) (StandsAt calls run)
-led_all calls m path k run past led =
-    made_so (StandsAt calls run) (after_moves m path) led.last (ap (after_moves m) (sym (take_all k path past)) ∙ led.leads) led.at
 
 -- What can be made next.
 

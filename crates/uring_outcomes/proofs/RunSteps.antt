@@ -1,5 +1,5 @@
 -- What the run stands at behind each move: an acceptance, an issue that starts its request or ends it, and a finish.
-use Rattle.std.proofs.Common.{◌≡◌, ℕ, ◌+◌, ◌<◌, ◌≤◌, ℤ, true, false, List, [], ◌∷◌, ◌++◌, length, drop, get_or, Option, Some, None, if◌then◌else◌, refl, sym, subst, ap, ap₂, ◌∙◌, arith}
+use Rattle.std.proofs.Common.{◌≡◌, ℕ, ◌+◌, ◌<◌, ◌≤◌, ℤ, true, List, [], ◌∷◌, ◌++◌, length, drop, get_or, Option, Some, None, if◌then◌else◌, refl, sym, subst, ap, ap₂, ◌∙◌, arith}
 use Rattle.std.specs.Borrow.{Bor}
 use Rattle.std.specs.Slice.{IsItemAt}
 use Rattle.std.specs.declared.vec.Vec.{Vec}
@@ -26,7 +26,7 @@ use Rattle.uring_moves.specs.declared.move_of_calls.Move.TheVariants as move
 use Rattle.uring_moves.proofs.SoundMoments.{asks_files}
 use Rattle.uring_outcomes.specs.Runs.{entries_of, StandsAt, MadeAs}
 use Rattle.uring_outcomes.specs.declared.run.Run.{Run}
-use Rattle.uring_outcomes.proofs.Moving.{made_so, not_made, reached_on, sound_at, issue_moves, ended_outstanding, entry_told, told_if_outstanding, accept_moves, none_left, none_accepted, runs_told, idle_told, running_outstanding, finish_moves, finish_stays}
+use Rattle.uring_outcomes.proofs.Moving.{made_so, reached_on, sound_at, issue_moves, entry_told, told_if_outstanding, accept_moves, runs_told, running_outstanding, finish_moves}
 
 -- The run stands at the moment behind a move.
 pub stands_behind : (calls : List (List Sqe)) (old new : Run) (m next : Moment) (x : Move)
@@ -70,12 +70,6 @@ accepts calls old new m call at low is shows between posted files next =
     (accept_moves calls m old.next_call call at.left low is)
     shows between (posted ∙ at.posted) (files ∙ at.files) (ap (λ k. drop k (entries_of calls)) (sym next))
 
-pub none_accepts : (calls : List (Vec Sqe Global)) (run : Run) (m : Moment)
-    → StandsAt (entries_of calls) run m → length calls ≤ run.next_call
-    → MadeAs false (moved m move.Accept) (StandsAt (entries_of calls) run)
-none_accepts calls run m at past =
-    not_made (StandsAt (entries_of calls) run) (moved m move.Accept) (none_accepted m (none_left calls m run.next_call at.left past))
-
 -- An issue.
 
 pub issue_starts : (calls : List (List Sqe)) (old new : Run) (m : Moment) (n : ℕ) (op : Op)
@@ -108,32 +102,7 @@ IsRefused (answer.Run op) = ⊥
 IsRefused (answer.Ended res) = ⊥
 IsRefused _ = Unit {0}
 
-pub issue_refused : (calls : List (List Sqe)) (run : Run) (m : Moment) (n : ℕ) (a : Issued)
-    → IsRefused a → a ≡ asked.issued m.requests n
-    → MadeAs false (moved m (move.Issue n)) (StandsAt calls run)
-issue_refused calls run m n (answer.Run op) refused is = absurd refused
-issue_refused calls run m n (answer.Ended res) refused is = absurd refused
-issue_refused calls run m n answer.NotReady refused is =
-    not_made (StandsAt calls run) (moved m (move.Issue n)) (issue_moves m n answer.NotReady is)
-issue_refused calls run m n answer.Running refused is =
-    not_made (StandsAt calls run) (moved m (move.Issue n)) (issue_moves m n answer.Running is)
-issue_refused calls run m n answer.Unknown refused is =
-    not_made (StandsAt calls run) (moved m (move.Issue n)) (issue_moves m n answer.Unknown is)
-
--- what ended as it was issued had an entry
-pub ended_told : (calls : List (List Sqe)) (run : Run) (n : ℕ) (res : ℤ) (told : Option Sqe) (m : Moment)
-    → StandsAt calls run m → answer.Ended res ≡ asked.issued m.requests n
-    → told ≡ entry_outstanding m.requests n → None ≡ told → ⊥
-ended_told calls run n res told m at is told_so none =
-    told_if_outstanding m.requests n (ended_outstanding m.requests n res is) (none ∙ told_so)
-
 -- A finish.
-
-pub finish_idles : (calls : List (List Sqe)) (run : Run) (m : Moment) (n : ℕ)
-    → None ≡ operation_running m.requests n
-    → MadeAs false (moved m (move.Finish n)) (StandsAt calls run)
-finish_idles calls run m n none =
-    not_made (StandsAt calls run) (moved m (move.Finish n)) (finish_stays m n (idle_told m.requests n none))
 
 -- what runs can be asked of files
 pub running_asks : (calls : List (List Sqe)) (run : Run) (n : ℕ) (op : Op) (m : Moment) → StandsAt calls run m
@@ -193,11 +162,6 @@ pub posts : (old : List Cqe) (entry : Sqe) (res : ℤ) (bytes : List ℕ) (c : C
     → old ++ c ∷ [] ≡ posted_with old entry res bytes
 posts old entry res bytes c told is =
     ap (λ x. old ++ x ∷ []) is ∙ sym (ap (λ b. if b then old ++ completion_for entry res bytes ∷ [] else old) told)
-
-pub posts_nothing : (old : List Cqe) (entry : Sqe) (res : ℤ) (bytes : List ℕ)
-    → posts_completion entry res ≡ false → old ≡ posted_with old entry res bytes
-posts_nothing old entry res bytes skipped =
-    sym (ap (λ b. if b then old ++ completion_for entry res bytes ∷ [] else old) skipped)
 
 -- the call that is got
 pub call_there : (calls : List (Vec Sqe Global)) (k : ℕ) (call : Bor (Vec Sqe Global))

@@ -104,21 +104,6 @@ pub same_of_states : (a b : List FileContents) (fd : ℤ) (s t : FileState) → 
 same_of_states a b fd s t is are same bytes =
     same_by_state (file_of a fd) (file_of b fd) s t is are same bytes
 
-none_by_state : (o : Option FileContents) → None ≡ option_map state o → o ≡ None
-none_by_state None e = refl
-none_by_state (Some f) e = absurd cc
-
--- there is no file of this descriptor
-pub none_of_states : (a b : List FileContents) (fd : ℤ) → None ≡ state_of a fd → None ≡ state_of b fd
-    → file_of a fd ≡ file_of b fd
-none_of_states a b fd none none' =
-    none_by_state (file_of a fd) none ∙ sym (none_by_state (file_of b fd) none')
-
--- the same files are told alike
-pub states_alike : (a b : List FileContents) (fd : ℤ) → file_of a fd ≡ file_of b fd
-    → state_of a fd ≡ state_of b fd
-states_alike a b fd e = ap (option_map state) e
-
 pub bytes_alike : (a b : List FileContents) (fd : ℤ) (k : ℕ) → file_of a fd ≡ file_of b fd
     → byte_of a fd k ≡ byte_of b fd k
 bytes_alike a b fd k e = ap (option_and_then (λ f. slice_get f.bytes k)) e

@@ -1,5 +1,5 @@
 -- The walk's functions: lists of paths as they are pushed and popped, and what is so once no path is left.
-use Rattle.std.proofs.Common.{◌≡◌, ℕ, ◌+◌, ◌<◌, Bool, true, false, not, ◌&&◌, ◌||◌, List, [], ◌∷◌, ◌++◌, length, take, get_or, map, Option, Some, None, Result, Ok, Err, if◌then◌else◌, refl, sym, subst, ap, ap₂, ◌∙◌, append_assoc, append-nil, arith}
+use Rattle.std.proofs.Common.{◌≡◌, ℕ, ◌+◌, ◌<◌, Bool, true, false, not, ◌&&◌, ◌||◌, List, [], ◌∷◌, ◌++◌, length, take, get_or, Option, Some, None, Result, Ok, Err, if◌then◌else◌, refl, sym, subst, ap, ap₂, ◌∙◌, append-nil, arith}
 use Rattle.std.specs.Prelude.{IfOk, nat_eq}
 use Rattle.std.proofs.lemmas.List.Folds.{list_any-append}
 use Rattle.std.specs.declared.vec.Vec.{Vec}
@@ -38,14 +38,6 @@ pub path_pushed : (old new : List (Vec Move Global)) (v : Vec Move Global) (path
     → new ≡ old ++ v ∷ [] → v.items ≡ path → paths_of new ≡ paths_of old ++ path ∷ []
 path_pushed old new v path is holds =
     ap paths_of is ∙ map-append (λ (p : Vec Move Global). p.items) old (v ∷ []) ∙ ap (λ p. paths_of old ++ p ∷ []) holds
-
-pub longer_more : (before mid after : List (List Move)) (f : Move → List Move) (moves : List Move) (k : ℕ) (x : Move)
-    → k < length moves → x ≡ get_or moves k x → mid ≡ before ++ map f (take k moves)
-    → after ≡ mid ++ f x ∷ [] → after ≡ before ++ map f (take (k + 1) moves)
-longer_more before mid after f moves k x low is so more =
-    let taken : take (k + 1) moves ≡ take k moves ++ x ∷ [] = take_more moves k x low ∙ ap (λ y. take k moves ++ y ∷ []) (sym is) in
-    more ∙ ap (λ ps. ps ++ f x ∷ []) so ∙ append_assoc before (map f (take k moves)) (f x ∷ [])
-    ∙ ap (λ ps. before ++ ps) (sym (ap (map f) taken ∙ map-append f (take k moves) (x ∷ [])))
 
 -- The user data that cancels name.
 

@@ -63,10 +63,6 @@ silent_logs_none r q (step.Finish n) (answer.Ended res bytes) log silent =
     let ends = silent.ends in absurd cc
 silent_logs_none r q s a log silent = refl
 
-not_false : (b : Bool) → not b ≡ true → b ≡ false
-not_false false e = refl
-not_false true e = absurd cc
-
 -- whoever starts runs
 pub runs_now : (r : Requests) (n : ℕ) → is_outstanding r n ≡ true
     → is_running (with_started r n) n ≡ true

@@ -1,7 +1,7 @@
 -- Which slot a file gets.
-use Rattle.std.proofs.Common.{◌≡◌, ℕ, ◌<◌, ◌≤◌, List, slice_index_or, sym, inl, inr, ◌∙◌, arith}
+use Rattle.std.proofs.Common.{◌≡◌, ℕ, ◌<◌, ◌≤◌, List, slice_index_or, sym, inl, ◌∙◌, arith}
 use Rattle.uring_register.specs.declared.table.Table.{Table}
-use Rattle.uring_register.specs.Tables.{Filing, content, size, start_by, NoneIsFree, IsFirstFree, IsGiven, GivesNone, KeepsTable}
+use Rattle.uring_register.specs.Tables.{Filing, content, size, start_by, NoneIsFree, IsFirstFree, IsGiven, KeepsTable}
 
 none_by : (f g : ℕ → ℕ) (from end most : ℕ) → ((s : ℕ) → s < most → f s ≡ g s) → end ≤ most
     → NoneIsFree f from end → NoneIsFree g from end
@@ -26,23 +26,3 @@ given_first log t rows start slot k is found =
     let within : t.end ≤ size log = omega (arith, k.in_table, k.count) in
     let so : IsFirstFree (content log) start t.end slot = first_by (word rows) (content log) start t.end (size log) slot k.words within found in
     rw (← k.range_from) (rw (← k.range_end) (rw (← k.hint) (inl (rw (← is) so))))
-
-pub given_second : (log : List Filing) (t : Table) (rows : List ℕ) (start slot : ℕ) → KeepsTable log t rows
-    → start ≡ start_by t.from t.end t.hint → start ≤ t.end
-    → NoneIsFree (word rows) start t.end → IsFirstFree (word rows) t.from start slot → IsGiven log slot
-given_second log t rows start slot k is le none found =
-    let within : t.end ≤ size log = omega (arith, k.in_table, k.count) in
-    let before : start ≤ size log = omega (arith, within, le) in
-    let so : IsFirstFree (content log) t.from start slot = first_by (word rows) (content log) t.from start (size log) slot k.words before found in
-    let not : NoneIsFree (content log) start t.end = none_by (word rows) (content log) start t.end (size log) k.words within none in
-    rw (← k.range_from) (rw (← k.range_end) (rw (← k.hint) (inr (rw (← is) (not, so)))))
-
-pub given_none : (log : List Filing) (t : Table) (rows : List ℕ) (start : ℕ) → KeepsTable log t rows
-    → start ≡ start_by t.from t.end t.hint → start ≤ t.end
-    → NoneIsFree (word rows) start t.end → NoneIsFree (word rows) t.from start → GivesNone log
-given_none log t rows start k is le none found =
-    let within : t.end ≤ size log = omega (arith, k.in_table, k.count) in
-    let before : start ≤ size log = omega (arith, within, le) in
-    let so : NoneIsFree (content log) t.from start = none_by (word rows) (content log) t.from start (size log) k.words before found in
-    let not : NoneIsFree (content log) start t.end = none_by (word rows) (content log) start t.end (size log) k.words within none in
-    rw (← k.range_from) (rw (← k.range_end) (rw (← k.hint) (rw (← is) (not, so))))

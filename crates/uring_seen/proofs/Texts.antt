@@ -1,13 +1,13 @@
 -- The texts of completions and numbers, each of one alone.
-use Rattle.std.proofs.Common.{◌≡◌, ◌≢◌, ℕ, ℤ, ◌+◌, ◌<◌, ◌≤◌, ◌^◌, true, false, List, [], ◌∷◌, ◌++◌, length, take, drop, get_or, Some, refl, sym, ap, subst, ◌∙◌, append_assoc, inl, inr, arith}
+use Rattle.std.proofs.Common.{◌≡◌, ◌≢◌, ℕ, ℤ, ◌+◌, ◌<◌, ◌≤◌, ◌^◌, true, false, List, [], ◌∷◌, ◌++◌, length, take, drop, get_or, Some, refl, sym, ap, subst, ◌∙◌, append_assoc, arith}
 use mathlib.Core.List.{head-eq_of_cons-eq, tail-eq_of_cons-eq}
 use Rattle.std.specs.Prelude.{codes, decimal}
 use Rattle.std.specs.Char.{is_ascii_digit}
 use Rattle.std.specs.Fmt.{signed_decimal}
 use Rattle.std.specs.List.{AllByRecursion, list_all}
-use Rattle.std.proofs.lemmas.Bool.{and_parts, cases_lt}
+use Rattle.std.proofs.lemmas.Bool.{and_parts}
 use Rattle.std.proofs.lemmas.Fmt.{digits_decimal}
-use Rattle.std.proofs.lemmas.List.{take-append-drop, drop_more, take_all, append_cancel_right}
+use Rattle.std.proofs.lemmas.List.{append_cancel_right}
 use Rattle.uring_entry.specs.Layout.{Cqe}
 use Rattle.uring_entry.specs.Requests.{no_bytes}
 use Rattle.uring_core.specs.declared.answer.Answer.TheVariants as answer
@@ -71,20 +71,6 @@ pub record IsCut (text front back : List ℕ) (n : ℕ) : Type 0 where
   pub none : HasNoBlank (take n text)
   pub here : n < length text → get_or text n 0 ≡ 32
 
-pub cut_parted : (text front back behind : List ℕ) (n : ℕ) → IsCut text front back n
-    → back ≡ 32 ∷ behind → IsParted text front behind
-cut_parted text front back behind n c e = record {
-  whole = sym (take-append-drop n text) ∙ ap (λ (l : List ℕ). l ++ drop n text) (sym c.front_is) ∙ ap (λ (l : List ℕ). front ++ l) (sym c.back_is ∙ e);
-  first = subst HasNoBlank (sym c.front_is) c.none;
-}
-
-pub cut_unparted : (text front back : List ℕ) (n : ℕ) → IsCut text front back n
-    → ((behind : List ℕ) → back ≢ 32 ∷ behind) → IsUnparted text
-cut_unparted text front back n c none = elim (cases_lt n (length text)) [
-  | inl lt ↦
-      let next : drop n text ≡ 32 ∷ drop (n + 1) text = drop_more text n 0 lt ∙ ap (λ (b : ℕ). b ∷ drop (n + 1) text) (c.here lt) in
-      absurd (none (drop (n + 1) text) (c.back_is ∙ next))
-  | inr ge ↦ subst HasNoBlank (take_all n text ge) c.none
 ]
 
 -- ---- completions

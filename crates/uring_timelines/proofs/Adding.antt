@@ -1,7 +1,6 @@
 -- The operations that may take effect before an end are those that are added for each that runs.
-use Rattle.std.proofs.Common.{◌≡◌, ◌==◌, ◌<◌, ◌+◌, ℕ, Bool, true, false, List, [], ◌∷◌, ◌++◌, Option, Some, None, length, drop, get_or, if◌then◌else◌, refl, sym, ap, subst, ◌∙◌, ◌⊎◌, inl, inr, arith, add-one, negsuc, map}
+use Rattle.std.proofs.Common.{◌≡◌, ◌==◌, ◌<◌, ◌+◌, ℕ, Bool, true, false, List, [], ◌∷◌, ◌++◌, Option, Some, None, if◌then◌else◌, refl, sym, ap, subst, ◌∙◌, ◌⊎◌, inl, inr, arith, negsuc, map}
 use Rattle.std.specs.Prelude.{Contains, is_some}
-use Rattle.std.proofs.Math.Seq.{drop-cons}
 use Rattle.std.proofs.lemmas.Bool.{eq-eqb, eqb-true, both_ways}
 use Rattle.std.proofs.lemmas.Option.{same_Some}
 use Rattle.std.proofs.lemmas.List.Elements.{Contains-append_left, Contains-append_right, Contains-push, Contains-push_cases}
@@ -202,13 +201,6 @@ pub record SoFar (files : List FileContents) (running : List Running) (left : Li
 none_there : {X : Type 0} (x : X) → Contains [] x → ⊥
 none_there x there = let low : there.0 < 0 = there.1 in omega (arith, low)
 
-pub so_far_none : (files : List FileContents) (running : List Running) (left : List Mark) (awaited : ℕ)
-    → SoFar files running left awaited [] []
-so_far_none files running left awaited = record {
-  right = λ x there. absurd (none_there x there);
-  all = λ x may one there. absurd (none_there one there);
-}
-
 adds_right : (files : List FileContents) (running : List Running) (left : List Mark) (n : ℕ) (old new : List Taker)
     → Adds (MayBe files running left n) old new
     → ((x : Taker) → Contains old x → MayTake (record { files = map plain files; running = running }) left x.number x.outcome)
@@ -249,9 +241,3 @@ so_far_all files running left awaited old new before adds = record {
   by x may false other =
       let in_list : StandsIn running x.number = stands_in running x.number _ may.runs in
       adds.kept x (before.all x may in_list.one in_list.there in_list.number (λ same. both_ways _ other (eq-eqb x.number awaited same)))
-
--- the marks that are left begin with one that isn't passed over
-pub end_drop : (left : List Mark) (n i : ℕ) (m : Mark) → i < length left → m ≡ get_or left i m
-    → end_in (drop i left) n ≡ end_in (m ∷ drop (i + 1) left) n
-end_drop left n i m low is =
-    ap (λ (ms : List Mark). end_in ms n) (drop-cons left i m low ∙ ap (λ (k : ℕ). get_or left i m ∷ drop k left) (sym (add-one i)) ∙ ap (λ (k : Mark). k ∷ drop (i + 1) left) (sym is))

@@ -1,10 +1,10 @@
 -- What a volume keeps when a write is folded.
-use Rattle.std.proofs.Common.{◌≡◌, ◌==◌, ◌+◌, ◌<◌, ◌≤◌, ◌-◌, ℕ, zero, suc, min, max, Bool, true, false, not, ◌&&◌, ◌||◌, List, [], ◌∷◌, ◌++◌, length, get_or, take, reverse, replicate, refl, sym, subst, ap, ◌∙◌, inl, inr, arith}
-use Rattle.std.specs.Prelude.{slice_index, Result, Ok, Err, Option, None, Some, IfSome, IfNone}
+use Rattle.std.proofs.Common.{◌≡◌, ◌==◌, ◌+◌, ◌<◌, ◌≤◌, ◌-◌, ℕ, zero, suc, min, max, Bool, true, false, not, ◌&&◌, ◌||◌, List, [], ◌∷◌, ◌++◌, length, get_or, take, reverse, refl, sym, subst, ap, ◌∙◌, inl, inr, arith}
+use Rattle.std.specs.Prelude.{Result, Ok, Err, Option, None, Some, IfSome, IfNone}
 use Rattle.std.specs.declared.alloc.AllocError.{AllocError}
 use Rattle.std.specs.List.{list_any, filter}
 use Rattle.std.proofs.lemmas.Bool.{cases_Bool, both_ways, false_from_ne_true, cond-true, cond-false, cond_both, or_cases, or_from, or_left, or_right, and_from, and_parts, eqb-true, eqb-false, eq-eqb, ne_eqb, not-true, not_from_false, lt-ltb, ltb-true, leb-true, le-leb}
-use Rattle.std.proofs.lemmas.List.{reverse-append, append-nil, append_assoc, length-append, length-replicate}
+use Rattle.std.proofs.lemmas.List.{reverse-append, append-nil, append_assoc}
 use Rattle.std.proofs.lemmas.List.Elements.{filter-append}
 use Rattle.std.proofs.lemmas.List.Folds.{list_any-append}
 use Rattle.uring_volume.proofs.Steps.{newest}
@@ -12,12 +12,10 @@ use Rattle.uring_volume.specs.Writes.{Write}
 use Rattle.uring_volume.specs.declared.event.Event.{Event}
 use Rattle.uring_volume.specs.declared.event.Event.TheVariants.{WriteIssued, WriteEnded, SyncIssued, SyncEnded, SyncFailed}
 use Rattle.uring_volume.specs.Events.{History, writes, has_ended, is_before, is_safe}
-use Rattle.uring_volume.specs.Images.{IsIn, is_under, end_of, byte_over}
+use Rattle.uring_volume.specs.Images.{IsIn, is_under}
 use Rattle.uring_volume.specs.Choices.{IsLawful, issued}
 use Rattle.uring_volume.specs.Volume.{Volume, but, is_one_of, running_writes, running_syncs, IsSound, IsHeld}
 use Rattle.uring_volume.specs.Folds.{IsFoldable, IsOver, is_of_write, without_write, overlap, is_in_way, can_fold, IsOneFolded, IsFoldedFrom}
-use Rattle.uring_volume.proofs.Painting.{below_or_from}
-use Rattle.uring_volume.proofs.Leaving.{padded}
 use Rattle.uring_volume.proofs.Fitting.{in_left, in_right}
 use Rattle.uring_volume.proofs.Chosen.{in_issued, of_issued, one_number}
 use Rattle.uring_volume.proofs.Numbers.{is_in_but, one_more}
@@ -409,44 +407,6 @@ issued_at (d ∷ es) (suc i) e w within at is =
     subst (λ ws. IsIn w ws) (sym (issued_first d es)) (in_right w (issued (d ∷ [])) (issued (reverse es)) (issued_at es i e w (omega arith) at is))
 
 -- A write over the first bytes.
-
-pub over_empty : (first : List ℕ) (w : Write) → length w.bytes ≡ 0 → IsOver first w first
-over_empty first w none = record {
-  len =
-      let ends : end_of w ≡ 0 = cond-true (length w.bytes == 0) 0 (w.off + length w.bytes) (eq-eqb (length w.bytes) 0 none) in
-      omega arith;
-  bytes = λ k. sym (cond-false (is_under w k) (slice_index w.bytes (k - w.off)) (slice_index first k) (false_from_ne_true (is_under w k) (λ is.
-      let parts = and_parts _ _ is in
-      let from : w.off ≤ k = leb-true w.off k parts.0 in
-      let to : k < w.off + length w.bytes = ltb-true k (w.off + length w.bytes) parts.1 in
-      let empty : length w.bytes ≡ 0 = none in
-      omega arith)));
-}
-
-pub over_long : (first grown now : List ℕ) (w : Write) (len : ℕ) → (length w.bytes ≡ 0 → ⊥)
-    → len ≡ max (length first) (w.off + length w.bytes)
-    → grown ≡ first ++ replicate (len - length first) 0 → length now ≡ length grown
-    → ((k : ℕ) → 0 ≤ k → k < len → get_or now k 0 ≡ byte_over (get_or grown k 0) (w ∷ []) k)
-    → ((k : ℕ) → len ≤ k → get_or now k 0 ≡ get_or grown k 0)
-    → IsOver first w now
-over_long first grown now w len some long padding same within after =
-    let ends : end_of w ≡ w.off + length w.bytes = cond-false (length w.bytes == 0) 0 (w.off + length w.bytes) (ne_eqb (length w.bytes) 0 some) in
-    let size : length grown ≡ length first + (len - length first) = ap length padding ∙ length-append first (replicate (len - length first) 0) ∙ ap (λ n. length first + n) (length-replicate (len - length first) 0) in
-    let total : length now ≡ max (length first) (end_of w) = omega (arith, size, ends, long, same) in
-    record {
-      len = total;
-      bytes = λ k. elim (below_or_from k len) [
-        | inl below ↦
-            let zero_on : 0 ≤ k = omega arith in
-            within k zero_on below ∙ ap (λ b. byte_over b (w ∷ []) k) (ap (λ xs. get_or xs k 0) padding ∙ padded first (len - length first) k)
-        | inr past ↦
-            after k past ∙ ap (λ xs. get_or xs k 0) padding ∙ padded first (len - length first) k
-            ∙ sym (cond-false (is_under w k) (slice_index w.bytes (k - w.off)) (slice_index first k) (false_from_ne_true (is_under w k) (λ is.
-            let parts = and_parts _ _ is in
-            let to : k < w.off + length w.bytes = ltb-true k (w.off + length w.bytes) parts.1 in
-            omega arith)))
-      ];
-    }
 
 -- What a call that folds one write, or none, makes of a volume.
 
