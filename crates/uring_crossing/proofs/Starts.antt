@@ -1,4 +1,4 @@
--- Which words ask for a machine or a ring that serves, and which don't.
+-- Which words ask for no walk.
 use Rattle.std.proofs.Common.{◌≡◌, ◌<◌, ◌≤◌, ℕ, List, sym, subst, ◌∙◌}
 use Rattle.std.specs.Prelude.{All}
 use Rattle.uring_entry.specs.Setup.{Setup}
@@ -7,12 +7,7 @@ use Rattle.uring_crossing.specs.Outcomes.{IsNoWalk}
 use Rattle.uring_crossing.specs.SetUps.{IsAskedFor}
 use Rattle.uring_crossing.specs.declared.set_up_words.SetupWords.{SetupWords}
 
--- A machine that begins on so many files.
-
-]
-
--- A ring that takes calls of these lengths in whole.
-
+-- a ring that doesn't take calls of these lengths in whole
 pub no_walk_long : (w : SetupWords) (s : Setup) (lens : List ℕ) → IsAskedFor w s
     → (All (λ len. len ≤ s.sq) lens → ⊥) → IsNoWalk w lens
 no_walk_long w s lens a long = λ t b takes.

@@ -1,19 +1,10 @@
 -- What stays and what changes as requests start and end, and how many of them are outstanding and running then. Other crates may import all of it.
 use Rattle.std.proofs.Common.{◌≡◌, ℕ, ◌+◌, ◌<◌, ℤ, true, false, ◌&&◌, List, [], ◌∷◌, ◌++◌, length, refl, ap, arith}
 use Rattle.std.proofs.lemmas.Bool.{and_parts, not-true, ltb-true}
-use Rattle.uring_entry.specs.Requests.{Requests, has_ended, is_outstanding, is_running, outstanding_in, running_in, no_bytes, with_started, with_ended}
+use Rattle.uring_entry.specs.Requests.{Requests, has_ended, is_outstanding, is_running, outstanding_in, running_in, with_started, with_ended}
 use Rattle.uring_entry.proofs.RequestLemmas.{is_running_ended_same, is_running_ended_other, is_running_started_same, is_running_started_other}
 use Rattle.uring_dispatch.specs.Window.{one_if}
 use Rattle.uring_dispatch.proofs.Counting.{count_below_changed}
-
--- An end at an issue leaves what was accepted, started and cut, and is one more end.
-pub record EndsOne (old new : Requests) (n : ℕ) (res : ℤ) : Type 0 where
-  pub accepted : new.accepted ≡ old.accepted
-  pub cuts : new.cuts ≡ old.cuts
-  pub started : new.started ≡ old.started
-  pub ended : new.ended ≡ old.ended ++ record { number = n; res = res; bytes = no_bytes } ∷ []
-
--- Counts.
 
 outstanding_parts : (r : Requests) (n : ℕ) → is_outstanding r n ≡ true → (n < length r.accepted) × (has_ended r n ≡ false)
 outstanding_parts r n e =

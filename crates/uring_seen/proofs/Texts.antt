@@ -63,16 +63,6 @@ pub none_and_one : (xs ys : List ℕ) → HasNoBlank (xs ++ 32 ∷ ys) → ⊥
 none_and_one [] ys h = h.0 refl
 none_and_one (x ∷ xs) ys h = none_and_one xs ys h.1
 
--- a cut before the first blank, or behind all
-pub record IsCut (text front back : List ℕ) (n : ℕ) : Type 0 where
-  pub front_is : front ≡ take n text
-  pub back_is : back ≡ drop n text
-  pub within : n ≤ length text
-  pub none : HasNoBlank (take n text)
-  pub here : n < length text → get_or text n 0 ≡ 32
-
-]
-
 -- ---- completions
 
 abbrev middle : ℕ → ℤ → List ℕ
