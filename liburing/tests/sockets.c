@@ -309,129 +309,6 @@ static void test_zero_copy(void)
     close_ring(&ring);
 }
 
-/* A receive of messages that goes on: each buffer has sizes and flags, room for an address and control data, and the bytes. */
-static void test_multishot_messages(void)
-{
-    struct ring ring;
-    static char memory[3][64];
-    struct msghdr message = {.msg_namelen = 16, .msg_controllen = 8};
-    struct io_uring_recvmsg_out told;
-    enum { IN_FRONT = sizeof told + 16 + 8 };
-    int ends[2];
-    check(socketpair(AF_UNIX, SOCK_DGRAM, 0, ends) == 0);
-    make_ring(&ring, 8, 0, 0);
-    struct io_uring_sqe *provide = put_plain(&ring, IORING_OP_PROVIDE_BUFFERS, 0, 3);
-    provide->addr = (uintptr_t)memory;
-    provide->len = IN_FRONT + 4;
-    check(result_of_one(&ring, 1) == 0);
-    for (int is_selecting = 0; is_selecting < 2; is_selecting++) {
-        struct io_uring_sqe *entry = put_transfer(&ring, IORING_OP_RECVMSG, 0, is_selecting ? IOSQE_BUFFER_SELECT : 0, ends[0], &message, 1, 0);
-        entry->ioprio = IORING_RECV_MULTISHOT;
-        entry->msg_flags = MSG_TRUNC;
-        if (!is_selecting)
-            check(result_of_one(&ring, 1) == -EINVAL);
-    }
-    check(enter(&ring, 1, 0, 0) == 1);
-    for (uint32_t i = 0; i < 4; i++) {
-        check(i < 3 ? enter_for(&ring, 1, 1000) == -ETIME : true);
-        check(send(ends[1], "longer", i == 0 ? 3 : 6, 0) > 0);
-        struct seen found = next_of(&ring);
-        if (i == 3) {
-            check(found.res == -ENOBUFS && found.flags == 0);
-            break;
-        }
-        const char *at = memory[0] + i * (IN_FRONT + 4);
-        memcpy(&told, at, sizeof told);
-        check(found.res == (i == 0 ? IN_FRONT + 3 : IN_FRONT + 4));
-        check(found.flags == (IORING_CQE_F_MORE | IORING_CQE_F_BUFFER | i << IORING_CQE_BUFFER_SHIFT));
-        check(told.payloadlen == (i == 0 ? 3 : 6) && !(told.flags & MSG_TRUNC) == (i == 0));
-        check(memcmp(at + IN_FRONT, "longer", i == 0 ? 3 : 4) == 0);
-    }
-    close(ends[0]);
-    close(ends[1]);
-    close_ring(&ring);
-}
-
-#define MESSAGE(name, name_size, vectors, count, control) {.msg_name = name, .msg_namelen = name_size, .msg_iov = vectors, .msg_iovlen = count, .msg_controllen = control}
-
-/* What is wrong with a message is a fault of its entry, and the call ends behind that: first what its address is, which only one that is sent
- * has read, then its vectors, then what stands in front of the bytes of one that goes on. Seen at a ring of Linux 6.18. */
-static void test_refused_messages(void)
-{
-    enum { NO_FAULT = 1, SELECTS = IOSQE_BUFFER_SELECT, GOES_ON = IORING_RECV_MULTISHOT };
-    static char bytes[8], name[128];
-    void *nowhere = (void *)8;
-    struct iovec one[] = {{bytes, 4}, {bytes, 4}}, negative = {bytes, SIZE_MAX};
-    const struct {
-        uint8_t opcode, flags;
-        uint16_t ioprio;
-        struct msghdr message;
-        int32_t res;
-    } rows[] = {
-        {IORING_OP_SENDMSG, 0, 0, MESSAGE(nowhere, 16, one, 1025, 0), -EFAULT}, {IORING_OP_SENDMSG, 0, 0, MESSAGE(nowhere, 0, one, 1, 0), NO_FAULT}, {IORING_OP_SENDMSG, 0, 0, MESSAGE(NULL, UINT32_MAX, one, 1, 0), NO_FAULT},
-        {IORING_OP_SENDMSG, 0, 0, MESSAGE(nowhere, UINT32_MAX, one, 1, 0), -EINVAL}, {IORING_OP_SENDMSG, 0, 0, MESSAGE(name, UINT32_MAX, one, 1025, 0), -EINVAL}, {IORING_OP_SENDMSG, 0, 0, MESSAGE(name, 1000, one, 1025, 0), -EMSGSIZE},
-        {IORING_OP_SENDMSG, 0, 0, MESSAGE(NULL, 0, nowhere, 1, 0), -EFAULT}, {IORING_OP_SENDMSG, 0, 0, MESSAGE(NULL, 0, nowhere, 1025, 0), -EMSGSIZE}, {IORING_OP_SENDMSG, 0, 0, MESSAGE(nowhere, 16, &negative, 1, 0), -EFAULT}, {IORING_OP_SENDMSG, 0, 0, MESSAGE(name, 1000, &negative, 1, 0), -EINVAL},
-        {IORING_OP_RECVMSG, 0, 0, MESSAGE(nowhere, 16, one, 1, 0), NO_FAULT}, {IORING_OP_RECVMSG, 0, 0, MESSAGE(nowhere, UINT32_MAX, nowhere, 1025, 0), -EINVAL}, {IORING_OP_RECVMSG, 0, 0, MESSAGE(NULL, UINT32_MAX, one, 1, 0), NO_FAULT}, {IORING_OP_RECVMSG, 0, 0, MESSAGE(NULL, UINT32_MAX, one, 1025, 0), -EMSGSIZE},
-        {IORING_OP_RECVMSG, SELECTS, 0, MESSAGE(NULL, 0, nowhere, 2, 0), -EINVAL}, {IORING_OP_RECVMSG, SELECTS, 0, MESSAGE(NULL, 0, nowhere, 1, 0), -EFAULT}, {IORING_OP_RECVMSG, SELECTS, 0, MESSAGE(NULL, 0, nowhere, 0, 0), NO_FAULT}, {IORING_OP_RECVMSG, SELECTS, 0, MESSAGE(NULL, 0, &negative, 1, 0), NO_FAULT},
-        {IORING_OP_RECVMSG, SELECTS, GOES_ON, MESSAGE(NULL, UINT32_MAX, one, 1, 0), -EOVERFLOW}, {IORING_OP_RECVMSG, SELECTS, GOES_ON, MESSAGE(name, UINT32_MAX, one, 1, 0), -EINVAL}, {IORING_OP_RECVMSG, SELECTS, GOES_ON, MESSAGE(NULL, UINT32_MAX, one, 2, 0), -EINVAL}, {IORING_OP_RECVMSG, SELECTS, GOES_ON, MESSAGE(name, 1, one, 1, INT32_MAX - 16), -EOVERFLOW},
-    };
-    struct ring ring;
-    int32_t results[2];
-    int ends[2];
-    if (is_under_valgrind())
-        return;
-    check(socketpair(AF_UNIX, SOCK_DGRAM, 0, ends) == 0);
-    make_ring(&ring, 8, 0, 0);
-    for (size_t i = 0; i < sizeof rows / sizeof *rows; i++) {
-        struct io_uring_sqe *entry = put(&ring, rows[i].opcode, 0, rows[i].flags);
-        entry->fd = ends[rows[i].opcode == IORING_OP_RECVMSG];
-        entry->addr = (uintptr_t)&rows[i].message;
-        entry->ioprio = rows[i].ioprio;
-        entry->msg_flags = rows[i].ioprio ? 0 : MSG_DONTWAIT;
-        entry->buf_group = 7;
-        put(&ring, IORING_OP_NOP, 1, 0);
-        uint32_t taken = (uint32_t)enter(&ring, 2, 0, 0);
-        check(taken == (rows[i].res == NO_FAULT ? 2 : 1));
-        check(taken == 2 || enter(&ring, 1, 0, 0) == 1);
-        reap_all(&ring, 2, results);
-        check(rows[i].res == NO_FAULT || results[0] == rows[i].res);
-        check(results[1] == 0);
-    }
-    close(ends[0]);
-    close(ends[1]);
-    close_ring(&ring);
-}
-
-/* The address of a message that waits is the one that it had when it was submitted. */
-static void test_addresses_are_copied(void)
-{
-    struct ring ring;
-    struct sockaddr_un {
-        sa_family_t family;
-        char path[16];
-    } address = {AF_UNIX, "\0wanted"};
-    char text[8] = "";
-    int to = socket(AF_UNIX, SOCK_DGRAM, 0), from = socket(AF_UNIX, SOCK_DGRAM, 0), ends[2];
-    memcpy(address.path + 8, &(pid_t){getpid()}, sizeof(pid_t));
-    check(bind(to, (void *)&address, sizeof address) == 0 && pipe(ends) == 0);
-    make_ring(&ring, 8, 0, 0);
-    struct iovec vector = {"message", 7};
-    struct msghdr message = {.msg_name = &address, .msg_namelen = sizeof address, .msg_iov = &vector, .msg_iovlen = 1};
-    put_transfer(&ring, IORING_OP_READ, 0, IOSQE_IO_LINK, ends[0], text, 1, 0);
-    put_transfer(&ring, IORING_OP_SENDMSG, 1, 0, from, &message, 1, 0);
-    check(enter(&ring, 2, 0, 0) == 2);
-    address.path[0] = 'x';
-    check(write(ends[1], "t", 1) == 1);
-    int32_t results[2];
-    reap_all(&ring, 2, results);
-    check(results[0] == 1 && results[1] == 7 && recv(to, text, 8, MSG_DONTWAIT) == 7 && memcmp(text, "message", 7) == 0);
-    for (int i = 0; i < 2; i++)
-        close(ends[i]);
-    close(to);
-    close(from);
-    close_ring(&ring);
-}
-
 int main(int count, char **words)
 {
     static const struct named tests[] = {
@@ -443,9 +320,6 @@ int main(int count, char **words)
         {"multishot accept", test_multishot_accept},
         {"cut receives", test_cut_receives},
         {"zero copy", test_zero_copy},
-        {"multishot messages", test_multishot_messages},
-        {"refused messages", test_refused_messages},
-        {"addresses are copied", test_addresses_are_copied},
     };
     return run_tests(tests, sizeof tests / sizeof *tests, count > 1 ? words[1] : NULL);
 }

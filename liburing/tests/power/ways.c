@@ -1,15 +1,10 @@
-/* One way after the other in which a program writes a file, syncs it and says so, and a check of what a crash has left.
- *
- *   ways run WAY [unsynced]     8 KB go to `data`; once they are safe, or, `unsynced`, once they are written, a line is printed
- *   ways check                  status 1: the line was printed, and `data` isn't whole
- *   ways list                   prints the ways
- *   ways run CASE, ways check CASE   what a parameter of `explore crash` decides: unit, replace, retry; and what nobody sees: killed
- */
+/* Each way in which a program writes a file and syncs it. */
 #define _GNU_SOURCE
+#include "ways.h"
+
 #include <fcntl.h>
 #include <pthread.h>
 #include <signal.h>
-#include <stdbool.h>
 #include <stdio.h>
 #include <stdlib.h>
 #include <string.h>
@@ -21,12 +16,10 @@
 #include <sys/wait.h>
 #include <unistd.h>
 
-enum { SIZE = 8192, SECTOR = 512 };
+char bytes[SIZE] __attribute__((aligned(4096)));
+bool is_synced = true;
 
-static char bytes[SIZE] __attribute__((aligned(4096)));
-static bool is_synced = true;
-
-static void demand(bool is_so, const char *what)
+void demand(bool is_so, const char *what)
 {
     if (!is_so) {
         perror(what);
@@ -34,27 +27,27 @@ static void demand(bool is_so, const char *what)
     }
 }
 
-static int make(const char *name, int flags)
+int make(const char *name, int flags)
 {
     int file = open(name, O_RDWR | O_CREAT | flags, 0600);
     demand(file >= 0, name);
     return file;
 }
 
-static void sync_folder(void)
+void sync_folder(void)
 {
     int folder = open(".", O_RDONLY | O_DIRECTORY);
     demand(fsync(folder) == 0, "fsync of the folder");
     close(folder);
 }
 
-static void sync_file(int file)
+void sync_file(int file)
 {
     if (is_synced)
         demand(fsync(file) == 0, "fsync");
 }
 
-static void put(int file, const char *from, size_t size, off_t offset)
+void put(int file, const char *from, size_t size, off_t offset)
 {
     demand(pwrite(file, from, size, offset) == (ssize_t)size, "pwrite");
 }
@@ -305,131 +298,11 @@ static void by_splice(void)
     sync_file(file);
 }
 
-/* Memory that nobody sees written, since the process is killed: the comparison at the end tells of it. */
-static void run_killed(void)
-{
-    int file = make("data", 0);
-    demand(ftruncate(file, SIZE) == 0, "ftruncate");
-    char *memory = mmap(NULL, SIZE, PROT_READ | PROT_WRITE, MAP_SHARED, file, 0);
-    demand(memory != MAP_FAILED, "mmap");
-    memcpy(memory, bytes, SIZE);
-    kill(getpid(), SIGKILL);
-}
-
-static const struct {
-    const char *name;
-    void (*write)(void);
-} ways[] = {
+const struct way ways[] = {
     {"write", by_write}, {"creat", by_creat}, {"writev", by_vectors}, {"pwritev2", by_flags}, {"dsync", by_synced_file},
     {"osync", by_wholly_synced_file}, {"direct", by_direct}, {"append", by_append}, {"stream", by_stream}, {"cut", by_cut},
     {"length", by_length}, {"room", by_room}, {"copy", by_copy}, {"sendfile", by_sendfile}, {"memory", by_memory},
     {"rename", by_rename}, {"link", by_link}, {"nameless", by_nameless}, {"symlink", by_symbolic_link},
     {"folder", by_folder}, {"exchange", by_exchange}, {"range", by_range}, {"child", by_child}, {"threads", by_threads}, {"inline", by_inline},
-    {"sync", by_whole_sync}, {"syncfs", by_disk_sync}, {"splice", by_splice},
+    {"sync", by_whole_sync}, {"syncfs", by_disk_sync}, {"splice", by_splice}, {NULL, NULL},
 };
-enum { WAYS = sizeof ways / sizeof *ways };
-
-/* A sector is written over, and is to be the old or the new one. */
-static void run_unit(void)
-{
-    int file = make("data", 0);
-    put(file, bytes, SECTOR, 0);
-    sync_file(file);
-    sync_folder();
-    puts("begun");
-    fflush(stdout);
-    memset(bytes, 'y', SECTOR);
-    put(file, bytes, SECTOR, 0);
-    sync_file(file);
-}
-
-/* A file is replaced by a rename, without a sync of the new one: the old or the new is to be there, and never an empty one. */
-static void run_replace(void)
-{
-    int file = make("data", 0);
-    put(file, bytes, SECTOR, 0);
-    sync_file(file);
-    sync_folder();
-    puts("begun");
-    fflush(stdout);
-    memset(bytes, 'y', SECTOR);
-    put(make("new", 0), bytes, SECTOR, 0);
-    demand(rename("new", "data") == 0, "rename");
-}
-
-/* An fsync that fails is called again, and then believed. */
-static void run_retry(void)
-{
-    int file = make("data", 0);
-    sync_folder();
-    put(file, bytes, SIZE, 0);
-    if (fsync(file) < 0 && fsync(file) < 0)
-        _exit(0);
-    puts("safe");
-}
-
-static bool is_printed(const char *word)
-{
-    char line[100];
-    while (fgets(line, sizeof line, stdin))
-        if (strncmp(line, word, strlen(word)) == 0)
-            return true;
-    return false;
-}
-
-/* Whether `data` has so many bytes, all of them one of these letters. */
-static bool is_whole(size_t size, const char *letters)
-{
-    static char found[2 * SIZE];
-    int file = open("data", O_RDONLY);
-    ssize_t length = file < 0 ? -1 : read(file, found, sizeof found);
-    if (length != (ssize_t)size || !strchr(letters, found[0]))
-        return false;
-    for (size_t i = 1; i < size; i++)
-        if (found[i] != found[0])
-            return false;
-    return true;
-}
-
-static int check(const char *what)
-{
-    bool is_half = what && (strcmp(what, "unit") == 0 || strcmp(what, "replace") == 0);
-    if (is_half ? !is_printed("begun") || is_whole(SECTOR, "xy") : !is_printed("safe") || is_whole(SIZE, "x"))
-        return 0;
-    puts("data isn't whole");
-    return 1;
-}
-
-static int run(const char *name)
-{
-    if (strcmp(name, "unit") == 0)
-        return run_unit(), 0;
-    if (strcmp(name, "replace") == 0)
-        return run_replace(), 0;
-    if (strcmp(name, "retry") == 0)
-        return run_retry(), 0;
-    if (strcmp(name, "killed") == 0)
-        return run_killed(), 0;
-    for (size_t i = 0; i < WAYS; i++)
-        if (strcmp(ways[i].name, name) == 0) {
-            ways[i].write();
-            sync_folder();
-            puts("safe");
-            return 0;
-        }
-    return 2;
-}
-
-int main(int argc, char **argv)
-{
-    memset(bytes, 'x', sizeof bytes);
-    is_synced = argc < 4;
-    if (argc > 1 && strcmp(argv[1], "list") == 0) {
-        for (size_t i = 0; i < WAYS; i++)
-            puts(ways[i].name);
-        return 0;
-    }
-    if (argc > 1 && strcmp(argv[1], "check") == 0)
-        return check(argc > 2 ? argv[2] : NULL);
-    return argc > 2 ? run(argv[2]) : 2;
-}
