@@ -1,6 +1,6 @@
 -- What a first line says of a set-up, and what follows of the lines that are taken in.
-use Rattle.std.proofs.Common.{◌≡◌, ℕ, ◌≤◌, ◌<◌, inl, inr, Bool, true, false, List, [], ◌∷◌, Option, Some, None, Result, Err, refl, sym, ap, subst, ◌∙◌, Bor, arith}
-use Rattle.std.specs.Prelude.{◌↔◌, codes, IsErrOf, if◌then◌else◌}
+use Rattle.std.proofs.Common.{◌≡◌, ℕ, ◌≤◌, inl, inr, true, List, ◌∷◌, Option, Some, Result, Err, refl, sym, ap, subst, ◌∙◌, Bor, arith}
+use Rattle.std.specs.Prelude.{◌↔◌, codes, IsErrOf}
 use Rattle.std.specs.Str.{bytes_eq}
 use Rattle.std.proofs.Math.ListN.{get_or}
 use Rattle.std.specs.Int.{IsNextPowerOfTwo}

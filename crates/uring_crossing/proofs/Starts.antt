@@ -1,5 +1,5 @@
 -- Which words ask for no walk.
-use Rattle.std.proofs.Common.{◌≡◌, ◌<◌, ◌≤◌, ℕ, List, sym, subst, ◌∙◌}
+use Rattle.std.proofs.Common.{◌≤◌, ℕ, List, sym, subst}
 use Rattle.std.specs.Prelude.{All}
 use Rattle.uring_entry.specs.Setup.{Setup}
 use Rattle.uring_entry.proofs.Powers.{rounded_once}

@@ -1,5 +1,5 @@
 -- That no file of a volume gets longer than files may be, and so no image does.
-use Rattle.std.proofs.Common.{◌≡◌, ◌≤◌, ◌+◌, ◌==◌, ℕ, max, List, [], ◌∷◌, length, refl, sym, subst, inl, inr, arith}
+use Rattle.std.proofs.Common.{◌≤◌, ◌+◌, ◌==◌, ℕ, max, List, [], ◌∷◌, length, refl, sym, subst, inl, inr, arith}
 use Rattle.std.proofs.lemmas.Bool.{cases_Bool, cond-true, cond-false}
 use Rattle.uring_files.specs.Contents.{max_len}
 use Rattle.uring_volume.specs.Writes.{Write}

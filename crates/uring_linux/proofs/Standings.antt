@@ -8,7 +8,7 @@ use Rattle.uring_entry.specs.Success as success
 use Rattle.uring_entry.specs.Below.{least_below, count_below}
 use Rattle.uring_entry.specs.Groups.{first_member}
 use Rattle.uring_entry.specs.Requests as manual
-use Rattle.uring_entry.specs.Requests.{Requests, entry_of, has_ended, has_started, is_outstanding, is_running, is_in_group, least_of}
+use Rattle.uring_entry.specs.Requests.{Requests, entry_of, has_ended, is_outstanding, is_running, is_in_group, least_of}
 use Rattle.uring_entry.specs.declared.errno.TheConstants.{ENOENT, EALREADY}
 use Rattle.uring_entry.proofs.BelowLemmas.{some_below_some, least_below_same}
 use Rattle.uring_entry.proofs.RequestLemmas.{is_in_own_group}

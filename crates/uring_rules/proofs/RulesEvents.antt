@@ -1,5 +1,5 @@
 -- What stays and what changes as requests start and end, and how many of them are outstanding and running then. Other crates may import all of it.
-use Rattle.std.proofs.Common.{◌≡◌, ℕ, ◌+◌, ◌<◌, ℤ, true, false, ◌&&◌, List, [], ◌∷◌, ◌++◌, length, refl, ap, arith}
+use Rattle.std.proofs.Common.{◌≡◌, ℕ, ◌+◌, ◌<◌, ℤ, true, false, List, length, refl, ap, arith}
 use Rattle.std.proofs.lemmas.Bool.{and_parts, not-true, ltb-true}
 use Rattle.uring_entry.specs.Requests.{Requests, has_ended, is_outstanding, is_running, outstanding_in, running_in, with_started, with_ended}
 use Rattle.uring_entry.proofs.RequestLemmas.{is_running_ended_same, is_running_ended_other, is_running_started_same, is_running_started_other}
