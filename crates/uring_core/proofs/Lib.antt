@@ -29,3 +29,5 @@ pub mod WholeCalls
 pub mod Outstanding
 pub mod NoStops
 pub mod TakenEntries
+-- By Linux's rules:
+pub mod LinuxHistories

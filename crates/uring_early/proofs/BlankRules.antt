@@ -1,65 +1,41 @@
 -- Requests stand as they do, by either's rules, whatever bytes they ended with.
-use Rattle.std.proofs.Common.{◌≡◌, ℕ, ℤ, Bool, true, false, not, ◌&&◌, if◌then◌else◌, List, ◌++◌, length, refl, ap, ap₂, ◌∙◌}
+use Rattle.std.proofs.Common.{◌≡◌, ℕ, ℤ, Bool, true, false, List, ◌++◌, map, refl, ap, ◌∙◌}
 use Rattle.uring_entry.specs.Layout.{Sqe}
-use Rattle.uring_entry.specs.Preparation.{is_cancel}
-use Rattle.uring_entry.specs.Requests.{Requests, entry_of, no_bytes}
+use Rattle.uring_entry.specs.Requests as manual
+use Rattle.uring_entry.specs.Requests.{Requests, Ending, no_bytes}
 use Rattle.uring_entry.specs.Setup.{Setup}
-use Rattle.uring_entry.proofs.BelowLemmas.{least_below_same}
-use Rattle.uring_linux.specs.LinuxRequests.{LinuxRequests, is_deferred}
-use Rattle.uring_rules.specs.Rules.{cancel_result, doomed_result, drains_called, drains_ended, ends_doomed, is_issuable, may_start, next_of, posts, with_issued_end}
+use Rattle.uring_linux.specs.LinuxRequests.{LinuxRequests, after_going_on}
+use Rattle.uring_linux.specs.declared.deferred.Deferred.{Deferred}
+use Rattle.uring_rules.specs.Rules.{drains_called, drains_ended, next_of, posts, with_issued_end}
 use Rattle.uring_core.specs.StepAnswers.{issue_answer}
 use Rattle.uring_core.specs.World.{World, requests_of}
-use Rattle.uring_core.specs.declared.answer.Answer.TheVariants as answer
-use Rattle.uring_early.proofs.BlankRequests as manual
-use Rattle.uring_early.proofs.BlankRequests.{blank_requests, chosen_same, ends_same, outstanding_same, running_same}
-use Rattle.uring_early.proofs.BlankLinux as kernel
-use Rattle.uring_early.proofs.BlankLinux.{blank_linux, called_same, ended_drains_same}
+use Rattle.uring_laws.proofs.AlikeRequests.{chosen_same}
+use Rattle.uring_laws.proofs.AlikeDrains.{called_same, going_same}
+use Rattle.uring_laws.proofs.AlikeLinux as kernel
+use Rattle.uring_laws.proofs.AlikeRules as alike
+use Rattle.uring_laws.proofs.Alike as worlds
+use Rattle.uring_early.proofs.BlankRequests.{blank_end, blank_requests, blank_same, ends_same}
 
-doomed_same : (linux : Bool) (r : Requests) (n : ℕ) → ends_doomed linux (blank_requests r) n ≡ ends_doomed linux r n
-doomed_same true r n = ap₂ (λ x y. x && y) (kernel.turn_same r n) (kernel.doomed_same r n)
-doomed_same false r n = manual.doomed_same r n
-
-doomed_result_same : (linux : Bool) (r : Requests) (n : ℕ) → doomed_result linux (blank_requests r) n ≡ doomed_result linux r n
-doomed_result_same true r n = refl
-doomed_result_same false r n = refl
-
-start_same : (linux : Bool) (l : LinuxRequests) (n : ℕ) → may_start linux (blank_linux l) n ≡ may_start linux l n
-start_same true l n = ap (λ b. b && not (is_deferred l n)) (kernel.turn_same l.requests n)
-start_same false l n = manual.ready_same l.requests n
-
-cancel_same : (linux : Bool) (r : Requests) (n : ℕ) → cancel_result linux (blank_requests r) n ≡ cancel_result linux r n
-cancel_same true r n = kernel.cancel_same r n
-cancel_same false r n = manual.cancel_same r n
-
-issuable_same : (linux : Bool) (l : LinuxRequests) (n : ℕ) → is_issuable linux (blank_linux l) n ≡ is_issuable linux l n
-issuable_same true l n = kernel.issuable_same l n
-issuable_same false l n = manual.issuable_same l.requests n
+abbrev pub blank_linux : LinuxRequests → LinuxRequests
+blank_linux l = record l { requests = blank_requests l.requests }
 
 pub next_same : (linux : Bool) (l : LinuxRequests) → next_of linux (blank_linux l) ≡ next_of linux l
 next_same linux l =
-    least_below_same (is_issuable linux (blank_linux l)) (is_issuable linux l) (length l.requests.accepted) (λ k lt. issuable_same linux l k)
+    let r : Requests = l.requests in
+    alike.next_of_same l r.started r.cancelled (map blank_end r.ended) (blank_same r) linux l.drains (λ is. refl)
 
 -- an issue is answered as it is, in a world of these requests without their bytes
 pub issue_same : (g : Setup) (w v : World) (n : ℕ) → requests_of v ≡ blank_linux (requests_of w)
     → issue_answer g v n ≡ issue_answer g w n
 issue_same g w v n is =
-    ap (λ (l : LinuxRequests). issue_answer g (record w { requests = l.requests; drains = l.drains }) n) is ∙ blank_issue where
-      r : Requests
-      r = w.requests
-
-      blank_issue : issue_answer g (record w { requests = blank_requests w.requests }) n ≡ issue_answer g w n
-      blank_issue = λ i.
-          if not (outstanding_same r n i) then answer.Unknown else
-          if running_same r n i then answer.Running else
-          if doomed_same g.linux r n i then answer.Ended (doomed_result_same g.linux r n i) no_bytes else
-          if not (start_same g.linux (requests_of w) n i) then answer.NotReady else
-          if is_cancel (entry_of r n) then answer.Ended (cancel_same g.linux r n i) no_bytes else
-          answer.Run
+    let r : Requests = w.requests in
+    ap (λ (l : LinuxRequests). issue_answer g (record w { requests = l.requests; drains = l.drains }) n) is
+    ∙ worlds.issue_same g w r.started r.cancelled (map blank_end r.ended) w.drains (blank_same r) (λ linux. refl) n
 
 -- ---- what is made of them
 
 pub posts_same : (linux : Bool) (r : Requests) (n : ℕ) (res : ℤ) → posts linux (blank_requests r) n res ≡ posts linux r n res
-posts_same true r n res = kernel.posts_same r n res
+posts_same true r n res = kernel.posts_same r r.started r.cancelled (map blank_end r.ended) (blank_same r) n res
 posts_same false r n res = refl
 
 pub issued_same : (linux : Bool) (r : Requests) (n : ℕ) (res : ℤ)
@@ -75,14 +51,20 @@ issued_same false r n res = λ i. record {
   accepted = r.accepted;
   cuts = r.cuts;
   started = r.started;
-  cancelled = r.cancelled ++ chosen_same r n res i;
+  cancelled = r.cancelled ++ chosen_same r r.started r.cancelled (map blank_end r.ended) (blank_same r) n res i;
   ended = ends_same r.ended n res no_bytes i;
 }
 
 pub drains_called_same : (linux : Bool) (l : LinuxRequests) (es : List Sqe) → drains_called linux (blank_linux l) es ≡ drains_called linux l es
-drains_called_same true l es = called_same l es
+drains_called_same true l es =
+    let r : Requests = l.requests in
+    called_same l r.started r.cancelled (map blank_end r.ended) (blank_same r).ended es
 drains_called_same false l es = refl
 
 pub drains_ended_same : (linux : Bool) (l : LinuxRequests) (n : ℕ) (res : ℤ) → drains_ended linux (blank_linux l) n res ≡ drains_ended linux l n res
-drains_ended_same true l n res = ended_drains_same l n res
+drains_ended_same true l n res =
+    let r : Requests = l.requests in
+    let q : Requests = manual.with_ended r n res no_bytes in
+    ap (λ (es : List Ending). record l.drains { deferred = after_going_on (record r { ended = es }) l.drains.deferred }) (ends_same r.ended n res no_bytes)
+    ∙ ap (λ (gs : List Deferred). record l.drains { deferred = gs }) (going_same q q.started q.cancelled (map blank_end q.ended) (blank_same q).ended l.drains.deferred)
 drains_ended_same false l n res = refl

@@ -9,7 +9,6 @@ pub mod Timelines
 pub mod Marking
 -- Requests and worlds, whatever bytes were given:
 pub mod BlankRequests
-pub mod BlankLinux
 pub mod BlankRules
 pub mod BlankWorlds
 -- The bytes of completions that were posted, and those that are known:

@@ -23,7 +23,7 @@ use Rattle.uring_core.specs.declared.answer.Answer.TheVariants as answer
 use Rattle.uring_core.proofs.Changes.{Change, refuses, takes, drops, closes, runs, dooms, cancels, finishes, change_of}
 use Rattle.uring_core.proofs.FileHistory.{files_kept, files_ended}
 use Rattle.uring_laws.specs.Swaps.{StandAlike, AreAlike, AlikeAnswerAlike, AlikeGoOnAlike, ChangeAnywhere}
-use Rattle.uring_laws.proofs.AlikeRequests.{AreSame, listed, outstanding_same, running_same}
+use Rattle.uring_laws.proofs.AlikeRequests.{AreSame, ReadSame, read_same, listed, outstanding_same, running_same}
 use Rattle.uring_laws.proofs.AlikeRules.{ends_doomed_same, may_start_same, cancel_result_same, posts_same, next_of_same, drains_called_same, drains_ended_same, issued_end_same, end_same, pushed}
 use Rattle.uring_laws.proofs.StartedRequests.{issued_by}
 use Rattle.uring_laws.proofs.WholeLaws.{lawful_apart}
@@ -33,9 +33,9 @@ use Rattle.uring_laws.proofs.WholeLaws.{lawful_apart}
 abbrev with_lists : World → List ℕ → List ℕ → List Ending → Drains → World
 with_lists w s c e d = record w { requests = listed w.requests s c e; drains = d }
 
--- by either's rules, with other lists in which the same is found, and with the same drains by Linux's
-module _ (g : Setup) (w : World) (s c : List ℕ) (e : List Ending) (d : Drains) (a : AreSame w.requests s c e) (same : g.linux ≡ true → w.drains ≡ d) where
-  issue_same : (n : ℕ) → issue_answer g (with_lists w s c e d) n ≡ issue_answer g w n
+-- by either's rules, with other lists of which the same is read, and with the same drains by Linux's
+module _ (g : Setup) (w : World) (s c : List ℕ) (e : List Ending) (d : Drains) (a : ReadSame w.requests s c e) (same : g.linux ≡ true → w.drains ≡ d) where
+  pub issue_same : (n : ℕ) → issue_answer g (with_lists w s c e d) n ≡ issue_answer g w n
   issue_same n =
       let r : Requests = w.requests in
       let q : Requests = listed r s c e in
@@ -73,7 +73,7 @@ pub alike_answer : (g : Setup) → AlikeAnswerAlike g
 alike_answer g v w s a al called =
     let same = same_but g v w al in
     subst (λ u. CalledFor g u s a) same
-    (called_same g v w.requests.started w.requests.cancelled w.requests.ended w.drains (lists_of g v w al) al.drains (al.files ∙ ap (files_of g) (sym same)) s a called)
+    (called_same g v w.requests.started w.requests.cancelled w.requests.ended w.drains (read_same v.requests w.requests.started w.requests.cancelled w.requests.ended (lists_of g v w al)) al.drains (al.files ∙ ap (files_of g) (sym same)) s a called)
 
 -- What each event makes of worlds that are alike.
 
@@ -112,13 +112,13 @@ module _ (g : Setup) (v : World) (s c : List ℕ) (e : List Ending) (d : Drains)
     requests = record { accepted = refl; cuts = refl; started = a.started; cancelled = a.cancelled; ended = a.ended };
     completions = refl;
     is_closed = refl;
-    drains = drains_called_same (requests_of v) s c e a g.linux d same (entries_from v.submission call.count);
+    drains = drains_called_same (requests_of v) s c e (read_same v.requests s c e a) g.linux d same (entries_from v.submission call.count);
   }
 
   posted_same : (n : ℕ) (res : ℤ) (bytes : List ℕ)
       → with_end_of g v n res bytes ≡ with_end_of g (with_lists v s c e d) n res bytes
   posted_same n res bytes =
-      ap (λ b. if b then with_posted g.cq v.completions (completion_for (entry_of v.requests n) res bytes) else v.completions) (sym (posts_same (requests_of v) s c e a g.linux n res))
+      ap (λ b. if b then with_posted g.cq v.completions (completion_for (entry_of v.requests n) res bytes) else v.completions) (sym (posts_same (requests_of v) s c e (read_same v.requests s c e a) g.linux n res))
 
   issued_rings : (n : ℕ) (res : ℤ) (bytes : List ℕ)
       → HaveSameRings g (happens g v (step.Issue n) (answer.Ended res bytes)) (happens g (with_lists v s c e d) (step.Issue n) (answer.Ended res bytes))

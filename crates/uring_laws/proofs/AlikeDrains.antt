@@ -1,6 +1,5 @@
 -- Who is in its turn, and what calls and ends make of the drains, by Linux's rules, reads of the lists of requests only which numbers have ended: who started counts for nothing there.
-use Rattle.std.proofs.Common.{◌≡◌, ℕ, ◌==◌, Bool, not, ◌&&◌, ◌||◌, nat_lt, if◌then◌else◌, List, [], ◌∷◌, length, refl, ap, ap₂, ◌∙◌}
-use Rattle.std.specs.List.{list_any}
+use Rattle.std.proofs.Common.{◌≡◌, ℕ, Bool, not, ◌&&◌, ◌||◌, nat_lt, if◌then◌else◌, List, [], ◌∷◌, length, refl, ap, ap₂, ◌∙◌}
 use Rattle.uring_entry.specs.Layout.{Sqe}
 use Rattle.uring_entry.specs.Requests as manual
 use Rattle.uring_entry.specs.Requests.{Requests, Ending, has_ended, is_joined, is_linked}
@@ -9,11 +8,7 @@ use Rattle.uring_linux.specs.Drains.{Drains, is_in_some, deferred_with, still_de
 use Rattle.uring_linux.specs.Happenings.{with_entries}
 use Rattle.uring_linux.specs.LinuxRequests.{LinuxRequests, after_going_on, is_alone, is_faulty_from, is_in_turn, keeps_back, with_accepted, with_cut, with_group, with_last_entry}
 use Rattle.uring_linux.specs.declared.deferred.Deferred.{Deferred}
-use Rattle.uring_laws.proofs.AlikeRequests.{listed}
-
--- the same numbers have ended, by another list
-abbrev pub EndSame : Requests → List Ending → Type 0
-EndSame r e = (n : ℕ) → list_any (λ x. x.number == n) e ≡ has_ended r n
+use Rattle.uring_laws.proofs.AlikeRequests.{listed, EndSame}
 
 module _ (r : Requests) (s c : List ℕ) (e : List Ending) (same : EndSame r e) where
   abbrev q : Requests

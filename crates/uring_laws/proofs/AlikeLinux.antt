@@ -1,5 +1,5 @@
--- Requests in whose lists the same is found stand alike by Linux's rules too.
-use Rattle.std.proofs.Common.{◌≡◌, ℕ, ◌==◌, ℤ, pos, neg_ℤ, not, ◌&&◌, ◌||◌, if◌then◌else◌, List, length, Option, Some, None, is_some, refl, sym, ap, ap₂, ◌∙◌}
+-- Requests with other lists, of which the definitions read the same, stand alike by Linux's rules too.
+use Rattle.std.proofs.Common.{◌≡◌, ℕ, ◌==◌, ℤ, pos, neg_ℤ, not, ◌&&◌, ◌||◌, if◌then◌else◌, List, length, Option, Some, None, is_some, refl, ap, ap₂, ◌∙◌}
 use Rattle.uring_entry.specs.declared.errno.TheConstants.{ENOENT, EALREADY}
 use Rattle.uring_entry.specs.Layout.{addr_of, user_data_of}
 use Rattle.uring_entry.specs.Preparation.{is_cancel_all}
@@ -8,11 +8,10 @@ use Rattle.uring_entry.specs.Why.{failed_member_of, is_failure_before}
 use Rattle.uring_entry.proofs.BelowLemmas.{least_below_same}
 use Rattle.uring_linux.specs.Drains.{Drains, is_in_some}
 use Rattle.uring_linux.specs.LinuxRequests.{breaker_of, cancel_result, first_of, found_by, is_doomed, is_found, is_in_faulty_group, is_in_turn, is_issuable, next_of, posts_behind}
-use Rattle.uring_laws.proofs.AlikeRequests.{AreSame, listed, behind_same, failed_same, outstanding_same, running_same}
+use Rattle.uring_laws.proofs.AlikeRequests.{ReadSame, listed, behind_same, outstanding_same, running_same}
 use Rattle.uring_laws.proofs.AlikeDrains as drains
-use Rattle.uring_laws.proofs.AlikeDrains.{EndSame}
 
-module _ (r : Requests) (s c : List ℕ) (e : List Ending) (a : AreSame r s c e) where
+module _ (r : Requests) (s c : List ℕ) (e : List Ending) (a : ReadSame r s c e) where
   abbrev q : Requests
   q = listed r s c e
 
@@ -23,11 +22,8 @@ module _ (r : Requests) (s c : List ℕ) (e : List Ending) (a : AreSame r s c e)
   pub doomed_same : (n : ℕ) → is_doomed q n ≡ is_doomed r n
   doomed_same n = ap₂ (λ x y. x || y) (faulty_same n) (behind_same r s c e a n)
 
-  pub ends_same : EndSame r e
-  ends_same n = sym (a.ended (λ x. x.number == n))
-
   pub turn_same : (n : ℕ) → is_in_turn q n ≡ is_in_turn r n
-  turn_same n = drains.turn_same r s c e ends_same n
+  turn_same n = drains.turn_same r s c e a.ended n
 
   found_same : (n : ℕ) → found_by q n ≡ found_by r n
   unfolding found_by
@@ -49,7 +45,7 @@ module _ (r : Requests) (s c : List ℕ) (e : List Ending) (a : AreSame r s c e)
   unfolding is_joined
   failed_one_same n =
       least_below_same (is_failure_before q n) (is_failure_before r n) n
-      (λ k lt. ap (λ b. is_joined r k n && is_soft (entry_of r k) && b) (failed_same r s c e a k))
+      (λ k lt. ap (λ b. is_joined r k n && is_soft (entry_of r k) && b) (a.failed k))
 
   breaker_same : (n : ℕ) → breaker_of q n ≡ breaker_of r n
   breaker_same n =

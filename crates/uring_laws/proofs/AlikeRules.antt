@@ -1,4 +1,4 @@
--- Requests in whose lists the same is found stand alike by the rules of each set-up, if by Linux's the drains stand the same.
+-- Requests with other lists, of which the definitions read the same, stand alike by the rules of each set-up, if by Linux's the drains stand the same.
 use Rattle.std.proofs.Common.{◌≡◌, ℕ, ◌==◌, ℤ, Bool, true, false, not, ◌&&◌, ◌++◌, ◌∷◌, [], List, refl, sym, ap, ap₂, ◌∙◌, ◌||◌}
 use Rattle.std.specs.List.{list_any}
 use Rattle.std.proofs.lemmas.List.Folds.{list_any-append}
@@ -10,7 +10,7 @@ use Rattle.uring_linux.specs.LinuxRequests.{LinuxRequests, is_deferred, is_in_tu
 use Rattle.uring_linux.specs.LinuxRequests as kernel
 use Rattle.uring_rules.specs.Rules.{ends_doomed, may_start, cancel_result, posts, next_of, with_issued_end, drains_called, drains_ended}
 use Rattle.uring_laws.specs.Swaps.{StandAlike}
-use Rattle.uring_laws.proofs.AlikeRequests.{AreSame, listed, doomed_same, ready_same, cancel_same, chosen_same, next_same}
+use Rattle.uring_laws.proofs.AlikeRequests.{AreSame, ReadSame, read_same, listed, doomed_same, ready_same, cancel_same, chosen_same, next_same}
 use Rattle.uring_laws.proofs.AlikeLinux as by_linux
 use Rattle.uring_laws.proofs.AlikeDrains.{called_same, going_same}
 
@@ -24,7 +24,7 @@ pushed p xs ys zs e =
 abbrev pub relisted : LinuxRequests → List ℕ → List ℕ → List Ending → Drains → LinuxRequests
 relisted l s c e d = record { requests = listed l.requests s c e; drains = d }
 
-module _ (l : LinuxRequests) (s c : List ℕ) (e : List Ending) (a : AreSame l.requests s c e) where
+module _ (l : LinuxRequests) (s c : List ℕ) (e : List Ending) (a : ReadSame l.requests s c e) where
   pub ends_doomed_same : (linux : Bool) (n : ℕ) → ends_doomed linux (listed l.requests s c e) n ≡ ends_doomed linux l.requests n
   ends_doomed_same true n =
       ap₂ (λ x y. x && y) (by_linux.turn_same l.requests s c e a n) (by_linux.doomed_same l.requests s c e a n)
@@ -55,9 +55,11 @@ module _ (l : LinuxRequests) (s c : List ℕ) (e : List Ending) (a : AreSame l.r
       → linux ≡ true → drains_called linux l entries ≡ drains_called linux (relisted l s c e d) entries
   drains_called_same true d same entries is =
       sym
-      (ap (λ (k : Drains). drains_called true (relisted l s c e k) entries) (sym (same refl)) ∙ called_same l s c e (by_linux.ends_same l.requests s c e a) entries)
+      (ap (λ (k : Drains). drains_called true (relisted l s c e k) entries) (sym (same refl)) ∙ called_same l s c e a.ended entries)
   drains_called_same false d same entries is = absurd (let f : false ≡ true = is in cc)
 
+-- and, where the same is found in the lists, once a request ends
+module _ (l : LinuxRequests) (s c : List ℕ) (e : List Ending) (a : AreSame l.requests s c e) where
   ended_same : (n : ℕ) (res : ℤ) (bytes : List ℕ)
       → AreSame (manual.with_ended l.requests n res bytes) s c (e ++ record { number = n; res = res; bytes = bytes } ∷ [])
   ended_same n res bytes = record {
@@ -86,7 +88,7 @@ module _ (l : LinuxRequests) (s c : List ℕ) (e : List Ending) (a : AreSame l.r
         accepted = refl;
         cuts = refl;
         started = same.started;
-        cancelled = λ p. pushed p l.requests.cancelled c (manual.chosen_by l.requests n res) (a.cancelled p) ∙ ap (λ xs. list_any p (c ++ xs)) (sym (chosen_same l.requests s c e a n res));
+        cancelled = λ p. pushed p l.requests.cancelled c (manual.chosen_by l.requests n res) (a.cancelled p) ∙ ap (λ xs. list_any p (c ++ xs)) (sym (chosen_same l.requests s c e (read_same l.requests s c e a) n res));
         ended = same.ended;
       }
 

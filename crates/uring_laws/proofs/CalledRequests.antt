@@ -17,7 +17,7 @@ use Rattle.uring_linux.proofs.Reaching.{IsBetween}
 use Rattle.uring_rules.specs.Rules.{ends_doomed, may_start}
 use Rattle.uring_rules.specs.RulesCalls.{called_by}
 use Rattle.uring_core.proofs.Groups.{longer, entry_kept, join_kept, member_kept, doom_kept}
-use Rattle.uring_laws.proofs.LinuxGroups.{in_pushed, pushed_old, still_fewer}
+use Rattle.uring_linux.proofs.InOrder.{in_pushed, pushed_old, still_fewer}
 use Rattle.uring_laws.proofs.LinuxSound.{doom_called}
 use Rattle.uring_laws.proofs.StartedRequests.{CanStart}
 

@@ -1,6 +1,5 @@
 -- The submission ring's lists, read off a history.
 use Rattle.std.proofs.Common.{◌≡◌, ℕ, ◌+◌, ◌≤◌, ◌==◌, Bool, true, false, ◌||◌, eqb, List, [], ◌∷◌, ◌++◌, length, map, sum, count_by, Option, Some, None, unwrap_or, if◌then◌else◌, cond, refl, sym, subst, ap, ap₂, ◌∙◌, arith, append-nil, append_assoc}
-use Rattle.std.specs.List.{list_any}
 use Rattle.std.specs.Option.{option_or}
 use Rattle.std.proofs.lemmas.Bool.{eq-eqb, ne_eqb, eqb-false, ltb-false}
 use Rattle.std.proofs.lemmas.List.{length_push, map-append}

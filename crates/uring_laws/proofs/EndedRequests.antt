@@ -16,7 +16,7 @@ use Rattle.uring_linux.proofs.Deferring.{not_alone}
 use Rattle.uring_rules.specs.Rules.{ends_doomed, may_start, posts, drains_ended}
 use Rattle.uring_core.proofs.ListCounts.{any_kept}
 use Rattle.uring_laws.proofs.AlikeDrains.{going_same}
-use Rattle.uring_laws.proofs.LinuxGroups.{still_fewer}
+use Rattle.uring_linux.proofs.InOrder.{still_fewer}
 use Rattle.uring_laws.proofs.LinuxSound as sound
 use Rattle.uring_laws.proofs.LinuxSound.{IsFirst, behind_end, doom_ended, doom_stays, first_ended, turn_first}
 use Rattle.uring_laws.proofs.StartedRequests.{CanStart}

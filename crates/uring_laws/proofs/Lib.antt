@@ -32,7 +32,6 @@ pub mod LinuxSound
 pub mod LinuxGroups
 pub mod LinuxKept
 pub mod LinuxDrains
-pub mod LinuxHistories
 pub mod LinuxLaws
 -- Events that change places:
 pub mod AlikeRequests

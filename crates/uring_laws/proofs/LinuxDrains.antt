@@ -1,7 +1,7 @@
 -- By Linux's rules what isn't deferred waits for no drain: whoever may start has nobody before it that a drain puts there. By what has happened, one submission call, start or end after the other.
 use Rattle.std.proofs.Common.{◌≡◌, ℕ, suc, ◌+◌, ◌-◌, ◌<◌, ◌≤◌, ℤ, min, max, length, Bool, true, false, not, ◌&&◌, ◌||◌, ◌==◌, List, [], ◌∷◌, refl, sym, ◌∙◌, ap, subst, arith, inl, inr, length-append}
-use Rattle.std.specs.Prelude.{if◌then◌else◌, nat_le, nat_lt}
-use Rattle.std.proofs.lemmas.Bool.{cases_lt, cases_Bool, eq-eqb, ne_eqb, lt-ltb, both_ways, and_left, and_right, and_from, and_parts, or_left, or_right, or_cases, or_parts, or_from, not-true, not-false, le-leb, leb-true, ltb-true, ltb-false, false_from_ne_true}
+use Rattle.std.specs.Prelude.{if◌then◌else◌, nat_lt}
+use Rattle.std.proofs.lemmas.Bool.{cases_lt, cases_Bool, eq-eqb, ne_eqb, lt-ltb, both_ways, and_left, and_right, and_from, and_parts, or_left, or_right, or_cases, or_parts, or_from, not-true, not-false, ltb-true, ltb-false, false_from_ne_true}
 use Rattle.uring_entry.specs.Layout.{Sqe}
 use Rattle.uring_entry.specs.Requests as manual
 use Rattle.uring_entry.specs.Requests.{Requests, entry_of, is_linked, is_drain, is_last, is_joined, is_in_group, has_started, has_ended, is_outstanding}
@@ -9,15 +9,17 @@ use Rattle.uring_entry.proofs.BelowLemmas.{some_below_none, some_below_some, som
 use Rattle.uring_entry.proofs.RequestLemmas.{is_joined_no, is_joined_yes, entry_of_accepted_at}
 use Rattle.uring_entry.proofs.GroupEvents.{is_last_cut, is_last_cut_last}
 use Rattle.uring_linux.specs.declared.deferred.Deferred.{Deferred}
-use Rattle.uring_linux.specs.Drains.{Drains, is_in_some, is_none, still_deferred, deferred_with, with_deferred, with_ring}
+use Rattle.uring_linux.specs.Drains.{Drains, is_in_some, still_deferred, deferred_with, with_deferred, with_ring}
 use Rattle.uring_linux.specs.LinuxRequests.{LinuxRequests, has_fault, is_let_in, is_granted_drain, is_in_faulty_group, is_deferred, is_alone, is_faulty_from, after_going_on, with_group, with_last_entry, with_accepted, with_cut, with_ended}
 use Rattle.uring_linux.specs.Happenings.{Happening, Call, Start, End, with_entries, made_by, MayHaveHappened}
 use Rattle.uring_linux.proofs.WindowEvents.{last_accepted, last_kept}
 use Rattle.uring_linux.proofs.Deferring.{not_alone}
 use Rattle.uring_linux.proofs.Standings.{fine_let_in}
+use Rattle.uring_linux.proofs.InOrder.{pushed_new, pushed_old, ring_off, order_higher, order_push, order_still}
+use Rattle.uring_linux.proofs.FaultsKept.{group_faulty, healthy_from}
 use Rattle.uring_linux.proofs.Reaching.{IsSettled, accepted_settled, all_between}
 use Rattle.uring_laws.specs.LinuxLaws.{is_first, owes_drain, may_take, is_owed_by, takes_drain, drains}
-use Rattle.uring_laws.proofs.LinuxGroups.{marks, IsTold, AreTold, told_higher, told_push, told_still, pushed_new, pushed_old, gone_calm, left_calm}
+use Rattle.uring_laws.proofs.LinuxGroups.{marks, IsTold, AreTold, gone_calm, left_calm}
 use Rattle.uring_laws.proofs.LinuxKept.{HasDrain, Waits, KeepsGroups, accepted_keeps, cut_keeps, started_keeps, ended_keeps, WaitForNone, RingDrains, IsOwed, IsDrained, more_waits, more_ring, more_told}
 
 -- Whoever goes on waits for nobody that hasn't ended.
@@ -68,17 +70,6 @@ module _ (r : Requests) (d : Drains) (i : IsAmid r d) where
   joined_new : (m n : ℕ) → d.from ≤ m → n < length r.accepted → is_joined r m n ≡ true
   joined_new m n low high = is_joined_yes r m n (λ k le lt. i.one k (omega (arith, low, le)) (omega (arith, lt, high)))
 
-  -- with a fault in the group, each member is in a group with a fault
-  faulty_new : (n : ℕ) → d.from ≤ n → n < length r.accepted → is_faulty_from r d.from ≡ true → is_in_faulty_group r n ≡ true
-  unfolding is_in_faulty_group is_faulty_from
-  faulty_new n low high e =
-      let found = some_below_in (λ m. nat_le d.from m && has_fault r m) (length r.accepted) e in
-      let m : ℕ = found.0 in
-      let parts = and_parts (nat_le d.from m) (has_fault r m) found.2 in
-      let under : d.from ≤ m = leb-true d.from m parts.0 in
-      some_below_some (λ j. is_in_group r j n && has_fault r j) (length r.accepted) m found.1
-      (and_from _ _ (joined_new (min m n) (max m n) (omega (arith, low, under)) (let within = found.1 in omega (arith, high, within))) parts.1)
-
   right_new : (n k : ℕ) → d.from ≤ n → n < length r.accepted → d.from ≤ k → k < length r.accepted → is_in_faulty_group r n ≡ false → has_fault r k ≡ false
   unfolding is_in_faulty_group
   right_new n k low high under within right = elim (cases_Bool (has_fault r k)) [
@@ -99,22 +90,18 @@ module _ (r : Requests) (d : Drains) (i : IsAmid r d) where
   g = record { from = d.from; end = length r.accepted; drains = d.group }
 
   told_new : is_faulty_from r d.from ≡ false → IsTold r g
-  unfolding is_faulty_from
   told_new right = record {
     begins = i.begins;
     ends = i.last;
     one = i.one;
-    told = λ still k le lt. i.group still k le lt (elim (cases_Bool (has_fault r k)) [
-      | inl fault ↦ absurd (both_ways _ (some_below_out (λ m. nat_le d.from m && has_fault r m) (length r.accepted) right k lt) (and_from _ _ (le-leb d.from k le) fault))
-      | inr none ↦ none
-    ]);
+    told = λ still k le lt. i.group still k le lt (healthy_from r d.from right k le lt);
   }
 
   abbrev all : List Deferred
   all = deferred_with d (length r.accepted)
 
   told_all : is_faulty_from r d.from ≡ false → AreTold r 0 all (length r.accepted)
-  told_all right = told_push r 0 d.deferred d.from g (omega arith) i.some (told_new right) i.told
+  told_all right = order_push (IsTold r) 0 d.deferred d.from g (omega arith) i.some (told_new right) i.told
 
   some_waits : (b : Bool) → (not d.ring || is_faulty_from r d.from) ≡ true → WaitForNone r (length r.accepted) d.deferred
   some_waits b e n m lt under apart out right w = elim (cases_lt n d.from) [
@@ -127,7 +114,7 @@ module _ (r : Requests) (d : Drains) (i : IsAmid r d) where
           | inr high ↦ absurd (both_ways _ apart (joined_new m n high lt))
         ]
       ]
-      | inr faulty ↦ absurd (both_ways _ right (faulty_new n past lt faulty))
+      | inr faulty ↦ absurd (both_ways _ right (group_faulty r d.from n i.one past lt faulty))
     ]
   ]
 
@@ -150,14 +137,6 @@ module _ (r : Requests) (d : Drains) (i : IsAmid r d) where
     | inr going ↦ absurd (both_ways _ (left_calm r 0 d.deferred g (length r.accepted) m (told_all fine) still none (alone_in r all m is lt going)) other.drains)
   ]
 
-  empty_is : (xs : List Deferred) → is_none xs ≡ true → xs ≡ []
-  empty_is [] e = refl
-  empty_is (x ∷ rest) e = absurd (let f : false ≡ true = e in cc)
-
-  ring_off : (ring drains : Bool) (xs : List Deferred) → ring ≡ true → (ring && (drains || not (is_none xs))) ≡ false → (drains ≡ false) × (xs ≡ [])
-  ring_off true drains xs is e = let p = or_parts drains (not (is_none xs)) e in (p.0, empty_is xs (not-false _ p.1))
-  ring_off false drains xs is e = absurd (let f : false ≡ true = is in cc)
-
   some_ring : RingDrains r (with_deferred d (length r.accepted) d.deferred)
   some_ring off m lt other = elim (cases_lt m d.from) [
     | inl before ↦ i.ring off m before other
@@ -172,7 +151,7 @@ module _ (r : Requests) (d : Drains) (i : IsAmid r d) where
       low = omega arith;
       begins = i.last;
       amid = λ k le lt. absurd (omega (arith, le, lt));
-      told = let lt = i.some in told_higher r 0 d.deferred d.from (length r.accepted) (omega (arith, lt)) i.told;
+      told = let lt = i.some in order_higher (IsTold r) 0 d.deferred d.from (length r.accepted) (omega (arith, lt)) i.told;
       waits = some_waits true e;
       ring = some_ring;
       group = λ still k le lt. absurd (omega (arith, le, lt));
@@ -185,7 +164,7 @@ module _ (r : Requests) (d : Drains) (i : IsAmid r d) where
           low = omega arith;
           begins = i.last;
           amid = λ k le lt. absurd (omega (arith, le, lt));
-          told = told_still r (is_alone r all) 0 all (length r.accepted) (told_all p.1);
+          told = order_still (IsTold r) (is_alone r all) 0 all (length r.accepted) (told_all p.1);
           waits = held_waits p.1;
           ring = λ off m lt other. let q = ring_off d.ring d.group (after_going_on r all) (not-false _ p.0) off in none_left (is_alone r all) refl p.1 q.0 q.1 m lt other;
           group = λ still k le lt. absurd (omega (arith, le, lt));
@@ -267,7 +246,7 @@ accepted_drained l e s i = go (is_linked e) refl where
       let p = or_parts l.drains.group _ still in
       let q = or_parts (is_granted_drain r last) _ p.1 in
       elim (cases_lt k last) [
-        | inl before ↦ keeps.drain k before ∙ i.group p.0 k le before (sym (keeps.fault k before) ∙ fine)
+        | inl before ↦ keeps.drain k before ∙ i.group p.0 k le before (sym (keeps.faults.fault k before) ∙ fine)
         | inr past ↦
             let same : last ≡ k = omega (arith, past, lt, more) in
             subst (λ j. has_fault r j ≡ false → marks r j ≡ false) same
@@ -421,7 +400,7 @@ end_drained l n res bytes i =
       low = i.low;
       begins = i.begins;
       amid = i.amid;
-      told = told_still q (is_alone q xs) 0 xs l.drains.from told;
+      told = order_still (IsTold q) (is_alone q xs) 0 xs l.drains.from told;
       waits = λ k m lt under apart out right w. elim (cases_Bool (is_in_some xs k)) [
         | inl here ↦ (let low = i.low in gone_ended q xs l.drains.from k m (is_alone q xs) refl told (omega (arith, lt, under, low)) under apart here out w)
         | inr never ↦ waits k m lt under apart never right w

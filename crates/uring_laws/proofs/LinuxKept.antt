@@ -1,21 +1,22 @@
 -- Of groups that drain by Linux's rules: what is so of the requests whatever happened, and stays as more is accepted behind them.
-use Rattle.std.proofs.Common.{◌≡◌, ℕ, suc, ◌-◌, ◌<◌, ◌≤◌, ℤ, min, max, length, true, false, not, ◌&&◌, ◌||◌, ◌==◌, List, [], ◌∷◌, refl, sym, ◌∙◌, ap, ap₂, arith, ◌⊎◌, inl, inr, length-append}
+use Rattle.std.proofs.Common.{◌≡◌, ℕ, suc, ◌-◌, ◌<◌, ◌≤◌, ℤ, min, max, length, true, false, not, ◌&&◌, ◌||◌, ◌==◌, List, refl, sym, ◌∙◌, ap, ap₂, arith, ◌⊎◌, inl, inr}
 use Rattle.std.specs.Prelude.{nat_le, nat_lt}
 use Rattle.std.proofs.lemmas.Bool.{cases_lt, both_ways, and_from, and_parts}
 use Rattle.uring_entry.specs.Layout.{Sqe}
-use Rattle.uring_entry.specs.Preparation.{is_faulty}
 use Rattle.uring_entry.specs.Requests as manual
 use Rattle.uring_entry.specs.Requests.{Requests, entry_of, is_linked, is_drain, is_last, is_joined, is_in_group, has_started, has_ended, is_outstanding}
-use Rattle.uring_entry.proofs.BelowLemmas.{some_below_none, some_below_some, some_below_in, some_below_out, some_below_same}
+use Rattle.uring_entry.proofs.BelowLemmas.{some_below_some, some_below_in, some_below_same}
 use Rattle.uring_entry.proofs.RequestLemmas.{is_joined_no}
 use Rattle.uring_entry.proofs.GroupEvents.{entry_same, is_last_cut}
 use Rattle.uring_linux.specs.declared.deferred.Deferred.{Deferred}
 use Rattle.uring_linux.specs.Drains.{Drains, is_in_some}
-use Rattle.uring_linux.specs.LinuxRequests.{is_past, is_let_in, has_fault, is_refused_drain, is_in_faulty_group}
+use Rattle.uring_linux.specs.LinuxRequests.{is_past, is_let_in, has_fault, is_in_faulty_group}
 use Rattle.uring_linux.proofs.WindowEvents.{refused_accepted, last_accepted, last_kept}
+use Rattle.uring_linux.proofs.InOrder.{order_kept}
+use Rattle.uring_linux.proofs.FaultsKept.{FaultsKept, joined_kept, right_kept, accepted_faults, cut_faults}
 use Rattle.uring_core.proofs.ListCounts.{any_kept}
 use Rattle.uring_laws.specs.LinuxLaws.{is_first, owes_drain, may_take, is_owed_by, drains}
-use Rattle.uring_laws.proofs.LinuxGroups.{marks, IsTold, AreTold, told_kept}
+use Rattle.uring_laws.proofs.LinuxGroups.{marks, IsTold, AreTold}
 
 -- n's group drains, and has no fault
 pub record HasDrain (r : Requests) (n : ℕ) : Type 0 where
@@ -30,29 +31,14 @@ Waits r n m = (drains r n ≡ true) ⊎ HasDrain r m
 
 -- the same entries and groups below a bound, and all that had ended
 pub record KeepsGroups (r q : Requests) : Type 0 where
-  pub count : length r.accepted ≤ length q.accepted
-  pub last : (k : ℕ) → suc k < length r.accepted → is_last q k ≡ is_last r k
+  pub faults : FaultsKept r q
   pub cut : (k : ℕ) → k < length r.accepted → is_last r k ≡ true → is_last q k ≡ true
   pub drain : (k : ℕ) → k < length r.accepted → marks q k ≡ marks r k
   pub take : (k : ℕ) → k < length r.accepted → may_take q k ≡ may_take r k
   pub owe : (k : ℕ) → k < length r.accepted → owes_drain q k ≡ owes_drain r k
-  pub fault : (k : ℕ) → k < length r.accepted → has_fault q k ≡ has_fault r k
   pub ended : (k : ℕ) → has_ended r k ≡ true → has_ended q k ≡ true
 
 module _ (r q : Requests) (same : KeepsGroups r q) where
-  joined_kept : (m n : ℕ) → n < length r.accepted → is_joined q m n ≡ is_joined r m n
-  unfolding is_joined
-  joined_kept m n lt =
-      ap not (some_below_same (λ k. nat_le m k && is_last q k) (λ k. nat_le m k && is_last r k) n (λ k low. ap (λ b. nat_le m k && b) (same.last k (omega (arith, low, lt)))))
-
-  right_kept : (n : ℕ) → n < length r.accepted → is_in_faulty_group q n ≡ false → is_in_faulty_group r n ≡ false
-  unfolding is_in_faulty_group
-  right_kept n lt e = some_below_none (λ m. is_in_group r m n && has_fault r m) (length r.accepted)
-      (λ m low.
-      let more = same.count in
-      sym (ap₂ (λ x y. x && y) (joined_kept (min m n) (max m n) (omega (arith, low, lt))) (same.fault m low))
-      ∙ some_below_out (λ j. is_in_group q j n && has_fault q j) (length q.accepted) e m (omega (arith, low, more)))
-
   -- a whole group, up to an end that was there before, drains only if it did
   draining_kept : (n end : ℕ) → end ≤ length r.accepted → n < end → ((k : ℕ) → suc k ≡ end → is_last r k ≡ true) → drains q n ≡ true → drains r n ≡ true
   draining_kept n end within lt ends e =
@@ -62,7 +48,7 @@ module _ (r q : Requests) (same : KeepsGroups r q) where
       elim (cases_lt m end) [
         | inl low ↦
             some_below_some (λ j. is_in_group r j n && marks r j) (length r.accepted) m (omega (arith, low, within))
-            (and_from _ _ (sym (joined_kept (min m n) (max m n) (omega (arith, low, lt, within))) ∙ parts.0) (sym (same.drain m (omega (arith, low, within))) ∙ parts.1))
+            (and_from _ _ (sym (joined_kept r q same.faults (min m n) (max m n) (omega (arith, low, lt, within))) ∙ parts.0) (sym (same.drain m (omega (arith, low, within))) ∙ parts.1))
         | inr past ↦
             absurd (both_ways (is_in_group q m n) (is_joined_no q (min m n) (max m n) (end - 1) (omega (arith, past, lt)) (omega (arith, past, lt)) (same.cut (end - 1) (omega (arith, lt, within)) (ends (end - 1) (omega (arith, lt))))) parts.0)
       ]
@@ -71,7 +57,7 @@ module _ (r q : Requests) (same : KeepsGroups r q) where
   told_more g some within is = record {
     begins = λ k e. same.cut k (omega (arith, e, some, within)) (is.begins k e);
     ends = λ k e. same.cut k (omega (arith, e, within)) (is.ends k e);
-    one = λ k le lt. same.last k (omega (arith, lt, within)) ∙ is.one k le lt;
+    one = λ k le lt. same.faults.last k (omega (arith, lt, within)) ∙ is.one k le lt;
     told = λ still k le lt. same.drain k (omega (arith, lt, within)) ∙ is.told still k le lt;
   }
 
@@ -116,14 +102,11 @@ let_in_accepted r e k lt =
 
 pub accepted_keeps : (r : Requests) (e : Sqe) → KeepsGroups r (manual.with_accepted r e)
 accepted_keeps r e = record {
-  count = let more = length-append r.accepted (e ∷ []) in omega (arith, more);
-  last = λ k lt. last_accepted r e k (omega (arith, lt));
+  faults = accepted_faults r e;
   cut = λ k lt is. last_accepted r e k lt ∙ is;
   drain = λ k lt. marks_same r q k (last k lt) (let_in k lt) (drain k lt);
   take = λ k lt. takes_as_before r q k (last k lt) (let_in k lt) (drain k lt);
   owe = λ k lt. owes_as_before r q k (last k lt) (let_in k lt) (drain k lt);
-  fault = λ k lt. ap (λ b. b || is_refused_drain (manual.with_accepted r e) k) (entry_same r e is_faulty k lt)
-      ∙ ap (λ b. is_faulty (entry_of r k) || b) (refused_accepted r e k lt);
   ended = λ k is. is;
 } where
   q : Requests
@@ -140,13 +123,11 @@ accepted_keeps r e = record {
 
 pub cut_keeps : (r : Requests) → KeepsGroups r (manual.with_cut r)
 cut_keeps r = record {
-  count = omega arith;
-  last = λ k lt. is_last_cut r k (λ e. absurd (omega (arith, e, lt)));
+  faults = cut_faults r;
   cut = λ k lt is. last_kept r k is;
   drain = λ k lt. marks_same r (manual.with_cut r) k (last k lt) (λ j le. refl) (λ j le. refl);
   take = λ k lt. takes_as_before r (manual.with_cut r) k (last k lt) (λ j le. refl) (λ j le. refl);
   owe = λ k lt. owes_as_before r (manual.with_cut r) k (last k lt) (λ j le. refl) (λ j le. refl);
-  fault = λ k lt. refl;
   ended = λ k is. is;
 } where
   last : (n : ℕ) → n < length r.accepted → (k : ℕ) → k < n → is_last (manual.with_cut r) k ≡ is_last r k
@@ -155,26 +136,22 @@ cut_keeps r = record {
 pub started_keeps : (r : Requests) (n : ℕ) → KeepsGroups r (manual.with_started r n)
 unfolding is_joined
 started_keeps r n = record {
-  count = omega arith;
-  last = λ k lt. refl;
+  faults = record { count = omega arith; last = λ k lt. refl; fault = λ k lt. refl };
   cut = λ k lt is. is;
   drain = λ k lt. refl;
   take = λ k lt. refl;
   owe = λ k lt. refl;
-  fault = λ k lt. refl;
   ended = λ k is. is;
 }
 
 pub ended_keeps : (r : Requests) (n : ℕ) (res : ℤ) (bytes : List ℕ) → KeepsGroups r (manual.with_ended r n res bytes)
 unfolding is_joined
 ended_keeps r n res bytes = record {
-  count = omega arith;
-  last = λ k lt. refl;
+  faults = record { count = omega arith; last = λ k lt. refl; fault = λ k lt. refl };
   cut = λ k lt is. is;
   drain = λ k lt. refl;
   take = λ k lt. refl;
   owe = λ k lt. refl;
-  fault = λ k lt. refl;
   ended = λ k is. any_kept (λ e. e.number == k) r.ended _ is;
 }
 
@@ -211,17 +188,17 @@ module _ (r q : Requests) (d : Drains) (same : KeepsGroups r q) (i : IsDrained r
   waits_before n m lt under (inl drains) = let low = i.low in inl (draining_kept r q same n d.from low lt i.begins drains)
   waits_before n m lt under (inr other) =
       let low = i.low in
-      inr (record { drains = draining_kept r q same m d.from low (omega (arith, lt, under)) i.begins other.drains; right = right_kept r q same m (omega (arith, lt, under, low)) other.right })
+      inr (record { drains = draining_kept r q same m d.from low (omega (arith, lt, under)) i.begins other.drains; right = right_kept r q same.faults m (omega (arith, lt, under, low)) other.right })
 
   pub more_waits : WaitForNone q d.from d.deferred
   more_waits n m lt under apart out right w =
       let low = i.low in
-      same.ended m (i.waits n m lt under (sym (joined_kept r q same m n (omega (arith, lt, low))) ∙ apart) out (right_kept r q same n (omega (arith, lt, low)) right) (waits_before n m lt under w))
+      same.ended m (i.waits n m lt under (sym (joined_kept r q same.faults m n (omega (arith, lt, low))) ∙ apart) out (right_kept r q same.faults n (omega (arith, lt, low)) right) (waits_before n m lt under w))
 
   pub more_ring : RingDrains q d
   more_ring off m lt other =
       let low = i.low in
-      same.ended m (i.ring off m lt (record { drains = draining_kept r q same m d.from low lt i.begins other.drains; right = right_kept r q same m (omega (arith, lt, low)) other.right }))
+      same.ended m (i.ring off m lt (record { drains = draining_kept r q same m d.from low lt i.begins other.drains; right = right_kept r q same.faults m (omega (arith, lt, low)) other.right }))
 
   pub more_told : AreTold q 0 d.deferred d.from
-  more_told = told_kept r q 0 d.deferred d.from i.told (λ g some within is. let low = i.low in told_more r q same g some (omega (arith, within, low)) is)
+  more_told = order_kept (IsTold r) (IsTold q) 0 d.deferred d.from i.told (λ g there some within is. let low = i.low in told_more r q same g some (omega (arith, within, low)) is)

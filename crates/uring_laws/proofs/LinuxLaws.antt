@@ -33,10 +33,10 @@ use Rattle.uring_laws.specs.LinuxLaws.{DoomedNeverRun, DoomedStayDoomed, Cancell
 use Rattle.uring_laws.proofs.ToldRequests.{tells_requests}
 use Rattle.uring_laws.proofs.Growth.{grows, event_grows, then_grows, lawful_before}
 use Rattle.uring_laws.proofs.OrderLaws.{refused_no_end, refused_no_run}
-use Rattle.uring_laws.proofs.LinuxHistories.{HasHappened, history_happens}
+use Rattle.uring_core.proofs.LinuxHistories.{by_linux, HasHappened, history_happens}
 use Rattle.uring_laws.proofs.LinuxKept.{Waits}
 use Rattle.uring_laws.proofs.LinuxDrains.{waits_for_none}
-use Rattle.uring_laws.proofs.LinuxSound.{by_linux, IsFirst, IsSoundLinux, is_otherwise, turn_first, doom_started, doom_stays, doom_called, Starts, starts_so, linux_sound}
+use Rattle.uring_laws.proofs.LinuxSound.{IsFirst, IsSoundLinux, is_otherwise, turn_first, doom_started, doom_stays, doom_called, Starts, starts_so, linux_sound}
 
 -- The doomed.
 

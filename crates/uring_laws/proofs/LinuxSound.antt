@@ -25,10 +25,7 @@ use Rattle.uring_core.proofs.Groups.{longer, entry_kept, join_kept}
 use Rattle.uring_core.proofs.ListCounts.{any_kept, any_new, any_looser}
 use Rattle.uring_core.proofs.SoundRequests.{IsSoundRequests, outstanding_tells}
 use Rattle.uring_core.proofs.Sound.{sound_of}
-
--- the same set-up, with Linux's rules
-abbrev pub by_linux : Setup → Setup
-by_linux g = record g { linux = true }
+use Rattle.uring_core.proofs.LinuxHistories.{by_linux}
 
 -- what is so of each set-up once its rules are Linux's is so of those of which they are
 pub of_linux : (P : Setup → Type 0) → ((g : Setup) → P (by_linux g)) → (g : Setup)

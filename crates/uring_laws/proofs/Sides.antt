@@ -49,26 +49,6 @@ dropped_sub : (g : Setup) (w : World) (o : Option Call)
 dropped_sub g w None = refl
 dropped_sub g w (Some call) = refl
 
-sub_alone : (g : Setup) (w : World) (s : Step) (a : Answer) → Change g w s a → IsOnSubmission s
-    → happens g w s a ≡ submitted w (happens g w s a).submission
-sub_alone g w s a (refuses _ _ same silent) on =
-    same w ∙ ap (λ (v : World). submitted w v.submission) (sym (same w))
-sub_alone g w s a (takes entry call place opened left at valid) on =
-    taken_sub g w entry w.submission.call
-sub_alone g w s a (drops call place opened left at invalid) on =
-    dropped_sub g w w.submission.call
-sub_alone g w s a (closes accepted missed head call opened all told) on = absurd on
-sub_alone g w s a (runs n outstanding idle spared ready no_cancel) on = absurd on
-sub_alone g w s a (dooms n outstanding idle doomed) on = absurd on
-sub_alone g w s a (cancels n outstanding idle spared ready cancel) on = absurd on
-sub_alone g w s a (finishes n res bytes running) on = absurd on
-sub_alone g w s a (flushes moved) on = absurd on
-sub_alone g w s a (sees_tail tail) on = absurd on
-sub_alone g w s a (reaps completion next) on = absurd on
-sub_alone g w s a (stores_head head) on = absurd on
-sub_alone g w s a (shuts none) on = absurd on
-sub_alone g w s a _ on = refl
-
 taken_with : (g : Setup) (w : World) (x : Rest) (entry : Sqe) (o : Option Call)
     → taking_entry_of g (with_rest w x) entry o ≡ with_rest (taking_entry_of g w entry o) x
 taken_with g w x entry None = refl
@@ -79,26 +59,32 @@ dropped_with : (g : Setup) (w : World) (x : Rest) (o : Option Call)
 dropped_with g w x None = refl
 dropped_with g w x (Some call) = refl
 
--- whatever the rest is
-sub_with : (g : Setup) (w : World) (x : Rest) (s : Step) (a : Answer) → Change g w s a → IsOnSubmission s
-    → happens g (with_rest w x) s a ≡ with_rest (happens g w s a) x
-sub_with g w x s a (refuses _ _ same silent) on =
-    same (with_rest w x) ∙ ap (λ (v : World). with_rest v x) (sym (same w))
-sub_with g w x s a (takes entry call place opened left at valid) on =
-    taken_with g w x entry w.submission.call
-sub_with g w x s a (drops call place opened left at invalid) on =
-    dropped_with g w x w.submission.call
-sub_with g w x s a (closes accepted missed head call opened all told) on = absurd on
-sub_with g w x s a (runs n outstanding idle spared ready no_cancel) on = absurd on
-sub_with g w x s a (dooms n outstanding idle doomed) on = absurd on
-sub_with g w x s a (cancels n outstanding idle spared ready cancel) on = absurd on
-sub_with g w x s a (finishes n res bytes running) on = absurd on
-sub_with g w x s a (flushes moved) on = absurd on
-sub_with g w x s a (sees_tail tail) on = absurd on
-sub_with g w x s a (reaps completion next) on = absurd on
-sub_with g w x s a (stores_head head) on = absurd on
-sub_with g w x s a (shuts none) on = absurd on
-sub_with g w x s a _ on = refl
+-- it is the only one that changes, and whatever the rest is
+record OnSubmission (g : Setup) (w : World) (s : Step) (a : Answer) : Type 0 where
+  alone : happens g w s a ≡ submitted w (happens g w s a).submission
+  beside : (x : Rest) → happens g (with_rest w x) s a ≡ with_rest (happens g w s a) x
+
+on_submission : (g : Setup) (w : World) (s : Step) (a : Answer) → Change g w s a → IsOnSubmission s
+    → OnSubmission g w s a
+on_submission g w s a (refuses _ _ same silent) on = record {
+  alone = same w ∙ ap (λ (v : World). submitted w v.submission) (sym (same w));
+  beside = λ x. same (with_rest w x) ∙ ap (λ (v : World). with_rest v x) (sym (same w));
+}
+on_submission g w s a (takes entry call place opened left at valid) on =
+    record { alone = taken_sub g w entry w.submission.call; beside = λ x. taken_with g w x entry w.submission.call }
+on_submission g w s a (drops call place opened left at invalid) on =
+    record { alone = dropped_sub g w w.submission.call; beside = λ x. dropped_with g w x w.submission.call }
+on_submission g w s a (closes accepted missed head call opened all told) on = absurd on
+on_submission g w s a (runs n outstanding idle spared ready no_cancel) on = absurd on
+on_submission g w s a (dooms n outstanding idle doomed) on = absurd on
+on_submission g w s a (cancels n outstanding idle spared ready cancel) on = absurd on
+on_submission g w s a (finishes n res bytes running) on = absurd on
+on_submission g w s a (flushes moved) on = absurd on
+on_submission g w s a (sees_tail tail) on = absurd on
+on_submission g w s a (reaps completion next) on = absurd on
+on_submission g w s a (stores_head head) on = absurd on
+on_submission g w s a (shuts none) on = absurd on
+on_submission g w s a _ on = record { alone = refl; beside = λ x. refl }
 
 -- an end as a request is issued changes neither entries nor cuts, by either's rules
 issued_alone : (linux : Bool) (r : Requests) (n : ℕ) (res : ℤ)
@@ -113,82 +99,57 @@ ends_alone : (g : Setup) (w : World) (n : ℕ) (res : ℤ) (bytes : List ℕ)
 ends_alone g w n res bytes =
     ap (λ (q : Requests). record w { requests = q; drains = drains_ended g.linux (requests_of w) n res; completions = with_end_of g w n res no_bytes }) (issued_alone g.linux w.requests n res)
 
-rest_alone : (g : Setup) (w : World) (t : Step) (b : Answer) → Change g w t b → IsOnRest t
-    → happens g w t b ≡ with_rest w (rest_of (happens g w t b))
-rest_alone g w t b (refuses _ _ same silent) on =
-    same w ∙ ap (λ (v : World). with_rest w (rest_of v)) (sym (same w))
-rest_alone g w t b (fills slot entry free) on = absurd on
-rest_alone g w t b (stages word free) on = absurd on
-rest_alone g w t b (stores tail) on = absurd on
-rest_alone g w t b (loads head) on = absurd on
-rest_alone g w t b (begins count open_ring none unspent) on = absurd on
-rest_alone g w t b (takes entry call place opened left at valid) on = absurd on
-rest_alone g w t b (drops call place opened left at invalid) on = absurd on
-rest_alone g w t b (closes accepted missed head call opened all told) on = absurd on
-rest_alone g w t b (shuts none) on = absurd on
-rest_alone g w t b (dooms n outstanding idle doomed) on = ends_alone g w n _ no_bytes
-rest_alone g w t b (cancels n outstanding idle spared ready cancel) on = ends_alone g w n _ no_bytes
-rest_alone g w t b _ on = refl
+-- the rest is all that changes, and whatever the submission ring is
+record OnRest (g : Setup) (w : World) (t : Step) (b : Answer) : Type 0 where
+  alone : happens g w t b ≡ with_rest w (rest_of (happens g w t b))
+  beside : (x : Submission) → happens g (submitted w x) t b ≡ submitted (happens g w t b) x
 
--- whatever the submission ring is
-rest_with : (g : Setup) (w : World) (x : Submission) (t : Step) (b : Answer) → Change g w t b → IsOnRest t
-    → happens g (submitted w x) t b ≡ submitted (happens g w t b) x
-rest_with g w x t b (refuses _ _ same silent) on =
-    same (submitted w x) ∙ ap (λ (v : World). submitted v x) (sym (same w))
-rest_with g w x t b (fills slot entry free) on = absurd on
-rest_with g w x t b (stages word free) on = absurd on
-rest_with g w x t b (stores tail) on = absurd on
-rest_with g w x t b (loads head) on = absurd on
-rest_with g w x t b (begins count open_ring none unspent) on = absurd on
-rest_with g w x t b (takes entry call place opened left at valid) on = absurd on
-rest_with g w x t b (drops call place opened left at invalid) on = absurd on
-rest_with g w x t b (closes accepted missed head call opened all told) on = absurd on
-rest_with g w x t b (shuts none) on = absurd on
-rest_with g w x t b _ on = refl
+on_rest : (g : Setup) (w : World) (t : Step) (b : Answer) → Change g w t b → IsOnRest t → OnRest g w t b
+on_rest g w t b (refuses _ _ same silent) on = record {
+  alone = same w ∙ ap (λ (v : World). with_rest w (rest_of v)) (sym (same w));
+  beside = λ x. same (submitted w x) ∙ ap (λ (v : World). submitted v x) (sym (same w));
+}
+on_rest g w t b (fills slot entry free) on = absurd on
+on_rest g w t b (stages word free) on = absurd on
+on_rest g w t b (stores tail) on = absurd on
+on_rest g w t b (loads head) on = absurd on
+on_rest g w t b (begins count open_ring none unspent) on = absurd on
+on_rest g w t b (takes entry call place opened left at valid) on = absurd on
+on_rest g w t b (drops call place opened left at invalid) on = absurd on
+on_rest g w t b (closes accepted missed head call opened all told) on = absurd on
+on_rest g w t b (shuts none) on = absurd on
+on_rest g w t b (dooms n outstanding idle doomed) on =
+    record { alone = ends_alone g w n _ no_bytes; beside = λ x. refl }
+on_rest g w t b (cancels n outstanding idle spared ready cancel) on =
+    record { alone = ends_alone g w n _ no_bytes; beside = λ x. refl }
+on_rest g w t b _ on = record { alone = refl; beside = λ x. refl }
 
 -- Answers.
 
-sub_called : (g : Setup) (w : World) (x : Rest) (s : Step) (a : Answer) → IsOnSubmission s
-    → CalledFor g w s a → CalledFor g (with_rest w x) s a
-sub_called g w x (step.Fill slot entry) a on called = called
-sub_called g w x (step.Index word) a on called = called
-sub_called g w x step.StoreTail a on called = called
-sub_called g w x step.LoadHead a on called = called
-sub_called g w x (step.Begin count) a on called = called
-sub_called g w x step.Take a on called = called
-sub_called g w x _ a on called = absurd on
+-- called for in the one world exactly if in the other
+abbrev CalledAlike : Setup → World → World → Step → Answer → Type 0
+CalledAlike g v w s a = (CalledFor g v s a → CalledFor g w s a) × (CalledFor g w s a → CalledFor g v s a)
 
-sub_called_before : (g : Setup) (w : World) (x : Rest) (s : Step) (a : Answer) → IsOnSubmission s
-    → CalledFor g (with_rest w x) s a → CalledFor g w s a
-sub_called_before g w x (step.Fill slot entry) a on called = called
-sub_called_before g w x (step.Index word) a on called = called
-sub_called_before g w x step.StoreTail a on called = called
-sub_called_before g w x step.LoadHead a on called = called
-sub_called_before g w x (step.Begin count) a on called = called
-sub_called_before g w x step.Take a on called = called
-sub_called_before g w x _ a on called = absurd on
+sub_called : (g : Setup) (w : World) (x : Rest) (s : Step) (a : Answer) → IsOnSubmission s
+    → CalledAlike g w (with_rest w x) s a
+sub_called g w x (step.Fill slot entry) a on = (λ called. called, λ called. called)
+sub_called g w x (step.Index word) a on = (λ called. called, λ called. called)
+sub_called g w x step.StoreTail a on = (λ called. called, λ called. called)
+sub_called g w x step.LoadHead a on = (λ called. called, λ called. called)
+sub_called g w x (step.Begin count) a on = (λ called. called, λ called. called)
+sub_called g w x step.Take a on = (λ called. called, λ called. called)
+sub_called g w x _ a on = absurd on
 
 rest_called : (g : Setup) (w : World) (x : Submission) (t : Step) (b : Answer) → IsOnRest t
-    → CalledFor g w t b → CalledFor g (submitted w x) t b
-rest_called g w x (step.Issue n) b on called = called
-rest_called g w x (step.Finish n) b on called = called
-rest_called g w x step.Flush b on called = called
-rest_called g w x step.LoadCqTail b on called = called
-rest_called g w x step.Reap b on called = called
-rest_called g w x step.StoreCqHead b on called = called
-rest_called g w x step.Next b on called = called
-rest_called g w x _ b on called = absurd on
-
-rest_called_before : (g : Setup) (w : World) (x : Submission) (t : Step) (b : Answer) → IsOnRest t
-    → CalledFor g (submitted w x) t b → CalledFor g w t b
-rest_called_before g w x (step.Issue n) b on called = called
-rest_called_before g w x (step.Finish n) b on called = called
-rest_called_before g w x step.Flush b on called = called
-rest_called_before g w x step.LoadCqTail b on called = called
-rest_called_before g w x step.Reap b on called = called
-rest_called_before g w x step.StoreCqHead b on called = called
-rest_called_before g w x step.Next b on called = called
-rest_called_before g w x _ b on called = absurd on
+    → CalledAlike g w (submitted w x) t b
+rest_called g w x (step.Issue n) b on = (λ called. called, λ called. called)
+rest_called g w x (step.Finish n) b on = (λ called. called, λ called. called)
+rest_called g w x step.Flush b on = (λ called. called, λ called. called)
+rest_called g w x step.LoadCqTail b on = (λ called. called, λ called. called)
+rest_called g w x step.Reap b on = (λ called. called, λ called. called)
+rest_called g w x step.StoreCqHead b on = (λ called. called, λ called. called)
+rest_called g w x step.Next b on = (λ called. called, λ called. called)
+rest_called g w x _ b on = absurd on
 
 record Sides (g : Setup) (h : History) (s t : Step) (a b : Answer) : Type 0 where
   later : ChangePlaces g h (s, a) (t, b)
@@ -202,17 +163,19 @@ both_sides g h s t a b on other one two lawful =
     let d : Change g w t b = change_of g w t b (lawful_apart g ((t, b) ∷ h) (two, lawful)).0 in
     let x : Submission = (happens g w s a).submission in
     let y : Rest = rest_of (happens g w t b) in
-    let sub : happens g w s a ≡ submitted w x = sub_alone g w s a c on in
-    let rest : happens g w t b ≡ with_rest w y = rest_alone g w t b d other in
-    let left : world g ((t, b) ∷ (s, a) ∷ h) ≡ submitted (with_rest w y) x = ap (λ (v : World). happens g v t b) sub ∙ (rest_with g w x t b d other ∙ ap (λ (v : World). submitted v x) rest) in
-    let right : world g ((s, a) ∷ (t, b) ∷ h) ≡ submitted (with_rest w y) x = ap (λ (v : World). happens g v s a) rest ∙ (sub_with g w y s a c on ∙ ap (λ (v : World). with_rest v y) sub) in
+    let one_side : OnSubmission g w s a = on_submission g w s a c on in
+    let other_side : OnRest g w t b = on_rest g w t b d other in
+    let sub : happens g w s a ≡ submitted w x = one_side.alone in
+    let rest : happens g w t b ≡ with_rest w y = other_side.alone in
+    let left : world g ((t, b) ∷ (s, a) ∷ h) ≡ submitted (with_rest w y) x = ap (λ (v : World). happens g v t b) sub ∙ (other_side.beside x ∙ ap (λ (v : World). submitted v x) rest) in
+    let right : world g ((s, a) ∷ (t, b) ∷ h) ≡ submitted (with_rest w y) x = ap (λ (v : World). happens g v s a) rest ∙ (one_side.beside y ∙ ap (λ (v : World). with_rest v y) sub) in
     record {
       later = record {
-        lawful = (subst (λ v. CalledFor g v s a) (sym rest) (sub_called g w y s a on one), (two, lawful));
+        lawful = (subst (λ v. CalledFor g v s a) (sym rest) ((sub_called g w y s a on).0 one), (two, lawful));
         alike = alike_same g _ _ (left ∙ sym right);
       };
       earlier = record {
-        lawful = (subst (λ v. CalledFor g v t b) (sym sub) (rest_called g w x t b other two), (one, lawful));
+        lawful = (subst (λ v. CalledFor g v t b) (sym sub) ((rest_called g w x t b other).0 two), (one, lawful));
         alike = alike_same g _ _ (right ∙ sym left);
       };
     }
@@ -221,12 +184,12 @@ pub submission_then_rest : (g : Setup) → SubmissionThenRest g
 submission_then_rest g h s t a b on other lawful =
     let w : World = world g h in
     let c : Change g w s a = change_of g w s a (lawful_apart g ((s, a) ∷ h) lawful.1).0 in
-    let two : CalledFor g w t b = rest_called_before g w (happens g w s a).submission t b other (subst (λ v. CalledFor g v t b) (sub_alone g w s a c on) lawful.0) in
+    let two : CalledFor g w t b = (rest_called g w (happens g w s a).submission t b other).1 (subst (λ v. CalledFor g v t b) (on_submission g w s a c on).alone lawful.0) in
     (both_sides g h s t a b on other lawful.1.0 two lawful.1.1).later
 
 pub rest_then_submission : (g : Setup) → RestThenSubmission g
 rest_then_submission g h s t a b on other lawful =
     let w : World = world g h in
     let d : Change g w t b = change_of g w t b (lawful_apart g ((t, b) ∷ h) lawful.1).0 in
-    let one : CalledFor g w s a = sub_called_before g w (rest_of (happens g w t b)) s a on (subst (λ v. CalledFor g v s a) (rest_alone g w t b d other) lawful.0) in
+    let one : CalledFor g w s a = (sub_called g w (rest_of (happens g w t b)) s a on).1 (subst (λ v. CalledFor g v s a) (on_rest g w t b d other).alone lawful.0) in
     (both_sides g h s t a b on other one lawful.1.0 lawful.1.1).earlier

@@ -12,7 +12,6 @@ use Rattle.std.proofs.lemmas.List.Sums.{sum_by_push}
 use Rattle.std.proofs.lemmas.Option.{slice_get-get_or}
 use Rattle.uring_entry.specs.Setup.{Setup}
 use Rattle.uring_entry.specs.Layout.{Sqe}
-use Rattle.uring_entry.specs.Preparation.{is_faulty}
 use Rattle.uring_entry.specs.Submission.{Submission, Place, place_of, taken, staged, is_busy, is_full, with_closed, call_length, Published, with_entry, bad_word, item_of, IsItem}
 use Rattle.uring_core.specs.World.{World, happens, taking, ending, ending_of}
 use Rattle.uring_core.specs.StepAnswers.{CalledForApart, OrAgain, is_spent, place_answer, entry_answer}

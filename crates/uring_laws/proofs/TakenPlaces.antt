@@ -1,14 +1,11 @@
 -- Which positions were taken.
-use Rattle.std.proofs.Common.{◌≡◌, ℕ, ◌+◌, false, nat_lt, List, [], ◌∷◌, ◌++◌, take, map, Option, Some, None, slice_get, get_or, refl, sym, ap, ◌∙◌, arith, append-nil}
-use Rattle.std.specs.List.{cons_option}
+use Rattle.std.proofs.Common.{◌≡◌, ℕ, ◌+◌, false, nat_lt, [], ◌∷◌, ◌++◌, take, map, Some, None, slice_get, refl, sym, ap, ◌∙◌, arith, append-nil}
 use Rattle.std.proofs.lemmas.Bool.{ltb-false}
-use Rattle.std.proofs.lemmas.List.{take-append-le, take_more}
-use Rattle.std.proofs.lemmas.List.Elements.{filter_map-append}
+use Rattle.std.proofs.lemmas.List.{take-append-le}
 use Rattle.std.proofs.lemmas.List.Sums.{sum_by_push}
-use Rattle.std.proofs.lemmas.Option.{slice_get_within, get_or_from_slice_get}
 use Rattle.uring_entry.specs.Setup.{Setup, IsWithinLimits}
 use Rattle.uring_entry.specs.Layout.{Sqe}
-use Rattle.uring_entry.specs.Submission.{Submission, Call, Place, taken, entries_of, place_of, call_length}
+use Rattle.uring_entry.specs.Submission.{Call, Place, taken, entries_of, place_of, call_length}
 use Rattle.uring_core.specs.Stops.{open_taken, reached}
 use Rattle.uring_core.specs.World.{World, happens, taking_of, taking_entry_of, ending_of}
 use Rattle.uring_core.specs.Histories.{History, world, IsLawfulApart}

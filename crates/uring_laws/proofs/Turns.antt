@@ -12,8 +12,8 @@ use Rattle.uring_core.specs.Histories.{History, world, IsLawfulApart}
 use Rattle.uring_core.proofs.Sound.{sound_of}
 use Rattle.uring_core.proofs.SoundRequests.{outstanding_tells}
 use Rattle.uring_laws.proofs.EndedRequests.{IsApart, not_over}
-use Rattle.uring_laws.proofs.LinuxHistories.{history_happens}
-use Rattle.uring_laws.proofs.LinuxSound.{IsFirst, by_linux, of_linux, linux_sound, turn_first}
+use Rattle.uring_core.proofs.LinuxHistories.{by_linux, history_happens}
+use Rattle.uring_laws.proofs.LinuxSound.{IsFirst, of_linux, linux_sound, turn_first}
 
 between_by_linux : (g : Setup) (h : History) → IsLawfulApart (by_linux g) h → IsBetween (requests_of (world (by_linux g) h))
 between_by_linux g h lawful =

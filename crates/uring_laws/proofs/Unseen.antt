@@ -1,6 +1,6 @@
 -- A start changes places with each step that is on the rings, by either's rules: `start_then_rings` and `rings_then_start`.
 -- Such a step asks nobody who runs; of the requests it changes at most which are accepted, behind all that there are.
-use Rattle.std.proofs.Common.{◌≡◌, ℕ, ◌<◌, ◌==◌, true, not, ◌∷◌, length, Option, Some, None, refl, sym, subst, ap, ◌∙◌, ◌⊎◌}
+use Rattle.std.proofs.Common.{◌≡◌, ℕ, ◌<◌, ◌==◌, true, not, List, ◌∷◌, length, Option, Some, None, refl, sym, subst, ap, ◌∙◌, ◌⊎◌}
 use Rattle.std.specs.List.{list_any}
 use Rattle.std.proofs.lemmas.Bool.{and_parts, ltb-true}
 use Rattle.uring_entry.specs.Setup.{Setup}
@@ -8,6 +8,7 @@ use Rattle.uring_entry.specs.Layout.{Sqe}
 use Rattle.uring_entry.specs.Submission.{Call, entries_from}
 use Rattle.uring_entry.specs.Requests.{has_ended}
 use Rattle.uring_linux.specs.Drains.{Drains}
+use Rattle.uring_linux.specs.LinuxRequests.{LinuxRequests}
 use Rattle.uring_linux.proofs.Reaching.{IsBetween}
 use Rattle.uring_core.specs.World.{World, requests_of, happens, taking_of, taking_entry_of, ending_of}
 use Rattle.uring_core.specs.CalledFor.{CalledFor, IsLawful}
@@ -24,19 +25,13 @@ use Rattle.uring_laws.proofs.Turns.{between}
 use Rattle.uring_laws.proofs.Swapping.{begun, alike_same}
 use Rattle.uring_laws.proofs.WholeLaws.{lawful_apart}
 
-called_without : (g : Setup) (w : World) (n : ℕ) (s : Step) (a : Answer) → IsOnRings s
-    → CalledFor g (begun w n) s a → CalledFor g w s a
-called_without g w n (step.Issue m) a on called = absurd on
-called_without g w n (step.Finish m) a on called = absurd on
-called_without g w n step.Next a on called = absurd on
-called_without g w n _ a on called = called
-
-called_with : (g : Setup) (w : World) (n : ℕ) (s : Step) (a : Answer) → IsOnRings s
-    → CalledFor g w s a → CalledFor g (begun w n) s a
-called_with g w n (step.Issue m) a on called = absurd on
-called_with g w n (step.Finish m) a on called = absurd on
-called_with g w n step.Next a on called = absurd on
-called_with g w n _ a on called = called
+-- called for exactly if it is without the start
+called_either : (g : Setup) (w : World) (n : ℕ) (s : Step) (a : Answer) → IsOnRings s
+    → (CalledFor g (begun w n) s a → CalledFor g w s a) × (CalledFor g w s a → CalledFor g (begun w n) s a)
+called_either g w n (step.Issue m) a on = absurd on
+called_either g w n (step.Finish m) a on = absurd on
+called_either g w n step.Next a on = absurd on
+called_either g w n _ a on = (λ called. called, λ called. called)
 
 -- Both orders make the same.
 
@@ -75,15 +70,20 @@ made_either g w n s a _ on = refl
 -- Who could start before such a step can start behind it, and the other way round.
 
 module _ (g : Setup) (w : World) (n : ℕ) (cut : (length w.requests.accepted ≡ 0) ⊎ (list_any (λ c. c == length w.requests.accepted) w.requests.cuts ≡ true)) (so : g.linux ≡ true → IsBetween (requests_of w)) (within : n < length w.requests.accepted) where
-  closed_later : (o : Option Call) → CanStart g.linux (requests_of w) n → CanStart g.linux (requests_of (ending_of g w o)) n
-  closed_later None c = c
-  closed_later (Some call) c =
-      start_kept (requests_of w) (entries_from w.submission call.count) cut n within g.linux so c
+  abbrev can : LinuxRequests → Type 0
+  can l = CanStart g.linux l n
 
-  closed_earlier : (o : Option Call) → CanStart g.linux (requests_of (ending_of g w o)) n → CanStart g.linux (requests_of w) n
-  closed_earlier None c = c
-  closed_earlier (Some call) c =
-      start_was (requests_of w) (entries_from w.submission call.count) cut n within g.linux so c
+  abbrev Either : World → Type 0
+  Either v = (can (requests_of w) → can (requests_of v)) × (can (requests_of v) → can (requests_of w))
+
+  same_either : (l : LinuxRequests) → l ≡ requests_of w → (can (requests_of w) → can l) × (can l → can (requests_of w))
+  same_either l same = (subst can (sym same), subst can same)
+
+  closed_start : (o : Option Call) → Either (ending_of g w o)
+  closed_start None = (λ c. c, λ c. c)
+  closed_start (Some call) =
+      let entries : List Sqe = entries_from w.submission call.count in
+      (start_kept (requests_of w) entries cut n within g.linux so, start_was (requests_of w) entries cut n within g.linux so)
 
   taken_requests : (entry : Sqe) (o : Option Call) → requests_of (taking_entry_of g w entry o) ≡ requests_of w
   taken_requests entry None = refl
@@ -93,47 +93,26 @@ module _ (g : Setup) (w : World) (n : ℕ) (cut : (length w.requests.accepted �
   dropped_requests None = refl
   dropped_requests (Some call) = refl
 
-  start_later : (s : Step) (a : Answer) → Change g w s a → IsOnRings s → CanStart g.linux (requests_of w) n
-      → CanStart g.linux (requests_of (happens g w s a)) n
-  start_later s a (refuses _ _ same silent) on c =
-      subst (λ (v : World). CanStart g.linux (requests_of v) n) (sym (same w)) c
-  start_later s a (takes entry call place opened left at valid) on c =
-      subst (λ l. CanStart g.linux l n) (sym (taken_requests entry w.submission.call)) c
-  start_later s a (drops call place opened left at invalid) on c =
-      subst (λ l. CanStart g.linux l n) (sym (dropped_requests w.submission.call)) c
-  start_later s a (closes accepted missed head call opened all told) on c =
-      closed_later w.submission.call c
-  start_later s a (runs m outstanding idle spared ready no_cancel) on c = absurd on
-  start_later s a (dooms m outstanding idle doomed) on c = absurd on
-  start_later s a (cancels m outstanding idle spared ready cancel) on c = absurd on
-  start_later s a (finishes m res bytes running) on c = absurd on
-  start_later s a _ on c = c
-
-  start_earlier : (s : Step) (a : Answer) → Change g w s a → IsOnRings s
-      → CanStart g.linux (requests_of (happens g w s a)) n → CanStart g.linux (requests_of w) n
-  start_earlier s a (refuses _ _ same silent) on c =
-      subst (λ (v : World). CanStart g.linux (requests_of v) n) (same w) c
-  start_earlier s a (takes entry call place opened left at valid) on c =
-      subst (λ l. CanStart g.linux l n) (taken_requests entry w.submission.call) c
-  start_earlier s a (drops call place opened left at invalid) on c =
-      subst (λ l. CanStart g.linux l n) (dropped_requests w.submission.call) c
-  start_earlier s a (closes accepted missed head call opened all told) on c =
-      closed_earlier w.submission.call c
-  start_earlier s a (runs m outstanding idle spared ready no_cancel) on c = absurd on
-  start_earlier s a (dooms m outstanding idle doomed) on c = absurd on
-  start_earlier s a (cancels m outstanding idle spared ready cancel) on c = absurd on
-  start_earlier s a (finishes m res bytes running) on c = absurd on
-  start_earlier s a _ on c = c
+  start_either : (s : Step) (a : Answer) → Change g w s a → IsOnRings s → Either (happens g w s a)
+  start_either s a (refuses _ _ same silent) on = same_either _ (ap requests_of (same w))
+  start_either s a (takes entry call place opened left at valid) on = same_either _ (taken_requests entry w.submission.call)
+  start_either s a (drops call place opened left at invalid) on = same_either _ (dropped_requests w.submission.call)
+  start_either s a (closes accepted missed head call opened all told) on = closed_start w.submission.call
+  start_either s a (runs m outstanding idle spared ready no_cancel) on = absurd on
+  start_either s a (dooms m outstanding idle doomed) on = absurd on
+  start_either s a (cancels m outstanding idle spared ready cancel) on = absurd on
+  start_either s a (finishes m res bytes running) on = absurd on
+  start_either s a _ on = (λ c. c, λ c. c)
 
 pub start_then_rings : (g : Setup) → StartThenRings g
 start_then_rings g h n s a on lawful =
     let w : World = world g h in
-    let called : CalledFor g w s a = called_without g w n s a on lawful.0 in
+    let called : CalledFor g w s a = (called_either g w n s a on).0 lawful.0 in
     let first : IsLawful g ((s, a) ∷ h) = (called, lawful.1.1) in
     let apart : IsLawfulApart g ((s, a) ∷ h) = lawful_apart g ((s, a) ∷ h) first in
     let c : CanStart g.linux (requests_of w) n = can_start g w n lawful.1.0 in
     let within : n < length w.requests.accepted = ltb-true n (length w.requests.accepted) (and_parts _ (not (has_ended w.requests n)) c.outstanding).0 in
-    let later : CanStart g.linux (requests_of (happens g w s a)) n = start_later g w n (sound_of g h apart.1).requests.cut_at_end (between g h apart.1) within s a (change_of g w s a apart.0) on c in
+    let later : CanStart g.linux (requests_of (happens g w s a)) n = (start_either g w n (sound_of g h apart.1).requests.cut_at_end (between g h apart.1) within s a (change_of g w s a apart.0) on).0 c in
     record {
       lawful = (start_called g (happens g w s a) n later, first);
       alike = alike_same g _ _ (made_either g w n s a (change_of g w s a apart.0) on);
@@ -143,8 +122,8 @@ pub rings_then_start : (g : Setup) → RingsThenStart g
 rings_then_start g h n s a on within lawful =
     let w : World = world g h in
     let apart : IsLawfulApart g ((s, a) ∷ h) = lawful_apart g ((s, a) ∷ h) lawful.1 in
-    let c : CanStart g.linux (requests_of w) n = start_earlier g w n (sound_of g h apart.1).requests.cut_at_end (between g h apart.1) within s a (change_of g w s a apart.0) on (can_start g (happens g w s a) n lawful.0) in
+    let c : CanStart g.linux (requests_of w) n = (start_either g w n (sound_of g h apart.1).requests.cut_at_end (between g h apart.1) within s a (change_of g w s a apart.0) on).1 (can_start g (happens g w s a) n lawful.0) in
     record {
-      lawful = (called_with g w n s a on lawful.1.0, (start_called g w n c, lawful.1.1));
+      lawful = ((called_either g w n s a on).1 lawful.1.0, (start_called g w n c, lawful.1.1));
       alike = alike_same g _ _ (sym (made_either g w n s a (change_of g w s a apart.0) on));
     }

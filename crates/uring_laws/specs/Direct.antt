@@ -1,6 +1,6 @@
 -- Lists and counts read straight off a history: what its events tell, and which of them stand before which.
 use Rattle.std.specs.Prelude.{ℕ, ◌+◌, Bool, false, not, ◌&&◌, ◌||◌, ◌==◌, nat_lt, List, [], ◌∷◌, ◌++◌, length, sum, count_by, Option, Some, None, unwrap_or, if◌then◌else◌, slice_index_or}
-use Rattle.std.specs.List.{list_any, filter_map}
+use Rattle.std.specs.List.{filter_map}
 use Rattle.std.specs.Option.{option_or}
 use Rattle.uring_entry.specs.Layout.{Sqe, Cqe, zero_entry}
 use Rattle.uring_entry.specs.Success.{posts_completion}

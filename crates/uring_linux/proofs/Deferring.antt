@@ -1,13 +1,14 @@
 -- Groups that are deferred: nothing has happened to their members, and once some went on, not all that is outstanding is deferred.
-use Rattle.std.proofs.Common.{◌≡◌, ℕ, suc, ◌-◌, ◌<◌, ◌≤◌, min, max, length, Bool, true, false, not, ◌&&◌, ◌⊎◌, List, [], ◌∷◌, ◌++◌, refl, ◌∙◌, ap, arith, inl, inr}
+use Rattle.std.proofs.Common.{◌≡◌, ℕ, suc, ◌-◌, ◌<◌, ◌≤◌, min, max, length, Bool, true, false, not, ◌&&◌, ◌⊎◌, List, [], ◌∷◌, refl, ◌∙◌, ap, arith, inl, inr}
 use Rattle.std.specs.Prelude.{if◌then◌else◌}
-use Rattle.std.proofs.lemmas.Bool.{cases_lt, both_ways, and_left, and_right, and_from, and_parts, or_from, or_cases, or_parts, or_left, or_right, lt-ltb, le-ltb, lt-leb, le-leb, leb-true, ltb-true}
+use Rattle.std.proofs.lemmas.Bool.{cases_lt, both_ways, and_left, and_right, and_from, or_from, or_cases, or_left, or_right, lt-ltb, le-leb, false_from_ne_true}
 use Rattle.uring_entry.specs.Requests.{Requests, entry_of, is_last, is_joined, is_in_group, is_soft, is_behind_failure, has_started, has_ended, has_failed}
 use Rattle.uring_entry.proofs.BelowLemmas.{some_below_none, some_below_some}
 use Rattle.uring_entry.proofs.RequestLemmas.{is_joined_no, has_failed_unended}
 use Rattle.uring_linux.specs.declared.deferred.Deferred.{Deferred}
 use Rattle.uring_linux.specs.Drains.{is_among, is_in_some, from_drain, still_deferred}
 use Rattle.uring_linux.specs.LinuxRequests.{has_fault, is_in_faulty_group, is_doomed, is_alone, after_going_on}
+use Rattle.uring_linux.proofs.InOrder.{InOrder, among_tells, order_spans, order_above, order_behind}
 
 -- nothing has happened to n
 pub record IsIdle (r : Requests) (n : ℕ) : Type 0 where
@@ -24,44 +25,7 @@ pub record IsWaiting (r : Requests) (g : Deferred) : Type 0 where
 
 -- such groups, in order, from one number on and before another
 abbrev pub AreWaiting : Requests → ℕ → List Deferred → ℕ → Type 0
-AreWaiting r low [] high = low ≤ high
-AreWaiting r low (g ∷ rest) high = (low ≤ g.from) × IsWaiting r g × AreWaiting r g.end rest high
-
-waiting_order : (r : Requests) (low : ℕ) (xs : List Deferred) (high : ℕ) → AreWaiting r low xs high → low ≤ high
-waiting_order r low [] high h = h
-waiting_order r low (g ∷ rest) high h =
-    let later = waiting_order r g.end rest high h.2 in
-    let some = h.1.some in
-    omega (arith, h.0)
-
-waiting_lower : (r : Requests) (a low : ℕ) (xs : List Deferred) (high : ℕ) → a ≤ low
-    → AreWaiting r low xs high → AreWaiting r a xs high
-waiting_lower r a low [] high le h = omega (arith, le, h)
-waiting_lower r a low (g ∷ rest) high le h = (omega (arith, le, h.0), h.1, h.2)
-
-pub waiting_higher : (r : Requests) (low : ℕ) (xs : List Deferred) (high b : ℕ) → high ≤ b
-    → AreWaiting r low xs high → AreWaiting r low xs b
-waiting_higher r low [] high b le h = omega (arith, le, h)
-waiting_higher r low (g ∷ rest) high b le h = (h.0, h.1, waiting_higher r g.end rest high b le h.2)
-
-pub waiting_push : (r : Requests) (low : ℕ) (xs : List Deferred) (high : ℕ) (g : Deferred) → high ≤ g.from
-    → IsWaiting r g → AreWaiting r low xs high → AreWaiting r low (xs ++ g ∷ []) g.end
-waiting_push r low [] high g le w h = (omega (arith, le, h), w, omega arith)
-waiting_push r low (x ∷ rest) high g le w h = (h.0, h.1, waiting_push r x.end rest high g le w h.2)
-
-waiting_below : (r : Requests) (low : ℕ) (xs : List Deferred) (high n : ℕ) → AreWaiting r low xs high → n < low
-    → is_in_some xs n ≡ false
-waiting_below r low [] high n h lt = refl
-waiting_below r low (g ∷ rest) high n h lt =
-    let some = h.1.some in
-    or_from _ _ (and_left _ _ (lt-leb g.from n (omega (arith, lt, h.0)))) (waiting_below r g.end rest high n h.2 (omega (arith, lt, h.0)))
-
-pub waiting_past : (r : Requests) (low : ℕ) (xs : List Deferred) (high n : ℕ) → AreWaiting r low xs high → high ≤ n
-    → is_in_some xs n ≡ false
-waiting_past r low [] high n h le = refl
-waiting_past r low (g ∷ rest) high n h le =
-    let order = waiting_order r g.end rest high h.2 in
-    or_from _ _ (and_right _ _ (le-ltb n g.end (omega (arith, le, order)))) (waiting_past r g.end rest high n h.2 le)
+AreWaiting r = InOrder (IsWaiting r)
 
 -- the group of a member
 pub record IsHeldBy (r : Requests) (xs : List Deferred) (n : ℕ) : Type 0 where
@@ -77,16 +41,16 @@ held_by r low [] high n h e = absurd (both_ways false refl e)
 held_by r low (g ∷ rest) high n h e =
     elim (or_cases (is_among n g) (is_in_some rest n) e) [
       | inl here ↦
-          let parts = and_parts _ _ here in
+          let stands = among_tells n g here in
           record {
             group = g;
-            waiting = h.1;
-            low = leb-true g.from n parts.0;
-            high = ltb-true n g.end parts.1;
+            waiting = h.2;
+            low = stands.0;
+            high = stands.1;
             members = λ m a b. or_left _ _ (and_from _ _ (le-leb g.from m a) (lt-ltb m g.end b));
           }
       | inr later ↦
-          let found = held_by r g.end rest high n h.2 later in
+          let found = held_by r g.end rest high n h.3 later in
           record {
             group = found.group;
             waiting = found.waiting;
@@ -95,42 +59,6 @@ held_by r low (g ∷ rest) high n h e =
             members = λ m a b. or_right (is_among m g) (is_in_some rest m) (found.members m a b);
           }
     ]
-
--- what changes something of n alone leaves the groups without it
-pub waiting_other : (r t : Requests) (n low : ℕ) (xs : List Deferred) (high : ℕ) → AreWaiting r low xs high
-    → is_in_some xs n ≡ false → ((g : Deferred) → is_among n g ≡ false → g.end ≤ high → IsWaiting r g → IsWaiting t g)
-    → AreWaiting t low xs high
-waiting_other r t n low [] high h out f = h
-waiting_other r t n low (g ∷ rest) high h out f =
-    let parts = or_parts (is_among n g) (is_in_some rest n) out in
-    (h.0, f g parts.0 (waiting_order r g.end rest high h.2) h.1, waiting_other r t n g.end rest high h.2 parts.1 f)
-
--- Groups go on.
-
-waiting_from_drain : (r : Requests) (low : ℕ) (xs : List Deferred) (high : ℕ) → AreWaiting r low xs high
-    → AreWaiting r low (from_drain xs) high
-waiting_from_drain r low [] high h = h
-waiting_from_drain r low (g ∷ rest) high h =
-    let some = h.1.some in
-    go g.drains (waiting_lower r low g.end (from_drain rest) high (omega (arith, h.0)) (waiting_from_drain r g.end rest high h.2))
-  where
-    go : (b : Bool) → AreWaiting r low (from_drain rest) high → AreWaiting r low (if b then g ∷ rest else from_drain rest) high
-    go true later = h
-    go false later = later
-
--- those behind the first that go on
-waiting_behind : (r : Requests) (g : Deferred) (rest : List Deferred) (high : ℕ) (b : Bool) → AreWaiting r g.end rest high
-    → AreWaiting r g.end (if b then rest else from_drain rest) high
-waiting_behind r g rest high true h = h
-waiting_behind r g rest high false h = waiting_from_drain r g.end rest high h
-
-pub still_waiting : (r : Requests) (low : ℕ) (xs : List Deferred) (high : ℕ) (alone : Bool) → AreWaiting r low xs high
-    → AreWaiting r low (still_deferred alone xs) high
-still_waiting r low [] high alone h = h
-still_waiting r low (g ∷ rest) high false h = h
-still_waiting r low (g ∷ rest) high true h =
-    let some = h.1.some in
-    waiting_lower r low g.end _ high (omega (arith, h.0)) (waiting_behind r g rest high g.drains h.2)
 
 pub not_alone : (r : Requests) (xs : List Deferred) (k : ℕ) → k < length r.accepted → has_ended r k ≡ false
     → is_in_some xs k ≡ false → is_alone r xs ≡ false
@@ -151,11 +79,12 @@ gone_on r low (g ∷ rest) high within h = go (is_alone r (g ∷ rest)) refl
     go : (b : Bool) → is_alone r (g ∷ rest) ≡ b → HasGoneOn r (still_deferred b (g ∷ rest))
     go false e = inr e
     go true e =
-        let some = h.1.some in
-        let order = waiting_order r g.end rest high h.2 in
+        let some = h.2.some in
+        let spans = order_spans (IsWaiting r) g.end rest high h.3 in
+        let behind : List Deferred = if g.drains then rest else from_drain rest in
         inr
-        (not_alone r _ g.from (omega arith) (h.1.idle g.from (omega arith) some).ended
-        (waiting_below r g.end (if g.drains then rest else from_drain rest) high g.from (waiting_behind r g rest high g.drains h.2) some))
+        (not_alone r behind g.from (omega (arith, some, spans, within)) (h.2.idle g.from (omega arith) some).ended
+        (false_from_ne_true (is_in_some behind g.from) (λ e. let past : g.end ≤ g.from = order_above (IsWaiting r) g.end behind high g.from (order_behind (IsWaiting r) g.end g.drains rest high h.3) e in omega (arith, past, some))))
 
 -- No member is doomed.
 

@@ -9,6 +9,8 @@ pub mod Dispatches
 pub mod LettingGo
 pub mod Tallies
 pub mod Standings
+pub mod FaultsKept
+pub mod InOrder
 pub mod Deferring
 pub mod Reaching
 pub mod GoingOn

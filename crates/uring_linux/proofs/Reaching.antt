@@ -5,17 +5,17 @@ use Rattle.std.proofs.lemmas.Bool.{cases_lt, cases_Bool, both_ways, and_from, an
 use Rattle.uring_entry.specs.Layout.{Sqe}
 use Rattle.uring_entry.specs.Requests as manual
 use Rattle.uring_entry.specs.Requests.{Requests, entry_of, is_linked, is_last, is_outstanding, is_running, has_started, has_ended}
-use Rattle.uring_entry.proofs.BelowLemmas.{some_below_out}
 use Rattle.uring_entry.proofs.RequestLemmas.{added_other, has_ended_other, entry_of_accepted_at}
-use Rattle.uring_entry.proofs.GroupEvents.{entry_same, is_last_cut_last}
-use Rattle.uring_entry.specs.Preparation.{is_faulty}
+use Rattle.uring_entry.proofs.GroupEvents.{is_last_cut_last}
 use Rattle.uring_linux.specs.declared.deferred.Deferred.{Deferred}
 use Rattle.uring_linux.specs.Drains.{Drains, is_among, is_in_some, deferred_with, with_deferred, with_ring}
-use Rattle.uring_linux.specs.LinuxRequests.{LinuxRequests, is_refused_drain, has_fault, is_doomed, is_deferred, is_issuable, is_in_turn, is_alone, is_faulty_from, after_going_on, with_group, with_last_entry, no_request, with_accepted, with_cut, with_started, with_ended}
+use Rattle.uring_linux.specs.LinuxRequests.{LinuxRequests, is_doomed, is_deferred, is_issuable, is_in_turn, is_alone, is_faulty_from, after_going_on, with_group, with_last_entry, no_request, with_accepted, with_cut, with_started, with_ended}
 use Rattle.uring_linux.specs.Happenings.{Happening, Call, Start, End, with_entries, after, made_by, MayHappen, MayHaveHappened}
 use Rattle.uring_linux.specs.Window.{IsNew}
-use Rattle.uring_linux.proofs.WindowEvents.{refused_accepted, last_accepted, last_kept, new_cut}
-use Rattle.uring_linux.proofs.Deferring.{IsIdle, IsWaiting, AreWaiting, HasGoneOn, waiting_higher, waiting_push, waiting_past, waiting_other, held_by, still_waiting, not_alone, gone_on, not_doomed}
+use Rattle.uring_linux.proofs.WindowEvents.{last_accepted, last_kept, new_cut}
+use Rattle.uring_linux.proofs.Deferring.{IsIdle, IsWaiting, AreWaiting, HasGoneOn, held_by, not_alone, gone_on, not_doomed}
+use Rattle.uring_linux.proofs.InOrder.{order_higher, order_push, order_past, order_still, order_kept}
+use Rattle.uring_linux.proofs.FaultsKept.{accepted_faults, healthy_from}
 
 -- what is so whatever happened
 pub record IsSettled (l : LinuxRequests) : Type 0 where
@@ -48,7 +48,7 @@ record IsAmid (r : Requests) (from : ℕ) (deferred : List Deferred) : Type 0 wh
 
 amid_alone : (r : Requests) (from : ℕ) (xs : List Deferred) → IsAmid r from xs → is_alone r xs ≡ false
 amid_alone r from xs a =
-    not_alone r xs from a.low (a.idle from (omega arith) a.low).ended (waiting_past r 0 xs from from a.waiting (omega arith))
+    not_alone r xs from a.low (a.idle from (omega arith) a.low).ended (order_past (IsWaiting r) 0 xs from from a.waiting (omega arith))
 
 amid_settled : (r : Requests) (d : Drains) → IsAmid r d.from d.deferred
     → IsSettled (record { requests = r; drains = d })
@@ -60,15 +60,6 @@ amid_settled r d a = record {
   waiting = a.waiting;
   gone = inr (amid_alone r d.from d.deferred a);
 }
-
-healthy_from : (r : Requests) (from : ℕ) → is_faulty_from r from ≡ false → (k : ℕ) → from ≤ k → k < length r.accepted
-    → has_fault r k ≡ false
-unfolding is_faulty_from
-healthy_from r from e k le lt =
-    elim (cases_Bool (has_fault r k)) [
-      | inl fault ↦ absurd (both_ways _ (some_below_out _ (length r.accepted) e k lt) (and_from _ _ (le-leb from k le) fault))
-      | inr healthy ↦ healthy
-    ]
 
 group_settled : (r : Requests) (d : Drains) → IsAmid r d.from d.deferred
     → ((k : ℕ) → suc k ≡ length r.accepted → is_last r k ≡ true)
@@ -82,7 +73,7 @@ group_settled r d a last = go (not d.ring || is_faulty_from r d.from) refl
       begins = last;
       amid = λ k le lt. absurd (omega (arith, le, lt));
       later = a.later;
-      waiting = let lt = a.low in waiting_higher r 0 d.deferred d.from (length r.accepted) (omega (arith, lt)) a.waiting;
+      waiting = let lt = a.low in order_higher (IsWaiting r) 0 d.deferred d.from (length r.accepted) (omega (arith, lt)) a.waiting;
       gone = inr (amid_alone r d.from d.deferred a);
     }
     go false e =
@@ -94,13 +85,13 @@ group_settled r d a last = go (not d.ring || is_faulty_from r d.from) refl
           idle = a.idle;
           healthy = healthy_from r d.from (or_parts (not d.ring) (is_faulty_from r d.from) e).1;
         } in
-        let all = waiting_push r 0 d.deferred d.from g (omega arith) w a.waiting in
+        let all = order_push (IsWaiting r) 0 d.deferred d.from g (omega arith) a.low w a.waiting in
         record {
           low = omega arith;
           begins = last;
           amid = λ k le lt. absurd (omega (arith, le, lt));
           later = a.later;
-          waiting = still_waiting r 0 (deferred_with d (length r.accepted)) (length r.accepted) (is_alone r (deferred_with d (length r.accepted))) all;
+          waiting = order_still (IsWaiting r) (is_alone r (deferred_with d (length r.accepted))) 0 (deferred_with d (length r.accepted)) (length r.accepted) all;
           gone = gone_on r 0 (deferred_with d (length r.accepted)) (length r.accepted) (omega arith) all;
         }
 
@@ -115,10 +106,7 @@ waiting_accepted r e g within w =
       begins = λ k is. last_accepted r e k (omega (arith, is)) ∙ w.begins k is;
       ends = λ k is. last_accepted r e k (omega (arith, is)) ∙ w.ends k is;
       idle = λ k le lt. record { started = (w.idle k le lt).started; ended = (w.idle k le lt).ended };
-      healthy = λ k le lt.
-          let low : k < length r.accepted = omega (arith, lt) in
-          ap (λ b. b || is_refused_drain (manual.with_accepted r e) k) (entry_same r e is_faulty k low)
-          ∙ ap (λ b. is_faulty (entry_of r k) || b) (refused_accepted r e k low) ∙ w.healthy k le lt;
+      healthy = λ k le lt. (accepted_faults r e).fault k (omega (arith, lt, within)) ∙ w.healthy k le lt;
     }
 
 accepted_amid : (l : LinuxRequests) (e : Sqe) → IsSettled l
@@ -136,9 +124,8 @@ accepted_amid l e s =
             | inr new ↦ record { started = (s.later k new).started; ended = (s.later k new).ended }
           ];
       later = λ k le. let new = s.later k (omega (arith, le)) in record { started = new.started; ended = new.ended; cut = new.cut };
-      waiting = waiting_other r (manual.with_accepted r e) (length r.accepted) 0 l.drains.deferred l.drains.from s.waiting
-          (waiting_past r 0 l.drains.deferred l.drains.from (length r.accepted) s.waiting s.low)
-          (λ g out within w. waiting_accepted r e g (omega (arith, within)) w);
+      waiting = order_kept (IsWaiting r) (IsWaiting (manual.with_accepted r e)) 0 l.drains.deferred l.drains.from s.waiting
+          (λ g there some within w. waiting_accepted r e g (omega (arith, within, low)) w);
     }
 
 accepted_last : (r : Requests) (e : Sqe) → is_linked e ≡ false → (k : ℕ) → suc k ≡ length (manual.with_accepted r e).accepted
@@ -170,9 +157,7 @@ waiting_cut r g w = record {
 waiting_all_cut : (l : LinuxRequests) → IsSettled l → AreWaiting (manual.with_cut l.requests) 0 l.drains.deferred l.drains.from
 waiting_all_cut l s =
     let r = l.requests in
-    waiting_other r (manual.with_cut r) (length r.accepted) 0 l.drains.deferred l.drains.from s.waiting
-    (waiting_past r 0 l.drains.deferred l.drains.from (length r.accepted) s.waiting s.low)
-    (λ g out within w. waiting_cut r g w)
+    order_kept (IsWaiting r) (IsWaiting (manual.with_cut r)) 0 l.drains.deferred l.drains.from s.waiting (λ g there some within w. waiting_cut r g w)
 
 alone_cut : (r : Requests) (xs : List Deferred) → is_alone (manual.with_cut r) xs ≡ is_alone r xs
 unfolding is_alone
@@ -274,9 +259,11 @@ running_free l n s e =
           ];
     }
 
-among_apart : (n k : ℕ) (g : Deferred) → is_among n g ≡ false → g.from ≤ k → k < g.end → k ≢ n
-among_apart n k g out low high e =
-    both_ways _ out (and_from _ _ (le-leb g.from n (omega (arith, e, low))) (lt-ltb n g.end (omega (arith, e, high))))
+-- who isn't deferred is no member of a group that is
+among_apart : (xs : List Deferred) (n k : ℕ) (g : Deferred) → ((j : ℕ) → is_among j g ≡ true → is_in_some xs j ≡ true)
+    → is_in_some xs n ≡ false → g.from ≤ k → k < g.end → k ≢ n
+among_apart xs n k g there out low high e =
+    both_ways _ out (there n (and_from _ _ (le-leb g.from n (omega (arith, e, low))) (lt-ltb n g.end (omega (arith, e, high)))))
 
 alone_started : (r : Requests) (n : ℕ) (xs : List Deferred) → is_alone (manual.with_started r n) xs ≡ is_alone r xs
 unfolding is_alone
@@ -297,15 +284,15 @@ started_settled l n b f =
               ended = (s.later k le).ended;
               cut = (s.later k le).cut;
             };
-        waiting = waiting_other r (manual.with_started r n) n 0 l.drains.deferred l.drains.from s.waiting f.out
-            (λ g out within w.
+        waiting = order_kept (IsWaiting r) (IsWaiting (manual.with_started r n)) 0 l.drains.deferred l.drains.from s.waiting
+            (λ g there some within w.
             record {
               some = w.some;
               begins = w.begins;
               ends = w.ends;
               idle = λ k le lt.
                   record {
-                    started = added_other (λ m. m == k) r.started n (ne_eqb n k (λ e. among_apart n k g out le lt (sym e))) ∙ (w.idle k le lt).started;
+                    started = added_other (λ m. m == k) r.started n (ne_eqb n k (λ e. among_apart l.drains.deferred n k g there f.out le lt (sym e))) ∙ (w.idle k le lt).started;
                     ended = (w.idle k le lt).ended;
                   };
               healthy = w.healthy;
@@ -321,8 +308,8 @@ ended_settled l n res bytes b f =
     let s = b.settled in
     let r = l.requests in
     let t = manual.with_ended r n res bytes in
-    let all = waiting_other r t n 0 l.drains.deferred l.drains.from s.waiting f.out
-    (λ g out within w.
+    let all = order_kept (IsWaiting r) (IsWaiting t) 0 l.drains.deferred l.drains.from s.waiting
+    (λ g there some within w.
     record {
       some = w.some;
       begins = w.begins;
@@ -330,7 +317,7 @@ ended_settled l n res bytes b f =
       idle = λ k le lt.
           record {
             started = (w.idle k le lt).started;
-            ended = has_ended_other r n res bytes k (among_apart n k g out le lt) ∙ (w.idle k le lt).ended;
+            ended = has_ended_other r n res bytes k (among_apart l.drains.deferred n k g there f.out le lt) ∙ (w.idle k le lt).ended;
           };
       healthy = w.healthy;
     })
@@ -346,7 +333,7 @@ ended_settled l n res bytes b f =
               ended = has_ended_other r n res bytes k (λ e. let low = f.low in absurd (omega (arith, e, le, low))) ∙ (s.later k le).ended;
               cut = (s.later k le).cut;
             };
-        waiting = still_waiting t 0 l.drains.deferred l.drains.from (is_alone t l.drains.deferred) all;
+        waiting = order_still (IsWaiting t) (is_alone t l.drains.deferred) 0 l.drains.deferred l.drains.from all;
         gone = gone_on t 0 l.drains.deferred l.drains.from s.low all;
       };
       closed = b.closed;

@@ -1,95 +1,18 @@
 -- Where something is outstanding, the least of it runs, or something can be issued: by either's rules.
-use Rattle.std.proofs.Common.{◌≡◌, ℕ, ◌<◌, Bool, true, false, not, ◌&&◌, ◌||◌, List, [], ◌∷◌, length, Some, is_some, refl, sym, ◌∙◌, ap, subst, arith, ◌⊎◌, inl, inr}
-use Rattle.std.proofs.lemmas.Bool.{cases_lt, cases_eq, cases_Bool, both_ways, and_from, and_parts, or_left, or_right, or_cases, lt-ltb}
+use Rattle.std.proofs.Common.{◌≡◌, ℕ, ◌<◌, Bool, true, false, not, ◌&&◌, length, Some, is_some, refl, sym, ◌∙◌, ap, subst, arith, ◌⊎◌, inl, inr}
+use Rattle.std.proofs.lemmas.Bool.{cases_lt, cases_eq, cases_Bool, both_ways, and_from, and_parts, or_cases, lt-ltb}
 use Rattle.uring_entry.specs.Setup.{Setup}
-use Rattle.uring_entry.specs.Requests.{is_outstanding, is_running, has_started, has_ended, least_of, no_bytes}
-use Rattle.uring_entry.specs.Submission.{entries_from}
+use Rattle.uring_entry.specs.Requests.{is_outstanding, is_running, has_started, has_ended, least_of}
 use Rattle.uring_entry.proofs.BelowLemmas.{IsLeast, least_below_tells, is_some_least_below, some_below_some}
 use Rattle.uring_entry.proofs.RequestLemmas.{least_of_goes_on}
-use Rattle.uring_linux.specs.LinuxRequests.{LinuxRequests, is_in_turn, is_deferred, is_doomed}
-use Rattle.uring_linux.specs.Happenings.{Happening, Call, Start, End, after, made_by, MayHappen, MayHaveHappened}
+use Rattle.uring_linux.specs.LinuxRequests.{LinuxRequests, is_deferred}
+use Rattle.uring_linux.specs.Happenings.{made_by}
 use Rattle.uring_linux.proofs.GoingOn.{goes_on_from}
 use Rattle.uring_rules.specs.Rules.{is_issuable, next_of}
-use Rattle.uring_rules.proofs.Calls.{whole_call}
-use Rattle.uring_rules.proofs.IssueLemmas.{end_by_linux}
-use Rattle.uring_core.specs.World.{World, requests_of, happens, taking_of, taking_entry_of, ending_of}
+use Rattle.uring_core.specs.World.{requests_of}
 use Rattle.uring_core.specs.Histories.{History, world, IsLawfulApart}
-use Rattle.uring_core.specs.declared.step.Step.{Step}
-use Rattle.uring_core.specs.declared.answer.Answer.{Answer}
-use Rattle.uring_core.proofs.Changes.{Change, refuses, takes, drops, closes, runs, dooms, cancels, finishes, change_of}
-use Rattle.uring_machine.proofs.Deferring.{SparedBy, StartsSpared, IsOrdered, all_ordered}
-
--- By Linux's rules a history is one of calls, starts and ends.
-
--- what has happened to make these requests, where nobody started that was doomed
-pub record HasHappened (l : LinuxRequests) : Type 0 where
-  pub happened : List Happening
-  pub may : MayHaveHappened happened
-  pub spared : StartsSpared happened
-  pub made : made_by happened ≡ l
-
-happens_more : (l later : LinuxRequests) (h : Happening) → HasHappened l → MayHappen l h → SparedBy l h
-    → after l h ≡ later → HasHappened later
-happens_more l later h so may spared is = record {
-  happened = h ∷ so.happened;
-  may = (subst (λ m. MayHappen m h) (sym so.made) may, so.may);
-  spared = (subst (λ m. SparedBy m h) (sym so.made) spared, so.spared);
-  made = ap (λ m. after m h) so.made ∙ is;
-}
-
--- the same set-up, with Linux's rules
-abbrev by_linux : Setup → Setup
-by_linux g = record g { linux = true }
-
--- what starts can be issued, and isn't doomed
-can_start : (outstanding running turn doomed deferred : Bool) → outstanding ≡ true → running ≡ false
-    → (turn && doomed) ≡ false → (turn && not deferred) ≡ true
-    → ((outstanding && (not running && (turn && (doomed || not deferred)))) ≡ true) × (doomed ≡ false)
-can_start true false true false false o r s f = (refl, refl)
-can_start true false true doomed true o r s f = absurd (let e : false ≡ true = f in cc)
-can_start true false true true deferred o r s f = absurd (let e : true ≡ false = s in cc)
-can_start true false false doomed deferred o r s f = absurd (let e : false ≡ true = f in cc)
-can_start true true turn doomed deferred o r s f = absurd (let e : true ≡ false = r in cc)
-can_start false running turn doomed deferred o r s f = absurd (let e : false ≡ true = o in cc)
-
--- what ends as doomed can be issued
-can_end : (outstanding running turn doomed deferred : Bool) → outstanding ≡ true → running ≡ false
-    → (turn && doomed) ≡ true
-    → (outstanding && (not running && (turn && (doomed || not deferred)))) ≡ true
-can_end true false true true deferred o r d = refl
-can_end true false true false deferred o r d = absurd (let e : false ≡ true = d in cc)
-can_end true false false doomed deferred o r d = absurd (let e : false ≡ true = d in cc)
-can_end true true turn doomed deferred o r d = absurd (let e : true ≡ false = r in cc)
-can_end false running turn doomed deferred o r d = absurd (let e : false ≡ true = o in cc)
-
-change_happens : (g : Setup) (w : World) (s : Step) (a : Answer) → Change (by_linux g) w s a
-    → HasHappened (requests_of w) → HasHappened (requests_of (happens (by_linux g) w s a))
-change_happens g w s a (refuses _ _ same silent) so = subst (λ (v : World). HasHappened (requests_of v)) (sym (same w)) so
-change_happens g w s a (takes entry call place opened left at valid) so =
-    subst (λ o. HasHappened (requests_of (taking_entry_of (by_linux g) w entry o))) (sym opened) so
-change_happens g w s a (drops call place opened left at invalid) so =
-    subst (λ o. HasHappened (requests_of (taking_of (by_linux g) w o))) (sym opened) so
-change_happens g w s a (closes accepted missed head call opened all told) so =
-    subst (λ o. HasHappened (requests_of (ending_of (by_linux g) w o))) (sym opened)
-    (happens_more (requests_of w) _ (Call (entries_from w.submission call.count)) so tt tt (whole_call true (requests_of w) (entries_from w.submission call.count)))
-change_happens g w s a (runs n outstanding idle spared ready no_cancel) so =
-    let can = can_start (is_outstanding w.requests n) (is_running w.requests n) (is_in_turn w.requests n) (is_doomed w.requests n) (is_deferred (requests_of w) n) outstanding idle spared ready in
-    happens_more (requests_of w) _ (Start n) so can.0 can.1 refl
-change_happens g w s a (dooms n outstanding idle doomed) so =
-    let can = can_end (is_outstanding w.requests n) (is_running w.requests n) (is_in_turn w.requests n) (is_doomed w.requests n) (is_deferred (requests_of w) n) outstanding idle doomed in
-    happens_more (requests_of w) _ (End n _ no_bytes) so (or_right _ _ can) tt refl
-change_happens g w s a (cancels n outstanding idle spared ready cancel) so =
-    let can = can_start (is_outstanding w.requests n) (is_running w.requests n) (is_in_turn w.requests n) (is_doomed w.requests n) (is_deferred (requests_of w) n) outstanding idle spared ready in
-    happens_more (requests_of w) _ (End n _ no_bytes) so (or_right _ _ can.0) tt refl
-change_happens g w s a (finishes n res bytes running) so =
-    happens_more (requests_of w) _ (End n res bytes) so (or_left _ _ running) tt (end_by_linux (requests_of w) n res bytes)
-change_happens g w s a _ so = so
-
-history_happens : (g : Setup) (h : History) → IsLawfulApart (by_linux g) h
-    → HasHappened (requests_of (world (by_linux g) h))
-history_happens g [] lawful = record { happened = []; may = tt; spared = tt; made = refl }
-history_happens g ((s, a) ∷ before) lawful =
-    change_happens g (world (by_linux g) before) s a (change_of (by_linux g) (world (by_linux g) before) s a lawful.0) (history_happens g before lawful.1)
+use Rattle.uring_core.proofs.LinuxHistories.{by_linux, HasHappened, history_happens}
+use Rattle.uring_machine.proofs.Deferring.{IsOrdered, all_ordered}
 
 -- What goes on.
 

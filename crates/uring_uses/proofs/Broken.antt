@@ -16,7 +16,8 @@ use Rattle.uring_core.specs.StepAnswers.{issue_answer}
 use Rattle.uring_core.specs.declared.answer.Answer.{Answer}
 use Rattle.uring_core.specs.declared.answer.Answer.TheVariants as answer
 use Rattle.uring_core.proofs.ListCounts.{any_kept}
-use Rattle.uring_laws.proofs.LinuxSound.{by_linux, IsFirst, linux_sound}
+use Rattle.uring_core.proofs.LinuxHistories.{by_linux}
+use Rattle.uring_laws.proofs.LinuxSound.{IsFirst, linux_sound}
 use Rattle.uring_uses.specs.Simulations.{IsNextInChain}
 
 module _ (r : Requests) (n below : ℕ) (bytes : List ℕ) (next : IsNextInChain r n) where
