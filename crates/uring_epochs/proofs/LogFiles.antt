@@ -1,6 +1,6 @@
 -- What a read of the volume shows is the file of the machine.
-use Rattle.std.proofs.Common.{◌≡◌, ◌+◌, ◌==◌, ◌&&◌, ◌⊎◌, ℕ, zero, suc, ℤ, Bool, true, false, not, cond, List, [], ◌∷◌, ◌++◌, take, get_or, Option, Some, None, refl, sym, subst, ap, ◌∙◌, inl, inr, leb, ltb}
-use Rattle.std.specs.Prelude.{pos, negsuc, neg_ℤ, replicate, slice_get, slice_set}
+use Rattle.std.proofs.Common.{◌≡◌, ◌+◌, ◌==◌, ◌&&◌, ◌⊎◌, ℕ, zero, suc, ℤ, Bool, true, false, not, cond, List, [], ◌∷◌, ◌++◌, take, Option, Some, None, refl, sym, subst, ap, ◌∙◌, inl, inr, leb, ltb}
+use Rattle.std.specs.Prelude.{pos, negsuc, neg_ℤ, replicate, slice_get}
 use Rattle.std.specs.Option.{option_map}
 use Rattle.std.specs.Ordering.{int_eq}
 use Rattle.std.proofs.lemmas.Option.{get_or_from_slice_get}
@@ -16,7 +16,7 @@ use Rattle.uring_entry.specs.declared.operation.Outcome.{Outcome}
 use Rattle.uring_files.specs.Contents.{FileContents, empty_file, empty_files, max_len, is_too_long, overwritten, written, with_writes_synced}
 use Rattle.uring_files.specs.Operations.{file_of, with_changed, after, IsOutcome, on_file, ended_with}
 use Rattle.uring_files.specs.Laws.{WritesOver}
-use Rattle.uring_files.proofs.StandAlone.{others_stay}
+use Rattle.uring_files.proofs.StandAlone.{changed_same, others_stay}
 use Rattle.uring_volume.specs.Volume.{Volume, ended, IsShown, is_one_of, running_writes, running_syncs, with_event, with_write, with_sync}
 use Rattle.uring_volume.specs.declared.event.SyncRange.TheVariants.{Whole}
 use Rattle.uring_volume.specs.declared.event.Event.TheVariants.{WriteEnded, SyncEnded, SyncFailed}
@@ -99,17 +99,6 @@ sync_same res k v false true = refl
 sync_same res k v good false = refl
 
 -- A file that a change has made.
-
-set_same : {X : Type 0} (xs : List X) (i : ℕ) (d : X) (change : X → X)
-    → slice_get (slice_set xs i (change (get_or xs i d))) i ≡ option_map change (slice_get xs i)
-set_same [] i d change = refl
-set_same (x ∷ xs) zero d change = refl
-set_same (x ∷ xs) (suc i) d change = set_same xs i d change
-
-changed_same : (files : List FileContents) (fd : ℤ) (change : FileContents → FileContents)
-    → file_of (with_changed files fd change) fd ≡ option_map change (file_of files fd)
-changed_same files (pos fd) change = set_same files fd empty_file change
-changed_same files (negsuc below) change = refl
 
 changed_is : (files : List FileContents) (fd : ℤ) (change : FileContents → FileContents) (old : Option FileContents) (file : FileContents)
     → file_of files fd ≡ old → option_map change old ≡ Some file

@@ -1,5 +1,5 @@
 pub mod DoneLemmas
 pub mod OperationCases
-mod Overwrites
+pub mod Overwrites
 pub mod Prepared
 pub mod StandAlone

@@ -1,5 +1,5 @@
 -- Each file stands by itself: the laws of `files_stand_alone` as lemmas, of whatever operation there is.
--- Stable: other crates may import `others_stay`, `files_apart` and `ends_apart`.
+-- Stable: other crates may import what is pub.
 use Rattle.std.proofs.Common.{◌≡◌, ◌≢◌, ℕ, zero, suc, ℤ, pos, negsuc, Bool, true, false, cond, List, [], ◌∷◌, get_or, refl, sym, ap, ◌∙◌, inl, inr}
 use Rattle.std.specs.Prelude.{slice_get, slice_set}
 use Rattle.std.specs.Option.{option_map, option_map_or}
@@ -31,19 +31,19 @@ set_other (y ∷ ys) (suc i) (suc j) x differ = set_other ys i j x (λ e. differ
 
 -- the file of a descriptor after that of one was changed
 
-changed_same : (files : List FileContents) (fd : ℤ) (change : FileContents → FileContents)
+pub changed_same : (files : List FileContents) (fd : ℤ) (change : FileContents → FileContents)
     → file_of (with_changed files fd change) fd ≡ option_map change (file_of files fd)
 changed_same files (pos fd) change = set_same files fd empty_file change
 changed_same files (negsuc below) change = refl
 
-changed_other : (files : List FileContents) (own fd : ℤ) (change : FileContents → FileContents)
+pub changed_other : (files : List FileContents) (own fd : ℤ) (change : FileContents → FileContents)
     → fd ≢ own
     → file_of (with_changed files own change) fd ≡ file_of files fd
 changed_other files (pos k) (pos j) change differ = set_other files k j _ (λ e. differ (ap pos e))
 changed_other files (pos k) (negsuc below) change differ = refl
 changed_other files (negsuc below) fd change differ = refl
 
-unlike : (x y : ℤ) → int_eq x y ≡ false → x ≢ y
+pub unlike : (x y : ℤ) → int_eq x y ≡ false → x ≢ y
 unlike x y e same = both_ways _ e ((Decides-int_eq x y).1 same)
 
 -- a change of one file, if some test is passed

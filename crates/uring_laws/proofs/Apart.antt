@@ -1,12 +1,12 @@
 -- Operations that stay apart don't meet: `apart_dont_meet`. What one leaves of a file, the other finds as it was, and both orders leave the same bytes.
-use Rattle.std.proofs.Common.{◌≡◌, ◌≢◌, ℕ, zero, suc, ◌+◌, ◌-◌, ◌<◌, ◌≤◌, ◌==◌, ◌%◌, ◌^◌, min, max, ℤ, pos, negsuc, neg_ℤ, Bool, true, false, not, ◌&&◌, ◌||◌, cond, if◌then◌else◌, List, [], ◌∷◌, ◌++◌, length, take, drop, replicate, get_or, Option, Some, None, refl, sym, ap, ap₂, ◌∙◌, arith, rules, ◌⊎◌, inl, inr}
-use Rattle.std.specs.Prelude.{slice_get, slice_set, nat_le, nat_lt}
+use Rattle.std.proofs.Common.{◌≡◌, ◌≢◌, ℕ, zero, suc, ◌+◌, ◌-◌, ◌<◌, ◌≤◌, ◌==◌, ◌%◌, ◌^◌, min, ℤ, pos, negsuc, neg_ℤ, Bool, true, false, not, ◌||◌, cond, if◌then◌else◌, List, [], ◌∷◌, length, take, drop, get_or, Option, Some, None, refl, sym, ap, ap₂, ◌∙◌, arith, ◌⊎◌, inl, inr}
+use Rattle.std.specs.Prelude.{slice_set, nat_le, nat_lt}
 use Rattle.std.specs.Option.{option_map, option_map_or}
 use Rattle.std.specs.Ordering.{int_eq}
-use Rattle.std.proofs.lemmas.Bool.{true≢false, cases_Bool, cases_lt, or_cases, and_from, and_left, and_right, both_ways, not-true, leb-true, le-leb, lt-leb, lt-ltb, le-ltb}
-use Rattle.std.proofs.lemmas.Bool.Decides.{Decides-int_eq, nat_tests}
+use Rattle.std.proofs.lemmas.Bool.{true≢false, cases_Bool, cases_lt, or_cases, and_from, and_left, and_right, not-true, leb-true, le-leb, lt-leb, lt-ltb, le-ltb}
+use Rattle.std.proofs.lemmas.Bool.Decides.{Decides-int_eq}
 use Rattle.std.proofs.lemmas.Grind.{same_number_lists}
-use Rattle.std.proofs.lemmas.List.{length-take, length-drop, get_or-drop, places}
+use Rattle.std.proofs.lemmas.List.{length-take, length-drop, get_or-drop}
 use Rattle.uring_entry.specs.Layout.{padded}
 use Rattle.uring_entry.specs.declared.errno.TheConstants.{EFBIG}
 use Rattle.uring_entry.specs.declared.operation.Op.{Op}
@@ -15,30 +15,12 @@ use Rattle.uring_entry.specs.declared.operation.Outcome.{Outcome}
 use Rattle.uring_files.specs.Contents.{FileContents, empty_file, overwritten, written, with_writes_synced, read_outcome, is_too_long}
 use Rattle.uring_files.specs.Operations.{file_asked, file_of, with_changed, on_file, ended_with, result_of, after}
 use Rattle.uring_files.proofs.OperationCases.{Task, Does, cases}
-use Rattle.uring_files.proofs.StandAlone.{others_stay, ends_apart}
+use Rattle.uring_files.proofs.Overwrites.{is_written_over}
+use Rattle.uring_files.proofs.StandAlone.{changed_same, changed_other, unlike, others_stay, ends_apart}
 use Rattle.uring_files.specs.Laws.{IsWrittenOver}
 use Rattle.uring_laws.specs.Swaps.{are_disjoint, are_on_others, stay_apart, stay_apart_on_one, ApartDontMeet}
 
 -- Bytes written over others.
-
--- (as `writes_over` of uring_files says it; its lemma isn't exported)
-some_bytes : (n : ℕ) (xs ys : List ℕ) → 1 ≤ n → (if n == 0 then xs else ys) ≡ ys
-some_bytes n xs ys some = search rules
-
-parts_at : (old new : List ℕ) (off k : ℕ)
-    → get_or (take off old ++ replicate (off - length old) 0 ++ new ++ drop (off + length new) old) k 0
-    ≡ (if nat_le off k && nat_lt k (off + length new) then get_or new (k - off) 0 else get_or old k 0)
-parts_at old new off k = grind (arith, places, nat_tests)
-
-parts_length : (old new : List ℕ) (off : ℕ)
-    → length (take off old ++ replicate (off - length old) 0 ++ new ++ drop (off + length new) old)
-    ≡ max (length old) (off + length new)
-parts_length old new off = grind (arith, places)
-
-is_written_over : (old new : List ℕ) (off : ℕ) → 1 ≤ length new
-    → IsWrittenOver old new off (overwritten old off new)
-is_written_over old new off some =
-    rw (some_bytes (length new) _ _ some) (record { len = parts_length old new off; bytes = parts_at old new off })
 
 inside : (old new : List ℕ) (off : ℕ) (now : List ℕ) (k : ℕ) → IsWrittenOver old new off now → off ≤ k
     → k < off + length new
@@ -150,35 +132,6 @@ read_behind file new off at count past =
     ap₂ (read_as count) p.1 p.0
 
 -- Files of which some are changed.
-
-unlike : (x y : ℤ) → int_eq x y ≡ false → x ≢ y
-unlike x y e same = both_ways _ e ((Decides-int_eq x y).1 same)
-
-set_same : {X : Type 0} (xs : List X) (i : ℕ) (d : X) (change : X → X)
-    → slice_get (slice_set xs i (change (get_or xs i d))) i ≡ option_map change (slice_get xs i)
-set_same [] i d change = refl
-set_same (x ∷ xs) zero d change = refl
-set_same (x ∷ xs) (suc i) d change = set_same xs i d change
-
-set_other : {X : Type 0} (xs : List X) (i j : ℕ) (x : X) → j ≢ i
-    → slice_get (slice_set xs i x) j ≡ slice_get xs j
-set_other [] i j x differ = refl
-set_other (y ∷ ys) zero zero x differ = absurd (differ refl)
-set_other (y ∷ ys) zero (suc j) x differ = refl
-set_other (y ∷ ys) (suc i) zero x differ = refl
-set_other (y ∷ ys) (suc i) (suc j) x differ = set_other ys i j x (λ e. differ (ap suc e))
-
-changed_same : (files : List FileContents) (fd : ℤ) (change : FileContents → FileContents)
-    → file_of (with_changed files fd change) fd ≡ option_map change (file_of files fd)
-changed_same files (pos fd) change = set_same files fd empty_file change
-changed_same files (negsuc low) change = refl
-
-changed_other : (files : List FileContents) (own fd : ℤ) (change : FileContents → FileContents)
-    → fd ≢ own
-    → file_of (with_changed files own change) fd ≡ file_of files fd
-changed_other files (pos k) (pos j) change differ = set_other files k j _ (λ e. differ (ap pos e))
-changed_other files (pos k) (negsuc low) change differ = refl
-changed_other files (negsuc low) fd change differ = refl
 
 -- two changes, of different files or of one file in any order
 set_either : {X : Type 0} (xs : List X) (i j : ℕ) (d : X) (f g : X → X)

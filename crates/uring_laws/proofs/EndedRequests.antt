@@ -16,6 +16,7 @@ use Rattle.uring_linux.proofs.Deferring.{not_alone}
 use Rattle.uring_rules.specs.Rules.{ends_doomed, may_start, posts, drains_ended}
 use Rattle.uring_core.proofs.ListCounts.{any_kept}
 use Rattle.uring_laws.proofs.AlikeDrains.{going_same}
+use Rattle.uring_linux.proofs.FaultsKept.{faulty_ended}
 use Rattle.uring_linux.proofs.InOrder.{still_fewer}
 use Rattle.uring_laws.proofs.LinuxSound as sound
 use Rattle.uring_laws.proofs.LinuxSound.{IsFirst, behind_end, doom_ended, doom_stays, first_ended, turn_first}
@@ -113,10 +114,6 @@ module _ (r : Requests) (m : ℕ) (res : ℤ) (bytes : List ℕ) (n : ℕ) where
       | inr differ ↦ ap (λ b. is_joined r k n && is_soft (entry_of r k) && b) (has_failed_other r m res bytes k differ)
     ]
 
-  faulty_end : kernel.is_in_faulty_group q n ≡ kernel.is_in_faulty_group r n
-  unfolding kernel.is_in_faulty_group is_joined
-  faulty_end = refl
-
   first_one_end : first_of q n ≡ first_of r n
   unfolding first_of is_joined
   first_one_end = refl
@@ -127,7 +124,7 @@ module _ (r : Requests) (m : ℕ) (res : ℤ) (bytes : List ℕ) (n : ℕ) where
 
   breaker_end : IsFirst r n → has_ended r m ≡ false → breaker_of q n ≡ breaker_of r n
   breaker_end first still =
-      ap (λ b. if b then first_of q n else failed_member_of q n) faulty_end
+      ap (λ b. if b then first_of q n else failed_member_of q n) (faulty_ended r m res bytes n)
       ∙ ap₂ (λ x y. if kernel.is_in_faulty_group r n then x else y) first_one_end (failed_one_end first still)
 
   -- whether n posts isn't changed by the end of one that isn't before it in its group

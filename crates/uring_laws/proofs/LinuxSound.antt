@@ -16,6 +16,7 @@ use Rattle.uring_entry.proofs.BelowLemmas.{some_below_same, some_below_between, 
 use Rattle.uring_entry.proofs.RequestLemmas.{is_joined_no, list_any_push, has_failed_other}
 use Rattle.uring_entry.proofs.EventLemmas.{is_joined_started, is_joined_ended, is_behind_failure_tells, is_behind_failure_from}
 use Rattle.uring_linux.specs.LinuxRequests.{LinuxRequests, asks_to_drain, asks_to_skip, has_skipped, is_refused_drain, has_fault, is_in_faulty_group, is_doomed, doomed_result, is_in_turn, keeps_back, is_deferred}
+use Rattle.uring_linux.proofs.FaultsKept.{faulty_ended}
 use Rattle.uring_core.specs.World.{World, requests_of, happens, taking_of, taking_entry_of, ending_of}
 use Rattle.uring_core.specs.Histories.{History, world, IsLawfulApart}
 use Rattle.uring_core.specs.declared.step.Step.{Step}
@@ -90,10 +91,6 @@ behind_end r m res bytes n apart =
       ]
 
 module _ (r : Requests) (n : ℕ) (res : ℤ) (bytes : List ℕ) where
-  fault_ended : (m : ℕ) → is_in_faulty_group (with_ended r n res bytes) m ≡ is_in_faulty_group r m
-  unfolding is_in_faulty_group is_joined
-  fault_ended m = refl
-
   pub first_ended : (m : ℕ) → IsFirst r m → IsFirst (with_ended r n res bytes) m
   first_ended m first k lt joined = any_kept (λ x. x.number == k) r.ended _ (first k lt (sym (is_joined_ended r n res bytes k m) ∙ joined))
 
@@ -101,7 +98,7 @@ module _ (r : Requests) (n : ℕ) (res : ℤ) (bytes : List ℕ) where
   pub doom_ended : (m : ℕ) → has_ended r n ≡ false → IsFirst r m
       → is_doomed (with_ended r n res bytes) m ≡ is_doomed r m
   doom_ended m still first =
-      ap₂ (λ x y. x || y) (fault_ended m) (behind_end r n res bytes m (λ lt. false_from_ne_true _ (λ joined. both_ways _ still (first n lt joined))))
+      ap₂ (λ x y. x || y) (faulty_ended r n res bytes m) (behind_end r n res bytes m (λ lt. false_from_ne_true _ (λ joined. both_ways _ still (first n lt joined))))
 
   -- the ends of another stay its ends
   ends_kept : (m : ℕ) → (n == m) ≡ false → list_any (is_otherwise r m) r.ended ≡ false
@@ -144,7 +141,7 @@ module _ (r : Requests) (n : ℕ) (res : ℤ) (bytes : List ℕ) where
   pub doom_stays : (m : ℕ) → is_doomed r m ≡ true → is_doomed (with_ended r n res bytes) m ≡ true
   doom_stays m doomed =
       elim (or_cases (is_in_faulty_group r m) (is_behind_failure r m) doomed) [
-        | inl faulty ↦ or_left _ _ (fault_ended m ∙ faulty)
+        | inl faulty ↦ or_left _ _ (faulty_ended r n res bytes m ∙ faulty)
         | inr behind ↦
             let t = is_behind_failure_tells r m behind in
             let f = t.1 in
