@@ -6,7 +6,7 @@ use Rattle.uring_entry.specs.Layout.{Sqe}
 use Rattle.uring_entry.specs.Requests.{Ending, no_bytes}
 use Rattle.uring_entry.specs.Requests as manual
 use Rattle.uring_linux.specs.Drains.{Drains, is_in_some}
-use Rattle.uring_linux.specs.LinuxRequests.{LinuxRequests, is_deferred, is_in_turn}
+use Rattle.uring_linux.specs.LinuxRequests.{LinuxRequests}
 use Rattle.uring_linux.specs.LinuxRequests as kernel
 use Rattle.uring_rules.specs.Rules.{ends_doomed, may_start, cancel_result, posts, next_of, with_issued_end, drains_called, drains_ended}
 use Rattle.uring_laws.specs.Swaps.{StandAlike}

@@ -5,7 +5,7 @@ use Rattle.std.proofs.lemmas.Bool.{and_parts, cases_Bool, both_ways, not-true, n
 use Rattle.uring_entry.specs.Layout.{Sqe}
 use Rattle.uring_entry.specs.Preparation.{is_cancel}
 use Rattle.uring_entry.specs.Requests as manual
-use Rattle.uring_entry.specs.Requests.{Requests, entry_of, has_ended, is_outstanding, is_joined, is_linked, is_draining, is_drain, is_ready, waits_for, holds_back, with_call}
+use Rattle.uring_entry.specs.Requests.{Requests, has_ended, is_outstanding, is_joined, is_linked, is_draining, is_drain, is_ready, waits_for, holds_back, with_call}
 use Rattle.uring_entry.proofs.BelowLemmas.{some_below_same, some_below_in}
 use Rattle.uring_entry.specs.Below.{some_below}
 use Rattle.uring_linux.specs.declared.deferred.Deferred.{Deferred}

@@ -4,7 +4,7 @@ use Rattle.std.specs.Prelude.{if◌then◌else◌, nat_lt}
 use Rattle.std.proofs.lemmas.Bool.{cases_lt, cases_Bool, eq-eqb, ne_eqb, lt-ltb, both_ways, and_left, and_right, and_from, and_parts, or_left, or_right, or_cases, or_parts, or_from, not-true, not-false, ltb-true, ltb-false, false_from_ne_true}
 use Rattle.uring_entry.specs.Layout.{Sqe}
 use Rattle.uring_entry.specs.Requests as manual
-use Rattle.uring_entry.specs.Requests.{Requests, entry_of, is_linked, is_drain, is_last, is_joined, is_in_group, has_started, has_ended, is_outstanding}
+use Rattle.uring_entry.specs.Requests.{Requests, entry_of, is_linked, is_drain, is_last, is_joined, is_in_group, has_ended}
 use Rattle.uring_entry.proofs.BelowLemmas.{some_below_none, some_below_some, some_below_in, some_below_out}
 use Rattle.uring_entry.proofs.RequestLemmas.{is_joined_no, is_joined_yes, entry_of_accepted_at}
 use Rattle.uring_entry.proofs.GroupEvents.{is_last_cut, is_last_cut_last}

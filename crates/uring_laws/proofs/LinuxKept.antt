@@ -4,7 +4,7 @@ use Rattle.std.specs.Prelude.{nat_le, nat_lt}
 use Rattle.std.proofs.lemmas.Bool.{cases_lt, both_ways, and_from, and_parts}
 use Rattle.uring_entry.specs.Layout.{Sqe}
 use Rattle.uring_entry.specs.Requests as manual
-use Rattle.uring_entry.specs.Requests.{Requests, entry_of, is_linked, is_drain, is_last, is_joined, is_in_group, has_started, has_ended, is_outstanding}
+use Rattle.uring_entry.specs.Requests.{Requests, entry_of, is_drain, is_last, is_joined, is_in_group, has_ended}
 use Rattle.uring_entry.proofs.BelowLemmas.{some_below_some, some_below_in, some_below_same}
 use Rattle.uring_entry.proofs.RequestLemmas.{is_joined_no}
 use Rattle.uring_entry.proofs.GroupEvents.{entry_same, is_last_cut}

@@ -4,7 +4,7 @@ use Rattle.std.specs.Prelude.{if◌then◌else◌, nat_lt}
 use Rattle.std.proofs.lemmas.Bool.{cases_lt, cases_eq, cases_Bool, both_ways, and_parts, or_cases, or_parts, or_from, not-true, not-false, ltb-true, ltb-false, ne_eqb}
 use Rattle.uring_entry.specs.Layout.{Sqe}
 use Rattle.uring_entry.specs.Requests as manual
-use Rattle.uring_entry.specs.Requests.{Requests, entry_of, is_linked, is_last, is_joined, is_in_group, is_outstanding, has_started}
+use Rattle.uring_entry.specs.Requests.{Requests, is_linked, is_last, is_outstanding, has_started}
 use Rattle.uring_entry.proofs.RequestLemmas.{added_other, entry_of_accepted_at}
 use Rattle.uring_entry.proofs.GroupEvents.{is_last_cut}
 use Rattle.uring_linux.specs.declared.deferred.Deferred.{Deferred}
