@@ -3,10 +3,12 @@
  * of the streams that running requests wait for. The eventfd also tells the instance from others, and so does a mark.
  *
  * The layer isn't told when the application reaps: so the eventfd stays set until the next call, and meanwhile
- * IORING_SQ_TASKRUN makes a peek that finds nothing call.
+ * IORING_SQ_TASKRUN makes a peek that finds nothing call. Nor is it told who waits for edges, as an epoll instance may, of any process that has the
+ * descriptor: so each call that posts writes the eventfd, though it is set, unless WULGACH_EDGES says that nobody does.
  */
 #define _GNU_SOURCE
 #include "readiness.h"
+#include "fault.h"
 #include "numbers.h"
 #include "operations.h"
 #include "passing.h"
@@ -14,6 +16,7 @@
 #include "waiting.h"
 
 #include <errno.h>
+#include <pthread.h>
 #include <stdlib.h>
 #include <string.h>
 #include <sys/epoll.h>
@@ -38,9 +41,21 @@ static uint64_t make_mark(int fd)
     return ioctl(fd, SETS_MARK, &mark) == 0 ? mark : 0;
 }
 
+static bool may_wait_for_edges;
+
+static void read_environment(void)
+{
+    const char *word = getenv("WULGACH_EDGES");
+    bool is_no = word && strcmp(word, "no") == 0;
+    demand(is_no || !word || !*word || strcmp(word, "yes") == 0, "WULGACH_EDGES is yes or no");
+    may_wait_for_edges = !is_no;
+}
+
 int make_polled(struct ring *ring)
 {
+    static pthread_once_t once = PTHREAD_ONCE_INIT;
     struct epoll_event event = {.events = EPOLLIN};
+    pthread_once(&once, read_environment);
     int fd = epoll_create1(EPOLL_CLOEXEC);
     if (fd < 0)
         return -errno;
@@ -196,9 +211,9 @@ void show_readiness(struct ring *ring)
     uint32_t head = load_word(&ring->memory.cq->head);
     bool is_readable = wulgach_shown_is_readable(&ring->completions.at, head, false) || wulgach_shown_is_readable(&ring->completions.at, head, can_go_on(ring) || can_pass_time(ring));
     /* (another thread or process may wait for an edge, or this one between its calls) */
-    if (!wulgach_tells_anew(ring->is_readable, is_readable, has_posted(ring), true))
+    if (!wulgach_tells_anew(ring->is_readable, is_readable, has_posted(ring), may_wait_for_edges))
         return;
     ring->is_readable = is_readable;
-    ssize_t done = is_readable ? write(ring->ready_fd, &one, sizeof one) : read(ring->ready_fd, &one, sizeof one);
-    (void)done;
+    /* (by the kernel's call itself: the C library's asks besides whether the thread is cancelled) */
+    pass(is_readable ? SYS_write : SYS_read, ring->ready_fd, (long)&one, sizeof one, 0, 0, 0);
 }
