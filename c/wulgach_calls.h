@@ -111,9 +111,11 @@ bool wulgach_can_have(uint8_t code, bool is_stream, uint64_t length, uint32_t fa
 bool wulgach_given_result(uint32_t fault, int32_t *res);
 
 /* Whether SIGXFSZ may have come of an operation that ended with this: of a write, FALLOCATE or SPLICE, with -27 (EFBIG). In a kernel a worker of
- * its own has the signal, and the program gets none. And whether a signal that was taken is the call's, by its code (si_code), and by whether
- * this process is told as its sender (si_pid): another is to be pending again. */
+ * its own has the signal, and the program gets none. Whether it may have come at all, where this is the greatest length that the process may give
+ * a file (getrlimit(2), RLIMIT_FSIZE), if that is known: unless it is 2^64 - 1 (RLIM_INFINITY), or isn't known. And whether a signal that was taken
+ * is the call's, by its code (si_code), and by whether this process is told as its sender (si_pid): another is to be pending again. */
 bool wulgach_may_signal(const struct wulgach_submission *entry, int32_t res);
+bool wulgach_is_limited(bool knows, uint64_t most);
 bool wulgach_is_signal_of_call(int32_t code, bool is_own);
 
 #ifdef __cplusplus

@@ -210,6 +210,10 @@ struct wulgach_message {
     uint32_t flags;
 };
 
+/* Whether the file that the entry of a message names may be a ring's: one that IOSQE_FIXED_FILE names never is, since a ring's can't be
+ * registered (io_uring_register(2), IORING_REGISTER_FILES). */
+bool wulgach_may_be_ring(const struct wulgach_submission *entry);
+
 /* Returns what a message to this ring does (enum wulgach_sending), and writes its error, or 0. The first of these counts: -9 (EBADF) to what
  * isn't open; -77 (EBADFD) to what is no ring; -22 (EINVAL) of data with what belongs to files (`addr3`, IORING_MSG_RING_CQE_SKIP, and
  * without IORING_MSG_RING_FLAGS_PASS `file_index`), of a file with a length or to the sender itself, and of what is neither; -77 to a ring

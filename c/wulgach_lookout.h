@@ -157,18 +157,25 @@ bool wulgach_keeps_before_close(uint64_t number, int32_t fd, uint64_t closing, i
  * names isn't open on the same file. */
 bool wulgach_may_close_last(bool has_file, bool is_of_slot, bool is_same);
 
-/* Whether a copy of a file's descriptor stays open that nobody needs: the process has locks on the file, which it would lose; where fewer than so
- * many stay already. */
-bool wulgach_stays_open(bool is_locked, uint64_t left, uint64_t most);
+/* Whether it is asked, as a copy of a file's descriptor is to be closed that nobody needs, if the process has locks on the file: of a regular one.
+ * Then it is asked of each copy that has stayed so far too. Our own rule. */
+bool wulgach_asks_locks(bool is_regular);
+
+/* How many such copies stay open at most. */
+enum { WULGACH_MOST_LEFT = 256 };
+
+/* Whether such a copy stays open, or one that has stayed so far, beside so many others: the process has locks on the file, which it would lose
+ * (fcntl(2)), and fewer than WULGACH_MOST_LEFT others stay. Our own rule. */
+bool wulgach_stays_open(bool is_locked, uint64_t others);
 
 /* ---- what others hear ---- */
 
 /* Whether a pipe counts as written to behind an event: events were dropped, or it tells of a write to this pipe. */
 bool wulgach_counts_as_written(bool is_dropped, bool is_write, bool is_own);
 
-/* Whether whoever polls a ring's descriptor is told anew: that it is readable now, or isn't any more; or that more was posted while it was, where
- * another thread may wait for an edge. */
-bool wulgach_tells_anew(bool was_readable, bool is_readable, bool has_posted, bool may_have_others);
+/* Whether whoever polls a ring's descriptor is told anew: that it is readable now, or isn't any more; or that more was posted while it was, since
+ * somebody may wait for an edge. */
+bool wulgach_tells_anew(bool was_readable, bool is_readable, bool has_posted);
 
 #ifdef __cplusplus
 }

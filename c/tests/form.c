@@ -145,6 +145,7 @@ static int32_t sending(struct wulgach_submission entry, struct wulgach_receiver 
 static void send(void)
 {
     struct wulgach_receiver closed = {0}, file = {.is_open = true}, ring = {true, true, false, false}, own = {true, true, true, false}, disabled = {true, true, false, true};
+    demand(wulgach_may_be_ring(&(struct wulgach_submission){.opcode = 40, .flags = 4}) && !wulgach_may_be_ring(&(struct wulgach_submission){.opcode = 40, .flags = 1}), "a registered file is no ring");
     demand(SENDING(closed, .addr = 9) == -9 && SENDING(file, .addr = 9) == -77 && SENDING(ring, .addr = 2) == -22, "to what it is sent");
     demand(SENDING(ring, .len = 7) == 1 && SENDING(own, .len = 7) == 1 && SENDING(disabled, .len = 7) == -77, "data");
     demand(SENDING(ring, .addr = 1L << 32, .addr3 = 1L << 32) == 1 && SENDING(disabled, .addr3 = 1) == -22 && SENDING(ring, .op_flags = 1) == -22, "what belongs to files");

@@ -224,17 +224,17 @@ static void keep_files(void)
 {
     demand(wulgach_keeps_before_close(3, 5, 4, 5) && !wulgach_keeps_before_close(4, 5, 4, 5) && !wulgach_keeps_before_close(5, 5, 4, 5) && !wulgach_keeps_before_close(3, 6, 4, 5), "before a close");
     demand(wulgach_may_close_last(true, true, true) && wulgach_may_close_last(true, false, false) && !wulgach_may_close_last(true, false, true) && !wulgach_may_close_last(false, true, false), "the last descriptor of a file");
-    demand(wulgach_stays_open(true, 1, 2) && !wulgach_stays_open(true, 2, 2) && !wulgach_stays_open(false, 0, 2), "a copy of what is locked");
+    demand(wulgach_asks_locks(true) && !wulgach_asks_locks(false), "what has locks");
+    demand(wulgach_stays_open(true, WULGACH_MOST_LEFT - 1) && !wulgach_stays_open(true, WULGACH_MOST_LEFT) && !wulgach_stays_open(false, 0), "a copy of what is locked");
 }
 
 static void tell_others(void)
 {
-    static const struct { bool was_readable, is_readable, has_posted, may_have_others, is_told; } rows[] = {
-        {false, true, false, false, true}, {true, false, true, true, true}, {false, false, true, true, false},
-        {true, true, true, true, true}, {true, true, true, false, false}, {true, true, false, true, false},
+    static const struct { bool was_readable, is_readable, has_posted, is_told; } rows[] = {
+        {false, true, false, true}, {true, false, true, true}, {false, false, true, false}, {true, true, true, true}, {true, true, false, false},
     };
     for (size_t i = 0; i < sizeof rows / sizeof *rows; i++)
-        demand(wulgach_tells_anew(rows[i].was_readable, rows[i].is_readable, rows[i].has_posted, rows[i].may_have_others) == rows[i].is_told, "who polls the ring's descriptor");
+        demand(wulgach_tells_anew(rows[i].was_readable, rows[i].is_readable, rows[i].has_posted) == rows[i].is_told, "who polls the ring's descriptor");
     demand(wulgach_counts_as_written(true, false, false) && wulgach_counts_as_written(false, true, true) && !wulgach_counts_as_written(false, true, false) && !wulgach_counts_as_written(false, false, true), "a pipe that was written to");
 }
 

@@ -96,13 +96,12 @@ static int32_t notify(struct ring *ring, struct request *request, int32_t res)
     bool reports = request->entry.ioprio & IORING_SEND_ZC_REPORT_USAGE;
     if (!wulgach_course_notice(&request->course, reports, can_post_extra(ring), &shown))
         return res;
-    if (!post_event(ring, request, res, WULGACH_PART_SENT)) {
-        /* (what is put off comes last: so that is the notice) */
+    uint32_t end = wulgach_end_of_send(post_event(ring, request, res, WULGACH_PART_SENT));
+    request->flags = wulgach_completion_flags(end, request->flags);
+    if (end == WULGACH_PART_SENT) {
         change_unposted(ring, shown, wulgach_completion_flags(WULGACH_PART_NOTICE, 0));
-        request->flags = wulgach_completion_flags(WULGACH_PART_SENT, request->flags);
         return res;
     }
-    request->flags = wulgach_completion_flags(WULGACH_PART_NOTICE, 0);
     note_fact(request, WULGACH_FACT_NOTIFIED, shown);
     return shown;
 }
@@ -223,10 +222,13 @@ bool can_go_on(struct ring *ring)
 
 void end_cancelled(struct ring *ring)
 {
+    struct wulgach_awaiting awaiting;
+    wulgach_awaiting_begin(&awaiting);
     for (size_t i = 0; i < ring->requests.count;) {
         struct request *request = ring->requests.rows[i];
         bool may_start = wulgach_course_asks_start(&request->course) && can_issue(ring, request->number);
-        uint32_t awaited = wulgach_course_awaited(&request->course, may_start);
+        uint32_t awaited = wulgach_awaiting_sees(&awaiting, request->number, &request->course, may_start);
+        demand(awaited != WULGACH_WRONG_TURN, "a cancel looks at a request out of its turn");
         if (awaited == WULGACH_NOT_AWAITED) {
             i++;
             continue;
@@ -234,6 +236,7 @@ void end_cancelled(struct ring *ring)
         record_break();
         if (awaited == WULGACH_AWAITED_RUNS || issue_waiting(ring, request))
             finish_running(ring, request);
+        wulgach_awaiting_ends(&awaiting);
     }
 }
 

@@ -7,7 +7,7 @@ ghost use Rattle.uring_c.specs.DutyForm.{word_of_duties};
 use uring_enter::{
     Duties, Resting, duties_at_begin, duties_at_register_begin, duties_at_register_return,
     duties_at_rest, duties_at_return, duties_before, duties_before_posting, duties_before_sleep,
-    duties_behind_posting, polls_writes,
+    duties_behind_posting, duties_behind_storing, polls_writes,
 };
 use uring_register::may_post;
 
@@ -93,6 +93,14 @@ pub extern "C" fn wulgach_duties_behind_posting(has_ends: bool, is_polled: bool)
     duties_word(duties_behind_posting(has_ends, is_polled))
 }
 
+/// What is done behind completions that were stored, of so many of which a registered eventfd is told.
+#[unsafe(no_mangle)]
+pub extern "C" fn wulgach_duties_behind_storing(told: u64) -> u32
+    ensures { result ≡ word_of_duties (spec.behind_storing told) }
+{
+    duties_word(duties_behind_storing(told))
+}
+
 /// What a call does before the operation of this code is carried out.
 #[unsafe(no_mangle)]
 pub extern "C" fn wulgach_duties_before(code: u8, has_ends: bool) -> u32
@@ -114,6 +122,7 @@ fn duties_word(duties: Duties) -> u32
         | bit(128, duties.tells_readiness)
         | bit(256, duties.hears_application)
         | bit(512, duties.shows_flags)
+        | bit(1024, duties.tells_eventfd)
 }
 
 fn bit(weight: u32, is_due: bool) -> u32

@@ -70,3 +70,5 @@ pub mod CallResults
 pub mod Openness
 pub mod Signals
 pub mod Keeping
+pub mod Prospects
+pub mod Awaiting

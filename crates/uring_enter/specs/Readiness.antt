@@ -44,9 +44,13 @@ seeks_buffer_at_start s n = n.selects && s.is_stream
 abbrev pub polls : Standing → Bool
 polls s = s.is_stream
 
--- whether a request that runs is to be given a descriptor of its own behind the call in which it began to wait, since the application may close its: one that may have to wait keeps its file as the kernel does, unless a registered file or an epoll instance keeps it
-abbrev pub keeps_open : Standing → (has_registered has_epoll : Bool) → Bool
-keeps_open s has_registered has_epoll = s.is_stream && not has_registered && not has_epoll
+-- whether a request has found a file by a descriptor's number: it was looked for, nothing was amiss, and it needs one that is no slot's
+abbrev pub has_found : Needs → (is_sought : Bool) → (fault : ℤ) → Bool
+has_found n is_sought fault = n.needs_file && not n.is_registered && is_sought && int_eq fault (pos 0)
+
+-- whether a request is to be given a descriptor of its own, since the application may close its: a kernel's request has its file from the moment in which it finds that. One that may have to wait has found it, and so has another as above; but who has a file that is kept for it, as that of a slot is, needs no other. Our own rule
+abbrev pub keeps_open : Standing → Needs → (is_sought : Bool) → (fault : ℤ) → (has_file : Bool) → Bool
+keeps_open s n is_sought fault has_file = not has_file && (s.is_stream || has_found n is_sought fault)
 
 -- the same moment, where its descriptor is ready or isn't
 abbrev pub with_descriptor : Moment → Bool → Moment

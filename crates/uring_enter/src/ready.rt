@@ -138,11 +138,24 @@ pub fn polls(standing: &Standing) -> bool
     standing.is_stream
 }
 
-/// Whether a request that runs keeps its file open behind the call, where it has a registered one or not, and an epoll instance that keeps it or not.
-pub fn keeps_open(standing: &Standing, has_registered: bool, has_epoll: bool) -> bool
-    ensures { result ≡ spec.keeps_open standing.now has_registered has_epoll }
+/// Whether a request is to be given a descriptor of its own, so that it keeps its file whatever the application closes: from the end of a call on, or before a close. Its file was looked for or wasn't, with this error or 0, and one is kept for it already or isn't. Our own rule.
+pub fn keeps_open(
+    standing: &Standing,
+    needs: &Needs,
+    is_sought: bool,
+    fault: i32,
+    has_file: bool,
+) -> bool
+    ensures { result ≡ spec.keeps_open standing.now needs.now is_sought fault has_file }
 {
-    standing.is_stream && !has_registered && !has_epoll
+    !has_file && (standing.is_stream || has_found(needs, is_sought, fault))
+}
+
+/// Whether a request has found a file by a descriptor's number.
+fn has_found(needs: &Needs, is_sought: bool, fault: i32) -> bool
+    ensures { result ≡ spec.has_found needs.now is_sought fault }
+{
+    is_sought && fault == 0 && needs.needs_file && !needs.is_registered
 }
 
 /// Whether a request that runs waits for its descriptor alone, so that it needn't be looked at until that is ready.
