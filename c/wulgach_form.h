@@ -224,6 +224,11 @@ uint32_t wulgach_sending_of(const struct wulgach_submission *entry, const struct
  * that result. False: nothing, of what has failed or has IORING_MSG_RING_CQE_SKIP. */
 bool wulgach_told_of(const struct wulgach_submission *entry, int32_t res, struct wulgach_message *message);
 
+/* Whether a message that a ring was sent is posted now, where there is one and a completion may be posted, or may not: by whoever is in a call on the
+ * ring, before anything goes on there; and by who has left such a call or has sent a message, as long as there are others and nobody is in one. Our own
+ * rule. */
+bool wulgach_posts_message(bool is_there, bool may_post);
+
 /* What the sender of a message does behind it. */
 enum wulgach_visit {
     WULGACH_VISITS_NOBODY = 0,

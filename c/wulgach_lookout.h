@@ -111,9 +111,11 @@ bool wulgach_starts_poll(const struct wulgach_needs *needs, int32_t fault);
  * it is carried out. */
 bool wulgach_seeks_buffer_at_start(const struct wulgach_standing *standing, const struct wulgach_needs *needs);
 
-/* Whether a request that runs waits for its descriptor alone: it may have to wait for that and for no second one, is no timeout, takes no provided
- * buffer or has found one, and no cancel has found it. It can't be finished while its descriptor isn't ready, so it needn't be asked meanwhile. */
-bool wulgach_waits_for_descriptor_alone(const struct wulgach_standing *standing, const struct wulgach_needs *needs, const struct wulgach_course *course);
+/* Whether a request that runs becomes dormant, so that an epoll instance tells of it in the place of a look in each call: its descriptor was found
+ * unready, the instance hasn't refused it, and it waits for that descriptor alone. So does one that may have to wait for it and for no second one,
+ * is no timeout, takes no provided buffer or has found one, and that no cancel has found: it can't be finished while its descriptor isn't ready, so
+ * it needn't be asked meanwhile. Our own rule. */
+bool wulgach_lies_down(const struct wulgach_standing *standing, const struct wulgach_needs *needs, const struct wulgach_course *course, bool is_unready, bool is_refused);
 
 /* It was carried out, and would have waited. */
 void wulgach_waiter_waits(struct wulgach_waiter *waiter, struct wulgach_lookout *lookout);

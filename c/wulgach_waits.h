@@ -249,6 +249,10 @@ enum wulgach_beginning {
     WULGACH_SLEEPS = 2
 };
 
+/* What a sleep came to, where its ppoll(2) came to this (0 or more, or an error number's negative): that; but -4 (EINTR) in a child that was forked
+ * meanwhile, as by a signal's handler, and leaves its parent's ring as it is. Our own rule. */
+int32_t wulgach_sleep_came_to(int32_t res, bool is_child);
+
 /* Returns whether a sleep begins (enum wulgach_beginning) whose arguments have this fault, or 0, and before which a poll was told, or none. */
 uint32_t wulgach_sleep_begins(int32_t fault, bool is_told);
 

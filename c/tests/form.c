@@ -199,6 +199,7 @@ static void do_nothing(void)
 static void visit(void)
 {
     struct wulgach_receiver none = {.is_open = true}, ring = {true, true, false, false}, own = {true, true, true, false};
+    demand(wulgach_posts_message(true, true) && !wulgach_posts_message(true, false) && !wulgach_posts_message(false, true), "which message is posted");
     demand(wulgach_visit_of(&none, 0) == WULGACH_VISITS_NOBODY && wulgach_visit_of(&ring, 0) == WULGACH_VISITS_OTHER && wulgach_visit_of(&own, 0) == WULGACH_POSTS_OWN && wulgach_visit_of(&ring, -9) == WULGACH_VISITS_NOBODY, "who posts a message");
 }
 

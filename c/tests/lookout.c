@@ -99,10 +99,11 @@ static void ask_again(void)
     find_waiting(&waiter, &lookout);
     wulgach_waiter_meets_cancel(&waiter);
     demand(wulgach_can_finish(&waiter, &lookout, &none, &no_needs, &is_cancelled, &unknown) == WULGACH_LOOK_FINISHES, "one that a cancel has found");
-    demand(wulgach_waits_for_descriptor_alone(&stream, &no_needs, &runs) && !wulgach_waits_for_descriptor_alone(&none, &no_needs, &runs) && !wulgach_waits_for_descriptor_alone(&stream, &no_needs, &is_cancelled), "one that waits for its descriptor alone");
+    demand(wulgach_lies_down(&stream, &no_needs, &runs, true, false) && !wulgach_lies_down(&none, &no_needs, &runs, true, false) && !wulgach_lies_down(&stream, &no_needs, &is_cancelled, true, false), "one that waits for its descriptor alone");
+    demand(!wulgach_lies_down(&stream, &no_needs, &runs, false, false) && !wulgach_lies_down(&stream, &no_needs, &runs, true, true), "whose descriptor is unready, and which an instance takes");
     demand(wulgach_starts_poll(&(struct wulgach_needs){.is_poll = true}, 0) && !wulgach_starts_poll(&(struct wulgach_needs){.is_poll = true}, -9) && !wulgach_starts_poll(&no_needs, 0), "a poll that hasn't failed asks for its events");
     demand(wulgach_seeks_buffer_at_start(&stream, &(struct wulgach_needs){.selects = true}) && !wulgach_seeks_buffer_at_start(&none, &(struct wulgach_needs){.selects = true}) && !wulgach_seeks_buffer_at_start(&stream, &no_needs), "and what may wait looks for its buffer");
-    demand(!wulgach_waits_for_descriptor_alone(&stream, &(struct wulgach_needs){.selects = true}, &runs) && !wulgach_waits_for_descriptor_alone(&stream, &(struct wulgach_needs){.is_timeout = true}, &runs) && !wulgach_waits_for_descriptor_alone(&stream, &(struct wulgach_needs){.needs_second = true}, &runs), "and one that doesn't");
+    demand(!wulgach_lies_down(&stream, &(struct wulgach_needs){.selects = true}, &runs, true, false) && !wulgach_lies_down(&stream, &(struct wulgach_needs){.is_timeout = true}, &runs, true, false) && !wulgach_lies_down(&stream, &(struct wulgach_needs){.needs_second = true}, &runs, true, false), "and one that doesn't");
     wulgach_waiter_waits(&other, &lookout);
     demand(ask(&other, &lookout, &ready) == WULGACH_LOOK_WAITS, "one that would have waited");
     wulgach_lookout_moves(&lookout);
@@ -215,6 +216,7 @@ static void sleep_or_not(void)
 {
     demand(wulgach_fires_behind(&(struct wulgach_waited){0}) && !wulgach_fires_behind(&(struct wulgach_waited){.result = -4}) && !wulgach_fires_behind(&(struct wulgach_waited){.is_never = true}), "behind which sleep a timeout fires");
     demand(wulgach_sleep_begins(-14, true) == WULGACH_SLEEP_FAILS && wulgach_sleep_begins(0, true) == WULGACH_SLEEP_WAKES && wulgach_sleep_begins(0, false) == WULGACH_SLEEPS, "whether a sleep begins");
+    demand(wulgach_sleep_came_to(2, false) == 2 && wulgach_sleep_came_to(-12, false) == -12 && wulgach_sleep_came_to(2, true) == -4, "a child leaves a sleep");
     demand(waited((struct wulgach_waited){0}) == WULGACH_WOKEN && waited((struct wulgach_waited){.is_over = true}) == WULGACH_TIMED_OUT, "a sleep that ends");
     demand(waited((struct wulgach_waited){.result = -4, .is_over = true}) == WULGACH_INTERRUPTED && waited((struct wulgach_waited){.result = -12}) == WULGACH_FAILED, "a sleep that fails");
     demand(waited((struct wulgach_waited){.is_never = true}) == WULGACH_ENDLESS && waited((struct wulgach_waited){.is_never = true, .has_messages = true}) == WULGACH_ENDLESS && waited((struct wulgach_waited){.is_never = true, .has_messages = true, .may_post = true}) == WULGACH_WOKEN, "nothing to wait for");

@@ -142,11 +142,17 @@ static struct message *take_message(struct inbox *inbox)
     return message;
 }
 
+static bool posts_message(struct ring *ring)
+{
+    bool is_there = has_messages(ring);
+    return wulgach_posts_message(is_there, is_there && can_post_extra(ring));
+}
+
 /* (mostly there are none, which is found without a call) */
 __attribute__((noinline)) static void post_waiting(struct ring *ring)
 {
     struct message *message;
-    while (has_messages(ring) && can_post_extra(ring) && (message = take_message(&ring->inbox))) {
+    while (posts_message(ring) && (message = take_message(&ring->inbox))) {
         post(ring, 0, true, message->user_data, message->res, message->flags);
         free(message);
     }

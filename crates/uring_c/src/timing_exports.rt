@@ -9,7 +9,7 @@ ghost use Rattle.uring_enter.specs.Timings.{Happened, Starts, IsFound, Ends, was
 ghost use Rattle.uring_enter.specs.Visits as visits;
 ghost use Rattle.uring_c.specs.RingForm.{word_of_timing, word_of_visit, word_of_awaited, word_of_turn};
 
-use uring_enter::{Awaited, Awaiting, Course, Member, Receiver, Timing, Visit, visit_of};
+use uring_enter::{Awaited, Awaiting, Course, Member, Receiver, Timing, Visit, posts_message, visit_of};
 
 /// Returns what becomes of a timeout's time when a request starts.
 #[unsafe(no_mangle)]
@@ -65,6 +65,14 @@ pub extern "C" fn wulgach_visit_of(to: &Receiver, res: i32) -> u32
         Visit::Posts => 1,
         Visit::Visits => 2,
     }
+}
+
+/// Whether a message that a ring was sent is posted now, where there is one and a completion may be posted, or may not.
+#[unsafe(no_mangle)]
+pub extern "C" fn wulgach_posts_message(is_there: bool, may_post: bool) -> bool
+    ensures { result ≡ visits.posts_message is_there may_post }
+{
+    posts_message(is_there, may_post)
 }
 
 /// Whether the update of a poll begins it afresh.

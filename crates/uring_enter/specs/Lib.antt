@@ -72,3 +72,4 @@ pub mod Signals
 pub mod Keeping
 pub mod Prospects
 pub mod Awaiting
+pub mod Syncing

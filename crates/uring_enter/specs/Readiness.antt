@@ -79,6 +79,11 @@ waits_for_descriptor_alone s n is_cancelled =
     if n.needs_second then false else
     if n.selects && not s.has_found_buffer then false else s.is_stream
 
+-- whether it becomes dormant, so that an epoll instance tells of it in the place of a look in each call: its descriptor was looked at and isn't ready, and the instance takes it. Our own rule
+abbrev pub lies_down : Standing → Needs → (is_cancelled is_unready is_refused : Bool) → Bool
+lies_down s n is_cancelled is_unready is_refused =
+    is_unready && not is_refused && waits_for_descriptor_alone s n is_cancelled
+
 -- one that does can't be finished while its descriptor isn't ready, whatever else is so: it needn't be looked at until the kernel tells that it is
 abbrev pub NeedsNoLook : Type 0
 NeedsNoLook = (s : Standing) (n : Needs) (has_to_wait is_cancelled : Bool) (m : Moment)

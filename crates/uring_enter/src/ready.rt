@@ -159,7 +159,7 @@ fn has_found(needs: &Needs, is_sought: bool, fault: i32) -> bool
 }
 
 /// Whether a request that runs waits for its descriptor alone, so that it needn't be looked at until that is ready.
-pub fn waits_for_descriptor_alone(standing: &Standing, needs: &Needs, course: &Course) -> bool
+fn waits_for_descriptor_alone(standing: &Standing, needs: &Needs, course: &Course) -> bool
     ensures { (log : List Fact) → KeepsCourse log course.now
         → result ≡ spec.waits_for_descriptor_alone standing.now needs.now (is_cancelled log) }
 {
@@ -170,6 +170,20 @@ pub fn waits_for_descriptor_alone(standing: &Standing, needs: &Needs, course: &C
     } else {
         standing.is_stream
     }
+}
+
+/// Whether a request that runs becomes dormant, so that an epoll instance tells of it in the place of a look at it in each call: its descriptor was found unready, and the instance hasn't refused it. Our own rule.
+pub fn lies_down(
+    standing: &Standing,
+    needs: &Needs,
+    course: &Course,
+    is_unready: bool,
+    is_refused: bool,
+) -> bool
+    ensures { (log : List Fact) → KeepsCourse log course.now
+        → result ≡ spec.lies_down standing.now needs.now (is_cancelled log) is_unready is_refused }
+{
+    is_unready && !is_refused && waits_for_descriptor_alone(standing, needs, course)
 }
 
 fn told(finishes: bool) -> Look
