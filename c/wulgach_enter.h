@@ -177,6 +177,10 @@ uint32_t wulgach_duties_behind_storing(uint64_t told);
  * heard. */
 uint32_t wulgach_duties_before(uint8_t code, bool has_ends);
 
+/* Whether a sleep polls the epoll instance that tells of those that are dormant, of which there are so many: there are any. Then the call waits for
+ * descriptors. */
+bool wulgach_polls_instance(uint64_t dormant);
+
 /* Whether a sleep polls what tells of writes to pipes, of which so many are watched: there are any. */
 bool wulgach_polls_writes(uint64_t watched);
 

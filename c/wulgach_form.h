@@ -51,6 +51,13 @@ enum wulgach_form {
  * What the entry points to isn't looked at. */
 uint32_t wulgach_form_of(const struct wulgach_submission *entry, int32_t refusal, bool is_allowed, int32_t *fault);
 
+/* Whether what an entry points to is copied that is this (enum wulgach_form): of one with a fault nothing is, so it ends with that. */
+bool wulgach_copies_pieces(uint32_t form);
+
+/* Whether what copying what an entry points to came to is a fault of the entry's own, with which it is refused: an error, but -12 (ENOMEM). Then memory
+ * was refused to whoever copies it, and the call ends before the entry: our own rule. */
+bool wulgach_is_own_fault(int32_t fault);
+
 /* Returns what an entry is that was this before (enum wulgach_form), once what it points to is copied with this fault, or 0: one with a fault
  * is refused, and another stays what it was. */
 uint32_t wulgach_form_copied(uint32_t was, int32_t fault);

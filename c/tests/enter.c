@@ -233,6 +233,7 @@ static void do_duties(void)
     check(wulgach_duties_behind_storing(0) == LAST && wulgach_duties_behind_storing(3) == (LAST | BIT(WULGACH_TELLS_EVENTFD)) && LAST < BIT(WULGACH_TELLS_EVENTFD), "where completions were stored");
     check(FIRST < TIME && FOUND < FILES && FILES < PIPES && PIPES < DORMANT && DORMANT < ENDS && ENDS < READINESS && ENDS < APPLICATION && READINESS < LAST, "their order");
     check(wulgach_polls_writes(1) && !wulgach_polls_writes(0), "a sleep beside pipes");
+    check(wulgach_polls_instance(1) && !wulgach_polls_instance(0), "a sleep beside those that are dormant");
 }
 
 static void do_some_duties(void)

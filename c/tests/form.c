@@ -199,6 +199,8 @@ static void do_nothing(void)
 static void visit(void)
 {
     struct wulgach_receiver none = {.is_open = true}, ring = {true, true, false, false}, own = {true, true, true, false};
+    demand(wulgach_copies_pieces(WULGACH_FORM_TOKEN) && wulgach_copies_pieces(WULGACH_FORM_CANCEL) && !wulgach_copies_pieces(WULGACH_FORM_REFUSED), "of what is copied");
+    demand(wulgach_is_own_fault(-14) && !wulgach_is_own_fault(-12) && !wulgach_is_own_fault(0), "whose fault it is");
     demand(wulgach_posts_message(true, true) && !wulgach_posts_message(true, false) && !wulgach_posts_message(false, true), "which message is posted");
     demand(wulgach_visit_of(&none, 0) == WULGACH_VISITS_NOBODY && wulgach_visit_of(&ring, 0) == WULGACH_VISITS_OTHER && wulgach_visit_of(&own, 0) == WULGACH_POSTS_OWN && wulgach_visit_of(&ring, -9) == WULGACH_VISITS_NOBODY, "who posts a message");
 }

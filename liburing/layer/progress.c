@@ -127,24 +127,48 @@ static void finish_running(struct ring *ring, struct request *request)
     end_of(ring, request, res, told);
 }
 
-/* The core let a request start. */
+static void do_step_of_start(struct ring *ring, struct request *request, enum wulgach_step_of_start step)
+{
+    switch (step) {
+    case WULGACH_FINDS_EARLIER:
+        assign_before(ring, request->number);
+        return;
+    case WULGACH_FINDS_OWN:
+        assign(ring, request);
+        return;
+    case WULGACH_BEGINS_TIME:
+        note_started(ring, request);
+        return;
+    case WULGACH_ASKS_EVENTS:
+        request->started = start_poll(request);
+        return;
+    case WULGACH_LOOKS:
+        look_at(ring, request);
+        return;
+    case WULGACH_SEEKS_BUFFER:
+        finds_buffer(ring, request);
+        return;
+    }
+    __builtin_unreachable();
+}
+
+/* Does what is in a set, by rising bits. */
+static void do_steps(struct ring *ring, struct request *request, uint32_t steps)
+{
+    for (; steps; steps &= steps - 1)
+        do_step_of_start(ring, request, (enum wulgach_step_of_start)__builtin_ctz(steps));
+}
+
+/* The core let a request start: what is done then, and in which order, is the library's decision. */
 static void start(struct ring *ring, struct request *request)
 {
     demand(wulgach_course_start(&request->course), "a request starts twice");
     request->begun = ++ring->begun;
     wulgach_lookout_starts(&ring->lookout, insert_request(&ring->running, request));
-    assign_before(ring, request->number);
-    if (!request->is_assigned)
-        assign(ring, request);
+    do_steps(ring, request, wulgach_steps_at_start(request->is_assigned));
     log_start(ring, request);
-    note_started(ring, request);
-    if (wulgach_starts_poll(&request->needs, request->started))
-        request->started = start_poll(request);
+    do_steps(ring, request, wulgach_steps_behind_files(&request->standing, &request->needs, request->started));
     note_running(ring, request);
-    if (wulgach_polls(&request->standing))
-        look_at(ring, request);
-    if (wulgach_seeks_buffer_at_start(&request->standing, &request->needs))
-        finds_buffer(ring, request);
 }
 
 /* Issues a request that can be issued. True if it has started: else it has ended without being carried out. */

@@ -65,7 +65,7 @@ static nfds_t list_streams(const struct ring *ring, struct pollfd *streams)
             streams[count++] = poll_of(request);
     }
     count = join_streams(streams, count);
-    if (ring->dormant.count > 0)
+    if (wulgach_polls_instance(ring->dormant.count))
         streams[count++] = (struct pollfd){.fd = ring->dormant.instance, .events = POLLIN};
     return count;
 }

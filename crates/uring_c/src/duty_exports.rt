@@ -7,7 +7,7 @@ ghost use Rattle.uring_c.specs.DutyForm.{word_of_duties};
 use uring_enter::{
     Duties, Resting, duties_at_begin, duties_at_register_begin, duties_at_register_return,
     duties_at_rest, duties_at_return, duties_before, duties_before_posting, duties_before_sleep,
-    duties_behind_posting, duties_behind_storing, polls_writes,
+    duties_behind_posting, duties_behind_storing, polls_instance, polls_writes,
 };
 use uring_register::may_post;
 
@@ -125,10 +125,19 @@ fn duties_word(duties: Duties) -> u32
         | bit(1024, duties.tells_eventfd)
 }
 
-fn bit(weight: u32, is_due: bool) -> u32
+/// A bit of a set that is done by rising bits.
+pub fn bit(weight: u32, is_due: bool) -> u32
     ensures { result ≡ (if is_due then weight else 0) }
 {
     if is_due { weight } else { 0 }
+}
+
+/// Whether a sleep polls the epoll instance that tells of those that are dormant, of which there are so many.
+#[unsafe(no_mangle)]
+pub extern "C" fn wulgach_polls_instance(dormant: u64) -> bool
+    ensures { result ≡ spec.polls_instance dormant }
+{
+    polls_instance(dormant)
 }
 
 /// Whether a sleep polls what tells of writes to pipes, of which so many are watched.

@@ -9,7 +9,7 @@ ghost use Rattle.uring_enter.specs.Waiters as waiters;
 ghost use Rattle.uring_crossing.specs.WaitForm.{word_of_look, word_of_sighting, behind_look};
 
 use uring_crossing::wait_words::{look_word, sighting_word};
-use uring_enter::{Course, Lookout, Moment, Needs, PipePoll, Standing, Waiter, lies_down, seeks_buffer_at_start, starts_poll};
+use uring_enter::{Course, Lookout, Moment, Needs, PipePoll, Standing, Waiter, lies_down};
 
 /// Begins a request that has started just now.
 #[unsafe(no_mangle)]
@@ -147,20 +147,4 @@ pub extern "C" fn wulgach_lies_down(
         → result ≡ ready.lies_down standing.now needs.now (is_cancelled log) is_unready is_refused }
 {
     lies_down(standing, needs, course, is_unready, is_refused)
-}
-
-/// Whether a request asks for its events as it starts.
-#[unsafe(no_mangle)]
-pub extern "C" fn wulgach_starts_poll(needs: &Needs, fault: i32) -> bool
-    ensures { result ≡ ready.starts_poll needs.now fault }
-{
-    starts_poll(needs, fault)
-}
-
-/// Whether a provided buffer is looked for as a request starts.
-#[unsafe(no_mangle)]
-pub extern "C" fn wulgach_seeks_buffer_at_start(standing: &Standing, needs: &Needs) -> bool
-    ensures { result ≡ ready.seeks_buffer_at_start standing.now needs.now }
-{
-    seeks_buffer_at_start(standing, needs)
 }

@@ -123,6 +123,10 @@ before code has_ends = record before_posting { shows_ends = has_ends && not (cod
 abbrev pub polls_writes : ℕ → Bool
 polls_writes watched = nat_lt 0 watched
 
+-- whether a sleep polls the epoll instance that tells of those that are dormant: so many are, and one at least. Each of them waits for its descriptor
+abbrev pub polls_instance : ℕ → Bool
+polls_instance dormant = nat_lt 0 dormant
+
 -- whether one that is due at a moment comes before another
 abbrev pub comes_before : Duties → Duty → Duty → Bool
 comes_before d first second = is_due d first && is_due d second && nat_lt (place first) (place second)

@@ -73,3 +73,4 @@ pub mod Keeping
 pub mod Prospects
 pub mod Awaiting
 pub mod Syncing
+pub mod Starts

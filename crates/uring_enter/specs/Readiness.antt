@@ -32,14 +32,6 @@ can_finish s n has_to_wait is_cancelled m =
 abbrev pub counts_as_ready : ℤ → ℕ → Bool
 counts_as_ready came events = is_below came || not (events == 0)
 
--- whether a request asks for its events as it starts: a poll does, unless it has failed by then
-abbrev pub starts_poll : Needs → ℤ → Bool
-starts_poll n fault = n.is_poll && int_eq fault (pos 0)
-
--- whether a provided buffer is looked for as a request starts: it is to take one, and may have to wait for its descriptor. Another looks for one as it is carried out. What Linux 6.18 was seen to do
-abbrev pub seeks_buffer_at_start : Standing → Needs → Bool
-seeks_buffer_at_start s n = n.selects && s.is_stream
-
 -- whether a call that sleeps polls the descriptor of a request that runs: it may have to wait for that
 abbrev pub polls : Standing → Bool
 polls s = s.is_stream

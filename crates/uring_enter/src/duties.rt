@@ -202,6 +202,13 @@ pub fn polls_writes(watched: u64) -> bool
     watched > 0
 }
 
+/// Whether a sleep polls the epoll instance that tells of those that are dormant, of which there are so many: then the call waits for descriptors.
+pub fn polls_instance(dormant: u64) -> bool
+    ensures { result ≡ spec.polls_instance dormant }
+{
+    dormant > 0
+}
+
 /// The flags are shown behind all else that a call does as it returns.
 pub fn shows_at_last()
     ensures { ShowsAtLast }

@@ -117,20 +117,6 @@ pub fn next_look(
     }
 }
 
-/// Whether a request asks for its events as it starts: a poll does, unless it has failed, with this error or 0.
-pub fn starts_poll(needs: &Needs, fault: i32) -> bool
-    ensures { result ≡ spec.starts_poll needs.now fault }
-{
-    needs.is_poll && fault == 0
-}
-
-/// Whether a provided buffer is looked for as a request starts: it is to take one, and may have to wait for its descriptor.
-pub fn seeks_buffer_at_start(standing: &Standing, needs: &Needs) -> bool
-    ensures { result ≡ spec.seeks_buffer_at_start standing.now needs.now }
-{
-    needs.selects && standing.is_stream
-}
-
 /// Whether a request that runs waits for its descriptor, so that a call which sleeps polls that.
 pub fn polls(standing: &Standing) -> bool
     ensures { result ≡ spec.polls standing.now }
