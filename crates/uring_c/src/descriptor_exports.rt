@@ -9,8 +9,8 @@ ghost use Rattle.uring_c.specs.UnknownForm.{known_of};
 
 use uring_enter::{
     Nature, Openness, SplicePoll, Submission, SyncedKind, asks_counter, asks_openness,
-    counts_as_open, counts_as_synced, ends_at_start, fault_asks_buffer, is_counter_name, is_eventfd_name, is_missing,
-    is_limited, is_signal_of_call, may_signal, splice_poll,
+    counts_as_open, counts_as_synced, ends_at_start, fault_asks_buffer, is_counter_name,
+    is_eventfd_name, is_limited, is_missing, is_signal_of_call, may_signal, splice_poll,
 };
 
 /// Whether a descriptor counts as open that is this, and is named by its number, or by the slot that holds its file.

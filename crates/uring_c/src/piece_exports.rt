@@ -14,9 +14,9 @@ ghost use Rattle.uring_crossing.specs.CourseForm.{entry_of};
 
 use uring_crossing::course_words::entry_if;
 use uring_enter::{
-    Copying, Entry, Header, Piece, Submission, What, has_one_buffer, how_fault, is_own_fault, length_with,
-    message_vectors, name_fault, next_message_piece, next_piece, open_fault, time_fault,
-    vector_fault, wanted_of,
+    Copying, Entry, Header, Piece, Submission, What, has_one_buffer, how_fault, is_own_fault,
+    length_with, message_vectors, name_fault, next_message_piece, next_piece, open_fault,
+    time_fault, vector_fault, wanted_of,
 };
 
 /// A piece that is copied: `struct wulgach_piece` of the header.

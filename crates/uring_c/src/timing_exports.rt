@@ -9,7 +9,9 @@ ghost use Rattle.uring_enter.specs.Timings.{Happened, Starts, IsFound, Ends, was
 ghost use Rattle.uring_enter.specs.Visits as visits;
 ghost use Rattle.uring_c.specs.RingForm.{word_of_timing, word_of_visit, word_of_awaited, word_of_turn};
 
-use uring_enter::{Awaited, Awaiting, Course, Member, Receiver, Timing, Visit, posts_message, visit_of};
+use uring_enter::{
+    Awaited, Awaiting, Course, Member, Receiver, Timing, Visit, posts_message, visit_of,
+};
 
 /// Returns what becomes of a timeout's time when a request starts.
 #[unsafe(no_mangle)]
