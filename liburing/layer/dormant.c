@@ -95,8 +95,8 @@ void delist(struct ring *ring, struct request *request)
 /* Whether a request is to become dormant. */
 static bool is_to_lie(const struct ring *ring, const struct request *request)
 {
-    bool is_silent = wulgach_waiter_sighting(&request->waiter, &ring->lookout) == WULGACH_SIGHTING_UNREADY;
-    return is_silent && !request->is_unlisted && wulgach_waits_for_descriptor_alone(&request->standing, &request->needs, &request->course);
+    bool is_unready = wulgach_waiter_sighting(&request->waiter, &ring->lookout) == WULGACH_SIGHTING_UNREADY;
+    return wulgach_lies_down(&request->standing, &request->needs, &request->course, is_unready, request->is_unlisted);
 }
 
 /* Has the instance tell of one, which keeps its file from now on. False: it is looked at for ever. */

@@ -14,13 +14,13 @@
 #include <sys/stat.h>
 #include <unistd.h>
 
-enum { HIGH_NUMBER = 512, MOST_LEFT = 256 };
+enum { HIGH_NUMBER = 512 };
 
 /* Copies that are left open, since the process has locks on their files. Under the lock copies are made and noted, and closed: a fork holds it, so
  * a child knows of each. */
 static struct {
     pthread_mutex_t lock;
-    int fds[MOST_LEFT];
+    int fds[WULGACH_MOST_LEFT];
     size_t count;
 } left = {.lock = PTHREAD_MUTEX_INITIALIZER};
 
@@ -131,7 +131,7 @@ static void close_left(void)
 {
     size_t count = 0;
     for (size_t i = 0; i < left.count; i++)
-        if (is_locked(left.fds[i]))
+        if (wulgach_stays_open(is_locked(left.fds[i]), count))
             left.fds[count++] = left.fds[i];
         else
             close_noted(left.fds[i]);
@@ -141,9 +141,10 @@ static void close_left(void)
 void close_kept(int fd, bool is_regular)
 {
     lock_kept();
-    if (is_regular)
+    bool asks = wulgach_asks_locks(is_regular);
+    if (asks)
         close_left();
-    if (is_regular && wulgach_stays_open(is_locked(fd), left.count, MOST_LEFT))
+    if (wulgach_stays_open(asks && is_locked(fd), left.count))
         left.fds[left.count++] = fd;
     else
         close_noted(fd);

@@ -203,13 +203,32 @@ static bool has_posted(struct ring *ring)
     return posted != before;
 }
 
+/* Finds out what the library wants to know of what a call would bring. */
+static void look_ahead(struct ring *ring, uint32_t asked, struct wulgach_prospect *known)
+{
+    if (asked == WULGACH_ASK_REQUESTS) {
+        known->can_go_on = can_go_on(ring);
+        known->knows_requests = true;
+    } else {
+        known->can_pass_time = can_pass_time(ring);
+        known->knows_time = true;
+    }
+}
+
+static bool is_readable_now(struct ring *ring)
+{
+    struct wulgach_prospect known = {0};
+    uint32_t told, head = load_word(&ring->memory.cq->head);
+    while ((told = wulgach_shown_readable(&ring->completions.at, head, &known)) > WULGACH_IS_READABLE)
+        look_ahead(ring, told, &known);
+    return told == WULGACH_IS_READABLE;
+}
+
 void show_readiness(struct ring *ring)
 {
     uint64_t one = 1;
     watch_streams(ring, ring->called_fd);
-    /* Whether a call may bring something matters only if no completion waits. */
-    uint32_t head = load_word(&ring->memory.cq->head);
-    bool is_readable = wulgach_shown_is_readable(&ring->completions.at, head, false) || wulgach_shown_is_readable(&ring->completions.at, head, can_go_on(ring) || can_pass_time(ring));
+    bool is_readable = is_readable_now(ring);
     /* (another thread or process may wait for an edge, or this one between its calls) */
     if (!wulgach_tells_anew(ring->is_readable, is_readable, has_posted(ring), may_wait_for_edges))
         return;

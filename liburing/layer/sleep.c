@@ -65,7 +65,7 @@ static nfds_t list_streams(const struct ring *ring, struct pollfd *streams)
             streams[count++] = poll_of(request);
     }
     count = join_streams(streams, count);
-    if (ring->dormant.count > 0)
+    if (wulgach_polls_instance(ring->dormant.count))
         streams[count++] = (struct pollfd){.fd = ring->dormant.instance, .events = POLLIN};
     return count;
 }
@@ -83,11 +83,11 @@ static int poll_unlocked(struct ring *ring, struct sleeper *self, nfds_t count, 
         result = -errno;
     leave_inner_sleeps(self);
     ring->is_parents = ring->process != this_process();
-    if (ring->is_parents)
-        return -EINTR;
-    pthread_mutex_lock(&ring->lock);
-    call_by(ring, fd);
-    return result;
+    if (!ring->is_parents) {
+        pthread_mutex_lock(&ring->lock);
+        call_by(ring, fd);
+    }
+    return wulgach_sleep_came_to(result, ring->is_parents);
 }
 
 /* (it has a frame of its own, below that of the call: by this a sleep that was left is known) */

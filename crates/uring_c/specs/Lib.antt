@@ -13,3 +13,4 @@ pub mod SleepForm
 pub mod MeansForm
 pub mod PinningForm
 pub mod UnknownForm
+pub mod StartForm

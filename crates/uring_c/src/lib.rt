@@ -34,6 +34,7 @@ mod set_up_exports;
 mod shown_exports;
 mod sleeper_exports;
 mod sleeping_exports;
+mod starting_exports;
 mod strict_exports;
 mod taking_exports;
 mod time_exports;

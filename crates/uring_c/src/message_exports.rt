@@ -3,7 +3,15 @@ ghost use Rattle.std.specs.Prelude.{◌≡◌, is_some, unwrap_or};
 ghost use Rattle.uring_enter.specs.Messages as spec;
 ghost use Rattle.uring_c.specs.MessageForm.{word_of_sending, fault_of_sending};
 
-use uring_enter::{Message, Receiver, Sending, Submission, sending_of, told_of};
+use uring_enter::{Message, Receiver, Sending, Submission, may_be_ring, sending_of, told_of};
+
+/// Whether the file that the entry of a message names may be a ring's.
+#[unsafe(no_mangle)]
+pub extern "C" fn wulgach_may_be_ring(entry: &Submission) -> bool
+    ensures { result ≡ spec.may_be_ring entry.now }
+{
+    may_be_ring(entry)
+}
 
 /// Returns what a message to this ring does, and writes its error, or 0.
 #[unsafe(no_mangle)]

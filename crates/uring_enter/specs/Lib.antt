@@ -70,3 +70,7 @@ pub mod CallResults
 pub mod Openness
 pub mod Signals
 pub mod Keeping
+pub mod Prospects
+pub mod Awaiting
+pub mod Syncing
+pub mod Starts
