@@ -90,6 +90,14 @@ static int poll_unlocked(struct ring *ring, struct sleeper *self, nfds_t count, 
     return wulgach_sleep_came_to(result, ring->is_parents);
 }
 
+/* The process may have fewer descriptors than are polled (ppoll(2)): those that can become dormant, and the call sleeps again. */
+static bool let_more_lie(struct ring *ring)
+{
+    size_t count = ring->dormant.count;
+    let_lie(ring);
+    return ring->dormant.count > count;
+}
+
 /* (it has a frame of its own, below that of the call: by this a sleep that was left is known) */
 __attribute__((noinline)) int sleep_until(struct ring *ring, const struct wulgach_limit *until, const sigset_t *signals)
 {
@@ -109,6 +117,8 @@ __attribute__((noinline)) int sleep_until(struct ring *ring, const struct wulgac
     int result = poll_unlocked(ring, self, count, &limit, signals);
     end_sleep(self);
     place = 0;
+    if (result == -EINVAL && let_more_lie(ring))
+        result = 1;
     add_slept(ring, start);
     wulgach_times_wake(&ring->times, &end, result);
     return result < 0 ? result : 0;
