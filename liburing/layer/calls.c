@@ -158,10 +158,10 @@ bool wulgach_may_be_ring(int fd)
     return may_be_ring(fd);
 }
 
-/* (a child of vfork has its parent's memory, and descriptors of its own: its closes leave the parent's rings) */
+/* (a child of vfork has its parent's memory, and descriptors of its own: its closes leave the parent's rings. A process that isn't known has made none) */
 void wulgach_look_for_closed(void)
 {
-    if (this_process() != getpid())
+    if (!is_known_process())
         return;
     int before = forbid_cancellation();
     free_closed();

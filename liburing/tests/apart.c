@@ -59,15 +59,16 @@ static void close_by(int way, int fd)
 }
 
 /* A child of vfork closes its own descriptors, and no ring of its parent's. */
-static void close_in_child(const struct ring *ring, int read)
+static void close_in_child(int fd)
 {
     int status;
     pid_t child = vfork();
     if (child == 0) {
-        close(ring->fd);
+        close(fd);
+        close_range((unsigned)fd, (unsigned)fd, 0);
         _exit(0);
     }
-    WANT(waitpid(child, &status, 0) == child && status == 0 && is_held(read));
+    WANT(waitpid(child, &status, 0) == child && status == 0);
 }
 
 /* The listener that waits in a ring is gone with that: its port can be bound again. */
@@ -118,11 +119,13 @@ static void closed_in_a_call(void)
 static void closes(void)
 {
     int read;
+    close_in_child(999);
     for (int way = 0; way < 4; way++) {
         struct ring ring = holding(&read);
         int copy = dup(ring.fd);
         WANT(copy >= 0 && is_held(read));
-        close_in_child(&ring, read);
+        close_in_child(ring.fd);
+        WANT(is_held(read) && call(SYS_io_uring_enter, copy, 0, 0, 0, 0, 0) == 0);
         close_by(way, ring.fd);
         WANT(is_held(read) && call(SYS_io_uring_enter, copy, 0, 0, 0, 0, 0) == 0);
         close_by(way, copy);
