@@ -2,7 +2,7 @@
  * io_uring, and hands on all others. liburing's sources call wulgach_polled_syscall, wulgach_mmap and wulgach_close. A program
  * that maps its rings by mmap itself calls wulgach_syscall: its descriptors are memory, and don't poll. Where a call was trapped,
  * all signals are blocked already: wulgach_blocked_enter is told which the thread has blocked else. Whoever hears of a program's closes asks
- * wulgach_may_be_ring before one, and calls wulgach_look_for_closed behind it.
+ * wulgach_may_name_ring before one, and calls wulgach_look_for_closed behind it.
  */
 #define _GNU_SOURCE
 #include "callers.h"
@@ -24,7 +24,7 @@ SEEN long wulgach_polled_syscall(long call, ...);
 SEEN long wulgach_blocked_enter(const long words[6], const sigset_t *signals);
 SEEN void *wulgach_mmap(void *at, size_t size, int protection, int flags, int fd, off_t offset);
 SEEN int wulgach_close(int fd);
-SEEN bool wulgach_may_be_ring(int fd);
+SEEN bool wulgach_may_name_ring(int fd);
 SEEN void wulgach_look_for_closed(void);
 
 /* A thread isn't cancelled in the middle of a call, as it isn't in the kernel's: the layer's own calls of the C library would end there,
@@ -153,7 +153,7 @@ int wulgach_close(int fd)
     return (int)returned(result);
 }
 
-bool wulgach_may_be_ring(int fd)
+bool wulgach_may_name_ring(int fd)
 {
     return may_be_ring(fd);
 }

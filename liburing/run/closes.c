@@ -13,7 +13,7 @@
 #include <sys/syscall.h>
 #include <unistd.h>
 
-bool wulgach_may_be_ring(int fd);
+bool wulgach_may_name_ring(int fd);
 void wulgach_look_for_closed(void);
 
 struct io_uring;
@@ -65,7 +65,7 @@ __attribute__((visibility("hidden"))) int __wrap_close(int fd)
 SEEN int close(int fd)
 {
     want_real();
-    bool may_be_ring = wulgach_may_be_ring(fd);
+    bool may_be_ring = wulgach_may_name_ring(fd);
     int result = real.close(fd);
     if (may_be_ring)
         look_behind();
@@ -94,7 +94,7 @@ SEEN void closefrom(int first)
 SEEN int dup2(int fd, int number)
 {
     want_real();
-    bool may_be_ring = wulgach_may_be_ring(number);
+    bool may_be_ring = wulgach_may_name_ring(number);
     int result = real.dup2(fd, number);
     if (may_be_ring)
         look_behind();
@@ -104,7 +104,7 @@ SEEN int dup2(int fd, int number)
 SEEN int dup3(int fd, int number, int flags)
 {
     want_real();
-    bool may_be_ring = wulgach_may_be_ring(number);
+    bool may_be_ring = wulgach_may_name_ring(number);
     int result = real.dup3(fd, number, flags);
     if (may_be_ring)
         look_behind();
