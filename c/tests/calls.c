@@ -146,7 +146,7 @@ static struct wulgach_system_call transfer(uint8_t code, uint32_t count, uint64_
 
 static void look_at_transfers(void)
 {
-    struct wulgach_system_call read = transfer(READ, 1, 8, 5, 0, false, WULGACH_CALL_PLAIN), at_once = transfer(READ, 1, 8, 5, 0, false, WULGACH_CALL_AT_ONCE), stream = transfer(READ, 1, 8, 5, 0, true, WULGACH_CALL_READY), two = transfer(READV, 2, 8, 5, 4, false, WULGACH_CALL_TRIED), write = transfer(WRITE, 1, 8, 5, 2, false, WULGACH_CALL_PLAIN), asked = transfer(WRITE_FIXED, 1, 8, 5, 2, true, WULGACH_CALL_NONBLOCKING), none = transfer(READ_FIXED, 1, 0, 5, 0, false, WULGACH_CALL_PLAIN);
+    struct wulgach_system_call read = transfer(READ, 1, 8, 5, 0, false, WULGACH_CALL_PLAIN), at_once = transfer(READ, 1, 8, 5, 0, false, WULGACH_CALL_AT_ONCE), stream = transfer(READ, 1, 8, 5, 0, true, WULGACH_CALL_UNWILLING), two = transfer(READV, 2, 8, 5, 4, false, WULGACH_CALL_TRIED), write = transfer(WRITE, 1, 8, 5, 2, false, WULGACH_CALL_PLAIN), asked = transfer(WRITE_FIXED, 1, 8, 5, 2, true, WULGACH_CALL_NONBLOCKING), none = transfer(READ_FIXED, 1, 0, 5, 0, false, WULGACH_CALL_PLAIN);
     demand(IS_CALL(read, SYS_pread64, ON, ADDR, 8, 5), "a read of one buffer");
     demand(IS_CALL(at_once, SYS_preadv2, ON, VALUE, 1, 5, 0, 8), "one that is asked not to wait");
     demand(IS_CALL(stream, SYS_preadv2, ON, VALUE, 1, UINT64_MAX), "one of a stream");

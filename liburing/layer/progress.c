@@ -10,6 +10,7 @@
 #include "injection.h"
 #include "issuable.h"
 #include "logged.h"
+#include "openings.h"
 #include "operations.h"
 #include "outlook.h"
 #include "policy.h"
@@ -75,6 +76,8 @@ static bool try_operation(struct ring *ring, struct request *request, int32_t *r
     if (request->needs.can_make_ready)
         wulgach_lookout_moves(&ring->lookout);
     if (*res == WOULD_WAIT) {
+        request->has_called = true;
+        request->vain++;
         note_fact(request, WULGACH_FACT_WAITS, 0);
         note_wait(ring, request);
         return false;
@@ -137,13 +140,14 @@ static void start(struct ring *ring, struct request *request)
     assign_before(ring, request->number);
     if (!request->is_assigned)
         assign(ring, request);
+    request->standing.is_stream |= opens_pipe(request);
     log_start(ring, request);
     note_started(ring, request);
     if (wulgach_starts_poll(&request->needs, request->started))
         request->started = start_poll(request);
     note_running(ring, request);
     if (wulgach_polls(&request->standing))
-        look_at(ring, request);
+        look_first(ring, request);
     if (wulgach_seeks_buffer_at_start(&request->standing, &request->needs))
         finds_buffer(ring, request);
 }

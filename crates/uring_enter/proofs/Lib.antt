@@ -18,5 +18,6 @@ mod Counts
 mod LookoutRuns
 mod WaiterRuns
 mod CallTryRuns
+mod MeansRuns
 mod DutyRuns
 mod AfreshRuns
