@@ -25,6 +25,13 @@
 static int shared = -1;
 static unsigned until_taken;
 
+/* Whether this is that file, by whichever descriptor. */
+static bool is_shared(int fd)
+{
+    struct stat one, other;
+    return shared >= 0 && fstat(fd, &one) == 0 && fstat(shared, &other) == 0 && one.st_dev == other.st_dev && one.st_ino == other.st_ino;
+}
+
 static void take(void)
 {
     char bytes[64];
@@ -42,7 +49,7 @@ int __wrap_poll(struct pollfd *polled, nfds_t count, int patience)
 {
     int result = __real_poll(polled, count, patience);
     for (nfds_t i = 0; result > 0 && i < count; i++)
-        if (shared >= 0 && polled[i].fd == shared && polled[i].revents & POLLIN && until_taken-- == 0)
+        if (polled[i].revents & POLLIN && is_shared(polled[i].fd) && until_taken-- == 0)
             take();
     return result;
 }
@@ -402,7 +409,7 @@ static void test_full_backlog(void)
         _exit(accept(listener, NULL, NULL) < 0);
     }
     long long before = processor_time();
-    check(next_of(&ring).res == 0 && processor_time() - before < 150000);
+    check(next_of(&ring).res == 0 && processor_time() - before < 60000);
     check(waitpid(child, NULL, 0) == child);
     close_ring(&ring);
 }

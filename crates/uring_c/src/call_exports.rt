@@ -10,8 +10,8 @@ ghost use Rattle.uring_crossing.specs.WaitForm.{task_of};
 use uring_crossing::wait_words::task;
 use uring_enter::{
     Fault, Held, Means, Submission, SystemCall, Transfer, Vectors, asks_descriptors, can_have,
-    done_result, given_result, has_begun, is_stream_type, looks_at_path, means_of,
-    opening_waits, placed_result, tells_message, told_result, transfer_call,
+    done_result, given_result, has_begun, is_stream_type, looks_at_path, means_of, opening_waits,
+    placed_result, tells_message, told_result, transfer_call,
 };
 
 /// By what an operation is carried out: `struct wulgach_means` of the header.

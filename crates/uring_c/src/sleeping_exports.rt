@@ -4,7 +4,9 @@ ghost use Rattle.uring_enter.specs.PipePolls as polls;
 ghost use Rattle.uring_enter.specs.Sleeping as sleeping;
 ghost use Rattle.uring_c.specs.SleepForm.{word_of_beginning, word_of_outcome};
 
-use uring_enter::{Beginning, Outcome, PipePoll, Waited, beginning_of, fires_behind, naps_for, outcome_of};
+use uring_enter::{
+    Beginning, Outcome, PipePoll, Waited, beginning_of, fires_behind, naps_for, outcome_of,
+};
 
 /// Whether a request is to be told of writes to its pipe.
 #[unsafe(no_mangle)]

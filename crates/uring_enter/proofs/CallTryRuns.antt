@@ -43,7 +43,7 @@ call_end : (connect waits connected eleven message : Bool) (would later : Turn) 
     → (if connect then (if waits then Waits else if connected then Ends (pos 0) else Ends res) else if eleven then would else if message then later else Ends res) ≡ Ends end
     → (end ≡ res) ⊎ ((end ≡ error 11) ⊎ ((end ≡ pos 0) × ((connect ≡ true) × (connected ≡ true))))
 call_end true true connected eleven message would later res end one two is = absurd (false≢true (ap has_end is))
-call_end true false true eleven message would later res end one two is = inr (inr (sym (ap end_in is) , (refl , refl)))
+call_end true false true eleven message would later res end one two is = inr (inr (sym (ap end_in is), (refl, refl)))
 call_end true false false eleven message would later res end one two is = inl (sym (ap end_in is))
 call_end false waits connected true message would later res end one two is = inr (inl (one is))
 call_end false waits connected false true would later res end one two is = inl (two is)
