@@ -150,7 +150,9 @@ static bool impatient(uint8_t code, uint32_t flags, struct wulgach_patience pati
 
 static void be_impatient(void)
 {
-    struct wulgach_patience fresh = {.length = 8}, empty = {0}, failed = {.length = 8, .has_failed = true}, begun = {.length = 8, .has_begun = true};
+    struct wulgach_patience fresh = {.length = 8}, empty = {0}, failed = {.length = 8, .has_failed = true}, begun = {.length = 8, .has_begun = true}, listening = {.length = 8, .is_listening = true};
+    demand(impatient(READ, 0, listening) && impatient(18, 0, fresh) && impatient(28, 0, fresh), "what ends whatever its descriptor has");
+    demand(impatient(RECV, 1, fresh) && !impatient(RECV, 1, begun) && !impatient(26, 1, fresh), "urgent data");
     demand(!impatient(READ, 0, fresh) && impatient(READ, 8, fresh) && impatient(READ, 0, empty) && impatient(READ, 0, failed), "a read");
     demand(impatient(RECV, 64, fresh) && !impatient(RECV, 8, empty) && !impatient(ACCEPT, 64, fresh), "a receive");
     demand(impatient(CONNECT, 0, fresh) && !impatient(CONNECT, 0, begun) && impatient(SPLICE, 0, fresh) && !impatient(SPLICE, 0, begun) && !impatient(POLL_ADD, 0, fresh), "a connect, a splice");
