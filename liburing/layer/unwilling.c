@@ -13,8 +13,11 @@
 #include <sched.h>
 #include <unistd.h>
 
-/* So often it is tried to lock one that another has. Then that has been stopped, maybe, or means something else by its lock. */
-enum { MOST_TRIES = 200 };
+/* So often it is tried to lock one that another has, a tenth of a second at least: then that has been stopped, maybe. Behind the first tries this
+ * thread sleeps between them. */
+enum { MOST_TRIES = 2000, HASTY_TRIES = 20, PAUSE = 50 };
+
+static const off_t PLACE = (off_t)1 << 62;
 
 static pthread_mutex_t only = PTHREAD_MUTEX_INITIALIZER;    /* the locks of a process don't keep its threads from each other */
 
@@ -30,14 +33,25 @@ void unlock_unwilling(void)
 
 static bool set_lock(int fd, short type)
 {
-    struct flock lock = {.l_type = type, .l_whence = SEEK_SET, .l_start = (off_t)1 << 62, .l_len = 1};
+    struct flock lock = {.l_type = type, .l_whence = SEEK_SET, .l_start = PLACE, .l_len = 1};
     return fcntl(fd, F_SETLK, &lock) >= 0 || (errno != EAGAIN && errno != EACCES);
+}
+
+/* Whether another has it by a lock that means something else, as that of a whole file. */
+static bool is_of_others(int fd)
+{
+    struct flock lock = {.l_type = F_WRLCK, .l_whence = SEEK_SET, .l_start = PLACE, .l_len = 1};
+    return fcntl(fd, F_GETLK, &lock) >= 0 && lock.l_type != F_UNLCK && !(lock.l_start == PLACE && lock.l_len == 1);
 }
 
 static void lock_file(int fd)
 {
-    for (int tries = 0; tries < MOST_TRIES && !set_lock(fd, F_WRLCK); tries++)
-        sched_yield();
+    for (int tries = 0; tries < MOST_TRIES && !set_lock(fd, F_WRLCK) && !is_of_others(fd); tries++) {
+        if (tries < HASTY_TRIES)
+            sched_yield();
+        else
+            usleep(PAUSE);
+    }
 }
 
 /* A descriptor that is asked, or none, and what its flags are else. */
