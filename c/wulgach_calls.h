@@ -36,8 +36,8 @@ enum wulgach_by {
     WULGACH_BY_OPENING = 4,             /* one that gives a descriptor, which is put into the slot, named as an entry does; */
     WULGACH_BY_SYNC = 5,                /* one that waits until a file is on its disk; */
     WULGACH_BY_CLOSE = 6,               /* a close, of what may not be closed; */
-    WULGACH_BY_CONNECT = 7,             /* one whose descriptor is asked not to wait meanwhile; */
-    WULGACH_BY_SPLICE = 8,              /* or one that doesn't wait */
+    WULGACH_BY_CONNECT = 7,             /* a connect, */
+    WULGACH_BY_SPLICE = 8,              /* or a splice or a tee */
     WULGACH_BY_SEND = 9,                /* the message is sent, */
     WULGACH_BY_RECEIVE = 10,            /* received, */
     WULGACH_BY_RECEIVE_MESSAGE = 11,    /* or received, and its sizes and flags are told where the entry's message stands */
@@ -76,7 +76,19 @@ struct wulgach_vectors {
  * pread64. */
 void wulgach_transfer_call(const struct wulgach_submission *entry, const struct wulgach_vectors *vectors, const struct wulgach_transfer *transfer, uint32_t step, struct wulgach_system_call *call);
 
-/* Whether a connect that came to this goes on without its call: to -115 (EINPROGRESS). */
+/* Whether the descriptors of the operation of this code are asked not to wait, by O_NONBLOCK, while its call is made, which has no flag for
+ * that: of ACCEPT, CONNECT, SPLICE and TEE. The call of no other operation of sockets waits. */
+bool wulgach_asks_descriptors(uint8_t code);
+
+/* Whether it is looked, before an operation of this code opens a path with these flags, whether that names a pipe: of OPENAT and OPENAT2, if an
+ * open of one would wait. Such a one is opened with O_NONBLOCK. */
+bool wulgach_looks_at_path(uint8_t code, uint64_t flags);
+
+/* Whether the open of a named pipe waits that was asked with these flags, and came to this with O_NONBLOCK: to -6 (ENXIO), if it is to write; and
+ * if it is to read, until a writer was found, or to have been. */
+bool wulgach_opening_waits(uint64_t flags, int32_t res, bool has_writer);
+
+/* Whether a connect that came to this goes on without its call until its socket is ready: to -115 (EINPROGRESS). */
 bool wulgach_has_begun(int32_t came_to);
 
 /* Whether what belongs to a message, its sizes and flags, is told behind a call of this entry that came to this: it has received one. And

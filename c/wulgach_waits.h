@@ -234,11 +234,13 @@ void wulgach_splice_polls(bool is_source_ready, struct wulgach_splice_poll *aske
 struct wulgach_patience {
     uint64_t length;            /* the bytes of its vectors */
     bool has_failed;            /* when it started */
-    bool has_begun;             /* of a connect or a splice */
+    bool has_begun;             /* of a connect or a splice, or of a receive of urgent data: it was begun */
+    bool is_listening;          /* of a read or a receive: its socket is one that listens */
 };
 
-/* Whether a request doesn't wait, whatever its descriptor has: it has failed, or is asked not to wait, or for nothing; a connect and a splice
- * until they are begun, which finds their faults. */
+/* Whether a request doesn't wait, whatever its descriptor has: it has failed, or is asked not to wait, or for nothing; a connect, a splice
+ * and a receive of urgent data until they are begun, which finds their faults; what opens a path; and what would receive of a socket that
+ * listens. */
 bool wulgach_is_impatient(const struct wulgach_submission *entry, const struct wulgach_patience *patience);
 
 /* ---- when a call sleeps, and what came of it ---- */
@@ -268,6 +270,10 @@ struct wulgach_waited {
 /* Returns what came of a wait, as the reply to a call that wants to sleep (enum wulgach_reply_kind). */
 uint32_t wulgach_waited(const struct wulgach_waited *waited);
 
+/* Whether a sleep naps for a request, and doesn't poll its descriptor: it was carried out so often in vain, once right behind the other though
+ * its descriptor showed ready, and shows ready still. */
+bool wulgach_naps_for(uint32_t vain, bool is_ready);
+
 /* Whether a timeout fires behind a wait, if its time is over: not behind a sleep that a signal or an error ended. */
 bool wulgach_fires_behind(const struct wulgach_waited *waited);
 
@@ -281,8 +287,7 @@ struct wulgach_transfer {
     bool is_tried;
     bool is_stream;
     bool is_impatient;          /* and if it may have to wait: it doesn't, */
-    bool has_offsets;           /* its descriptor has offsets, */
-    bool is_not_to_wait;        /* and isn't to wait: O_NONBLOCK */
+    bool has_offsets;           /* and its descriptor has offsets */
 };
 
 enum wulgach_try {
@@ -294,13 +299,12 @@ enum wulgach_try {
     WULGACH_CALL_TRIED = 5,         /* as the entry says, on a file, */
     WULGACH_CALL_PLAIN = 6,         /* as the entry says, */
     WULGACH_CALL_NONBLOCKING = 7,   /* with RWF_NOWAIT beside the entry's flags, */
-    WULGACH_CALL_UNWILLING = 8,     /* as the entry says, on a descriptor that isn't to wait, */
-    WULGACH_CALL_READY = 9          /* or on one that was polled */
+    WULGACH_CALL_UNWILLING = 8      /* or as the entry says, and its descriptor is asked not to wait meanwhile: O_NONBLOCK */
 };
 
 /* Returns what is next of a transfer (enum wulgach_try), behind what was done last, which came to `res`, and writes what it ends with, if it
  * ends. `last` is 0 at first; behind WULGACH_TRY_FINDS the transfer is as was found, and `res` that of the call before. No call is made that
- * may sleep; a transfer ends with what the last call came to, or with its fault; and what a stream gave is told. */
+ * may sleep, whoever else uses its descriptor; a transfer ends with what the last call came to, or with its fault; and what a stream gave is told. */
 uint32_t wulgach_transfer_next(const struct wulgach_transfer *transfer, uint32_t last, int32_t res, int32_t *end);
 
 /* ---- what becomes of an operation of sockets, of a splice and of a poll ---- */
@@ -319,15 +323,17 @@ enum wulgach_turn {
     WULGACH_TURN_WAITS = 2,     /* it would have to wait */
     WULGACH_TURN_CALLS = 3,     /* its call is made, so that it doesn't wait */
     WULGACH_TURN_POLLS = 4,     /* its descriptor is polled: 0 if it isn't ready */
-    WULGACH_TURN_ASKS_WILL = 5, /* its descriptor is asked whether it isn't to wait (O_NONBLOCK): 0 if it is */
+    WULGACH_TURN_ASKS_WILL = 5, /* its descriptor is asked whether it isn't to wait (O_NONBLOCK): 0 if it is; of a splice that which it
+                                 * waits for, and of two pipes either */
     WULGACH_TURN_ASKS_TYPE = 6, /* its socket is asked whether it is a stream: 0 if it isn't */
-    WULGACH_TURN_ASKS_ERROR = 7 /* its socket is asked for its error, which is what that came to */
+    WULGACH_TURN_ASKS_ERROR = 7 /* its socket is asked for its error, which is what that came to: 0 if it has none */
 };
 
 /* Returns what is next of an operation of sockets or of a splice (enum wulgach_turn), behind what was done last, which came to `res`, and
  * writes what it ends with, if it ends with an error, or with what its call gave. `last` is 0 at first; behind a call, `done` has what that
- * has moved. A connection is accepted only on a socket that was found ready just before, where it might wait; a call ends with what came
- * last, or with -11 (EAGAIN); and bytes that were moved are told. */
+ * has moved. A connection is accepted only on a socket that was found ready just before, where it might wait; a connect that was begun is made
+ * again once its socket is ready and has no error; a call ends with what came last, or with -11 (EAGAIN), or 0 of a connect that is found
+ * made; and bytes that were moved are told. */
 uint32_t wulgach_call_next(const struct wulgach_submission *entry, const struct wulgach_call *call, uint32_t last, int32_t res, int32_t *end);
 
 /* Writes what a poll for these events ends with, where `present` are there, 0 for none; `was_told`: something that its pipe had to be read

@@ -146,7 +146,7 @@ static struct wulgach_system_call transfer(uint8_t code, uint32_t count, uint64_
 
 static void look_at_transfers(void)
 {
-    struct wulgach_system_call read = transfer(READ, 1, 8, 5, 0, false, WULGACH_CALL_PLAIN), at_once = transfer(READ, 1, 8, 5, 0, false, WULGACH_CALL_AT_ONCE), stream = transfer(READ, 1, 8, 5, 0, true, WULGACH_CALL_READY), two = transfer(READV, 2, 8, 5, 4, false, WULGACH_CALL_TRIED), write = transfer(WRITE, 1, 8, 5, 2, false, WULGACH_CALL_PLAIN), asked = transfer(WRITE_FIXED, 1, 8, 5, 2, true, WULGACH_CALL_NONBLOCKING), none = transfer(READ_FIXED, 1, 0, 5, 0, false, WULGACH_CALL_PLAIN);
+    struct wulgach_system_call read = transfer(READ, 1, 8, 5, 0, false, WULGACH_CALL_PLAIN), at_once = transfer(READ, 1, 8, 5, 0, false, WULGACH_CALL_AT_ONCE), stream = transfer(READ, 1, 8, 5, 0, true, WULGACH_CALL_UNWILLING), two = transfer(READV, 2, 8, 5, 4, false, WULGACH_CALL_TRIED), write = transfer(WRITE, 1, 8, 5, 2, false, WULGACH_CALL_PLAIN), asked = transfer(WRITE_FIXED, 1, 8, 5, 2, true, WULGACH_CALL_NONBLOCKING), none = transfer(READ_FIXED, 1, 0, 5, 0, false, WULGACH_CALL_PLAIN);
     demand(IS_CALL(read, SYS_pread64, ON, ADDR, 8, 5), "a read of one buffer");
     demand(IS_CALL(at_once, SYS_preadv2, ON, VALUE, 1, 5, 0, 8), "one that is asked not to wait");
     demand(IS_CALL(stream, SYS_preadv2, ON, VALUE, 1, UINT64_MAX), "one of a stream");
@@ -166,6 +166,10 @@ static void look_at_faults(void)
 
 static void look_at_results(void)
 {
+    for (unsigned code = 0; code < 64; code++)
+        demand(wulgach_asks_descriptors((uint8_t)code) == (code == 13 || code == 16 || code == 30 || code == 33), "whose descriptors are asked not to wait");
+    demand(wulgach_looks_at_path(18, 0) && wulgach_looks_at_path(28, 1) && !wulgach_looks_at_path(18, 2) && !wulgach_looks_at_path(18, 2048) && !wulgach_looks_at_path(19, 0), "which path is looked at");
+    demand(wulgach_opening_waits(1, -6, false) && !wulgach_opening_waits(1, 3, false) && wulgach_opening_waits(0, 3, false) && !wulgach_opening_waits(0, 3, true) && !wulgach_opening_waits(0, -2, false), "which open waits");
     demand(wulgach_has_begun(-115) && !wulgach_has_begun(-11) && !wulgach_has_begun(0), "a connect that goes on");
     struct wulgach_submission receive = {.opcode = 10}, send = {.opcode = 9};
     demand(wulgach_tells_message(&receive, 0) && !wulgach_tells_message(&receive, -11) && !wulgach_tells_message(&send, 5), "what is told of a message");

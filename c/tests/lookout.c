@@ -216,6 +216,7 @@ static uint32_t waited(struct wulgach_waited waited)
 
 static void sleep_or_not(void)
 {
+    demand(!wulgach_naps_for(1, true) && wulgach_naps_for(2, true) && !wulgach_naps_for(2, false), "for which request a sleep naps");
     demand(wulgach_fires_behind(&(struct wulgach_waited){0}) && !wulgach_fires_behind(&(struct wulgach_waited){.result = -4}) && !wulgach_fires_behind(&(struct wulgach_waited){.is_never = true}), "behind which sleep a timeout fires");
     demand(wulgach_sleep_begins(-14, true) == WULGACH_SLEEP_FAILS && wulgach_sleep_begins(0, true) == WULGACH_SLEEP_WAKES && wulgach_sleep_begins(0, false) == WULGACH_SLEEPS, "whether a sleep begins");
     demand(wulgach_sleep_came_to(2, false) == 2 && wulgach_sleep_came_to(-12, false) == -12 && wulgach_sleep_came_to(2, true) == -4, "a child leaves a sleep");

@@ -154,7 +154,9 @@ static bool impatient(uint8_t code, uint32_t flags, struct wulgach_patience pati
 
 static void be_impatient(void)
 {
-    struct wulgach_patience fresh = {.length = 8}, empty = {0}, failed = {.length = 8, .has_failed = true}, begun = {.length = 8, .has_begun = true};
+    struct wulgach_patience fresh = {.length = 8}, empty = {0}, failed = {.length = 8, .has_failed = true}, begun = {.length = 8, .has_begun = true}, listening = {.length = 8, .is_listening = true};
+    demand(impatient(READ, 0, listening) && impatient(18, 0, fresh) && impatient(28, 0, fresh), "what ends whatever its descriptor has");
+    demand(impatient(RECV, 1, fresh) && !impatient(RECV, 1, begun) && !impatient(26, 1, fresh), "urgent data");
     demand(!impatient(READ, 0, fresh) && impatient(READ, 8, fresh) && impatient(READ, 0, empty) && impatient(READ, 0, failed), "a read");
     demand(impatient(RECV, 64, fresh) && !impatient(RECV, 8, empty) && !impatient(ACCEPT, 64, fresh), "a receive");
     demand(impatient(CONNECT, 0, fresh) && !impatient(CONNECT, 0, begun) && impatient(SPLICE, 0, fresh) && !impatient(SPLICE, 0, begun) && !impatient(POLL_ADD, 0, fresh), "a connect, a splice");
@@ -171,13 +173,13 @@ static int32_t next(struct wulgach_transfer transfer, uint32_t last, int32_t res
 
 static void transfer(void)
 {
-    struct wulgach_transfer once = {.length = 8, .is_at_once = true}, tried = {.length = 8, .is_tried = true}, file = {.length = 8}, stream = {.length = 8, .is_stream = true}, hasty = {.is_stream = true, .is_impatient = true}, unwilling = {.length = 8, .is_stream = true, .is_not_to_wait = true}, failed = {.length = 8, .fault = -9};
+    struct wulgach_transfer once = {.length = 8, .is_at_once = true}, tried = {.length = 8, .is_tried = true}, file = {.length = 8}, stream = {.length = 8, .is_stream = true}, hasty = {.is_stream = true, .is_impatient = true}, failed = {.length = 8, .fault = -9};
     demand(next(once, 0, 0) == 1000 + WULGACH_CALL_AT_ONCE && next(once, WULGACH_CALL_AT_ONCE, 8) == 8 && next(once, WULGACH_CALL_AT_ONCE, 5) == 1000 + WULGACH_TRY_FINDS, "at once");
     demand(next(stream, WULGACH_TRY_FINDS, 5) == 5 && next(file, WULGACH_TRY_FINDS, 5) == 1000 + WULGACH_CALL_PLAIN && next(stream, WULGACH_TRY_FINDS, 0) == 1000 + WULGACH_CALL_NONBLOCKING && next(failed, WULGACH_TRY_FINDS, -11) == -9, "behind that");
     demand(next(tried, 0, 0) == 1000 + WULGACH_CALL_TRIED && next(tried, WULGACH_CALL_TRIED, 5) == 5 && next(tried, WULGACH_CALL_TRIED, -29) == 1000 + WULGACH_TRY_FINDS, "one that is tried");
     demand(next(stream, WULGACH_CALL_NONBLOCKING, -11) == 1000 + WULGACH_TRY_WAITS && next(stream, WULGACH_CALL_NONBLOCKING, -95) == 1000 + WULGACH_TRY_POLLS && next(stream, WULGACH_CALL_NONBLOCKING, -5) == -5, "asked not to wait");
-    demand(next(stream, WULGACH_TRY_POLLS, 0) == 1000 + WULGACH_TRY_WAITS && next(stream, WULGACH_TRY_POLLS, 1) == 1000 + WULGACH_CALL_READY && next(stream, WULGACH_CALL_READY, -11) == -11, "polled");
-    demand(next(hasty, 0, 0) == 1000 + WULGACH_CALL_PLAIN && next(hasty, WULGACH_CALL_PLAIN, -11) == -11 && next(unwilling, 0, 0) == 1000 + WULGACH_CALL_UNWILLING && next(unwilling, WULGACH_CALL_UNWILLING, -11) == 1000 + WULGACH_TRY_WAITS, "what doesn't wait");
+    demand(next(stream, WULGACH_TRY_POLLS, 0) == 1000 + WULGACH_TRY_WAITS && next(stream, WULGACH_TRY_POLLS, 1) == 1000 + WULGACH_CALL_UNWILLING && next(stream, WULGACH_CALL_UNWILLING, -11) == 1000 + WULGACH_TRY_WAITS && next(stream, WULGACH_CALL_UNWILLING, -95) == -95, "polled");
+    demand(next(hasty, 0, 0) == 1000 + WULGACH_CALL_PLAIN && next(hasty, WULGACH_CALL_PLAIN, -11) == -11, "what doesn't wait");
     demand(next(failed, 0, 0) == -9, "one that failed");
 }
 
@@ -196,10 +198,10 @@ static void call(void)
     struct wulgach_call fresh = {.length = 8, .is_stream = true}, part = {.length = 8, .done = 3, .is_stream = true}, begun = {.is_stream = true, .has_begun = true, .done = 1};
     demand(turn(ACCEPT, 0, fresh, 0, 0) == 1000 + WULGACH_TURN_POLLS && turn(ACCEPT, 0, fresh, WULGACH_TURN_POLLS, 1) == 1000 + WULGACH_TURN_CALLS && turn(ACCEPT, 0, fresh, WULGACH_TURN_POLLS, 0) == 1000 + WULGACH_TURN_ASKS_WILL, "an accept");
     demand(turn(ACCEPT, 0, fresh, WULGACH_TURN_ASKS_WILL, 1) == -11 && turn(ACCEPT, 0, fresh, WULGACH_TURN_ASKS_WILL, 0) == 1000 + WULGACH_TURN_WAITS && turn(ACCEPT, 0, fresh, WULGACH_TURN_CALLS, 0) == 0, "what its socket says");
-    demand(turn(CONNECT, 0, fresh, 0, 0) == 1000 + WULGACH_TURN_CALLS && turn(CONNECT, 0, fresh, WULGACH_TURN_CALLS, -115) == 1000 + WULGACH_TURN_WAITS && turn(CONNECT, 0, begun, 0, 0) == 1000 + WULGACH_TURN_POLLS && turn(CONNECT, 0, begun, WULGACH_TURN_POLLS, 1) == 1000 + WULGACH_TURN_ASKS_ERROR && turn(CONNECT, 0, begun, WULGACH_TURN_ASKS_ERROR, -111) == -111, "a connect");
+    demand(turn(CONNECT, 0, fresh, 0, 0) == 1000 + WULGACH_TURN_CALLS && turn(CONNECT, 0, fresh, WULGACH_TURN_CALLS, -115) == 1000 + WULGACH_TURN_WAITS && turn(CONNECT, 0, begun, 0, 0) == 1000 + WULGACH_TURN_POLLS && turn(CONNECT, 0, begun, WULGACH_TURN_POLLS, 1) == 1000 + WULGACH_TURN_ASKS_ERROR && turn(CONNECT, 0, begun, WULGACH_TURN_ASKS_ERROR, -111) == -111 && turn(CONNECT, 0, begun, WULGACH_TURN_ASKS_ERROR, 0) == 1000 + WULGACH_TURN_CALLS && turn(CONNECT, 0, begun, WULGACH_TURN_CALLS, -106) == 0 && turn(CONNECT, 0, fresh, WULGACH_TURN_CALLS, -106) == -106 && turn(CONNECT, 0, begun, WULGACH_TURN_CALLS, -114) == 1000 + WULGACH_TURN_WAITS, "a connect");
     demand(turn(RECV, 0, fresh, WULGACH_TURN_CALLS, -11) == 1000 + WULGACH_TURN_ASKS_WILL && turn(RECV, 64, fresh, WULGACH_TURN_CALLS, -11) == -11 && turn(RECV, 0, part, WULGACH_TURN_CALLS, 3) == 1000 + WULGACH_TURN_ENDS_WITH_DONE, "a receive");
     demand(turn(RECV, 256, part, WULGACH_TURN_CALLS, 3) == 1000 + WULGACH_TURN_ASKS_TYPE && turn(RECV, 256, part, WULGACH_TURN_ASKS_TYPE, 1) == 1000 + WULGACH_TURN_WAITS && turn(RECV, 256, part, WULGACH_TURN_CALLS, 0) == 1000 + WULGACH_TURN_ENDS_WITH_DONE && turn(RECV, 256, part, WULGACH_TURN_CALLS, -104) == 1000 + WULGACH_TURN_ENDS_WITH_DONE, "of all");
-    demand(turn(SPLICE, 0, begun, WULGACH_TURN_CALLS, -11) == 1000 + WULGACH_TURN_WAITS && turn(SPLICE, 2, begun, WULGACH_TURN_CALLS, -11) == -11 && turn(SPLICE, 0, begun, WULGACH_TURN_CALLS, 5) == 5, "a splice");
+    demand(turn(SPLICE, 0, begun, WULGACH_TURN_CALLS, -11) == 1000 + WULGACH_TURN_ASKS_WILL && turn(SPLICE, 0, begun, WULGACH_TURN_ASKS_WILL, 1) == -11 && turn(RECV, 8192, fresh, WULGACH_TURN_CALLS, -11) == -11 && turn(RECV, 1, fresh, WULGACH_TURN_CALLS, -11) == 1000 + WULGACH_TURN_ASKS_WILL && turn(SPLICE, 2, begun, WULGACH_TURN_CALLS, -11) == -11 && turn(SPLICE, 0, begun, WULGACH_TURN_CALLS, 5) == 5, "a splice");
 }
 
 static void seek(void)

@@ -11,6 +11,7 @@
 #include "process.h"
 #include "readiness.h"
 #include "sleep.h"
+#include "unwilling.h"
 
 #include <dirent.h>
 #include <errno.h>
@@ -35,12 +36,14 @@ static void lock_for_fork(void)
     pthread_mutex_lock(&rings_lock);
     lock_choices();
     lock_kept();
+    lock_unwilling();
     forker = own;
 }
 
 static void end_fork(void)
 {
     sigset_t own = forker;
+    unlock_unwilling();
     unlock_kept();
     unlock_choices();
     pthread_mutex_unlock(&rings_lock);

@@ -7,12 +7,14 @@
 #include "fault.h"
 #include "files.h"
 #include "groups.h"
+#include "openings.h"
 #include "passing.h"
 #include "ring.h"
 #include "sockets.h"
 #include "streams.h"
 #include "syncing.h"
 #include "timeouts.h"
+#include "unwilling.h"
 
 #include <errno.h>
 #include <unistd.h>
@@ -21,6 +23,16 @@ int32_t make_call(const struct wulgach_system_call *call)
 {
     long result = syscall((long)call->number, call->first, call->second, call->third, call->fourth, call->fifth, call->sixth);
     return result < 0 ? -errno : (int32_t)result;
+}
+
+/* Makes the call of an operation, with its descriptors asked not to wait if the library says so. */
+static int32_t make_call_of(struct request *request, const struct wulgach_system_call *call)
+{
+    if (request->standing.is_stream && !request->needs.needs_file)
+        return open_pipe(request, call);
+    if (!wulgach_asks_descriptors(request->entry.opcode))
+        return make_call(call);
+    return make_unwilling_call(call, request->fd, request->needs.needs_second ? request->second_fd : -1);
 }
 
 int32_t make_passing_call(const struct wulgach_system_call *call)
@@ -40,9 +52,9 @@ struct wulgach_held held_of(const struct request *request)
     };
 }
 
-static int32_t open_file(struct ring *ring, const struct wulgach_means *means)
+static int32_t open_file(struct ring *ring, struct request *request, const struct wulgach_means *means)
 {
-    int32_t fd = make_call(&means->call);
+    int32_t fd = make_call_of(request, &means->call);
     return fd >= 0 ? install_file(ring, fd, means->slot) : fd;
 }
 
@@ -60,18 +72,19 @@ static int32_t carry_out_by(struct ring *ring, struct request *request, const st
     const struct io_uring_sqe *entry = &request->entry;
     switch (means->kind) {
     case WULGACH_BY_CALL:
-        return make_call(&means->call);
+    case WULGACH_BY_SPLICE:
+        return make_call_of(request, &means->call);
     case WULGACH_BY_OPENING:
-        return open_file(ring, means);
+        return open_file(ring, request, means);
     case WULGACH_BY_SYNC:
         return is_taken_for_synced(request->fd) ? wulgach_done_result(submission_of(entry), 0, 0) : make_call(&means->call);
     case WULGACH_BY_CLOSE:
         return close_file(ring, request, &means->call);
-    case WULGACH_BY_CONNECT:
-        return begin_connect(request, &means->call);
-    case WULGACH_BY_SPLICE:
-        request->done = 1;
-        return make_call(&means->call);
+    case WULGACH_BY_CONNECT: {
+        int32_t res = make_call_of(request, &means->call);
+        request->done |= wulgach_has_begun(res);
+        return res;
+    }
     case WULGACH_BY_SEND:
     case WULGACH_BY_RECEIVE:
     case WULGACH_BY_RECEIVE_MESSAGE:

@@ -10,6 +10,7 @@
 #include "sockets.h"
 #include "splices.h"
 #include "trying.h"
+#include "unwilling.h"
 
 #include <errno.h>
 #include <fcntl.h>
@@ -49,7 +50,7 @@ struct pollfd poll_of(const struct request *request)
 
 bool is_impatient(const struct request *request)
 {
-    struct wulgach_patience patience = {.length = request->length, .has_failed = request->started < 0, .has_begun = request->done > 0};
+    struct wulgach_patience patience = {.length = request->length, .has_failed = request->started < 0, .has_begun = request->has_called, .is_listening = request->is_listening};
     return wulgach_is_impatient(submission_of(&request->entry), &patience);
 }
 
@@ -81,11 +82,18 @@ static void shorten(struct request *request)
     }
 }
 
-/* Whether a descriptor isn't to wait. */
+static bool is_pipe(int fd)
+{
+    return fcntl(fd, F_GETPIPE_SZ) >= 0;
+}
+
 bool is_not_to_wait(const struct request *request)
 {
-    int flags = fcntl(request->fd, F_GETFL);
-    return flags >= 0 && flags & O_NONBLOCK;
+    if (!request->needs.needs_second)
+        return is_unwilling(request->fd);
+    if (is_pipe(request->fd) && is_pipe(request->second_fd))
+        return is_unwilling(request->fd) || is_unwilling(request->second_fd);
+    return is_unwilling(poll_of(request).fd);
 }
 
 /* The transfer as the library is told of it. */
@@ -102,7 +110,6 @@ static struct wulgach_transfer transfer_of(const struct request *request)
         return transfer;
     transfer.is_impatient = is_impatient(request);
     transfer.has_offsets = has_offsets(request);
-    transfer.is_not_to_wait = is_not_to_wait(request);
     return transfer;
 }
 
@@ -125,6 +132,8 @@ static int32_t call_transfer(const struct request *request, const struct wulgach
     struct wulgach_vectors vectors = vectors_of(request);
     struct wulgach_system_call call;
     wulgach_transfer_call(submission_of(&request->entry), &vectors, transfer, way, &call);
+    if (way == WULGACH_CALL_UNWILLING)
+        return make_unwilling_call(&call, request->fd, -1);
     int32_t res = request->needs.is_read ? make_passing_call(&call) : make_call(&call);
     if (way == WULGACH_CALL_AT_ONCE && res == -EOPNOTSUPP)
         note_slow(request->fd);

@@ -35,7 +35,7 @@ void end_asking(void);
 /* Asks its descriptor what the library wants to know, and so finds out whether it may have to wait for that. Returns its fault, or 0. */
 int find_kind(struct request *request);
 
-/* Whether a transfer's descriptor has offsets, and whether a descriptor isn't to wait. */
+/* Whether a transfer's descriptor has offsets; and whether a request's isn't to wait, of a splice that which it waits for, and of two pipes either. */
 bool has_offsets(const struct request *request);
 bool is_not_to_wait(const struct request *request);
 

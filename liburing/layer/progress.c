@@ -10,6 +10,7 @@
 #include "injection.h"
 #include "issuable.h"
 #include "logged.h"
+#include "openings.h"
 #include "operations.h"
 #include "outlook.h"
 #include "policy.h"
@@ -75,6 +76,8 @@ static bool try_operation(struct ring *ring, struct request *request, int32_t *r
     if (request->needs.can_make_ready)
         wulgach_lookout_moves(&ring->lookout);
     if (*res == WOULD_WAIT) {
+        request->has_called = true;
+        request->vain++;
         note_fact(request, WULGACH_FACT_WAITS, 0);
         note_wait(ring, request);
         return false;
@@ -143,7 +146,7 @@ static void do_step_of_start(struct ring *ring, struct request *request, enum wu
         request->started = start_poll(request);
         return;
     case WULGACH_LOOKS:
-        look_at(ring, request);
+        look_first(ring, request);
         return;
     case WULGACH_SEEKS_BUFFER:
         finds_buffer(ring, request);
@@ -166,6 +169,7 @@ static void start(struct ring *ring, struct request *request)
     request->begun = ++ring->begun;
     wulgach_lookout_starts(&ring->lookout, insert_request(&ring->running, request));
     do_steps(ring, request, wulgach_steps_at_start(request->is_assigned));
+    request->standing.is_stream |= opens_pipe(request);
     log_start(ring, request);
     do_steps(ring, request, wulgach_steps_behind_files(&request->standing, &request->needs, request->started));
     note_running(ring, request);

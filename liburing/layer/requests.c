@@ -158,6 +158,8 @@ static bool free_parts(const struct request *request)
     free(request->second_path);
     free(request->value);
     free(request->how);
+    if (request->is_opened)
+        close(request->opened);
     free(request->time);
     if (request->epoll >= 0)
         close(request->epoll);

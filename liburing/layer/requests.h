@@ -41,6 +41,11 @@ struct request {
     bool is_tried;                  /* whether it may have to wait isn't known: it is tried first, */
     bool is_tried_at_once;          /* and nothing was asked of its descriptor, */
     bool was_tried;                 /* or it was */
+    bool is_listening;              /* of a read or a receive that had to wait as it started: its socket listens */
+    bool has_called;                /* it was carried out, and would have waited, */
+    bool is_opened;                 /* a named pipe was opened to read, by this descriptor, and waits for who writes; */
+    int opened;
+    uint32_t vain;                  /* so often since its descriptor was last found not to be ready as a sleep began */
     bool is_draining;               /* a member of its chain drains, or it does: those behind wait until all of them have ended */
     uint64_t wanted;                /* of one that takes a provided buffer: how many bytes at most, or 0 */
     uint64_t done;                  /* the bytes that a transfer of sockets has moved so far */

@@ -55,13 +55,28 @@ static nfds_t join_streams(struct pollfd *streams, nfds_t count)
     return kept;
 }
 
-/* Lists the descriptors of the running requests that wait for streams, each once. */
-static nfds_t list_streams(const struct ring *ring, struct pollfd *streams)
+/* Whether a request is napped for: what its descriptor shows is asked where that matters. */
+static bool is_napped_for(struct request *request)
+{
+    if (!wulgach_naps_for(request->vain, true))
+        return false;
+    bool naps = wulgach_naps_for(request->vain, is_ready(request));
+    if (!naps)
+        request->vain = 0;
+    return naps;
+}
+
+/* Lists the descriptors of the running requests that wait for streams, each once. Says whether there are others, for which it is to nap. */
+static nfds_t list_streams(const struct ring *ring, struct pollfd *streams, bool *naps)
 {
     nfds_t count = 0;
     for (size_t i = 0; i < ring->running.count; i++) {
         struct request *request = ring->running.rows[i];
-        if (wulgach_polls(&request->standing))
+        if (!wulgach_polls(&request->standing))
+            continue;
+        if (is_napped_for(request))
+            *naps = true;
+        else
             streams[count++] = poll_of(request);
     }
     count = join_streams(streams, count);
@@ -106,13 +121,14 @@ __attribute__((noinline)) int sleep_until(struct ring *ring, const struct wulgac
     struct sleeper *self = begin_sleep(ring, ring->running.count + 3, &place);
     if (!self)
         return wulgach_missing_fault(WULGACH_NO_MEMORY_OWN);
-    nfds_t count = list_streams(ring, self->polled);
+    bool naps = false;
+    nfds_t count = list_streams(ring, self->polled, &naps);
     self->polled[count++] = (struct pollfd){.fd = self->wake, .events = POLLIN};
     if (wulgach_polls_writes(ring->pipes.count))
         self->polled[count++] = (struct pollfd){.fd = ring->pipes.inotify, .events = POLLIN};
     struct wulgach_limit limit, end;
-    wulgach_times_sleeps_for(&ring->times, until, self->wake >= 0, &limit);
-    wulgach_times_comes_to(&ring->times, until, self->wake >= 0, &end);
+    wulgach_times_sleeps_for(&ring->times, until, self->wake >= 0 && !naps, &limit);
+    wulgach_times_comes_to(&ring->times, until, self->wake >= 0 && !naps, &end);
     uint64_t start = real_time();
     int result = poll_unlocked(ring, self, count, &limit, signals);
     end_sleep(self);

@@ -156,19 +156,6 @@ static int32_t receive_into_buffer(struct request *request, uint64_t *filled)
     return res;
 }
 
-/* The descriptor is told not to wait for the moment of the call. */
-int32_t begin_connect(struct request *request, const struct wulgach_system_call *call)
-{
-    int flags = fcntl(request->fd, F_GETFL);
-    if (flags >= 0 && !(flags & O_NONBLOCK))
-        fcntl(request->fd, F_SETFL, flags | O_NONBLOCK);
-    int32_t res = make_call(call);
-    if (flags >= 0 && !(flags & O_NONBLOCK))
-        fcntl(request->fd, F_SETFL, flags);
-    request->done = wulgach_has_begun(res);
-    return res;
-}
-
 static bool is_stream_socket(const struct request *request)
 {
     int type = 0;

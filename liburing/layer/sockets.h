@@ -16,9 +16,7 @@ int copy_address(struct request *request, uint64_t from, size_t size);
 /* Carries the operation out: its result, or WOULD_WAIT. */
 int32_t call_socket(struct ring *ring, struct request *request);
 
-/* The call of a connect, whose descriptor is told not to wait; and that of a message, which is moved on by what was moved. Each returns its
- * result. */
-int32_t begin_connect(struct request *request, const struct wulgach_system_call *call);
+/* The call of a message, which is moved on by what was moved. Returns its result. */
 int32_t move_message(struct request *request, const struct wulgach_means *means);
 
 #endif

@@ -5,10 +5,27 @@
 #include "pipes.h"
 
 #include <poll.h>
+#include <sys/socket.h>
 
 void look_at(const struct ring *ring, struct request *request)
 {
     note_look(ring, request, is_ready(request));
+}
+
+/* Whether it would receive of a socket that listens. */
+static bool is_of_listener(const struct request *request)
+{
+    int listens = 0;
+    socklen_t size = sizeof listens;
+    return (request->needs.is_read || request->needs.is_receive) && getsockopt(request->fd, SOL_SOCKET, SO_ACCEPTCONN, &listens, &size) == 0 && listens;
+}
+
+void look_first(const struct ring *ring, struct request *request)
+{
+    bool is_found = is_ready(request);
+    if (!is_found)
+        is_found = request->is_listening = is_of_listener(request);
+    note_look(ring, request, is_found);
 }
 
 static bool is_to_be_looked_at(const struct ring *ring, const struct request *request)

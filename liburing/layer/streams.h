@@ -4,8 +4,9 @@
 
 #include "ring.h"
 
-/* Looks at the descriptor of a request that has just started. */
+/* Looks at the descriptor of a request; and of one that has just started, which may be to receive of a socket that listens. */
 void look_at(const struct ring *ring, struct request *request);
+void look_first(const struct ring *ring, struct request *request);
 
 /* Whether a running request wouldn't wait, as of this moment. */
 bool is_found_ready(struct ring *ring, struct request *request);

@@ -2,15 +2,16 @@
 ghost use Rattle.std.specs.Prelude.{◌≡◌, true, false, MatchOption};
 ghost use Rattle.uring_enter.specs.CallResults as results;
 ghost use Rattle.uring_enter.specs.Means as spec;
+ghost use Rattle.uring_enter.specs.PipeOpens as opens;
 ghost use Rattle.uring_enter.specs.TransferCalls.{call_of};
 ghost use Rattle.uring_c.specs.MeansForm.{words, words_of_means, fault_of_word, can_have_one, given_one};
 ghost use Rattle.uring_crossing.specs.WaitForm.{task_of};
 
 use uring_crossing::wait_words::task;
 use uring_enter::{
-    Fault, Held, Means, Submission, SystemCall, Transfer, Vectors, can_have, done_result,
-    given_result, has_begun, is_stream_type, means_of, placed_result, tells_message, told_result,
-    transfer_call,
+    Fault, Held, Means, Submission, SystemCall, Transfer, Vectors, asks_descriptors, can_have,
+    done_result, given_result, has_begun, is_stream_type, looks_at_path, means_of, opening_waits,
+    placed_result, tells_message, told_result, transfer_call,
 };
 
 /// By what an operation is carried out: `struct wulgach_means` of the header.
@@ -124,6 +125,30 @@ fn fault_of(word: u32) -> Option<Fault>
         3 => Some(Fault::Short),
         _ => None,
     }
+}
+
+/// Whether the descriptors of the operation of this code are asked not to wait while its call is made.
+#[unsafe(no_mangle)]
+pub extern "C" fn wulgach_asks_descriptors(code: u8) -> bool
+    ensures { result ≡ spec.asks_descriptors code }
+{
+    asks_descriptors(code)
+}
+
+/// Whether it is looked, before an operation of this code opens a path with these flags, whether that names a pipe.
+#[unsafe(no_mangle)]
+pub extern "C" fn wulgach_looks_at_path(code: u8, flags: u64) -> bool
+    ensures { result ≡ opens.looks_at_path code flags }
+{
+    looks_at_path(code, flags)
+}
+
+/// Whether the open of a named pipe waits that was asked with these flags, and came to this without waiting.
+#[unsafe(no_mangle)]
+pub extern "C" fn wulgach_opening_waits(flags: u64, res: i32, has_writer: bool) -> bool
+    ensures { result ≡ opens.opening_waits flags res has_writer }
+{
+    opening_waits(flags, res, has_writer)
 }
 
 /// Whether a connect that came to this goes on without its call.

@@ -5,7 +5,7 @@ ghost use Rattle.uring_enter.specs.Sleeping as sleeping;
 ghost use Rattle.uring_c.specs.SleepForm.{word_of_beginning, word_of_outcome};
 
 use uring_enter::{
-    Beginning, Outcome, PipePoll, Waited, beginning_of, came_to, fires_behind, outcome_of,
+    Beginning, Outcome, PipePoll, Waited, beginning_of, came_to, fires_behind, naps_for, outcome_of,
 };
 
 /// Whether a request is to be told of writes to its pipe.
@@ -56,6 +56,14 @@ pub extern "C" fn wulgach_waited(waited: &Waited) -> u32
         Outcome::Endless => 10,
         Outcome::Failed => 11,
     }
+}
+
+/// Whether a sleep naps for a request that was carried out so often in vain, and whose descriptor shows ready or not.
+#[unsafe(no_mangle)]
+pub extern "C" fn wulgach_naps_for(vain: u32, is_ready: bool) -> bool
+    ensures { result ≡ sleeping.naps_for vain is_ready }
+{
+    naps_for(vain, is_ready)
 }
 
 /// Whether a timeout fires behind a wait, if its time is over.

@@ -61,7 +61,6 @@ word_of_step (Does (Calls how.Tried)) = 5
 word_of_step (Does (Calls how.Plain)) = 6
 word_of_step (Does (Calls how.Nonblocking)) = 7
 word_of_step (Does (Calls how.Unwilling)) = 8
-word_of_step (Does (Calls how.Ready)) = 9
 
 abbrev pub end_of_step : Step → ℤ → ℤ
 end_of_step (Ends res) old = res
@@ -76,8 +75,7 @@ task_of word =
     if word == 5 then Some (Calls how.Tried) else
     if word == 6 then Some (Calls how.Plain) else
     if word == 7 then Some (Calls how.Nonblocking) else
-    if word == 8 then Some (Calls how.Unwilling) else
-    if word == 9 then Some (Calls how.Ready) else None
+    if word == 8 then Some (Calls how.Unwilling) else None
 
 -- ends are 0 and 1, a wait 2, and what is done counts in the order of `Doing` behind them. Our own rule
 abbrev pub word_of_turn : Turn → ℕ

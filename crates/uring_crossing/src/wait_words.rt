@@ -59,7 +59,6 @@ pub fn step_word(step: Step) -> u32
         Step::Does(Task::Calls(How::Plain)) => 6,
         Step::Does(Task::Calls(How::Nonblocking)) => 7,
         Step::Does(Task::Calls(How::Unwilling)) => 8,
-        Step::Does(Task::Calls(How::Ready)) => 9,
     }
 }
 
@@ -85,7 +84,6 @@ pub fn task(word: u32) -> Option<Task>
         6 => Some(Task::Calls(How::Plain)),
         7 => Some(Task::Calls(How::Nonblocking)),
         8 => Some(Task::Calls(How::Unwilling)),
-        9 => Some(Task::Calls(How::Ready)),
         _ => None,
     }
 }

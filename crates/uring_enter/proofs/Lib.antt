@@ -18,6 +18,7 @@ mod Counts
 mod LookoutRuns
 mod WaiterRuns
 mod CallTryRuns
+mod MeansRuns
 mod DutyRuns
 mod AfreshRuns
 mod AwaitingRuns

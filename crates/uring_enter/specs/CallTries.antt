@@ -9,7 +9,7 @@ use Rattle.uring_enter.specs.declared.waiting_call.Doing.TheVariants.{Calls, Pol
 use Rattle.uring_enter.specs.declared.waiting_call.Turn.{Turn}
 use Rattle.uring_enter.specs.declared.waiting_call.Turn.TheVariants.{Does, Waits, Ends, EndsWithDone}
 use Rattle.uring_enter.specs.Clocks.{has_some}
-use Rattle.uring_enter.specs.Needs.{is_splice, goes_on}
+use Rattle.uring_enter.specs.Needs.{is_receive, is_splice, goes_on}
 use Rattle.uring_enter.specs.Readiness.{has_message_flags}
 use Rattle.uring_entry.specs.Errors.{error}
 
@@ -24,16 +24,16 @@ begins e c = if polls_first e c then Does Polls else Does Calls
 abbrev pub ends_with : Submission → Call → ℤ → Turn
 ends_with e c res = if has_message_flags e.opcode && not (c.done == 0) then EndsWithDone else Ends res
 
--- the entry asks it not to wait: MSG_DONTWAIT (64), SPLICE_F_NONBLOCK (2)
+-- the entry asks it not to wait: MSG_DONTWAIT (64), SPLICE_F_NONBLOCK (2); and what a socket was told of errors, by MSG_ERRQUEUE (8192), is there or isn't. recv(2)
 abbrev pub is_asked : Submission → Bool
 is_asked e =
-    has_message_flags e.opcode && has_some e.op_flags 64 || is_splice e.opcode && has_some e.op_flags 2
+    is_splice e.opcode && has_some e.op_flags 2
+    || is_receive e.opcode && has_some e.op_flags 8256
+    || has_message_flags e.opcode && has_some e.op_flags 64
 
--- what would have had to wait ends so (-11, EAGAIN) if the entry asks for that; else a splice waits, and an operation of sockets unless its descriptor isn't to wait (O_NONBLOCK)
+-- what would have had to wait ends so (-11, EAGAIN) if the entry asks for that; else it waits, unless its descriptor isn't to wait (O_NONBLOCK)
 abbrev pub would_wait : Submission → Call → Turn
-would_wait e c =
-    if is_asked e then ends_with e c (error 11) else
-    if is_splice e.opcode then Waits else Does AsksWill
+would_wait e c = if is_asked e then ends_with e c (error 11) else Does AsksWill
 
 -- with MSG_WAITALL (256) a message goes on until all is moved, on a socket that is a stream
 abbrev pub waits_for_all : Submission → Call → Bool
@@ -44,10 +44,19 @@ abbrev pub behind_message : Submission → Call → ℤ → Turn
 behind_message e c (negsuc below) = ends_with e c (negsuc below)
 behind_message e c (pos n) = if not (n == 0) && waits_for_all e c then Does AsksType else EndsWithDone
 
--- a connect that was begun (-115, EINPROGRESS) waits
+-- a connect that was begun is made again once its socket is ready, so that this takes itself for connected; that it is (-106, EISCONN; of some protocols -77, EBADFD) is told then in the place of an error. connect(2), and what Linux 6.18 does
+abbrev pub is_connected : Call → ℤ → Bool
+is_connected c res = c.has_begun && (int_eq res (error 106) || int_eq res (error 77))
+
+-- a connect that was begun (-115, EINPROGRESS), or is still going on (-114, EALREADY), waits; so does one to a local socket that takes no more (-11, EAGAIN)
+abbrev pub behind_connect : Call → ℤ → Turn
+behind_connect c res =
+    if int_eq res (error 115) || int_eq res (error 11) || c.has_begun && int_eq res (error 114) then Waits else
+    if is_connected c res then Ends (pos 0) else Ends res
+
 abbrev pub behind_call : Submission → Call → ℤ → Turn
 behind_call e c res =
-    if e.opcode == 16 then (if int_eq res (error 115) || int_eq res (error 11) then Waits else Ends res) else
+    if e.opcode == 16 then behind_connect c res else
     if int_eq res (error 11) then would_wait e c else
     if has_message_flags e.opcode then behind_message e c res else Ends res
 
@@ -56,13 +65,17 @@ behind_poll e is_ready =
     if e.opcode == 16 then (if is_ready then Does AsksError else Waits) else
     if is_ready then Does Calls else Does AsksWill
 
+-- a connect ends with its socket's error, if that has one
+abbrev pub behind_error : Submission → ℤ → Turn
+behind_error e res = if e.opcode == 16 && int_eq res (pos 0) then Does Calls else Ends res
+
 -- what is done next, behind what was done last, which came to `res`: a question to a number that is 0 for no. Behind a call, `done` has what it has moved too
 abbrev pub behind : Submission → Call → Doing → ℤ → Turn
 behind e c Calls res = behind_call e c res
 behind e c Polls res = behind_poll e (not (int_eq res (pos 0)))
 behind e c AsksWill res = if int_eq res (pos 0) then Waits else ends_with e c (error 11)
 behind e c AsksType res = if int_eq res (pos 0) then EndsWithDone else Waits
-behind e c AsksError res = Ends res
+behind e c AsksError res = behind_error e res
 
 abbrev pub next_of : Submission → Call → Option Doing → ℤ → Turn
 next_of e c None res = begins e c
@@ -73,15 +86,22 @@ abbrev pub was_ready : Option Doing → ℤ → Bool
 was_ready (Some Polls) res = not (int_eq res (pos 0))
 was_ready _ res = false
 
--- a connection is accepted only right behind its socket was found ready, and a connect is begun once
+-- a socket was found to have no error
+abbrev pub had_no_error : Option Doing → ℤ → Bool
+had_no_error (Some AsksError) res = int_eq res (pos 0)
+had_no_error _ res = false
+
+-- a connection is accepted only right behind its socket was found ready, and a connect that was begun is made again only right behind its socket was found to have no error
 abbrev pub AcceptsWhatCame : Type 0
 AcceptsWhatCame = (e : Submission) (c : Call) (last : Option Doing) (res : ℤ) → polls_first e c ≡ true
-    → next_of e c last res ≡ Does Calls → (was_ready last res ≡ true) × (e.opcode == 16 ≡ false)
+    → next_of e c last res ≡ Does Calls
+    → (if e.opcode == 16 then had_no_error last res else was_ready last res) ≡ true
 
--- a call ends with what came last, or with -11
+-- a call ends with what came last, or with -11; but a connect that is found made, with 0
 abbrev pub EndsWithWhatCame : Type 0
 EndsWithWhatCame = (e : Submission) (c : Call) (last : Option Doing) (res end : ℤ)
-    → next_of e c last res ≡ Ends end → (end ≡ res) ⊎ (end ≡ error 11)
+    → next_of e c last res ≡ Ends end
+    → (end ≡ res) ⊎ ((end ≡ error 11) ⊎ ((end ≡ pos 0) × ((e.opcode == 16 ≡ true) × (is_connected c res ≡ true))))
 
 -- bytes that a message has moved are told: it ends with no error
 abbrev pub LosesNoBytes : Type 0

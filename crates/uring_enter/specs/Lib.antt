@@ -31,6 +31,7 @@ pub mod Needs
 pub mod Descriptors
 pub mod Readiness
 pub mod Lookouts
+pub mod PipeOpens
 pub mod PipePolls
 pub mod Waiters
 pub mod Instances

@@ -1,5 +1,5 @@
 -- By what the operation of an entry is carried out: which system call, and with which arguments; or what whoever keeps the ring does itself. io_uring_enter(2), at each operation, which names the call of section 2 that it is like: its fields are that call's arguments. The numbers of operations are those of <linux/io_uring.h>.
-use Rattle.std.specs.Prelude.{ℕ, ◌-◌, Bool, not, ◌&&◌, ◌||◌, ◌==◌, nat_le, if◌then◌else◌}
+use Rattle.std.specs.Prelude.{◌≡◌, ℕ, ◌-◌, Bool, true, not, ◌&&◌, ◌||◌, ◌==◌, nat_le, if◌then◌else◌}
 use Rattle.std.specs.Int.RustNames.{bit_and, bit_or}
 use Rattle.uring_enter.specs.declared.submission.Submission.{Submission}
 use Rattle.uring_enter.specs.declared.system_call.SystemCall.{SystemCall}
@@ -8,7 +8,8 @@ use Rattle.uring_enter.specs.declared.means.Means.{Means}
 use Rattle.uring_enter.specs.declared.means.Means.TheVariants.{Nothing, Transfer, Poll, Call, Opening, Sync, Close, Connect, Splice, Send, Receive, ReceiveMessage, SlotRemoval, FilesPlacing, FilesUpdate, Timeout, LinkedTimeout, Provision, ProvisionRemoval, Message, Others}
 use Rattle.uring_enter.specs.Clocks.{has_some}
 use Rattle.uring_enter.specs.Layouts.{call_flags}
-use Rattle.uring_enter.specs.Needs.{is_transfer, is_send, advised_length}
+use Rattle.uring_enter.specs.Needs.{is_transfer, is_send, is_of_sockets, is_splice, advised_length}
+use Rattle.uring_enter.specs.Readiness.{has_message_flags}
 use Rattle.uring_enter.specs.SystemCalls as sys
 use Rattle.uring_enter.specs.SystemCalls.{of_three, of_four, of_five, of_six, word_of}
 
@@ -141,6 +142,15 @@ of_ring e =
     if e.opcode == 40 then Message else
     -- NOP, and what isn't served
     Nothing
+
+-- the descriptors of ACCEPT, CONNECT, SPLICE and TEE are asked not to wait while the call is made, by O_NONBLOCK: it has no flag for that. (SPLICE_F_NONBLOCK asks a pipe alone.) accept(2), connect(2), splice(2)
+abbrev pub asks_descriptors : ℕ → Bool
+asks_descriptors code = code == 13 || code == 16 || code == 30 || code == 33
+
+-- an operation of sockets, a splice or a tee never sleeps in its call, whoever else uses its descriptors: the call has the flags of a message, with MSG_DONTWAIT among them (`call_flags`), or its descriptors are asked not to wait
+abbrev pub CallsNeverSleep : Type 0
+CallsNeverSleep = (e : Submission) → is_of_sockets e.opcode || is_splice e.opcode ≡ true
+    → has_message_flags e.opcode || asks_descriptors e.opcode ≡ true
 
 abbrev pub is_on_descriptor : ℕ → Bool
 is_on_descriptor code =

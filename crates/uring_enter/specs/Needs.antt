@@ -31,6 +31,10 @@ is_zero_copy code = code == 47 || code == 48
 abbrev pub is_receive : ℕ → Bool
 is_receive code = code == 10 || code == 27
 
+-- a receive of urgent data, by MSG_OOB (1). recv(2)
+abbrev pub takes_urgent : Submission → Bool
+takes_urgent e = is_receive e.opcode && has_some e.op_flags 1
+
 -- these, ACCEPT and CONNECT
 abbrev pub is_of_sockets : ℕ → Bool
 is_of_sockets code = is_send code || is_receive code || code == 13 || code == 16
@@ -83,11 +87,12 @@ can_make_ready code =
 abbrev pub unasked : ℕ
 unasked = 8248
 
--- the events for which its descriptor is polled: those that a poll names in 16 bits, and those of which every poll is told; POLLIN (1) of what takes something from it, POLLOUT (4) of what gives it something. poll(2)
+-- the events for which its descriptor is polled: those that a poll names in 16 bits, and those of which every poll is told; POLLIN (1) of what takes something from it, of urgent data also POLLPRI (2), and POLLOUT (4) of what gives it something. poll(2)
 abbrev pub events_of : Submission → ℕ
 events_of e =
     if is_poll e.opcode then bit_or (bit_and e.op_flags 65535) unasked else
-    if is_read e.opcode || is_receive e.opcode || e.opcode == 13 then 1 else
+    if is_receive e.opcode then (if takes_urgent e then 3 else 1) else
+    if is_read e.opcode || e.opcode == 13 then 1 else
     if needs_file e.opcode then 4 else 0
 
 -- what is looked for before an operation is carried out

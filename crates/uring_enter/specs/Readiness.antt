@@ -13,7 +13,7 @@ use Rattle.uring_enter.specs.declared.ready.Look.{Look}
 use Rattle.uring_enter.specs.declared.ready.Look.TheVariants.{Asks, Waits, Finishes}
 use Rattle.uring_entry.specs.Errors.{is_below}
 use Rattle.uring_enter.specs.Clocks.{has_some}
-use Rattle.uring_enter.specs.Needs.{is_transfer, is_of_sockets, is_splice}
+use Rattle.uring_enter.specs.Needs.{is_transfer, is_of_sockets, is_splice, takes_urgent}
 
 -- one that is to take a provided buffer, and has found none since it started, ends so, whatever its descriptor has. One that has found one waits for its descriptor, whatever becomes of that buffer: it takes what its group has then. So Linux 6.18 was seen to do
 abbrev pub finds_what_it_wants : Standing → Needs → Moment → Bool
@@ -137,11 +137,15 @@ has_message_flags code = is_of_sockets code && not (code == 13) && not (code == 
 abbrev pub is_impatient_transfer : Submission → ℕ → Bool
 is_impatient_transfer e length = has_some e.op_flags 8 || length == 0 && not (has_some e.flags 32)
 
--- one that doesn't wait whatever its descriptor has: it has failed when it started, it is a transfer as above, or it is asked not to wait by MSG_DONTWAIT (64). A connect and a splice are begun before they wait, so that their faults are found at once
+-- a connect, a splice and a receive of urgent data are begun before they wait, so that their faults are found at once: no readiness tells of these
+abbrev pub is_begun_at_once : Submission → Bool
+is_begun_at_once e = e.opcode == 16 || is_splice e.opcode || takes_urgent e
+
+-- one that doesn't wait whatever its descriptor has: it has failed when it started, its socket listens, so that it ends with an error (-107, ENOTCONN), it opens a path (OPENAT, 18, and OPENAT2, 28), it is to be begun, it is a transfer as above, or it is asked not to wait by MSG_DONTWAIT (64)
 abbrev pub is_impatient : Submission → Patience → Bool
 is_impatient e p =
-    p.has_failed
-    || (e.opcode == 16 || is_splice e.opcode) && not p.has_begun
+    p.has_failed || p.is_listening || e.opcode == 18 || e.opcode == 28
+    || is_begun_at_once e && not p.has_begun
     || has_message_flags e.opcode && has_some e.op_flags 64
     || is_transfer e.opcode && is_impatient_transfer e p.length
 

@@ -1,5 +1,5 @@
 -- When a sleep of a call isn't begun after all, and what came of a wait. io_uring_enter(2), errors, but where our own rule is named.
-use Rattle.std.specs.Prelude.{ℤ, pos, negsuc, Bool, true, false, not, ◌&&◌, if◌then◌else◌}
+use Rattle.std.specs.Prelude.{ℕ, ℤ, pos, negsuc, Bool, true, false, not, ◌&&◌, nat_le, if◌then◌else◌}
 use Rattle.std.specs.Ordering.{int_eq}
 use Rattle.uring_entry.specs.Errors.{error}
 use Rattle.uring_enter.specs.declared.sleeping.Beginning.{Beginning}
@@ -29,6 +29,10 @@ unless_message can_post = if can_post then Woken else Endless
 -- a timeout whose time is over fires behind a sleep only if that came to its end: where a signal or an error ended it the call returns with that, and the timeout fires in the next. Our own rule
 abbrev pub fires_behind : Waited → Bool
 fires_behind w = not w.is_never && int_eq w.result (pos 0)
+
+-- a sleep naps for a request that was carried out in vain twice or more, though its descriptor showed ready, and shows so still: a poll of it would end each sleep at once. So it is of a local socket that connects where no more are taken, and of a counter that has no room for what is added. Our own rule
+abbrev pub naps_for : (vain : ℕ) (is_ready : Bool) → Bool
+naps_for vain is_ready = nat_le 2 vain && is_ready
 
 -- a signal ends the sleep with -4 (EINTR), and another error with itself; else the caller's time is over, or something may go on
 abbrev pub outcome_of : Waited → Outcome

@@ -3,19 +3,18 @@ use Rattle.std.specs.Prelude.{◌≡◌, ℕ, ℤ, pos, negsuc, suc, Bool, true,
 use Rattle.std.specs.Ordering.{int_eq}
 use Rattle.uring_enter.specs.declared.transfer.Transfer.{Transfer}
 use Rattle.uring_enter.specs.declared.transfer.How.{How}
-use Rattle.uring_enter.specs.declared.transfer.How.TheVariants.{AtOnce, Tried, Plain, Nonblocking, Unwilling, Ready}
+use Rattle.uring_enter.specs.declared.transfer.How.TheVariants.{AtOnce, Tried, Plain, Nonblocking, Unwilling}
 use Rattle.uring_enter.specs.declared.transfer.Task.{Task}
 use Rattle.uring_enter.specs.declared.transfer.Task.TheVariants.{Calls, Finds, Polls}
 use Rattle.uring_enter.specs.declared.transfer.Step.{Step}
 use Rattle.uring_enter.specs.declared.transfer.Step.TheVariants.{Does, Waits, Ends}
 use Rattle.uring_entry.specs.Errors.{error, is_below}
 
--- one that failed when it started ends so. What never waits, or is asked not to, or for nothing, is made as it is; another is asked not to wait, unless its descriptor isn't to wait by itself
+-- one that failed when it started ends so. What never waits, or is asked not to, or for nothing, is made as it is; another is asked not to wait
 abbrev pub carries_out : Transfer → Step
 carries_out t =
     if is_below t.fault then Ends t.fault else
-    if not t.is_stream || t.is_impatient then Does (Calls Plain) else
-    if t.is_not_to_wait then Does (Calls Unwilling) else Does (Calls Nonblocking)
+    if not t.is_stream || t.is_impatient then Does (Calls Plain) else Does (Calls Nonblocking)
 
 -- one is tried before its descriptor was asked, or all was: our own rule
 abbrev pub begins : Transfer → Step
@@ -33,11 +32,13 @@ abbrev pub has_moved : ℤ → Bool
 has_moved (pos n) = not (n == 0)
 has_moved (negsuc _) = false
 
--- what would have had to wait (-11, EAGAIN) waits, whatever the descriptor says of waiting, as in the kernel. What can't be asked not to wait (-95, EOPNOTSUPP) is polled first
+-- what would have had to wait (-11, EAGAIN) waits, whatever the descriptor says of waiting, as in the kernel
+abbrev pub unless_waiting : ℤ → Step
+unless_waiting res = if int_eq res (error 11) then Waits else Ends res
+
+-- a call that can't be asked so (-95, EOPNOTSUPP) is made once its descriptor is ready, and that is asked in its place
 abbrev pub behind_asking : ℤ → Step
-behind_asking res =
-    if int_eq res (error 11) then Waits else
-    if int_eq res (error 95) then Does Polls else Ends res
+behind_asking res = if int_eq res (error 95) then Does Polls else unless_waiting res
 
 -- unless a try is its end, it is found out what the descriptor is
 abbrev pub unless : Bool → ℤ → Step
@@ -49,10 +50,9 @@ behind t (Calls AtOnce) res = unless (is_all res t.length) res
 behind t (Calls Tried) res = unless (not (int_eq res (error 29))) res
 behind t (Calls Plain) res = Ends res
 behind t (Calls Nonblocking) res = behind_asking res
-behind t (Calls Unwilling) res = behind_asking res
-behind t (Calls Ready) res = Ends res
+behind t (Calls Unwilling) res = unless_waiting res
 behind t Finds res = if t.is_stream && has_moved res then Ends res else carries_out t
-behind t Polls res = if int_eq res (pos 0) then Waits else Does (Calls Ready)
+behind t Polls res = if int_eq res (pos 0) then Waits else Does (Calls Unwilling)
 
 -- what is done next
 abbrev pub next_of : Transfer → Option Task → ℤ → Step
@@ -63,25 +63,25 @@ next_of t (Some task) res = behind t task res
 abbrev pub offset_of : Transfer → ℕ → ℕ
 offset_of t offset = if t.is_stream && not t.has_offsets then 18446744073709551615 else offset
 
--- a call that is asked not to wait
+-- a call that is asked not to wait, by RWF_NOWAIT
 abbrev pub asks_not_to_wait : How → Bool
 asks_not_to_wait AtOnce = true
 asks_not_to_wait Nonblocking = true
 asks_not_to_wait _ = false
 
--- one that doesn't sleep though it isn't asked so: its descriptor was found to be a file, or never waits; the entry asks it not to wait, or for nothing; or the descriptor isn't to wait
+-- one whose descriptor is asked not to wait while it is made, by O_NONBLOCK. open(2)
+abbrev pub asks_descriptor : How → Bool
+asks_descriptor Unwilling = true
+asks_descriptor _ = false
+
+-- one that doesn't sleep though neither is asked: its descriptor was found to be a file, or never waits; or the entry asks it not to wait, or for nothing
 abbrev pub never_sleeps : Transfer → Bool
-never_sleeps t = t.is_tried || not t.is_stream || t.is_impatient || t.is_not_to_wait
+never_sleeps t = t.is_tried || not t.is_stream || t.is_impatient
 
--- its descriptor was found ready just before
-abbrev pub was_ready : Option Task → ℤ → Bool
-was_ready (Some Polls) res = not (int_eq res (pos 0))
-was_ready _ res = false
-
--- a call is made only in a way that doesn't sleep, or right behind its descriptor was found ready
+-- a call is made only in a way that doesn't sleep. That its descriptor was found ready just before isn't enough: whoever else uses that may have taken what there was
 abbrev pub SleepsNever : Type 0
 SleepsNever = (t : Transfer) (last : Option Task) (res : ℤ) (how : How) → next_of t last res ≡ Does (Calls how)
-    → asks_not_to_wait how || never_sleeps t || was_ready last res ≡ true
+    → asks_not_to_wait how || asks_descriptor how || never_sleeps t ≡ true
 
 -- a transfer ends with what the last call came to, or with what its start found out
 abbrev pub TellsWhatCame : Type 0

@@ -2,6 +2,7 @@
 
 ghost use Rattle.std.specs.Prelude.{◌≡◌};
 ghost use Rattle.uring_enter.specs.Means as spec;
+ghost use Rattle.uring_enter.specs.Means.{CallsNeverSleep};
 
 use crate::layout::call_flags;
 use crate::needs::{advised_length, is_send, is_transfer};
@@ -105,6 +106,18 @@ pub enum Means {
     /// A cancel or a removal of other requests.
     Others,
 }
+
+/// Whether the descriptors of an operation are asked not to wait while its call is made, which has no flag for that: of ACCEPT, CONNECT, SPLICE and TEE. O_NONBLOCK.
+pub fn asks_descriptors(code: u8) -> bool
+    ensures { result ≡ spec.asks_descriptors code }
+{
+    matches!(code, 13 | 16 | 30 | 33)
+}
+
+/// What may have to wait for its descriptor is asked not to, by a flag of its call or by its descriptors, whoever else uses these.
+pub fn calls_never_sleep()
+    ensures { CallsNeverSleep }
+{}
 
 /// By what the operation of an entry is carried out, for which this is held.
 pub fn means_of(entry: &Submission, held: &Held) -> Means

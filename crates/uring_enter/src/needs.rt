@@ -249,10 +249,17 @@ fn is_zero_copy(code: u8) -> bool
 }
 
 /// RECVMSG and RECV.
-fn is_receive(code: u8) -> bool
+pub(crate) fn is_receive(code: u8) -> bool
     ensures { result ≡ spec.is_receive code }
 {
     matches!(code, 10 | 27)
+}
+
+/// A receive of urgent data. MSG_OOB.
+pub(crate) fn takes_urgent(entry: &Submission) -> bool
+    ensures { result ≡ spec.takes_urgent entry.now }
+{
+    is_receive(entry.opcode) && entry.op_flags & 1 != 0
 }
 
 /// Sends, receives, ACCEPT and CONNECT.
@@ -331,7 +338,8 @@ fn events_of(entry: &Submission) -> u32
 {
     match entry.opcode {
         6 => entry.op_flags & 0xffff | UNASKED,
-        1 | 4 | 10 | 13 | 22 | 27 => 1,
+        10 | 27 => if takes_urgent(entry) { 3 } else { 1 },
+        1 | 4 | 13 | 22 => 1,
         code => { if needs_file(code) { 4 } else { 0 } }
     }
 }

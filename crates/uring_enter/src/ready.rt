@@ -7,7 +7,7 @@ ghost use Rattle.uring_enter.specs.Readiness as spec;
 ghost use Rattle.uring_enter.specs.Readiness.{FinishesWhatCan, LooksOnce, NeedsNoLook, PollsWhatMatters};
 
 use crate::course::Course;
-use crate::needs::{Needs, is_of_sockets, is_splice, is_transfer};
+use crate::needs::{Needs, is_of_sockets, is_splice, is_transfer, takes_urgent};
 use crate::submission::Submission;
 
 /// What a request that runs is.
@@ -85,8 +85,11 @@ pub struct Patience {
     /// It has failed when it started.
     pub has_failed: bool,
 
-    /// Of a connect or a splice: it was begun.
+    /// Of a connect or a splice, or of a receive of urgent data: it was begun.
     pub has_begun: bool,
+
+    /// Of a read or a receive: its socket is one that listens, of which nothing can be received.
+    pub is_listening: bool,
 }
 
 /// What is to be asked next of a request that runs, and has to wait or hasn't, or whether it can be finished.
@@ -211,15 +214,22 @@ fn look_at_descriptor(standing: &Standing, needs: &Needs, known: &Moment) -> Loo
 pub fn is_impatient(entry: &Submission, patience: &Patience) -> bool
     ensures { result ≡ spec.is_impatient entry.now patience.now }
 {
-    if patience.has_failed {
+    if patience.has_failed || patience.is_listening || matches!(entry.opcode, 18 | 28) {
         true
-    } else if entry.opcode == 16 || is_splice(entry.opcode) {
-        !patience.has_begun
+    } else if is_begun_at_once(entry) && !patience.has_begun {
+        true
     } else if is_transfer(entry.opcode) {
         entry.op_flags & 8 != 0 || patience.length == 0 && entry.flags & 32 == 0
     } else {
         has_message_flags(entry.opcode) && entry.op_flags & 64 != 0
     }
+}
+
+/// A connect, a splice, and a receive of urgent data.
+fn is_begun_at_once(entry: &Submission) -> bool
+    ensures { result ≡ spec.is_begun_at_once entry.now }
+{
+    entry.opcode == 16 || is_splice(entry.opcode) || takes_urgent(entry)
 }
 
 /// Whether the flags of an operation are those of a message.

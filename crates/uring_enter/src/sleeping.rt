@@ -81,6 +81,13 @@ pub fn beginning_of(fault: i32, is_told: bool) -> Beginning
     }
 }
 
+/// Whether a sleep naps for a request, and polls its descriptor not: it was carried out so often in vain, once right behind the other though its descriptor showed ready each time, and shows ready still.
+pub fn naps_for(vain: u32, is_ready: bool) -> bool
+    ensures { result ≡ spec.naps_for vain is_ready }
+{
+    vain >= 2 && is_ready
+}
+
 /// What came of a wait.
 pub fn outcome_of(waited: &Waited) -> Outcome
     ensures { result ≡ spec.outcome_of waited.now }

@@ -28,9 +28,6 @@ pub struct Transfer {
 
     /// Of one that may have to wait: its descriptor has offsets.
     pub has_offsets: bool,
-
-    /// Of one that may have to wait: its descriptor isn't to wait. O_NONBLOCK.
-    pub is_not_to_wait: bool,
 }
 
 /// How a call is made.
@@ -48,11 +45,8 @@ pub enum How {
     /// The same, asked not to wait.
     Nonblocking,
 
-    /// As the entry says, on a descriptor that isn't to wait.
+    /// As the entry says, on a descriptor that is asked not to wait meanwhile. O_NONBLOCK.
     Unwilling,
-
-    /// As the entry says, on a descriptor that is ready.
-    Ready,
 }
 
 /// What is done for a transfer.
@@ -110,8 +104,6 @@ fn carries_out(transfer: &Transfer) -> Step
         Step::Ends(transfer.fault)
     } else if !transfer.is_stream || transfer.is_impatient {
         Step::Does(Task::Calls(How::Plain))
-    } else if transfer.is_not_to_wait {
-        Step::Does(Task::Calls(How::Unwilling))
     } else {
         Step::Does(Task::Calls(How::Nonblocking))
     }
@@ -123,8 +115,9 @@ fn behind(transfer: &Transfer, task: Task, res: i32) -> Step
     match task {
         Task::Calls(How::AtOnce) => unless(is_all(res, transfer.length), res),
         Task::Calls(How::Tried) => unless(res != -29, res),
-        Task::Calls(How::Nonblocking) | Task::Calls(How::Unwilling) => behind_asking(res),
-        Task::Calls(How::Plain) | Task::Calls(How::Ready) => Step::Ends(res),
+        Task::Calls(How::Plain) => Step::Ends(res),
+        Task::Calls(How::Nonblocking) => behind_asking(res),
+        Task::Calls(How::Unwilling) => unless_waiting(res),
         Task::Finds => {
             if transfer.is_stream && res > 0 {
                 Step::Ends(res)
@@ -136,7 +129,7 @@ fn behind(transfer: &Transfer, task: Task, res: i32) -> Step
             if res == 0 {
                 Step::Waits
             } else {
-                Step::Does(Task::Calls(How::Ready))
+                Step::Does(Task::Calls(How::Unwilling))
             }
         }
     }
@@ -159,14 +152,23 @@ fn is_all(res: i32, length: u64) -> bool
     if res < 0 { false } else { res as u64 == length }
 }
 
-/// Behind a call that doesn't wait, on what may have to.
+/// Behind a call that is asked not to wait, on what may have to.
 fn behind_asking(res: i32) -> Step
     ensures { result ≡ spec.behind_asking res }
 {
+    if res == -95 {
+        Step::Does(Task::Polls)
+    } else {
+        unless_waiting(res)
+    }
+}
+
+/// It waits if its call would have, else it ends.
+fn unless_waiting(res: i32) -> Step
+    ensures { result ≡ spec.unless_waiting res }
+{
     if res == -11 {
         Step::Waits
-    } else if res == -95 {
-        Step::Does(Task::Polls)
     } else {
         Step::Ends(res)
     }
@@ -183,7 +185,7 @@ pub fn offset_of(transfer: &Transfer, offset: u64) -> u64
     }
 }
 
-/// A call is made only in a way that doesn't sleep, or right behind its descriptor was found ready.
+/// A call is made only in a way that doesn't sleep, whoever else uses its descriptor.
 pub fn sleeps_never()
     ensures { SleepsNever }
 {}

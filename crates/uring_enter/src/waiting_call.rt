@@ -4,7 +4,7 @@ ghost use Rattle.std.specs.Prelude.{◌≡◌};
 ghost use Rattle.uring_enter.specs.CallTries as spec;
 ghost use Rattle.uring_enter.specs.CallTries.{AcceptsWhatCame, EndsWithWhatCame, LosesNoBytes};
 
-use crate::needs::{goes_on, is_splice};
+use crate::needs::{goes_on, is_receive, is_splice};
 use crate::ready::has_message_flags;
 use crate::submission::Submission;
 
@@ -34,13 +34,13 @@ pub enum Doing {
     /// Its descriptor is polled: 0 if it isn't ready.
     Polls,
 
-    /// Its descriptor is asked whether it isn't to wait: 0 if it is. O_NONBLOCK.
+    /// Its descriptor is asked whether it isn't to wait: 0 if it is. Of a splice it is that which it waits for, and of two pipes either. O_NONBLOCK.
     AsksWill,
 
     /// Its socket is asked whether it is a stream: 0 if it isn't.
     AsksType,
 
-    /// Its socket is asked for its error, which is what it came to.
+    /// Its socket is asked for its error, which is what it came to: 0 if it has none.
     AsksError,
 }
 
@@ -81,7 +81,7 @@ pub fn next_turn(entry: &Submission, call: &Call, last: Option<Doing>, res: i32)
                 Turn::Waits
             }
         }
-        Some(Doing::AsksError) => Turn::Ends(res),
+        Some(Doing::AsksError) => behind_error(entry, res),
     }
 }
 
@@ -113,6 +113,8 @@ fn is_asked(entry: &Submission) -> bool
 {
     if is_splice(entry.opcode) {
         entry.op_flags & 2 != 0
+    } else if is_receive(entry.opcode) {
+        entry.op_flags & 8256 != 0
     } else {
         has_message_flags(entry.opcode) && entry.op_flags & 64 != 0
     }
@@ -123,8 +125,6 @@ fn would_wait(entry: &Submission, call: &Call) -> Turn
 {
     if is_asked(entry) {
         ends_with(entry, call, -11)
-    } else if is_splice(entry.opcode) {
-        Turn::Waits
     } else {
         Turn::Does(Doing::AsksWill)
     }
@@ -152,15 +152,41 @@ fn behind_call(entry: &Submission, call: &Call, res: i32) -> Turn
     ensures { result ≡ spec.behind_call entry.now call.now res }
 {
     if entry.opcode == 16 {
-        if res == -115 || res == -11 {
-            Turn::Waits
-        } else {
-            Turn::Ends(res)
-        }
+        behind_connect(call, res)
     } else if res == -11 {
         would_wait(entry, call)
     } else if has_message_flags(entry.opcode) {
         behind_message(entry, call, res)
+    } else {
+        Turn::Ends(res)
+    }
+}
+
+/// Whether a connect is known to have been made, by the call that is made again of one that was begun.
+fn is_connected(call: &Call, res: i32) -> bool
+    ensures { result ≡ spec.is_connected call.now res }
+{
+    call.has_begun && (res == -106 || res == -77)
+}
+
+fn behind_connect(call: &Call, res: i32) -> Turn
+    ensures { result ≡ spec.behind_connect call.now res }
+{
+    if res == -115 || res == -11 || call.has_begun && res == -114 {
+        Turn::Waits
+    } else if is_connected(call, res) {
+        Turn::Ends(0)
+    } else {
+        Turn::Ends(res)
+    }
+}
+
+/// A connect whose socket has no error is made again, which tells the socket that it is connected.
+fn behind_error(entry: &Submission, res: i32) -> Turn
+    ensures { result ≡ spec.behind_error entry.now res }
+{
+    if entry.opcode == 16 && res == 0 {
+        Turn::Does(Doing::Calls)
     } else {
         Turn::Ends(res)
     }
@@ -212,12 +238,12 @@ pub fn unpolled_result(events: u16) -> i32
     if present == 0 { -22 } else { present as i32 }
 }
 
-/// A connection is accepted only right behind its socket was found ready, and a connect is begun once.
+/// A connection is accepted only right behind its socket was found ready, and a connect that was begun is made again only right behind it was found to have no error.
 pub fn accepts_what_came()
     ensures { AcceptsWhatCame }
 {}
 
-/// A call ends with what came last, or with -11.
+/// A call ends with what came last, or with -11; but a connect that is found made, with 0.
 pub fn ends_with_what_came()
     ensures { EndsWithWhatCame }
 {}

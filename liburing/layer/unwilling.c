@@ -1,0 +1,111 @@
+/* That a descriptor isn't to wait is seen by all that share the open file, in this process and in others. So others that the layer runs in may
+ * have asked it just now, and may be about to take that back: then a call that goes by it sleeps, or takes it for the application's word. So
+ * none does that while another does, which a lock of the process tells (fcntl), of a byte that no file has. One that can't be locked, as a pipe's end
+ * that can't be written to, is asked without.
+ */
+#define _GNU_SOURCE
+#include "unwilling.h"
+#include "means.h"
+
+#include <errno.h>
+#include <fcntl.h>
+#include <pthread.h>
+#include <sched.h>
+#include <unistd.h>
+
+/* So often it is tried to lock one that another has, a tenth of a second at least: then that has been stopped, maybe. Behind the first tries this
+ * thread sleeps between them. */
+enum { MOST_TRIES = 2000, HASTY_TRIES = 20, PAUSE = 50 };
+
+static const off_t PLACE = (off_t)1 << 62;
+
+static pthread_mutex_t only = PTHREAD_MUTEX_INITIALIZER;    /* the locks of a process don't keep its threads from each other */
+
+void lock_unwilling(void)
+{
+    pthread_mutex_lock(&only);
+}
+
+void unlock_unwilling(void)
+{
+    pthread_mutex_unlock(&only);
+}
+
+static bool set_lock(int fd, short type)
+{
+    struct flock lock = {.l_type = type, .l_whence = SEEK_SET, .l_start = PLACE, .l_len = 1};
+    return fcntl(fd, F_SETLK, &lock) >= 0 || (errno != EAGAIN && errno != EACCES);
+}
+
+/* Whether another has it by a lock that means something else, as that of a whole file. */
+static bool is_of_others(int fd)
+{
+    struct flock lock = {.l_type = F_WRLCK, .l_whence = SEEK_SET, .l_start = PLACE, .l_len = 1};
+    return fcntl(fd, F_GETLK, &lock) >= 0 && lock.l_type != F_UNLCK && !(lock.l_start == PLACE && lock.l_len == 1);
+}
+
+static void lock_file(int fd)
+{
+    for (int tries = 0; tries < MOST_TRIES && !set_lock(fd, F_WRLCK) && !is_of_others(fd); tries++) {
+        if (tries < HASTY_TRIES)
+            sched_yield();
+        else
+            usleep(PAUSE);
+    }
+}
+
+/* A descriptor that is asked, or none, and what its flags are else. */
+struct asked {
+    int fd, flags;
+};
+
+static struct asked ask_not_to_wait(int fd)
+{
+    struct asked asked = {fd, -1};
+    if (fd < 0)
+        return asked;
+    lock_file(fd);
+    asked.flags = fcntl(fd, F_GETFL);
+    if (asked.flags >= 0 && !(asked.flags & O_NONBLOCK))
+        fcntl(fd, F_SETFL, asked.flags | O_NONBLOCK);
+    return asked;
+}
+
+static void take_back(struct asked asked)
+{
+    if (asked.fd < 0)
+        return;
+    if (asked.flags >= 0 && !(asked.flags & O_NONBLOCK))
+        fcntl(asked.fd, F_SETFL, asked.flags);
+    set_lock(asked.fd, F_UNLCK);
+}
+
+int32_t make_unwilling_call(const struct wulgach_system_call *call, int fd, int second_fd)
+{
+    lock_unwilling();
+    struct asked first = ask_not_to_wait(fd), second = ask_not_to_wait(second_fd);
+    int32_t res = make_call(call);
+    take_back(second);
+    take_back(first);
+    unlock_unwilling();
+    return res;
+}
+
+static bool says_not_to_wait(int fd)
+{
+    int flags = fcntl(fd, F_GETFL);
+    return flags >= 0 && flags & O_NONBLOCK;
+}
+
+/* (most wait: these aren't locked) */
+bool is_unwilling(int fd)
+{
+    if (!says_not_to_wait(fd))
+        return false;
+    lock_unwilling();
+    lock_file(fd);
+    bool is_so = says_not_to_wait(fd);
+    set_lock(fd, F_UNLCK);
+    unlock_unwilling();
+    return is_so;
+}

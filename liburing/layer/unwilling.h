@@ -1,0 +1,21 @@
+/* Calls that have no flag by which they could be asked not to wait: their descriptors are asked in its place, by O_NONBLOCK, for the moment of
+ * the call. Which calls are made so is the library's decision.
+ */
+#ifndef UNWILLING_H
+#define UNWILLING_H
+
+#include "wulgach_calls.h"
+
+#include <stdbool.h>
+
+/* Keeps other threads from such calls, around a fork. */
+void lock_unwilling(void);
+void unlock_unwilling(void);
+
+/* Makes a call whose descriptors are these, the second of which may be -1. Returns its result, or the negative of an error number. */
+int32_t make_unwilling_call(const struct wulgach_system_call *call, int fd, int second_fd);
+
+/* Whether a descriptor isn't to wait, by the application's word. */
+bool is_unwilling(int fd);
+
+#endif
