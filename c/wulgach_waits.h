@@ -304,6 +304,7 @@ uint32_t wulgach_transfer_next(const struct wulgach_transfer *transfer, uint32_t
 struct wulgach_call {
     uint64_t length;            /* how many bytes a message is asked to move, */
     uint64_t done;              /* and has moved so far */
+    uint64_t control;           /* how many bytes of control data its entry has, or has room for: one that is received with such has one part alone */
     bool is_stream;             /* it may have to wait for its descriptor */
     bool has_begun;             /* a connect was begun */
 };

@@ -78,11 +78,8 @@ static void post(void)
     demand(!wulgach_shown_is_readable(&shown, 0, false) && wulgach_shown_is_readable(&shown, 0, true) && wulgach_shown_is_readable(&shown, 1, false), "an empty ring");
     wulgach_shown_post(&shown);
     demand(wulgach_shown_is_readable(&shown, 0, false), "a completion");
-    wulgach_course_begin(&course);
-    demand(!wulgach_course_notice(&course, true, false, &res) && res == 7, "no notice behind a drain");
-    demand(wulgach_course_notice(&course, true, true, &res) && res == INT32_MIN && wulgach_course_notice(&course, false, true, &res) && res == 0, "a notice");
-    wulgach_course_note(&course, WULGACH_FACT_CANCELLED, 0);
-    demand(!wulgach_course_notice(&course, false, true, &res), "none of one that was cancelled");
+    demand(!wulgach_notice_of(true, false, &res) && res == 7, "no notice behind a drain");
+    demand(wulgach_notice_of(true, true, &res) && res == INT32_MIN && wulgach_notice_of(false, true, &res) && res == 0, "a notice");
 }
 
 static void search_and_update(void)

@@ -195,6 +195,8 @@ static void call(void)
     demand(turn(CONNECT, 0, fresh, 0, 0) == 1000 + WULGACH_TURN_CALLS && turn(CONNECT, 0, fresh, WULGACH_TURN_CALLS, -115) == 1000 + WULGACH_TURN_WAITS && turn(CONNECT, 0, begun, 0, 0) == 1000 + WULGACH_TURN_POLLS && turn(CONNECT, 0, begun, WULGACH_TURN_POLLS, 1) == 1000 + WULGACH_TURN_ASKS_ERROR && turn(CONNECT, 0, begun, WULGACH_TURN_ASKS_ERROR, -111) == -111, "a connect");
     demand(turn(RECV, 0, fresh, WULGACH_TURN_CALLS, -11) == 1000 + WULGACH_TURN_ASKS_WILL && turn(RECV, 64, fresh, WULGACH_TURN_CALLS, -11) == -11 && turn(RECV, 0, part, WULGACH_TURN_CALLS, 3) == 1000 + WULGACH_TURN_ENDS_WITH_DONE, "a receive");
     demand(turn(RECV, 256, part, WULGACH_TURN_CALLS, 3) == 1000 + WULGACH_TURN_ASKS_TYPE && turn(RECV, 256, part, WULGACH_TURN_ASKS_TYPE, 1) == 1000 + WULGACH_TURN_WAITS && turn(RECV, 256, part, WULGACH_TURN_CALLS, 0) == 1000 + WULGACH_TURN_ENDS_WITH_DONE && turn(RECV, 256, part, WULGACH_TURN_CALLS, -104) == 1000 + WULGACH_TURN_ENDS_WITH_DONE, "of all");
+    struct wulgach_call with_control = {.length = 8, .done = 3, .control = 24, .is_stream = true};
+    demand(turn(10, 256, with_control, WULGACH_TURN_CALLS, 3) == 1000 + WULGACH_TURN_ENDS_WITH_DONE && turn(10, 256, part, WULGACH_TURN_CALLS, 3) == 1000 + WULGACH_TURN_ASKS_TYPE && turn(9, 256, with_control, WULGACH_TURN_CALLS, 3) == 1000 + WULGACH_TURN_ASKS_TYPE, "with control data");
     demand(turn(SPLICE, 0, begun, WULGACH_TURN_CALLS, -11) == 1000 + WULGACH_TURN_WAITS && turn(SPLICE, 2, begun, WULGACH_TURN_CALLS, -11) == -11 && turn(SPLICE, 0, begun, WULGACH_TURN_CALLS, 5) == 5, "a splice");
 }
 
