@@ -326,6 +326,10 @@ enum wulgach_turn {
  * last, or with -11 (EAGAIN); and bytes that were moved are told. */
 uint32_t wulgach_call_next(const struct wulgach_submission *entry, const struct wulgach_call *call, uint32_t last, int32_t res, int32_t *end);
 
+/* Which events a poll finds there, where poll(2) or epoll_wait(2), which doesn't wait, came to this and shows these: none of a call that
+ * failed, so that the poll waits on. */
+uint16_t wulgach_present_of(int32_t came, uint16_t events);
+
 /* Writes what a poll for these events ends with, where `present` are there, 0 for none; `was_told`: something that its pipe had to be read
  * is gone. False, and nothing is written: it waits. */
 bool wulgach_poll_result(uint16_t events, uint16_t present, bool was_told, int32_t *res);

@@ -54,7 +54,6 @@ static void post(void)
     struct wulgach_drains drains;
     struct wulgach_chain chain;
     struct wulgach_shown shown;
-    struct wulgach_course course;
     int32_t res = 7;
     wulgach_drains_begin(&drains);
     demand(wulgach_drains_may_post(&drains, 0, false, true) && !wulgach_drains_may_post(&drains, 1, false, true) && !wulgach_drains_may_post(&drains, 1, true, true), "nothing drains");

@@ -218,6 +218,7 @@ static void miss(void)
 static void poll_one(void)
 {
     int32_t res = 7;
+    demand(wulgach_present_of(1, 5) == 5 && wulgach_present_of(0, 5) == 0 && wulgach_present_of(-1, 5) == 0, "what is there");
     demand(!wulgach_poll_result(5, 0, false, &res) && res == 7, "a poll that waits");
     demand(wulgach_poll_result(5, 4, true, &res) && res == 4 && wulgach_poll_result(5, 32, false, &res) && res == -9 && wulgach_poll_result(5, 0, true, &res) && res == 1, "its events");
     struct wulgach_submission urgent = {.opcode = POLL_ADD, .op_flags = 2}, readable = {.opcode = POLL_ADD, .op_flags = 1}, edges = {.opcode = POLL_ADD, .op_flags = 1, .len = 1};

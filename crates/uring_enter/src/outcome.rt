@@ -3,8 +3,8 @@
 ghost use Rattle.std.specs.Prelude.{◌≡◌};
 ghost use Rattle.uring_enter.specs.Outcomes.{cuts, forgives, is_forgiven, is_forgiving, is_success, is_whole, success_of_entry, wants_whole, looks_ahead, looks_for_running, looks_for_next, may_have_found, shown_of, LooksInTime};
 
-use crate::control::is_alone;
 use crate::needs::{is_of_sockets, is_splice, is_transfer};
+use crate::parts::is_alone;
 use crate::submission::Submission;
 use crate::timeout::linked_outcome;
 

@@ -4,8 +4,8 @@ ghost use Rattle.std.specs.Prelude.{◌≡◌};
 ghost use Rattle.uring_enter.specs.CallTries as spec;
 ghost use Rattle.uring_enter.specs.CallTries.{AcceptsWhatCame, EndsWithWhatCame, LosesNoBytes};
 
-use crate::control::is_alone;
 use crate::needs::{goes_on, is_splice};
+use crate::parts::is_alone;
 use crate::ready::has_message_flags;
 use crate::submission::Submission;
 
