@@ -4,7 +4,9 @@ ghost use Rattle.uring_register.specs.Uses.{Use, Put, Lost, Taken, Given, Droppe
 ghost use Rattle.uring_register.specs.Bytes as spec;
 ghost use Rattle.uring_c.specs.UsesForm.{word_of_ending};
 
-use uring_register::{Buffer, Ending, Uses, bytes_fault, flags_of, flags_so_far, further_in, part_of};
+use uring_register::{
+    Buffer, Ending, Uses, bytes_fault, flags_of, flags_so_far, further_in, part_of,
+};
 
 /// One has a file or buffer, with a tag or without: a slot that is to get it, or a request.
 #[unsafe(no_mangle)]

@@ -166,7 +166,13 @@ fn end_by(known: Option<i32>, is_cancelled: bool, moved: i32) -> Option<i32>
 {
     match known {
         Some(res) => Some(res),
-        None => { if is_cancelled { Some(by_cancel(moved)) } else { None } }
+        None => {
+            if is_cancelled {
+                Some(by_cancel(moved))
+            } else {
+                None
+            }
+        }
     }
 }
 
