@@ -88,6 +88,13 @@ uint32_t wulgach_buffer_part(uint64_t wanted, uint32_t length);
  * it has if it moved bytes, and a transfer also at the end of its file. */
 uint32_t wulgach_buffer_flags(int32_t res, bool is_transfer, uint16_t id);
 
+/* The same of an operation that would have to wait, and has put so many bytes into its buffer so far: it has taken that if there are any. */
+uint32_t wulgach_buffer_flags_so_far(uint32_t moved, uint16_t id);
+
+/* Writes where the next try of an operation begins that has put so many bytes into the buffer `had` so far, which end before 2^64: behind
+ * them, in the same one. False, and nothing is written: it has put none there, and takes the next of its group. */
+bool wulgach_buffer_further(const struct wulgach_buffer *had, uint32_t moved, struct wulgach_buffer *further);
+
 /* ---- registered files and buffers ---- */
 
 /* Who has a registered file or buffer. It is gone once no slot and no request has it. Where threads share one, each change of the count is

@@ -104,6 +104,14 @@ int32_t wulgach_placed_result(uint32_t asked, uint32_t slot);
  * them: the second of a RECVMSG that goes on, else the first; 2^31 - 1 of more. */
 int32_t wulgach_done_result(const struct wulgach_submission *entry, uint64_t done, uint64_t filled);
 
+/* How many bytes the operation of an entry has moved that would have to wait for more, and whose calls have come to so many: none but of a
+ * message, of which 2^31 - 1 of more. */
+int32_t wulgach_moved_so_far(const struct wulgach_submission *entry, uint64_t done);
+
+/* How many bytes of control data the next call of a message sends, or has room for, whose entry's are `control`, and which has moved so many
+ * bytes: they are sent with its first part alone. */
+uint64_t wulgach_control_of(const struct wulgach_submission *entry, uint64_t control, uint64_t done);
+
 /* Whether a socket of this type (SO_TYPE) is a stream, of which what is waited for may come in parts. */
 bool wulgach_is_stream_type(uint32_t type);
 

@@ -22,6 +22,7 @@ struct wulgach_course {
     bool has_result;    /* its result is known: */
     bool has_ended;
     int32_t res;        /* this, else 0 */
+    int32_t moved;      /* how many bytes its operation has moved so far, which goes on in parts; else 0 */
 };
 
 /* What has happened to a request. */
@@ -29,7 +30,7 @@ enum wulgach_fact {
     WULGACH_FACT_STARTED = 0,    /* the core let it start */
     WULGACH_FACT_DROPPED = 1,    /* the core has ended it without letting it start, and this result is shown of it */
     WULGACH_FACT_CANCELLED = 2,  /* a cancel has found it */
-    WULGACH_FACT_WAITS = 3,      /* its operation would have to wait: nothing was done */
+    WULGACH_FACT_WAITS = 3,      /* its operation would have to wait, and has moved so many bytes so far: 0 if nothing was done */
     WULGACH_FACT_WENT_ON = 4, /* it brought something, which has a completion of its own, and goes on */
     WULGACH_FACT_DONE = 5,       /* it is done, with this result */
     WULGACH_FACT_NOTIFIED = 6,   /* the result has a completion of its own, and the request ends with this one */
@@ -48,8 +49,8 @@ void wulgach_course_begin(struct wulgach_course *course);
 
 /* Returns what is to be done when the request goes on (enum wulgach_act), and writes its result, if it is to end. An operation is to
  * be carried out only if the core let its request start, which hasn't ended and which no cancel has found, and only once, but where it
- * waited or went on; it then counts as tried, until it is noted what became of it. A request ends with its result, or with -125
- * (ECANCELED) if a cancel has found it before. */
+ * waited or went on; it then counts as tried, until it is noted what became of it. A request ends with its result; or, if a cancel
+ * has found it before, with the bytes that it had moved, or with -125 (ECANCELED) if it had moved none. */
 uint32_t wulgach_course_act(struct wulgach_course *course, int32_t *res);
 
 /* Notes what has happened (enum wulgach_fact), with its result, if it has one. False: it can't have, so far; then nothing changes.
@@ -62,8 +63,8 @@ bool wulgach_course_done(struct wulgach_course *course, int32_t res);
 bool wulgach_course_end(struct wulgach_course *course);
 
 /* Writes what the second completion of a send without copies shows, which says that its memory is free: 0, or with `reports` that it was
- * copied. False, and nothing is written: it has none, since a cancel has found it, or no completion may be posted before its end. */
-bool wulgach_course_notice(const struct wulgach_course *course, bool reports, bool may_post, int32_t *res);
+ * copied. False, and nothing is written: it has none, since no completion may be posted before its end. */
+bool wulgach_notice_of(bool reports, bool may_post, int32_t *res);
 
 /* Whether the update of a poll begins it afresh, so that what is there already is told: if it runs. */
 bool wulgach_course_begins_afresh(const struct wulgach_course *course);
@@ -123,6 +124,7 @@ struct wulgach_submission;
 /* How an operation was carried out. */
 struct wulgach_carried {
     uint64_t length;        /* how many bytes its vectors have */
+    uint64_t control;       /* how many bytes of control data its message has, or has room for */
     uint32_t message_flags; /* of what was received: the flags of its message */
     bool has_message;       /* it has a message, as an operation of sockets */
     bool is_cancelled;      /* a cancel has found it */
@@ -130,7 +132,7 @@ struct wulgach_carried {
 };
 
 /* Whether a result is a success to the links behind the request of an entry that was carried out so, and to WULGACH_CQE_SKIP_SUCCESS: it
- * moved all of its length, if it is to, and nothing that it has received was cut. By Linux's rules so is a failure of FSYNC,
+ * moved all of its length, if it is to and isn't a RECVMSG with room for control data, and nothing that it has received was cut. By Linux's rules so is a failure of FSYNC,
  * SYNC_FILE_RANGE, FALLOCATE, MADVISE, STATX, RENAMEAT, UNLINKAT, MKDIRAT, SYMLINKAT, LINKAT, SHUTDOWN and those of extended attributes,
  * once it was carried out, but for -88 (ENOTSOCK) of a SHUTDOWN. -62 (ETIME) is one of a timeout with IORING_TIMEOUT_ETIME_SUCCESS; and of
  * a linked one any result is, unless a cancel has found it. */
@@ -141,12 +143,11 @@ enum wulgach_part {
     WULGACH_PART_EVENT = 0,     /* something has come, and the request goes on */
     WULGACH_PART_SENT = 1,      /* a send without copies is done: another completion follows, once its memory is free */
     WULGACH_PART_NOTICE = 2,    /* its memory is free */
-    WULGACH_PART_OWN = 3,       /* the request ends with a result of its operation */
-    WULGACH_PART_CANCELLED = 4  /* it ends without one: a cancel has found it */
+    WULGACH_PART_OWN = 3        /* the request ends, with a result of its operation or without */
 };
 
-/* The flags of a completion, where those of a provided buffer that was taken are `of_buffer`, or 0: IORING_CQE_F_MORE where another of the
- * same request follows, and IORING_CQE_F_NOTIF. */
+/* The flags of a completion, where those of a provided buffer that was taken, and of which no other completion has told, are `of_buffer`, or
+ * 0: with IORING_CQE_F_MORE where another of the same request follows, and IORING_CQE_F_NOTIF. */
 uint32_t wulgach_completion_flags(uint32_t part, uint32_t of_buffer);
 
 /* Returns what the end of a send without copies tells of (enum wulgach_part) that has two completions, where the other one was posted before

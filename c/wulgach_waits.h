@@ -313,6 +313,7 @@ uint32_t wulgach_transfer_next(const struct wulgach_transfer *transfer, uint32_t
 struct wulgach_call {
     uint64_t length;            /* how many bytes a message is asked to move, */
     uint64_t done;              /* and has moved so far */
+    uint64_t control;           /* how many bytes of control data its entry has, or has room for: one that is received with such has one part alone */
     bool is_stream;             /* it may have to wait for its descriptor */
     bool has_begun;             /* a connect was begun */
 };
@@ -335,6 +336,10 @@ enum wulgach_turn {
  * again once its socket is ready and has no error; a call ends with what came last, or with -11 (EAGAIN), or 0 of a connect that is found
  * made; and bytes that were moved are told. */
 uint32_t wulgach_call_next(const struct wulgach_submission *entry, const struct wulgach_call *call, uint32_t last, int32_t res, int32_t *end);
+
+/* Which events a poll finds there, where poll(2) or epoll_wait(2), which doesn't wait, came to this and shows these: none of a call that
+ * failed, so that the poll waits on. */
+uint16_t wulgach_present_of(int32_t came, uint16_t events);
 
 /* Writes what a poll for these events ends with, where `present` are there, 0 for none; `was_told`: something that its pipe had to be read
  * is gone. False, and nothing is written: it waits. */

@@ -175,6 +175,9 @@ static void look_at_results(void)
     demand(wulgach_tells_message(&receive, 0) && !wulgach_tells_message(&receive, -11) && !wulgach_tells_message(&send, 5), "what is told of a message");
     demand(wulgach_told_result(5, true) == 5 && wulgach_told_result(5, false) == -14, "one that can't be told");
     demand(wulgach_placed_result(UINT32_MAX, 7) == 7 && wulgach_placed_result(8, 7) == 0, "a file for any slot, and for one");
+    struct wulgach_submission sends = {.opcode = 9}, receives = {.opcode = 10}, splice = {.opcode = 30};
+    demand(wulgach_control_of(&sends, 24, 0) == 24 && wulgach_control_of(&sends, 24, 5) == 0 && wulgach_control_of(&receives, 24, 5) == 24, "control data");
+    demand(wulgach_moved_so_far(&sends, 5) == 5 && wulgach_moved_so_far(&receives, 1ull << 40) == INT32_MAX && wulgach_moved_so_far(&splice, 1) == 0, "what was moved so far");
     demand(wulgach_done_result(&(struct wulgach_submission){.opcode = 10}, 7, 30) == 7 && wulgach_done_result(&(struct wulgach_submission){.opcode = 10, .ioprio = 2}, 7, 30) == 30 && wulgach_done_result(&(struct wulgach_submission){.opcode = 27, .ioprio = 2}, 7, 30) == 7 && wulgach_done_result(&(struct wulgach_submission){.opcode = 26}, 1ull << 40, 0) == INT32_MAX, "what was moved");
     demand(wulgach_may_signal(&(struct wulgach_submission){.opcode = 23}, -27) && wulgach_may_signal(&(struct wulgach_submission){.opcode = 17}, -27) && wulgach_may_signal(&(struct wulgach_submission){.opcode = 30}, -27) && !wulgach_may_signal(&(struct wulgach_submission){.opcode = 22}, -27) && !wulgach_may_signal(&(struct wulgach_submission){.opcode = 23}, -28), "what may bring a signal");
     static const struct wulgach_openness open = {.is_open = true}, path = {true, true};

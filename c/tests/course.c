@@ -52,6 +52,7 @@ static void cancel_one(void)
     demand(wulgach_awaiting_sees(&awaiting, 5, &course, false) == WULGACH_WRONG_TURN, "which ends before another is looked at");
     wulgach_awaiting_ends(&awaiting);
     demand(wulgach_course_act(&course, &res) == WULGACH_ACT_END && res == -125, "one that was cancelled");
+    demand(wulgach_course_note(&course, WULGACH_FACT_NOTIFIED, 0) && wulgach_course_act(&course, &res) == WULGACH_ACT_END && res == 0, "a send without copies");
     wulgach_course_begin(&course);
     demand(wulgach_course_note(&course, WULGACH_FACT_CANCELLED, 0) && wulgach_course_asks_start(&course), "one that hasn't started");
     demand(wulgach_awaiting_sees(&awaiting, 5, &course, false) == WULGACH_NOT_AWAITED && wulgach_awaiting_sees(&awaiting, 8, &course, true) == WULGACH_AWAITED_WAITS, "if it may start");
@@ -66,6 +67,18 @@ static void time_two(void)
     demand(wulgach_timing_behind_end(&linked, &read) == WULGACH_TIMING_STOPS && wulgach_timing_behind_end(&linked, &linked) == WULGACH_TIMING_STOPS && wulgach_timing_behind_end(&linked, &plain) == WULGACH_TIMING_STAYS, "an end");
     demand(wulgach_timing_behind_finding(&plain, &plain) == WULGACH_TIMING_STOPS && wulgach_timing_behind_finding(&linked, &linked) == WULGACH_TIMING_STAYS, "a cancel");
     demand(wulgach_is_one_chain(&read, &linked) && !wulgach_is_one_chain(&read, &plain), "one chain");
+}
+
+/* What has moved bytes, and would have to wait for more, ends with these once a cancel finds it. */
+static void cancel_a_part(void)
+{
+    struct wulgach_course course = started();
+    int32_t res;
+    demand(wulgach_course_act(&course, &res) == WULGACH_ACT_CARRY_OUT && wulgach_course_note(&course, WULGACH_FACT_WAITS, 5) && course.moved == 5, "a part");
+    demand(wulgach_course_note(&course, WULGACH_FACT_CANCELLED, 0) && wulgach_course_act(&course, &res) == WULGACH_ACT_END && res == 5, "a cancel behind it");
+    course = started();
+    demand(wulgach_course_act(&course, &res) == WULGACH_ACT_CARRY_OUT && wulgach_course_note(&course, WULGACH_FACT_WAITS, 5) && wulgach_course_act(&course, &res) == WULGACH_ACT_CARRY_OUT, "another try");
+    demand(wulgach_course_note(&course, WULGACH_FACT_WENT_ON, 0) && wulgach_course_note(&course, WULGACH_FACT_CANCELLED, 0) && wulgach_course_act(&course, &res) == WULGACH_ACT_END && res == -125, "that had a completion of its own");
 }
 
 /* The three that each request has. */
@@ -111,6 +124,8 @@ static void show_ends(void)
 static void judge_results(void)
 {
     struct wulgach_submission read = {.opcode = 22}, splice = {.opcode = 30, .len = 9}, receive = {.opcode = 10, .op_flags = 256};
+    struct wulgach_carried with_control = {.length = 5, .control = 24, .has_message = true}, cut_control = {.length = 5, .control = 24, .has_message = true, .message_flags = 8};
+    demand(wulgach_has_succeeded(&receive, &with_control, true, 4) && !wulgach_has_succeeded(&receive, &cut_control, true, 4), "one with room for control data");
     struct wulgach_carried carried = {.length = 5, .has_message = true}, short_message = {.length = 5, .has_message = true, .message_flags = 32};
     demand(wulgach_has_succeeded(&read, &carried, true, 5) && !wulgach_has_succeeded(&read, &carried, true, 4), "a read");
     demand(wulgach_has_succeeded(&splice, &carried, true, 9) && !wulgach_has_succeeded(&splice, &carried, true, 5), "a splice");
@@ -124,7 +139,7 @@ static void judge_results(void)
     demand(wulgach_has_succeeded(&linked, &plainly, true, -62) && !wulgach_has_succeeded(&linked, &cancelled, true, -125), "a linked timeout");
     demand(wulgach_has_succeeded(&shutdown, &plainly, true, -107) && !wulgach_has_succeeded(&shutdown, &plainly, true, -88) && !wulgach_has_succeeded(&advice, &plainly, true, -22), "a socket, and an advice");
     demand(wulgach_completion_flags(WULGACH_PART_EVENT, 1) == 3 && wulgach_completion_flags(WULGACH_PART_SENT, 0) == 2 && wulgach_completion_flags(WULGACH_PART_NOTICE, 0) == 8, "more follow, or memory is free");
-    demand(wulgach_completion_flags(WULGACH_PART_OWN, 1) == 1 && wulgach_completion_flags(WULGACH_PART_CANCELLED, 1) == 0, "an end");
+    demand(wulgach_completion_flags(WULGACH_PART_OWN, 1) == 1, "an end");
     struct wulgach_ended_early faulty = {.is_faulty = true, .fault = -14}, cancel = {.is_cancel = true, .has_cancelled = true}, late = {.is_cancel = true};
     struct wulgach_ended_early fired = {.is_linked_timeout = true, .has_fired = true}, idle = {.is_linked_timeout = true};
     demand(wulgach_shown_of(&faulty, -22) == -14 && wulgach_shown_of(&faulty, -125) == -125, "an entry with a fault");
@@ -152,6 +167,7 @@ int main(void)
 {
     time_two();
     cancel_one();
+    cancel_a_part();
     go_plainly();
     notify();
     show_ends();

@@ -53,7 +53,6 @@ static void post(void)
 {
     struct wulgach_drains drains;
     struct wulgach_chain chain;
-    struct wulgach_course course;
     int32_t res = 7;
     wulgach_drains_begin(&drains);
     demand(wulgach_drains_may_post(&drains, 0, false, true) && !wulgach_drains_may_post(&drains, 1, false, true) && !wulgach_drains_may_post(&drains, 1, true, true), "nothing drains");
@@ -74,11 +73,8 @@ static void post(void)
     demand(!wulgach_oldest_starts(&drains, true) && wulgach_oldest_starts(&drains, false), "a drain was there");
     demand(wulgach_is_one_choice(WULGACH_IN_ORDER, true) && wulgach_is_one_choice(WULGACH_LAZY, true) && wulgach_is_one_choice(WULGACH_BY_CHOICE, false) && !wulgach_is_one_choice(WULGACH_BY_CHOICE, true), "what is one choice");
     demand(wulgach_end_of_send(true) == WULGACH_PART_NOTICE && wulgach_end_of_send(false) == WULGACH_PART_SENT, "two completions of a send");
-    wulgach_course_begin(&course);
-    demand(!wulgach_course_notice(&course, true, false, &res) && res == 7, "no notice behind a drain");
-    demand(wulgach_course_notice(&course, true, true, &res) && res == INT32_MIN && wulgach_course_notice(&course, false, true, &res) && res == 0, "a notice");
-    wulgach_course_note(&course, WULGACH_FACT_CANCELLED, 0);
-    demand(!wulgach_course_notice(&course, false, true, &res), "none of one that was cancelled");
+    demand(!wulgach_notice_of(true, false, &res) && res == 7, "no notice behind a drain");
+    demand(wulgach_notice_of(true, true, &res) && res == INT32_MIN && wulgach_notice_of(false, true, &res) && res == 0, "a notice");
 }
 
 static void search_and_update(void)

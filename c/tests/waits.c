@@ -201,6 +201,8 @@ static void call(void)
     demand(turn(CONNECT, 0, fresh, 0, 0) == 1000 + WULGACH_TURN_CALLS && turn(CONNECT, 0, fresh, WULGACH_TURN_CALLS, -115) == 1000 + WULGACH_TURN_WAITS && turn(CONNECT, 0, begun, 0, 0) == 1000 + WULGACH_TURN_POLLS && turn(CONNECT, 0, begun, WULGACH_TURN_POLLS, 1) == 1000 + WULGACH_TURN_ASKS_ERROR && turn(CONNECT, 0, begun, WULGACH_TURN_ASKS_ERROR, -111) == -111 && turn(CONNECT, 0, begun, WULGACH_TURN_ASKS_ERROR, 0) == 1000 + WULGACH_TURN_CALLS && turn(CONNECT, 0, begun, WULGACH_TURN_CALLS, -106) == 0 && turn(CONNECT, 0, fresh, WULGACH_TURN_CALLS, -106) == -106 && turn(CONNECT, 0, begun, WULGACH_TURN_CALLS, -114) == 1000 + WULGACH_TURN_WAITS, "a connect");
     demand(turn(RECV, 0, fresh, WULGACH_TURN_CALLS, -11) == 1000 + WULGACH_TURN_ASKS_WILL && turn(RECV, 64, fresh, WULGACH_TURN_CALLS, -11) == -11 && turn(RECV, 0, part, WULGACH_TURN_CALLS, 3) == 1000 + WULGACH_TURN_ENDS_WITH_DONE, "a receive");
     demand(turn(RECV, 256, part, WULGACH_TURN_CALLS, 3) == 1000 + WULGACH_TURN_ASKS_TYPE && turn(RECV, 256, part, WULGACH_TURN_ASKS_TYPE, 1) == 1000 + WULGACH_TURN_WAITS && turn(RECV, 256, part, WULGACH_TURN_CALLS, 0) == 1000 + WULGACH_TURN_ENDS_WITH_DONE && turn(RECV, 256, part, WULGACH_TURN_CALLS, -104) == 1000 + WULGACH_TURN_ENDS_WITH_DONE, "of all");
+    struct wulgach_call with_control = {.length = 8, .done = 3, .control = 24, .is_stream = true};
+    demand(turn(10, 256, with_control, WULGACH_TURN_CALLS, 3) == 1000 + WULGACH_TURN_ENDS_WITH_DONE && turn(10, 256, part, WULGACH_TURN_CALLS, 3) == 1000 + WULGACH_TURN_ASKS_TYPE && turn(9, 256, with_control, WULGACH_TURN_CALLS, 3) == 1000 + WULGACH_TURN_ASKS_TYPE, "with control data");
     demand(turn(SPLICE, 0, begun, WULGACH_TURN_CALLS, -11) == 1000 + WULGACH_TURN_ASKS_WILL && turn(SPLICE, 0, begun, WULGACH_TURN_ASKS_WILL, 1) == -11 && turn(RECV, 8192, fresh, WULGACH_TURN_CALLS, -11) == -11 && turn(RECV, 1, fresh, WULGACH_TURN_CALLS, -11) == 1000 + WULGACH_TURN_ASKS_WILL && turn(SPLICE, 2, begun, WULGACH_TURN_CALLS, -11) == -11 && turn(SPLICE, 0, begun, WULGACH_TURN_CALLS, 5) == 5, "a splice");
 }
 
@@ -222,6 +224,7 @@ static void miss(void)
 static void poll_one(void)
 {
     int32_t res = 7;
+    demand(wulgach_present_of(1, 5) == 5 && wulgach_present_of(0, 5) == 0 && wulgach_present_of(-1, 5) == 0, "what is there");
     demand(!wulgach_poll_result(5, 0, false, &res) && res == 7, "a poll that waits");
     demand(wulgach_poll_result(5, 4, true, &res) && res == 4 && wulgach_poll_result(5, 32, false, &res) && res == -9 && wulgach_poll_result(5, 0, true, &res) && res == 1, "its events");
     struct wulgach_submission urgent = {.opcode = POLL_ADD, .op_flags = 2}, readable = {.opcode = POLL_ADD, .op_flags = 1}, edges = {.opcode = POLL_ADD, .op_flags = 1, .len = 1};

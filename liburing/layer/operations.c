@@ -180,6 +180,11 @@ bool can_have(const struct request *request, enum injection fault)
     return fault == NO_FAULT || wulgach_can_have(request->entry.opcode, request->standing.is_stream, request->length, fault);
 }
 
+int32_t moved_so_far(const struct request *request)
+{
+    return wulgach_moved_so_far(submission_of(&request->entry), request->done);
+}
+
 /* Whether its descriptor is open, and a socket's. */
 static struct wulgach_nature nature_without_buffer(const struct request *request)
 {
@@ -213,20 +218,40 @@ static int32_t fault_at_start(struct ring *ring, const struct request *request)
     return wulgach_ends_at_start(entry, request->started, has_buffer, &nature);
 }
 
-/* Carries out what takes a buffer. Whether it has taken it, by its result, is the library's decision. */
+/* Begins with the next buffer of its group, if there is one. */
+static bool begin_buffer(struct ring *ring, struct request *request)
+{
+    request->flags = 0;
+    request->done = 0;
+    if (!find_provided(ring, request->entry.buf_group, &request->provided))
+        return false;
+    request->provided.length = wulgach_buffer_part(request->wanted, request->provided.length);
+    request->length = request->provided.length;
+    return true;
+}
+
+/* Goes on there in its buffer. What a fault cuts is cut for good. */
+static int32_t call_into(struct ring *ring, struct request *request, struct wulgach_buffer at, enum injection fault)
+{
+    *request->vectors = (struct iovec){(void *)(uintptr_t)at.address, at.length};
+    if (fault == FAULT_SHORT) {
+        shorten(request);
+        request->provided.length -= at.length - (uint32_t)request->vectors->iov_len;
+    }
+    return call_or_wait(ring, request);
+}
+
+/* Carries out what takes a buffer. Whether it goes on in the one that it had, and has taken one, by its result, is the library's decision. */
 static int32_t call_with_buffer(struct ring *ring, struct request *request, enum injection fault)
 {
-    struct wulgach_buffer buffer;
-    request->flags = 0;
-    if (!find_provided(ring, request->entry.buf_group, &buffer))
+    struct wulgach_buffer further;
+    if (wulgach_buffer_further(&request->provided, (uint32_t)request->course.moved, &further))
+        return call_into(ring, request, further, fault);
+    if (!begin_buffer(ring, request))
         return fault_without_buffer(request);
-    *request->vectors = (struct iovec){(void *)(uintptr_t)buffer.address, wulgach_buffer_part(request->wanted, buffer.length)};
-    request->length = request->vectors->iov_len;
-    request->done = 0;
-    if (fault == FAULT_SHORT)
-        shorten(request);
-    int32_t res = call_or_wait(ring, request);
-    request->flags = wulgach_buffer_flags(res, is_transfer(request), buffer.id);
+    uint16_t id = request->provided.id;
+    int32_t res = call_into(ring, request, request->provided, fault);
+    request->flags = res == WOULD_WAIT ? wulgach_buffer_flags_so_far((uint32_t)moved_so_far(request), id) : wulgach_buffer_flags(res, is_transfer(request), id);
     if (request->flags)
         take_provided(ring, request->entry.buf_group);
     return res;
@@ -264,6 +289,7 @@ bool is_success(const struct ring *ring, const struct request *request, int32_t 
     const struct msghdr *received = request->needs.is_receive ? request->value : NULL;
     struct wulgach_carried carried = {
         .length = request->length,
+        .control = request->control,
         .message_flags = received ? (uint32_t)received->msg_flags : 0,
         .has_message = request->value != NULL,
         .is_cancelled = request->course.is_cancelled,

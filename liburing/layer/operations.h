@@ -63,6 +63,9 @@ bool can_have(const struct request *request, enum injection fault);
 /* Carries the operation out, and returns its result, or WOULD_WAIT. */
 int32_t carry_out(struct ring *ring, struct request *request, enum injection fault);
 
+/* How many bytes it has moved that would have to wait for more. */
+int32_t moved_so_far(const struct request *request);
+
 /* With what a request ends that finds no provided buffer, or whose registered one has this fault: its descriptor is asked what it is only then. */
 int32_t fault_without_buffer(const struct request *request);
 int32_t fault_of_buffer(const struct request *request, int32_t why);

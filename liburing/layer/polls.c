@@ -67,11 +67,11 @@ struct pollfd poll_of_poll(const struct request *request)
 /* The events that are there, or 0. */
 static uint16_t present_events(const struct request *request)
 {
-    struct epoll_event event;
+    struct epoll_event event = {0};
     struct pollfd at = {.fd = request->fd, .events = (short)events_of(request)};
-    if (request->epoll >= 0)
-        return epoll_wait(request->epoll, &event, 1, 0) == 1 ? (uint16_t)event.events : 0;
-    return poll(&at, 1, 0) > 0 ? (uint16_t)at.revents : 0;
+    bool is_by_instance = request->epoll >= 0;
+    int came = is_by_instance ? epoll_wait(request->epoll, &event, 1, 0) : poll(&at, 1, 0);
+    return wulgach_present_of(came, is_by_instance ? (uint16_t)event.events : (uint16_t)at.revents);
 }
 
 int32_t take_events(const struct ring *ring, struct request *request)

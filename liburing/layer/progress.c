@@ -78,13 +78,14 @@ static bool try_operation(struct ring *ring, struct request *request, int32_t *r
     if (*res == WOULD_WAIT) {
         request->has_called = true;
         request->vain++;
-        note_fact(request, WULGACH_FACT_WAITS, 0);
+        note_fact(request, WULGACH_FACT_WAITS, moved_so_far(request));
         note_wait(ring, request);
         return false;
     }
     if (goes_on_behind(ring, request, *res)) {
         note_fact(request, WULGACH_FACT_WENT_ON, 0);
         post_event(ring, request, *res, WULGACH_PART_EVENT);
+        request->flags = 0;     /* (its buffer is told) */
         return false;
     }
     demand(wulgach_course_done(&request->course, *res), "an operation is done that wasn't begun");
@@ -97,7 +98,7 @@ static int32_t notify(struct ring *ring, struct request *request, int32_t res)
 {
     int32_t shown;
     bool reports = request->entry.ioprio & IORING_SEND_ZC_REPORT_USAGE;
-    if (!wulgach_course_notice(&request->course, reports, can_post_extra(ring), &shown))
+    if (!wulgach_notice_of(reports, can_post_extra(ring), &shown))
         return res;
     uint32_t end = wulgach_end_of_send(post_event(ring, request, res, WULGACH_PART_SENT));
     request->flags = wulgach_completion_flags(end, request->flags);
@@ -118,9 +119,8 @@ static void finish_running(struct ring *ring, struct request *request)
             return;
     } else {
         do_duties_before_posting(ring);
-        /* (one that goes on has those of its last event, which was put off, maybe) */
+        /* (the last event of one that goes on was put off, maybe) */
         post_unposted(ring);
-        request->flags = wulgach_completion_flags(WULGACH_PART_CANCELLED, request->flags);
     }
     int32_t told = is_success(ring, request, res) ? TOLD_SUCCESS : TOLD_FAILURE;
     if (request->needs.is_zero_copy)

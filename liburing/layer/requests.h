@@ -2,6 +2,7 @@
 #ifndef REQUESTS_H
 #define REQUESTS_H
 
+#include "wulgach_buffers.h"
 #include "wulgach_calls.h"
 #include "wulgach_lookout.h"
 
@@ -48,7 +49,9 @@ struct request {
     uint32_t vain;                  /* so often since its descriptor was last found not to be ready as a sleep began */
     bool is_draining;               /* a member of its chain drains, or it does: those behind wait until all of them have ended */
     uint64_t wanted;                /* of one that takes a provided buffer: how many bytes at most, or 0 */
-    uint64_t done;                  /* the bytes that a transfer of sockets has moved so far */
+    uint64_t done;                  /* the bytes that a transfer of sockets has moved so far, */
+    struct wulgach_buffer provided; /* into the provided buffer that it took, as much of it as it has */
+    uint64_t control;               /* how many bytes of control data its message has, or has room for */
     int32_t started;                /* what its start found out: an error number that it ends with, or 0 */
     uint32_t flags;                 /* those of its completion */
     uint64_t token;                 /* the user data that the core has */

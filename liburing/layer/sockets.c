@@ -73,6 +73,7 @@ int copy_message(struct request *request, uint64_t from)
     request->vector_count = (uint32_t)wulgach_message_vectors(submission_of(&request->entry), header.vector_count);
     message->msg_iov = request->vectors;
     message->msg_iovlen = request->vector_count;
+    request->control = message->msg_controllen;
     return 0;
 }
 
@@ -116,6 +117,8 @@ static bool tell_message(const struct request *request)
 
 int32_t move_message(struct request *request, const struct wulgach_means *means)
 {
+    struct msghdr *message = request->value;
+    message->msg_controllen = wulgach_control_of(submission_of(&request->entry), request->control, request->done);
     int32_t came_to = make_call(&means->call);
     bool is_told = !wulgach_tells_message(submission_of(&request->entry), came_to) || tell_message(request);
     int32_t res = wulgach_told_result(came_to, is_told);
@@ -192,6 +195,7 @@ static struct wulgach_call call_of(const struct request *request)
     return (struct wulgach_call){
         .length = request->length,
         .done = request->done,
+        .control = request->control,
         .is_stream = request->standing.is_stream,
         .has_begun = request->done > 0,
     };

@@ -2,6 +2,7 @@
 ghost use Rattle.std.specs.Prelude.{◌≡◌, true, false, MatchOption};
 ghost use Rattle.uring_enter.specs.CallResults as results;
 ghost use Rattle.uring_enter.specs.Means as spec;
+ghost use Rattle.uring_enter.specs.Parts as parts;
 ghost use Rattle.uring_enter.specs.PipeOpens as opens;
 ghost use Rattle.uring_enter.specs.TransferCalls.{call_of};
 ghost use Rattle.uring_c.specs.MeansForm.{words, words_of_means, fault_of_word, can_have_one, given_one};
@@ -10,8 +11,8 @@ ghost use Rattle.uring_crossing.specs.WaitForm.{task_of};
 use uring_crossing::wait_words::task;
 use uring_enter::{
     Fault, Held, Means, Submission, SystemCall, Transfer, Vectors, asks_descriptors, can_have,
-    done_result, given_result, has_begun, is_stream_type, looks_at_path, means_of, opening_waits,
-    placed_result, tells_message, told_result, transfer_call,
+    control_of, done_result, given_result, has_begun, is_stream_type, looks_at_path, means_of,
+    moved_so_far, opening_waits, placed_result, tells_message, told_result, transfer_call,
 };
 
 /// By what an operation is carried out: `struct wulgach_means` of the header.
@@ -165,6 +166,22 @@ pub extern "C" fn wulgach_done_result(entry: &Submission, done: u64, filled: u64
     ensures { result ≡ results.done_result entry.now done filled }
 {
     done_result(entry, done, filled)
+}
+
+/// How many bytes the operation of an entry has moved that would have to wait for more, and whose calls have come to so many.
+#[unsafe(no_mangle)]
+pub extern "C" fn wulgach_moved_so_far(entry: &Submission, done: u64) -> i32
+    ensures { result ≡ parts.moved_so_far entry.now done }
+{
+    moved_so_far(entry, done)
+}
+
+/// How many bytes of control data the next call of a message sends, or has room for, whose entry's are `control`, and which has moved so many bytes.
+#[unsafe(no_mangle)]
+pub extern "C" fn wulgach_control_of(entry: &Submission, control: u64, done: u64) -> u64
+    ensures { result ≡ parts.control_of entry.now control done }
+{
+    control_of(entry, control, done)
 }
 
 /// Whether what belongs to a message is told behind a call of this entry that came to this.

@@ -4,8 +4,9 @@ ghost use Rattle.uring_enter.specs.declared.act.Fact.{Fact};
 ghost use Rattle.uring_enter.specs.declared.act.Fact.TheVariants.{Started, Done};
 ghost use Rattle.uring_enter.specs.declared.act.Fact.TheVariants.{Ended as HasEnded};
 ghost use Rattle.uring_enter.specs.declared.member.Entry.{Entry};
-ghost use Rattle.uring_enter.specs.Courses.{KeepsCourse, act, behind_act, fits, notice_of};
+ghost use Rattle.uring_enter.specs.Courses.{KeepsCourse, act, behind_act, fits};
 ghost use Rattle.uring_enter.specs.Courses.{shown as shown_by};
+ghost use Rattle.uring_enter.specs.Courses.{notice_of as noticed};
 ghost use Rattle.uring_enter.specs.Outcomes.{is_success, looks_for_next, looks_for_running, shown_of, success_of_entry};
 ghost use Rattle.uring_enter.specs.Shots as shots;
 ghost use Rattle.uring_enter.specs.Chains.{member_of, limits};
@@ -19,7 +20,8 @@ use uring_crossing::completion_words::CompletionWords;
 use uring_crossing::course_words::{act_res, act_word, fact, last, part};
 use uring_enter::{
     Carried, Course, EndedEarly, Entry, Fact, Member, Part, Posted, Shown, Submission,
-    completion_flags, end_of_send, has_succeeded, looks_for_next, looks_for_running, shown_of,
+    completion_flags, end_of_send, has_succeeded, looks_for_next, looks_for_running, notice_of,
+    shown_of,
 };
 
 /// A request that was accepted just now.
@@ -122,17 +124,11 @@ pub extern "C" fn wulgach_shown_end(
 
 /// Writes what the second completion of a send without copies shows. False, and nothing is written: it has none.
 #[unsafe(no_mangle)]
-pub extern "C" fn wulgach_course_notice(
-    course: &Course,
-    reports: bool,
-    may_post: bool,
-    res: &mut i32,
-) -> bool
-    ensures { (log : List Fact) → KeepsCourse log course.now
-        → MatchOption (notice_of log reports may_post) ((result ≡ false) × (res.new ≡ res.old))
+pub extern "C" fn wulgach_notice_of(reports: bool, may_post: bool, res: &mut i32) -> bool
+    ensures { MatchOption (noticed reports may_post) ((result ≡ false) × (res.new ≡ res.old))
         (λ shows. (result ≡ true) × (res.new ≡ shows)) }
 {
-    let Some(shows) = course.notice(reports, may_post) else {
+    let Some(shows) = notice_of(reports, may_post) else {
         return false;
     };
     *res = shows;
@@ -152,7 +148,7 @@ pub extern "C" fn wulgach_has_succeeded(
     has_succeeded(entry, carried, linux, res)
 }
 
-/// The flags of a completion, where those of a provided buffer that was taken are `of_buffer`, or 0.
+/// The flags of a completion, where those of a provided buffer that was taken, and of which no other completion has told, are `of_buffer`, or 0.
 #[unsafe(no_mangle)]
 pub extern "C" fn wulgach_completion_flags(of: u32, of_buffer: u32) -> u32
     ensures { result ≡ shots.completion_flags (part_of of) of_buffer }

@@ -1,10 +1,12 @@
 //! When registered files and buffers are gone, and what an operation has of a buffer, for C: functions of `c/wulgach_buffers.h`.
-ghost use Rattle.std.specs.Prelude.{◌≡◌, ◌<◌, ◌-◌, ◌^◌, Bool, List, [], ◌∷◌};
+ghost use Rattle.std.specs.Prelude.{◌≡◌, ◌+◌, ◌<◌, ◌-◌, ◌^◌, Bool, true, false, MatchOption, List, [], ◌∷◌};
 ghost use Rattle.uring_register.specs.Uses.{Use, Put, Lost, Taken, Given, Dropped, KeepsUses, slots, requests, ending_of};
 ghost use Rattle.uring_register.specs.Bytes as spec;
 ghost use Rattle.uring_c.specs.UsesForm.{word_of_ending};
 
-use uring_register::{Ending, Uses, bytes_fault, flags_of, part_of};
+use uring_register::{
+    Buffer, Ending, Uses, bytes_fault, flags_of, flags_so_far, further_in, part_of,
+};
 
 /// One has a file or buffer, with a tag or without: a slot that is to get it, or a request.
 #[unsafe(no_mangle)]
@@ -77,4 +79,25 @@ pub extern "C" fn wulgach_buffer_flags(res: i32, is_transfer: bool, id: u16) -> 
     ensures { result ≡ spec.flags_of res is_transfer id }
 {
     flags_of(res, is_transfer, id)
+}
+
+/// The flags of the completion of an operation that would have to wait, and has put so many bytes into the provided buffer of this number so far: 0 if it hasn't taken it.
+#[unsafe(no_mangle)]
+pub extern "C" fn wulgach_buffer_flags_so_far(moved: u32, id: u16) -> u32
+    ensures { result ≡ spec.flags_so_far moved id }
+{
+    flags_so_far(moved, id)
+}
+
+/// Writes where the next try of an operation begins that has put so many bytes into the provided buffer `had` so far. False, and nothing is written: it takes the next of its group.
+#[unsafe(no_mangle)]
+pub extern "C" fn wulgach_buffer_further(had: &Buffer, moved: u32, further: &mut Buffer) -> bool
+    ensures { had.now.address + moved < 2 ^ 64 → MatchOption (spec.further_in had.now moved) ((result ≡ false) × (further.new ≡ further.old))
+        (λ at. (result ≡ true) × (further.new ≡ at)) }
+{
+    let Some(at) = further_in(had, moved) else {
+        return false;
+    };
+    *further = at;
+    true
 }

@@ -16,7 +16,7 @@ use uring_crossing::wait_words::{
 use uring_enter::{
     Call, Known, Nature, Needs, Patience, PollStart, Submission, Transfer, Trial, asks_instance,
     buffer_fault, counts_as_ready, instance_events, is_impatient, needs_as, needs_of, next_finding,
-    next_step, next_turn, no_buffer_fault, poll_result, poll_start, start_fault,
+    next_step, next_turn, no_buffer_fault, poll_result, poll_start, present_of, start_fault,
 };
 
 /// Writes what the operation of an entry needs.
@@ -90,6 +90,14 @@ pub extern "C" fn wulgach_call_next(
     let turn = next_turn(entry, call, doing(last), res);
     *end = turn_end(turn, *end);
     turn_word(turn)
+}
+
+/// Which events a poll finds there, where poll(2) or epoll_wait(2) came to this and shows these.
+#[unsafe(no_mangle)]
+pub extern "C" fn wulgach_present_of(came: i32, events: u16) -> u16
+    ensures { result ≡ instances.present_of came events }
+{
+    present_of(came, events)
 }
 
 /// Writes what a poll ends with, where these of its events are present, 0 for none. False, and nothing is written: it waits.

@@ -16,7 +16,7 @@ fact_of kind res =
     if kind == 0 then Some Started else
     if kind == 1 then Some (Dropped res) else
     if kind == 2 then Some Cancelled else
-    if kind == 3 then Some Waits else
+    if kind == 3 then Some (Waits res) else
     if kind == 4 then Some WentOn else
     if kind == 5 then Some (Done res) else
     if kind == 6 then Some (Notified res) else
@@ -27,8 +27,7 @@ abbrev pub part_of : ℕ → Part
 part_of word =
     if word == 0 then part.Event else
     if word == 1 then part.Sent else
-    if word == 2 then part.Notice else
-    if word == 3 then part.Own else part.Cancelled
+    if word == 2 then part.Notice else part.Own
 
 -- kinds count what is to be done in its order, from 0. Our own rule
 abbrev pub word_of_act : Act → ℕ

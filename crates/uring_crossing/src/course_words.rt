@@ -13,7 +13,7 @@ pub fn fact(kind: u32, res: i32) -> Option<Fact>
         0 => Some(Fact::Started),
         1 => Some(Fact::Dropped(res)),
         2 => Some(Fact::Cancelled),
-        3 => Some(Fact::Waits),
+        3 => Some(Fact::Waits(res)),
         4 => Some(Fact::WentOn),
         5 => Some(Fact::Done(res)),
         6 => Some(Fact::Notified(res)),
@@ -30,8 +30,7 @@ pub fn part(word: u32) -> Part
         0 => Part::Event,
         1 => Part::Sent,
         2 => Part::Notice,
-        3 => Part::Own,
-        _ => Part::Cancelled,
+        _ => Part::Own,
     }
 }
 

@@ -3,7 +3,7 @@ use Rattle.std.proofs.Common.{◌≡◌, ℤ, Bool, true, false, not, ◌&&◌, 
 use Rattle.std.proofs.lemmas.Bool.{false≢true, true≢false}
 use Rattle.uring_enter.specs.declared.afresh.Awaited.{Awaited}
 use Rattle.uring_enter.specs.declared.afresh.Awaited.TheVariants.{NotAwaited, Runs, Waits}
-use Rattle.uring_enter.specs.Courses.{has_started, has_ended, is_cancelled, is_tried, result, end_by, act_by, is_ending}
+use Rattle.uring_enter.specs.Courses.{has_started, has_ended, is_cancelled, is_tried, result, moved, end_by, act_by, is_ending}
 use Rattle.uring_enter.specs.Afresh.{EndsAtOnce}
 
 abbrev is_running : Awaited → Bool
@@ -21,32 +21,32 @@ awaited_by ended cancelled started may_start =
     if started then Runs else
     if may_start then Waits else NotAwaited
 
-ends_by : (found : Option ℤ) → is_ending (act_by true (end_by found true)) ≡ true
-ends_by (Some res) = refl
-ends_by None = refl
+ends_by : (found : Option ℤ) (so_far : ℤ) → is_ending (act_by true (end_by found true so_far)) ≡ true
+ends_by (Some res) so_far = refl
+ends_by None so_far = refl
 
-runs_by : (ended cancelled started may_start tried : Bool) (found : Option ℤ) → tried ≡ false
+runs_by : (ended cancelled started may_start tried : Bool) (found : Option ℤ) (so_far : ℤ) → tried ≡ false
     → awaited_by ended cancelled started may_start ≡ Runs
-    → is_ending (act_by (started && not ended && not tried) (end_by found cancelled)) ≡ true
-runs_by false true true may_start false found one is = ends_by found
-runs_by false true true may_start true found one is = absurd (true≢false one)
-runs_by false true false true tried found one is = absurd (false≢true (ap is_running is))
-runs_by false true false false tried found one is = absurd (false≢true (ap is_running is))
-runs_by false false started may_start tried found one is = absurd (false≢true (ap is_running is))
-runs_by true cancelled started may_start tried found one is = absurd (false≢true (ap is_running is))
+    → is_ending (act_by (started && not ended && not tried) (end_by found cancelled so_far)) ≡ true
+runs_by false true true may_start false found so_far one is = ends_by found so_far
+runs_by false true true may_start true found so_far one is = absurd (true≢false one)
+runs_by false true false true tried found so_far one is = absurd (false≢true (ap is_running is))
+runs_by false true false false tried found so_far one is = absurd (false≢true (ap is_running is))
+runs_by false false started may_start tried found so_far one is = absurd (false≢true (ap is_running is))
+runs_by true cancelled started may_start tried found so_far one is = absurd (false≢true (ap is_running is))
 
-waits_by : (ended cancelled started may_start tried : Bool) (found : Option ℤ) → tried ≡ false
+waits_by : (ended cancelled started may_start tried : Bool) (found : Option ℤ) (so_far : ℤ) → tried ≡ false
     → awaited_by ended cancelled started may_start ≡ Waits
-    → is_ending (act_by (true && not ended && not tried) (end_by found cancelled)) ≡ true
-waits_by false true false true false found one is = ends_by found
-waits_by false true false true true found one is = absurd (true≢false one)
-waits_by false true false false tried found one is = absurd (false≢true (ap is_waiting is))
-waits_by false true true may_start tried found one is = absurd (false≢true (ap is_waiting is))
-waits_by false false started may_start tried found one is = absurd (false≢true (ap is_waiting is))
-waits_by true cancelled started may_start tried found one is = absurd (false≢true (ap is_waiting is))
+    → is_ending (act_by (true && not ended && not tried) (end_by found cancelled so_far)) ≡ true
+waits_by false true false true false found so_far one is = ends_by found so_far
+waits_by false true false true true found so_far one is = absurd (true≢false one)
+waits_by false true false false tried found so_far one is = absurd (false≢true (ap is_waiting is))
+waits_by false true true may_start tried found so_far one is = absurd (false≢true (ap is_waiting is))
+waits_by false false started may_start tried found so_far one is = absurd (false≢true (ap is_waiting is))
+waits_by true cancelled started may_start tried found so_far one is = absurd (false≢true (ap is_waiting is))
 
 pub ends_at_once : EndsAtOnce
 ends_at_once log may_start one = (
-  runs_by (has_ended log) (is_cancelled log) (has_started log) may_start (is_tried log) (result log) one,
-  waits_by (has_ended log) (is_cancelled log) (has_started log) may_start (is_tried log) (result log) one,
+  runs_by (has_ended log) (is_cancelled log) (has_started log) may_start (is_tried log) (result log) (moved log) one,
+  waits_by (has_ended log) (is_cancelled log) (has_started log) may_start (is_tried log) (result log) (moved log) one,
 )

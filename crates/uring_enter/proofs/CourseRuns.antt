@@ -6,33 +6,33 @@ use Rattle.uring_enter.specs.declared.act.Fact.TheVariants.{Started, Dropped, Ca
 use Rattle.uring_enter.specs.declared.act.Act.{Act}
 use Rattle.uring_enter.specs.declared.act.Act.TheVariants.{Nothing, CarryOut, End}
 use Rattle.uring_entry.specs.Errors.{error}
-use Rattle.uring_enter.specs.Courses.{has_started, has_ended, is_cancelled, is_tried, result, end_by, may_go_on, act_by, is_carrying_out, is_ending, is_known, can_be, fits, is_run}
+use Rattle.uring_enter.specs.Courses.{has_started, has_ended, is_cancelled, is_tried, result, moved, by_cancel, end_by, may_go_on, act_by, is_carrying_out, is_ending, is_known, can_be, fits, is_run}
 use Rattle.uring_enter.specs.CourseLaws.{CarriesOutWhatRuns, CarriesOutOnce, tries, returns, TriesOnce, EndsForGood, EndsWithItsResult}
 use Rattle.uring_enter.proofs.Running.{both_left, both_right}
 
-runs_by : (started ended tried cancelled : Bool) (found : Option ℤ)
-    → act_by (started && not ended && not tried) (end_by found cancelled) ≡ CarryOut
+runs_by : (started ended tried cancelled : Bool) (found : Option ℤ) (so_far : ℤ)
+    → act_by (started && not ended && not tried) (end_by found cancelled so_far) ≡ CarryOut
     → (started ≡ true) × (ended ≡ false) × (cancelled ≡ false)
-runs_by true false false false None is = (refl, refl, refl)
-runs_by true false false true None is = absurd (false≢true (ap is_carrying_out is))
-runs_by true false false cancelled (Some res) is = absurd (false≢true (ap is_carrying_out is))
-runs_by true false true cancelled found is = absurd (false≢true (ap is_carrying_out is))
-runs_by true true tried cancelled found is = absurd (false≢true (ap is_carrying_out is))
-runs_by false ended tried cancelled found is = absurd (false≢true (ap is_carrying_out is))
+runs_by true false false false None so_far is = (refl, refl, refl)
+runs_by true false false true None so_far is = absurd (false≢true (ap is_carrying_out is))
+runs_by true false false cancelled (Some res) so_far is = absurd (false≢true (ap is_carrying_out is))
+runs_by true false true cancelled found so_far is = absurd (false≢true (ap is_carrying_out is))
+runs_by true true tried cancelled found so_far is = absurd (false≢true (ap is_carrying_out is))
+runs_by false ended tried cancelled found so_far is = absurd (false≢true (ap is_carrying_out is))
 
 pub carries_out_what_runs : CarriesOutWhatRuns
 carries_out_what_runs log is =
-    runs_by (has_started log) (has_ended log) (is_tried log) (is_cancelled log) (result log) is
+    runs_by (has_started log) (has_ended log) (is_tried log) (is_cancelled log) (result log) (moved log) is
 
 -- one whose result is known isn't carried out
-known_rests : (goes cancelled : Bool) (res : ℤ) → act_by goes (end_by (Some res) cancelled) ≡ CarryOut → ⊥
-known_rests true cancelled res is = false≢true (ap is_carrying_out is)
-known_rests false cancelled res is = false≢true (ap is_carrying_out is)
+known_rests : (goes cancelled : Bool) (res so_far : ℤ) → act_by goes (end_by (Some res) cancelled so_far) ≡ CarryOut → ⊥
+known_rests true cancelled res so_far is = false≢true (ap is_carrying_out is)
+known_rests false cancelled res so_far is = false≢true (ap is_carrying_out is)
 
-rests_by : (goes cancelled : Bool) (found : Option ℤ) → is_known found ≡ true
-    → act_by goes (end_by found cancelled) ≡ CarryOut → ⊥
-rests_by goes cancelled (Some res) known is = known_rests goes cancelled res is
-rests_by goes cancelled None known is = absurd (false≢true known)
+rests_by : (goes cancelled : Bool) (found : Option ℤ) (so_far : ℤ) → is_known found ≡ true
+    → act_by goes (end_by found cancelled so_far) ≡ CarryOut → ⊥
+rests_by goes cancelled (Some res) so_far known is = known_rests goes cancelled res so_far is
+rests_by goes cancelled None so_far known is = absurd (false≢true known)
 
 stays_known : (newer earlier : List Fact) (res : ℤ) → is_known (result (newer ++ Done res ∷ earlier)) ≡ true
 stays_known [] earlier res = refl
@@ -40,7 +40,7 @@ stays_known (Started ∷ newer) earlier res = stays_known newer earlier res
 stays_known (Dropped other ∷ newer) earlier res = refl
 stays_known (Cancelled ∷ newer) earlier res = stays_known newer earlier res
 stays_known (Tried ∷ newer) earlier res = stays_known newer earlier res
-stays_known (Waits ∷ newer) earlier res = stays_known newer earlier res
+stays_known (Waits so_far ∷ newer) earlier res = stays_known newer earlier res
 stays_known (WentOn ∷ newer) earlier res = stays_known newer earlier res
 stays_known (Done other ∷ newer) earlier res = refl
 stays_known (Notified other ∷ newer) earlier res = refl
@@ -49,13 +49,13 @@ stays_known (Ended ∷ newer) earlier res = stays_known newer earlier res
 pub carries_out_once : CarriesOutOnce
 carries_out_once newer earlier res is =
     let log = newer ++ Done res ∷ earlier in
-    rests_by (may_go_on log) (is_cancelled log) (result log) (stays_known newer earlier res) is
+    rests_by (may_go_on log) (is_cancelled log) (result log) (moved log) (stays_known newer earlier res) is
 
-nothing_by : (started ended tried cancelled : Bool) (found : Option ℤ) → ended ≡ true
-    → act_by (started && not ended && not tried) (end_by found cancelled) ≡ Nothing
-nothing_by true true tried cancelled found is = refl
-nothing_by false true tried cancelled found is = refl
-nothing_by started false tried cancelled found is = absurd (false≢true is)
+nothing_by : (started ended tried cancelled : Bool) (found : Option ℤ) (so_far : ℤ) → ended ≡ true
+    → act_by (started && not ended && not tried) (end_by found cancelled so_far) ≡ Nothing
+nothing_by true true tried cancelled found so_far is = refl
+nothing_by false true tried cancelled found so_far is = refl
+nothing_by started false tried cancelled found so_far is = absurd (false≢true is)
 
 no_more : (ended can : Bool) → ended ≡ true → (not ended && can) ≡ false
 no_more true can is = refl
@@ -63,7 +63,7 @@ no_more false can is = absurd (false≢true is)
 
 pub ends_for_good : EndsForGood
 ends_for_good log is = (
-  nothing_by (has_started log) (has_ended log) (is_tried log) (is_cancelled log) (result log) is,
+  nothing_by (has_started log) (has_ended log) (is_tried log) (is_cancelled log) (result log) (moved log) is,
   λ fact. no_more (has_ended log) (can_be log fact) is,
 )
 
@@ -71,16 +71,16 @@ abbrev result_of : Act → ℤ
 result_of (End res) = res
 result_of _ = error 0
 
-ends_by : (goes cancelled : Bool) (found : Option ℤ) (res : ℤ)
-    → act_by goes (end_by found cancelled) ≡ End res
-    → (found ≡ Some res) ⊎ ((found ≡ None) × (cancelled ≡ true) × (res ≡ error 125))
-ends_by true cancelled (Some found) res is = inl (ap Some (ap result_of is))
-ends_by true true None res is = inr (refl, refl, sym (ap result_of is))
-ends_by true false None res is = absurd (false≢true (ap is_ending is))
-ends_by false cancelled found res is = absurd (false≢true (ap is_ending is))
+ends_by : (goes cancelled : Bool) (found : Option ℤ) (so_far res : ℤ)
+    → act_by goes (end_by found cancelled so_far) ≡ End res
+    → (found ≡ Some res) ⊎ ((found ≡ None) × (cancelled ≡ true) × (res ≡ by_cancel so_far))
+ends_by true cancelled (Some found) so_far res is = inl (ap Some (ap result_of is))
+ends_by true true None so_far res is = inr (refl, refl, sym (ap result_of is))
+ends_by true false None so_far res is = absurd (false≢true (ap is_ending is))
+ends_by false cancelled found so_far res is = absurd (false≢true (ap is_ending is))
 
 pub ends_with_its_result : EndsWithItsResult
-ends_with_its_result log res is = ends_by (may_go_on log) (is_cancelled log) (result log) res is
+ends_with_its_result log res is = ends_by (may_go_on log) (is_cancelled log) (result log) (moved log) res is
 
 -- how often it was tried is how often that came to something, and once more while it is being carried out, or is done
 record IsCounted (tried known : Bool) (tries returns : ℕ) : Type 0 where
@@ -88,15 +88,15 @@ record IsCounted (tried known : Bool) (tries returns : ℕ) : Type 0 where
   pub idle : tried ≡ false → known ≡ false → tries ≡ returns
   pub most : tries ≤ returns + 1
 
-carried_by : (goes tried known cancelled ended : Bool) (found : Option ℤ)
-    → (not ended && is_carrying_out (act_by (goes && not ended && not tried) (end_by found cancelled))) ≡ true
+carried_by : (goes tried known cancelled ended : Bool) (found : Option ℤ) (so_far : ℤ)
+    → (not ended && is_carrying_out (act_by (goes && not ended && not tried) (end_by found cancelled so_far))) ≡ true
     → (tried ≡ false) × (is_known found ≡ false)
-carried_by true false known false false None is = (refl, refl)
-carried_by true false known true false None is = absurd (false≢true is)
-carried_by true false known cancelled false (Some res) is = absurd (false≢true is)
-carried_by true true known cancelled false found is = absurd (false≢true is)
-carried_by false tried known cancelled false found is = absurd (false≢true is)
-carried_by goes tried known cancelled true found is = absurd (false≢true is)
+carried_by true false known false false None so_far is = (refl, refl)
+carried_by true false known true false None so_far is = absurd (false≢true is)
+carried_by true false known cancelled false (Some res) so_far is = absurd (false≢true is)
+carried_by true true known cancelled false found so_far is = absurd (false≢true is)
+carried_by false tried known cancelled false found so_far is = absurd (false≢true is)
+carried_by goes tried known cancelled true found so_far is = absurd (false≢true is)
 
 tried_once_more : (tried known : Bool) (n m : ℕ) → tried ≡ false → known ≡ false → IsCounted tried known n m
     → IsCounted true known (n + 1) m
@@ -128,14 +128,14 @@ counted_of (Ended ∷ earlier) run = counted_of earlier (both_right (fits earlie
 counted_of (Tried ∷ earlier) run =
     let fitted = both_left (fits earlier Tried) (is_run earlier) run in
     let known = is_known (result earlier) in
-    let free = carried_by (has_started earlier) (is_tried earlier) known (is_cancelled earlier) (has_ended earlier) (result earlier) fitted in
+    let free = carried_by (has_started earlier) (is_tried earlier) known (is_cancelled earlier) (has_ended earlier) (result earlier) (moved earlier) fitted in
     tried_once_more (is_tried earlier) known (tries earlier) (returns earlier) free.0 free.1
     (counted_of earlier (both_right (fits earlier Tried) (is_run earlier) run))
-counted_of (Waits ∷ earlier) run =
-    let fitted = both_left (fits earlier Waits) (is_run earlier) run in
+counted_of (Waits so_far ∷ earlier) run =
+    let fitted = both_left (fits earlier (Waits so_far)) (is_run earlier) run in
     came_back (is_tried earlier) (is_known (result earlier)) (tries earlier) (returns earlier)
     (both_right (not (has_ended earlier)) (is_tried earlier) fitted)
-    (counted_of earlier (both_right (fits earlier Waits) (is_run earlier) run))
+    (counted_of earlier (both_right (fits earlier (Waits so_far)) (is_run earlier) run))
 counted_of (WentOn ∷ earlier) run =
     let fitted = both_left (fits earlier WentOn) (is_run earlier) run in
     came_back (is_tried earlier) (is_known (result earlier)) (tries earlier) (returns earlier)

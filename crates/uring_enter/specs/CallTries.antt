@@ -10,6 +10,7 @@ use Rattle.uring_enter.specs.declared.waiting_call.Turn.{Turn}
 use Rattle.uring_enter.specs.declared.waiting_call.Turn.TheVariants.{Does, Waits, Ends, EndsWithDone}
 use Rattle.uring_enter.specs.Clocks.{has_some}
 use Rattle.uring_enter.specs.Needs.{is_receive, is_splice, goes_on}
+use Rattle.uring_enter.specs.Parts.{is_alone}
 use Rattle.uring_enter.specs.Readiness.{has_message_flags}
 use Rattle.uring_entry.specs.Errors.{error}
 
@@ -35,9 +36,11 @@ is_asked e =
 abbrev pub would_wait : Submission → Call → Turn
 would_wait e c = if is_asked e then ends_with e c (error 11) else Does AsksWill
 
--- with MSG_WAITALL (256) a message goes on until all is moved, on a socket that is a stream
+-- with MSG_WAITALL (256) a message goes on until all is moved, on a socket that is a stream, unless it has one part alone
 abbrev pub waits_for_all : Submission → Call → Bool
-waits_for_all e c = has_some e.op_flags 256 && not (has_some e.op_flags 64) && nat_lt c.done c.length
+waits_for_all e c =
+    has_some e.op_flags 256 && not (has_some e.op_flags 64) && nat_lt c.done c.length
+    && not (is_alone e c.control)
 
 -- a message that came to its end (0) waits for no more
 abbrev pub behind_message : Submission → Call → ℤ → Turn

@@ -3,8 +3,7 @@ use Rattle.std.specs.Prelude.{◌≡◌, ℕ, ℤ, ◌+◌, ◌≤◌, true, fal
 use Rattle.uring_enter.specs.declared.act.Fact.{Fact}
 use Rattle.uring_enter.specs.declared.act.Fact.TheVariants.{Tried, Waits, WentOn, Done}
 use Rattle.uring_enter.specs.declared.act.Act.TheVariants.{Nothing, CarryOut, End}
-use Rattle.uring_entry.specs.Errors.{error}
-use Rattle.uring_enter.specs.Courses.{has_started, has_ended, is_cancelled, result, act, fits, is_run}
+use Rattle.uring_enter.specs.Courses.{has_started, has_ended, is_cancelled, result, moved, by_cancel, act, fits, is_run}
 
 -- an operation is to be carried out only if the core let its request start, which hasn't ended, and which no cancel has found
 abbrev pub CarriesOutWhatRuns : Type 0
@@ -24,7 +23,7 @@ tries (_ ∷ earlier) = tries earlier
 -- how often that did nothing, or left it going on
 abbrev pub returns : List Fact → ℕ
 returns [] = 0
-returns (Waits ∷ earlier) = returns earlier + 1
+returns (Waits _ ∷ earlier) = returns earlier + 1
 returns (WentOn ∷ earlier) = returns earlier + 1
 returns (_ ∷ earlier) = returns earlier
 
@@ -37,7 +36,7 @@ abbrev pub EndsForGood : Type 0
 EndsForGood = (log : List Fact) → has_ended log ≡ true
     → (act log ≡ Nothing) × ((fact : Fact) → fits log fact ≡ false)
 
--- it ends with its result; or with -125, if a cancel found it and its operation has done nothing that is known
+-- it ends with its result; or, if a cancel found it before that was known, with the bytes that it had moved, or -125
 abbrev pub EndsWithItsResult : Type 0
 EndsWithItsResult = (log : List Fact) (res : ℤ) → act log ≡ End res
-    → (result log ≡ Some res) ⊎ ((result log ≡ None) × (is_cancelled log ≡ true) × (res ≡ error 125))
+    → (result log ≡ Some res) ⊎ ((result log ≡ None) × (is_cancelled log ≡ true) × (res ≡ by_cancel (moved log)))

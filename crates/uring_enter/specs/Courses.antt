@@ -1,5 +1,5 @@
 -- What has happened to a request that was accepted, the newest first, and what is to be done with it. io_uring(7); io_uring_enter(2); but where our own rule is named.
-use Rattle.std.specs.Prelude.{◌≡◌, ℤ, pos, negsuc, Bool, true, false, not, ◌&&◌, ◌||◌, Option, Some, None, List, [], ◌∷◌, if◌then◌else◌}
+use Rattle.std.specs.Prelude.{◌≡◌, ℤ, pos, negsuc, Bool, true, false, not, ◌&&◌, ◌||◌, int_lt, Option, Some, None, List, [], ◌∷◌, if◌then◌else◌}
 use Rattle.uring_enter.specs.declared.act.Fact.{Fact}
 use Rattle.uring_enter.specs.declared.act.Fact.TheVariants.{Started, Dropped, Cancelled, Tried, Waits, WentOn, Done, Notified, Ended}
 use Rattle.uring_enter.specs.declared.act.Act.{Act}
@@ -30,7 +30,7 @@ is_cancelled (_ ∷ earlier) = is_cancelled earlier
 abbrev pub is_tried : List Fact → Bool
 is_tried [] = false
 is_tried (Tried ∷ earlier) = true
-is_tried (Waits ∷ earlier) = false
+is_tried (Waits _ ∷ earlier) = false
 is_tried (WentOn ∷ earlier) = false
 is_tried (Done _ ∷ earlier) = false
 is_tried (_ ∷ earlier) = is_tried earlier
@@ -43,13 +43,24 @@ result (Done res ∷ earlier) = Some res
 result (Notified res ∷ earlier) = Some res
 result (_ ∷ earlier) = result earlier
 
-abbrev pub end_by : Option ℤ → Bool → Option ℤ
-end_by (Some res) cancelled = Some res
-end_by None cancelled = if cancelled then Some (error 125) else None
+-- how many bytes its operation has moved so far, of one that goes on in parts, as it last would have had to wait; what has a completion of its own counts no more
+abbrev pub moved : List Fact → ℤ
+moved [] = pos 0
+moved (Waits so_far ∷ earlier) = so_far
+moved (WentOn ∷ earlier) = pos 0
+moved (_ ∷ earlier) = moved earlier
 
--- what it ends with, once it may: its result, or -125 (ECANCELED) if a cancel found it before. io_uring_enter(2), IORING_OP_ASYNC_CANCEL
+-- what it ends with that a cancel has found: how many bytes it has moved, if it has moved any, or -125 (ECANCELED). io_uring_enter(2), IORING_OP_ASYNC_CANCEL; that bytes are told is what Linux 6.18 was seen to do
+abbrev pub by_cancel : ℤ → ℤ
+by_cancel so_far = if int_lt (pos 0) so_far then so_far else error 125
+
+abbrev pub end_by : Option ℤ → Bool → ℤ → Option ℤ
+end_by (Some res) cancelled so_far = Some res
+end_by None cancelled so_far = if cancelled then Some (by_cancel so_far) else None
+
+-- what it ends with, once it may: its result, or what a cancel leaves that found it before
 abbrev pub ending : List Fact → Option ℤ
-ending log = end_by (result log) (is_cancelled log)
+ending log = end_by (result log) (is_cancelled log) (moved log)
 
 -- what the completion of its end shows; none before
 abbrev pub shown : List Fact → Option ℤ
@@ -90,10 +101,10 @@ can_be log Started = not (has_started log)
 can_be log (Dropped _) = not (has_started log)
 can_be log Cancelled = true
 can_be log Tried = is_carrying_out (act log)
-can_be log Waits = is_tried log
+can_be log (Waits _) = is_tried log
 can_be log WentOn = is_tried log
 can_be log (Done _) = is_tried log
-can_be log (Notified _) = is_known (result log)
+can_be log (Notified _) = is_known (ending log)
 can_be log Ended = is_ending (act log)
 
 -- whether this can have happened: nothing does behind its end
@@ -112,10 +123,10 @@ is_run (fact ∷ earlier) = fits earlier fact && is_run earlier
 abbrev pub option_of : Bool → ℤ → Option ℤ
 option_of known res = if known then Some res else None
 
--- what the second completion of a send without copies shows, which says that its memory is free: 0, or -2^31 (IORING_NOTIF_USAGE_ZC_COPIED) where it is to say that it was copied. None, so that its first has no MORE, if it was cancelled, or if no completion may be posted before its end. io_uring_enter(2), IORING_OP_SEND_ZC; when there is none is our own rule
-abbrev pub notice_of : List Fact → Bool → Bool → Option ℤ
-notice_of log reports may_post =
-    if is_cancelled log || not may_post then None else
+-- what the second completion of a send without copies shows, which says that its memory is free: 0, or -2^31 (IORING_NOTIF_USAGE_ZC_COPIED) where it is to say that it was copied. One that a cancel has found has both too. None, so that its first has no MORE, if no completion may be posted before its end. io_uring_enter(2), IORING_OP_SEND_ZC; when there is none is our own rule
+abbrev pub notice_of : Bool → Bool → Option ℤ
+notice_of reports may_post =
+    if not may_post then None else
     Some (if reports then negsuc 2147483647 else pos 0)
 
 -- glue: what is kept is that of a request to which this has happened
@@ -125,3 +136,4 @@ pub record KeepsCourse (log : List Fact) (c : Course) : Type 0 where
   pub tried : c.is_tried ≡ is_tried log
   pub ended : c.has_ended ≡ has_ended log
   pub result : option_of c.has_result c.res ≡ result log
+  pub moved : c.moved ≡ moved log

@@ -1,5 +1,5 @@
 -- How an epoll instance is asked to tell of a poll's events, and what becomes of the poll. epoll_ctl(2); io_uring_enter(2), IORING_OP_POLL_ADD.
-use Rattle.std.specs.Prelude.{ℕ, ℤ, pos, Bool, false, not, if◌then◌else◌}
+use Rattle.std.specs.Prelude.{ℕ, ℤ, pos, Bool, false, not, int_lt, if◌then◌else◌}
 use Rattle.std.specs.Int.RustNames.{bit_or}
 use Rattle.std.specs.Ordering.{int_eq}
 use Rattle.uring_enter.specs.declared.instance.PollStart.{PollStart}
@@ -17,6 +17,10 @@ can_be_polled res = not (int_eq res (error 1))
 -- with what an unpolled one fails as it starts; or 0: poll(2) finds at once what it ends with
 abbrev pub fault_of : ℤ → ℤ
 fault_of unpolled = if is_below unpolled then unpolled else pos 0
+
+-- what is there for a poll is what a call shows that came to a count. One that fails, as where memory is short, shows nothing: the poll waits on, and asks again. Our own rule
+abbrev pub present_of : ℤ → (events : ℕ) → ℕ
+present_of came events = if int_lt (pos 0) came then events else 0
 
 -- how a poll for these events starts, which can have more than one completion or can't, where asking an instance came to this, 0 or an error: it fails with that error, and one whose descriptor can't be polled has one completion
 abbrev pub poll_start : ℕ → Bool → ℤ → PollStart

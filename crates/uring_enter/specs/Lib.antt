@@ -37,6 +37,7 @@ pub mod Waiters
 pub mod Instances
 pub mod Sleeping
 pub mod Tries
+pub mod Parts
 pub mod CallTries
 pub mod Copies
 pub mod MessageCopies

@@ -7,6 +7,7 @@ use Rattle.uring_enter.specs.declared.outcome.Carried.{Carried}
 use Rattle.uring_enter.specs.declared.submission.Submission.{Submission}
 use Rattle.uring_enter.specs.Clocks.{has_some}
 use Rattle.uring_enter.specs.Needs.{is_of_sockets, is_splice, is_transfer}
+use Rattle.uring_enter.specs.Parts.{is_alone}
 use Rattle.uring_entry.specs.Errors.{error}
 use Rattle.uring_enter.specs.Timeouts.{linked_outcome}
 
@@ -36,6 +37,7 @@ abbrev pub success_of_entry : Submission → Carried → (linux : Bool) → Succ
 success_of_entry e c linux = record {
   length = if is_splice e.opcode then e.len else c.length;
   is_whole = wants_whole e c.has_message;
+  takes_less = is_alone e c.control;
   is_cut = cuts e c;
   takes_time = e.opcode == 11 && has_some e.op_flags 32;
   is_linked_timeout = e.opcode == 15;
@@ -44,9 +46,9 @@ success_of_entry e c linux = record {
   wants_socket = e.opcode == 34;
 }
 
--- a transfer has moved all that it was asked to, and nothing was cut: a short one breaks a link
+-- a transfer has moved all that it was asked to, and nothing was cut: a short one breaks a link, but one that has one part alone may be short
 abbrev pub is_whole : Success → ℤ → Bool
-is_whole a (pos count) = count == a.length && not a.is_cut
+is_whole a (pos count) = (a.takes_less || count == a.length) && not a.is_cut
 is_whole a (negsuc _) = false
 
 -- -62 (ETIME) of a timeout that takes it so. IORING_TIMEOUT_ETIME_SUCCESS

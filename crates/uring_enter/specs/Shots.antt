@@ -4,7 +4,7 @@ use Rattle.uring_enter.specs.declared.submission.Submission.{Submission}
 use Rattle.uring_enter.specs.Needs as needs
 use Rattle.uring_enter.specs.declared.shot.Shot.{Shot}
 use Rattle.uring_enter.specs.declared.shot.Part.{Part}
-use Rattle.uring_enter.specs.declared.shot.Part.TheVariants.{Event, Sent, Notice, Own, Cancelled}
+use Rattle.uring_enter.specs.declared.shot.Part.TheVariants.{Event, Sent, Notice, Own}
 use Rattle.std.specs.Int.RustNames.{bit_or}
 use Rattle.uring_enter.specs.declared.posted.Posted.{Posted}
 use Rattle.uring_enter.specs.Showing.{Change, posted, reaped}
@@ -31,13 +31,12 @@ has_room log entries = nat_lt (posted log - reaped log) entries
 abbrev pub goes_on : Shot → ℤ → Bool → Bool
 goes_on s res room = s.is_multishot && brings s res && room
 
--- the flags of a completion: IORING_CQE_F_MORE is 2, where another of the same request follows; IORING_CQE_F_NOTIF is 8. A buffer is told of where the operation has taken one
+-- the flags of a completion: IORING_CQE_F_MORE is 2, where another of the same request follows; IORING_CQE_F_NOTIF is 8. A buffer is told of where the operation has taken one, also by one that a cancel has ended
 abbrev pub completion_flags : Part → ℕ → ℕ
 completion_flags Event of_buffer = bit_or of_buffer 2
 completion_flags Sent _ = 2
 completion_flags Notice _ = 8
 completion_flags Own of_buffer = of_buffer
-completion_flags Cancelled _ = 0
 
 -- what the end of a send without copies tells of, which has two completions: that its memory is free, where the other one, which says what it has sent, was posted before. Where memory was refused for that one it is put off, and the end tells what was sent. Our own rule
 abbrev pub end_of_send : (is_posted : Bool) → Part

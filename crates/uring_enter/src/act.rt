@@ -15,8 +15,8 @@ pub enum Fact {
     /// Its operation is carried out.
     Tried,
 
-    /// That would have to wait: nothing was done.
-    Waits,
+    /// That would have to wait, and has moved so many bytes so far: 0 if nothing was done.
+    Waits(i32),
 
     /// That brought something, which has a completion of its own, and goes on.
     WentOn,

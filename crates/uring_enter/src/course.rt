@@ -2,7 +2,7 @@
 
 ghost use Rattle.std.specs.Prelude.{◌≡◌, List, [], ◌∷◌, true, false};
 ghost use Rattle.uring_enter.specs.declared.act.Fact.{Fact};
-ghost use Rattle.uring_enter.specs.Courses.{KeepsCourse, act, act_by, behind_act, end_by, fits, is_ending, is_carrying_out, notice_of, option_of, shown};
+ghost use Rattle.uring_enter.specs.Courses.{KeepsCourse, act, act_by, behind_act, by_cancel, end_by, fits, is_ending, is_carrying_out, notice_of, option_of, shown};
 
 use crate::act::{Act, Fact};
 
@@ -27,6 +27,9 @@ pub struct Course {
 
     /// Its result, if it is known, else 0.
     pub res: i32,
+
+    /// How many bytes its operation has moved so far, which goes on in parts; else 0.
+    pub moved: i32,
 }
 
 impl Course {
@@ -41,6 +44,7 @@ impl Course {
             has_result: false,
             has_ended: false,
             res: 0,
+            moved: 0,
         }
     }
 
@@ -64,7 +68,7 @@ impl Course {
         } else if self.has_result {
             Act::End(self.res)
         } else if self.is_cancelled {
-            Act::End(-125)
+            Act::End(by_cancel(self.moved))
         } else {
             Act::CarryOut
         }
@@ -81,26 +85,12 @@ impl Course {
         }
     }
 
-    /// What the second completion of a send without copies shows, if it has one: that its memory is free. `reports`: it is to say that it was copied. `may_post`: a completion may be posted before its end.
-    pub fn notice(&self, reports: bool, may_post: bool) -> Option<i32>
-        ensures { (log : List Fact) → KeepsCourse log self.now
-            → result ≡ notice_of log reports may_post }
-    {
-        if self.is_cancelled || !may_post {
-            None
-        } else if reports {
-            Some(-0x8000_0000)
-        } else {
-            Some(0)
-        }
-    }
-
     /// What the completion of the request's end shows. `None`: it hasn't ended.
     pub fn shown(&self) -> Option<i32>
         ensures { (log : List Fact) → KeepsCourse log self.now → result ≡ shown log }
     {
         if self.has_ended {
-            end_by(self.result(), self.is_cancelled)
+            end_by(self.result(), self.is_cancelled, self.moved)
         } else {
             None
         }
@@ -128,8 +118,8 @@ impl Course {
             Fact::Started | Fact::Dropped(_) => !self.has_started,
             Fact::Cancelled => true,
             Fact::Tried => is_carrying_out(self.due()),
-            Fact::Waits | Fact::WentOn | Fact::Done(_) => self.is_tried,
-            Fact::Notified(_) => self.has_result,
+            Fact::Waits(_) | Fact::WentOn | Fact::Done(_) => self.is_tried,
+            Fact::Notified(_) => self.has_result || self.is_cancelled,
             Fact::Ended => is_ending(self.due()),
         };
         !self.has_ended && is_new
@@ -143,7 +133,14 @@ impl Course {
             Fact::Started => self.has_started = true,
             Fact::Cancelled => self.is_cancelled = true,
             Fact::Tried => self.is_tried = true,
-            Fact::Waits | Fact::WentOn => self.is_tried = false,
+            Fact::Waits(moved) => {
+                self.is_tried = false;
+                self.moved = moved;
+            }
+            Fact::WentOn => {
+                self.is_tried = false;
+                self.moved = 0;
+            }
             Fact::Done(res) => {
                 self.is_tried = false;
                 self.has_result = true;
@@ -163,13 +160,19 @@ impl Course {
     }
 }
 
-/// What a request ends with whose result is this, once it may.
-fn end_by(known: Option<i32>, is_cancelled: bool) -> Option<i32>
-    ensures { result ≡ end_by known is_cancelled }
+/// What a request ends with whose result is this, and which has moved so many bytes, once it may.
+fn end_by(known: Option<i32>, is_cancelled: bool, moved: i32) -> Option<i32>
+    ensures { result ≡ end_by known is_cancelled moved }
 {
     match known {
         Some(res) => Some(res),
-        None => { if is_cancelled { Some(-125) } else { None } }
+        None => {
+            if is_cancelled {
+                Some(by_cancel(moved))
+            } else {
+                None
+            }
+        }
     }
 }
 
@@ -183,4 +186,24 @@ fn is_ending(act: Act) -> bool
     ensures { result ≡ is_ending act }
 {
     matches!(act, Act::End(_))
+}
+
+/// What a request ends with that a cancel has found, and which has moved so many bytes.
+fn by_cancel(moved: i32) -> i32
+    ensures { result ≡ by_cancel moved }
+{
+    if moved > 0 { moved } else { -125 }
+}
+
+/// What the second completion of a send without copies shows, if it has one: that its memory is free. `reports`: it is to say that it was copied. `may_post`: a completion may be posted before its end.
+pub fn notice_of(reports: bool, may_post: bool) -> Option<i32>
+    ensures { result ≡ notice_of reports may_post }
+{
+    if !may_post {
+        None
+    } else if reports {
+        Some(-0x8000_0000)
+    } else {
+        Some(0)
+    }
 }

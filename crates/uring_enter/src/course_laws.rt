@@ -22,7 +22,7 @@ pub fn ends_for_good()
     ensures { EndsForGood }
 {}
 
-/// It ends with its result, or with -125 if a cancel found it before.
+/// It ends with its result, or, if a cancel found it before, with the bytes that it had moved, or -125.
 pub fn ends_with_its_result()
     ensures { EndsWithItsResult }
 {}

@@ -26,6 +26,13 @@ pub fn instance_events(events: u16) -> u32
     events as u32 | EDGES
 }
 
+/// Which events a poll finds there, where poll(2) or epoll_wait(2), which doesn't wait, came to this and shows these: none of a call that failed.
+pub fn present_of(came: i32, events: u16) -> u16
+    ensures { result ≡ spec.present_of came events }
+{
+    if came > 0 { events } else { 0 }
+}
+
 /// How a poll for these events starts, which can have more than one completion or can't, where asking an instance came to this, 0 or an error.
 pub fn poll_start(events: u16, goes_on: bool, res: i32) -> PollStart
     ensures { result ≡ spec.poll_start events goes_on res }

@@ -4,6 +4,7 @@ ghost use Rattle.std.specs.Prelude.{◌≡◌};
 ghost use Rattle.uring_enter.specs.Outcomes.{cuts, forgives, is_forgiven, is_forgiving, is_success, is_whole, success_of_entry, wants_whole, looks_ahead, looks_for_running, looks_for_next, may_have_found, shown_of, LooksInTime};
 
 use crate::needs::{is_of_sockets, is_splice, is_transfer};
+use crate::parts::is_alone;
 use crate::submission::Submission;
 use crate::timeout::linked_outcome;
 
@@ -16,6 +17,9 @@ pub struct Success {
 
     /// It is a success only if it moves all of that.
     pub is_whole: bool,
+
+    /// Or less, as long as that isn't cut.
+    pub takes_less: bool,
 
     /// What it has received was cut.
     pub is_cut: bool,
@@ -43,6 +47,9 @@ pub struct Carried {
     /// How many bytes its vectors have.
     pub length: u64,
 
+    /// How many bytes of control data its message has, or has room for.
+    pub control: u64,
+
     /// Of what was received: the flags of its message.
     pub message_flags: u32,
 
@@ -68,6 +75,7 @@ pub fn success_of(entry: &Submission, carried: &Carried, linux: bool) -> Success
             carried.length
         },
         is_whole: wants_whole(entry, carried.has_message),
+        takes_less: is_alone(entry, carried.control),
         is_cut: cuts(entry, carried),
         takes_time: entry.opcode == 11 && entry.op_flags & 32 != 0,
         is_linked_timeout: entry.opcode == 15,
@@ -124,11 +132,11 @@ fn has_read_all(entry: &Submission, carried: &Carried, linux: bool, res: i32) ->
     requires { entry.now.opcode ≡ 22 }
     ensures { result ≡ is_success (success_of_entry entry.now carried.now linux) res }
 {
-    let is_cut = false;
+    let (takes_less, is_cut) = (false, false);
     if res < 0 {
         false
     } else {
-        res as u64 == carried.length && !is_cut
+        (takes_less || res as u64 == carried.length) && !is_cut
     }
 }
 
@@ -158,7 +166,7 @@ fn is_whole(asked: Success, res: i32) -> bool
     if res < 0 {
         false
     } else {
-        res as u64 == asked.length && !asked.is_cut
+        (asked.takes_less || res as u64 == asked.length) && !asked.is_cut
     }
 }
 

@@ -78,14 +78,11 @@ pub enum Part {
     /// Its memory is free.
     Notice,
 
-    /// The request ends with a result of its operation.
+    /// The request ends, with a result of its operation or without.
     Own,
-
-    /// The request ends without one: a cancel has found it.
-    Cancelled,
 }
 
-/// The flags of a completion, where those of a provided buffer that was taken are `of_buffer`, or 0.
+/// The flags of a completion, where those of a provided buffer that was taken, and of which no other completion has told, are `of_buffer`, or 0.
 pub fn completion_flags(part: Part, of_buffer: u32) -> u32
     ensures { result ≡ completion_flags part of_buffer }
 {
@@ -94,7 +91,6 @@ pub fn completion_flags(part: Part, of_buffer: u32) -> u32
         Part::Sent => 2,
         Part::Notice => 8,
         Part::Own => of_buffer,
-        Part::Cancelled => 0,
     }
 }
 

@@ -5,6 +5,7 @@ ghost use Rattle.uring_enter.specs.CallTries as spec;
 ghost use Rattle.uring_enter.specs.CallTries.{AcceptsWhatCame, EndsWithWhatCame, LosesNoBytes};
 
 use crate::needs::{goes_on, is_receive, is_splice};
+use crate::parts::is_alone;
 use crate::ready::has_message_flags;
 use crate::submission::Submission;
 
@@ -17,6 +18,9 @@ pub struct Call {
 
     /// How many it has moved so far.
     pub done: u64,
+
+    /// How many bytes of control data its entry has, or has room for.
+    pub control: u64,
 
     /// It may have to wait for its descriptor.
     pub is_stream: bool,
@@ -133,7 +137,8 @@ fn would_wait(entry: &Submission, call: &Call) -> Turn
 fn waits_for_all(entry: &Submission, call: &Call) -> bool
     ensures { result ≡ spec.waits_for_all entry.now call.now }
 {
-    entry.op_flags & 256 != 0 && entry.op_flags & 64 == 0 && call.done < call.length
+    let is_asked = entry.op_flags & 256 != 0 && entry.op_flags & 64 == 0;
+    is_asked && call.done < call.length && !is_alone(entry, call.control)
 }
 
 fn behind_message(entry: &Submission, call: &Call, res: i32) -> Turn

@@ -1,7 +1,8 @@
 -- What an operation has of a registered buffer or of one that was provided, and what its completion says of it. io_uring_enter(2), IORING_OP_READ_FIXED, IOSQE_BUFFER_SELECT and IORING_CQE_F_BUFFER.
-use Rattle.std.specs.Prelude.{ℕ, ℤ, pos, ◌+◌, ◌*◌, ◌^◌, Bool, ◌&&◌, ◌||◌, ◌==◌, nat_le, int_lt, min, if◌then◌else◌}
+use Rattle.std.specs.Prelude.{ℕ, ℤ, pos, false, Option, Some, None, ◌+◌, ◌-◌, ◌*◌, ◌^◌, Bool, ◌&&◌, ◌||◌, ◌==◌, nat_le, int_lt, min, if◌then◌else◌}
 use Rattle.std.specs.Ordering.{int_eq}
 use Rattle.uring_entry.specs.Errors.{error}
+use Rattle.uring_register.specs.declared.group.Buffer.{Buffer}
 
 -- so many bytes from there on are of the buffer with so many from its start on
 abbrev pub is_of_buffer : ℕ → ℕ → ℕ → ℕ → Bool
@@ -22,3 +23,13 @@ has_taken res is_transfer = int_lt (pos 0) res || int_eq res (pos 0) && is_trans
 -- its completion names the buffer then: IORING_CQE_F_BUFFER is 1, and the buffer's number stands above 16 bits
 abbrev pub flags_of : ℤ → Bool → ℕ → ℕ
 flags_of res is_transfer id = if has_taken res is_transfer then 1 + id * 2 ^ 16 else 0
+
+-- one that would have to wait has taken its buffer if it moved bytes, and keeps it: what it moves next goes behind them. recv(2), MSG_WAITALL; what Linux 6.18 was seen to do
+abbrev pub flags_so_far : ℕ → ℕ → ℕ
+flags_so_far moved id = flags_of (pos moved) false id
+
+-- where it goes on: behind so many bytes of the buffer that it has. None: it has none, and takes the next
+abbrev pub further_in : Buffer → (moved : ℕ) → Option Buffer
+further_in had moved =
+    if moved == 0 then None else
+    Some (record { address = had.address + moved; length = had.length - moved; id = had.id })

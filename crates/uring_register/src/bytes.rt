@@ -1,7 +1,9 @@
 //! What an operation has of a registered buffer or of one that was provided, and what its completion says of it.
 
-ghost use Rattle.std.specs.Prelude.{◌≡◌};
+ghost use Rattle.std.specs.Prelude.{◌≡◌, ◌+◌, ◌<◌, ◌^◌};
 ghost use Rattle.uring_register.specs.Bytes as spec;
+
+use crate::group::Buffer;
 
 /// The fault of so many bytes from there on, as a part of a registered buffer with `size` bytes from `start` on: -14 (EFAULT) if they aren't all its, or 0.
 pub fn bytes_fault(start: u64, size: u64, from: u64, count: u64) -> i32
@@ -34,6 +36,32 @@ pub fn flags_of(res: i32, is_transfer: bool, id: u16) -> u32
     ensures { result ≡ spec.flags_of res is_transfer id }
 {
     if res > 0 || (res == 0 && is_transfer) {
+        1 + id as u32 * 0x1_0000
+    } else {
+        0
+    }
+}
+
+/// Where the next try of an operation begins that has put so many bytes into the provided buffer `had` so far: behind them, in the same one. `None`: it has put none there, and takes the next of its group.
+pub fn further_in(had: &Buffer, moved: u32) -> Option<Buffer>
+    ensures { had.now.address + moved < 2 ^ 64 → result ≡ spec.further_in had.now moved }
+{
+    if moved == 0 {
+        None
+    } else {
+        Some(Buffer {
+            address: had.address.saturating_add(moved as u64),
+            length: had.length.saturating_sub(moved),
+            id: had.id,
+        })
+    }
+}
+
+/// The flags of the completion of an operation that would have to wait, and has put so many bytes into the provided buffer of this number so far: 0 if it hasn't taken it.
+pub fn flags_so_far(moved: u32, id: u16) -> u32
+    ensures { result ≡ spec.flags_so_far moved id }
+{
+    if moved > 0 {
         1 + id as u32 * 0x1_0000
     } else {
         0

@@ -21,7 +21,7 @@ mod table_laws;
 mod use_laws;
 mod uses;
 
-pub use bytes::{bytes_fault, flags_of, part_of};
+pub use bytes::{bytes_fault, flags_of, flags_so_far, further_in, part_of};
 pub use call::{
     Call, Caller, Content, argument_fault, call_of, calling_fault, content_fault, may_post, probed,
 };
