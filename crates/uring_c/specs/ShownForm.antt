@@ -25,4 +25,3 @@ word_of_part part.Event = 0
 word_of_part part.Sent = 1
 word_of_part part.Notice = 2
 word_of_part part.Own = 3
-word_of_part part.Cancelled = 4

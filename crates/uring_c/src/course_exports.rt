@@ -172,7 +172,6 @@ fn part_word(part: Part) -> u32
         Part::Sent => 1,
         Part::Notice => 2,
         Part::Own => 3,
-        Part::Cancelled => 4,
     }
 }
 
