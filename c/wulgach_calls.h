@@ -77,7 +77,7 @@ struct wulgach_vectors {
 void wulgach_transfer_call(const struct wulgach_submission *entry, const struct wulgach_vectors *vectors, const struct wulgach_transfer *transfer, uint32_t step, struct wulgach_system_call *call);
 
 /* Whether the descriptors of the operation of this code are asked not to wait, by O_NONBLOCK, while its call is made, which has no flag for
- * that: of ACCEPT, CONNECT, SPLICE and TEE. The call of no other operation of sockets waits. */
+ * that: of ACCEPT, CONNECT, SPLICE and TEE, but pipes, which a flag of a splice asks. The call of no other operation of sockets waits. */
 bool wulgach_asks_descriptors(uint8_t code);
 
 /* Whether it is looked, before an operation of this code opens a path with these flags, whether that names a pipe: of OPENAT and OPENAT2, if an

@@ -52,6 +52,7 @@ struct wulgach_wake_sources {
     bool has_streams;   /* a request waits for a descriptor */
     bool has_threads;   /* another thread may make a call */
     bool is_real;       /* time passes by itself */
+    bool has_signal;    /* a signal waits that comes as soon as the call sleeps; it needn't be asked where a request waits for a descriptor */
 };
 
 enum wulgach_wait_kind {
@@ -148,8 +149,8 @@ bool wulgach_may_have_others(bool knows, uint64_t threads);
 bool wulgach_times_asks_threads(const struct wulgach_times *times, bool has_streams);
 
 /* Writes how a call waits that has this limit, where nothing can go on. It sleeps while a descriptor is waited for; while another
- * thread may call, if no timeout runs; and where time passes by itself, if there is anything that it brings. Else time moves on at
- * once. Neither goes past the limit or the time of a timeout. */
+ * thread may call, if no timeout runs; and where time passes by itself. Else one for which a signal waits sleeps until now, and the signal ends it
+ * (io_uring_enter(2), EINTR); or time moves on at once. Neither goes past the limit or the time of a timeout. */
 void wulgach_times_wait(const struct wulgach_times *times, const struct wulgach_timeout *rows, size_t room, const struct wulgach_wake_sources *sources, const struct wulgach_limit *limit, struct wulgach_wait *wait);
 
 /* Writes what has come when it has waited. */

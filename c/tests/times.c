@@ -38,7 +38,7 @@ static void check_sums(void)
 static void check_order(void)
 {
     struct wulgach_timeout next;
-    struct wulgach_wake_sources sources = {false, false, false};
+    struct wulgach_wake_sources sources = {0};
     int32_t res = 1;
     wulgach_times_begin(&times);
     demand(wulgach_times_passing(&times, rows, ROOM, &sources, &next) == -2, "no timeout runs");
@@ -91,7 +91,7 @@ static void check_counts_and_changes(void)
 
 static void check_waits(void)
 {
-    struct wulgach_wake_sources none = {false, false, false}, stream = {true, false, false}, thread = {false, true, false};
+    struct wulgach_wake_sources none = {0}, stream = {.has_streams = true}, thread = {.has_threads = true}, real = {.is_real = true}, signal = {.has_signal = true};
     struct wulgach_limit never = {0, false}, soon = {5, true};
     struct wulgach_wait wait;
     struct wulgach_woken woken;
@@ -101,6 +101,10 @@ static void check_waits(void)
     demand(wait.kind == WULGACH_WAIT_NEVER, "there is nothing to wait for");
     wulgach_times_wait(&times, rows, ROOM, &thread, &never, &wait);
     demand(wait.kind == WULGACH_WAIT_SLEEP && !wait.until.is_set, "another thread may call");
+    wulgach_times_wait(&times, rows, ROOM, &real, &never, &wait);
+    demand(wait.kind == WULGACH_WAIT_SLEEP && !wait.until.is_set, "time passes by itself, though it brings nothing");
+    wulgach_times_wait(&times, rows, ROOM, &signal, &never, &wait);
+    demand(wait.kind == WULGACH_WAIT_SLEEP && wait.until.is_set && wait.until.at == times.time, "a signal waits");
     demand(wulgach_times_asks_threads(&times, false) && !wulgach_times_asks_threads(&times, true), "then it matters whether one may");
     demand(wulgach_may_have_others(false, 1) && wulgach_may_have_others(true, 2) && !wulgach_may_have_others(true, 1), "whether one may");
     demand(start(3, 10, 0, true) == 0, "a linked timeout starts");
@@ -109,6 +113,8 @@ static void check_waits(void)
     demand(wait.kind == WULGACH_WAIT_SLEEP && wait.until.is_set && wait.until.at == 5, "it sleeps to its limit");
     wulgach_times_wait(&times, rows, ROOM, &none, &never, &wait);
     demand(wait.kind == WULGACH_WAIT_MOVE && wait.until.at == 10, "time moves on to a timeout");
+    wulgach_times_wait(&times, rows, ROOM, &signal, &never, &wait);
+    demand(wait.kind == WULGACH_WAIT_SLEEP && wait.until.is_set && wait.until.at == 0, "but not before a signal that waits");
     wulgach_times_woken(&times, rows, ROOM, &soon, &woken);
     demand(woken.kind == WULGACH_WOKEN_OTHER, "nothing has come");
     wulgach_times_move_to(&times, 5);

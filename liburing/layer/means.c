@@ -25,6 +25,12 @@ int32_t make_call(const struct wulgach_system_call *call)
     return result < 0 ? -errno : (int32_t)result;
 }
 
+/* Of a splice: its descriptor, if it is to be asked not to wait. A pipe is, by the call's flag. */
+static int asked_for_splice(int fd)
+{
+    return is_pipe(fd) ? -1 : fd;
+}
+
 /* Makes the call of an operation, with its descriptors asked not to wait if the library says so. */
 static int32_t make_call_of(struct request *request, const struct wulgach_system_call *call)
 {
@@ -32,7 +38,9 @@ static int32_t make_call_of(struct request *request, const struct wulgach_system
         return open_pipe(request, call);
     if (!wulgach_asks_descriptors(request->entry.opcode))
         return make_call(call);
-    return make_unwilling_call(call, request->fd, request->needs.needs_second ? request->second_fd : -1);
+    if (request->needs.needs_second)
+        return make_unwilling_call(call, asked_for_splice(request->fd), asked_for_splice(request->second_fd));
+    return make_unwilling_call(call, request->fd, -1);
 }
 
 int32_t make_passing_call(const struct wulgach_system_call *call)

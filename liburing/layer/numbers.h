@@ -27,8 +27,8 @@ void lock_kept(void);
 void unlock_kept(void);
 void forget_kept(int fd);
 
-/* Closes such a copy, or what was opened for a slot. A process loses its locks on a regular file (fcntl(2)) with the first descriptor that it closes: where it has any, the copy
- * stays until another is closed. */
+/* Closes such a copy, or what was opened for a slot. A process loses its locks on a regular file (fcntl(2)) with the first descriptor that it closes:
+ * where it has any, the copy stays until another is closed. */
 void close_kept(int fd, bool is_regular);
 
 #endif

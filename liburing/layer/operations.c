@@ -82,11 +82,6 @@ static void shorten(struct request *request)
     }
 }
 
-static bool is_pipe(int fd)
-{
-    return fcntl(fd, F_GETPIPE_SZ) >= 0;
-}
-
 bool is_not_to_wait(const struct request *request)
 {
     if (!request->needs.needs_second)

@@ -91,6 +91,11 @@ int32_t make_unwilling_call(const struct wulgach_system_call *call, int fd, int 
     return res;
 }
 
+bool is_pipe(int fd)
+{
+    return fcntl(fd, F_GETPIPE_SZ) >= 0;
+}
+
 static bool says_not_to_wait(int fd)
 {
     int flags = fcntl(fd, F_GETFL);

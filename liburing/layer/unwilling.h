@@ -12,8 +12,11 @@
 void lock_unwilling(void);
 void unlock_unwilling(void);
 
-/* Makes a call whose descriptors are these, the second of which may be -1. Returns its result, or the negative of an error number. */
+/* Makes a call whose descriptors are these, either of which may be -1. Returns its result, or the negative of an error number. */
 int32_t make_unwilling_call(const struct wulgach_system_call *call, int fd, int second_fd);
+
+/* Whether a descriptor is a pipe's end. */
+bool is_pipe(int fd);
 
 /* Whether a descriptor isn't to wait, by the application's word. */
 bool is_unwilling(int fd);

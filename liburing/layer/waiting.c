@@ -34,17 +34,6 @@ static bool is_streaming(const struct ring *ring)
     return false;
 }
 
-/* By what a call of this ring may be woken. Of other threads it is asked where the library says that it matters. */
-static struct wulgach_wake_sources wake_sources(const struct ring *ring)
-{
-    bool has_streams = is_streaming(ring);
-    return (struct wulgach_wake_sources){
-        .has_streams = has_streams,
-        .has_threads = wulgach_times_asks_threads(&ring->times, has_streams) && has_threads(),
-        .is_real = is_time_real(),
-    };
-}
-
 /* Whether a signal waits that comes as soon as the call has this mask. */
 static bool has_signal(const sigset_t *mask)
 {
@@ -57,11 +46,17 @@ static bool has_signal(const sigset_t *mask)
     return false;
 }
 
-/* Before time is moved on, or nothing is waited for, that signal comes: in a sleep that takes no time. */
-static void sleep_for_signal(const struct ring *ring, struct wulgach_wait *wait)
+/* By what a call of this ring may be woken, if it has a mask to sleep with. Of other threads, and of signals, it is asked where the library says that it
+ * matters. */
+static struct wulgach_wake_sources wake_sources(const struct ring *ring, const sigset_t *mask)
 {
-    *wait = (struct wulgach_wait){.until.is_set = true, .kind = WULGACH_WAIT_SLEEP};
-    wulgach_times_deadline(&ring->times, &wait->until);
+    bool has_streams = is_streaming(ring);
+    return (struct wulgach_wake_sources){
+        .has_streams = has_streams,
+        .has_threads = wulgach_times_asks_threads(&ring->times, has_streams) && has_threads(),
+        .is_real = is_time_real(),
+        .has_signal = mask && !has_streams && has_signal(mask),
+    };
 }
 
 /* Waits as the library says, and notes what is known then. */
@@ -85,11 +80,9 @@ static struct wulgach_waited wait_as(struct ring *ring, const struct wulgach_wai
 
 enum wulgach_reply_kind wait_for_any(struct ring *ring, const struct wulgach_limit *deadline, const sigset_t *signals, int *error)
 {
-    struct wulgach_wake_sources sources = wake_sources(ring);
+    struct wulgach_wake_sources sources = wake_sources(ring, signals);
     struct wulgach_wait wait;
     wulgach_times_wait(&ring->times, ring->timeouts, ring->timeouts_room, &sources, deadline, &wait);
-    if (wait.kind != WULGACH_WAIT_SLEEP && has_signal(signals))
-        sleep_for_signal(ring, &wait);
     struct wulgach_waited waited = wait_as(ring, &wait, signals);
     if (wulgach_fires_behind(&waited)) {
         struct wulgach_woken woken;
@@ -105,7 +98,7 @@ enum wulgach_reply_kind wait_for_any(struct ring *ring, const struct wulgach_lim
 /* The timeout that ends if time passes at once. */
 static bool find_passing(const struct ring *ring, struct wulgach_timeout *timeout)
 {
-    struct wulgach_wake_sources sources = wake_sources(ring);
+    struct wulgach_wake_sources sources = wake_sources(ring, NULL);
     return wulgach_times_passing(&ring->times, ring->timeouts, ring->timeouts_room, &sources, timeout) == 0;
 }
 

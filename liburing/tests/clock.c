@@ -1,10 +1,12 @@
-/* Under WULGACH_TIME=real timeouts, linked ones and the limits of calls last as long as they say; else an hour takes no time.
+/* Under WULGACH_TIME=real timeouts, linked ones and the limits of calls last as long as they say, and a wait lasts until a signal comes; else an hour takes no time.
  *
  *   clock
  */
 #define _GNU_SOURCE
 #include "engines.h"
 
+#include <signal.h>
+#include <sys/time.h>
 #include <time.h>
 
 enum { MILLISECOND = 1000000 };
@@ -95,8 +97,31 @@ static void test_cancelled_late(void)
     close_ring(&ring);
 }
 
+static volatile sig_atomic_t heard;
+
+static void hear_signal(int number)
+{
+    (void)number;
+    heard++;
+}
+
+/* Where time is real, a signal alone may end a wait: nothing else can. */
+static void test_signal(void)
+{
+    struct sigaction action = {.sa_handler = hear_signal};
+    struct itimerval soon = {.it_value.tv_usec = 50000}, never = {.it_value.tv_usec = 0};
+    struct ring ring;
+    make_ring(&ring, 8, 0, 0);
+    int64_t start = now();
+    check(sigaction(SIGALRM, &action, NULL) == 0 && setitimer(ITIMER_REAL, &soon, NULL) == 0);
+    check(enter(&ring, 0, 1, IORING_ENTER_GETEVENTS) == (is_real() ? -EINTR : -EDEADLK));
+    check(has_lasted(start, 50 * MILLISECOND) && (heard == 1 || !is_real()));
+    check(setitimer(ITIMER_REAL, &never, NULL) == 0);
+    close_ring(&ring);
+}
+
 int main(int count, char **words)
 {
-    static const struct named tests[] = {{"timeout", test_timeout}, {"limit", test_limit}, {"linked", test_linked}, {"cancelled late", test_cancelled_late}};
+    static const struct named tests[] = {{"timeout", test_timeout}, {"limit", test_limit}, {"linked", test_linked}, {"cancelled late", test_cancelled_late}, {"signal", test_signal}};
     return run_tests(tests, sizeof tests / sizeof *tests, count > 1 ? words[1] : NULL);
 }

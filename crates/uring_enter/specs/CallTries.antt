@@ -29,7 +29,7 @@ ends_with e c res = if has_message_flags e.opcode && not (c.done == 0) then Ends
 abbrev pub is_asked : Submission → Bool
 is_asked e =
     is_splice e.opcode && has_some e.op_flags 2
-    || is_receive e.opcode && has_some e.op_flags 8256
+    || is_receive e.opcode && has_some e.op_flags 8192
     || has_message_flags e.opcode && has_some e.op_flags 64
 
 -- what would have had to wait ends so (-11, EAGAIN) if the entry asks for that; else it waits, unless its descriptor isn't to wait (O_NONBLOCK)

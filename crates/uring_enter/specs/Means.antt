@@ -143,7 +143,7 @@ of_ring e =
     -- NOP, and what isn't served
     Nothing
 
--- the descriptors of ACCEPT, CONNECT, SPLICE and TEE are asked not to wait while the call is made, by O_NONBLOCK: it has no flag for that. (SPLICE_F_NONBLOCK asks a pipe alone.) accept(2), connect(2), splice(2)
+-- the descriptors of ACCEPT, CONNECT, SPLICE and TEE are asked not to wait while the call is made, by O_NONBLOCK: it has no flag for that. (SPLICE_F_NONBLOCK asks pipes, and these alone: so they needn't be.) accept(2), connect(2), splice(2)
 abbrev pub asks_descriptors : ℕ → Bool
 asks_descriptors code = code == 13 || code == 16 || code == 30 || code == 33
 

@@ -1,4 +1,4 @@
--- How a call waits where nothing can go on. Our own rules: where a kernel's call would sleep until a timeout is over, virtual time passes at once; but it is real while a descriptor or another thread is waited for.
+-- How a call waits where nothing can go on. Our own rules: where a kernel's call would sleep until a timeout is over, virtual time passes at once; but it is real while a descriptor or another thread is waited for, and a signal comes first.
 use Rattle.std.specs.Prelude.{◌≡◌, ℕ, Bool, true, false, not, ◌&&◌, ◌||◌, nat_le, ◌≤◌, Option, Some, None, List, [], ◌∷◌, if◌then◌else◌}
 use Rattle.uring_enter.specs.declared.timeout.Timeout.{Timeout}
 use Rattle.uring_enter.specs.declared.wait.WakeSources.{WakeSources}
@@ -9,13 +9,17 @@ use Rattle.uring_enter.specs.declared.wait.Woken.TheVariants.{Over, TimedOut, Ot
 use Rattle.uring_enter.specs.Timeouts.{Event, later, time, running, is_over, NoneIsOver, IsNext, IsNextOf, IsDueOf, IsEarliest}
 use Rattle.uring_enter.specs.Kept.{due_of}
 
--- a call sleeps while a descriptor is waited for; while another thread may call, if no timeout runs; and where time passes by itself, if there is anything that it brings. Else time moves on at once to what comes first, or there is nothing to wait for
-abbrev pub wait_of : WakeSources → Bool → Option ℕ → Wait
-wait_of sources has_timeouts None =
-    if sources.has_streams || sources.has_threads && not has_timeouts then Sleep None else Never
-wait_of sources has_timeouts (Some until) =
-    if sources.has_streams || sources.has_threads && not has_timeouts || sources.is_real then Sleep (Some until)
-    else MoveTo until
+-- where virtual time passes at once it moves on to what comes first, or there is nothing to wait for
+abbrev pub at_once : Option ℕ → Wait
+at_once None = Never
+at_once (Some until) = MoveTo until
+
+-- a call sleeps while a descriptor is waited for; while another thread may call, if no timeout runs; and where time passes by itself, as a kernel's call does, if only a signal may end it. Else one for which a signal waits sleeps until now, so that the signal ends it (io_uring_enter(2), EINTR), before time moves on, or nothing is waited for
+abbrev pub wait_of : WakeSources → Bool → (now : ℕ) → Option ℕ → Wait
+wait_of sources has_timeouts now until =
+    if sources.has_streams || sources.has_threads && not has_timeouts || sources.is_real then Sleep until else
+    if sources.has_signal then Sleep (Some now) else
+    at_once until
 
 abbrev pub has_any : List Timeout → Bool
 has_any [] = false
@@ -29,7 +33,7 @@ deadline log (Some more) = Some (later (time log) more)
 -- how a call waits: no longer than to the earliest of its limit and of the times at which timeouts are over
 abbrev pub IsWait : List Event → WakeSources → Option ℕ → Wait → Type 0
 IsWait log sources limit wait =
-    (until : Option ℕ) × IsEarliest (running log) limit until × (wait ≡ wait_of sources (has_any (running log)) until)
+    (until : Option ℕ) × IsEarliest (running log) limit until × (wait ≡ wait_of sources (has_any (running log)) (time log) until)
 
 -- a limit is over, or isn't
 abbrev pub IsReached : Option ℕ → ℕ → Type 0

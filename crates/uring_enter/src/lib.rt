@@ -394,6 +394,7 @@ pub use unknown::Matter;
 pub use unknown::is_taken_so;
 pub use unknown::may_have_others;
 pub use unknown::reads_mask;
+pub use unknown::waits_alike_beside_descriptors;
 pub use unknown::waits_alike_unasked;
 pub use update::Linked;
 pub use update::Poll;

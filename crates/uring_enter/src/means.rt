@@ -107,7 +107,7 @@ pub enum Means {
     Others,
 }
 
-/// Whether the descriptors of an operation are asked not to wait while its call is made, which has no flag for that: of ACCEPT, CONNECT, SPLICE and TEE. O_NONBLOCK.
+/// Whether the descriptors of an operation are asked not to wait while its call is made, which has no flag for that: of ACCEPT, CONNECT, SPLICE and TEE, but pipes, which SPLICE_F_NONBLOCK asks. O_NONBLOCK.
 pub fn asks_descriptors(code: u8) -> bool
     ensures { result ≡ spec.asks_descriptors code }
 {

@@ -1,6 +1,6 @@
 //! What is taken to be so where it can't be asked, as in a process without /proc; and what is asked once, or only if it matters.
 
-ghost use Rattle.std.specs.Prelude.{◌≡◌, false, Bool, List, ℕ, Option};
+ghost use Rattle.std.specs.Prelude.{◌≡◌, true, false, Bool, List, ℕ, Option};
 ghost use Rattle.uring_enter.specs.declared.timeout.Timeout.{Timeout};
 ghost use Rattle.uring_enter.specs.Timeouts.{Event, running};
 ghost use Rattle.uring_enter.specs.Kept.{KeepsTime};
@@ -65,7 +65,14 @@ impl Times {
 
 /// Where that isn't asked, a call waits as it would if there were other threads, and if there were none.
 pub fn waits_alike_unasked()
-    ensures { (sources : WakeSources) (has_timeouts other : Bool) (until : Option ℕ)
+    ensures { (sources : WakeSources) (has_timeouts other : Bool) (now : ℕ) (until : Option ℕ)
         → spec.asks_threads sources.has_streams has_timeouts ≡ false
-        → wait_of sources has_timeouts until ≡ wait_of (record sources { has_threads = other }) has_timeouts until }
+        → wait_of sources has_timeouts now until ≡ wait_of (record sources { has_threads = other }) has_timeouts now until }
+{}
+
+/// Where a request waits for a descriptor, a call waits the same whether a signal waits or none.
+pub fn waits_alike_beside_descriptors()
+    ensures { (sources : WakeSources) (has_timeouts other : Bool) (now : ℕ) (until : Option ℕ)
+        → sources.has_streams ≡ true
+        → wait_of sources has_timeouts now until ≡ wait_of (record sources { has_signal = other }) has_timeouts now until }
 {}

@@ -20,6 +20,9 @@ pub struct WakeSources {
 
     /// Time passes by itself.
     pub is_real: bool,
+
+    /// A signal waits that comes as soon as the call sleeps: its mask lets it. Where a request waits for a descriptor it needn't be asked.
+    pub has_signal: bool,
 }
 
 /// How a call waits.
@@ -66,7 +69,7 @@ impl Times {
             → IsWait log sources limit result }
     {
         let until = self.sleeps_until(rows, limit);
-        wait_of(sources, 0 < self.count, until)
+        wait_of(sources, 0 < self.count, self.time, until)
     }
 
     /// What has come for a call that has this limit, and has waited.
@@ -116,25 +119,18 @@ fn passing_of(sources: WakeSources, now: u64, next: Option<Timeout>) -> Option<T
     }
 }
 
-/// How a call waits until then at most.
-fn wait_of(sources: WakeSources, has_timeouts: bool, until: Option<u64>) -> Wait
-    ensures { result ≡ wait_of sources has_timeouts until }
+/// How a call waits from now on, until then at most.
+fn wait_of(sources: WakeSources, has_timeouts: bool, now: u64, until: Option<u64>) -> Wait
+    ensures { result ≡ wait_of sources has_timeouts now until }
 {
-    let is_waiting = sources.has_streams || (sources.has_threads && !has_timeouts);
+    if sources.has_streams || (sources.has_threads && !has_timeouts) || sources.is_real {
+        return Wait::Sleep(until);
+    }
+    if sources.has_signal {
+        return Wait::Sleep(Some(now));
+    }
     match until {
-        None => {
-            if is_waiting {
-                Wait::Sleep(None)
-            } else {
-                Wait::Never
-            }
-        }
-        Some(until) => {
-            if is_waiting || sources.is_real {
-                Wait::Sleep(Some(until))
-            } else {
-                Wait::MoveTo(until)
-            }
-        }
+        None => Wait::Never,
+        Some(until) => Wait::MoveTo(until),
     }
 }

@@ -115,13 +115,9 @@ fn ends_with(entry: &Submission, call: &Call, res: i32) -> Turn
 fn is_asked(entry: &Submission) -> bool
     ensures { result ≡ spec.is_asked entry.now }
 {
-    if is_splice(entry.opcode) {
-        entry.op_flags & 2 != 0
-    } else if is_receive(entry.opcode) {
-        entry.op_flags & 8256 != 0
-    } else {
-        has_message_flags(entry.opcode) && entry.op_flags & 64 != 0
-    }
+    is_splice(entry.opcode) && entry.op_flags & 2 != 0
+        || is_receive(entry.opcode) && entry.op_flags & 8192 != 0
+        || has_message_flags(entry.opcode) && entry.op_flags & 64 != 0
 }
 
 fn would_wait(entry: &Submission, call: &Call) -> Turn
