@@ -29,6 +29,27 @@ struct wulgach_submission {
     uint64_t pad;
 };
 
+/* Buffers that an entry provides (IORING_OP_PROVIDE_BUFFERS): `addr`, `off`, `len` and `fd` of it. */
+struct wulgach_provided {
+    uint64_t address;       /* where the first begins */
+    uint64_t first;         /* its number */
+    uint32_t length;        /* the bytes of each */
+    uint32_t count;
+};
+
+/* A registered file that a message passes (IORING_MSG_SEND_FD): `addr3` and `file_index` of its entry. */
+struct wulgach_passed {
+    uint32_t slot;          /* that it has in the sender's table, */
+    uint32_t to;            /* and that it gets in the other's, plus 1, or any */
+};
+
+/* What the fields of an entry mean: these; how many buffers it removes at most (IORING_OP_REMOVE_BUFFERS), `fd`; and the user data of the request that a
+ * cancel, a removal or an update is aimed at, `addr`. */
+void wulgach_provided_of(const struct wulgach_submission *entry, struct wulgach_provided *provided);
+void wulgach_passed_of(const struct wulgach_submission *entry, struct wulgach_passed *passed);
+uint32_t wulgach_removed_of(const struct wulgach_submission *entry);
+uint64_t wulgach_target_of(const struct wulgach_submission *entry);
+
 /* What an entry is to the core. */
 enum wulgach_form {
     WULGACH_FORM_TOKEN = 0,     /* a request that is carried out outside of it */
@@ -230,6 +251,12 @@ enum wulgach_visit {
 /* Returns what the sender of a message to this ring does behind one that has come to this result (enum wulgach_visit): of one that failed
  * nothing. */
 uint32_t wulgach_visit_of(const struct wulgach_receiver *to, int32_t res);
+
+/* Whether the oldest message that other rings have left is posted, if there is one: a completion may be posted that belongs to no end of a request. */
+bool wulgach_posts_message(bool has_messages, bool may_post);
+
+/* Whether who has posted messages, and gives the ring up, looks once more for those that come meanwhile: unless one is left that has to wait. */
+bool wulgach_looks_again(bool has_messages, bool may_post);
 
 /* Whether an index word names a slot of a table of so many entries: the one of that number. Else it is dropped. */
 bool wulgach_names_slot(uint32_t word, uint32_t entries);

@@ -251,6 +251,9 @@ enum wulgach_beginning {
 /* Returns whether a sleep begins (enum wulgach_beginning) whose arguments have this fault, or 0, and before which a poll was told, or none. */
 uint32_t wulgach_sleep_begins(int32_t fault, bool is_told);
 
+/* What a sleep came to whose ppoll(2) came to this: -4 (EINTR) in another process, which was forked in the sleep; else that. */
+int32_t wulgach_slept_result(int32_t came, bool is_another_process);
+
 /* What is known behind a wait. */
 struct wulgach_waited {
     int32_t result;             /* what the sleep came to: 0, or an error number's negative */

@@ -77,6 +77,14 @@ static void find_waiting(struct wulgach_waiter *waiter, const struct wulgach_loo
     demand(ask(waiter, lookout, &ready) == WULGACH_LOOK_WAITS, "one that is known to wait isn't");
 }
 
+/* Whether one becomes dormant that no instance has refused. */
+static bool lies(const struct wulgach_waiter *waiter, const struct wulgach_lookout *lookout, const struct wulgach_standing *standing, const struct wulgach_needs *needs, const struct wulgach_course *course)
+{
+    return wulgach_waiter_lies_down(waiter, lookout, false, standing, needs, course);
+}
+
+#define BIT(duty) (1u << (duty))
+
 static void ask_again(void)
 {
     static const struct wulgach_end_of_one plain = {0}, counted = {.is_count_reached = true};
@@ -99,10 +107,14 @@ static void ask_again(void)
     find_waiting(&waiter, &lookout);
     wulgach_waiter_meets_cancel(&waiter);
     demand(wulgach_can_finish(&waiter, &lookout, &none, &no_needs, &is_cancelled, &unknown) == WULGACH_LOOK_FINISHES, "one that a cancel has found");
-    demand(wulgach_waits_for_descriptor_alone(&stream, &no_needs, &runs) && !wulgach_waits_for_descriptor_alone(&none, &no_needs, &runs) && !wulgach_waits_for_descriptor_alone(&stream, &no_needs, &is_cancelled), "one that waits for its descriptor alone");
-    demand(wulgach_starts_poll(&(struct wulgach_needs){.is_poll = true}, 0) && !wulgach_starts_poll(&(struct wulgach_needs){.is_poll = true}, -9) && !wulgach_starts_poll(&no_needs, 0), "a poll that hasn't failed asks for its events");
-    demand(wulgach_seeks_buffer_at_start(&stream, &(struct wulgach_needs){.selects = true}) && !wulgach_seeks_buffer_at_start(&none, &(struct wulgach_needs){.selects = true}) && !wulgach_seeks_buffer_at_start(&stream, &no_needs), "and what may wait looks for its buffer");
-    demand(!wulgach_waits_for_descriptor_alone(&stream, &(struct wulgach_needs){.selects = true}, &runs) && !wulgach_waits_for_descriptor_alone(&stream, &(struct wulgach_needs){.is_timeout = true}, &runs) && !wulgach_waits_for_descriptor_alone(&stream, &(struct wulgach_needs){.needs_second = true}, &runs), "and one that doesn't");
+    struct wulgach_waiter seen = other;
+    demand(!lies(&seen, &lookout, &stream, &no_needs, &runs), "one that wasn't looked at");
+    wulgach_waiter_sees(&seen, &lookout, false);
+    demand(lies(&seen, &lookout, &stream, &no_needs, &runs) && !lies(&seen, &lookout, &none, &no_needs, &runs) && !lies(&seen, &lookout, &stream, &no_needs, &is_cancelled), "one that waits for its descriptor alone");
+    demand(!wulgach_waiter_lies_down(&seen, &lookout, true, &stream, &no_needs, &runs), "one that the instance has refused");
+    demand(wulgach_duties_once_found(&none, &(struct wulgach_needs){.is_poll = true}, 0) & BIT(WULGACH_START_POLLS) && !(wulgach_duties_once_found(&none, &(struct wulgach_needs){.is_poll = true}, -9) & BIT(WULGACH_START_POLLS)) && !(wulgach_duties_once_found(&none, &no_needs, 0) & BIT(WULGACH_START_POLLS)), "a poll that hasn't failed asks for its events");
+    demand(wulgach_duties_once_found(&stream, &(struct wulgach_needs){.selects = true}, 0) & BIT(WULGACH_START_SEEKS) && !(wulgach_duties_once_found(&none, &(struct wulgach_needs){.selects = true}, 0) & BIT(WULGACH_START_SEEKS)) && !(wulgach_duties_once_found(&stream, &no_needs, 0) & BIT(WULGACH_START_SEEKS)), "and what may wait looks for its buffer");
+    demand(!lies(&seen, &lookout, &stream, &(struct wulgach_needs){.selects = true}, &runs) && !lies(&seen, &lookout, &stream, &(struct wulgach_needs){.is_timeout = true}, &runs) && !lies(&seen, &lookout, &stream, &(struct wulgach_needs){.needs_second = true}, &runs), "and one that doesn't");
     wulgach_waiter_waits(&other, &lookout);
     demand(ask(&other, &lookout, &ready) == WULGACH_LOOK_WAITS, "one that would have waited");
     wulgach_lookout_moves(&lookout);
@@ -215,6 +227,7 @@ static void sleep_or_not(void)
 {
     demand(wulgach_fires_behind(&(struct wulgach_waited){0}) && !wulgach_fires_behind(&(struct wulgach_waited){.result = -4}) && !wulgach_fires_behind(&(struct wulgach_waited){.is_never = true}), "behind which sleep a timeout fires");
     demand(wulgach_sleep_begins(-14, true) == WULGACH_SLEEP_FAILS && wulgach_sleep_begins(0, true) == WULGACH_SLEEP_WAKES && wulgach_sleep_begins(0, false) == WULGACH_SLEEPS, "whether a sleep begins");
+    demand(wulgach_slept_result(1, false) == 1 && wulgach_slept_result(-14, false) == -14 && wulgach_slept_result(1, true) == -4, "a sleep in which a child was forked");
     demand(waited((struct wulgach_waited){0}) == WULGACH_WOKEN && waited((struct wulgach_waited){.is_over = true}) == WULGACH_TIMED_OUT, "a sleep that ends");
     demand(waited((struct wulgach_waited){.result = -4, .is_over = true}) == WULGACH_INTERRUPTED && waited((struct wulgach_waited){.result = -12}) == WULGACH_FAILED, "a sleep that fails");
     demand(waited((struct wulgach_waited){.is_never = true}) == WULGACH_ENDLESS && waited((struct wulgach_waited){.is_never = true, .has_messages = true}) == WULGACH_ENDLESS && waited((struct wulgach_waited){.is_never = true, .has_messages = true, .may_post = true}) == WULGACH_WOKEN, "nothing to wait for");
@@ -238,6 +251,39 @@ static void tell_others(void)
     demand(wulgach_counts_as_written(true, false, false) && wulgach_counts_as_written(false, true, true) && !wulgach_counts_as_written(false, true, false) && !wulgach_counts_as_written(false, false, true), "a pipe that was written to");
 }
 
+static void lie(void)
+{
+    struct wulgach_lookout lookout = waiting(1);
+    struct wulgach_waiter waiter;
+    wulgach_waiter_begin(&waiter);
+    demand(!wulgach_lookout_wakes(&lookout), "nothing has changed");
+    wulgach_waiter_is_told_ready(&waiter, &lookout);
+    demand(wulgach_waiter_sighting(&waiter, &lookout) == WULGACH_SIGHTING_READY && wulgach_lookout_wakes(&lookout), "one that an instance tells of");
+    demand(wulgach_instance_answered(64, 64) == WULGACH_INSTANCE_ASKS && wulgach_instance_answered(63, 64) == WULGACH_INSTANCE_IS_DONE && wulgach_instance_answered(0, 64) == WULGACH_INSTANCE_IS_DONE && wulgach_instance_answered(-1, 64) == WULGACH_INSTANCE_ROUSES, "what an instance answers");
+    demand(wulgach_glance_of(true, true, -1, 0) == WULGACH_GLANCE_READY && wulgach_glance_of(false, true, -1, 0) == WULGACH_GLANCE_ASKS_ALONE && wulgach_glance_of(false, false, -1, 0) == WULGACH_GLANCE_READY && wulgach_glance_of(false, true, 1, 4) == WULGACH_GLANCE_READY && wulgach_glance_of(false, true, 1, 0) == WULGACH_GLANCE_UNREADY, "a look");
+}
+
+static void miss(void)
+{
+    struct wulgach_lookout lookout = waiting(1);
+    const struct wulgach_waiter silent = {0}, heard = {.has_heard = true};
+    demand(wulgach_waiter_gone(&silent, false, false) == WULGACH_GONE_NO && wulgach_waiter_gone(&silent, true, false) == WULGACH_GONE_NO, "one that has heard of nothing");
+    demand(wulgach_waiter_gone(&heard, false, false) == WULGACH_GONE_ASKS && wulgach_waiter_gone(&heard, true, false) == WULGACH_GONE_YES && wulgach_waiter_gone(&heard, true, true) == WULGACH_GONE_NO, "one that has heard of something");
+    demand(!wulgach_lookout_drops_writes(&lookout), "what is another's");
+    wulgach_lookout_moves(&lookout);
+    demand(wulgach_lookout_drops_writes(&lookout), "what may be the ring's own");
+}
+
+static void follow(void)
+{
+    const uint32_t always = BIT(WULGACH_END_COUNTS) | BIT(WULGACH_END_STOPS_TIMEOUT) | BIT(WULGACH_END_LOOKS_AT_COUNTS) | BIT(WULGACH_END_LOOKS_BEHIND) | BIT(WULGACH_END_LETS_START) | BIT(WULGACH_END_LEAVES) | BIT(WULGACH_END_HAS_ENDS);
+    demand(wulgach_duties_behind_end(false, false, false, false) == always, "behind each end");
+    demand(wulgach_duties_behind_end(true, false, false, false) == (always | BIT(WULGACH_END_UNWATCHES)) && wulgach_duties_behind_end(false, true, false, false) == (always | BIT(WULGACH_END_UNWATCHES)), "behind that of one with a file");
+    demand(wulgach_duties_behind_end(false, false, true, false) == (always | BIT(WULGACH_END_FORGETS)) && wulgach_duties_behind_end(false, false, false, true) == (always | BIT(WULGACH_END_ENDS_DRAIN)), "behind others");
+    demand(wulgach_duties_at_start(false) == (BIT(WULGACH_START_FINDS_EARLIER) | BIT(WULGACH_START_FINDS_OWN)) && wulgach_duties_at_start(true) == BIT(WULGACH_START_FINDS_EARLIER), "as one starts");
+    demand(wulgach_duties_once_found(&stream, &no_needs, 0) == (BIT(WULGACH_START_BEGINS_TIMEOUT) | BIT(WULGACH_START_NOTES) | BIT(WULGACH_START_LOOKS)), "once it has found its files");
+}
+
 int main(void)
 {
     pass_over();
@@ -249,6 +295,9 @@ int main(void)
     sleep_or_not();
     keep_files();
     tell_others();
+    lie();
+    miss();
+    follow();
     printf("what a ring looks out for: it is as written\n");
     return 0;
 }

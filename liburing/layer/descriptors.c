@@ -236,11 +236,12 @@ void call_by(struct ring *ring, int fd)
  * unlocking, by who looks again, if it can be posted. What has to wait for a drain is posted behind that. */
 __attribute__((noinline)) static void visit_with_messages(struct ring *ring, int fd)
 {
-    bool is_left = false;
-    while (!is_left && has_messages(ring) && pthread_mutex_trylock(&ring->lock) == 0) {
+    bool looks_again = true;
+    while (looks_again && has_messages(ring) && pthread_mutex_trylock(&ring->lock) == 0) {
         call_by(ring, fd);
         post_messages(ring);
-        is_left = has_messages(ring) && !can_post_extra(ring);
+        bool is_any = has_messages(ring);
+        looks_again = wulgach_looks_again(is_any, is_any && can_post_extra(ring));
         do_duties_behind_posting(ring);
         wake_sleepers(ring);
         pthread_mutex_unlock(&ring->lock);

@@ -95,8 +95,7 @@ void delist(struct ring *ring, struct request *request)
 /* Whether a request is to become dormant. */
 static bool is_to_lie(const struct ring *ring, const struct request *request)
 {
-    bool is_silent = wulgach_waiter_sighting(&request->waiter, &ring->lookout) == WULGACH_SIGHTING_UNREADY;
-    return is_silent && !request->is_unlisted && wulgach_waits_for_descriptor_alone(&request->standing, &request->needs, &request->course);
+    return wulgach_waiter_lies_down(&request->waiter, &ring->lookout, request->is_unlisted, &request->standing, &request->needs, &request->course);
 }
 
 /* Has the instance tell of one, which keeps its file from now on. False: it is looked at for ever. */
@@ -176,28 +175,28 @@ static void rouse_all(struct ring *ring)
         rouse(ring, ring->requests.rows[i]);
 }
 
-/* The descriptor of a request is ready, or was that of one that has ended. A thread that sleeps doesn't know of it. */
+/* The descriptor of a request is ready, or was that of one that has ended. */
 static void rouse_told(struct ring *ring, uint64_t number)
 {
     struct request *request = request_or_none(&ring->requests, number);
     if (!request || !request->is_dormant)
         return;
     bring_back(ring, request);
-    note_look(ring, request, true);
-    wulgach_lookout_changes(&ring->lookout);
+    wulgach_waiter_is_told_ready(&request->waiter, &ring->lookout);
 }
 
 __attribute__((noinline)) static void ask_instance(struct ring *ring)
 {
     struct epoll_event events[MOST_TOLD];
-    int count;
+    uint32_t answer;
     wulgach_waiter_sees(&ring->dormant.asked, &ring->lookout, false);
     do {
-        count = epoll_wait(ring->dormant.instance, events, MOST_TOLD, 0);
+        int count = epoll_wait(ring->dormant.instance, events, MOST_TOLD, 0);
         for (int i = 0; i < count; i++)
             rouse_told(ring, events[i].data.u64);
-    } while (count == MOST_TOLD);
-    if (count < 0)
+        answer = wulgach_instance_answered(count, MOST_TOLD);
+    } while (answer == WULGACH_INSTANCE_ASKS);
+    if (answer == WULGACH_INSTANCE_ROUSES)
         rouse_all(ring);
 }
 

@@ -142,11 +142,18 @@ static struct message *take_message(struct inbox *inbox)
     return message;
 }
 
+/* Whether there is a message that is posted now. */
+static bool posts_message(struct ring *ring)
+{
+    bool is_any = has_messages(ring);
+    return wulgach_posts_message(is_any, is_any && can_post_extra(ring));
+}
+
 /* (mostly there are none, which is found without a call) */
 __attribute__((noinline)) static void post_waiting(struct ring *ring)
 {
     struct message *message;
-    while (has_messages(ring) && can_post_extra(ring) && (message = take_message(&ring->inbox))) {
+    while (posts_message(ring) && (message = take_message(&ring->inbox))) {
         post(ring, 0, true, message->user_data, message->res, message->flags);
         free(message);
     }
@@ -196,8 +203,10 @@ static struct ring *find_receiver(struct ring *ring, const struct io_uring_sqe *
 /* Puts a registered file into the other ring's table. */
 static int32_t send_file(struct ring *ring, struct ring *target, const struct io_uring_sqe *entry)
 {
-    struct file *file = use_file(ring, (uint32_t)entry->addr3);
-    int32_t slot = file ? pass_file(target, file, entry->file_index) : wulgach_missing_fault(WULGACH_NO_FILE);
+    struct wulgach_passed passed;
+    wulgach_passed_of(submission_of(entry), &passed);
+    struct file *file = use_file(ring, passed.slot);
+    int32_t slot = file ? pass_file(target, file, passed.to) : wulgach_missing_fault(WULGACH_NO_FILE);
     release_file(file);
     return slot;
 }

@@ -128,24 +128,50 @@ static void finish_running(struct ring *ring, struct request *request)
     end_of(ring, request, res, told);
 }
 
+static void do_start_duty(struct ring *ring, struct request *request, enum wulgach_start_duty duty)
+{
+    switch (duty) {
+    case WULGACH_START_FINDS_EARLIER:
+        assign_before(ring, request->number);
+        return;
+    case WULGACH_START_FINDS_OWN:
+        assign(ring, request);
+        return;
+    case WULGACH_START_BEGINS_TIMEOUT:
+        note_started(ring, request);
+        return;
+    case WULGACH_START_POLLS:
+        request->started = start_poll(request);
+        return;
+    case WULGACH_START_NOTES:
+        note_running(ring, request);
+        return;
+    case WULGACH_START_LOOKS:
+        look_at(ring, request);
+        return;
+    case WULGACH_START_SEEKS:
+        finds_buffer(ring, request);
+        return;
+    }
+    __builtin_unreachable();
+}
+
+/* Does what is in a set, by rising bits. */
+static void do_start_duties(struct ring *ring, struct request *request, uint32_t duties)
+{
+    for (; duties; duties &= duties - 1)
+        do_start_duty(ring, request, (enum wulgach_start_duty)__builtin_ctz(duties));
+}
+
 /* The core let a request start. */
 static void start(struct ring *ring, struct request *request)
 {
     demand(wulgach_course_start(&request->course), "a request starts twice");
     request->begun = ++ring->begun;
     wulgach_lookout_starts(&ring->lookout, insert_request(&ring->running, request));
-    assign_before(ring, request->number);
-    if (!request->is_assigned)
-        assign(ring, request);
+    do_start_duties(ring, request, wulgach_duties_at_start(request->is_assigned));
     log_start(ring, request);
-    note_started(ring, request);
-    if (wulgach_starts_poll(&request->needs, request->started))
-        request->started = start_poll(request);
-    note_running(ring, request);
-    if (wulgach_polls(&request->standing))
-        look_at(ring, request);
-    if (wulgach_seeks_buffer_at_start(&request->standing, &request->needs))
-        finds_buffer(ring, request);
+    do_start_duties(ring, request, wulgach_duties_once_found(&request->standing, &request->needs, request->started));
 }
 
 /* Issues a request that can be issued. True if it has started: else it has ended without being carried out. */

@@ -55,6 +55,11 @@ static nfds_t join_streams(struct pollfd *streams, nfds_t count)
     return kept;
 }
 
+bool sleeps_on_instance(const struct ring *ring)
+{
+    return wulgach_polls_instance(ring->dormant.instance >= 0, ring->dormant.count, false);
+}
+
 /* Lists the descriptors of the running requests that wait for streams, each once. */
 static nfds_t list_streams(const struct ring *ring, struct pollfd *streams)
 {
@@ -65,7 +70,7 @@ static nfds_t list_streams(const struct ring *ring, struct pollfd *streams)
             streams[count++] = poll_of(request);
     }
     count = join_streams(streams, count);
-    if (ring->dormant.count > 0)
+    if (sleeps_on_instance(ring))
         streams[count++] = (struct pollfd){.fd = ring->dormant.instance, .events = POLLIN};
     return count;
 }
@@ -78,16 +83,16 @@ static int poll_unlocked(struct ring *ring, struct sleeper *self, nfds_t count, 
     pthread_mutex_unlock(&ring->lock);
     /* A message that came before that is posted, and wakes this thread. */
     visit_ring(ring, fd);
-    int result = ppoll(self->polled, count, limit->is_set ? &time : NULL, signals);
-    if (result < 0)
-        result = -errno;
+    int came = ppoll(self->polled, count, limit->is_set ? &time : NULL, signals);
+    if (came < 0)
+        came = -errno;
     leave_inner_sleeps(self);
     ring->is_parents = ring->process != this_process();
-    if (ring->is_parents)
-        return -EINTR;
-    pthread_mutex_lock(&ring->lock);
-    call_by(ring, fd);
-    return result;
+    if (!ring->is_parents) {
+        pthread_mutex_lock(&ring->lock);
+        call_by(ring, fd);
+    }
+    return wulgach_slept_result(came, ring->is_parents);
 }
 
 /* (it has a frame of its own, below that of the call: by this a sleep that was left is known) */

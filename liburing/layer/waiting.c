@@ -26,7 +26,7 @@ static void fire(struct ring *ring, const struct wulgach_timeout *timeout)
 /* Whether a request runs for whose descriptor a sleep polls. */
 static bool is_streaming(const struct ring *ring)
 {
-    if (ring->dormant.count > 0)
+    if (sleeps_on_instance(ring))
         return true;
     for (size_t i = 0; i < ring->running.count; i++)
         if (wulgach_polls(&ring->running.rows[i]->standing))

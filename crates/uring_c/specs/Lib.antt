@@ -13,3 +13,5 @@ pub mod SleepForm
 pub mod MeansForm
 pub mod PinningForm
 pub mod UnknownForm
+pub mod FollowingForm
+pub mod PassageForm

@@ -7,7 +7,7 @@ ghost use Rattle.uring_c.specs.DutyForm.{word_of_duties};
 use uring_enter::{
     Duties, Resting, duties_at_begin, duties_at_register_begin, duties_at_register_return,
     duties_at_rest, duties_at_return, duties_before, duties_before_posting, duties_before_sleep,
-    duties_behind_posting, polls_writes,
+    duties_behind_posting, polls_instance, polls_writes,
 };
 use uring_register::may_post;
 
@@ -116,7 +116,8 @@ fn duties_word(duties: Duties) -> u32
         | bit(512, duties.shows_flags)
 }
 
-fn bit(weight: u32, is_due: bool) -> u32
+/// A bit of a set, or 0.
+pub(crate) fn bit(weight: u32, is_due: bool) -> u32
     ensures { result ≡ (if is_due then weight else 0) }
 {
     if is_due { weight } else { 0 }
@@ -128,4 +129,16 @@ pub extern "C" fn wulgach_polls_writes(watched: u64) -> bool
     ensures { result ≡ spec.polls_writes watched }
 {
     polls_writes(watched)
+}
+
+/// Whether the epoll instance that tells of dormant requests is polled for, by a call that sleeps or by the ring's own descriptor.
+#[unsafe(no_mangle)]
+pub extern "C" fn wulgach_polls_instance(
+    has_instance: bool,
+    dormant: u64,
+    is_own_descriptor: bool,
+) -> bool
+    ensures { result ≡ spec.polls_instance has_instance dormant is_own_descriptor }
+{
+    polls_instance(has_instance, dormant, is_own_descriptor)
 }

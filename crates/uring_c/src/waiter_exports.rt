@@ -3,16 +3,12 @@ ghost use Rattle.std.specs.Prelude.{◌≡◌, ◌+◌, ◌<◌, ◌^◌, not, �
 ghost use Rattle.uring_enter.specs.declared.act.Fact.{Fact};
 ghost use Rattle.uring_enter.specs.Courses.{KeepsCourse, is_cancelled};
 ghost use Rattle.uring_enter.specs.Lookouts.{Happening, Waited, Told, KeepsLookout, moments, rounds};
-ghost use Rattle.uring_enter.specs.Readiness as ready;
 ghost use Rattle.uring_enter.specs.Waiters.{Encounter, WouldWait, WasCancelled, WasUpdated, WasSeen, HeardWrite, MissedWrite, Took, KeepsWaiter, around};
 ghost use Rattle.uring_enter.specs.Waiters as waiters;
 ghost use Rattle.uring_crossing.specs.WaitForm.{word_of_look, word_of_sighting, behind_look};
 
 use uring_crossing::wait_words::{look_word, sighting_word};
-use uring_enter::{
-    Course, Lookout, Moment, Needs, PipePoll, Standing, Waiter, seeks_buffer_at_start, starts_poll,
-    waits_for_descriptor_alone,
-};
+use uring_enter::{Course, Lookout, Moment, Needs, PipePoll, Standing, Waiter};
 
 /// Begins a request that has started just now.
 #[unsafe(no_mangle)]
@@ -135,33 +131,4 @@ pub extern "C" fn wulgach_waiter_sighting(waiter: &Waiter, lookout: &Lookout) ->
         → result ≡ word_of_sighting (waiters.sighting_of log) }
 {
     sighting_word(waiter.sighting(lookout))
-}
-
-/// Whether a request that runs waits for its descriptor alone, so that it needn't be looked at until that is ready.
-#[unsafe(no_mangle)]
-pub extern "C" fn wulgach_waits_for_descriptor_alone(
-    standing: &Standing,
-    needs: &Needs,
-    course: &Course,
-) -> bool
-    ensures { (log : List Fact) → KeepsCourse log course.now
-        → result ≡ ready.waits_for_descriptor_alone standing.now needs.now (is_cancelled log) }
-{
-    waits_for_descriptor_alone(standing, needs, course)
-}
-
-/// Whether a request asks for its events as it starts.
-#[unsafe(no_mangle)]
-pub extern "C" fn wulgach_starts_poll(needs: &Needs, fault: i32) -> bool
-    ensures { result ≡ ready.starts_poll needs.now fault }
-{
-    starts_poll(needs, fault)
-}
-
-/// Whether a provided buffer is looked for as a request starts.
-#[unsafe(no_mangle)]
-pub extern "C" fn wulgach_seeks_buffer_at_start(standing: &Standing, needs: &Needs) -> bool
-    ensures { result ≡ ready.seeks_buffer_at_start standing.now needs.now }
-{
-    seeks_buffer_at_start(standing, needs)
 }

@@ -115,6 +115,11 @@ before code has_ends = record before_posting { shows_ends = has_ends && not (cod
 abbrev pub polls_writes : ℕ → Bool
 polls_writes watched = nat_lt 0 watched
 
+-- whether the epoll instance that tells of dormant requests is polled for, if there is one: by a call that sleeps while any are dormant, since what it tells of others wakes none; by the ring's own descriptor as long as there is one, so that a request which waits for the ring itself is refused by the instance
+abbrev pub polls_instance : (has_instance : Bool) → (dormant : ℕ) → (is_own_descriptor : Bool) → Bool
+polls_instance has_instance dormant is_own_descriptor =
+    has_instance && (is_own_descriptor || nat_lt 0 dormant)
+
 -- whether one that is due at a moment comes before another
 abbrev pub comes_before : Duties → Duty → Duty → Bool
 comes_before d first second = is_due d first && is_due d second && nat_lt (place first) (place second)

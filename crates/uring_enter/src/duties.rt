@@ -187,6 +187,13 @@ pub fn polls_writes(watched: u64) -> bool
     watched > 0
 }
 
+/// Whether the epoll instance that tells of dormant requests is polled for, by a call that sleeps or by the ring's own descriptor.
+pub fn polls_instance(has_instance: bool, dormant: u64, is_own_descriptor: bool) -> bool
+    ensures { result ≡ spec.polls_instance has_instance dormant is_own_descriptor }
+{
+    has_instance && (is_own_descriptor || dormant > 0)
+}
+
 /// The flags are shown behind all else that a call does as it returns.
 pub fn shows_at_last()
     ensures { ShowsAtLast }
