@@ -262,6 +262,22 @@ uint64_t wulgach_eventfd_added(const struct wulgach_eventfd *eventfd, uint32_t c
 /* What a thread's 16 rows hold are words of the caller's: 0 in a free one. `count` is how many words there are, 16 at least. */
 void wulgach_enrolled_begin(uint64_t *words, size_t count);
 
+/* What is done by a row of a list that gives a ring a number. */
+enum wulgach_enrolling {
+    WULGACH_ENROLLING_READS = 0,    /* it is read, */
+    WULGACH_ENROLLING_JUDGES = 1,   /* it is looked at, and at the descriptor that it names, */
+    WULGACH_ENROLLING_PLACES = 2,   /* a number is looked for that is free, */
+    WULGACH_ENROLLING_FILLS = 3,    /* the ring gets it, */
+    WULGACH_ENROLLING_TELLS = 4,    /* and it is told in the row */
+    WULGACH_ENROLLING_FAILS = 5,    /* it fails with what the last came to, */
+    WULGACH_ENROLLING_EMPTIES = 6,  /* and the ring loses its number again */
+    WULGACH_ENROLLING_IS_DONE = 7,
+    WULGACH_ENROLLING_BEGINS = 8
+};
+
+/* Returns what is done behind this (enum wulgach_enrolling), which came to `res`: BEGINS, and 0, at first. The first fault ends it. */
+uint32_t wulgach_enrolling_next(uint32_t last, int32_t res);
+
 /* The fault of enrolling a ring, before a row is looked for, or 0: -22 of a reserved field, and of a number past the last, unless any is
  * asked for (2^32 - 1); -9 of a descriptor that isn't open, -95 of what is no ring. */
 int32_t wulgach_enrolling_fault(uint32_t asked, bool has_reserved, bool is_open, bool is_ring);

@@ -149,6 +149,14 @@ static int32_t buffer_row(uint64_t from, uint64_t size, uint64_t tag)
     return row == WULGACH_ROW_REFUSED ? fault : (int32_t)row;
 }
 
+static void give_numbers(void)
+{
+    uint32_t next = WULGACH_ENROLLING_BEGINS;
+    for (uint32_t stage = WULGACH_ENROLLING_READS; stage <= WULGACH_ENROLLING_TELLS; stage++)
+        demand((next = wulgach_enrolling_next(next, 0)) == stage && wulgach_enrolling_next(stage, -14) == (stage == WULGACH_ENROLLING_TELLS ? WULGACH_ENROLLING_EMPTIES : WULGACH_ENROLLING_FAILS), "a number's stages");
+    demand(wulgach_enrolling_next(WULGACH_ENROLLING_TELLS, 0) == WULGACH_ENROLLING_IS_DONE, "a number is given");
+}
+
 static void read_structures(void)
 {
     struct wulgach_content content = {.nr = 99, .flags = 99, .has_reserved = true};
@@ -177,6 +185,7 @@ static void go_by_steps(void)
 static void look_at_rows(void)
 {
     read_structures();
+    give_numbers();
     go_by_steps();
     demand(file_row(0, 1, false) == WULGACH_ROW_FILLS && file_row(-1, 0, false) == WULGACH_ROW_EMPTIES && file_row(-1, 1, true) == -22, "files");
     demand(wulgach_row_steps(WULGACH_ROW_FILLS, true) == 7 && wulgach_row_steps(WULGACH_ROW_FILLS, false) == 6 && wulgach_row_steps(WULGACH_ROW_EMPTIES, false) == 1 && wulgach_row_steps(WULGACH_ROW_KEEPS, true) == 0 && wulgach_row_steps(WULGACH_ROW_REFUSED, true) == 0, "what is done with a slot");

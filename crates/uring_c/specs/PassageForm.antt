@@ -1,9 +1,13 @@
--- In which order a call is refused, what is found of a descriptor, what an epoll instance's answer makes of who asks it, and what of a pipe is gone, in words that C can read.
+-- In which order a call is refused and a ring gets a number, what is found of a descriptor, what an epoll instance's answer makes of who asks it, and what of a pipe is gone, in words that C can read.
 use Rattle.std.specs.Prelude.{ℕ, ℤ, pos, Option, Some, None, ◌==◌, if◌then◌else◌}
 use Rattle.uring_enter.specs.declared.passage.Check.{Check}
 use Rattle.uring_enter.specs.declared.passage.Check.TheVariants.{Number, Descriptor, Counts, Caller, Argument}
 use Rattle.uring_enter.specs.declared.passage.Passage.{Passage}
 use Rattle.uring_enter.specs.declared.passage.Passage.TheVariants.{Checks, IsRefused, Passes}
+use Rattle.uring_register.specs.declared.numbering.RowStage.{RowStage}
+use Rattle.uring_register.specs.declared.numbering.RowStage.TheVariants as stage
+use Rattle.uring_register.specs.declared.numbering.RowOnto.{RowOnto}
+use Rattle.uring_register.specs.declared.numbering.RowOnto.TheVariants as row
 use Rattle.uring_enter.specs.declared.glance.Glance.{Glance}
 use Rattle.uring_enter.specs.declared.glance.Glance.TheVariants as glance
 use Rattle.uring_enter.specs.declared.lying.Answered.{Answered}
@@ -29,6 +33,26 @@ check_of word =
     if word == 2 then Some Counts else
     if word == 3 then Some Caller else
     if word == 4 then Some Argument else None
+
+-- what is done by a row that gives a ring a number counts in the order of `RowStage`, from 0; then that it fails, that the number is lost and that it is done. Our own rule
+abbrev pub word_of_row : RowOnto → ℕ
+word_of_row (row.Does stage.Reads) = 0
+word_of_row (row.Does stage.Judges) = 1
+word_of_row (row.Does stage.Places) = 2
+word_of_row (row.Does stage.Fills) = 3
+word_of_row (row.Does stage.Tells) = 4
+word_of_row (row.Fails _) = 5
+word_of_row (row.Empties _) = 6
+word_of_row row.IsDone = 7
+
+-- what it has done, by that word; None: nothing
+abbrev pub row_stage_of : ℕ → Option RowStage
+row_stage_of word =
+    if word == 0 then Some stage.Reads else
+    if word == 1 then Some stage.Judges else
+    if word == 2 then Some stage.Places else
+    if word == 3 then Some stage.Fills else
+    if word == 4 then Some stage.Tells else None
 
 -- kinds count in the order of `Glance`, from 0. Our own rule
 abbrev pub word_of_glance : Glance → ℕ

@@ -18,3 +18,4 @@ pub mod Provided
 pub mod ProvidedLaws
 pub mod Stepping
 pub mod Structures
+pub mod Numbering
