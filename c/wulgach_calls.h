@@ -110,10 +110,22 @@ bool wulgach_can_have(uint8_t code, bool is_stream, uint64_t length, uint32_t fa
  * bytes, or there is no such fault. */
 bool wulgach_given_result(uint32_t fault, int32_t *res);
 
+/* Of what kind a file is. */
+struct wulgach_synced_kind {
+    bool is_regular;    /* a regular one */
+    bool is_folder;
+};
+
+/* Whether an fsync(2) or fdatasync(2) of a descriptor that is this is taken for done, and isn't made, by whoever needn't wait for the disk: of a regular
+ * file or a folder that counts as open by its number. Our own rule. */
+bool wulgach_counts_as_synced(const struct wulgach_openness *openness, const struct wulgach_synced_kind *kind);
+
 /* Whether SIGXFSZ may have come of an operation that ended with this: of a write, FALLOCATE or SPLICE, with -27 (EFBIG). In a kernel a worker of
- * its own has the signal, and the program gets none. And whether a signal that was taken is the call's, by its code (si_code), and by whether
- * this process is told as its sender (si_pid): another is to be pending again. */
+ * its own has the signal, and the program gets none. Whether it may have come at all, where this is the greatest length that the process may give
+ * a file (getrlimit(2), RLIMIT_FSIZE), if that is known: unless it is 2^64 - 1 (RLIM_INFINITY), or isn't known. And whether a signal that was taken
+ * is the call's, by its code (si_code), and by whether this process is told as its sender (si_pid): another is to be pending again. */
 bool wulgach_may_signal(const struct wulgach_submission *entry, int32_t res);
+bool wulgach_is_limited(bool knows, uint64_t most);
 bool wulgach_is_signal_of_call(int32_t code, bool is_own);
 
 #ifdef __cplusplus

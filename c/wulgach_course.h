@@ -72,14 +72,29 @@ bool wulgach_course_begins_afresh(const struct wulgach_course *course);
 enum wulgach_awaited {
     WULGACH_NOT_AWAITED = 0,
     WULGACH_AWAITED_RUNS = 1,   /* it does, and the request runs */
-    WULGACH_AWAITED_WAITS = 2   /* it does, and the request hasn't started: it starts first */
+    WULGACH_AWAITED_WAITS = 2,  /* it does, and the request hasn't started: it starts first */
+    WULGACH_WRONG_TURN = 3      /* it isn't this one's turn */
 };
 
-/* Returns which (enum wulgach_awaited): it waits for each that a cancel has found and that hasn't ended, if it runs, or the core lets it
- * start. */
-uint32_t wulgach_course_awaited(const struct wulgach_course *course, bool may_start);
+/* How far such a cancel has come with the requests that it may wait for. The fields are the library's. */
+struct wulgach_awaiting {
+    uint64_t from;      /* those with this number and with greater ones weren't looked at */
+    bool is_awaited;    /* the one that was looked at last is waited for, and hasn't ended */
+};
 
-/* Whether it matters to that whether the core lets the request start. */
+/* Begins a cancel that has looked at none. */
+void wulgach_awaiting_begin(struct wulgach_awaiting *awaiting);
+
+/* Looks at the next request that hasn't ended, which has this number and which the core lets start or doesn't, and returns whether the cancel
+ * waits for it (enum wulgach_awaited): it waits for each that a cancel has found, if it runs, or the core lets it start. Requests are looked at
+ * by rising numbers, and one that is waited for ends before another is: so they end in the order in which they were accepted, which is our own
+ * rule. At any other WULGACH_WRONG_TURN is returned, and nothing changes. */
+uint32_t wulgach_awaiting_sees(struct wulgach_awaiting *awaiting, uint64_t number, const struct wulgach_course *course, bool may_start);
+
+/* The one that was looked at last, and is waited for, has ended. */
+void wulgach_awaiting_ends(struct wulgach_awaiting *awaiting);
+
+/* Whether it matters to such a cancel whether the core lets the request start. */
 bool wulgach_course_asks_start(const struct wulgach_course *course);
 
 /* ---- what is shown of an end ---- */
@@ -133,6 +148,11 @@ enum wulgach_part {
 /* The flags of a completion, where those of a provided buffer that was taken are `of_buffer`, or 0: IORING_CQE_F_MORE where another of the
  * same request follows, and IORING_CQE_F_NOTIF. */
 uint32_t wulgach_completion_flags(uint32_t part, uint32_t of_buffer);
+
+/* Returns what the end of a send without copies tells of (enum wulgach_part) that has two completions, where the other one was posted before
+ * (WULGACH_PART_NOTICE), or is put off since memory was refused for it (WULGACH_PART_SENT): then the other is the notice. So the application
+ * sees the notice behind what was sent, whatever is put off. */
+uint32_t wulgach_end_of_send(bool is_posted);
 
 /* A request that the core has ended by itself. */
 struct wulgach_ended_early {

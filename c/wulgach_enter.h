@@ -138,7 +138,8 @@ enum wulgach_duty {
     WULGACH_SHOWS_ENDS = 6,         /* what has ended is shown */
     WULGACH_TELLS_READINESS = 7,    /* the ring's descriptor tells whether it is readable */
     WULGACH_HEARS_APPLICATION = 8,  /* what the application has reaped is heard */
-    WULGACH_SHOWS_FLAGS = 9         /* the word of flags says whether a call may bring something */
+    WULGACH_SHOWS_FLAGS = 9,        /* the word of flags says whether a call may bring something */
+    WULGACH_TELLS_EVENTFD = 10      /* the registered eventfd is told of what was shown */
 };
 
 /* What a call does as it begins, or has slept: it looks afresh; and where time is real, time passes as it begins. */
@@ -179,16 +180,20 @@ uint32_t wulgach_duties_at_register_return(uint32_t code, const struct wulgach_r
 uint32_t wulgach_duties_before_posting(void);
 uint32_t wulgach_duties_behind_posting(bool has_ends, bool is_polled);
 
+/* What is done behind completions that were stored into ring memory with their tail, of so many of which a registered eventfd is told
+ * (wulgach_tells): the flags are shown, and then it is told, if of any. So whoever is woken by it sees the flags. */
+uint32_t wulgach_duties_behind_storing(uint64_t told);
+
 /* What it does before the operation of this code is carried out: what has ended and isn't shown is, but before a no-op, and the application is
  * heard. */
 uint32_t wulgach_duties_before(uint8_t code, bool has_ends);
 
+/* Whether a sleep polls the epoll instance that tells of those that are dormant, of which there are so many: there are any. Then the call waits for
+ * descriptors. */
+bool wulgach_polls_instance(uint64_t dormant);
+
 /* Whether a sleep polls what tells of writes to pipes, of which so many are watched: there are any. */
 bool wulgach_polls_writes(uint64_t watched);
-
-/* Whether the epoll instance that tells of dormant requests is polled for, if there is one: by a call that sleeps while so many are dormant, one at
- * least; by the ring's own descriptor always. */
-bool wulgach_polls_instance(bool has_instance, uint64_t dormant, bool is_own_descriptor);
 
 /* ---- its last arguments ---- */
 

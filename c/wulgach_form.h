@@ -72,6 +72,13 @@ enum wulgach_form {
  * What the entry points to isn't looked at. */
 uint32_t wulgach_form_of(const struct wulgach_submission *entry, int32_t refusal, bool is_allowed, int32_t *fault);
 
+/* Whether what an entry points to is copied that is this (enum wulgach_form): of one with a fault nothing is, so it ends with that. */
+bool wulgach_copies_pieces(uint32_t form);
+
+/* Whether what copying what an entry points to came to is a fault of the entry's own, with which it is refused: an error, but -12 (ENOMEM). Then memory
+ * was refused to whoever copies it, and the call ends before the entry: our own rule. */
+bool wulgach_is_own_fault(int32_t fault);
+
 /* Returns what an entry is that was this before (enum wulgach_form), once what it points to is copied with this fault, or 0: one with a fault
  * is refused, and another stays what it was. */
 uint32_t wulgach_form_copied(uint32_t was, int32_t fault);
@@ -231,6 +238,10 @@ struct wulgach_message {
     uint32_t flags;
 };
 
+/* Whether the file that the entry of a message names may be a ring's: one that IOSQE_FIXED_FILE names never is, since a ring's can't be
+ * registered (io_uring_register(2), IORING_REGISTER_FILES). */
+bool wulgach_may_be_ring(const struct wulgach_submission *entry);
+
 /* Returns what a message to this ring does (enum wulgach_sending), and writes its error, or 0. The first of these counts: -9 (EBADF) to what
  * isn't open; -77 (EBADFD) to what is no ring; -22 (EINVAL) of data with what belongs to files (`addr3`, IORING_MSG_RING_CQE_SKIP, and
  * without IORING_MSG_RING_FLAGS_PASS `file_index`), of a file with a length or to the sender itself, and of what is neither; -77 to a ring
@@ -240,6 +251,11 @@ uint32_t wulgach_sending_of(const struct wulgach_submission *entry, const struct
 /* Writes what the other ring is told where a message does what it does with this result (a file's is its slot, 0, or an error): its data, or
  * that result. False: nothing, of what has failed or has IORING_MSG_RING_CQE_SKIP. */
 bool wulgach_told_of(const struct wulgach_submission *entry, int32_t res, struct wulgach_message *message);
+
+/* Whether a message that a ring was sent is posted now, where there is one and a completion may be posted, or may not: by whoever is in a call on the
+ * ring, before anything goes on there; and by who has left such a call or has sent a message, as long as there are others and nobody is in one. Our own
+ * rule. */
+bool wulgach_posts_message(bool is_there, bool may_post);
 
 /* What the sender of a message does behind it. */
 enum wulgach_visit {
@@ -251,12 +267,6 @@ enum wulgach_visit {
 /* Returns what the sender of a message to this ring does behind one that has come to this result (enum wulgach_visit): of one that failed
  * nothing. */
 uint32_t wulgach_visit_of(const struct wulgach_receiver *to, int32_t res);
-
-/* Whether the oldest message that other rings have left is posted, if there is one: a completion may be posted that belongs to no end of a request. */
-bool wulgach_posts_message(bool has_messages, bool may_post);
-
-/* Whether who has posted messages, and gives the ring up, looks once more for those that come meanwhile: unless one is left that has to wait. */
-bool wulgach_looks_again(bool has_messages, bool may_post);
 
 /* Whether an index word names a slot of a table of so many entries: the one of that number. Else it is dropped. */
 bool wulgach_names_slot(uint32_t word, uint32_t entries);

@@ -104,6 +104,30 @@ void wulgach_waiter_begin(struct wulgach_waiter *waiter);
  * take a provided buffer and has found none. */
 uint32_t wulgach_can_finish(struct wulgach_waiter *waiter, const struct wulgach_lookout *lookout, const struct wulgach_standing *standing, const struct wulgach_needs *needs, const struct wulgach_course *course, const struct wulgach_moment *known);
 
+/* What is to be done as a request starts, in the order in which it is done: a set of these has the bit 1 << STEP of each, and they are done by rising
+ * bits. The order is our own rule: a kernel does all of it in the moment in which it begins the request. */
+enum wulgach_step_of_start {
+    WULGACH_FINDS_EARLIER = 0,  /* those that were accepted before it find their files whose turn to do so hasn't come */
+    WULGACH_FINDS_OWN = 1,      /* it finds its own files */
+    WULGACH_BEGINS_TIME = 2,    /* the time of a timeout begins that runs from this start on (wulgach_timing_behind_start) */
+    WULGACH_ASKS_EVENTS = 3,    /* a poll asks for its events */
+    WULGACH_LOOKS = 4,          /* its descriptor is looked at */
+    WULGACH_SEEKS_BUFFER = 5    /* a provided buffer is looked for */
+};
+
+/* As the core has let a request start, whose files were looked for before or weren't: those before it find theirs, it finds its own, and time begins. */
+uint32_t wulgach_steps_at_start(bool is_sought);
+
+/* Behind that, where its files were found without a fault, 0, or with this one: a poll asks for its events, unless it has failed; the descriptor of one
+ * that may have to wait is looked at; and so is its group, if it is to take a provided buffer. Another looks for one as it is carried out. */
+uint32_t wulgach_steps_behind_files(const struct wulgach_standing *standing, const struct wulgach_needs *needs, int32_t fault);
+
+/* Whether a request that runs becomes dormant, so that an epoll instance tells of it in the place of a look in each call: its descriptor was found
+ * unready, the instance hasn't refused it, and it waits for that descriptor alone. So does one that may have to wait for it and for no second one,
+ * is no timeout, takes no provided buffer or has found one, and that no cancel has found: it can't be finished while its descriptor isn't ready, so
+ * it needn't be asked meanwhile. Our own rule. */
+bool wulgach_lies_down(const struct wulgach_standing *standing, const struct wulgach_needs *needs, const struct wulgach_course *course, bool is_unready, bool is_refused);
+
 /* It was carried out, and would have waited. */
 void wulgach_waiter_waits(struct wulgach_waiter *waiter, struct wulgach_lookout *lookout);
 
@@ -150,12 +174,7 @@ enum wulgach_glance {
  * wulgach_counts_as_ready has it. */
 uint32_t wulgach_glance_of(bool is_impatient, bool is_of_many, int32_t came, uint16_t events);
 
-/* ---- which requests are dormant ---- */
-
-/* Whether a request becomes dormant, of which an epoll instance tells, if that takes its descriptor, and hasn't refused it before: it was seen unready,
- * and waits for its descriptor alone, since it may have to wait for that and for no second one, is no timeout, takes no provided buffer or has found one, and no cancel
- * has found it. It can't be finished while its descriptor isn't ready, so it needn't be asked meanwhile. */
-bool wulgach_waiter_lies_down(const struct wulgach_waiter *waiter, const struct wulgach_lookout *lookout, bool is_refused, const struct wulgach_standing *standing, const struct wulgach_needs *needs, const struct wulgach_course *course);
+/* ---- what an instance tells of those that are dormant ---- */
 
 /* The instance has told that its descriptor is ready, by which it is dormant no more: it counts as seen ready, and threads that sleep are woken. */
 void wulgach_waiter_is_told_ready(struct wulgach_waiter *waiter, struct wulgach_lookout *lookout);
@@ -184,7 +203,7 @@ enum wulgach_gone {
 /* Returns whether what a poll has heard of is gone (enum wulgach_gone), where it is known whether its pipe has something, or isn't. */
 uint32_t wulgach_waiter_gone(const struct wulgach_waiter *waiter, bool knows, bool is_there);
 
-/* ---- what an end and a start make of others ---- */
+/* ---- what an end makes of others ---- */
 
 /* What is done behind the end of a request: a set of these has the bit 1 << DUTY of each, and they are done by rising bits. */
 enum wulgach_end_duty {
@@ -203,23 +222,6 @@ enum wulgach_end_duty {
 /* That set, for a request which keeps a file or none, has an epoll instance or none, may have had to wait for its descriptor, and drains or doesn't. */
 uint32_t wulgach_duties_behind_end(bool has_file, bool has_instance, bool is_stream, bool is_draining);
 
-/* What is done as the core lets a request start: likewise. */
-enum wulgach_start_duty {
-    WULGACH_START_FINDS_EARLIER = 0,    /* those before it find their files whose turn to do so hasn't come, */
-    WULGACH_START_FINDS_OWN = 1,        /* and it does */
-    WULGACH_START_BEGINS_TIMEOUT = 2,   /* the timeout begins that it is, or that limits it */
-    WULGACH_START_POLLS = 3,            /* a poll asks for its events */
-    WULGACH_START_NOTES = 4,            /* it is noted whether it may have to wait */
-    WULGACH_START_LOOKS = 5,            /* its descriptor is looked at */
-    WULGACH_START_SEEKS = 6             /* a provided buffer is looked for */
-};
-
-/* What is done first, where it has found its files or hasn't; and once it has, with this fault or 0: a poll asks for its events, unless it has failed; the
- * descriptor is looked at for which it may have to wait; and such a one that is to take a provided buffer looks for it, which another does as it is
- * carried out. */
-uint32_t wulgach_duties_at_start(bool has_found);
-uint32_t wulgach_duties_once_found(const struct wulgach_standing *standing, const struct wulgach_needs *needs, int32_t fault);
-
 /* ---- files that are kept ---- */
 
 /* Whether a request keeps its file before a close is carried out: it was accepted before the close, and is on the descriptor that this closes. */
@@ -229,9 +231,16 @@ bool wulgach_keeps_before_close(uint64_t number, int32_t fd, uint64_t closing, i
  * names isn't open on the same file. */
 bool wulgach_may_close_last(bool has_file, bool is_of_slot, bool is_same);
 
-/* Whether a copy of a file's descriptor stays open that nobody needs: the process has locks on the file, which it would lose; where fewer than so
- * many stay already. */
-bool wulgach_stays_open(bool is_locked, uint64_t left, uint64_t most);
+/* Whether it is asked, as a copy of a file's descriptor is to be closed that nobody needs, if the process has locks on the file: of a regular one.
+ * Then it is asked of each copy that has stayed so far too. Our own rule. */
+bool wulgach_asks_locks(bool is_regular);
+
+/* How many such copies stay open at most. */
+enum { WULGACH_MOST_LEFT = 256 };
+
+/* Whether such a copy stays open, or one that has stayed so far, beside so many others: the process has locks on the file, which it would lose
+ * (fcntl(2)), and fewer than WULGACH_MOST_LEFT others stay. Our own rule. */
+bool wulgach_stays_open(bool is_locked, uint64_t others);
 
 /* ---- what others hear ---- */
 
@@ -239,8 +248,8 @@ bool wulgach_stays_open(bool is_locked, uint64_t left, uint64_t most);
 bool wulgach_counts_as_written(bool is_dropped, bool is_write, bool is_own);
 
 /* Whether whoever polls a ring's descriptor is told anew: that it is readable now, or isn't any more; or that more was posted while it was, where
- * another thread may wait for an edge. */
-bool wulgach_tells_anew(bool was_readable, bool is_readable, bool has_posted, bool may_have_others);
+ * somebody may wait for an edge. */
+bool wulgach_tells_anew(bool was_readable, bool is_readable, bool has_posted, bool may_wait_for_edges);
 
 #ifdef __cplusplus
 }

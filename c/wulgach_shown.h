@@ -12,7 +12,8 @@
 extern "C" {
 #endif
 
-/* Completions that were posted and aren't reaped, as far as is known. They have places, from 0 on, the oldest first. */
+/* Completions that were posted and aren't reaped, as far as is known. They have places, from 0 on, the oldest first. wulgach_shown_end of
+ * wulgach_course.h posts. */
 struct wulgach_shown {
     uint32_t head;      /* the completion ring's */
     uint32_t shown;     /* how many stand in their cells */
@@ -28,9 +29,6 @@ struct wulgach_store {
 
 /* Nothing was posted. */
 void wulgach_shown_begin(struct wulgach_shown *shown);
-
-/* A completion was posted. */
-void wulgach_shown_post(struct wulgach_shown *shown);
 
 /* Whether a tail shows no more than was posted. */
 bool wulgach_shown_takes(const struct wulgach_shown *shown, uint32_t tail);
@@ -53,9 +51,25 @@ bool wulgach_shown_overflows(const struct wulgach_shown *shown);
  * if they are asked for and there is room, else if any was reaped. */
 bool wulgach_shown_loads_head(const struct wulgach_shown *shown, uint32_t count, bool is_asked, uint32_t entries);
 
-/* Whether a ring's descriptor is readable, where this is the head that the application has stored: completions wait, in the ring or
- * outside it, or a call may bring something. */
-bool wulgach_shown_is_readable(const struct wulgach_shown *shown, uint32_t head, bool may_bring);
+/* What a call would bring, as far as it was asked. */
+struct wulgach_prospect {
+    bool knows_requests;
+    bool can_go_on;         /* a request can go on without waiting: it can be finished, or can start */
+    bool knows_time;
+    bool can_pass_time;     /* time can pass at once, so that a timeout ends */
+};
+
+/* Whether a ring's descriptor is readable, or what is to be asked. */
+enum wulgach_readable {
+    WULGACH_IS_NOT_READABLE = 0,
+    WULGACH_IS_READABLE = 1,
+    WULGACH_ASK_REQUESTS = 2,   /* whether a request can go on */
+    WULGACH_ASK_TIME = 3        /* whether time can pass */
+};
+
+/* Returns which (enum wulgach_readable), where this is the head that the application has stored: it is while completions wait, in the ring or
+ * outside it (io_uring(7)), or a call would bring something (our own rule). Nothing is asked twice, nor while completions wait. */
+uint32_t wulgach_shown_readable(const struct wulgach_shown *shown, uint32_t head, const struct wulgach_prospect *known);
 
 /* How many completions stand in the ring that the application hasn't reaped, by the head that it has stored: none, if that is past the
  * tail. */

@@ -216,9 +216,10 @@ enum wulgach_look {
  * its descriptor is. */
 bool wulgach_polls(const struct wulgach_standing *standing);
 
-/* Whether a request that runs is given a descriptor of its own behind the call, since the application may close its: it may have to wait,
- * and no registered file and no epoll instance keeps its file open. */
-bool wulgach_keeps_open(const struct wulgach_standing *standing, bool has_registered, bool has_epoll);
+/* Whether a request is to be given a descriptor of its own, from the end of a call on or before a close, since the application may close its: it
+ * may have to wait; or its file was looked for (`is_sought`), with no fault (0), and is named by a number and not by a slot. Who has a file
+ * that is kept for it (`has_file`) needs no other. Our own rule: a kernel's request has its file from the moment in which it finds that. */
+bool wulgach_keeps_open(const struct wulgach_standing *standing, const struct wulgach_needs *needs, bool is_sought, int32_t fault, bool has_file);
 
 /* For what a splice or a tee is polled. */
 struct wulgach_splice_poll {
@@ -248,11 +249,12 @@ enum wulgach_beginning {
     WULGACH_SLEEPS = 2
 };
 
+/* What a sleep came to, where its ppoll(2) came to this (0 or more, or an error number's negative): that; but -4 (EINTR) in a child that was forked
+ * meanwhile, as by a signal's handler, and leaves its parent's ring as it is. Our own rule. */
+int32_t wulgach_sleep_came_to(int32_t res, bool is_child);
+
 /* Returns whether a sleep begins (enum wulgach_beginning) whose arguments have this fault, or 0, and before which a poll was told, or none. */
 uint32_t wulgach_sleep_begins(int32_t fault, bool is_told);
-
-/* What a sleep came to whose ppoll(2) came to this: -4 (EINTR) in another process, which was forked in the sleep; else that. */
-int32_t wulgach_slept_result(int32_t came, bool is_another_process);
 
 /* What is known behind a wait. */
 struct wulgach_waited {

@@ -173,6 +173,10 @@ static void look_at_results(void)
     demand(wulgach_placed_result(UINT32_MAX, 7) == 7 && wulgach_placed_result(8, 7) == 0, "a file for any slot, and for one");
     demand(wulgach_done_result(&(struct wulgach_submission){.opcode = 10}, 7, 30) == 7 && wulgach_done_result(&(struct wulgach_submission){.opcode = 10, .ioprio = 2}, 7, 30) == 30 && wulgach_done_result(&(struct wulgach_submission){.opcode = 27, .ioprio = 2}, 7, 30) == 7 && wulgach_done_result(&(struct wulgach_submission){.opcode = 26}, 1ull << 40, 0) == INT32_MAX, "what was moved");
     demand(wulgach_may_signal(&(struct wulgach_submission){.opcode = 23}, -27) && wulgach_may_signal(&(struct wulgach_submission){.opcode = 17}, -27) && wulgach_may_signal(&(struct wulgach_submission){.opcode = 30}, -27) && !wulgach_may_signal(&(struct wulgach_submission){.opcode = 22}, -27) && !wulgach_may_signal(&(struct wulgach_submission){.opcode = 23}, -28), "what may bring a signal");
+    static const struct wulgach_openness open = {.is_open = true}, path = {true, true};
+    static const struct wulgach_synced_kind regular = {.is_regular = true}, folder = {.is_folder = true}, pipe = {0};
+    demand(wulgach_counts_as_synced(&open, &regular) && wulgach_counts_as_synced(&open, &folder) && !wulgach_counts_as_synced(&open, &pipe) && !wulgach_counts_as_synced(&path, &regular) && !wulgach_counts_as_synced(&(struct wulgach_openness){0}, &regular), "what is synced");
+    demand(wulgach_is_limited(true, 0) && wulgach_is_limited(true, 1ull << 40) && !wulgach_is_limited(true, UINT64_MAX) && !wulgach_is_limited(false, 0), "where files may get too long");
     demand(wulgach_is_signal_of_call(0, true) && !wulgach_is_signal_of_call(0, false) && !wulgach_is_signal_of_call(-6, true), "whose signal it is");
     demand(wulgach_is_stream_type(1) && wulgach_is_stream_type(5) && !wulgach_is_stream_type(2) && !wulgach_is_stream_type(0), "streams");
 }

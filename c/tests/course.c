@@ -42,14 +42,19 @@ static struct wulgach_course carried_out(void)
 static void cancel_one(void)
 {
     struct wulgach_course course = started();
+    struct wulgach_awaiting awaiting;
     int32_t res;
-    demand(wulgach_course_awaited(&course, true) == WULGACH_NOT_AWAITED && !wulgach_course_asks_start(&course) && wulgach_course_begins_afresh(&course), "nobody waits for one that no cancel has found");
+    wulgach_awaiting_begin(&awaiting);
+    demand(wulgach_awaiting_sees(&awaiting, 3, &course, true) == WULGACH_NOT_AWAITED && !wulgach_course_asks_start(&course) && wulgach_course_begins_afresh(&course), "nobody waits for one that no cancel has found");
     demand(wulgach_course_note(&course, WULGACH_FACT_CANCELLED, 0), "a cancel");
-    demand(wulgach_course_awaited(&course, false) == WULGACH_AWAITED_RUNS, "but for one that it has");
+    demand(wulgach_awaiting_sees(&awaiting, 3, &course, false) == WULGACH_WRONG_TURN && wulgach_awaiting_sees(&awaiting, 2, &course, false) == WULGACH_WRONG_TURN, "each is looked at in its turn");
+    demand(wulgach_awaiting_sees(&awaiting, 4, &course, false) == WULGACH_AWAITED_RUNS, "but for one that it has");
+    demand(wulgach_awaiting_sees(&awaiting, 5, &course, false) == WULGACH_WRONG_TURN, "which ends before another is looked at");
+    wulgach_awaiting_ends(&awaiting);
     demand(wulgach_course_act(&course, &res) == WULGACH_ACT_END && res == -125, "one that was cancelled");
     wulgach_course_begin(&course);
     demand(wulgach_course_note(&course, WULGACH_FACT_CANCELLED, 0) && wulgach_course_asks_start(&course), "one that hasn't started");
-    demand(wulgach_course_awaited(&course, true) == WULGACH_AWAITED_WAITS && wulgach_course_awaited(&course, false) == WULGACH_NOT_AWAITED, "if it may start");
+    demand(wulgach_awaiting_sees(&awaiting, 5, &course, false) == WULGACH_NOT_AWAITED && wulgach_awaiting_sees(&awaiting, 8, &course, true) == WULGACH_AWAITED_WAITS, "if it may start");
 }
 
 /* The time of a linked timeout runs while the request runs that it limits; that of another from its own start on. */

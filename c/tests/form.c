@@ -145,6 +145,7 @@ static int32_t sending(struct wulgach_submission entry, struct wulgach_receiver 
 static void send(void)
 {
     struct wulgach_receiver closed = {0}, file = {.is_open = true}, ring = {true, true, false, false}, own = {true, true, true, false}, disabled = {true, true, false, true};
+    demand(wulgach_may_be_ring(&(struct wulgach_submission){.opcode = 40, .flags = 4}) && !wulgach_may_be_ring(&(struct wulgach_submission){.opcode = 40, .flags = 1}), "a registered file is no ring");
     demand(SENDING(closed, .addr = 9) == -9 && SENDING(file, .addr = 9) == -77 && SENDING(ring, .addr = 2) == -22, "to what it is sent");
     demand(SENDING(ring, .len = 7) == 1 && SENDING(own, .len = 7) == 1 && SENDING(disabled, .len = 7) == -77, "data");
     demand(SENDING(ring, .addr = 1L << 32, .addr3 = 1L << 32) == 1 && SENDING(disabled, .addr3 = 1) == -22 && SENDING(ring, .op_flags = 1) == -22, "what belongs to files");
@@ -198,9 +199,10 @@ static void do_nothing(void)
 static void visit(void)
 {
     struct wulgach_receiver none = {.is_open = true}, ring = {true, true, false, false}, own = {true, true, true, false};
+    demand(wulgach_copies_pieces(WULGACH_FORM_TOKEN) && wulgach_copies_pieces(WULGACH_FORM_CANCEL) && !wulgach_copies_pieces(WULGACH_FORM_REFUSED), "of what is copied");
+    demand(wulgach_is_own_fault(-14) && !wulgach_is_own_fault(-12) && !wulgach_is_own_fault(0), "whose fault it is");
+    demand(wulgach_posts_message(true, true) && !wulgach_posts_message(true, false) && !wulgach_posts_message(false, true), "which message is posted");
     demand(wulgach_visit_of(&none, 0) == WULGACH_VISITS_NOBODY && wulgach_visit_of(&ring, 0) == WULGACH_VISITS_OTHER && wulgach_visit_of(&own, 0) == WULGACH_POSTS_OWN && wulgach_visit_of(&ring, -9) == WULGACH_VISITS_NOBODY, "who posts a message");
-    demand(wulgach_posts_message(true, true) && !wulgach_posts_message(true, false) && !wulgach_posts_message(false, true), "which is posted");
-    demand(wulgach_looks_again(true, true) && wulgach_looks_again(false, false) && !wulgach_looks_again(true, false), "and who looks again");
 }
 
 static void name_fields(void)

@@ -77,12 +77,6 @@ static void find_waiting(struct wulgach_waiter *waiter, const struct wulgach_loo
     demand(ask(waiter, lookout, &ready) == WULGACH_LOOK_WAITS, "one that is known to wait isn't");
 }
 
-/* Whether one becomes dormant that no instance has refused. */
-static bool lies(const struct wulgach_waiter *waiter, const struct wulgach_lookout *lookout, const struct wulgach_standing *standing, const struct wulgach_needs *needs, const struct wulgach_course *course)
-{
-    return wulgach_waiter_lies_down(waiter, lookout, false, standing, needs, course);
-}
-
 #define BIT(duty) (1u << (duty))
 
 static void ask_again(void)
@@ -107,14 +101,13 @@ static void ask_again(void)
     find_waiting(&waiter, &lookout);
     wulgach_waiter_meets_cancel(&waiter);
     demand(wulgach_can_finish(&waiter, &lookout, &none, &no_needs, &is_cancelled, &unknown) == WULGACH_LOOK_FINISHES, "one that a cancel has found");
-    struct wulgach_waiter seen = other;
-    demand(!lies(&seen, &lookout, &stream, &no_needs, &runs), "one that wasn't looked at");
-    wulgach_waiter_sees(&seen, &lookout, false);
-    demand(lies(&seen, &lookout, &stream, &no_needs, &runs) && !lies(&seen, &lookout, &none, &no_needs, &runs) && !lies(&seen, &lookout, &stream, &no_needs, &is_cancelled), "one that waits for its descriptor alone");
-    demand(!wulgach_waiter_lies_down(&seen, &lookout, true, &stream, &no_needs, &runs), "one that the instance has refused");
-    demand(wulgach_duties_once_found(&none, &(struct wulgach_needs){.is_poll = true}, 0) & BIT(WULGACH_START_POLLS) && !(wulgach_duties_once_found(&none, &(struct wulgach_needs){.is_poll = true}, -9) & BIT(WULGACH_START_POLLS)) && !(wulgach_duties_once_found(&none, &no_needs, 0) & BIT(WULGACH_START_POLLS)), "a poll that hasn't failed asks for its events");
-    demand(wulgach_duties_once_found(&stream, &(struct wulgach_needs){.selects = true}, 0) & BIT(WULGACH_START_SEEKS) && !(wulgach_duties_once_found(&none, &(struct wulgach_needs){.selects = true}, 0) & BIT(WULGACH_START_SEEKS)) && !(wulgach_duties_once_found(&stream, &no_needs, 0) & BIT(WULGACH_START_SEEKS)), "and what may wait looks for its buffer");
-    demand(!lies(&seen, &lookout, &stream, &(struct wulgach_needs){.selects = true}, &runs) && !lies(&seen, &lookout, &stream, &(struct wulgach_needs){.is_timeout = true}, &runs) && !lies(&seen, &lookout, &stream, &(struct wulgach_needs){.needs_second = true}, &runs), "and one that doesn't");
+    demand(wulgach_lies_down(&stream, &no_needs, &runs, true, false) && !wulgach_lies_down(&none, &no_needs, &runs, true, false) && !wulgach_lies_down(&stream, &no_needs, &is_cancelled, true, false), "one that waits for its descriptor alone");
+    demand(!wulgach_lies_down(&stream, &no_needs, &runs, false, false) && !wulgach_lies_down(&stream, &no_needs, &runs, true, true), "whose descriptor is unready, and which an instance takes");
+    enum { EARLIER = 1 << WULGACH_FINDS_EARLIER, OWN = 1 << WULGACH_FINDS_OWN, TIME = 1 << WULGACH_BEGINS_TIME, EVENTS = 1 << WULGACH_ASKS_EVENTS, LOOKS = 1 << WULGACH_LOOKS, BUFFER = 1 << WULGACH_SEEKS_BUFFER };
+    demand(wulgach_steps_at_start(true) == (EARLIER | TIME) && wulgach_steps_at_start(false) == (EARLIER | OWN | TIME) && EARLIER < OWN && OWN < TIME && TIME < EVENTS && EVENTS < LOOKS && LOOKS < BUFFER, "what is done as one starts");
+    demand(wulgach_steps_behind_files(&none, &(struct wulgach_needs){.is_poll = true}, 0) == EVENTS && wulgach_steps_behind_files(&stream, &(struct wulgach_needs){.is_poll = true}, -9) == LOOKS && wulgach_steps_behind_files(&none, &no_needs, 0) == 0, "a poll that hasn't failed asks for its events");
+    demand(wulgach_steps_behind_files(&stream, &(struct wulgach_needs){.selects = true}, 0) == (LOOKS | BUFFER) && wulgach_steps_behind_files(&none, &(struct wulgach_needs){.selects = true}, 0) == 0, "and what may wait looks for its buffer");
+    demand(!wulgach_lies_down(&stream, &(struct wulgach_needs){.selects = true}, &runs, true, false) && !wulgach_lies_down(&stream, &(struct wulgach_needs){.is_timeout = true}, &runs, true, false) && !wulgach_lies_down(&stream, &(struct wulgach_needs){.needs_second = true}, &runs, true, false), "and one that doesn't");
     wulgach_waiter_waits(&other, &lookout);
     demand(ask(&other, &lookout, &ready) == WULGACH_LOOK_WAITS, "one that would have waited");
     wulgach_lookout_moves(&lookout);
@@ -227,7 +220,7 @@ static void sleep_or_not(void)
 {
     demand(wulgach_fires_behind(&(struct wulgach_waited){0}) && !wulgach_fires_behind(&(struct wulgach_waited){.result = -4}) && !wulgach_fires_behind(&(struct wulgach_waited){.is_never = true}), "behind which sleep a timeout fires");
     demand(wulgach_sleep_begins(-14, true) == WULGACH_SLEEP_FAILS && wulgach_sleep_begins(0, true) == WULGACH_SLEEP_WAKES && wulgach_sleep_begins(0, false) == WULGACH_SLEEPS, "whether a sleep begins");
-    demand(wulgach_slept_result(1, false) == 1 && wulgach_slept_result(-14, false) == -14 && wulgach_slept_result(1, true) == -4, "a sleep in which a child was forked");
+    demand(wulgach_sleep_came_to(2, false) == 2 && wulgach_sleep_came_to(-12, false) == -12 && wulgach_sleep_came_to(2, true) == -4, "a child leaves a sleep");
     demand(waited((struct wulgach_waited){0}) == WULGACH_WOKEN && waited((struct wulgach_waited){.is_over = true}) == WULGACH_TIMED_OUT, "a sleep that ends");
     demand(waited((struct wulgach_waited){.result = -4, .is_over = true}) == WULGACH_INTERRUPTED && waited((struct wulgach_waited){.result = -12}) == WULGACH_FAILED, "a sleep that fails");
     demand(waited((struct wulgach_waited){.is_never = true}) == WULGACH_ENDLESS && waited((struct wulgach_waited){.is_never = true, .has_messages = true}) == WULGACH_ENDLESS && waited((struct wulgach_waited){.is_never = true, .has_messages = true, .may_post = true}) == WULGACH_WOKEN, "nothing to wait for");
@@ -237,17 +230,18 @@ static void keep_files(void)
 {
     demand(wulgach_keeps_before_close(3, 5, 4, 5) && !wulgach_keeps_before_close(4, 5, 4, 5) && !wulgach_keeps_before_close(5, 5, 4, 5) && !wulgach_keeps_before_close(3, 6, 4, 5), "before a close");
     demand(wulgach_may_close_last(true, true, true) && wulgach_may_close_last(true, false, false) && !wulgach_may_close_last(true, false, true) && !wulgach_may_close_last(false, true, false), "the last descriptor of a file");
-    demand(wulgach_stays_open(true, 1, 2) && !wulgach_stays_open(true, 2, 2) && !wulgach_stays_open(false, 0, 2), "a copy of what is locked");
+    demand(wulgach_asks_locks(true) && !wulgach_asks_locks(false), "what has locks");
+    demand(wulgach_stays_open(true, WULGACH_MOST_LEFT - 1) && !wulgach_stays_open(true, WULGACH_MOST_LEFT) && !wulgach_stays_open(false, 0), "a copy of what is locked");
 }
 
 static void tell_others(void)
 {
-    static const struct { bool was_readable, is_readable, has_posted, may_have_others, is_told; } rows[] = {
+    static const struct { bool was_readable, is_readable, has_posted, may_wait_for_edges, is_told; } rows[] = {
         {false, true, false, false, true}, {true, false, true, true, true}, {false, false, true, true, false},
         {true, true, true, true, true}, {true, true, true, false, false}, {true, true, false, true, false},
     };
     for (size_t i = 0; i < sizeof rows / sizeof *rows; i++)
-        demand(wulgach_tells_anew(rows[i].was_readable, rows[i].is_readable, rows[i].has_posted, rows[i].may_have_others) == rows[i].is_told, "who polls the ring's descriptor");
+        demand(wulgach_tells_anew(rows[i].was_readable, rows[i].is_readable, rows[i].has_posted, rows[i].may_wait_for_edges) == rows[i].is_told, "who polls the ring's descriptor");
     demand(wulgach_counts_as_written(true, false, false) && wulgach_counts_as_written(false, true, true) && !wulgach_counts_as_written(false, true, false) && !wulgach_counts_as_written(false, false, true), "a pipe that was written to");
 }
 
@@ -280,8 +274,6 @@ static void follow(void)
     demand(wulgach_duties_behind_end(false, false, false, false) == always, "behind each end");
     demand(wulgach_duties_behind_end(true, false, false, false) == (always | BIT(WULGACH_END_UNWATCHES)) && wulgach_duties_behind_end(false, true, false, false) == (always | BIT(WULGACH_END_UNWATCHES)), "behind that of one with a file");
     demand(wulgach_duties_behind_end(false, false, true, false) == (always | BIT(WULGACH_END_FORGETS)) && wulgach_duties_behind_end(false, false, false, true) == (always | BIT(WULGACH_END_ENDS_DRAIN)), "behind others");
-    demand(wulgach_duties_at_start(false) == (BIT(WULGACH_START_FINDS_EARLIER) | BIT(WULGACH_START_FINDS_OWN)) && wulgach_duties_at_start(true) == BIT(WULGACH_START_FINDS_EARLIER), "as one starts");
-    demand(wulgach_duties_once_found(&stream, &no_needs, 0) == (BIT(WULGACH_START_BEGINS_TIMEOUT) | BIT(WULGACH_START_NOTES) | BIT(WULGACH_START_LOOKS)), "once it has found its files");
 }
 
 int main(void)

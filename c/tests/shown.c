@@ -1,6 +1,6 @@
 /* What the application of a ring is shown: each call once, on a ring of two entries whose positions wrap, with what the header calls for,
  * written by hand. */
-#include "wulgach_shown.h"
+#include "wulgach_course.h"
 
 #include <stdio.h>
 #include <stdlib.h>
@@ -28,6 +28,30 @@ static void watch(void)
     demand(wulgach_watch_of(&before, true, &after, true) == WULGACH_WATCH_RENEWS, "another waits");
 }
 
+/* A request ends that hasn't started, and the core posts a completion of it. */
+static void post(struct wulgach_shown *shown)
+{
+    static const struct wulgach_completion core;
+    struct wulgach_posted rows[4], end = {0};
+    struct wulgach_course course;
+    wulgach_course_begin(&course);
+    demand(wulgach_course_note(&course, WULGACH_FACT_DROPPED, 0) && wulgach_shown_end(shown, rows, 4, &course, &end, &core, true) == 1, "one is posted");
+}
+
+/* What is told of a ring's descriptor, or asked. */
+static void poll_ring(void)
+{
+    struct wulgach_shown shown;
+    wulgach_shown_begin(&shown);
+    demand(wulgach_shown_readable(&shown, 1, &(struct wulgach_prospect){0}) == WULGACH_IS_READABLE, "a head that isn't at the tail");
+    demand(wulgach_shown_readable(&shown, 0, &(struct wulgach_prospect){.can_go_on = true}) == WULGACH_ASK_REQUESTS, "an empty ring");
+    demand(wulgach_shown_readable(&shown, 0, &(struct wulgach_prospect){.knows_requests = true, .can_go_on = true}) == WULGACH_IS_READABLE, "one whose requests go on");
+    demand(wulgach_shown_readable(&shown, 0, &(struct wulgach_prospect){.knows_requests = true, .can_pass_time = true}) == WULGACH_ASK_TIME, "one whose requests wait");
+    demand(wulgach_shown_readable(&shown, 0, &(struct wulgach_prospect){true, false, true, true}) == WULGACH_IS_READABLE && wulgach_shown_readable(&shown, 0, &(struct wulgach_prospect){true, false, true, false}) == WULGACH_IS_NOT_READABLE, "time that passes");
+    post(&shown);
+    demand(wulgach_shown_readable(&shown, 0, &(struct wulgach_prospect){true, false, true, false}) == WULGACH_IS_READABLE, "a completion");
+}
+
 int main(void)
 {
     struct wulgach_shown shown;
@@ -37,7 +61,7 @@ int main(void)
     demand(shown.head == 0 && shown.shown == 0 && shown.posted == 0 && !wulgach_shown_overflows(&shown), "nothing was posted");
     shown.head = first;
     for (int i = 0; i < 3; i++)
-        wulgach_shown_post(&shown);
+        post(&shown);
     demand(wulgach_shown_overflows(&shown) && wulgach_shown_takes(&shown, 2) && !wulgach_shown_takes(&shown, 3), "three were posted");
     for (uint32_t place = 0; place < 2; place++) {
         wulgach_shown_store(&shown, 1, &store);
@@ -58,6 +82,7 @@ int main(void)
     demand(wulgach_shown_loads_head(&shown, 1, false, 2) && !wulgach_shown_loads_head(&shown, 0, true, 2), "the head is loaded if any was reaped");
     demand(wulgach_heard_steps(0, false) == 0 && wulgach_heard_steps(1, false) == 7 && wulgach_heard_steps(0, true) == (1 << WULGACH_HEARD_SHOWS | 1 << WULGACH_HEARD_MOVES), "what is done where something is heard");
     demand(wulgach_shows_again(1) && !wulgach_shows_again(0), "and where something has moved");
+    poll_ring();
     watch();
     printf("shown: as called for\n");
     return 0;

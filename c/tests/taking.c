@@ -53,7 +53,6 @@ static void post(void)
 {
     struct wulgach_drains drains;
     struct wulgach_chain chain;
-    struct wulgach_shown shown;
     struct wulgach_course course;
     int32_t res = 7;
     wulgach_drains_begin(&drains);
@@ -74,10 +73,7 @@ static void post(void)
     demand(wulgach_drains_may_post(&drains, 0, false, true), "behind its end");
     demand(!wulgach_oldest_starts(&drains, true) && wulgach_oldest_starts(&drains, false), "a drain was there");
     demand(wulgach_is_one_choice(WULGACH_IN_ORDER, true) && wulgach_is_one_choice(WULGACH_LAZY, true) && wulgach_is_one_choice(WULGACH_BY_CHOICE, false) && !wulgach_is_one_choice(WULGACH_BY_CHOICE, true), "what is one choice");
-    wulgach_shown_begin(&shown);
-    demand(!wulgach_shown_is_readable(&shown, 0, false) && wulgach_shown_is_readable(&shown, 0, true) && wulgach_shown_is_readable(&shown, 1, false), "an empty ring");
-    wulgach_shown_post(&shown);
-    demand(wulgach_shown_is_readable(&shown, 0, false), "a completion");
+    demand(wulgach_end_of_send(true) == WULGACH_PART_NOTICE && wulgach_end_of_send(false) == WULGACH_PART_SENT, "two completions of a send");
     wulgach_course_begin(&course);
     demand(!wulgach_course_notice(&course, true, false, &res) && res == 7, "no notice behind a drain");
     demand(wulgach_course_notice(&course, true, true, &res) && res == INT32_MIN && wulgach_course_notice(&course, false, true, &res) && res == 0, "a notice");

@@ -83,7 +83,11 @@ static void find_files(void)
     demand(wulgach_drains_find_file(&drains, &first, true, true, true, true) == WULGACH_FOUND_IN_TURN && wulgach_drains_find_file(&drains, &first, true, true, false, true) == WULGACH_ASKS_START, "behind both");
     demand(wulgach_drains_find_file(&drains, &first, true, false, true, true) == WULGACH_FOUND_BY_CALL && wulgach_drains_find_file(&drains, &first, true, false, true, false) == WULGACH_FOUND_AT_START, "as the core lets it start");
     demand(wulgach_polls(&(struct wulgach_standing){.is_stream = true}) && !wulgach_polls(&(struct wulgach_standing){.has_found_buffer = true}), "whom a sleep polls for");
-    demand(wulgach_keeps_open(&(struct wulgach_standing){.is_stream = true}, false, false) && !wulgach_keeps_open(&(struct wulgach_standing){.is_stream = true}, true, false) && !wulgach_keeps_open(&(struct wulgach_standing){.is_stream = true}, false, true) && !wulgach_keeps_open(&(struct wulgach_standing){0}, false, false), "whose file is kept open");
+    static const struct wulgach_standing stream = {.is_stream = true}, plain = {0};
+    static const struct wulgach_needs file = {.needs_file = true}, slot = {.needs_file = true, .is_registered = true}, none = {0};
+    demand(wulgach_keeps_open(&stream, &file, false, 0, false) && wulgach_keeps_open(&stream, &slot, true, -9, false) && !wulgach_keeps_open(&stream, &file, true, 0, true), "who waits keeps its file open");
+    demand(wulgach_keeps_open(&plain, &file, true, 0, false) && !wulgach_keeps_open(&plain, &file, true, 0, true) && !wulgach_keeps_open(&plain, &file, false, 0, false), "and who has found it");
+    demand(!wulgach_keeps_open(&plain, &file, true, -9, false) && !wulgach_keeps_open(&plain, &slot, true, 0, false) && !wulgach_keeps_open(&plain, &none, true, 0, false), "but not a fault, a slot's or none");
 }
 
 /* What a request is on a descriptor of which all is known. */

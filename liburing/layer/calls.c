@@ -1,12 +1,14 @@
 /* What a program calls in the place of the C library's syscall(), mmap() and close(): the layer answers the three calls of
  * io_uring, and hands on all others. liburing's sources call wulgach_polled_syscall, wulgach_mmap and wulgach_close. A program
  * that maps its rings by mmap itself calls wulgach_syscall: its descriptors are memory, and don't poll. Where a call was trapped,
- * all signals are blocked already: wulgach_blocked_enter is told which the thread has blocked else.
+ * all signals are blocked already: wulgach_blocked_enter is told which the thread has blocked else. Whoever hears of a program's closes asks
+ * wulgach_may_name_ring before one, and calls wulgach_look_for_closed behind it.
  */
 #define _GNU_SOURCE
 #include "callers.h"
 #include "descriptors.h"
 #include "enter.h"
+#include "process.h"
 #include "sleepers.h"
 
 #include <errno.h>
@@ -22,6 +24,8 @@ SEEN long wulgach_polled_syscall(long call, ...);
 SEEN long wulgach_blocked_enter(const long words[6], const sigset_t *signals);
 SEEN void *wulgach_mmap(void *at, size_t size, int protection, int flags, int fd, off_t offset);
 SEEN int wulgach_close(int fd);
+SEEN bool wulgach_may_name_ring(int fd);
+SEEN void wulgach_look_for_closed(void);
 
 /* A thread isn't cancelled in the middle of a call, as it isn't in the kernel's: the layer's own calls of the C library would end there,
  * with its locks held. Sleeps that were left by a jump are left first. (it is inlined: where it stands on the stack is where the call does) */
@@ -147,4 +151,19 @@ int wulgach_close(int fd)
     long result = close_descriptor(fd);
     allow_cancellation(before);
     return (int)returned(result);
+}
+
+bool wulgach_may_name_ring(int fd)
+{
+    return may_be_ring(fd);
+}
+
+/* (a child of vfork has its parent's memory, and descriptors of its own: its closes leave the parent's rings. A process that isn't known has made none) */
+void wulgach_look_for_closed(void)
+{
+    if (!is_known_process())
+        return;
+    int before = forbid_cancellation();
+    free_closed();
+    allow_cancellation(before);
 }

@@ -5,7 +5,7 @@
  */
 #include "completions.h"
 #include "account.h"
-#include "eventfds.h"
+#include "duties.h"
 #include "fault.h"
 #include "ring.h"
 #include "steps.h"
@@ -96,13 +96,10 @@ void show(struct ring *ring)
 {
     struct wulgach_shown *at = &ring->completions.at;
     ring->completions.is_behind = false;
-    uint64_t told = wulgach_shown_overflows(at) ? store_shown(ring) : 0;
+    ring->completions.told = wulgach_shown_overflows(at) ? store_shown(ring) : 0;
     if (wulgach_shown_overflows(at) && !(load_word(&ring->memory.sq->flags) & IORING_SQ_CQ_OVERFLOW))
         note_rule(COMPLETION_OVERFLOWS);
-    show_flags(ring);
-    /* (whoever is woken by it sees the flags) */
-    if (told > 0)
-        tell_eventfd(ring, told);
+    do_duties_behind_storing(ring, ring->completions.told);
 }
 
 void show_ends(struct ring *ring)

@@ -14,6 +14,7 @@ struct completions {
     struct wulgach_posted *queue;   /* the oldest first, from `first` on */
     size_t first, room;
     struct wulgach_shown at;    /* how many there are, and stand in ring memory; the others have overflowed, or are to be shown */
+    uint64_t told;          /* of so many of those that were stored last an eventfd is told */
     bool is_behind;         /* some ended since ring memory was last brought up to date */
 };
 

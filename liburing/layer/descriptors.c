@@ -1,5 +1,5 @@
-/* Finding the ring of a descriptor. Where the layer isn't told that a descriptor is closed, it keeps each ring until a set-up
- * finds that nobody can reach it any more and that no call is on it. What is left when the process ends isn't freed:
+/* Finding the ring of a descriptor. Where the layer isn't told that a descriptor is closed, it keeps each ring until a set-up, or a close that it is told
+ * of, finds that nobody can reach it any more and that no call is on it. What is left when the process ends isn't freed:
  * threads may use it to the last.
  */
 #define _GNU_SOURCE
@@ -94,15 +94,54 @@ static int find_descriptor(const struct ring *ring)
     return found < 0 && wulgach_is_taken_so(WULGACH_IS_REACHED, folder != NULL, false) ? ring->fd : found;
 }
 
+/* The numbers under which rings were found. Those from MOST_NOTED on aren't noted. */
+enum { MOST_NOTED = 1 << 16, BITS = 64 };
+
+static uint64_t numbers[MOST_NOTED / BITS];
+
+static void note_number(int fd)
+{
+    if (fd < MOST_NOTED)
+        __atomic_or_fetch(&numbers[fd / BITS], (uint64_t)1 << fd % BITS, __ATOMIC_RELAXED);
+}
+
+bool may_be_ring(int fd)
+{
+    return fd >= MOST_NOTED || (fd >= 0 && __atomic_load_n(&numbers[fd / BITS], __ATOMIC_RELAXED) >> fd % BITS & 1);
+}
+
+/* Whether a descriptor is open on a ring: its close will be heard. */
+static bool is_reached(const struct ring *ring)
+{
+    int fd = find_descriptor(ring);
+    if (fd >= 0)
+        note_number(fd);
+    return fd >= 0;
+}
+
 /* Whether a ring is to be freed now. A call begins under the list's lock. It ends without: behind that it doesn't touch the ring. */
 static bool is_gone(const struct ring *ring)
 {
     bool is_of_process = is_own(ring);
-    uint32_t calls = __atomic_load_n(&ring->calls, __ATOMIC_ACQUIRE);
+    uint32_t calls = __atomic_load_n(&ring->calls, __ATOMIC_SEQ_CST);
     uint32_t fate = wulgach_ring_fate(is_of_process, calls, false, false);
     if (fate == WULGACH_RING_ASKS)
-        fate = wulgach_ring_fate(is_of_process, calls, true, find_descriptor(ring) >= 0);
+        fate = wulgach_ring_fate(is_of_process, calls, true, is_reached(ring));
     return fate == WULGACH_RING_GOES;
+}
+
+/* Whether a ring may be closed that a call is on: whoever ends one looks. */
+static bool is_left_in_call;
+
+/* The same. One that only a call keeps goes as that ends, which may have been just before that was noted. */
+static bool is_to_go(const struct ring *ring)
+{
+    if (is_gone(ring))
+        return true;
+    if (!is_own(ring) || is_reached(ring))
+        return false;
+    __atomic_store_n(&is_left_in_call, true, __ATOMIC_SEQ_CST);
+    return is_gone(ring);
 }
 
 static void forget(const struct ring *ring)
@@ -115,9 +154,10 @@ static void forget(const struct ring *ring)
 /* Frees the rings that nobody can reach any more and that no call is on. */
 static void free_closed_rings(void)
 {
+    __atomic_store_n(&is_left_in_call, false, __ATOMIC_SEQ_CST);
     for (struct ring **at = &rings; *at;) {
         struct ring *ring = *at;
-        if (is_gone(ring)) {
+        if (is_to_go(ring)) {
             *at = ring->next;
             forget(ring);
             free_ring(ring);
@@ -131,6 +171,7 @@ static void free_closed_rings(void)
 static void remember(int fd, struct ring *ring)
 {
     size_t at = (size_t)fd;
+    note_number(fd);
     if (at >= by_number_room) {
         size_t room = 2 * at + 16;
         struct ring **rows = realloc(by_number, room * sizeof *rows);
@@ -194,11 +235,21 @@ int close_descriptor(int fd)
     pthread_mutex_lock(&rings_lock);
     struct ring *ring = find_ring(fd);
     int result = close(fd) < 0 ? -errno : 0;
-    if (ring && is_gone(ring))
+    if (ring && is_to_go(ring))
         drop_ring(ring);
     pthread_mutex_unlock(&rings_lock);
     allow_signals(&own);
     return result;
+}
+
+void free_closed(void)
+{
+    sigset_t own;
+    block_signals(&own);
+    pthread_mutex_lock(&rings_lock);
+    free_closed_rings();
+    pthread_mutex_unlock(&rings_lock);
+    allow_signals(&own);
 }
 
 struct ring *hold_ring(int fd)
@@ -213,7 +264,9 @@ struct ring *hold_ring(int fd)
 
 void release_ring(struct ring *ring)
 {
-    __atomic_sub_fetch(&ring->calls, 1, __ATOMIC_RELEASE);
+    __atomic_sub_fetch(&ring->calls, 1, __ATOMIC_SEQ_CST);
+    if (__atomic_load_n(&is_left_in_call, __ATOMIC_SEQ_CST))
+        free_closed();
 }
 
 struct ring *lock_ring(int fd)
@@ -236,12 +289,11 @@ void call_by(struct ring *ring, int fd)
  * unlocking, by who looks again, if it can be posted. What has to wait for a drain is posted behind that. */
 __attribute__((noinline)) static void visit_with_messages(struct ring *ring, int fd)
 {
-    bool looks_again = true;
-    while (looks_again && has_messages(ring) && pthread_mutex_trylock(&ring->lock) == 0) {
+    bool may_post = true;
+    while (wulgach_posts_message(has_messages(ring), may_post) && pthread_mutex_trylock(&ring->lock) == 0) {
         call_by(ring, fd);
         post_messages(ring);
-        bool is_any = has_messages(ring);
-        looks_again = wulgach_looks_again(is_any, is_any && can_post_extra(ring));
+        may_post = !has_messages(ring) || can_post_extra(ring);
         do_duties_behind_posting(ring);
         wake_sleepers(ring);
         pthread_mutex_unlock(&ring->lock);

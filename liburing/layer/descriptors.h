@@ -29,6 +29,12 @@ bool is_ring(int fd);
 /* Closes a descriptor, and frees its ring if nobody can reach it any more. Returns 0 or the negative of an error number. */
 int close_descriptor(int fd);
 
+/* Whether a descriptor may be a ring's, by its number alone; to be asked without a lock. */
+bool may_be_ring(int fd);
+
+/* Frees the rings that nobody can reach any more. */
+void free_closed(void);
+
 /* Frees a ring. */
 void free_ring(struct ring *ring);
 

@@ -13,6 +13,7 @@
 #include "numbers.h"
 #include "operations.h"
 #include "pipes.h"
+#include "readiness.h"
 #include "ring.h"
 #include "streams.h"
 #include "ways.h"
@@ -36,10 +37,15 @@ void free_dormant(struct dormant *dormant)
 }
 
 /* A ring's descriptor that polls has the instance before that has anything: so a request that waits for the ring itself isn't taken. */
-static bool is_polled_for(const struct ring *ring, int instance)
+static bool is_polled_for(struct ring *ring, int instance)
 {
     struct epoll_event event = {.events = EPOLLIN};
-    return ring->ready_fd < 0 || epoll_ctl(ring->called_fd, EPOLL_CTL_ADD, instance, &event) == 0;
+    return ring->ready_fd < 0 || change_polled(ring, EPOLL_CTL_ADD, instance, &event) == 0;
+}
+
+static int make_instance(void)
+{
+    return epoll_create1(EPOLL_CLOEXEC);
 }
 
 static bool has_instance(struct ring *ring)
@@ -47,7 +53,7 @@ static bool has_instance(struct ring *ring)
     struct dormant *dormant = &ring->dormant;
     if (dormant->instance >= 0 || dormant->is_refused)
         return !dormant->is_refused;
-    int instance = moved_high(epoll_create1(EPOLL_CLOEXEC));
+    int instance = made_high(make_instance);
     dormant->is_refused = instance < 0 || !is_polled_for(ring, instance);
     if (!dormant->is_refused)
         dormant->instance = instance;
@@ -95,7 +101,8 @@ void delist(struct ring *ring, struct request *request)
 /* Whether a request is to become dormant. */
 static bool is_to_lie(const struct ring *ring, const struct request *request)
 {
-    return wulgach_waiter_lies_down(&request->waiter, &ring->lookout, request->is_unlisted, &request->standing, &request->needs, &request->course);
+    bool is_unready = wulgach_waiter_sighting(&request->waiter, &ring->lookout) == WULGACH_SIGHTING_UNREADY;
+    return wulgach_lies_down(&request->standing, &request->needs, &request->course, is_unready, request->is_unlisted);
 }
 
 /* Has the instance tell of one, which keeps its file from now on. False: it is looked at for ever. */

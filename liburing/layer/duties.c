@@ -2,6 +2,7 @@
 #define _GNU_SOURCE
 #include "duties.h"
 #include "clock.h"
+#include "eventfds.h"
 #include "operations.h"
 #include "readiness.h"
 #include "streams.h"
@@ -41,6 +42,9 @@ static void do_duty(struct ring *ring, enum wulgach_duty duty)
         return;
     case WULGACH_SHOWS_FLAGS:
         show_flags(ring);
+        return;
+    case WULGACH_TELLS_EVENTFD:
+        tell_eventfd(ring, ring->completions.told);
         return;
     }
     __builtin_unreachable();
@@ -113,6 +117,11 @@ void do_duties_before_posting(struct ring *ring)
 void do_duties_behind_posting(struct ring *ring)
 {
     do_all(ring, wulgach_duties_behind_posting(ring->completions.is_behind, ring->ready_fd >= 0));
+}
+
+void do_duties_behind_storing(struct ring *ring, uint64_t told)
+{
+    do_all(ring, wulgach_duties_behind_storing(told));
 }
 
 void do_duties_before(struct ring *ring, const struct request *request)

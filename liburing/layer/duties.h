@@ -19,6 +19,9 @@ void do_duties_at_register_return(struct ring *ring, uint32_t code);
 void do_duties_before_posting(struct ring *ring);
 void do_duties_behind_posting(struct ring *ring);
 
+/* Behind completions that were stored into ring memory, of so many of which an eventfd is told. */
+void do_duties_behind_storing(struct ring *ring, uint64_t told);
+
 /* Before the operation of a request is carried out. */
 void do_duties_before(struct ring *ring, const struct request *request);
 

@@ -104,7 +104,7 @@ static int make_table(void)
 /* Puts a ring into the row that it gets. */
 static int enroll(int fd, uint32_t row)
 {
-    int copy = kept_copy_of(fd, true);
+    int copy = kept_copy_of(fd);
     if (copy < 0)
         return copy;
     wulgach_enroll(table, MOST, row, (uint32_t)copy);

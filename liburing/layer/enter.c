@@ -28,6 +28,7 @@
 struct waiting {
     uint32_t to_submit, min_complete;
     struct wulgach_limit limit;     /* how long it waits at most, in nanoseconds; behind the submission, until when in the ring's time */
+    bool is_trapped;
     const sigset_t *signals;        /* the thread's mask, while the call sleeps, */
     uint64_t mask;                  /* unless the call gives one, at this address */
     size_t mask_size;
@@ -56,12 +57,15 @@ static int read_extended(struct waiting *waiting)
     return 0;
 }
 
-/* Reads the mask with which the call sleeps: the first 64 bits of the C library's. Returns its fault, or 0. */
+/* Reads the mask with which the call sleeps: the first 64 bits of the C library's. Where calls are trapped, a handler that
+ * runs meanwhile may call too: by SIGSYS, which stays open. Returns its fault, or 0. */
 static int read_mask(struct waiting *waiting)
 {
     sigemptyset(waiting->given);
     waiting->signals = waiting->given;
     bool is_readable = waiting->mask_size == _NSIG / 8 && copy_in(waiting->given, waiting->mask, _NSIG / 8) == 0;
+    if (waiting->is_trapped)
+        sigdelset(waiting->given, SIGSYS);
     return wulgach_mask_fault(waiting->mask_size, is_readable);
 }
 
@@ -267,6 +271,7 @@ int enter(int fd, uint32_t to_submit, uint32_t min_complete, uint32_t flags, con
     struct waiting waiting = {
         .to_submit = to_submit,
         .min_complete = min_complete,
+        .is_trapped = signals != NULL,
         .signals = signals ? signals : &own,
         .mask = (uintptr_t)argument,
         .mask_size = size,

@@ -9,7 +9,6 @@
 #include "sockets.h"
 #include "timeouts.h"
 
-#include <errno.h>
 #include <fcntl.h>
 #include <linux/openat2.h>
 #include <stdlib.h>
@@ -139,7 +138,7 @@ int copy_behind(struct request *request, const struct request *before)
     wulgach_needs_as(entry, request->mapping, &request->needs);
     /* (nothing is copied of one buffer, and it has no fault) */
     int32_t next = wulgach_has_one_buffer(entry) ? make_vector(request) : copy_pieces(request, before);
-    if (next == -ENOMEM)
+    if (next < 0 && !wulgach_is_own_fault(next))
         return next;
     request->fault = next;
     if (request->needs.selects)         /* (of another it is 0) */

@@ -28,7 +28,7 @@ int register_eventfd(struct ring *ring, uint64_t at, bool is_async)
     int result = wulgach_eventfd_registering_fault(&ring->telling, is_read, is_open, is_open && is_eventfd(fd));
     if (result < 0)
         return result;
-    int copy = kept_copy_of(fd, true);
+    int copy = kept_copy_of(fd);
     if (copy < 0)
         return copy;
     ring->eventfd = copy;

@@ -142,11 +142,10 @@ static struct message *take_message(struct inbox *inbox)
     return message;
 }
 
-/* Whether there is a message that is posted now. */
 static bool posts_message(struct ring *ring)
 {
-    bool is_any = has_messages(ring);
-    return wulgach_posts_message(is_any, is_any && can_post_extra(ring));
+    bool is_there = has_messages(ring);
+    return wulgach_posts_message(is_there, is_there && can_post_extra(ring));
 }
 
 /* (mostly there are none, which is found without a call) */
@@ -182,18 +181,21 @@ void put_message(struct inbox *inbox, struct message *message)
     pthread_mutex_unlock(&inbox->lock);
 }
 
-/* The ring that an entry names, held, or NULL; and what the library is told of it. A registered file is no ring. */
+/* Whether the slot that an entry names has a file. */
+static bool has_slot(struct ring *ring, const struct io_uring_sqe *entry)
+{
+    struct file *file = use_file(ring, (uint32_t)entry->fd);
+    bool has = file;
+    release_file(file);
+    return has;
+}
+
+/* The ring that an entry names, held, or NULL; and what the library is told of it. */
 static struct ring *find_receiver(struct ring *ring, const struct io_uring_sqe *entry, struct wulgach_receiver *to)
 {
     *to = (struct wulgach_receiver){0};
-    if (entry->flags & IOSQE_FIXED_FILE) {
-        struct file *file = use_file(ring, (uint32_t)entry->fd);
-        to->is_open = file != NULL;
-        release_file(file);
-        return NULL;
-    }
-    struct ring *target = hold_ring(entry->fd);
-    to->is_open = target || counts_as_open(entry->fd, false);
+    struct ring *target = wulgach_may_be_ring(submission_of(entry)) ? hold_ring(entry->fd) : NULL;
+    to->is_open = target || (entry->flags & IOSQE_FIXED_FILE ? has_slot(ring, entry) : counts_as_open(entry->fd, false));
     to->is_ring = target;
     to->is_sender = target == ring;
     to->is_disabled = target && target->issuer.is_disabled;

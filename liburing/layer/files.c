@@ -19,7 +19,6 @@
 #include <fcntl.h>
 #include <linux/kcmp.h>
 #include <stdlib.h>
-#include <sys/resource.h>
 #include <sys/stat.h>
 #include <sys/syscall.h>
 #include <unistd.h>
@@ -116,12 +115,12 @@ struct making {
 
 static int copy_file(struct making *making)
 {
-    int copy = kept_copy_of(making->fd, false);
+    int copy = kept_copy_of(making->fd);
     if (copy < 0)
         return copy;
     making->file = malloc(sizeof *making->file);
     if (!making->file) {
-        close_kept(copy, false);
+        close_kept(copy, is_regular(copy));
         return wulgach_missing_fault(WULGACH_NO_MEMORY_OWN);
     }
     *making->file = (struct file){.fd = copy, .is_regular = is_regular(copy), .told = making->told, .tag = making->message};
@@ -252,9 +251,7 @@ static int make_row(struct ring *ring, uint64_t *word, uint64_t fds, uint64_t ta
 
 int register_files(struct ring *ring, uint64_t fds, uint64_t tags, uint32_t count)
 {
-    struct rlimit limit = {.rlim_cur = RLIM_INFINITY};
-    getrlimit(RLIMIT_NOFILE, &limit);
-    int result = wulgach_table_registering_fault(&ring->files.table, count, limit.rlim_cur, true);
+    int result = wulgach_table_registering_fault(&ring->files.table, count, limit_of_numbers(), true);
     if (result < 0)
         return result;
     uint64_t *words = calloc(count, sizeof *words);
@@ -345,7 +342,7 @@ int install_file(struct ring *ring, int fd, uint32_t file_index)
 {
     struct file *file;
     int result = make_file_of(&file, fd);
-    close(fd);
+    close_kept(fd, is_regular(fd));
     return result < 0 ? result : put_file(ring, file, file_index);
 }
 

@@ -11,16 +11,19 @@
 #include <stdint.h>
 #include <stdio.h>
 #include <string.h>
+#include <sys/resource.h>
 #include <sys/stat.h>
 #include <unistd.h>
 
-enum { HIGH_NUMBER = 512, MOST_LEFT = 256 };
+/* Numbers from MOST_NOTED on aren't noted: a kernel gives none by its own limit (fs.nr_open), unless that was raised. A program that may have more than
+ * MANY has room for the layer's beside its own. */
+enum { HIGH_NUMBER = 512, MANY = 1 << 15, MOST_NOTED = 1 << 20, BITS = 64 };
 
 /* Copies that are left open, since the process has locks on their files. Under the lock copies are made and noted, and closed: a fork holds it, so
  * a child knows of each. */
 static struct {
     pthread_mutex_t lock;
-    int fds[MOST_LEFT];
+    int fds[WULGACH_MOST_LEFT];
     size_t count;
 } left = {.lock = PTHREAD_MUTEX_INITIALIZER};
 
@@ -40,38 +43,111 @@ static int copy_from(int fd, int lowest)
     return copy < 0 ? -errno : copy;
 }
 
-static int high_copy_of(int fd)
+/* ---- numbers that the program can't have ---- */
+
+/* The program's limit (getrlimit(2)), and what stands in its place meanwhile. */
+struct limits {
+    struct rlimit own, raised;
+};
+
+/* The soft limit says which numbers are given to new descriptors, and the layer's needn't be among them: it is raised to the hard one for a moment, under the
+ * lock. False: there are no more. */
+static bool raise_limit(struct limits *limits)
 {
-    int copy = copy_from(fd, HIGH_NUMBER);
-    return copy == -EINVAL ? copy_from(fd, 0) : copy;
+    if (getrlimit(RLIMIT_NOFILE, &limits->own) < 0 || limits->own.rlim_cur >= limits->own.rlim_max || limits->own.rlim_cur > MANY)
+        return false;
+    limits->raised = limits->own;
+    limits->raised.rlim_cur = limits->own.rlim_max < MOST_NOTED ? limits->own.rlim_max : MOST_NOTED;
+    return setrlimit(RLIMIT_NOFILE, &limits->raised) == 0;
 }
 
-static int any_copy_of(int fd)
+/* (the program may have set its limit meanwhile, which stands then) */
+static void put_limit_back(const struct limits *limits)
 {
-    int copy = copy_from(fd, HIGH_NUMBER);
+    struct rlimit found;
+    if (prlimit(0, RLIMIT_NOFILE, &limits->own, &found) == 0 && (found.rlim_cur != limits->raised.rlim_cur || found.rlim_max != limits->raised.rlim_max))
+        setrlimit(RLIMIT_NOFILE, &found);
+}
+
+rlim_t limit_of_numbers(void)
+{
+    struct rlimit limit = {.rlim_cur = RLIM_INFINITY};
+    lock_kept();
+    getrlimit(RLIMIT_NOFILE, &limit);
+    unlock_kept();
+    return limit.rlim_cur;
+}
+
+/* A copy under a number past the program's limit, as it is. */
+static int copy_beyond(int fd, const struct rlimit *own)
+{
+    return copy_from(fd, own->rlim_cur > HIGH_NUMBER ? (int)own->rlim_cur : HIGH_NUMBER);
+}
+
+/* A copy under the highest kind of number that there is: one past the limit, a high one, or any. */
+static int copy_of(int fd)
+{
+    struct limits limits;
+    int copy = -EMFILE;
+    if (raise_limit(&limits)) {
+        copy = copy_beyond(fd, &limits.own);
+        put_limit_back(&limits);
+    }
+    if (copy < 0)
+        copy = copy_from(fd, HIGH_NUMBER);
     return copy < 0 ? copy_from(fd, 0) : copy;
 }
 
 int moved_high(int fd)
 {
-    int copy = fd < 0 ? fd : copy_from(fd, HIGH_NUMBER);
+    if (fd < 0)
+        return fd;
+    lock_kept();
+    int copy = copy_of(fd);
+    unlock_kept();
     if (copy < 0)
         return fd;
     close(fd);
     return copy;
 }
 
-/* Numbers from this on aren't noted. */
-enum { MOST_NOTED = 1 << 16, BITS = 64 };
+int made_high(int (*make)(void))
+{
+    struct limits limits;
+    lock_kept();
+    bool is_raised = raise_limit(&limits);
+    int fd = make(), error = errno, copy = -1;
+    if (fd >= 0)
+        copy = is_raised ? copy_beyond(fd, &limits.own) : copy_from(fd, HIGH_NUMBER);
+    if (is_raised)
+        put_limit_back(&limits);
+    unlock_kept();
+    errno = error;
+    if (copy < 0)
+        return fd;
+    close(fd);
+    return copy;
+}
+
+/* ---- copies ---- */
 
 static uint64_t kept[MOST_NOTED / BITS];
+static int end_of_noted;    /* all that are noted are below */
 
-int kept_copy_of(int fd, bool may_be_low)
+static void note(int fd)
+{
+    if (fd < 0 || fd >= MOST_NOTED)
+        return;
+    __atomic_or_fetch(&kept[fd / BITS], (uint64_t)1 << fd % BITS, __ATOMIC_RELAXED);
+    if (end_of_noted <= fd)
+        end_of_noted = fd + 1;
+}
+
+int kept_copy_of(int fd)
 {
     lock_kept();
-    int copy = may_be_low ? any_copy_of(fd) : high_copy_of(fd);
-    if (copy >= 0 && copy < MOST_NOTED)
-        __atomic_or_fetch(&kept[copy / BITS], (uint64_t)1 << copy % BITS, __ATOMIC_RELAXED);
+    int copy = copy_of(fd);
+    note(copy);
     unlock_kept();
     return copy;
 }
@@ -91,7 +167,7 @@ static void close_noted(int fd)
 
 void close_parents(void)
 {
-    for (int i = 0; i < MOST_NOTED / BITS; i++)
+    for (int i = 0; i * BITS < end_of_noted; i++)
         for (; kept[i]; kept[i] &= kept[i] - 1)
             close(i * BITS + __builtin_ctzll(kept[i]));
     left.count = 0;
@@ -131,7 +207,7 @@ static void close_left(void)
 {
     size_t count = 0;
     for (size_t i = 0; i < left.count; i++)
-        if (is_locked(left.fds[i]))
+        if (wulgach_stays_open(is_locked(left.fds[i]), count))
             left.fds[count++] = left.fds[i];
         else
             close_noted(left.fds[i]);
@@ -141,11 +217,14 @@ static void close_left(void)
 void close_kept(int fd, bool is_regular)
 {
     lock_kept();
-    if (is_regular)
+    bool asks = wulgach_asks_locks(is_regular);
+    if (asks)
         close_left();
-    if (is_regular && wulgach_stays_open(is_locked(fd), left.count, MOST_LEFT))
+    if (wulgach_stays_open(asks && is_locked(fd), left.count)) {
         left.fds[left.count++] = fd;
-    else
+        note(fd);
+    } else {
         close_noted(fd);
+    }
     unlock_kept();
 }

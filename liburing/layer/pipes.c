@@ -80,12 +80,17 @@ static bool reserve_watch(struct pipes *pipes)
     return true;
 }
 
+static int make_inotify(void)
+{
+    return inotify_init1(IN_CLOEXEC | IN_NONBLOCK);
+}
+
 /* The watch of a descriptor's pipe, which is one however many descriptors it has; 0: there is none to be had. */
 static int watch_of(struct pipes *pipes, int fd)
 {
     char path[32];
     if (pipes->inotify < 0)
-        pipes->inotify = moved_high(inotify_init1(IN_CLOEXEC | IN_NONBLOCK));
+        pipes->inotify = made_high(make_inotify);
     if (!reserve_watch(pipes))
         return 0;
     snprintf(path, sizeof path, "/proc/self/fd/%d", fd);

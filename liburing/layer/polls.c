@@ -29,12 +29,17 @@ static void drop_instance(struct request *request)
     request->epoll = -1;
 }
 
+static int make_instance(void)
+{
+    return epoll_create1(EPOLL_CLOEXEC);
+}
+
 /* Asks an instance. One that ends with its first event doesn't keep it. */
 static int start_by_instance(struct request *request)
 {
     struct epoll_event event = {.events = wulgach_instance_events(events_of(request))};
     struct wulgach_poll_start start;
-    request->epoll = moved_high(epoll_create1(EPOLL_CLOEXEC));
+    request->epoll = made_high(make_instance);
     if (request->epoll < 0)
         return -errno;
     int32_t res = epoll_ctl(request->epoll, EPOLL_CTL_ADD, request->fd, &event) < 0 ? -errno : 0;

@@ -38,6 +38,12 @@ pid_t this_process(void)
     return process;
 }
 
+/* A child of vfork has the very page of its parent, and leaves it as it is. */
+bool is_known_process(void)
+{
+    return kept && __atomic_load_n(kept, __ATOMIC_RELAXED) == getpid();
+}
+
 /* A forked child has the memory of the thread that forked it. */
 pid_t this_thread(void)
 {

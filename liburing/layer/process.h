@@ -3,10 +3,14 @@
 #define PROCESS_H
 
 #include <signal.h>
+#include <stdbool.h>
 #include <sys/types.h>
 
 /* The number of this process, without a system call. In a child of vfork(), which has its parent's memory, its parent's. */
 pid_t this_process(void);
+
+/* Whether this is the process whose number was asked for so, and no child of its by vfork. */
+bool is_known_process(void);
 
 /* The number of this thread, asked for once. In a child of vfork(), its parent's. */
 pid_t this_thread(void);

@@ -96,13 +96,12 @@ static int32_t notify(struct ring *ring, struct request *request, int32_t res)
     bool reports = request->entry.ioprio & IORING_SEND_ZC_REPORT_USAGE;
     if (!wulgach_course_notice(&request->course, reports, can_post_extra(ring), &shown))
         return res;
-    if (!post_event(ring, request, res, WULGACH_PART_SENT)) {
-        /* (what is put off comes last: so that is the notice) */
+    uint32_t end = wulgach_end_of_send(post_event(ring, request, res, WULGACH_PART_SENT));
+    request->flags = wulgach_completion_flags(end, request->flags);
+    if (end == WULGACH_PART_SENT) {
         change_unposted(ring, shown, wulgach_completion_flags(WULGACH_PART_NOTICE, 0));
-        request->flags = wulgach_completion_flags(WULGACH_PART_SENT, request->flags);
         return res;
     }
-    request->flags = wulgach_completion_flags(WULGACH_PART_NOTICE, 0);
     note_fact(request, WULGACH_FACT_NOTIFIED, shown);
     return shown;
 }
@@ -128,28 +127,25 @@ static void finish_running(struct ring *ring, struct request *request)
     end_of(ring, request, res, told);
 }
 
-static void do_start_duty(struct ring *ring, struct request *request, enum wulgach_start_duty duty)
+static void do_step_of_start(struct ring *ring, struct request *request, enum wulgach_step_of_start step)
 {
-    switch (duty) {
-    case WULGACH_START_FINDS_EARLIER:
+    switch (step) {
+    case WULGACH_FINDS_EARLIER:
         assign_before(ring, request->number);
         return;
-    case WULGACH_START_FINDS_OWN:
+    case WULGACH_FINDS_OWN:
         assign(ring, request);
         return;
-    case WULGACH_START_BEGINS_TIMEOUT:
+    case WULGACH_BEGINS_TIME:
         note_started(ring, request);
         return;
-    case WULGACH_START_POLLS:
+    case WULGACH_ASKS_EVENTS:
         request->started = start_poll(request);
         return;
-    case WULGACH_START_NOTES:
-        note_running(ring, request);
-        return;
-    case WULGACH_START_LOOKS:
+    case WULGACH_LOOKS:
         look_at(ring, request);
         return;
-    case WULGACH_START_SEEKS:
+    case WULGACH_SEEKS_BUFFER:
         finds_buffer(ring, request);
         return;
     }
@@ -157,21 +153,22 @@ static void do_start_duty(struct ring *ring, struct request *request, enum wulga
 }
 
 /* Does what is in a set, by rising bits. */
-static void do_start_duties(struct ring *ring, struct request *request, uint32_t duties)
+static void do_steps(struct ring *ring, struct request *request, uint32_t steps)
 {
-    for (; duties; duties &= duties - 1)
-        do_start_duty(ring, request, (enum wulgach_start_duty)__builtin_ctz(duties));
+    for (; steps; steps &= steps - 1)
+        do_step_of_start(ring, request, (enum wulgach_step_of_start)__builtin_ctz(steps));
 }
 
-/* The core let a request start. */
+/* The core let a request start: what is done then, and in which order, is the library's decision. */
 static void start(struct ring *ring, struct request *request)
 {
     demand(wulgach_course_start(&request->course), "a request starts twice");
     request->begun = ++ring->begun;
     wulgach_lookout_starts(&ring->lookout, insert_request(&ring->running, request));
-    do_start_duties(ring, request, wulgach_duties_at_start(request->is_assigned));
+    do_steps(ring, request, wulgach_steps_at_start(request->is_assigned));
     log_start(ring, request);
-    do_start_duties(ring, request, wulgach_duties_once_found(&request->standing, &request->needs, request->started));
+    do_steps(ring, request, wulgach_steps_behind_files(&request->standing, &request->needs, request->started));
+    note_running(ring, request);
 }
 
 /* Issues a request that can be issued. True if it has started: else it has ended without being carried out. */
@@ -249,10 +246,13 @@ bool can_go_on(struct ring *ring)
 
 void end_cancelled(struct ring *ring)
 {
+    struct wulgach_awaiting awaiting;
+    wulgach_awaiting_begin(&awaiting);
     for (size_t i = 0; i < ring->requests.count;) {
         struct request *request = ring->requests.rows[i];
         bool may_start = wulgach_course_asks_start(&request->course) && can_issue(ring, request->number);
-        uint32_t awaited = wulgach_course_awaited(&request->course, may_start);
+        uint32_t awaited = wulgach_awaiting_sees(&awaiting, request->number, &request->course, may_start);
+        demand(awaited != WULGACH_WRONG_TURN, "a cancel looks at a request out of its turn");
         if (awaited == WULGACH_NOT_AWAITED) {
             i++;
             continue;
@@ -260,6 +260,7 @@ void end_cancelled(struct ring *ring)
         record_break();
         if (awaited == WULGACH_AWAITED_RUNS || issue_waiting(ring, request))
             finish_running(ring, request);
+        wulgach_awaiting_ends(&awaiting);
     }
 }
 

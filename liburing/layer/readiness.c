@@ -3,10 +3,13 @@
  * of the streams that running requests wait for. The eventfd also tells the instance from others, and so does a mark.
  *
  * The layer isn't told when the application reaps: so the eventfd stays set until the next call, and meanwhile
- * IORING_SQ_TASKRUN makes a peek that finds nothing call.
+ * IORING_SQ_TASKRUN makes a peek that finds nothing call. Nor is it told who waits for edges, as an epoll instance may, of any process that has the
+ * descriptor: so each call that posts writes the eventfd, though it is set, unless WULGACH_EDGES says that nobody does.
  */
 #define _GNU_SOURCE
 #include "readiness.h"
+#include "descriptors.h"
+#include "fault.h"
 #include "numbers.h"
 #include "operations.h"
 #include "passing.h"
@@ -14,6 +17,7 @@
 #include "waiting.h"
 
 #include <errno.h>
+#include <pthread.h>
 #include <stdlib.h>
 #include <string.h>
 #include <sys/epoll.h>
@@ -38,14 +42,31 @@ static uint64_t make_mark(int fd)
     return ioctl(fd, SETS_MARK, &mark) == 0 ? mark : 0;
 }
 
+static bool may_wait_for_edges;
+
+static void read_environment(void)
+{
+    const char *word = getenv("WULGACH_EDGES");
+    bool is_no = word && strcmp(word, "no") == 0;
+    demand(is_no || !word || !*word || strcmp(word, "yes") == 0, "WULGACH_EDGES is yes or no");
+    may_wait_for_edges = !is_no;
+}
+
+static int make_eventfd(void)
+{
+    return eventfd(0, EFD_CLOEXEC | EFD_NONBLOCK);
+}
+
 int make_polled(struct ring *ring)
 {
+    static pthread_once_t once = PTHREAD_ONCE_INIT;
     struct epoll_event event = {.events = EPOLLIN};
+    pthread_once(&once, read_environment);
     int fd = epoll_create1(EPOLL_CLOEXEC);
     if (fd < 0)
         return -errno;
     ring->mark = make_mark(fd);
-    ring->ready_fd = moved_high(eventfd(0, EFD_CLOEXEC | EFD_NONBLOCK));
+    ring->ready_fd = made_high(make_eventfd);
     if (ring->ready_fd >= 0 && epoll_ctl(fd, EPOLL_CTL_ADD, ring->ready_fd, &event) == 0)
         return fd;
     int error = errno;
@@ -95,7 +116,7 @@ static size_t list_watched(const struct ring *ring, struct watched *watched)
     size_t count = 0, kept = 0;
     if (wulgach_polls_writes(ring->pipes.count))
         list_one(&watched[count++], ring->pipes.inotify, EPOLLIN, 0);
-    if (wulgach_polls_instance(ring->dormant.instance >= 0, ring->dormant.count, true))
+    if (ring->dormant.instance >= 0)
         list_one(&watched[count++], ring->dormant.instance, EPOLLIN, 0);
     for (size_t i = 0; i < ring->running.count; i++) {
         const struct request *request = ring->running.rows[i];
@@ -114,27 +135,34 @@ static size_t list_watched(const struct ring *ring, struct watched *watched)
     return kept;
 }
 
-static int watch(int fd, int change, const struct watched *watched)
+int change_polled(struct ring *ring, int change, int fd, struct epoll_event *event)
+{
+    if (!is_still_polled_by(ring, ring->called_fd))
+        call_by(ring, ring->called_fd);
+    return epoll_ctl(ring->called_fd, change, fd, event);
+}
+
+static int watch(struct ring *ring, int change, const struct watched *watched)
 {
     struct epoll_event event = {.events = watched->at.events};
-    return epoll_ctl(fd, change, watched->fd, &event);
+    return change_polled(ring, change, watched->fd, &event);
 }
 
 /* Changes what is watched of one descriptor, or two lists' first: NULL where one has it not. A number that is closed and opened again
  * isn't watched. */
-static void watch_change(int fd, const struct watched *before, const struct watched *after)
+static void watch_change(struct ring *ring, const struct watched *before, const struct watched *after)
 {
     static const struct watched nothing;
     switch (wulgach_watch_of(before ? &before->at : &nothing.at, before, after ? &after->at : &nothing.at, after)) {
     case WULGACH_WATCH_ADDS:
-        watch(fd, EPOLL_CTL_ADD, after);
+        watch(ring, EPOLL_CTL_ADD, after);
         return;
     case WULGACH_WATCH_REMOVES:
-        watch(fd, EPOLL_CTL_DEL, before);
+        watch(ring, EPOLL_CTL_DEL, before);
         return;
     case WULGACH_WATCH_RENEWS:
-        if (watch(fd, EPOLL_CTL_MOD, after) < 0)
-            watch(fd, EPOLL_CTL_ADD, after);
+        if (watch(ring, EPOLL_CTL_MOD, after) < 0)
+            watch(ring, EPOLL_CTL_ADD, after);
         return;
     default:
         return;
@@ -142,13 +170,13 @@ static void watch_change(int fd, const struct watched *before, const struct watc
 }
 
 /* Changes what is watched from one list to another. */
-static void watch_changes(int fd, const struct watched *before, size_t before_count, const struct watched *after, size_t after_count)
+static void watch_changes(struct ring *ring, const struct watched *before, size_t before_count, const struct watched *after, size_t after_count)
 {
     size_t i = 0, j = 0;
     while (i < before_count || j < after_count) {
         bool is_before = j == after_count || (i < before_count && before[i].fd <= after[j].fd);
         bool is_after = i == before_count || (j < after_count && after[j].fd <= before[i].fd);
-        watch_change(fd, is_before ? &before[i] : NULL, is_after ? &after[j] : NULL);
+        watch_change(ring, is_before ? &before[i] : NULL, is_after ? &after[j] : NULL);
         i += is_before;
         j += is_after;
     }
@@ -161,12 +189,12 @@ void unwatch(struct ring *ring, int fd)
     struct watched *watched = ring->watched_count ? bsearch(&key, ring->watched, ring->watched_count, sizeof key, by_descriptor) : NULL;
     if (!watched)
         return;
-    watch(ring->called_fd, EPOLL_CTL_DEL, watched);
+    watch(ring, EPOLL_CTL_DEL, watched);
     watched->at.begun = UINT64_MAX;
 }
 
 /* Puts the streams that are waited for in the place of those that were. If memory is refused, the next call tries. */
-static void watch_streams(struct ring *ring, int fd)
+static void watch_streams(struct ring *ring)
 {
     if (ring->running.count == 0 && ring->dormant.count == 0 && ring->watched_count == 0)
         return;
@@ -174,7 +202,7 @@ static void watch_streams(struct ring *ring, int fd)
     if (!watched)
         return;
     size_t count = list_watched(ring, watched);
-    watch_changes(fd, ring->watched, ring->watched_count, watched, count);
+    watch_changes(ring, ring->watched, ring->watched_count, watched, count);
     free(ring->watched);
     ring->watched = watched;
     ring->watched_count = count;
@@ -188,17 +216,36 @@ static bool has_posted(struct ring *ring)
     return posted != before;
 }
 
+/* Finds out what the library wants to know of what a call would bring. */
+static void look_ahead(struct ring *ring, uint32_t asked, struct wulgach_prospect *known)
+{
+    if (asked == WULGACH_ASK_REQUESTS) {
+        known->can_go_on = can_go_on(ring);
+        known->knows_requests = true;
+    } else {
+        known->can_pass_time = can_pass_time(ring);
+        known->knows_time = true;
+    }
+}
+
+static bool is_readable_now(struct ring *ring)
+{
+    struct wulgach_prospect known = {0};
+    uint32_t told, head = load_word(&ring->memory.cq->head);
+    while ((told = wulgach_shown_readable(&ring->completions.at, head, &known)) > WULGACH_IS_READABLE)
+        look_ahead(ring, told, &known);
+    return told == WULGACH_IS_READABLE;
+}
+
 void show_readiness(struct ring *ring)
 {
     uint64_t one = 1;
-    watch_streams(ring, ring->called_fd);
-    /* Whether a call may bring something matters only if no completion waits. */
-    uint32_t head = load_word(&ring->memory.cq->head);
-    bool is_readable = wulgach_shown_is_readable(&ring->completions.at, head, false) || wulgach_shown_is_readable(&ring->completions.at, head, can_go_on(ring) || can_pass_time(ring));
+    watch_streams(ring);
+    bool is_readable = is_readable_now(ring);
     /* (another thread or process may wait for an edge, or this one between its calls) */
-    if (!wulgach_tells_anew(ring->is_readable, is_readable, has_posted(ring), true))
+    if (!wulgach_tells_anew(ring->is_readable, is_readable, has_posted(ring), may_wait_for_edges))
         return;
     ring->is_readable = is_readable;
-    ssize_t done = is_readable ? write(ring->ready_fd, &one, sizeof one) : read(ring->ready_fd, &one, sizeof one);
-    (void)done;
+    /* (by the kernel's call itself: the C library's asks besides whether the thread is cancelled) */
+    pass(is_readable ? SYS_write : SYS_read, ring->ready_fd, (long)&one, sizeof one, 0, 0, 0);
 }

@@ -12,11 +12,12 @@
 #include <sys/syscall.h>
 #include <unistd.h>
 
-/* Where a file may be as long as it likes, the kernel sends none. */
+/* Whether the kernel may send one, by how long a file may get. */
 static bool has_limit(void)
 {
-    struct rlimit limit;
-    return getrlimit(RLIMIT_FSIZE, &limit) == 0 && limit.rlim_cur != RLIM_INFINITY;
+    struct rlimit limit = {0};
+    bool knows = getrlimit(RLIMIT_FSIZE, &limit) == 0;
+    return wulgach_is_limited(knows, limit.rlim_cur);
 }
 
 void take_back_signal(void)

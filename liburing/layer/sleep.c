@@ -55,11 +55,6 @@ static nfds_t join_streams(struct pollfd *streams, nfds_t count)
     return kept;
 }
 
-bool sleeps_on_instance(const struct ring *ring)
-{
-    return wulgach_polls_instance(ring->dormant.instance >= 0, ring->dormant.count, false);
-}
-
 /* Lists the descriptors of the running requests that wait for streams, each once. */
 static nfds_t list_streams(const struct ring *ring, struct pollfd *streams)
 {
@@ -70,7 +65,7 @@ static nfds_t list_streams(const struct ring *ring, struct pollfd *streams)
             streams[count++] = poll_of(request);
     }
     count = join_streams(streams, count);
-    if (sleeps_on_instance(ring))
+    if (wulgach_polls_instance(ring->dormant.count))
         streams[count++] = (struct pollfd){.fd = ring->dormant.instance, .events = POLLIN};
     return count;
 }
@@ -92,7 +87,15 @@ static int poll_unlocked(struct ring *ring, struct sleeper *self, nfds_t count, 
         pthread_mutex_lock(&ring->lock);
         call_by(ring, fd);
     }
-    return wulgach_slept_result(came, ring->is_parents);
+    return wulgach_sleep_came_to(came, ring->is_parents);
+}
+
+/* The process may have fewer descriptors than are polled (ppoll(2)): those that can become dormant, and the call sleeps again. */
+static bool let_more_lie(struct ring *ring)
+{
+    size_t count = ring->dormant.count;
+    let_lie(ring);
+    return ring->dormant.count > count;
 }
 
 /* (it has a frame of its own, below that of the call: by this a sleep that was left is known) */
@@ -114,6 +117,8 @@ __attribute__((noinline)) int sleep_until(struct ring *ring, const struct wulgac
     int result = poll_unlocked(ring, self, count, &limit, signals);
     end_sleep(self);
     place = 0;
+    if (result == -EINVAL && let_more_lie(ring))
+        result = 1;
     add_slept(ring, start);
     wulgach_times_wake(&ring->times, &end, result);
     return result < 0 ? result : 0;

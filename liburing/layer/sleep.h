@@ -9,9 +9,6 @@
 /* Whether the process may have another thread, which could call on a ring. */
 bool has_threads(void);
 
-/* Whether a call that sleeps polls the epoll instance of dormant requests. */
-bool sleeps_on_instance(const struct ring *ring);
-
 /* Sleeps until a stream is ready, another thread's call has changed something, or the ring's time would be `until`. Adds the time that was slept to virtual time. Returns 0 or the negative of an error
  * number. */
 int sleep_until(struct ring *ring, const struct wulgach_limit *until, const sigset_t *signals);

@@ -90,6 +90,11 @@ static void note_cancel_type(void)
     pthread_setcanceltype(own_sleeps.cancel_type, NULL);
 }
 
+static int make_eventfd(void)
+{
+    return eventfd(0, EFD_CLOEXEC | EFD_NONBLOCK);
+}
+
 struct sleeper *begin_sleep(struct ring *ring, size_t most, volatile uint64_t *place)
 {
     struct sleeper *sleeper = calloc(1, sizeof *sleeper + most * sizeof *sleeper->polled);
@@ -100,7 +105,7 @@ struct sleeper *begin_sleep(struct ring *ring, size_t most, volatile uint64_t *p
     if (!own_sleeps.innermost)
         note_cancel_type();
     *sleeper = (struct sleeper){.next = ring->sleepers, .outer = own_sleeps.innermost, .ring = ring, .place = place, .mark = next_mark()};
-    sleeper->wake = moved_high(eventfd(0, EFD_CLOEXEC | EFD_NONBLOCK));
+    sleeper->wake = made_high(make_eventfd);
     sigaltstack(NULL, &sleeper->for_handlers);
     *place = sleeper->mark;
     ring->sleepers = own_sleeps.innermost = sleeper;

@@ -70,9 +70,7 @@ bool is_found_ready(struct ring *ring, struct request *request)
 /* Whether a request is to have a file of its own. (an epoll instance keeps none open) */
 static bool is_to_hold(const struct request *request)
 {
-    if (request->standing.is_stream)
-        return wulgach_keeps_open(&request->standing, request->file, false);
-    return request->is_assigned && request->started == 0 && request->needs.needs_file && !request->needs.is_registered && !request->file;
+    return wulgach_keeps_open(&request->standing, &request->needs, request->is_assigned, request->started, request->file);
 }
 
 /* The last one for which that was done, of those that were kept one right after the other: a number is one file's meanwhile. */

@@ -32,7 +32,7 @@ static struct request *read_entry(struct ring *ring, uint32_t slot)
     wulgach_link_of(submission_of(&request->entry), &request->link);
     request->mapping = form_of(&request->entry, strict_fault(ring, &request->entry), allows_entry(ring, &request->entry), &request->fault);
     const struct request *before = ring->staged.count > 0 ? ring->staged.rows[ring->staged.count - 1] : NULL;
-    if (request->fault < 0 || copy_behind(request, before) == 0)
+    if (!wulgach_copies_pieces(request->mapping) || copy_behind(request, before) == 0)
         return request;
     free_request(request);
     return NULL;

@@ -1,8 +1,9 @@
-/* A file or a folder is taken for synced; of anything else the kernel says what it says. */
+/* What is taken for synced is the library's decision; of anything else the kernel says what it says. */
 #define _GNU_SOURCE
 #include "syncing.h"
+#include "openness.h"
+#include "wulgach_calls.h"
 
-#include <fcntl.h>
 #include <pthread.h>
 #include <stdlib.h>
 #include <string.h>
@@ -22,6 +23,9 @@ bool is_taken_for_synced(int fd)
     static pthread_once_t once = PTHREAD_ONCE_INIT;
     struct stat about;
     pthread_once(&once, read_environment);
-    bool is_open = is_skipping && fstat(fd, &about) == 0 && !(fcntl(fd, F_GETFL) & O_PATH);
-    return is_open && (S_ISREG(about.st_mode) || S_ISDIR(about.st_mode));
+    if (!is_skipping || fstat(fd, &about) < 0)
+        return false;
+    struct wulgach_openness openness = openness_of(fd);
+    struct wulgach_synced_kind kind = {.is_regular = S_ISREG(about.st_mode), .is_folder = S_ISDIR(about.st_mode)};
+    return wulgach_counts_as_synced(&openness, &kind);
 }

@@ -26,7 +26,7 @@ static void fire(struct ring *ring, const struct wulgach_timeout *timeout)
 /* Whether a request runs for whose descriptor a sleep polls. */
 static bool is_streaming(const struct ring *ring)
 {
-    if (sleeps_on_instance(ring))
+    if (wulgach_polls_instance(ring->dormant.count))
         return true;
     for (size_t i = 0; i < ring->running.count; i++)
         if (wulgach_polls(&ring->running.rows[i]->standing))
@@ -43,6 +43,25 @@ static struct wulgach_wake_sources wake_sources(const struct ring *ring)
         .has_threads = wulgach_times_asks_threads(&ring->times, has_streams) && has_threads(),
         .is_real = is_time_real(),
     };
+}
+
+/* Whether a signal waits that comes as soon as the call has this mask. */
+static bool has_signal(const sigset_t *mask)
+{
+    sigset_t waiting;
+    if (sigpending(&waiting) < 0)
+        return false;
+    for (int number = 1; number < NSIG; number++)
+        if (sigismember(&waiting, number) > 0 && sigismember(mask, number) == 0)
+            return true;
+    return false;
+}
+
+/* Before time is moved on, or nothing is waited for, that signal comes: in a sleep that takes no time. */
+static void sleep_for_signal(const struct ring *ring, struct wulgach_wait *wait)
+{
+    *wait = (struct wulgach_wait){.until.is_set = true, .kind = WULGACH_WAIT_SLEEP};
+    wulgach_times_deadline(&ring->times, &wait->until);
 }
 
 /* Waits as the library says, and notes what is known then. */
@@ -69,6 +88,8 @@ enum wulgach_reply_kind wait_for_any(struct ring *ring, const struct wulgach_lim
     struct wulgach_wake_sources sources = wake_sources(ring);
     struct wulgach_wait wait;
     wulgach_times_wait(&ring->times, ring->timeouts, ring->timeouts_room, &sources, deadline, &wait);
+    if (wait.kind != WULGACH_WAIT_SLEEP && has_signal(signals))
+        sleep_for_signal(ring, &wait);
     struct wulgach_waited waited = wait_as(ring, &wait, signals);
     if (wulgach_fires_behind(&waited)) {
         struct wulgach_woken woken;

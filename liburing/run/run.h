@@ -20,6 +20,9 @@ void say(const char *message, const char *of);
 int real_sigaction(int number, const struct sigaction *action, struct sigaction *before);
 int real_sigmask(int how, const sigset_t *set, sigset_t *before);
 
+/* The set without SIGSYS, in this copy. NULL stays NULL. */
+const sigset_t *without_trap(const sigset_t *set, sigset_t *copy);
+
 /* While a call is served all signals are blocked but SIGSYS and the two of the C library's own. */
 #define OPEN_IN_TRAP ((uint64_t)1 << (SIGSYS - 1) | (uint64_t)3 << 31)
 
@@ -42,8 +45,8 @@ struct sock_fprog;
 /* Adds a filter of our own for system calls. The kernel was told before that the process takes no new privileges. */
 bool add_filter(const struct sock_fprog *program);
 
-/* Whether a signal came on a stack of its own, which may be small; and calling a function on one that is large. */
-bool is_on_signal_stack(const ucontext_t *at);
+/* Whether a signal came on a stack of its own, which may be small, or on a thread's that is; and calling a function on one that is large. */
+bool wants_own_stack(const ucontext_t *at);
 void call_on_own_stack(const ucontext_t *at, void (*function)(void *), void *argument);
 
 /* Goes back to where a call was trapped, with the registers and the mask of signals that stand there. Where that can't be done here

@@ -1,5 +1,5 @@
-/* A program may have its signals on a stack of its own, as the runtime of Go, whose other stacks are small. The layer wants
- * more than these have: so it runs on one that is mapped for the thread. Meanwhile other signals come on another part of that:
+/* A program may have its signals on a stack of its own, as the runtime of Go, whose other stacks are small; and a thread may have been made with a small
+ * one (pthread_attr_setstacksize(3)). The layer wants more than these have: so it runs on one that is mapped for the thread. Meanwhile other signals come on another part of that:
  * the program's own signal stack holds the frame that this call returns to.
  */
 #define _GNU_SOURCE
@@ -45,9 +45,32 @@ static char *map(void)
     return memory == MAP_FAILED ? NULL : memory;
 }
 
-bool is_on_signal_stack(const ucontext_t *at)
+static bool is_on_signal_stack(const ucontext_t *at)
 {
     return at->uc_stack.ss_size > 0 && (uintptr_t)at - (uintptr_t)at->uc_stack.ss_sp < at->uc_stack.ss_size;
+}
+
+/* Whether the thread was made with a small stack. That of the process's first thread grows. */
+static bool has_small_stack(void)
+{
+    enum { SMALL = 1 << 17 };
+    static __thread bool is_known, is_small;
+    pthread_attr_t attributes;
+    size_t size = SMALL;
+    if (is_known || getpid() == gettid())
+        return is_small;
+    if (pthread_getattr_np(pthread_self(), &attributes) == 0) {
+        pthread_attr_getstacksize(&attributes, &size);
+        pthread_attr_destroy(&attributes);
+    }
+    is_known = true;
+    is_small = size < SMALL;
+    return is_small;
+}
+
+bool wants_own_stack(const ucontext_t *at)
+{
+    return is_on_signal_stack(at) || has_small_stack();
 }
 
 struct task {
@@ -88,10 +111,10 @@ void allow_bypass(const ucontext_t *at)
     static __thread bool is_allowed;
     if (is_allowed)
         return;
-    if (is_on_signal_stack(at))
+    if (wants_own_stack(at))
         make_own();
     is_allowed = true;
-    bypass_stack = !is_on_signal_stack(at) ? HERE : own ? (uintptr_t)own + WHOLE : NONE;
+    bypass_stack = !wants_own_stack(at) ? HERE : own ? (uintptr_t)own + WHOLE : NONE;
 }
 
 void call_on_own_stack(const ucontext_t *at, void (*function)(void *), void *argument)

@@ -144,7 +144,7 @@ static void answer(int number, siginfo_t *info, void *context)
     if (info->si_code != BY_FILTER)
         return;
     int kept = errno;
-    if (is_on_signal_stack(trapped.at))
+    if (wants_own_stack(trapped.at))
         call_on_own_stack(trapped.at, serve_trapped, &trapped);
     else
         serve_trapped(&trapped);

@@ -67,9 +67,21 @@ static int until_write, until_read;
 static bool is_taking_edges;
 static unsigned count_edges(void);
 
+/* The ring's descriptor, which another thread closes in a call's first look, or -1: then its number is of an epoll instance of the program's own. */
+static int closed_in_look = -1;
+
+static void reopen(void)
+{
+    int fd = closed_in_look;
+    closed_in_look = -1;
+    if (fd >= 0)
+        check(close(fd) == 0 && epoll_create1(EPOLL_CLOEXEC) == fd);
+}
+
 static int use_pipe(int result)
 {
     char byte;
+    reopen();
     if (is_taking_edges)
         count_edges();
     if (raced && result == 0 && until_write-- == 0)
@@ -278,6 +290,52 @@ static void test_edges(void)
     check(sem_post(&may_begin) == 0 && pthread_join(thread, NULL) == 0);
 }
 
+/* How many descriptors an epoll instance has. */
+static unsigned count_polled(int instance)
+{
+    char path[64], line[256];
+    unsigned count = 0;
+    snprintf(path, sizeof path, "/proc/self/fdinfo/%d", instance);
+    FILE *told = fopen(path, "re");
+    check(told != NULL);
+    while (fgets(line, sizeof line, told))
+        count += strncmp(line, "tfd:", 4) == 0;
+    fclose(told);
+    return count;
+}
+
+/* A call that doesn't sleep has its descriptor closed meanwhile, and its number is another's: that is left alone, however many wait. */
+static void reopened(unsigned others)
+{
+    struct ring ring;
+    int quiet[2];
+    check(pipe(quiet) == 0);
+    make_ring(&ring, 64, 0, 0);
+    int copy = dup(ring.fd), first = ring.fd;
+    check(copy >= 0);
+    for (unsigned i = 0; i < others; i++) {
+        struct io_uring_sqe *entry = put(&ring, IORING_OP_POLL_ADD, 0, 0);
+        entry->fd = quiet[0];
+        entry->poll32_events = POLLIN;
+    }
+    closed_in_look = ring.fd;
+    check(enter(&ring, others, 0, IORING_ENTER_GETEVENTS) == (long)others);
+    check(closed_in_look < 0 && count_polled(first) == 0);
+    ring.fd = copy;
+    check(enter_for(&ring, 1, 1000) == -ETIME && !is_readable(&ring, 0));
+    check(write(quiet[1], "x", 1) == 1 && is_readable(&ring, 1000));
+    close(first);
+    close(quiet[0]);
+    close(quiet[1]);
+    close_ring(&ring);
+}
+
+static void test_reopened(void)
+{
+    reopened(1);
+    reopened(40);
+}
+
 int main(int count, char **words)
 {
     static const struct named tests[] = {
@@ -286,6 +344,7 @@ int main(int count, char **words)
         {"heard by another", test_heard_by_another},
         {"two descriptors", test_two_descriptors},
         {"edges", test_edges},
+        {"reopened", test_reopened},
     };
     alarm((unsigned)(PATIENCE * patience()));
     return run_tests(tests, sizeof tests / sizeof *tests, count > 1 ? words[1] : NULL);

@@ -159,6 +159,45 @@ static void test_fork_from_signal(void)
     close_ring(&ring);
 }
 
+static volatile sig_atomic_t heard;
+
+static void hear_signal(int number)
+{
+    (void)number;
+    heard++;
+}
+
+static long enter_with(const struct ring *ring, unsigned min_complete, const uint64_t *mask)
+{
+    long result = wulgach_syscall(SYS_io_uring_enter, ring->fd, 0u, min_complete, IORING_ENTER_GETEVENTS, mask, sizeof *mask);
+    return result < 0 ? -errno : result;
+}
+
+/* A signal that waits, and that the mask of a call lets come, ends the call: before time is moved on, and where nothing else could. One that nobody hears
+ * ends nothing. */
+static void test_waiting_signal(void)
+{
+    struct sigaction action = {.sa_handler = hear_signal};
+    struct __kernel_timespec long_time = {.tv_sec = 100};
+    const uint64_t none = 0;
+    struct ring ring;
+    sigset_t blocked, before;
+    make_ring(&ring, 4, 0, 0);
+    sigemptyset(&blocked);
+    sigaddset(&blocked, SIGUSR2);
+    sigaddset(&blocked, SIGWINCH);
+    check(sigaction(SIGUSR2, &action, NULL) == 0 && pthread_sigmask(SIG_BLOCK, &blocked, &before) == 0);
+    check(raise(SIGUSR2) == 0 && enter_with(&ring, 1, &none) == -EINTR && heard == 1);
+    put_transfer(&ring, IORING_OP_TIMEOUT, 5, 0, -1, &long_time, 1, 0);
+    check(raise(SIGUSR2) == 0 && enter(&ring, 1, 0, 0) == 1);
+    check(enter_with(&ring, 1, &none) == -EINTR && heard == 2 && count_ready(&ring) == 0);
+    check(raise(SIGWINCH) == 0 && enter_with(&ring, 1, &none) == 0 && heard == 2);
+    struct completion found = reap(&ring);
+    check(found.user_data == 5 && found.res == -ETIME);
+    check(pthread_sigmask(SIG_SETMASK, &before, NULL) == 0);
+    close_ring(&ring);
+}
+
 int main(int count, char **words)
 {
     static const struct named tests[] = {
@@ -166,6 +205,7 @@ int main(int count, char **words)
         {"jump", test_jump},
         {"stack in a stack", test_stack_in_a_stack},
         {"fork from a signal", test_fork_from_signal},
+        {"waiting signal", test_waiting_signal},
     };
     alarm((unsigned)(PATIENCE * patience()));
     return run_tests(tests, sizeof tests / sizeof *tests, count > 1 ? words[1] : NULL);

@@ -1,9 +1,8 @@
--- What the end of a request makes of others, and its start, in words that C can read.
+-- What the end of a request makes of others, in words that C can read.
 use Rattle.std.specs.Prelude.{ℕ, ◌^◌, if◌then◌else◌}
 use Rattle.std.specs.Int.RustNames.{bit_or}
 use Rattle.uring_enter.specs.declared.following.BehindEnd.{BehindEnd}
-use Rattle.uring_enter.specs.declared.following.AtStart.{AtStart}
-use Rattle.uring_enter.specs.Following.{EndDuty, Counts, StopsTimeout, LooksAtCounts, Unwatches, ForgetsDescriptor, LooksBehind, LetsStart, EndsDrain, Leaves, HasEnds, end_place, is_end_due, StartDuty, FindsEarlier, FindsOwn, BeginsTimeout, StartsPoll, NotesRunning, LooksAtDescriptor, SeeksBuffer, start_place, is_start_due}
+use Rattle.uring_enter.specs.Following.{EndDuty, Counts, StopsTimeout, LooksAtCounts, Unwatches, ForgetsDescriptor, LooksBehind, LetsStart, EndsDrain, Leaves, HasEnds, end_place, is_end_due}
 
 -- the bit of what is due is 2 to the power of its place: so it is done by rising bits. Our own rule
 abbrev pub end_bit : BehindEnd → EndDuty → ℕ
@@ -15,12 +14,3 @@ word_of_end d =
     (end_bit d Counts) (end_bit d StopsTimeout)) (end_bit d LooksAtCounts)) (end_bit d Unwatches))
     (end_bit d ForgetsDescriptor)) (end_bit d LooksBehind)) (end_bit d LetsStart)) (end_bit d EndsDrain))
     (end_bit d Leaves)) (end_bit d HasEnds)
-
-abbrev pub start_bit : AtStart → StartDuty → ℕ
-start_bit d duty = if is_start_due d duty then 2 ^ start_place duty else 0
-
-abbrev pub word_of_start : AtStart → ℕ
-word_of_start d =
-    bit_or (bit_or (bit_or (bit_or (bit_or (bit_or
-    (start_bit d FindsEarlier) (start_bit d FindsOwn)) (start_bit d BeginsTimeout)) (start_bit d StartsPoll))
-    (start_bit d NotesRunning)) (start_bit d LooksAtDescriptor)) (start_bit d SeeksBuffer)

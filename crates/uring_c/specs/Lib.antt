@@ -13,5 +13,6 @@ pub mod SleepForm
 pub mod MeansForm
 pub mod PinningForm
 pub mod UnknownForm
+pub mod StartForm
 pub mod FollowingForm
 pub mod PassageForm

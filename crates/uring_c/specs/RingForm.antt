@@ -65,6 +65,10 @@ word_of_awaited awaited.NotAwaited = 0
 word_of_awaited awaited.Runs = 1
 word_of_awaited awaited.Waits = 2
 
+-- the same where it is the request's turn, else 3. Our own rule
+abbrev pub word_of_turn : Bool → Awaited → ℕ
+word_of_turn is_turn awaited = if is_turn then word_of_awaited awaited else 3
+
 -- what an entry is to the core, by the word that `word_of_form` gives it
 abbrev pub form_of_word : ℕ → Form
 form_of_word word =

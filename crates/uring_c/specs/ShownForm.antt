@@ -1,5 +1,9 @@
--- What is to be stored into ring memory, in words that C can read.
-use Rattle.std.specs.Prelude.{true, false}
+-- What is to be stored into ring memory, when a ring's descriptor is readable, and what a completion tells of, in words that C can read.
+use Rattle.std.specs.Prelude.{ℕ, true, false}
+use Rattle.uring_enter.specs.declared.readable.Readable.{Readable}
+use Rattle.uring_enter.specs.declared.readable.Readable.TheVariants as readable
+use Rattle.uring_enter.specs.declared.shot.Part.{Part}
+use Rattle.uring_enter.specs.declared.shot.Part.TheVariants as part
 use Rattle.uring_enter.specs.declared.showing.Store.{Store}
 use Rattle.uring_enter.specs.declared.showing.Store.TheVariants.{Cell, Tail}
 use Rattle.uring_c.specs.declared.shown_exports.StoreWords.{StoreWords}
@@ -7,3 +11,18 @@ use Rattle.uring_c.specs.declared.shown_exports.StoreWords.{StoreWords}
 abbrev pub words_of_store : Store → StoreWords
 words_of_store (Cell place position) = record { place = place; position = position; is_cell = true }
 words_of_store (Tail position) = record { place = 0; position = position; is_cell = false }
+
+-- whether it is, and what is asked, counts in the order of `Readable`, from 0. Our own rule
+abbrev pub word_of_readable : Readable → ℕ
+word_of_readable readable.IsNot = 0
+word_of_readable readable.Is = 1
+word_of_readable readable.AsksRequests = 2
+word_of_readable readable.AsksTime = 3
+
+-- what a completion tells of counts in the order of `Part`, from 0. Our own rule
+abbrev pub word_of_part : Part → ℕ
+word_of_part part.Event = 0
+word_of_part part.Sent = 1
+word_of_part part.Notice = 2
+word_of_part part.Own = 3
+word_of_part part.Cancelled = 4

@@ -13,12 +13,13 @@ ghost use Rattle.uring_enter.specs.Showing.{Change, KeepsShown};
 ghost use Rattle.uring_enter.specs.Showing.{Posted as WasPosted};
 ghost use Rattle.uring_enter.specs.Postings.{Posting, Ended, KeepsPosted, is_taken, with_res, posts};
 ghost use Rattle.uring_crossing.specs.CourseForm.{fact_of, word_of_act, res_of_act, last_of, word_of_end, is_refused, part_of};
+ghost use Rattle.uring_c.specs.ShownForm.{word_of_part};
 
 use uring_crossing::completion_words::CompletionWords;
 use uring_crossing::course_words::{act_res, act_word, fact, last, part};
 use uring_enter::{
-    Carried, Course, EndedEarly, Entry, Fact, Member, Posted, Shown, Submission, completion_flags,
-    has_succeeded, looks_for_next, looks_for_running, shown_of,
+    Carried, Course, EndedEarly, Entry, Fact, Member, Part, Posted, Shown, Submission,
+    completion_flags, end_of_send, has_succeeded, looks_for_next, looks_for_running, shown_of,
 };
 
 /// A request that was accepted just now.
@@ -157,6 +158,26 @@ pub extern "C" fn wulgach_completion_flags(of: u32, of_buffer: u32) -> u32
     ensures { result ≡ shots.completion_flags (part_of of) of_buffer }
 {
     completion_flags(part(of), of_buffer)
+}
+
+/// Returns what the end of a send without copies tells of that has two completions, where the other was posted before or is put off.
+#[unsafe(no_mangle)]
+pub extern "C" fn wulgach_end_of_send(is_posted: bool) -> u32
+    ensures { result ≡ word_of_part (shots.end_of_send is_posted) }
+{
+    part_word(end_of_send(is_posted))
+}
+
+fn part_word(part: Part) -> u32
+    ensures { result ≡ word_of_part part }
+{
+    match part {
+        Part::Event => 0,
+        Part::Sent => 1,
+        Part::Notice => 2,
+        Part::Own => 3,
+        Part::Cancelled => 4,
+    }
 }
 
 /// Whether a cancel that the core has ended so has found a request that runs.

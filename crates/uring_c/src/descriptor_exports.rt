@@ -4,11 +4,13 @@ ghost use Rattle.uring_enter.specs.Descriptors as found;
 ghost use Rattle.uring_enter.specs.Openness as opened;
 ghost use Rattle.uring_enter.specs.Readiness as ready;
 ghost use Rattle.uring_enter.specs.Signals as signals;
+ghost use Rattle.uring_enter.specs.Syncing as syncing;
+ghost use Rattle.uring_c.specs.UnknownForm.{known_of};
 
 use uring_enter::{
-    Nature, Openness, SplicePoll, Submission, asks_counter, asks_openness, counts_as_open,
-    ends_at_start, fault_asks_buffer, is_counter_name, is_eventfd_name, is_missing,
-    is_signal_of_call, may_signal, splice_poll,
+    Nature, Openness, SplicePoll, Submission, SyncedKind, asks_counter, asks_openness,
+    counts_as_open, counts_as_synced, ends_at_start, fault_asks_buffer, is_counter_name,
+    is_eventfd_name, is_limited, is_missing, is_signal_of_call, may_signal, splice_poll,
 };
 
 /// Whether a descriptor counts as open that is this, and is named by its number, or by the slot that holds its file.
@@ -85,12 +87,28 @@ pub extern "C" fn wulgach_asks_counter(entry: &Submission, length: u64, nature: 
     asks_counter(entry, length, nature)
 }
 
+/// Whether an fsync(2) of a descriptor that is this is taken for done by whoever needn't wait for the disk.
+#[unsafe(no_mangle)]
+pub extern "C" fn wulgach_counts_as_synced(openness: &Openness, kind: &SyncedKind) -> bool
+    ensures { result ≡ syncing.counts_as_synced openness.now kind.now }
+{
+    counts_as_synced(openness, kind)
+}
+
 /// Whether a signal may have come of an operation that ended with this.
 #[unsafe(no_mangle)]
 pub extern "C" fn wulgach_may_signal(entry: &Submission, res: i32) -> bool
     ensures { result ≡ signals.may_signal entry.now res }
 {
     may_signal(entry, res)
+}
+
+/// Whether the kernel may send a signal for a file that gets too long, where this is the greatest length that the process may give one, if that is known.
+#[unsafe(no_mangle)]
+pub extern "C" fn wulgach_is_limited(knows: bool, most: u64) -> bool
+    ensures { result ≡ signals.is_limited (known_of knows most) }
+{
+    is_limited(if knows { Some(most) } else { None })
 }
 
 /// Whether a signal that was taken is that of the call.

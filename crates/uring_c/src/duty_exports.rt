@@ -7,7 +7,7 @@ ghost use Rattle.uring_c.specs.DutyForm.{word_of_duties};
 use uring_enter::{
     Duties, Resting, duties_at_begin, duties_at_register_begin, duties_at_register_return,
     duties_at_rest, duties_at_return, duties_before, duties_before_posting, duties_before_sleep,
-    duties_behind_posting, polls_instance, polls_writes,
+    duties_behind_posting, duties_behind_storing, polls_instance, polls_writes,
 };
 use uring_register::may_post;
 
@@ -93,6 +93,14 @@ pub extern "C" fn wulgach_duties_behind_posting(has_ends: bool, is_polled: bool)
     duties_word(duties_behind_posting(has_ends, is_polled))
 }
 
+/// What is done behind completions that were stored, of so many of which a registered eventfd is told.
+#[unsafe(no_mangle)]
+pub extern "C" fn wulgach_duties_behind_storing(told: u64) -> u32
+    ensures { result ≡ word_of_duties (spec.behind_storing told) }
+{
+    duties_word(duties_behind_storing(told))
+}
+
 /// What a call does before the operation of this code is carried out.
 #[unsafe(no_mangle)]
 pub extern "C" fn wulgach_duties_before(code: u8, has_ends: bool) -> u32
@@ -114,13 +122,22 @@ fn duties_word(duties: Duties) -> u32
         | bit(128, duties.tells_readiness)
         | bit(256, duties.hears_application)
         | bit(512, duties.shows_flags)
+        | bit(1024, duties.tells_eventfd)
 }
 
-/// A bit of a set, or 0.
-pub(crate) fn bit(weight: u32, is_due: bool) -> u32
+/// A bit of a set that is done by rising bits.
+pub fn bit(weight: u32, is_due: bool) -> u32
     ensures { result ≡ (if is_due then weight else 0) }
 {
     if is_due { weight } else { 0 }
+}
+
+/// Whether a sleep polls the epoll instance that tells of those that are dormant, of which there are so many.
+#[unsafe(no_mangle)]
+pub extern "C" fn wulgach_polls_instance(dormant: u64) -> bool
+    ensures { result ≡ spec.polls_instance dormant }
+{
+    polls_instance(dormant)
 }
 
 /// Whether a sleep polls what tells of writes to pipes, of which so many are watched.
@@ -129,16 +146,4 @@ pub extern "C" fn wulgach_polls_writes(watched: u64) -> bool
     ensures { result ≡ spec.polls_writes watched }
 {
     polls_writes(watched)
-}
-
-/// Whether the epoll instance that tells of dormant requests is polled for, by a call that sleeps or by the ring's own descriptor.
-#[unsafe(no_mangle)]
-pub extern "C" fn wulgach_polls_instance(
-    has_instance: bool,
-    dormant: u64,
-    is_own_descriptor: bool,
-) -> bool
-    ensures { result ≡ spec.polls_instance has_instance dormant is_own_descriptor }
-{
-    polls_instance(has_instance, dormant, is_own_descriptor)
 }

@@ -1,7 +1,7 @@
 //! What an entry is to the core, and which requests go on, for C: the functions of `c/wulgach_form.h`.
 ghost use Rattle.std.specs.Prelude.{◌≡◌, List};
 ghost use Rattle.uring_enter.specs.Copies as copies;
-ghost use Rattle.uring_enter.specs.Forms.{form_copied, form_of};
+ghost use Rattle.uring_enter.specs.Forms.{copies_pieces, form_copied, form_of};
 ghost use Rattle.uring_enter.specs.Rules.{rule_of, is_rule};
 ghost use Rattle.uring_enter.specs.Showing.{Change, KeepsShown};
 ghost use Rattle.uring_enter.specs.Shots.{goes_on, has_room, shot_of, tells};
@@ -9,7 +9,9 @@ ghost use Rattle.uring_c.specs.EntryForm.{word_of_form, fault_of_form};
 ghost use Rattle.uring_c.specs.RingForm.{form_of_word};
 
 use crate::entry_exports::form_by_word;
-use uring_enter::{Entry, Form, Posted, Shown, Submission, form_copied, form_of, link_of, rule_of};
+use uring_enter::{
+    Entry, Form, Posted, Shown, Submission, copies_pieces, form_copied, form_of, link_of, rule_of,
+};
 
 /// Returns what an entry is to the core, and writes its fault, or 0. `refusal` is the error with which a strict ring refuses it, or 0.
 #[unsafe(no_mangle)]
@@ -25,6 +27,14 @@ pub extern "C" fn wulgach_form_of(
     let form = form_of(entry, refusal, is_allowed);
     *fault = form_fault(form);
     form_word(form)
+}
+
+/// Whether what an entry points to is copied that is this to the core.
+#[unsafe(no_mangle)]
+pub extern "C" fn wulgach_copies_pieces(form: u32) -> bool
+    ensures { result ≡ copies_pieces (form_of_word form) }
+{
+    copies_pieces(form_by_word(form))
 }
 
 /// Returns what an entry is that was this before, once what it points to is copied with this fault, or 0.

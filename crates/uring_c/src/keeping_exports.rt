@@ -2,7 +2,9 @@
 ghost use Rattle.std.specs.Prelude.{◌≡◌};
 ghost use Rattle.uring_enter.specs.Keeping as keeping;
 
-use uring_enter::{counts_as_written, keeps_before_close, may_close_last, stays_open, tells_anew};
+use uring_enter::{
+    asks_locks, counts_as_written, keeps_before_close, may_close_last, stays_open, tells_anew,
+};
 
 /// Whether the request of this number, on this descriptor, keeps its file before a close of this number, of this descriptor.
 #[unsafe(no_mangle)]
@@ -39,17 +41,25 @@ pub extern "C" fn wulgach_tells_anew(
     was_readable: bool,
     is_readable: bool,
     has_posted: bool,
-    may_have_others: bool,
+    may_wait_for_edges: bool,
 ) -> bool
-    ensures { result ≡ keeping.tells_anew was_readable is_readable has_posted may_have_others }
+    ensures { result ≡ keeping.tells_anew was_readable is_readable has_posted may_wait_for_edges }
 {
-    tells_anew(was_readable, is_readable, has_posted, may_have_others)
+    tells_anew(was_readable, is_readable, has_posted, may_wait_for_edges)
 }
 
-/// Whether a copy of a file's descriptor stays open that nobody needs.
+/// Whether it is asked, as a copy of a file's descriptor is to be closed that nobody needs, if the process has locks on the file.
 #[unsafe(no_mangle)]
-pub extern "C" fn wulgach_stays_open(is_locked: bool, left: u64, most: u64) -> bool
-    ensures { result ≡ keeping.stays_open is_locked left most }
+pub extern "C" fn wulgach_asks_locks(is_regular: bool) -> bool
+    ensures { result ≡ keeping.asks_locks is_regular }
 {
-    stays_open(is_locked, left, most)
+    asks_locks(is_regular)
+}
+
+/// Whether a copy of a file's descriptor stays open that nobody needs, beside so many others.
+#[unsafe(no_mangle)]
+pub extern "C" fn wulgach_stays_open(is_locked: bool, others: u64) -> bool
+    ensures { result ≡ keeping.stays_open is_locked others }
+{
+    stays_open(is_locked, others)
 }

@@ -38,6 +38,7 @@ mod set_up_exports;
 mod shown_exports;
 mod sleeper_exports;
 mod sleeping_exports;
+mod starting_exports;
 mod stepping_exports;
 mod strict_exports;
 mod structure_exports;

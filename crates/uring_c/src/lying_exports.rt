@@ -1,7 +1,5 @@
-//! What a look at descriptors says, which requests become dormant, and what is told of writes, for C: functions of `c/wulgach_lookout.h`.
+//! What a look at descriptors says, what an epoll instance tells of requests that are dormant, and what is told of writes, for C: functions of `c/wulgach_lookout.h`.
 ghost use Rattle.std.specs.Prelude.{◌≡◌, true, List, ◌∷◌};
-ghost use Rattle.uring_enter.specs.declared.act.Fact.{Fact};
-ghost use Rattle.uring_enter.specs.Courses.{KeepsCourse, is_cancelled};
 ghost use Rattle.uring_enter.specs.Glances as glances;
 ghost use Rattle.uring_enter.specs.Lookouts.{Happening, Changed, KeepsLookout, may_be_own};
 ghost use Rattle.uring_enter.specs.Lying as lying;
@@ -10,9 +8,7 @@ ghost use Rattle.uring_enter.specs.Waiters.{Encounter, Around, WasSeen, KeepsWai
 ghost use Rattle.uring_c.specs.PassageForm.{word_of_glance, word_of_answered, word_of_gone};
 ghost use Rattle.uring_c.specs.RingForm.{known_if};
 
-use uring_enter::{
-    Answered, Course, Glance, Gone, Lookout, Needs, Standing, Waiter, answer_of, glance_of,
-};
+use uring_enter::{Answered, Glance, Gone, Lookout, Waiter, answer_of, glance_of};
 
 /// Returns what a poll(2), of one descriptor or of many, says of a request.
 #[unsafe(no_mangle)]
@@ -29,23 +25,6 @@ pub extern "C" fn wulgach_glance_of(
         Glance::Ready => 1,
         Glance::AsksAlone => 2,
     }
-}
-
-/// Whether a request becomes dormant, if the instance takes its descriptor.
-#[unsafe(no_mangle)]
-pub extern "C" fn wulgach_waiter_lies_down(
-    waiter: &Waiter,
-    lookout: &Lookout,
-    is_refused: bool,
-    standing: &Standing,
-    needs: &Needs,
-    course: &Course,
-) -> bool
-    ensures { (log : List Encounter) (facts : List Fact) → KeepsLookout (around log) lookout.now
-        → KeepsWaiter log waiter.now → KeepsCourse facts course.now
-        → result ≡ lying.lies_down log is_refused standing.now needs.now (is_cancelled facts) }
-{
-    waiter.lies_down(lookout, is_refused, standing, needs, course)
 }
 
 /// The instance has told that its descriptor is ready, by which it is dormant no more.

@@ -1,12 +1,17 @@
 //! What a message to another ring does, for C: functions of `c/wulgach_form.h`.
 ghost use Rattle.std.specs.Prelude.{◌≡◌, is_some, unwrap_or};
 ghost use Rattle.uring_enter.specs.Messages as spec;
-ghost use Rattle.uring_enter.specs.MessagesLeft as left;
 ghost use Rattle.uring_c.specs.MessageForm.{word_of_sending, fault_of_sending};
 
-use uring_enter::{
-    Message, Receiver, Sending, Submission, looks_again, posts_message, sending_of, told_of,
-};
+use uring_enter::{Message, Receiver, Sending, Submission, may_be_ring, sending_of, told_of};
+
+/// Whether the file that the entry of a message names may be a ring's.
+#[unsafe(no_mangle)]
+pub extern "C" fn wulgach_may_be_ring(entry: &Submission) -> bool
+    ensures { result ≡ spec.may_be_ring entry.now }
+{
+    may_be_ring(entry)
+}
 
 /// Returns what a message to this ring does, and writes its error, or 0.
 #[unsafe(no_mangle)]
@@ -51,20 +56,4 @@ pub extern "C" fn wulgach_told_of(entry: &Submission, res: i32, message: &mut Me
         }
         None => false,
     }
-}
-
-/// Whether the oldest message that is left is posted, if there is one.
-#[unsafe(no_mangle)]
-pub extern "C" fn wulgach_posts_message(has_messages: bool, may_post: bool) -> bool
-    ensures { result ≡ left.posts_message has_messages may_post }
-{
-    posts_message(has_messages, may_post)
-}
-
-/// Whether who has posted messages, and gives the ring up, looks once more.
-#[unsafe(no_mangle)]
-pub extern "C" fn wulgach_looks_again(has_messages: bool, may_post: bool) -> bool
-    ensures { result ≡ left.looks_again has_messages may_post }
-{
-    looks_again(has_messages, may_post)
 }

@@ -1,13 +1,11 @@
-//! In which order a call is refused, with which fault one that is to sleep fails, and what its sleep came to, for C: functions of `c/wulgach_enter.h` and `c/wulgach_waits.h`.
+//! In which order a call is refused, and with which fault one that is to sleep fails, for C: functions of `c/wulgach_enter.h`.
 ghost use Rattle.std.specs.Prelude.{◌≡◌};
 ghost use Rattle.uring_enter.specs.Passages as spec;
 ghost use Rattle.uring_enter.specs.Slept as slept;
 ghost use Rattle.uring_c.specs.PassageForm.{word_of_passage, check_of};
 ghost use Rattle.uring_c.specs.UnknownForm.{known_of};
 
-use uring_enter::{
-    Check, Passage, asks_mask, next_of_entering, next_of_registering, sleep_fault, slept_result,
-};
+use uring_enter::{Check, Passage, asks_mask, next_of_entering, next_of_registering, sleep_fault};
 
 /// Returns what comes next of a call of io_uring_enter(2) with these flags, behind a check that came to `res`, or the error with which it is refused.
 #[unsafe(no_mangle)]
@@ -67,12 +65,4 @@ pub extern "C" fn wulgach_sleep_fault(argument: i32, has_read: bool, mask: i32) 
 {
     let read = if has_read { Some(mask) } else { None };
     sleep_fault(argument, read)
-}
-
-/// What a sleep came to whose ppoll(2) came to this.
-#[unsafe(no_mangle)]
-pub extern "C" fn wulgach_slept_result(came: i32, is_another_process: bool) -> i32
-    ensures { result ≡ slept.slept_result came is_another_process }
-{
-    slept_result(came, is_another_process)
 }

@@ -14,9 +14,9 @@ ghost use Rattle.uring_crossing.specs.CourseForm.{entry_of};
 
 use uring_crossing::course_words::entry_if;
 use uring_enter::{
-    Copying, Entry, Header, Piece, Submission, What, has_one_buffer, how_fault, length_with,
-    message_vectors, name_fault, next_message_piece, next_piece, open_fault, time_fault,
-    vector_fault, wanted_of,
+    Copying, Entry, Header, Piece, Submission, What, has_one_buffer, how_fault, is_own_fault,
+    length_with, message_vectors, name_fault, next_message_piece, next_piece, open_fault,
+    time_fault, vector_fault, wanted_of,
 };
 
 /// A piece that is copied: `struct wulgach_piece` of the header.
@@ -37,6 +37,14 @@ pub struct CopiedWords {
     pub vectors: u32,
     pub before: Entry,
     pub has_before: bool,
+}
+
+/// Whether what copying what an entry points to came to is a fault of the entry's own.
+#[unsafe(no_mangle)]
+pub extern "C" fn wulgach_is_own_fault(fault: i32) -> bool
+    ensures { result ≡ copies.is_own_fault fault }
+{
+    is_own_fault(fault)
 }
 
 /// Writes the piece that is copied next, and returns 1. Else nothing more is copied: returns the fault of the entry, or 0.

@@ -1,11 +1,12 @@
 //! What the application is shown, for C: the functions of `c/wulgach_shown.h`.
-ghost use Rattle.std.specs.Prelude.{◌≡◌, ◌+◌, ◌-◌, ◌^◌, ◌<◌, ◌≤◌, ℕ, pos, negsuc, drop, MatchOption, List, [], ◌∷◌, nat_le};
-ghost use Rattle.uring_enter.specs.Showing.{Change, Posted, Reaped, KeepsShown, IsTold, posted, written, reaped, store_of, behind_store, heard_of, overflows, loads_head, is_readable, may_bring, ready, flags_of};
+ghost use Rattle.std.specs.Prelude.{◌≡◌, ◌+◌, ◌≤◌, ℕ, pos, negsuc, drop, MatchOption, List, [], ◌∷◌, nat_le};
+ghost use Rattle.uring_enter.specs.Showing.{Change, Reaped, KeepsShown, IsTold, posted, written, reaped, store_of, behind_store, heard_of, overflows, loads_head, may_bring, ready, flags_of};
+ghost use Rattle.uring_enter.specs.Prospects.{readable_of};
 ghost use Rattle.uring_enter.specs.declared.posted.Posted.{Posted as Row};
 ghost use Rattle.uring_enter.specs.Postings.{Posting, Reaped as RowsReaped, KeepsPosted};
-ghost use Rattle.uring_c.specs.ShownForm.{words_of_store};
+ghost use Rattle.uring_c.specs.ShownForm.{word_of_readable, words_of_store};
 
-use uring_enter::{Shown, Store};
+use uring_enter::{Prospect, Readable, Shown, Store};
 
 /// What is to be stored next: `struct wulgach_store` of the header.
 #[repr(C)]
@@ -22,15 +23,6 @@ pub extern "C" fn wulgach_shown_begin(shown: &mut Shown)
     ensures { KeepsShown [] shown.new }
 {
     *shown = Shown::begin();
-}
-
-/// A completion was posted.
-#[unsafe(no_mangle)]
-pub extern "C" fn wulgach_shown_post(shown: &mut Shown)
-    ensures { (log : List Change) → KeepsShown log shown.old → shown.old.posted < 2 ^ 64 - 1
-        → KeepsShown (Posted ∷ log) shown.new }
-{
-    shown.post();
 }
 
 /// Whether a tail shows no more than was posted.
@@ -118,13 +110,18 @@ pub extern "C" fn wulgach_shown_loads_head(
     shown.loads_head(count, is_asked, entries)
 }
 
-/// Whether a ring's descriptor is readable, where this is the head that the application has stored.
+/// Returns whether a ring's descriptor is readable, where this is the head that the application has stored, or what is asked of its prospect.
 #[unsafe(no_mangle)]
-pub extern "C" fn wulgach_shown_is_readable(shown: &Shown, head: u32, may_bring: bool) -> bool
+pub extern "C" fn wulgach_shown_readable(shown: &Shown, head: u32, known: &Prospect) -> u32
     ensures { (log : List Change) (n : ℕ) → KeepsShown log shown.now → IsTold log head n
-        → result ≡ is_readable log n may_bring }
+        → result ≡ word_of_readable (readable_of log n known.now) }
 {
-    shown.is_readable(head, may_bring)
+    match shown.readable(head, known) {
+        Readable::IsNot => 0,
+        Readable::Is => 1,
+        Readable::AsksRequests => 2,
+        Readable::AsksTime => 3,
+    }
 }
 
 /// How many completions stand in the ring that the application hasn't reaped, by the head that it has stored.

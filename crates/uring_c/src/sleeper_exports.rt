@@ -9,7 +9,7 @@ ghost use Rattle.uring_enter.specs.Sleeps.{behind_sleep};
 ghost use Rattle.uring_crossing.specs.TimeForm.{limit_of};
 
 use uring_crossing::time_words::LimitWords;
-use uring_enter::{Standing, Times, keeps_open, looks_ahead, polls};
+use uring_enter::{Needs, Standing, Times, keeps_open, looks_ahead, polls};
 
 /// Whether a call that sleeps polls the descriptor of a request that runs.
 #[unsafe(no_mangle)]
@@ -19,16 +19,18 @@ pub extern "C" fn wulgach_polls(standing: &Standing) -> bool
     polls(standing)
 }
 
-/// Whether a request that runs keeps its file open behind the call, where it has a registered one or not, and an epoll instance that keeps it or not.
+/// Whether a request is to be given a descriptor of its own, whose file was looked for or wasn't, with this error or 0, and is kept for it already or isn't.
 #[unsafe(no_mangle)]
 pub extern "C" fn wulgach_keeps_open(
     standing: &Standing,
-    has_registered: bool,
-    has_epoll: bool,
+    needs: &Needs,
+    is_sought: bool,
+    fault: i32,
+    has_file: bool,
 ) -> bool
-    ensures { result ≡ ready.keeps_open standing.now has_registered has_epoll }
+    ensures { result ≡ ready.keeps_open standing.now needs.now is_sought fault has_file }
 {
-    keeps_open(standing, has_registered, has_epoll)
+    keeps_open(standing, needs, is_sought, fault, has_file)
 }
 
 /// A sleep that was to come to this has come to its end, or hasn't: `came` is what ppoll returned.

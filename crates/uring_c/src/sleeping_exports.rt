@@ -4,7 +4,9 @@ ghost use Rattle.uring_enter.specs.PipePolls as polls;
 ghost use Rattle.uring_enter.specs.Sleeping as sleeping;
 ghost use Rattle.uring_c.specs.SleepForm.{word_of_beginning, word_of_outcome};
 
-use uring_enter::{Beginning, Outcome, PipePoll, Waited, beginning_of, fires_behind, outcome_of};
+use uring_enter::{
+    Beginning, Outcome, PipePoll, Waited, beginning_of, came_to, fires_behind, outcome_of,
+};
 
 /// Whether a request is to be told of writes to its pipe.
 #[unsafe(no_mangle)]
@@ -20,6 +22,14 @@ pub extern "C" fn wulgach_awaits_write(poll: &PipePoll, watch: u32) -> bool
     ensures { result ≡ polls.is_of_write poll.now watch }
 {
     poll.is_of_write(watch)
+}
+
+/// What a sleep came to, where its ppoll(2) came to this: in the process that began it, or in a child that was forked meanwhile.
+#[unsafe(no_mangle)]
+pub extern "C" fn wulgach_sleep_came_to(res: i32, is_child: bool) -> i32
+    ensures { result ≡ sleeping.came_to res is_child }
+{
+    came_to(res, is_child)
 }
 
 /// Returns whether a sleep begins whose arguments have this fault, or 0, and before which a poll was told, or none.

@@ -1,14 +1,17 @@
 //! What becomes of a timeout's time, of a message, of a poll that is updated, and which requests a cancel waits for, for C: functions of `c/wulgach_course.h` and `c/wulgach_form.h`.
-ghost use Rattle.std.specs.Prelude.{◌≡◌, List, ◌∷◌};
+ghost use Rattle.std.specs.Prelude.{◌≡◌, ◌<◌, ◌-◌, ◌^◌, true, false, List, [], ◌∷◌};
 ghost use Rattle.uring_enter.specs.declared.act.Fact.{Fact};
 ghost use Rattle.uring_enter.specs.declared.timing.Timing.{Timing};
 ghost use Rattle.uring_enter.specs.Courses.{KeepsCourse};
 ghost use Rattle.uring_enter.specs.Afresh as afresh;
+ghost use Rattle.uring_enter.specs.Awaiting.{KeepsAwaiting, Look, HasSeen, HasEnded, may_see};
 ghost use Rattle.uring_enter.specs.Timings.{Happened, Starts, IsFound, Ends, was_found, runs, runs_behind};
 ghost use Rattle.uring_enter.specs.Visits as visits;
-ghost use Rattle.uring_c.specs.RingForm.{word_of_timing, word_of_visit, word_of_awaited};
+ghost use Rattle.uring_c.specs.RingForm.{word_of_timing, word_of_visit, word_of_awaited, word_of_turn};
 
-use uring_enter::{Awaited, Course, Member, Receiver, Timing, Visit, visit_of};
+use uring_enter::{
+    Awaited, Awaiting, Course, Member, Receiver, Timing, Visit, posts_message, visit_of,
+};
 
 /// Returns what becomes of a timeout's time when a request starts.
 #[unsafe(no_mangle)]
@@ -66,6 +69,14 @@ pub extern "C" fn wulgach_visit_of(to: &Receiver, res: i32) -> u32
     }
 }
 
+/// Whether a message that a ring was sent is posted now, where there is one and a completion may be posted, or may not.
+#[unsafe(no_mangle)]
+pub extern "C" fn wulgach_posts_message(is_there: bool, may_post: bool) -> bool
+    ensures { result ≡ visits.posts_message is_there may_post }
+{
+    posts_message(is_there, may_post)
+}
+
 /// Whether the update of a poll begins it afresh.
 #[unsafe(no_mangle)]
 pub extern "C" fn wulgach_course_begins_afresh(course: &Course) -> bool
@@ -82,13 +93,50 @@ pub extern "C" fn wulgach_course_asks_start(course: &Course) -> bool
     course.asks_start()
 }
 
-/// Returns whether a cancel by io_uring_register(2) waits for the request, which the core lets start or doesn't.
+/// No request was looked at by a cancel by io_uring_register(2).
 #[unsafe(no_mangle)]
-pub extern "C" fn wulgach_course_awaited(course: &Course, may_start: bool) -> u32
-    ensures { (log : List Fact) → KeepsCourse log course.now
-        → result ≡ word_of_awaited (afresh.awaited log may_start) }
+pub extern "C" fn wulgach_awaiting_begin(awaiting: &mut Awaiting)
+    ensures { KeepsAwaiting [] awaiting.new }
 {
-    match course.awaited(may_start) {
+    *awaiting = Awaiting::begin();
+}
+
+/// Returns whether such a cancel waits for the next request, which has this number, and which the core lets start or doesn't; or that it isn't this one's turn. Then nothing changes.
+#[unsafe(no_mangle)]
+pub extern "C" fn wulgach_awaiting_sees(
+    awaiting: &mut Awaiting,
+    number: u64,
+    course: &Course,
+    may_start: bool,
+) -> u32
+    ensures awaited { (looks : List Look) (log : List Fact) → KeepsAwaiting looks awaiting.old
+        → KeepsCourse log course.now
+        → result ≡ word_of_turn (may_see looks number) (afresh.awaited log may_start) }
+    ensures after { (looks : List Look) (log : List Fact) → KeepsAwaiting looks awaiting.old
+        → KeepsCourse log course.now → number < 2 ^ 64 - 1 → may_see looks number ≡ true
+        → KeepsAwaiting (HasSeen number (afresh.awaited log may_start) ∷ looks) awaiting.new }
+    ensures kept { (looks : List Look) → KeepsAwaiting looks awaiting.old
+        → may_see looks number ≡ false → awaiting.new ≡ awaiting.old }
+{
+    match awaiting.sees(number, course, may_start) {
+        Ok(awaited) => awaited_word(awaited),
+        Err(_) => 3,
+    }
+}
+
+/// The request that was looked at last, and is waited for, has ended.
+#[unsafe(no_mangle)]
+pub extern "C" fn wulgach_awaiting_ends(awaiting: &mut Awaiting)
+    ensures { (looks : List Look) → KeepsAwaiting looks awaiting.old
+        → KeepsAwaiting (HasEnded ∷ looks) awaiting.new }
+{
+    awaiting.ends();
+}
+
+fn awaited_word(awaited: Awaited) -> u32
+    ensures { result ≡ word_of_awaited awaited }
+{
+    match awaited {
         Awaited::NotAwaited => 0,
         Awaited::Runs => 1,
         Awaited::Waits => 2,

@@ -8,7 +8,7 @@ ghost use Rattle.uring_enter.specs.Waiters as waiters;
 ghost use Rattle.uring_crossing.specs.WaitForm.{word_of_look, word_of_sighting, behind_look};
 
 use uring_crossing::wait_words::{look_word, sighting_word};
-use uring_enter::{Course, Lookout, Moment, Needs, PipePoll, Standing, Waiter};
+use uring_enter::{Course, Lookout, Moment, Needs, PipePoll, Standing, Waiter, lies_down};
 
 /// Begins a request that has started just now.
 #[unsafe(no_mangle)]
@@ -131,4 +131,19 @@ pub extern "C" fn wulgach_waiter_sighting(waiter: &Waiter, lookout: &Lookout) ->
         → result ≡ word_of_sighting (waiters.sighting_of log) }
 {
     sighting_word(waiter.sighting(lookout))
+}
+
+/// Whether a request that runs becomes dormant, whose descriptor was found unready or not, and which an epoll instance has refused or not.
+#[unsafe(no_mangle)]
+pub extern "C" fn wulgach_lies_down(
+    standing: &Standing,
+    needs: &Needs,
+    course: &Course,
+    is_unready: bool,
+    is_refused: bool,
+) -> bool
+    ensures { (log : List Fact) → KeepsCourse log course.now
+        → result ≡ ready.lies_down standing.now needs.now (is_cancelled log) is_unready is_refused }
+{
+    lies_down(standing, needs, course, is_unready, is_refused)
 }

@@ -10,7 +10,7 @@ use Rattle.uring_entry.specs.declared.operation.Outcome.{Outcome}
 use Rattle.uring_files.specs.Contents.{FileContents}
 use Rattle.uring_core.specs.CalledFor.{EndsOn, files_of}
 use Rattle.uring_core.specs.Histories.{History, world}
-use Rattle.uring_core.specs.Recorded.{Meets}
+use Rattle.uring_core.specs.Recorded.{IsWrong, Meets}
 use Rattle.uring_core.specs.StepAnswers.{FinishesApart, IsEnded, OrAgain, is_spent}
 use Rattle.uring_core.specs.World.{World}
 use Rattle.uring_core.specs.declared.answer.Answer.{Answer}
@@ -19,7 +19,8 @@ use Rattle.uring_core.specs.declared.step.Step.{Step}
 use Rattle.uring_core.specs.declared.step.Step.TheVariants as step
 use Rattle.uring_core.specs.declared.wanted.Wanted.TheVariants.{AnyEnd, EndOrNoMemory}
 use Rattle.uring_check.specs.Checking.{HasOneAnswer, IsWanted, rules_of}
-use Rattle.uring_check.specs.Rules.{CalledIn, is_apart}
+use Rattle.uring_check.specs.Rules.{AllowedBy, CalledIn, MayGive, entry_in, is_apart}
+use Rattle.uring_check.specs.declared.ends.Ends.{Ends}
 use Rattle.uring_check.specs.declared.ends.Ends.TheVariants as ends
 use Rattle.uring_check.specs.declared.follower.Follower.{Follower}
 use Rattle.uring_check.proofs.WantedAnswers.{one_answer}
@@ -146,6 +147,18 @@ no_either true res called only = elim (called (end_with []) tt) [
   | inr e ↦ subst GivesNoByte e tt
 ]
 no_either false res called only = subst GivesEnd (only (answer.Ended res no_bytes) (inl refl)) tt
+
+-- so results need not be allowed where they are
+pub either_allowed : (m : Follower) (s : Step) (h : History) (res : ℤ) (x : Answer)
+    → IsWanted h m s (EndOrNoMemory res) → AllowedBy (rules_of m) h s x
+either_allowed m s h res x is = go x (rules_of m).ends s is.0
+  where
+    go : (y : Answer) (e : Ends) (t : Step) → IsWrong (CalledIn (is_apart e) (rules_of m).setup (world (rules_of m).setup h) t) answer.Filled (EndOrNoMemory res) → MayGive y (entry_in e (world (rules_of m).setup h).requests t)
+    go (answer.Ended z bytes) ends.Allowed (step.Finish n) w = absurd (no_either (is_running (world (rules_of m).setup h).requests n) res w.called w.only)
+    go (answer.Ended z bytes) ends.Allowed _ w = tt
+    go (answer.Ended z bytes) ends.Given t w = tt
+    go (answer.Ended z bytes) ends.Any t w = tt
+    go _ e t w = tt
 
 -- so many elements suffice
 pub at_most : (n : ℕ) → n ≤ n

@@ -1,7 +1,8 @@
 -- What a text says of the answers that are called for.
-use Rattle.std.proofs.Common.{◌≡◌, drop, ◌∷◌, ℕ, ℤ, Bool, true, false, List, [], Option, Some, None, refl, sym, ap, subst, ◌∙◌}
+use Rattle.std.proofs.Common.{◌≡◌, drop, ◌∷◌, ℕ, ℤ, neg_ℤ, Bool, true, false, List, [], Option, Some, None, refl, sym, ap, subst, ◌∙◌, inl, inr}
 use Rattle.uring_entry.specs.Requests.{Requests, entry_outstanding, is_running, no_bytes}
 use Rattle.uring_entry.specs.Setup.{Setup}
+use Rattle.uring_entry.specs.declared.errno.TheConstants.{ENOMEM}
 use Rattle.uring_core.specs.Core.{IsNoFinish}
 use Rattle.uring_core.specs.Histories.{History, world}
 use Rattle.uring_core.specs.StepAnswers.{CalledForApart, FinishesApart, IsEnded}
@@ -12,10 +13,10 @@ use Rattle.uring_core.specs.declared.step.Step.{Step}
 use Rattle.uring_core.specs.declared.step.Step.TheVariants as step
 use Rattle.uring_core.specs.Recorded.{IsWrong}
 use Rattle.uring_core.specs.declared.wanted.Wanted.{Wanted}
-use Rattle.uring_core.specs.declared.wanted.Wanted.TheVariants.{Only, AnyEnd}
+use Rattle.uring_core.specs.declared.wanted.Wanted.TheVariants.{Only, CallOrAgain, AnyEnd, EndOrNoMemory}
 use Rattle.uring_text.specs.Spelling.{IsFile}
 use Rattle.uring_trace.specs.Text.{text_of}
-use Rattle.uring_check.specs.Checking.{FitsBy, HasOneAnswer, IsJudged, IsOneJudged, IsWanted, Judges, rules_of}
+use Rattle.uring_check.specs.Checking.{FitsBy, HasOneAnswer, IsEither, IsJudged, IsOneJudged, IsWanted, Judges, rules_of}
 use Rattle.uring_check.specs.Findings.{IsWrongText}
 use Rattle.uring_check.specs.Rules.{Rules, AllowedBy, CalledBy, CalledIn, IsPlain, MayGive, entry_asked, entry_in, is_apart}
 use Rattle.uring_check.specs.declared.ends.Ends.{Ends}
@@ -175,3 +176,20 @@ end_refused h m s text res file same bad is = (
 )
 
 -- ---- either of two answers
+
+pub either_call : (length : ℕ) → IsEither (CallOrAgain length) (answer.Call length) answer.Again
+either_call length = record {
+  meets = λ a h. h;
+  one_meets = inl refl;
+  other_meets = inr refl;
+  nothing = λ s h. refl;
+}
+
+pub either_end : (res : ℤ)
+    → IsEither (EndOrNoMemory res) (answer.Ended res no_bytes) (answer.Ended (neg_ℤ ENOMEM) no_bytes)
+either_end res = record {
+  meets = λ a h. h;
+  one_meets = inl refl;
+  other_meets = inr refl;
+  nothing = λ s h. refl;
+}

@@ -1,7 +1,7 @@
 -- The laws of what a call does besides, and in which order.
 use Rattle.std.proofs.Common.{◌≡◌, Bool, true, false, ◌&&◌, ◌||◌, refl}
 use Rattle.std.proofs.lemmas.Bool.{false≢true}
-use Rattle.uring_enter.specs.Duties.{LooksAfresh, PassesTime, FindsFiles, HoldsFiles, WatchesPipes, LetsLie, ShowsEnds, TellsReadiness, HearsApplication, ShowsFlags, are_many, ShowsAtLast, WatchesWhatIsHeld, LiesBehindPipes, RegistersAsItEnters}
+use Rattle.uring_enter.specs.Duties.{LooksAfresh, PassesTime, FindsFiles, HoldsFiles, WatchesPipes, LetsLie, ShowsEnds, TellsReadiness, HearsApplication, ShowsFlags, TellsEventfd, are_many, ShowsAtLast, WatchesWhatIsHeld, LiesBehindPipes, RegistersAsItEnters}
 
 due : (b : Bool) → b ≡ true → (b && true && true || false) ≡ true
 due true is = refl
@@ -18,6 +18,7 @@ shows_at_last r ShowsEnds is = due r.has_ends is
 shows_at_last r TellsReadiness is = due r.is_polled is
 shows_at_last r HearsApplication is = is
 shows_at_last r ShowsFlags is = refl
+shows_at_last r TellsEventfd is = is
 
 held : (runs has_new has_watches : Bool) → runs ≡ true → ((runs || has_new) && (runs || has_watches) && true) ≡ true
 held true has_new has_watches are = refl
@@ -51,3 +52,4 @@ registers_as_it_enters is_time_real r ShowsEnds = (λ is. is, λ is. is)
 registers_as_it_enters is_time_real r TellsReadiness = (λ is. is, λ is. is)
 registers_as_it_enters is_time_real r HearsApplication = (λ is. refl, λ is. is)
 registers_as_it_enters is_time_real r ShowsFlags = (λ is. is, λ is. is)
+registers_as_it_enters is_time_real r TellsEventfd = (λ is. is, λ is. is)

@@ -20,3 +20,4 @@ mod WaiterRuns
 mod CallTryRuns
 mod DutyRuns
 mod AfreshRuns
+mod AwaitingRuns

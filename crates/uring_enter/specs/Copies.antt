@@ -1,5 +1,6 @@
 -- What is copied next of what an entry points to, and which fault the whole of it has: the first of those of its pieces, in their order, and behind them all -22 (EINVAL) of a provided buffer for other than one vector, and of a linked timeout that stands where it may not. io_uring_enter(2), CQE ERRORS. The order is what the kernel does.
-use Rattle.std.specs.Prelude.{ℕ, ℤ, pos, Bool, ◌||◌, ◌==◌, Option, Some, None, if◌then◌else◌}
+use Rattle.std.specs.Prelude.{ℕ, ℤ, pos, Bool, not, ◌&&◌, ◌||◌, ◌==◌, Option, Some, None, if◌then◌else◌}
+use Rattle.std.specs.Ordering.{int_eq}
 use Rattle.uring_enter.specs.declared.submission.Submission.{Submission}
 use Rattle.uring_enter.specs.declared.member.Entry.{Entry}
 use Rattle.uring_enter.specs.declared.piece.Piece.{Piece}
@@ -32,6 +33,10 @@ piece_or None fault = Ends fault
 abbrev pub next_of : Submission → ℕ → ℤ → ℕ → Option Entry → Copying
 next_of e copied fault vectors before =
     if is_below fault then Ends fault else piece_or (piece_of e copied) (last_fault e vectors before)
+
+-- whether copying what an entry points to came to a fault of its own: an error, but -12 (ENOMEM), which is whoever copies it's, who had no memory for it. Our own rule: a kernel refuses such an entry with -12
+abbrev pub is_own_fault : ℤ → Bool
+is_own_fault fault = is_below fault && not (int_eq fault (error 12))
 
 -- READ_FIXED, WRITE_FIXED, READ and WRITE
 abbrev pub has_one_buffer : Submission → Bool

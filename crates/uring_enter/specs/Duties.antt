@@ -14,6 +14,7 @@ pub data Duty : Type 0 where
   TellsReadiness : Duty
   HearsApplication : Duty
   ShowsFlags : Duty
+  TellsEventfd : Duty
 
 -- the place of a duty among those of one moment: they are done by rising places
 abbrev pub place : Duty → ℕ
@@ -27,6 +28,7 @@ place ShowsEnds = 6
 place TellsReadiness = 7
 place HearsApplication = 8
 place ShowsFlags = 9
+place TellsEventfd = 10
 
 abbrev pub is_due : Duties → Duty → Bool
 is_due d LooksAfresh = d.looks_afresh
@@ -39,6 +41,7 @@ is_due d ShowsEnds = d.shows_ends
 is_due d TellsReadiness = d.tells_readiness
 is_due d HearsApplication = d.hears_application
 is_due d ShowsFlags = d.shows_flags
+is_due d TellsEventfd = d.tells_eventfd
 
 -- nothing is to be done
 abbrev pub nothing : Duties
@@ -53,6 +56,7 @@ nothing = record {
   tells_readiness = false;
   hears_application = false;
   shows_flags = false;
+  tells_eventfd = false;
 }
 
 -- as a call begins, or has slept: others may have made descriptors ready meanwhile, so all that runs is looked at again, and what they wrote to pipes is heard, in whichever order, before the ring writes anything itself, which isn't told. Where time is real, timeouts end that are over, before entries are submitted; behind a sleep one ends as the sleep says
@@ -107,6 +111,10 @@ at_register_return may_post r = if may_post then at_return r else nothing
 abbrev pub before_posting : Duties
 before_posting = record nothing { hears_application = true }
 
+-- behind completions that were stored into ring memory with their tail: the flags say whether some have overflowed, and whether a call may bring something, and a registered eventfd is told, if it is to be told of any of them
+abbrev pub behind_storing : (told : ℕ) → Duties
+behind_storing told = record nothing { shows_flags = true; tells_eventfd = nat_lt 0 told }
+
 -- before an operation is carried out: other threads see what has ended, however long it takes; a no-op (0) takes no time. Then it is heard what the application has reaped, as before any completion
 abbrev pub before : ℕ → (has_ends : Bool) → Duties
 before code has_ends = record before_posting { shows_ends = has_ends && not (code == 0) }
@@ -115,10 +123,9 @@ before code has_ends = record before_posting { shows_ends = has_ends && not (cod
 abbrev pub polls_writes : ℕ → Bool
 polls_writes watched = nat_lt 0 watched
 
--- whether the epoll instance that tells of dormant requests is polled for, if there is one: by a call that sleeps while any are dormant, since what it tells of others wakes none; by the ring's own descriptor as long as there is one, so that a request which waits for the ring itself is refused by the instance
-abbrev pub polls_instance : (has_instance : Bool) → (dormant : ℕ) → (is_own_descriptor : Bool) → Bool
-polls_instance has_instance dormant is_own_descriptor =
-    has_instance && (is_own_descriptor || nat_lt 0 dormant)
+-- whether a sleep polls the epoll instance that tells of those that are dormant: so many are, and one at least. Each of them waits for its descriptor
+abbrev pub polls_instance : ℕ → Bool
+polls_instance dormant = nat_lt 0 dormant
 
 -- whether one that is due at a moment comes before another
 abbrev pub comes_before : Duties → Duty → Duty → Bool
@@ -128,6 +135,11 @@ comes_before d first second = is_due d first && is_due d second && nat_lt (place
 abbrev pub ShowsAtLast : Type 0
 ShowsAtLast = (r : Resting) (duty : Duty) → is_due (at_return r) duty ≡ true
     → (comes_before (at_return r) duty ShowsFlags || place duty == place ShowsFlags) ≡ true
+
+-- where an eventfd is told, the flags are shown before: so whoever is woken by it sees IORING_SQ_CQ_OVERFLOW. io_uring_register(2), IORING_REGISTER_EVENTFD; that the flags come first is what Linux 6.18 does
+abbrev pub TellsOfWhatIsShown : Type 0
+TellsOfWhatIsShown = (told : ℕ) → is_due (behind_storing told) TellsEventfd ≡ true
+    → comes_before (behind_storing told) ShowsFlags TellsEventfd ≡ true
 
 -- where requests run as a call returns, their files are kept behind those that are found then, and before pipes are watched for them
 abbrev pub WatchesWhatIsHeld : Type 0

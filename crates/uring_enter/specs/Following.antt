@@ -1,10 +1,6 @@
--- What the end of a request makes of others, and its start, and in which order. Our own rules, but where a manual page is named.
-use Rattle.std.specs.Prelude.{ℕ, ℤ, Bool, true, false, not, ◌||◌}
+-- What the end of a request makes of others, and in which order. Our own rules.
+use Rattle.std.specs.Prelude.{ℕ, Bool, true, ◌||◌}
 use Rattle.uring_enter.specs.declared.following.BehindEnd.{BehindEnd}
-use Rattle.uring_enter.specs.declared.following.AtStart.{AtStart}
-use Rattle.uring_enter.specs.declared.needs.Needs.{Needs}
-use Rattle.uring_enter.specs.declared.ready.Standing.{Standing}
-use Rattle.uring_enter.specs.Readiness.{polls, seeks_buffer_at_start, starts_poll}
 
 pub data EndDuty : Type 0 where
   Counts : EndDuty
@@ -56,57 +52,4 @@ behind_end has_file has_instance is_stream is_draining = record {
   ends_drain = is_draining;
   leaves = true;
   has_ends = true;
-}
-
-pub data StartDuty : Type 0 where
-  FindsEarlier : StartDuty
-  FindsOwn : StartDuty
-  BeginsTimeout : StartDuty
-  StartsPoll : StartDuty
-  NotesRunning : StartDuty
-  LooksAtDescriptor : StartDuty
-  SeeksBuffer : StartDuty
-
--- they are done by rising places: files are found in the order of requests, as the kernel finds them, and before a poll asks for its events
-abbrev pub start_place : StartDuty → ℕ
-start_place FindsEarlier = 0
-start_place FindsOwn = 1
-start_place BeginsTimeout = 2
-start_place StartsPoll = 3
-start_place NotesRunning = 4
-start_place LooksAtDescriptor = 5
-start_place SeeksBuffer = 6
-
-abbrev pub is_start_due : AtStart → StartDuty → Bool
-is_start_due d FindsEarlier = d.finds_earlier
-is_start_due d FindsOwn = d.finds_own
-is_start_due d BeginsTimeout = d.begins_timeout
-is_start_due d StartsPoll = d.starts_poll
-is_start_due d NotesRunning = d.notes_running
-is_start_due d LooksAtDescriptor = d.looks_at_descriptor
-is_start_due d SeeksBuffer = d.seeks_buffer
-
-abbrev pub nothing : AtStart
-nothing = record {
-  finds_earlier = false;
-  finds_own = false;
-  begins_timeout = false;
-  starts_poll = false;
-  notes_running = false;
-  looks_at_descriptor = false;
-  seeks_buffer = false;
-}
-
--- as the core lets a request start: those before it find their files, and then it does, unless it has
-abbrev pub at_start : (has_found : Bool) → AtStart
-at_start has_found = record nothing { finds_earlier = true; finds_own = not has_found }
-
--- once it has found its files, with this fault or 0: a timeout begins with its request, io_uring_enter(2), IORING_OP_LINK_TIMEOUT; and what may have to wait for its descriptor has that looked at at once
-abbrev pub once_found : Standing → Needs → ℤ → AtStart
-once_found s n fault = record nothing {
-  begins_timeout = true;
-  starts_poll = starts_poll n fault;
-  notes_running = true;
-  looks_at_descriptor = polls s;
-  seeks_buffer = seeks_buffer_at_start s n;
 }

@@ -149,6 +149,11 @@ form_by fault is_cancel =
     if is_below fault then form.Refused fault else
     if is_cancel then form.Cancel else form.Token
 
+-- whether what an entry points to is copied that is this: of one with a fault nothing is, so that it ends with that, whatever its pieces have. What the kernel does
+abbrev pub copies_pieces : Form → Bool
+copies_pieces (form.Refused _) = false
+copies_pieces _ = true
+
 -- one whose pieces have a fault is refused; another stays what it is
 abbrev pub form_copied : Form → ℤ → Form
 form_copied was fault = if is_below fault then form.Refused fault else was

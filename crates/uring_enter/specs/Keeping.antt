@@ -14,12 +14,20 @@ may_close_last has_file is_of_slot is_same = has_file && (is_of_slot || not is_s
 abbrev pub counts_as_written : (is_dropped is_write is_own : Bool) → Bool
 counts_as_written is_dropped is_write is_own = is_dropped || is_write && is_own
 
--- whether whoever polls a ring's descriptor is told anew: it has become readable, or isn't any more; or it is readable still, more was posted since it was told last, and another thread may wait for an edge of it (epoll(7), EPOLLET), which a kernel gives for each completion
-abbrev pub tells_anew : (was_readable is_readable has_posted may_have_others : Bool) → Bool
-tells_anew was_readable is_readable has_posted may_have_others =
+-- whether whoever polls a ring's descriptor is told anew: it has become readable, or isn't any more; or it is readable still, more was posted since it was told last, and somebody may wait for an edge of it (epoll(7), EPOLLET), which a kernel gives for each completion: another thread or process, or this one between its calls. That nobody does is for who runs the program to say
+abbrev pub tells_anew : (was_readable is_readable has_posted may_wait_for_edges : Bool) → Bool
+tells_anew was_readable is_readable has_posted may_wait_for_edges =
     (is_readable && not was_readable) || (was_readable && not is_readable)
-    || is_readable && has_posted && may_have_others
+    || is_readable && has_posted && may_wait_for_edges
 
--- whether a copy of a file's descriptor stays open that nobody needs: the process has locks on the file, which it would lose with the first descriptor that it closes (fcntl(2)); a kernel's ring has no descriptor of it. So many stay at most
-abbrev pub stays_open : (is_locked : Bool) → (left most : ℕ) → Bool
-stays_open is_locked left most = is_locked && nat_lt left most
+-- whether it is asked, as a copy of a file's descriptor is to be closed, if the process has locks on the file: it is a regular one, as almost all are that have any. Then it is asked of each copy that has stayed so far too, and those are closed that needn't stay any more
+abbrev pub asks_locks : (is_regular : Bool) → Bool
+asks_locks is_regular = is_regular
+
+-- so many copies stay at most
+abbrev pub most_left : ℕ
+most_left = 256
+
+-- whether a copy of a file's descriptor stays open that nobody needs, beside so many others: the process has locks on the file, which it would lose with the first descriptor that it closes (fcntl(2)); a kernel's ring has no descriptor of it
+abbrev pub stays_open : (is_locked : Bool) → (others : ℕ) → Bool
+stays_open is_locked others = is_locked && nat_lt others most_left

@@ -70,12 +70,15 @@ pub mod CallResults
 pub mod Openness
 pub mod Signals
 pub mod Keeping
+pub mod Prospects
+pub mod Awaiting
+pub mod Syncing
+pub mod Starts
 pub mod Following
 pub mod Passages
 pub mod Slept
 pub mod Glances
 pub mod Lying
 pub mod Missed
-pub mod MessagesLeft
 pub mod Storing
 pub mod Named

@@ -31,6 +31,10 @@ sending_file e to =
     if not (e.len == 0) || to.is_sender then Fails (error 22) else
     if to.is_disabled then Fails (error 77) else Passes
 
+-- whether what a message's entry names may be a ring: with IOSQE_FIXED_FILE (1) it is a registered file, and a ring's can't be registered. io_uring_register(2), IORING_REGISTER_FILES; what Linux 6.18 does
+abbrev pub may_be_ring : Submission → Bool
+may_be_ring e = not (has_some e.flags 1)
+
 -- -9 (EBADF) to what isn't open, -77 to what is no ring. DATA is 0 and SEND_FD 1
 abbrev pub sending_of : Submission → Receiver → Sending
 sending_of e to =

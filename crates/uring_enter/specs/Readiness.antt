@@ -32,21 +32,17 @@ can_finish s n has_to_wait is_cancelled m =
 abbrev pub counts_as_ready : ℤ → ℕ → Bool
 counts_as_ready came events = is_below came || not (events == 0)
 
--- whether a request asks for its events as it starts: a poll does, unless it has failed by then
-abbrev pub starts_poll : Needs → ℤ → Bool
-starts_poll n fault = n.is_poll && int_eq fault (pos 0)
-
--- whether a provided buffer is looked for as a request starts: it is to take one, and may have to wait for its descriptor. Another looks for one as it is carried out. What Linux 6.18 was seen to do
-abbrev pub seeks_buffer_at_start : Standing → Needs → Bool
-seeks_buffer_at_start s n = n.selects && s.is_stream
-
 -- whether a call that sleeps polls the descriptor of a request that runs: it may have to wait for that
 abbrev pub polls : Standing → Bool
 polls s = s.is_stream
 
--- whether a request that runs is to be given a descriptor of its own behind the call in which it began to wait, since the application may close its: one that may have to wait keeps its file as the kernel does, unless a registered file or an epoll instance keeps it
-abbrev pub keeps_open : Standing → (has_registered has_epoll : Bool) → Bool
-keeps_open s has_registered has_epoll = s.is_stream && not has_registered && not has_epoll
+-- whether a request has found a file by a descriptor's number: it was looked for, nothing was amiss, and it needs one that is no slot's
+abbrev pub has_found : Needs → (is_sought : Bool) → (fault : ℤ) → Bool
+has_found n is_sought fault = n.needs_file && not n.is_registered && is_sought && int_eq fault (pos 0)
+
+-- whether a request is to be given a descriptor of its own, since the application may close its: a kernel's request has its file from the moment in which it finds that. One that may have to wait has found it, and so has another as above; but who has a file that is kept for it, as that of a slot is, needs no other. Our own rule
+abbrev pub keeps_open : Standing → Needs → (is_sought : Bool) → (fault : ℤ) → (has_file : Bool) → Bool
+keeps_open s n is_sought fault has_file = not has_file && (s.is_stream || has_found n is_sought fault)
 
 -- the same moment, where its descriptor is ready or isn't
 abbrev pub with_descriptor : Moment → Bool → Moment
@@ -74,6 +70,11 @@ waits_for_descriptor_alone s n is_cancelled =
     if n.is_timeout then false else
     if n.needs_second then false else
     if n.selects && not s.has_found_buffer then false else s.is_stream
+
+-- whether it becomes dormant, so that an epoll instance tells of it in the place of a look in each call: its descriptor was looked at and isn't ready, and the instance takes it. Our own rule
+abbrev pub lies_down : Standing → Needs → (is_cancelled is_unready is_refused : Bool) → Bool
+lies_down s n is_cancelled is_unready is_refused =
+    is_unready && not is_refused && waits_for_descriptor_alone s n is_cancelled
 
 -- one that does can't be finished while its descriptor isn't ready, whatever else is so: it needn't be looked at until the kernel tells that it is
 abbrev pub NeedsNoLook : Type 0

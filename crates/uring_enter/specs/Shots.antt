@@ -1,5 +1,5 @@
 -- Requests that go on, and of which completions an eventfd is told. io_uring_enter(2), IORING_POLL_ADD_MULTI, IORING_ACCEPT_MULTISHOT and IORING_RECV_MULTISHOT; io_uring_register(2), IORING_REGISTER_EVENTFD_ASYNC. io_uring_enter(2), IORING_CQE_F_MORE and IORING_CQE_F_NOTIF.
-use Rattle.std.specs.Prelude.{ℕ, ℤ, pos, negsuc, ◌-◌, Bool, false, not, ◌&&◌, ◌||◌, ◌==◌, nat_lt, List}
+use Rattle.std.specs.Prelude.{◌≡◌, ℕ, ℤ, pos, negsuc, ◌-◌, Bool, false, not, ◌&&◌, ◌||◌, ◌==◌, nat_lt, List, [], ◌∷◌, if◌then◌else◌}
 use Rattle.uring_enter.specs.declared.submission.Submission.{Submission}
 use Rattle.uring_enter.specs.Needs as needs
 use Rattle.uring_enter.specs.declared.shot.Shot.{Shot}
@@ -38,6 +38,25 @@ completion_flags Sent _ = 2
 completion_flags Notice _ = 8
 completion_flags Own of_buffer = of_buffer
 completion_flags Cancelled _ = 0
+
+-- what the end of a send without copies tells of, which has two completions: that its memory is free, where the other one, which says what it has sent, was posted before. Where memory was refused for that one it is put off, and the end tells what was sent. Our own rule
+abbrev pub end_of_send : (is_posted : Bool) → Part
+end_of_send is_posted = if is_posted then Notice else Sent
+
+-- what its other completion tells of
+abbrev pub other_of_send : Part → Part
+other_of_send Notice = Sent
+other_of_send part = Notice
+
+-- both, in the order in which the application sees them: what was posted before the end stands before it, and what was put off behind it
+abbrev pub parts_of_send : (is_posted : Bool) → List Part
+parts_of_send is_posted =
+    if is_posted then other_of_send (end_of_send is_posted) ∷ end_of_send is_posted ∷ []
+    else end_of_send is_posted ∷ other_of_send (end_of_send is_posted) ∷ []
+
+-- what it has sent comes first, and then that its memory is free. io_uring_enter(2), IORING_OP_SEND_ZC
+abbrev pub NotifiesAtLast : Type 0
+NotifiesAtLast = (is_posted : Bool) → parts_of_send is_posted ≡ (Sent ∷ Notice ∷ [])
 
 -- a completion comes behind the call that submitted its request if the request ends in another call on the ring, be that one of io_uring_register(2): a cancel, by which what it finds ends. No call on the ring has submitted a message of another ring, or the tag of what is registered: such a one comes behind them all. That a message does is our own rule
 abbrev pub is_behind : Posted → Bool

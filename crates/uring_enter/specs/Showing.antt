@@ -70,10 +70,6 @@ flags_of overflowed may_bring has_thread =
 abbrev pub waits : List Change → ℕ → Bool
 waits log n = not (n == written log) || overflows log
 
--- a ring's descriptor is readable while completions wait, or a call may bring something. io_uring(7), for the first; else our own rule
-abbrev pub is_readable : List Change → ℕ → Bool → Bool
-is_readable log n may_bring = waits log n || may_bring
-
 -- glue: what is kept is that of a ring to which this has happened
 pub record KeepsShown (log : List Change) (x : Shown) : Type 0 where
   pub head : x.head ≡ reaped log % 2 ^ 32

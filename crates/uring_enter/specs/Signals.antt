@@ -1,5 +1,5 @@
 -- SIGXFSZ, which comes of a call that makes a file longer than a process may have one. setrlimit(2), RLIMIT_FSIZE. In a kernel a worker of its own makes the call, and the program gets no signal: what Linux 6.18 was seen to do.
-use Rattle.std.specs.Prelude.{ℤ, pos, Bool, ◌&&◌, ◌||◌, ◌==◌}
+use Rattle.std.specs.Prelude.{ℕ, ℤ, pos, ◌^◌, ◌-◌, Bool, false, not, ◌&&◌, ◌||◌, ◌==◌, Option, Some, None}
 use Rattle.std.specs.Ordering.{int_eq}
 use Rattle.uring_enter.specs.declared.submission.Submission.{Submission}
 use Rattle.uring_enter.specs.Needs.{is_write}
@@ -9,6 +9,11 @@ use Rattle.uring_entry.specs.Errors.{error}
 abbrev pub may_signal : Submission → ℤ → Bool
 may_signal e res =
     (is_write e.opcode || e.opcode == 17 || e.opcode == 30) && int_eq res (error 27)
+
+-- whether the kernel may send one at all, by the greatest length that the process may give a file (getrlimit(2), RLIMIT_FSIZE), if that is known: 2^64 - 1 (RLIM_INFINITY) limits nothing, and -27 is the file system's own then. Where it isn't known nothing is taken back: our own rule
+abbrev pub is_limited : Option ℕ → Bool
+is_limited (Some bytes) = not (bytes == 2 ^ 64 - 1)
+is_limited None = false
 
 -- a signal is that of the call if it is told as sent by this process as kill(2) sends it, SI_USER (0). Any other the program was sent, and it stays pending. sigaction(2); what Linux 6.18 was seen to do
 abbrev pub is_of_call : (code : ℤ) → (is_own : Bool) → Bool

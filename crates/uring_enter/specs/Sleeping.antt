@@ -12,6 +12,10 @@ abbrev pub is_error : ℤ → Bool
 is_error (negsuc _) = true
 is_error (pos _) = false
 
+-- what a sleep came to, by its ppoll(2): a child that was forked in it, as by a signal's handler, and returns from it leaves its parent's ring as it is. To it a signal has ended the sleep, -4 (EINTR). Our own rule
+abbrev pub came_to : ℤ → (is_child : Bool) → ℤ
+came_to res is_child = if is_child then error 4 else res
+
 -- a call whose last argument is at fault doesn't sleep, and fails with that; nor does one before whose sleep a poll was told of what another has written to its pipe, since that goes on
 abbrev pub beginning_of : ℤ → Bool → Beginning
 beginning_of fault is_told =

@@ -1,6 +1,6 @@
--- With which fault a call that is to sleep fails, and what its sleep came to. io_uring_enter(2), ERRORS, but where another source is named.
+-- With which fault a call that is to sleep fails. io_uring_enter(2), ERRORS, but where another source is named.
 use Rattle.std.specs.Prelude.{ℕ, ℤ, pos, Bool, not, ◌&&◌, Option, Some, None, if◌then◌else◌}
-use Rattle.uring_entry.specs.Errors.{error, is_below}
+use Rattle.uring_entry.specs.Errors.{is_below}
 use Rattle.uring_enter.specs.Unknown.{reads_mask}
 
 -- a mask is read where the call gives one, before its first sleep, and not where the last argument has a fault: with that the call fails. What Linux 6.18 was seen to do
@@ -14,7 +14,3 @@ fault_of_mask (Some fault) = fault
 -- the fault of the last argument comes before that of the mask, which has none where it wasn't read
 abbrev pub sleep_fault : ℤ → Option ℤ → ℤ
 sleep_fault argument mask = if is_below argument then argument else fault_of_mask mask
-
--- a process that was forked in a sleep has no call of its own there: it returns with -4 (EINTR), as one that a signal has ended, whatever ppoll came to. Our own rule
-abbrev pub slept_result : ℤ → (is_another_process : Bool) → ℤ
-slept_result came is_another_process = if is_another_process then error 4 else came

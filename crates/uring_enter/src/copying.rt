@@ -39,6 +39,13 @@ pub fn next_piece(
     }
 }
 
+/// Whether what copying what an entry points to came to, below 0, is a fault of the entry's own, so that it is refused with that. Else memory was refused for it: the call ends before the entry.
+pub fn is_own_fault(fault: i32) -> bool
+    ensures { result ≡ spec.is_own_fault fault }
+{
+    fault < 0 && fault != -12
+}
+
 /// Whether an entry is one of READ, WRITE, READ_FIXED and WRITE_FIXED: of these one buffer is told, wherever they stand, and then that nothing has a fault.
 pub fn has_one_buffer(entry: &Submission) -> bool
     ensures one { result ≡ spec.has_one_buffer entry.now }

@@ -2,7 +2,7 @@
 
 ghost use Rattle.std.specs.Prelude.{◌≡◌};
 ghost use Rattle.uring_enter.specs.Duties as spec;
-ghost use Rattle.uring_enter.specs.Duties.{ShowsAtLast, WatchesWhatIsHeld, LiesBehindPipes, RegistersAsItEnters, HearsBeforeItPosts};
+ghost use Rattle.uring_enter.specs.Duties.{ShowsAtLast, TellsOfWhatIsShown, WatchesWhatIsHeld, LiesBehindPipes, RegistersAsItEnters, HearsBeforeItPosts};
 
 /// What is to be done at a moment of a call, in the order in which it stands here.
 #[derive(Clone, Copy, Drop)]
@@ -36,6 +36,9 @@ pub struct Duties {
 
     /// The word of flags says whether a call may bring something.
     pub shows_flags: bool,
+
+    /// The registered eventfd is told of what was shown.
+    pub tells_eventfd: bool,
 }
 
 /// A ring as a call on it falls asleep or returns.
@@ -78,6 +81,7 @@ const NONE: Duties = Duties {
     tells_readiness: false,
     hears_application: false,
     shows_flags: false,
+    tells_eventfd: false,
 };
 
 /// As a call begins, or has slept.
@@ -170,6 +174,17 @@ pub fn duties_behind_posting(has_ends: bool, is_polled: bool) -> Duties
     }
 }
 
+/// Behind completions that were stored into ring memory with their tail, of so many of which a registered eventfd is told.
+pub fn duties_behind_storing(told: u64) -> Duties
+    ensures { result ≡ spec.behind_storing told }
+{
+    Duties {
+        shows_flags: true,
+        tells_eventfd: told > 0,
+        ..NONE
+    }
+}
+
 /// Before the operation of this code is carried out. What is told: that something has ended which isn't shown.
 pub fn duties_before(code: u8, has_ends: bool) -> Duties
     ensures { result ≡ spec.before code has_ends }
@@ -187,11 +202,11 @@ pub fn polls_writes(watched: u64) -> bool
     watched > 0
 }
 
-/// Whether the epoll instance that tells of dormant requests is polled for, by a call that sleeps or by the ring's own descriptor.
-pub fn polls_instance(has_instance: bool, dormant: u64, is_own_descriptor: bool) -> bool
-    ensures { result ≡ spec.polls_instance has_instance dormant is_own_descriptor }
+/// Whether a sleep polls the epoll instance that tells of those that are dormant, of which there are so many: then the call waits for descriptors.
+pub fn polls_instance(dormant: u64) -> bool
+    ensures { result ≡ spec.polls_instance dormant }
 {
-    has_instance && (is_own_descriptor || dormant > 0)
+    dormant > 0
 }
 
 /// The flags are shown behind all else that a call does as it returns.
@@ -217,4 +232,9 @@ pub fn registers_as_it_enters()
 /// Whatever may post completions outside a call has heard the application before.
 pub fn hears_before_it_posts()
     ensures { HearsBeforeItPosts }
+{}
+
+/// Whoever is woken by a registered eventfd sees the flags: they are shown before it is told.
+pub fn tells_of_what_is_shown()
+    ensures { TellsOfWhatIsShown }
 {}

@@ -147,6 +147,13 @@ pub fn form_of(entry: &Submission, refusal: i32, is_allowed: bool) -> Form
     form_by(fault_of(entry, refusal, is_allowed), is_plain_cancel(entry))
 }
 
+/// Whether what an entry points to is copied that is this.
+pub fn copies_pieces(form: Form) -> bool
+    ensures { result ≡ spec.copies_pieces form }
+{
+    !matches!(form, Form::Refused(_))
+}
+
 /// What an entry is that was this before, once what it points to is copied with this fault, or without one.
 pub fn form_copied(was: Form, fault: i32) -> Form
     ensures { result ≡ spec.form_copied was fault }

@@ -24,22 +24,29 @@ pub fn counts_as_written(is_dropped: bool, is_write: bool, is_own: bool) -> bool
     is_dropped || is_write && is_own
 }
 
-/// Whether whoever polls a ring's descriptor is told anew.
+/// Whether whoever polls a ring's descriptor is told anew, where somebody may wait for edges of it, or nobody does.
 pub fn tells_anew(
     was_readable: bool,
     is_readable: bool,
     has_posted: bool,
-    may_have_others: bool,
+    may_wait_for_edges: bool,
 ) -> bool
-    ensures { result ≡ spec.tells_anew was_readable is_readable has_posted may_have_others }
+    ensures { result ≡ spec.tells_anew was_readable is_readable has_posted may_wait_for_edges }
 {
     let has_changed = (is_readable && !was_readable) || (was_readable && !is_readable);
-    has_changed || is_readable && has_posted && may_have_others
+    has_changed || is_readable && has_posted && may_wait_for_edges
 }
 
-/// Whether a copy of a file's descriptor stays open that nobody needs, where so many stay already, and that many may.
-pub fn stays_open(is_locked: bool, left: u64, most: u64) -> bool
-    ensures { result ≡ spec.stays_open is_locked left most }
+/// Whether it is asked, as a copy of a file's descriptor is to be closed that nobody needs, if the process has locks on that file, and on those of the copies that stay open: one of a regular file, or another. Our own rule.
+pub fn asks_locks(is_regular: bool) -> bool
+    ensures { result ≡ spec.asks_locks is_regular }
 {
-    is_locked && left < most
+    is_regular
+}
+
+/// Whether a copy of a file's descriptor stays open that nobody needs, or that has stayed so far, where so many others stay. Our own rule.
+pub fn stays_open(is_locked: bool, others: u64) -> bool
+    ensures { result ≡ spec.stays_open is_locked others }
+{
+    is_locked && others < 256
 }

@@ -48,6 +48,13 @@ pub struct Message {
     pub flags: u32,
 }
 
+/// Whether the file that the entry of a message names may be a ring's: a registered one never is. io_uring_register(2), IORING_REGISTER_FILES.
+pub fn may_be_ring(entry: &Submission) -> bool
+    ensures { result ≡ spec.may_be_ring entry.now }
+{
+    entry.flags & 1 == 0
+}
+
 /// What a message to this ring does. The first fault counts.
 pub fn sending_of(entry: &Submission, to: Receiver) -> Sending
     ensures { result ≡ spec.sending_of entry.now to }

@@ -117,20 +117,6 @@ pub fn next_look(
     }
 }
 
-/// Whether a request asks for its events as it starts: a poll does, unless it has failed, with this error or 0.
-pub fn starts_poll(needs: &Needs, fault: i32) -> bool
-    ensures { result ≡ spec.starts_poll needs.now fault }
-{
-    needs.is_poll && fault == 0
-}
-
-/// Whether a provided buffer is looked for as a request starts: it is to take one, and may have to wait for its descriptor.
-pub fn seeks_buffer_at_start(standing: &Standing, needs: &Needs) -> bool
-    ensures { result ≡ spec.seeks_buffer_at_start standing.now needs.now }
-{
-    needs.selects && standing.is_stream
-}
-
 /// Whether a request that runs waits for its descriptor, so that a call which sleeps polls that.
 pub fn polls(standing: &Standing) -> bool
     ensures { result ≡ spec.polls standing.now }
@@ -138,15 +124,28 @@ pub fn polls(standing: &Standing) -> bool
     standing.is_stream
 }
 
-/// Whether a request that runs keeps its file open behind the call, where it has a registered one or not, and an epoll instance that keeps it or not.
-pub fn keeps_open(standing: &Standing, has_registered: bool, has_epoll: bool) -> bool
-    ensures { result ≡ spec.keeps_open standing.now has_registered has_epoll }
+/// Whether a request is to be given a descriptor of its own, so that it keeps its file whatever the application closes: from the end of a call on, or before a close. Its file was looked for or wasn't, with this error or 0, and one is kept for it already or isn't. Our own rule.
+pub fn keeps_open(
+    standing: &Standing,
+    needs: &Needs,
+    is_sought: bool,
+    fault: i32,
+    has_file: bool,
+) -> bool
+    ensures { result ≡ spec.keeps_open standing.now needs.now is_sought fault has_file }
 {
-    standing.is_stream && !has_registered && !has_epoll
+    !has_file && (standing.is_stream || has_found(needs, is_sought, fault))
+}
+
+/// Whether a request has found a file by a descriptor's number.
+fn has_found(needs: &Needs, is_sought: bool, fault: i32) -> bool
+    ensures { result ≡ spec.has_found needs.now is_sought fault }
+{
+    is_sought && fault == 0 && needs.needs_file && !needs.is_registered
 }
 
 /// Whether a request that runs waits for its descriptor alone, so that it needn't be looked at until that is ready.
-pub fn waits_for_descriptor_alone(standing: &Standing, needs: &Needs, course: &Course) -> bool
+fn waits_for_descriptor_alone(standing: &Standing, needs: &Needs, course: &Course) -> bool
     ensures { (log : List Fact) → KeepsCourse log course.now
         → result ≡ spec.waits_for_descriptor_alone standing.now needs.now (is_cancelled log) }
 {
@@ -157,6 +156,20 @@ pub fn waits_for_descriptor_alone(standing: &Standing, needs: &Needs, course: &C
     } else {
         standing.is_stream
     }
+}
+
+/// Whether a request that runs becomes dormant, so that an epoll instance tells of it in the place of a look at it in each call: its descriptor was found unready, and the instance hasn't refused it. Our own rule.
+pub fn lies_down(
+    standing: &Standing,
+    needs: &Needs,
+    course: &Course,
+    is_unready: bool,
+    is_refused: bool,
+) -> bool
+    ensures { (log : List Fact) → KeepsCourse log course.now
+        → result ≡ spec.lies_down standing.now needs.now (is_cancelled log) is_unready is_refused }
+{
+    is_unready && !is_refused && waits_for_descriptor_alone(standing, needs, course)
 }
 
 fn told(finishes: bool) -> Look

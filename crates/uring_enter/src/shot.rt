@@ -2,7 +2,7 @@
 
 ghost use Rattle.std.specs.Prelude.{◌≡◌, List};
 ghost use Rattle.uring_enter.specs.Showing.{Change, KeepsShown};
-ghost use Rattle.uring_enter.specs.Shots.{brings, completion_flags, goes_on, has_room, is_behind, shot_of, tells};
+ghost use Rattle.uring_enter.specs.Shots.{NotifiesAtLast, brings, completion_flags, end_of_send, goes_on, has_room, is_behind, shot_of, tells};
 
 use crate::needs::goes_on;
 use crate::posted::Posted;
@@ -97,6 +97,18 @@ pub fn completion_flags(part: Part, of_buffer: u32) -> u32
         Part::Cancelled => 0,
     }
 }
+
+/// What the end of a send without copies tells of that has two completions, where the other was posted before, or is put off since memory was refused for it. io_uring_enter(2), IORING_OP_SEND_ZC; else our own rule.
+pub fn end_of_send(is_posted: bool) -> Part
+    ensures { result ≡ end_of_send is_posted }
+{
+    if is_posted { Part::Notice } else { Part::Sent }
+}
+
+/// Of the two completions of a send without copies the application sees first what it has sent, whatever is put off, and then the notice.
+pub fn notifies_at_last()
+    ensures { NotifiesAtLast }
+{}
 
 impl Posted {
     /// Whether an eventfd is told of this completion, where it is registered for all, or only for what ends behind the call that submitted it.

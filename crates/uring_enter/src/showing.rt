@@ -1,7 +1,7 @@
 //! Which completions the application is shown in ring memory, and what it has reaped.
 
 ghost use Rattle.std.specs.Prelude.{◌≡◌, ◌+◌, ◌<◌, ◌≤◌, ◌%◌, ◌^◌, ◌-◌, ℕ, drop, List, [], ◌∷◌, nat_le};
-ghost use Rattle.uring_enter.specs.Showing.{Change, Posted, Reaped, KeepsShown, IsTold, posted, written, reaped, store_of, behind_store, heard_of, ready, overflows, loads_head, is_readable, may_bring, flags_of};
+ghost use Rattle.uring_enter.specs.Showing.{Change, Reaped, KeepsShown, IsTold, posted, written, reaped, store_of, behind_store, heard_of, ready, overflows, loads_head, waits, may_bring, flags_of};
 ghost use Rattle.uring_enter.specs.declared.posted.Posted.{Posted as Row};
 ghost use Rattle.uring_enter.specs.Postings.{Posting, Reaped as RowsReaped, KeepsPosted};
 
@@ -39,14 +39,6 @@ impl Shown {
             shown: 0,
             posted: 0,
         }
-    }
-
-    /// A request has ended, and its completion was posted.
-    pub fn post(&mut self)
-        ensures { (log : List Change) → KeepsShown log self.old → self.old.posted < 2 ^ 64 - 1
-            → KeepsShown (Posted ∷ log) self.new }
-    {
-        self.posted = self.posted.saturating_add(1);
     }
 
     /// Whether a tail shows no more than was posted.
@@ -125,12 +117,12 @@ impl Shown {
         }
     }
 
-    /// Whether a ring's descriptor is readable, where this is the head that the application has stored: completions wait, in the ring or outside it, or a call may bring something.
-    pub fn is_readable(&self, head: u32, may_bring: bool) -> bool
+    /// Whether completions wait for the application, in the ring or outside it, where this is the head that it has stored.
+    pub(crate) fn waits(&self, head: u32) -> bool
         ensures { (log : List Change) (n : ℕ) → KeepsShown log self.now → IsTold log head n
-            → result ≡ is_readable log n may_bring }
+            → result ≡ waits log n }
     {
-        distance(self.head, head) != self.shown || (self.shown as u64) < self.posted || may_bring
+        distance(self.head, head) != self.shown || (self.shown as u64) < self.posted
     }
 
     /// The flags word of the submission ring: whether some have overflowed, whether a call may bring something, and whether a thread takes entries, which sleeps. So many requests haven't ended, and its descriptor is readable or not.

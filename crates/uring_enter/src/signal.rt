@@ -13,6 +13,16 @@ pub fn may_signal(entry: &Submission, res: i32) -> bool
     res == -27 && (is_write(entry.opcode) || matches!(entry.opcode, 17 | 30))
 }
 
+/// Whether the kernel may send a signal for a file that gets too long, where this is the greatest length that the process may give one, in bytes, if that is known.
+pub fn is_limited(most: Option<u64>) -> bool
+    ensures { result ≡ spec.is_limited most }
+{
+    match most {
+        Some(bytes) => bytes != u64::MAX,
+        None => false,
+    }
+}
+
 /// Whether a signal that was taken is that of the call, by its code, and by whether this process is told as its sender. Another is to be pending again.
 pub fn is_signal_of_call(code: i32, is_own: bool) -> bool
     ensures { result ≡ spec.is_of_call code is_own }

@@ -61,6 +61,13 @@ pub fn fires_behind(waited: &Waited) -> bool
     !waited.is_never && waited.result == 0
 }
 
+/// What a sleep came to, where its ppoll(2) came to this: in the process that began it, or in a child that was forked meanwhile. Our own rule, of a child.
+pub fn came_to(res: i32, is_child: bool) -> i32
+    ensures { result ≡ spec.came_to res is_child }
+{
+    if is_child { -4 } else { res }
+}
+
 /// Whether a sleep begins whose arguments have this fault, or 0, and before which a poll was told, or none.
 pub fn beginning_of(fault: i32, is_told: bool) -> Beginning
     ensures { result ≡ spec.beginning_of fault is_told }

@@ -1,4 +1,4 @@
-//! With which fault a call that is to sleep fails, and what its sleep came to. io_uring_enter(2), ERRORS.
+//! With which fault a call that is to sleep fails. io_uring_enter(2), ERRORS.
 
 ghost use Rattle.std.specs.Prelude.{◌≡◌};
 ghost use Rattle.uring_enter.specs.Slept as spec;
@@ -23,11 +23,4 @@ pub fn sleep_fault(argument: i32, mask: Option<i32>) -> i32
         Some(fault) => fault,
         None => 0,
     }
-}
-
-/// What a sleep came to whose ppoll(2) came to this, in the process that began it or in another, which was forked in the sleep.
-pub fn slept_result(came: i32, is_another_process: bool) -> i32
-    ensures { result ≡ spec.slept_result came is_another_process }
-{
-    if is_another_process { -4 } else { came }
 }

@@ -17,6 +17,13 @@ pub enum Visit {
     Visits,
 }
 
+/// Whether a message that a ring was sent is posted now, where there is one and a completion may be posted, or may not: by whoever is in a call on the ring before anything goes on there, and by who has left such a call, or has sent a message, as long as there are others. Our own rule.
+pub fn posts_message(is_there: bool, may_post: bool) -> bool
+    ensures { result ≡ spec.posts_message is_there may_post }
+{
+    is_there && may_post
+}
+
 /// What the sender of a message to this ring does behind one that has come to this result.
 pub fn visit_of(to: Receiver, res: i32) -> Visit
     ensures { result ≡ spec.visit_of to res }

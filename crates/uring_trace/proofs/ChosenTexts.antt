@@ -9,9 +9,9 @@ use Rattle.uring_entry.specs.Why.{why_of, waiting_for, holder_of, doom_of}
 use Rattle.uring_linux.specs.LinuxRequests.{LinuxRequests}
 use Rattle.uring_rules.specs.Rules as rules
 use Rattle.uring_entry.specs.declared.why.Why.{Why}
-use Rattle.uring_entry.specs.declared.why.Why.TheVariants.{NeverAccepted, HasEnded, Runs, IsDoomed, MayStart}
+use Rattle.uring_entry.specs.declared.why.Why.TheVariants.{NeverAccepted, HasEnded, Runs, IsDoomed, Waits, MayStart}
 use Rattle.uring_entry.specs.declared.why.Doom.{Doom}
-use Rattle.uring_trace.specs.Chosen.{is_open, spaced}
+use Rattle.uring_trace.specs.Chosen.{chose_text, is_open, spaced}
 
 -- ---- numbers behind spaces
 
@@ -109,3 +109,11 @@ target_told r n m entry found why is of there stands told =
     ∙ ap (λ (b : Bool). (b && not (m == n) && (user_data_of (entry_of r m) == addr_of (entry_of r n)) && not (is_doomed r m)) && not (is_running r m)) (sym other.0)
 
 -- ---- the text
+
+pub empty_chose : (xs : List ℕ) → spaced xs ≡ [] → chose_text xs ≡ codes "found none"
+empty_chose [] e = refl
+empty_chose (m ∷ more) e = absurd cc
+
+pub some_chose : (xs : List ℕ) → (spaced xs ≡ [] → ⊥) → chose_text xs ≡ codes "chose" ++ spaced xs
+some_chose [] some = absurd (some refl)
+some_chose (m ∷ more) some = refl

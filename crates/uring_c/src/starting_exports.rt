@@ -1,0 +1,34 @@
+//! What is done as a request starts, for C: functions of `c/wulgach_lookout.h`.
+ghost use Rattle.std.specs.Prelude.{◌≡◌};
+ghost use Rattle.uring_enter.specs.Starts as starts;
+ghost use Rattle.uring_c.specs.StartForm.{word_of_starting};
+
+use crate::duty_exports::bit;
+use uring_enter::{Needs, Standing, Starting, steps_at_start, steps_behind_files};
+
+/// What is done as the core has let a request start, whose files were looked for before or weren't, as a set of steps.
+#[unsafe(no_mangle)]
+pub extern "C" fn wulgach_steps_at_start(is_sought: bool) -> u32
+    ensures { result ≡ word_of_starting (starts.at_start is_sought) }
+{
+    starting_word(steps_at_start(is_sought))
+}
+
+/// What is done behind that, where its files were found without a fault, 0, or with this one.
+#[unsafe(no_mangle)]
+pub extern "C" fn wulgach_steps_behind_files(standing: &Standing, needs: &Needs, fault: i32) -> u32
+    ensures { result ≡ word_of_starting (starts.behind_files standing.now needs.now fault) }
+{
+    starting_word(steps_behind_files(standing, needs, fault))
+}
+
+fn starting_word(starting: Starting) -> u32
+    ensures { result ≡ word_of_starting starting }
+{
+    bit(1, starting.finds_earlier)
+        | bit(2, starting.finds_own)
+        | bit(4, starting.begins_time)
+        | bit(8, starting.asks_events)
+        | bit(16, starting.looks)
+        | bit(32, starting.seeks_buffer)
+}

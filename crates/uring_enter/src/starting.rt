@@ -1,0 +1,68 @@
+//! What is done as a request starts, and in which order.
+
+ghost use Rattle.std.specs.Prelude.{◌≡◌};
+ghost use Rattle.uring_enter.specs.Starts as spec;
+ghost use Rattle.uring_enter.specs.Starts.{AsksBehindItsFiles};
+
+use crate::needs::Needs;
+use crate::ready::{Standing, polls};
+
+/// What is to be done as a request starts, in the order in which it stands here.
+#[derive(Clone, Copy, Drop)]
+pub struct Starting {
+    /// Those that were accepted before it find their files whose turn to do so hasn't come.
+    pub finds_earlier: bool,
+
+    /// It finds its own files.
+    pub finds_own: bool,
+
+    /// The time of a timeout begins that runs from this start on.
+    pub begins_time: bool,
+
+    /// A poll asks for its events.
+    pub asks_events: bool,
+
+    /// Its descriptor is looked at.
+    pub looks: bool,
+
+    /// A provided buffer is looked for.
+    pub seeks_buffer: bool,
+}
+
+const NONE: Starting = Starting {
+    finds_earlier: false,
+    finds_own: false,
+    begins_time: false,
+    asks_events: false,
+    looks: false,
+    seeks_buffer: false,
+};
+
+/// As the core has let a request start, whose files were looked for before or weren't. Our own rule.
+pub fn steps_at_start(is_sought: bool) -> Starting
+    ensures { result ≡ spec.at_start is_sought }
+{
+    Starting {
+        finds_earlier: true,
+        finds_own: !is_sought,
+        begins_time: true,
+        ..NONE
+    }
+}
+
+/// Behind that, where its files were found without a fault, 0, or with this one.
+pub fn steps_behind_files(standing: &Standing, needs: &Needs, fault: i32) -> Starting
+    ensures { result ≡ spec.behind_files standing.now needs.now fault }
+{
+    Starting {
+        asks_events: needs.is_poll && fault == 0,
+        looks: polls(standing),
+        seeks_buffer: needs.selects && standing.is_stream,
+        ..NONE
+    }
+}
+
+/// Nothing is asked of a request's descriptor or group before its files were looked for.
+pub fn asks_behind_its_files()
+    ensures { AsksBehindItsFiles }
+{}

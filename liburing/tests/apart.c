@@ -1,0 +1,253 @@
+/* A program that is linked with nothing of ours, and does what reaches the layer beside its calls. It is run by uring-run.
+ *
+ *   apart closes | masks | stacks
+ *
+ * Status 0: all was as it is to be. Else a line says what wasn't.
+ */
+#define _GNU_SOURCE
+#include "trapped.h"
+
+#include <fcntl.h>
+#include <netinet/in.h>
+#include <pthread.h>
+#include <signal.h>
+#include <stdlib.h>
+#include <sys/select.h>
+#include <sys/socket.h>
+#include <sys/wait.h>
+
+static void unmap(const struct ring *ring)
+{
+    size_t size = ring->params.cq_off.cqes + ring->params.cq_entries * sizeof(struct io_uring_cqe);
+    WANT(munmap(ring->sq, size) == 0 && munmap(ring->cq, size) == 0);
+    WANT(munmap(ring->entries, ring->params.sq_entries * sizeof *ring->entries) == 0);
+}
+
+/* A ring that keeps a pipe's end open; the other one goes to `read`. */
+static struct ring holding(int *read)
+{
+    int ends[2];
+    struct ring ring = set_up(0);
+    WANT(pipe2(ends, O_CLOEXEC) == 0);
+    WANT(call(SYS_io_uring_register, ring.fd, IORING_REGISTER_FILES, (long)&ends[1], 1, 0, 0) == 0);
+    WANT(close(ends[1]) == 0);
+    unmap(&ring);
+    *read = ends[0];
+    return ring;
+}
+
+/* Whether a pipe's other end is open still. */
+static bool is_held(int read)
+{
+    struct pollfd polled = {.fd = read, .events = POLLIN};
+    return poll(&polled, 1, 0) == 0;
+}
+
+static void close_by(int way, int fd)
+{
+    int other = open("/dev/null", O_RDONLY);
+    WANT(other >= 0);
+    if (way == 0)
+        WANT(close(fd) == 0);
+    else if (way == 1)
+        WANT(close_range((unsigned)fd, (unsigned)fd, 0) == 0);
+    else if (way == 2)
+        WANT(dup2(other, fd) == fd && close(fd) == 0);
+    else
+        WANT(dup3(other, fd, O_CLOEXEC) == fd && close(fd) == 0);
+    WANT(close(other) == 0);
+}
+
+/* A child of vfork closes its own descriptors, and no ring of its parent's. */
+static void close_in_child(int fd)
+{
+    int status;
+    pid_t child = vfork();
+    if (child == 0) {
+        close(fd);
+        close_range((unsigned)fd, (unsigned)fd, 0);
+        _exit(0);
+    }
+    WANT(waitpid(child, &status, 0) == child && status == 0);
+}
+
+/* The listener that waits in a ring is gone with that: its port can be bound again. */
+static void accepts(void)
+{
+    struct sockaddr_in at = {.sin_family = AF_INET, .sin_addr.s_addr = htonl(INADDR_LOOPBACK)};
+    socklen_t length = sizeof at;
+    int listener = socket(AF_INET, SOCK_STREAM, 0);
+    WANT(listener >= 0 && bind(listener, (void *)&at, sizeof at) == 0 && listen(listener, 1) == 0 && getsockname(listener, (void *)&at, &length) == 0);
+    struct ring ring = set_up(0);
+    publish(&ring, (struct io_uring_sqe){.opcode = IORING_OP_ACCEPT, .fd = listener});
+    WANT(enter(&ring, 1, 0, NULL) == 1 && close(listener) == 0);
+    unmap(&ring);
+    WANT(close(ring.fd) == 0);
+    listener = socket(AF_INET, SOCK_STREAM, 0);
+    WANT(listener >= 0 && bind(listener, (void *)&at, sizeof at) == 0 && close(listener) == 0);
+}
+
+static void *wait_in(void *of)
+{
+    WANT(enter(of, 0, 1, NULL) == 0);
+    return NULL;
+}
+
+/* A ring that a thread waits on is there until its call returns, and no longer. */
+static void closed_in_a_call(void)
+{
+    int read, ends[2];
+    pthread_t thread;
+    struct ring ring = set_up(0);
+    WANT(pipe(ends) == 0);
+    int registered[2];
+    WANT(pipe(registered) == 0);
+    read = registered[0];
+    WANT(call(SYS_io_uring_register, ring.fd, IORING_REGISTER_FILES, (long)&registered[1], 1, 0, 0) == 0 && close(registered[1]) == 0);
+    publish(&ring, (struct io_uring_sqe){.opcode = IORING_OP_POLL_ADD, .fd = ends[0], .poll32_events = POLLIN});
+    WANT(enter(&ring, 1, 0, NULL) == 1);
+    WANT(pthread_create(&thread, NULL, wait_in, &ring) == 0);
+    usleep(100000);
+    WANT(close(ring.fd) == 0);
+    usleep(20000);
+    WANT(is_held(read) && write(ends[1], "x", 1) == 1 && pthread_join(thread, NULL) == 0);
+    WANT(!is_held(read));
+    unmap(&ring);
+}
+
+/* A ring is gone with its last descriptor, however that is closed, and lets go what it has. */
+static void closes(void)
+{
+    int read;
+    close_in_child(999);
+    for (int way = 0; way < 4; way++) {
+        struct ring ring = holding(&read);
+        int copy = dup(ring.fd);
+        WANT(copy >= 0 && is_held(read));
+        close_in_child(ring.fd);
+        WANT(is_held(read) && call(SYS_io_uring_enter, copy, 0, 0, 0, 0, 0) == 0);
+        close_by(way, ring.fd);
+        WANT(is_held(read) && call(SYS_io_uring_enter, copy, 0, 0, 0, 0, 0) == 0);
+        close_by(way, copy);
+        WANT(!is_held(read) && close(read) == 0);
+        ring = holding(&read);
+        copy = dup(ring.fd);
+        WANT(copy >= 0);
+        close_by(way, ring.fd);
+        WANT(is_held(read));
+        close_by(way, copy);
+        WANT(!is_held(read) && close(read) == 0);
+    }
+    accepts();
+    closed_in_a_call();
+}
+
+static const struct ring *called;
+static volatile sig_atomic_t calls;
+
+static void call_in_handler(int number)
+{
+    (void)number;
+    WANT(call(SYS_io_uring_enter, called->fd, 0, 0, 0, 0, 0) == 0);
+    calls++;
+}
+
+static void *call_once(void *none)
+{
+    WANT(call(SYS_io_uring_enter, called->fd, 0, 0, 0, 0, 0) == 0);
+    return none;
+}
+
+static void want_call(bool is_interrupted)
+{
+    WANT(is_interrupted && calls == 1);
+    calls = 0;
+    WANT(raise(SIGUSR1) == 0 && calls == 0);
+}
+
+/* A signal waits that the mask of a wait lets come, and no other: its handler may call. */
+static void masks(void)
+{
+    const struct sigaction action = {.sa_handler = call_in_handler};
+    const struct timespec soon = {.tv_sec = 10};
+    struct ring ring = set_up(0), other = set_up(0);
+    struct pollfd polled[1] = {{.fd = -1}};
+    struct epoll_event event;
+    sigset_t own, all;
+    uint64_t word;
+    int instance = epoll_create1(0), ends[2];
+    pthread_attr_t attributes;
+    pthread_t thread;
+    called = &other;
+    sigemptyset(&own);
+    sigaddset(&own, SIGUSR1);
+    WANT(sigaction(SIGUSR1, &action, NULL) == 0 && sigprocmask(SIG_BLOCK, &own, NULL) == 0 && raise(SIGUSR1) == 0);
+    sigfillset(&all);
+    sigdelset(&all, SIGUSR1);
+    memcpy(&word, &all, sizeof word);
+    want_call(sigsuspend(&all) < 0);
+    want_call(ppoll(polled, 1, &soon, &all) < 0);
+    want_call(pselect(0, NULL, NULL, NULL, &soon, &all) < 0);
+    want_call(epoll_pwait(instance, &event, 1, 10000, &all) < 0);
+    want_call(epoll_pwait2(instance, &event, 1, &soon, &all) < 0);
+    WANT(pipe(ends) == 0);
+    publish(&ring, (struct io_uring_sqe){.opcode = IORING_OP_POLL_ADD, .fd = ends[0], .poll32_events = POLLIN});
+    WANT(enter(&ring, 1, 0, NULL) == 1);
+    want_call(enter(&ring, 0, 1, &word) < 0);
+    sigfillset(&all);
+    WANT(pthread_attr_init(&attributes) == 0 && pthread_attr_setsigmask_np(&attributes, &all) == 0);
+    WANT(pthread_create(&thread, &attributes, call_once, NULL) == 0 && pthread_join(thread, NULL) == 0);
+}
+
+struct small {
+    struct ring ring;
+    char *byte;
+    int ends[2];
+};
+
+/* No function of the program's has room to spare: an open, a read that waits, and as many no-ops as it takes to have the call rewritten. */
+static void *call_on_small(void *of)
+{
+    struct small *small = of;
+    struct ring *ring = &small->ring;
+    uint32_t *tail = (uint32_t *)(ring->sq + ring->params.sq_off.tail);
+    ring->entries[0] = (struct io_uring_sqe){.opcode = IORING_OP_OPENAT, .fd = AT_FDCWD, .addr = (uintptr_t)"/dev/null"};
+    for (uint32_t i = 0; i < 40; i++) {
+        if (i == 1)
+            ring->entries[0] = (struct io_uring_sqe){.opcode = IORING_OP_READ, .fd = small->ends[0], .addr = (uintptr_t)small->byte, .len = 1};
+        else if (i > 1)
+            ring->entries[0] = (struct io_uring_sqe){.opcode = IORING_OP_NOP};
+        __atomic_store_n(tail, i + 1, __ATOMIC_RELEASE);
+        WANT(call(SYS_io_uring_enter, ring->fd, 1, 1, IORING_ENTER_GETEVENTS, 0, 0) == 1);
+        __atomic_store_n((uint32_t *)(ring->sq + ring->params.cq_off.head), i + 1, __ATOMIC_RELEASE);
+    }
+    return NULL;
+}
+
+/* A thread may have the smallest stack there is. */
+static void stacks(void)
+{
+    static char byte;
+    static struct small small;
+    pthread_attr_t attributes;
+    pthread_t thread;
+    small = (struct small){.ring = set_up(0), .byte = &byte};
+    WANT(pipe(small.ends) == 0 && pthread_attr_init(&attributes) == 0 && pthread_attr_setstacksize(&attributes, 16384) == 0);
+    WANT(pthread_create(&thread, &attributes, call_on_small, &small) == 0);
+    usleep(50000);
+    WANT(write(small.ends[1], "x", 1) == 1 && pthread_join(thread, NULL) == 0 && byte == 'x');
+}
+
+int main(int argc, char **argv)
+{
+    const char *name = argc > 1 ? argv[1] : "";
+    if (strcmp(name, "closes") == 0)
+        closes();
+    else if (strcmp(name, "masks") == 0)
+        masks();
+    else if (strcmp(name, "stacks") == 0)
+        stacks();
+    else
+        return 2;
+    return 0;
+}
