@@ -83,15 +83,26 @@ struct wulgach_enter {
     bool took_all;
 };
 
-/* How a call names its ring. */
-enum wulgach_naming {
-    WULGACH_NAMED_BY_FD = 0,        /* by a descriptor */
-    WULGACH_NAMED_BY_NUMBER = 1     /* by the number under which the thread has registered it: IORING_ENTER_REGISTERED_RING */
+/* What is looked at of a call, or done, before it is carried out; and that it is. */
+enum wulgach_passage {
+    WULGACH_CHECKS_NUMBER = 0,      /* the number under which the thread has registered the ring */
+    WULGACH_CHECKS_DESCRIPTOR = 1,  /* the descriptor: whether it is a ring's */
+    WULGACH_COUNTS_CALL = 2,        /* it counts among the calls on its ring */
+    WULGACH_CHECKS_CALLER = 3,      /* who calls: whether the ring is enabled, and the thread may */
+    WULGACH_CHECKS_ARGUMENT = 4,    /* the argument and its count */
+    WULGACH_PASSES = 5,             /* it is carried out */
+    WULGACH_AT_FIRST = 6            /* nothing was done */
 };
 
-/* Returns how a call with these flags names its ring (enum wulgach_naming), or the error with which it is refused before that is looked at:
- * -22 of a flag that isn't served. IORING_ENTER_GETEVENTS, _SQ_WAKEUP, _SQ_WAIT, _EXT_ARG and _REGISTERED_RING are. */
-int32_t wulgach_naming_of(uint32_t flags);
+/* Returns what comes next of a call of io_uring_enter(2) with these flags (enum wulgach_passage), behind `last`, which came to `res`, 0 at first; or the
+ * error with which it is refused. -22 of a flag that isn't served comes first: IORING_ENTER_GETEVENTS, _SQ_WAKEUP, _SQ_WAIT, _EXT_ARG and _REGISTERED_RING
+ * are. With the last the ring is named by a number, which is looked at before the descriptor for which it stands. A call counts once its ring is
+ * found, whoever calls, by which an eventfd is told of what has ended in a later one. */
+int32_t wulgach_entering_next(uint32_t flags, uint32_t last, int32_t res);
+
+/* Returns the same of a call of io_uring_register(2), whose descriptor was found a ring's or not: only one on a ring counts. Who calls comes before
+ * the argument. */
+int32_t wulgach_registering_next(bool has_ring, uint32_t last, int32_t res);
 
 /* The error of a call whose descriptor is no ring's: -9 (EBADF) if it isn't open, else -95 (EOPNOTSUPP). */
 int32_t wulgach_no_ring_fault(bool is_open);
@@ -206,8 +217,12 @@ int32_t wulgach_last_argument_fault(const struct wulgach_argument *argument);
 /* The fault of a mask of this size, or 0: -22 unless it is 8, then -14 if it can't be read. It matters where the call is to sleep. */
 int32_t wulgach_mask_fault(uint64_t size, bool is_readable);
 
-/* Whether a call that is to sleep reads its mask, behind so many sleeps: before the first. It sleeps with that until it returns. */
-bool wulgach_reads_mask(uint32_t sleeps);
+/* Whether a call that is to sleep reads its mask, behind so many sleeps, if it gives one, and its last argument has this fault, or 0: before the first,
+ * and not if it has a fault. It sleeps with that mask until it returns. */
+bool wulgach_asks_mask(bool has_mask, int32_t argument, uint32_t sleeps);
+
+/* With which fault a call that is to sleep fails, or 0: that of its last argument, else that of its mask, if that was read. */
+int32_t wulgach_sleep_fault(int32_t argument, bool has_read, int32_t mask);
 
 /* What a submission comes to that came to this, and behind which the argument has this fault, or 0: the fault counts where nothing was
  * submitted. */
@@ -283,6 +298,16 @@ uint32_t wulgach_taking_took(struct wulgach_taking *taking, const struct wulgach
  * position, it is -11 (EAGAIN) if there are none. By the core, which was given them, it is -11: they stay staged, and the next call goes on
  * with them. */
 int32_t wulgach_refusal_fault(uint32_t staged, bool is_core);
+
+/* What is done once the core has taken what a call has staged. */
+enum wulgach_taken_step {
+    WULGACH_TAKEN_STORES_DROPPED = 0,   /* how many words named no slot is stored, */
+    WULGACH_TAKEN_STORES_HEAD = 1,      /* and then the head */
+    WULGACH_TAKEN_NOTES = 2             /* what was taken is noted, and may go on */
+};
+
+/* The bit 1 << STEP of each: they are done by rising bits. */
+uint32_t wulgach_taken_steps(void);
 
 /* ---- what goes on next ---- */
 

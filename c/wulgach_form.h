@@ -29,6 +29,27 @@ struct wulgach_submission {
     uint64_t pad;
 };
 
+/* Buffers that an entry provides (IORING_OP_PROVIDE_BUFFERS): `addr`, `off`, `len` and `fd` of it. */
+struct wulgach_provided {
+    uint64_t address;       /* where the first begins */
+    uint64_t first;         /* its number */
+    uint32_t length;        /* the bytes of each */
+    uint32_t count;
+};
+
+/* A registered file that a message passes (IORING_MSG_SEND_FD): `addr3` and `file_index` of its entry. */
+struct wulgach_passed {
+    uint32_t slot;          /* that it has in the sender's table, */
+    uint32_t to;            /* and that it gets in the other's, plus 1, or any */
+};
+
+/* What the fields of an entry mean: these; how many buffers it removes at most (IORING_OP_REMOVE_BUFFERS), `fd`; and the user data of the request that a
+ * cancel, a removal or an update is aimed at, `addr`. */
+void wulgach_provided_of(const struct wulgach_submission *entry, struct wulgach_provided *provided);
+void wulgach_passed_of(const struct wulgach_submission *entry, struct wulgach_passed *passed);
+uint32_t wulgach_removed_of(const struct wulgach_submission *entry);
+uint64_t wulgach_target_of(const struct wulgach_submission *entry);
+
 /* What an entry is to the core. */
 enum wulgach_form {
     WULGACH_FORM_TOKEN = 0,     /* a request that is carried out outside of it */

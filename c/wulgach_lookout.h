@@ -161,6 +161,67 @@ bool wulgach_waiter_misses(struct wulgach_waiter *waiter, const struct wulgach_l
  * write. */
 bool wulgach_waiter_takes(struct wulgach_waiter *waiter, const struct wulgach_lookout *lookout);
 
+/* ---- what a look at descriptors says ---- */
+
+enum wulgach_glance {
+    WULGACH_GLANCE_UNREADY = 0,
+    WULGACH_GLANCE_READY = 1,
+    WULGACH_GLANCE_ASKS_ALONE = 2    /* it is to be looked at alone */
+};
+
+/* Returns what is found of a request (enum wulgach_glance) by a poll(2) that doesn't wait, of its descriptor or of that and others, which came to this and
+ * shows these events of it: an impatient one is ready whatever they are; where many were polled, and that failed, each is looked at alone; else as
+ * wulgach_counts_as_ready has it. */
+uint32_t wulgach_glance_of(bool is_impatient, bool is_of_many, int32_t came, uint16_t events);
+
+/* ---- what an instance tells of those that are dormant ---- */
+
+/* The instance has told that its descriptor is ready, by which it is dormant no more: it counts as seen ready, and threads that sleep are woken. */
+void wulgach_waiter_is_told_ready(struct wulgach_waiter *waiter, struct wulgach_lookout *lookout);
+
+enum wulgach_instance_answer {
+    WULGACH_INSTANCE_IS_DONE = 0,   /* it has told all */
+    WULGACH_INSTANCE_ASKS = 1,      /* it is asked again */
+    WULGACH_INSTANCE_ROUSES = 2     /* it doesn't tell: all that are dormant are roused, and none becomes so again */
+};
+
+/* Returns what an instance's answer makes of who asks it (enum wulgach_instance_answer), which has told of so many, or failed, and tells of so many at most at
+ * once. */
+uint32_t wulgach_instance_answered(int32_t came, int32_t most);
+
+/* ---- what of a pipe is told ---- */
+
+/* Whether the writes that are heard now are told to no poll: they may be the ring's own. */
+bool wulgach_lookout_drops_writes(const struct wulgach_lookout *lookout);
+
+enum wulgach_gone {
+    WULGACH_GONE_NO = 0,    /* it has heard of nothing, or that is there still */
+    WULGACH_GONE_ASKS = 1,  /* whether it is there is to be asked */
+    WULGACH_GONE_YES = 2
+};
+
+/* Returns whether what a poll has heard of is gone (enum wulgach_gone), where it is known whether its pipe has something, or isn't. */
+uint32_t wulgach_waiter_gone(const struct wulgach_waiter *waiter, bool knows, bool is_there);
+
+/* ---- what an end makes of others ---- */
+
+/* What is done behind the end of a request: a set of these has the bit 1 << DUTY of each, and they are done by rising bits. */
+enum wulgach_end_duty {
+    WULGACH_END_COUNTS = 0,             /* it counts for the timeouts that wait for so many completions */
+    WULGACH_END_STOPS_TIMEOUT = 1,      /* the timeout stops that it was, or that limited it */
+    WULGACH_END_LOOKS_AT_COUNTS = 2,    /* it is looked which counts are reached */
+    WULGACH_END_UNWATCHES = 3,          /* the ring's own descriptor polls no more for its file, and for its epoll instance */
+    WULGACH_END_FORGETS = 4,            /* nothing tells of its descriptor any more */
+    WULGACH_END_LOOKS_BEHIND = 5,       /* those that run are looked at again, if it may let one be finished */
+    WULGACH_END_LETS_START = 6,         /* those are noted that it lets start */
+    WULGACH_END_ENDS_DRAIN = 7,         /* one that drains is outstanding no more */
+    WULGACH_END_LEAVES = 8,             /* it stands in no list any more, and lets its files go */
+    WULGACH_END_HAS_ENDS = 9            /* something has ended that isn't shown */
+};
+
+/* That set, for a request which keeps a file or none, has an epoll instance or none, may have had to wait for its descriptor, and drains or doesn't. */
+uint32_t wulgach_duties_behind_end(bool has_file, bool has_instance, bool is_stream, bool is_draining);
+
 /* ---- files that are kept ---- */
 
 /* Whether a request keeps its file before a close is carried out: it was accepted before the close, and is on the descriptor that this closes. */

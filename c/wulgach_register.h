@@ -149,6 +149,59 @@ struct wulgach_content {
     bool has_data;          /* it names a list */
 };
 
+/* The structures that calls read, as they stand in memory; those of <linux/io_uring.h> are the same. */
+struct wulgach_table_form {     /* `struct io_uring_rsrc_register` */
+    uint32_t nr, flags;
+    uint64_t resv2, data, tags;
+};
+
+struct wulgach_update_form {    /* `struct io_uring_rsrc_update2` */
+    uint32_t offset, resv;
+    uint64_t data, tags;
+    uint32_t nr, resv2;
+};
+
+struct wulgach_files_form {     /* `struct io_uring_files_update` */
+    uint32_t offset, resv;
+    uint64_t fds;
+};
+
+struct wulgach_cancel_form {    /* `struct io_uring_sync_cancel_reg` */
+    uint64_t addr;
+    int32_t fd;
+    uint32_t flags;
+    int64_t seconds, nanoseconds;
+    uint64_t pad, second_pad, third_pad, fourth_pad;
+};
+
+struct wulgach_ring_form {      /* `struct io_uring_buf_reg` */
+    uint64_t ring_addr;
+    uint32_t ring_entries;
+    uint16_t bgid, pad;
+    uint64_t resv, second_resv, third_resv;
+};
+
+struct wulgach_range_form {     /* `struct io_uring_file_index_range` */
+    uint32_t off, len;
+    uint64_t resv;
+};
+
+struct wulgach_parameters_form {    /* the first 40 bytes of `struct io_uring_params` */
+    uint32_t sq_entries, cq_entries, flags, sq_thread_cpu, sq_thread_idle, features, wq_fd;
+    uint32_t resv, second_resv, third_resv;
+};
+
+/* Writes what is judged of such a structure: of an update of files alone the call gives the count. All `resv` and `pad` are reserved. */
+void wulgach_content_of_table(const struct wulgach_table_form *form, struct wulgach_content *content);
+void wulgach_content_of_update(const struct wulgach_update_form *form, struct wulgach_content *content);
+void wulgach_content_of_files(const struct wulgach_files_form *form, uint32_t count, struct wulgach_content *content);
+void wulgach_content_of_cancel(const struct wulgach_cancel_form *form, struct wulgach_content *content);
+
+/* Whether a reserved field of such a one isn't 0. */
+bool wulgach_ring_has_reserved(const struct wulgach_ring_form *form);
+bool wulgach_range_has_reserved(const struct wulgach_range_form *form);
+bool wulgach_parameters_have_reserved(const struct wulgach_parameters_form *form);
+
 /* The fault of that, or 0: -14 if it couldn't be read, -22 of none, of a reserved field, of a flag that isn't served, of a sparse table
  * with a list, and of a cancel by a descriptor and any. */
 int32_t wulgach_content_fault(uint32_t code, bool is_read, const struct wulgach_content *content);
@@ -208,6 +261,22 @@ uint64_t wulgach_eventfd_added(const struct wulgach_eventfd *eventfd, uint32_t c
 
 /* What a thread's 16 rows hold are words of the caller's: 0 in a free one. `count` is how many words there are, 16 at least. */
 void wulgach_enrolled_begin(uint64_t *words, size_t count);
+
+/* What is done by a row of a list that gives a ring a number. */
+enum wulgach_enrolling {
+    WULGACH_ENROLLING_READS = 0,    /* it is read, */
+    WULGACH_ENROLLING_JUDGES = 1,   /* it is looked at, and at the descriptor that it names, */
+    WULGACH_ENROLLING_PLACES = 2,   /* a number is looked for that is free, */
+    WULGACH_ENROLLING_FILLS = 3,    /* the ring gets it, */
+    WULGACH_ENROLLING_TELLS = 4,    /* and it is told in the row */
+    WULGACH_ENROLLING_FAILS = 5,    /* it fails with what the last came to, */
+    WULGACH_ENROLLING_EMPTIES = 6,  /* and the ring loses its number again */
+    WULGACH_ENROLLING_IS_DONE = 7,
+    WULGACH_ENROLLING_BEGINS = 8
+};
+
+/* Returns what is done behind this (enum wulgach_enrolling), which came to `res`: BEGINS, and 0, at first. The first fault ends it. */
+uint32_t wulgach_enrolling_next(uint32_t last, int32_t res);
 
 /* The fault of enrolling a ring, before a row is looked for, or 0: -22 of a reserved field, and of a number past the last, unless any is
  * asked for (2^32 - 1); -9 of a descriptor that isn't open, -95 of what is no ring. */
@@ -327,6 +396,40 @@ enum wulgach_row_step {
 /* Returns what an update does by a row (enum wulgach_row): the bit 1 << STEP of each step, which are done by rising bits until one fails. A
  * slot that gets a file is emptied first, so it stays empty if there is none; one that gets a buffer keeps what it has until that is there. */
 uint32_t wulgach_row_steps(uint32_t row, bool is_of_files);
+
+/* In which steps a row of lists is read, the file of a descriptor made, a ring of provided buffers registered, and a descriptor closed. */
+enum wulgach_reading_step {
+    WULGACH_READING_TAG = 0,    /* the tag */
+    WULGACH_READING_ROW = 1     /* the descriptor, or the vector */
+};
+
+enum wulgach_making_step {
+    WULGACH_MAKING_FINDS = 0,   /* it is looked whether the descriptor is open: -9 (EBADF), */
+    WULGACH_MAKING_TAGS = 1,    /* and for memory for its tag: -12 (ENOMEM), */
+    WULGACH_MAKING_JUDGES = 2,  /* and whether it is a ring's: -9; */
+    WULGACH_MAKING_COPIES = 3   /* and it is copied: -24 (EMFILE) */
+};
+
+enum wulgach_ring_step {
+    WULGACH_RING_FORM = 0,      /* its form is looked at, */
+    WULGACH_RING_PAGES = 1,     /* and its pages: -14 (EFAULT); */
+    WULGACH_RING_GROUP = 2      /* and there is memory for its group: -12 */
+};
+
+enum wulgach_closing_step {
+    WULGACH_CLOSING_KEEPS = 0,  /* those that were accepted before it keep their files, */
+    WULGACH_CLOSING_CLOSES = 1  /* and the descriptor is closed */
+};
+
+/* The bit 1 << STEP of each step: they are done by rising bits, until one fails. A list that isn't there isn't read; only a file that is registered is
+ * looked for and has a tag, or none; and a close with a fault does nothing. */
+uint32_t wulgach_reading_steps(bool has_tags, bool has_list);
+uint32_t wulgach_making_steps(bool is_registered, bool has_tag);
+uint32_t wulgach_ring_steps(void);
+uint32_t wulgach_closing_steps(int32_t fault);
+
+/* Whether a list of restrictions holds whose rows have come to this, 0 or the fault of one. */
+bool wulgach_restrictions_hold(int32_t fault);
 
 /* The fault of a descriptor that a request is to close or to register, or 0: -9 (EBADF) of none and of a ring. */
 int32_t wulgach_holding_fault(int32_t fd, bool is_ring);

@@ -79,6 +79,19 @@ uint32_t wulgach_shown_ready(const struct wulgach_shown *shown, uint32_t head);
  * outstanding or the ring's descriptor is readable; and IORING_SQ_NEED_WAKEUP if a thread takes entries, which sleeps. */
 uint32_t wulgach_shown_flags(const struct wulgach_shown *shown, uint64_t outstanding, bool is_readable, bool has_thread);
 
+/* What is done where something was reaped, or what has overflowed is asked for. */
+enum wulgach_heard_step {
+    WULGACH_HEARD_SHOWS = 0,    /* what has ended is shown, before room moves the tail on */
+    WULGACH_HEARD_REAPS = 1,    /* the core is told what was reaped */
+    WULGACH_HEARD_MOVES = 2     /* what has overflowed is moved, as wulgach_shown_loads_head says */
+};
+
+/* The bit 1 << STEP of each, where so many were reaped since it was last heard: they are done by rising bits. */
+uint32_t wulgach_heard_steps(uint32_t reaped, bool is_asked);
+
+/* Whether the ring is shown anew behind so many completions that have moved into it: else the tail and the flags are as they were shown. */
+bool wulgach_shows_again(uint64_t moved);
+
 /* ---- a descriptor that polls ---- */
 
 /* What a ring's descriptor polls for of one descriptor for which requests wait. */

@@ -149,7 +149,8 @@ static void read_arguments(void)
     check(wulgach_last_argument_fault(&argument) == -22, "one of another size");
     argument.is_extended = false;
     check(wulgach_last_argument_fault(&argument) == 0, "a mask");
-    check(wulgach_reads_mask(0) && !wulgach_reads_mask(1) && !wulgach_reads_mask(UINT32_MAX), "when a mask is read");
+    check(wulgach_asks_mask(true, 0, 0) && !wulgach_asks_mask(true, 0, 1) && !wulgach_asks_mask(true, 0, UINT32_MAX) && !wulgach_asks_mask(false, 0, 0) && !wulgach_asks_mask(true, -14, 0), "when a mask is read");
+    check(wulgach_sleep_fault(0, true, -14) == -14 && wulgach_sleep_fault(-22, true, -14) == -22 && wulgach_sleep_fault(0, false, -14) == 0, "which fault counts");
     check(wulgach_mask_fault(8, true) == 0 && wulgach_mask_fault(8, false) == -14 && wulgach_mask_fault(3, false) == -22, "its faults");
     check(wulgach_submission_with_fault(0, -14) == -14 && wulgach_submission_with_fault(2, -14) == 2 && wulgach_submission_with_fault(-11, -14) == -11 && wulgach_submission_with_fault(2, 0) == 2, "what counts");
 }
@@ -190,9 +191,12 @@ static void go_by_policies(void)
 static void reach_rings(void)
 {
     running = "rings";
-    check(wulgach_naming_of(1 | 2 | 4 | 8) == WULGACH_NAMED_BY_FD, "a descriptor");
-    check(wulgach_naming_of(16 | 1) == WULGACH_NAMED_BY_NUMBER, "a number");
-    check(wulgach_naming_of(16 | 32) == -22 && wulgach_naming_of(1u << 31) == -22, "an unknown flag");
+    check(wulgach_entering_next(1 | 2 | 4 | 8, WULGACH_AT_FIRST, 0) == WULGACH_CHECKS_DESCRIPTOR, "a descriptor");
+    check(wulgach_entering_next(16 | 1, WULGACH_AT_FIRST, 0) == WULGACH_CHECKS_NUMBER, "a number");
+    check(wulgach_entering_next(16 | 32, WULGACH_AT_FIRST, 0) == -22 && wulgach_entering_next(1u << 31, WULGACH_AT_FIRST, 0) == -22, "an unknown flag");
+    check(wulgach_entering_next(16, WULGACH_CHECKS_NUMBER, 7) == WULGACH_CHECKS_DESCRIPTOR && wulgach_entering_next(0, WULGACH_CHECKS_DESCRIPTOR, 0) == WULGACH_COUNTS_CALL && wulgach_entering_next(0, WULGACH_COUNTS_CALL, 0) == WULGACH_CHECKS_CALLER && wulgach_entering_next(0, WULGACH_CHECKS_CALLER, 0) == WULGACH_PASSES, "one behind the other");
+    check(wulgach_entering_next(0, WULGACH_CHECKS_CALLER, -77) == -77, "the first fault");
+    check(wulgach_registering_next(false, WULGACH_AT_FIRST, 0) == WULGACH_CHECKS_DESCRIPTOR && wulgach_registering_next(true, WULGACH_CHECKS_DESCRIPTOR, 0) == WULGACH_COUNTS_CALL && wulgach_registering_next(false, WULGACH_CHECKS_DESCRIPTOR, 0) == WULGACH_CHECKS_CALLER && wulgach_registering_next(true, WULGACH_CHECKS_CALLER, 0) == WULGACH_CHECKS_ARGUMENT && wulgach_registering_next(true, WULGACH_CHECKS_ARGUMENT, 0) == WULGACH_PASSES, "a registration");
     check(wulgach_no_ring_fault(false) == -9 && wulgach_no_ring_fault(true) == -95, "no ring");
     check(wulgach_looks_in_vain(true, 0, 0) && !wulgach_looks_in_vain(true, 0, 1) && !wulgach_looks_in_vain(true, 1, 0) && !wulgach_looks_in_vain(false, 0, 0), "a look");
 }
@@ -236,6 +240,12 @@ static void do_duties(void)
     check(wulgach_polls_instance(1) && !wulgach_polls_instance(0), "a sleep beside those that are dormant");
 }
 
+static void take_by_steps(void)
+{
+    running = "what was taken";
+    check(wulgach_taken_steps() == (BIT(WULGACH_TAKEN_STORES_DROPPED) | BIT(WULGACH_TAKEN_STORES_HEAD) | BIT(WULGACH_TAKEN_NOTES)), "it is stored and noted");
+}
+
 static void do_some_duties(void)
 {
     static const struct {
@@ -274,6 +284,7 @@ int main(void)
 {
     read_arguments();
     do_duties();
+    take_by_steps();
     do_some_duties();
     do_duties_of_registering();
     take_in_rounds();

@@ -205,6 +205,18 @@ static void visit(void)
     demand(wulgach_visit_of(&none, 0) == WULGACH_VISITS_NOBODY && wulgach_visit_of(&ring, 0) == WULGACH_VISITS_OTHER && wulgach_visit_of(&own, 0) == WULGACH_POSTS_OWN && wulgach_visit_of(&ring, -9) == WULGACH_VISITS_NOBODY, "who posts a message");
 }
 
+static void name_fields(void)
+{
+    const struct wulgach_submission entry = {.fd = 3, .off = 4, .addr = 5, .len = 6, .user_data = 7, .file_index = 8, .addr3 = 9 + (1ull << 32)}, none = {.fd = -1};
+    struct wulgach_provided provided;
+    struct wulgach_passed passed;
+    wulgach_provided_of(&entry, &provided);
+    demand(provided.address == 5 && provided.first == 4 && provided.length == 6 && provided.count == 3, "buffers that are provided");
+    wulgach_passed_of(&entry, &passed);
+    demand(passed.slot == 9 && passed.to == 8, "a file that is passed");
+    demand(wulgach_removed_of(&entry) == 3 && wulgach_removed_of(&none) == 0 && wulgach_target_of(&entry) == 5, "buffers that are removed, and what is looked for");
+}
+
 int main(void)
 {
     look_at_fields();
@@ -222,6 +234,7 @@ int main(void)
     have_room();
     do_nothing();
     visit();
+    name_fields();
     printf("form: as called for\n");
     return 0;
 }

@@ -77,6 +77,8 @@ static void find_waiting(struct wulgach_waiter *waiter, const struct wulgach_loo
     demand(ask(waiter, lookout, &ready) == WULGACH_LOOK_WAITS, "one that is known to wait isn't");
 }
 
+#define BIT(duty) (1u << (duty))
+
 static void ask_again(void)
 {
     static const struct wulgach_end_of_one plain = {0}, counted = {.is_count_reached = true};
@@ -244,6 +246,37 @@ static void tell_others(void)
     demand(wulgach_counts_as_written(true, false, false) && wulgach_counts_as_written(false, true, true) && !wulgach_counts_as_written(false, true, false) && !wulgach_counts_as_written(false, false, true), "a pipe that was written to");
 }
 
+static void lie(void)
+{
+    struct wulgach_lookout lookout = waiting(1);
+    struct wulgach_waiter waiter;
+    wulgach_waiter_begin(&waiter);
+    demand(!wulgach_lookout_wakes(&lookout), "nothing has changed");
+    wulgach_waiter_is_told_ready(&waiter, &lookout);
+    demand(wulgach_waiter_sighting(&waiter, &lookout) == WULGACH_SIGHTING_READY && wulgach_lookout_wakes(&lookout), "one that an instance tells of");
+    demand(wulgach_instance_answered(64, 64) == WULGACH_INSTANCE_ASKS && wulgach_instance_answered(63, 64) == WULGACH_INSTANCE_IS_DONE && wulgach_instance_answered(0, 64) == WULGACH_INSTANCE_IS_DONE && wulgach_instance_answered(-1, 64) == WULGACH_INSTANCE_ROUSES, "what an instance answers");
+    demand(wulgach_glance_of(true, true, -1, 0) == WULGACH_GLANCE_READY && wulgach_glance_of(false, true, -1, 0) == WULGACH_GLANCE_ASKS_ALONE && wulgach_glance_of(false, false, -1, 0) == WULGACH_GLANCE_READY && wulgach_glance_of(false, true, 1, 4) == WULGACH_GLANCE_READY && wulgach_glance_of(false, true, 1, 0) == WULGACH_GLANCE_UNREADY, "a look");
+}
+
+static void miss(void)
+{
+    struct wulgach_lookout lookout = waiting(1);
+    const struct wulgach_waiter silent = {0}, heard = {.has_heard = true};
+    demand(wulgach_waiter_gone(&silent, false, false) == WULGACH_GONE_NO && wulgach_waiter_gone(&silent, true, false) == WULGACH_GONE_NO, "one that has heard of nothing");
+    demand(wulgach_waiter_gone(&heard, false, false) == WULGACH_GONE_ASKS && wulgach_waiter_gone(&heard, true, false) == WULGACH_GONE_YES && wulgach_waiter_gone(&heard, true, true) == WULGACH_GONE_NO, "one that has heard of something");
+    demand(!wulgach_lookout_drops_writes(&lookout), "what is another's");
+    wulgach_lookout_moves(&lookout);
+    demand(wulgach_lookout_drops_writes(&lookout), "what may be the ring's own");
+}
+
+static void follow(void)
+{
+    const uint32_t always = BIT(WULGACH_END_COUNTS) | BIT(WULGACH_END_STOPS_TIMEOUT) | BIT(WULGACH_END_LOOKS_AT_COUNTS) | BIT(WULGACH_END_LOOKS_BEHIND) | BIT(WULGACH_END_LETS_START) | BIT(WULGACH_END_LEAVES) | BIT(WULGACH_END_HAS_ENDS);
+    demand(wulgach_duties_behind_end(false, false, false, false) == always, "behind each end");
+    demand(wulgach_duties_behind_end(true, false, false, false) == (always | BIT(WULGACH_END_UNWATCHES)) && wulgach_duties_behind_end(false, true, false, false) == (always | BIT(WULGACH_END_UNWATCHES)), "behind that of one with a file");
+    demand(wulgach_duties_behind_end(false, false, true, false) == (always | BIT(WULGACH_END_FORGETS)) && wulgach_duties_behind_end(false, false, false, true) == (always | BIT(WULGACH_END_ENDS_DRAIN)), "behind others");
+}
+
 int main(void)
 {
     pass_over();
@@ -255,6 +288,9 @@ int main(void)
     sleep_or_not();
     keep_files();
     tell_others();
+    lie();
+    miss();
+    follow();
     printf("what a ring looks out for: it is as written\n");
     return 0;
 }

@@ -149,8 +149,44 @@ static int32_t buffer_row(uint64_t from, uint64_t size, uint64_t tag)
     return row == WULGACH_ROW_REFUSED ? fault : (int32_t)row;
 }
 
+static void give_numbers(void)
+{
+    uint32_t next = WULGACH_ENROLLING_BEGINS;
+    for (uint32_t stage = WULGACH_ENROLLING_READS; stage <= WULGACH_ENROLLING_TELLS; stage++)
+        demand((next = wulgach_enrolling_next(next, 0)) == stage && wulgach_enrolling_next(stage, -14) == (stage == WULGACH_ENROLLING_TELLS ? WULGACH_ENROLLING_EMPTIES : WULGACH_ENROLLING_FAILS), "a number's stages");
+    demand(wulgach_enrolling_next(WULGACH_ENROLLING_TELLS, 0) == WULGACH_ENROLLING_IS_DONE, "a number is given");
+}
+
+static void read_structures(void)
+{
+    struct wulgach_content content = {.nr = 99, .flags = 99, .has_reserved = true};
+    wulgach_content_of_table(&(struct wulgach_table_form){.nr = 3, .flags = 1, .data = 8}, &content);
+    demand(content.nr == 3 && content.flags == 1 && !content.has_reserved && content.has_data, "a table");
+    wulgach_content_of_update(&(struct wulgach_update_form){.nr = 2, .resv2 = 1}, &content);
+    demand(content.nr == 2 && content.flags == 0 && content.has_reserved && !content.has_data, "an update");
+    wulgach_content_of_files(&(struct wulgach_files_form){.offset = 7}, 5, &content);
+    demand(content.nr == 5 && !content.has_reserved, "an update of files");
+    wulgach_content_of_cancel(&(struct wulgach_cancel_form){.flags = 4, .fourth_pad = 1}, &content);
+    demand(content.flags == 4 && content.has_reserved, "a cancel");
+    demand(wulgach_ring_has_reserved(&(struct wulgach_ring_form){.pad = 1}) && !wulgach_ring_has_reserved(&(struct wulgach_ring_form){.bgid = 1}), "a ring of buffers");
+    demand(wulgach_range_has_reserved(&(struct wulgach_range_form){.resv = 1}) && !wulgach_range_has_reserved(&(struct wulgach_range_form){.len = 1}), "a range");
+    demand(wulgach_parameters_have_reserved(&(struct wulgach_parameters_form){.third_resv = 1}) && !wulgach_parameters_have_reserved(&(struct wulgach_parameters_form){.wq_fd = 1}), "parameters");
+}
+
+static void go_by_steps(void)
+{
+    demand(wulgach_reading_steps(true, true) == 3 && wulgach_reading_steps(true, false) == 1 << WULGACH_READING_TAG && wulgach_reading_steps(false, true) == 1 << WULGACH_READING_ROW && wulgach_reading_steps(false, false) == 0, "how a row is read");
+    demand(wulgach_making_steps(true, true) == 15 && wulgach_making_steps(true, false) == 13 && wulgach_making_steps(false, false) == 12 && wulgach_making_steps(false, true) == 12, "how a file is made");
+    demand(wulgach_ring_steps() == 7, "how a ring of buffers is registered");
+    demand(wulgach_closing_steps(0) == 3 && wulgach_closing_steps(-9) == 0, "what a close does");
+    demand(wulgach_restrictions_hold(0) && !wulgach_restrictions_hold(-22), "a list of restrictions");
+}
+
 static void look_at_rows(void)
 {
+    read_structures();
+    give_numbers();
+    go_by_steps();
     demand(file_row(0, 1, false) == WULGACH_ROW_FILLS && file_row(-1, 0, false) == WULGACH_ROW_EMPTIES && file_row(-1, 1, true) == -22, "files");
     demand(wulgach_row_steps(WULGACH_ROW_FILLS, true) == 7 && wulgach_row_steps(WULGACH_ROW_FILLS, false) == 6 && wulgach_row_steps(WULGACH_ROW_EMPTIES, false) == 1 && wulgach_row_steps(WULGACH_ROW_KEEPS, true) == 0 && wulgach_row_steps(WULGACH_ROW_REFUSED, true) == 0, "what is done with a slot");
     demand(file_row(-2, 0, true) == WULGACH_ROW_KEEPS && file_row(-2, 1, true) == -22 && file_row(-2, 1, false) == WULGACH_ROW_FILLS && file_row(-3, 0, true) == WULGACH_ROW_FILLS, "those that stay");

@@ -80,6 +80,8 @@ int main(void)
     wulgach_shown_store(&shown, 2, &store);
     demand(store.is_cell && store.place == 1 && store.position == 1 && wulgach_shown_flags(&shown, 0, false, true) == 1, "the last one is stored");
     demand(wulgach_shown_loads_head(&shown, 1, false, 2) && !wulgach_shown_loads_head(&shown, 0, true, 2), "the head is loaded if any was reaped");
+    demand(wulgach_heard_steps(0, false) == 0 && wulgach_heard_steps(1, false) == 7 && wulgach_heard_steps(0, true) == (1 << WULGACH_HEARD_SHOWS | 1 << WULGACH_HEARD_MOVES), "what is done where something is heard");
+    demand(wulgach_shows_again(1) && !wulgach_shows_again(0), "and where something has moved");
     poll_ring();
     watch();
     printf("shown: as called for\n");

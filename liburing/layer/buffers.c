@@ -27,14 +27,17 @@ static struct buffer *buffer_of(uint64_t word)
     return (struct buffer *)(uintptr_t)word;
 }
 
-/* Reads a row of the application's lists. A list that isn't there has no buffers, or no tags. */
+/* Reads a row of the application's lists, as the library says. A list that isn't there has no buffers, or no tags. */
 static int read_row(struct iovec *bytes, uint64_t *tag, uint64_t vectors, uint64_t tags, uint32_t index)
 {
     *bytes = (struct iovec){0};
     *tag = 0;
-    int result = tags ? copy_in(tag, tags + index * sizeof *tag, sizeof *tag) : 0;
-    if (result == 0 && vectors)
-        result = copy_in(bytes, vectors + index * sizeof *bytes, sizeof *bytes);
+    int result = 0;
+    for (uint32_t steps = wulgach_reading_steps(tags, vectors); steps && result == 0; steps &= steps - 1)
+        if (__builtin_ctz(steps) == WULGACH_READING_TAG)
+            result = copy_in(tag, tags + index * sizeof *tag, sizeof *tag);
+        else
+            result = copy_in(bytes, vectors + index * sizeof *bytes, sizeof *bytes);
     return result;
 }
 

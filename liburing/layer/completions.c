@@ -118,18 +118,27 @@ static void reap(struct ring *ring, uint32_t count)
     wulgach_lookout_changes(&ring->lookout);
 }
 
-/* What was heard matters: so many were reaped, or what has overflowed is asked for. */
-__attribute__((noinline)) static void take_heard(struct ring *ring, uint32_t count, bool is_flushing)
+/* What has overflowed moves into the ring, if the library says so. */
+static void move_overflow(struct ring *ring, uint32_t count, bool is_flushing)
 {
-    struct wulgach_shown *at = &ring->completions.at;
-    show_ends(ring);
-    if (count > 0)
-        reap(ring, count);
-    if (wulgach_shown_loads_head(at, count, is_flushing, ring->memory.cq_entries)) {
-        /* (where nothing moves, the tail and the flags are as they were shown) */
-        if (flush(ring) > 0)
-            show(ring);
-    }
+    if (wulgach_shown_loads_head(&ring->completions.at, count, is_flushing, ring->memory.cq_entries) && wulgach_shows_again(flush(ring)))
+        show(ring);
+}
+
+/* What was heard matters: so many were reaped, or what has overflowed is asked for. What is in a set is done by rising bits. */
+__attribute__((noinline)) static void take_heard(struct ring *ring, uint32_t steps, uint32_t count, bool is_flushing)
+{
+    for (; steps; steps &= steps - 1)
+        switch (__builtin_ctz(steps)) {
+        case WULGACH_HEARD_SHOWS:
+            show_ends(ring);
+            break;
+        case WULGACH_HEARD_REAPS:
+            reap(ring, count);
+            break;
+        default:
+            move_overflow(ring, count, is_flushing);
+        }
 }
 
 bool hear(struct ring *ring, bool is_flushing)
@@ -137,8 +146,9 @@ bool hear(struct ring *ring, bool is_flushing)
     uint32_t count;
     if (wulgach_shown_heard(&ring->completions.at, load_word(&ring->memory.cq->head), &count) != 0)
         return false;
-    if (count > 0 || is_flushing)
-        take_heard(ring, count, is_flushing);
+    uint32_t steps = wulgach_heard_steps(count, is_flushing);
+    if (steps)
+        take_heard(ring, steps, count, is_flushing);
     return true;
 }
 

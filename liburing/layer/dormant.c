@@ -182,28 +182,28 @@ static void rouse_all(struct ring *ring)
         rouse(ring, ring->requests.rows[i]);
 }
 
-/* The descriptor of a request is ready, or was that of one that has ended. A thread that sleeps doesn't know of it. */
+/* The descriptor of a request is ready, or was that of one that has ended. */
 static void rouse_told(struct ring *ring, uint64_t number)
 {
     struct request *request = request_or_none(&ring->requests, number);
     if (!request || !request->is_dormant)
         return;
     bring_back(ring, request);
-    note_look(ring, request, true);
-    wulgach_lookout_changes(&ring->lookout);
+    wulgach_waiter_is_told_ready(&request->waiter, &ring->lookout);
 }
 
 __attribute__((noinline)) static void ask_instance(struct ring *ring)
 {
     struct epoll_event events[MOST_TOLD];
-    int count;
+    uint32_t answer;
     wulgach_waiter_sees(&ring->dormant.asked, &ring->lookout, false);
     do {
-        count = epoll_wait(ring->dormant.instance, events, MOST_TOLD, 0);
+        int count = epoll_wait(ring->dormant.instance, events, MOST_TOLD, 0);
         for (int i = 0; i < count; i++)
             rouse_told(ring, events[i].data.u64);
-    } while (count == MOST_TOLD);
-    if (count < 0)
+        answer = wulgach_instance_answered(count, MOST_TOLD);
+    } while (answer == WULGACH_INSTANCE_ASKS);
+    if (answer == WULGACH_INSTANCE_ROUSES)
         rouse_all(ring);
 }
 

@@ -51,6 +51,68 @@ static bool may_close_last(const struct ring *ring, const struct request *reques
     return may_close(request->file, request->needs.is_registered, entry->fd) || may_close(request->second_file, request->needs.is_second_registered, entry->splice_fd_in);
 }
 
+static void unwatch_files(struct ring *ring, const struct request *request)
+{
+    if (request->file)
+        unwatch(ring, request->file->fd);
+    if (request->epoll >= 0)
+        unwatch(ring, request->epoll);
+}
+
+/* It stands in no list any more, and lets its files go. */
+static void leave(struct ring *ring, struct request *request)
+{
+    take_from_directory(ring, request);
+    bool may_be_last = may_close_last(ring, request);
+    if (end_request(&ring->requests, request) && may_be_last)
+        wulgach_lookout_moves(&ring->lookout);
+}
+
+/* A request that ends, what the core was told of it, and whether a completion is posted. */
+struct end_of_request {
+    struct request *request;
+    int32_t told;
+    bool is_posted;
+};
+
+static void do_duty(struct ring *ring, const struct end_of_request *end, enum wulgach_end_duty duty)
+{
+    struct request *request = end->request;
+    switch (duty) {
+    case WULGACH_END_COUNTS:
+        wulgach_times_count_end(&ring->times, &request->course, is_timeout(request), end->is_posted);
+        return;
+    case WULGACH_END_STOPS_TIMEOUT:
+        note_ended(ring, request);
+        return;
+    case WULGACH_END_LOOKS_AT_COUNTS:
+        note_counts(ring);
+        return;
+    case WULGACH_END_UNWATCHES:
+        unwatch_files(ring, request);
+        return;
+    case WULGACH_END_FORGETS:
+        forget_descriptor(ring, request);
+        return;
+    case WULGACH_END_LOOKS_BEHIND:
+        look_behind(ring, request);
+        return;
+    case WULGACH_END_LETS_START:
+        note_issuable_behind(ring, request, end->told);
+        return;
+    case WULGACH_END_ENDS_DRAIN:
+        wulgach_drains_end(&ring->drains, true);
+        return;
+    case WULGACH_END_LEAVES:
+        leave(ring, request);
+        return;
+    case WULGACH_END_HAS_ENDS:
+        ring->completions.is_behind = true;
+        return;
+    }
+    __builtin_unreachable();
+}
+
 void end_of(struct ring *ring, struct request *request, int32_t res, int32_t told)
 {
     trace_result(ring, request, res);
@@ -58,31 +120,17 @@ void end_of(struct ring *ring, struct request *request, int32_t res, int32_t tol
     bool is_posted = note_end(ring, request, told);
     if (!is_posted)
         record_silent_end(ring, request);
-    wulgach_times_count_end(&ring->times, &request->course, is_timeout(request), is_posted);
-    note_ended(ring, request);
-    note_counts(ring);
-    if (request->file)
-        unwatch(ring, request->file->fd);
-    if (request->epoll >= 0)
-        unwatch(ring, request->epoll);
-    if (request->standing.is_stream)
-        forget_descriptor(ring, request);
-    look_behind(ring, request);
-    note_issuable_behind(ring, request, told);
-    if (request->is_draining)
-        wulgach_drains_end(&ring->drains, true);
-    take_from_directory(ring, request);
-    bool may_be_last = may_close_last(ring, request);
-    if (end_request(&ring->requests, request) && may_be_last)
-        wulgach_lookout_moves(&ring->lookout);
-    ring->completions.is_behind = true;
+    struct end_of_request end = {request, told, is_posted};
+    uint32_t duties = wulgach_duties_behind_end(request->file, request->epoll >= 0, request->standing.is_stream, request->is_draining);
+    for (; duties; duties &= duties - 1)
+        do_duty(ring, &end, (enum wulgach_end_duty)__builtin_ctz(duties));
 }
 
 /* A cancel of the core's has ended so: cancels what it has found all the same, and says whether there is one. */
 static bool cancel_behind(struct ring *ring, const struct request *cancel, struct request *next, int32_t res)
 {
     if (wulgach_looks_for_running(true, res))
-        return cancel_running(ring, cancel->entry.addr);
+        return cancel_running(ring, wulgach_target_of(submission_of(&cancel->entry)));
     if (!next || !wulgach_looks_for_next(true, res, ring->is_linux))
         return false;
     cancel_request(ring, next);

@@ -119,26 +119,49 @@ static void dismiss(uint32_t row)
     wulgach_dismiss(table, MOST, row);
 }
 
+/* A row of a list, at an address, and the row of the thread's that it gets. */
+struct enrolling {
+    struct io_uring_rsrc_update asked;
+    uint64_t at;
+    uint32_t row;
+};
+
+static int judge(const struct io_uring_rsrc_update *asked)
+{
+    int fd = (int)asked->data;
+    bool is_open = counts_as_open(fd, false);
+    return wulgach_enrolling_fault(asked->offset, asked->resv, is_open, is_open && is_ring(fd));
+}
+
+static int do_next(struct enrolling *enrolling, uint32_t next)
+{
+    struct io_uring_rsrc_update *asked = &enrolling->asked;
+    switch (next) {
+    case WULGACH_ENROLLING_READS:
+        return copy_in(asked, enrolling->at, sizeof *asked);
+    case WULGACH_ENROLLING_JUDGES:
+        return judge(asked);
+    case WULGACH_ENROLLING_PLACES:
+        return wulgach_enrolled_place(table, MOST, asked->offset, &enrolling->row);
+    case WULGACH_ENROLLING_FILLS:
+        return enroll((int)asked->data, enrolling->row);
+    default:
+        asked->offset = enrolling->row;
+        return copy_out(enrolling->at, asked, sizeof *asked);
+    }
+}
+
 static int enroll_row(uint64_t at)
 {
-    struct io_uring_rsrc_update asked;
-    int result = copy_in(&asked, at, sizeof asked);
-    if (result < 0)
-        return result;
-    int fd = (int)asked.data;
-    bool is_open = counts_as_open(fd, false);
-    uint32_t row;
-    result = wulgach_enrolling_fault(asked.offset, asked.resv, is_open, is_open && is_ring(fd));
-    if (result == 0)
-        result = wulgach_enrolled_place(table, MOST, asked.offset, &row);
-    if (result == 0)
-        result = enroll(fd, row);
-    if (result < 0)
-        return result;
-    asked.offset = row;
-    result = copy_out(at, &asked, sizeof asked);
-    if (result < 0)
-        dismiss(row);
+    struct enrolling enrolling = {.at = at};
+    int result = 0;
+    uint32_t next = wulgach_enrolling_next(WULGACH_ENROLLING_BEGINS, 0);
+    while (next <= WULGACH_ENROLLING_TELLS) {
+        result = do_next(&enrolling, next);
+        next = wulgach_enrolling_next(next, result);
+    }
+    if (next == WULGACH_ENROLLING_EMPTIES)
+        dismiss(enrolling.row);
     return result;
 }
 

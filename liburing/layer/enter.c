@@ -57,18 +57,23 @@ static int read_extended(struct waiting *waiting)
     return 0;
 }
 
-/* Reads the mask with which the call sleeps, if it gives one, and when the library says: the first 64 bits of the C library's. Where calls are trapped, a handler that
+/* Reads the mask with which the call sleeps: the first 64 bits of the C library's. Where calls are trapped, a handler that
  * runs meanwhile may call too: by SIGSYS, which stays open. Returns its fault, or 0. */
 static int read_mask(struct waiting *waiting)
 {
-    if (!waiting->mask || !wulgach_reads_mask(waiting->sleeps++))
-        return 0;
     sigemptyset(waiting->given);
     waiting->signals = waiting->given;
     bool is_readable = waiting->mask_size == _NSIG / 8 && copy_in(waiting->given, waiting->mask, _NSIG / 8) == 0;
     if (waiting->is_trapped)
         sigdelset(waiting->given, SIGSYS);
     return wulgach_mask_fault(waiting->mask_size, is_readable);
+}
+
+/* Reads the mask where the library says so. Returns the fault with which the call doesn't sleep, or 0. */
+static int sleep_fault(struct waiting *waiting)
+{
+    bool is_read = wulgach_asks_mask(waiting->mask, waiting->fault, waiting->sleeps++);
+    return wulgach_sleep_fault(waiting->fault, is_read, is_read ? read_mask(waiting) : 0);
 }
 
 static void say_stuck(struct ring *ring, uint32_t min_complete)
@@ -146,7 +151,7 @@ static enum wulgach_reply_kind go_on_fully(struct ring *ring)
 
 static enum wulgach_reply_kind sleep_on(struct ring *ring, struct waiting *waiting, struct wulgach_reply *reply)
 {
-    int error, fault = waiting->fault < 0 ? waiting->fault : read_mask(waiting);
+    int error, fault = sleep_fault(waiting);
     switch (wulgach_sleep_begins(fault, do_duties_before_sleep(ring, fault < 0))) {
     case WULGACH_SLEEP_FAILS:
         reply->number = (uint32_t)-fault;
@@ -222,35 +227,46 @@ static int carry_call_out(struct ring *ring, struct waiting *waiting, uint32_t f
     return (int)command.result;
 }
 
-static int enter_ring(struct ring *ring, uint32_t flags, struct waiting *waiting)
+static int enter_ring(struct ring *ring, struct waiting *waiting)
 {
-    ring->call_number++;
-    int result = wulgach_entering_fault(&ring->issuer, (uint32_t)this_thread(), waiting->to_submit, flags & IORING_ENTER_GETEVENTS);
-    if (result < 0)
-        return result;
     do_duties_at_begin(ring, false);
-    result = carry_call_out(ring, waiting, flags);
+    int result = carry_call_out(ring, waiting, waiting->flags);
     do_duties_at_return(ring);
     return result;
 }
 
-static int enter_by(int fd, uint32_t flags, struct waiting *waiting)
+/* Does what the library says comes before a call is carried out. Returns its fault, or 0; the ring is held once it was found. */
+static int do_next(struct ring **ring, int *fd, const struct waiting *waiting, uint32_t wanted)
 {
-    struct ring *ring = lock_ring(fd);
-    if (!ring)
-        return wulgach_no_ring_fault(counts_as_open(fd, false));
-    int result = enter_ring(ring, flags, waiting);
-    unlock_ring(ring);
+    switch (wanted) {
+    case WULGACH_CHECKS_NUMBER:
+        *fd = enrolled_fd((uint32_t)*fd);
+        return *fd;
+    case WULGACH_CHECKS_DESCRIPTOR:
+        *ring = lock_ring(*fd);
+        return *ring ? 0 : wulgach_no_ring_fault(counts_as_open(*fd, false));
+    case WULGACH_COUNTS_CALL:
+        (*ring)->call_number++;
+        return 0;
+    default:
+        return wulgach_entering_fault(&(*ring)->issuer, (uint32_t)this_thread(), waiting->to_submit, waiting->flags & IORING_ENTER_GETEVENTS);
+    }
+}
+
+static int enter_by(int fd, struct waiting *waiting)
+{
+    struct ring *ring = NULL;
+    int32_t next = wulgach_entering_next(waiting->flags, WULGACH_AT_FIRST, 0);
+    while (next >= 0 && next != WULGACH_PASSES)
+        next = wulgach_entering_next(waiting->flags, (uint32_t)next, do_next(&ring, &fd, waiting, (uint32_t)next));
+    int result = next == WULGACH_PASSES ? enter_ring(ring, waiting) : next;
+    if (ring)
+        unlock_ring(ring);
     return result;
 }
 
 int enter(int fd, uint32_t to_submit, uint32_t min_complete, uint32_t flags, const void *argument, size_t size, const sigset_t *signals)
 {
-    int naming = wulgach_naming_of(flags);
-    if (naming < 0)
-        return naming;
-    if (naming == WULGACH_NAMED_BY_NUMBER && (fd = enrolled_fd((uint32_t)fd)) < 0)
-        return fd;
     sigset_t own, given;
     struct waiting waiting = {
         .to_submit = to_submit,
@@ -265,7 +281,7 @@ int enter(int fd, uint32_t to_submit, uint32_t min_complete, uint32_t flags, con
     /* Operations are carried out in the call, where the kernel's would be out of a signal's reach. */
     if (!signals)
         block_signals(&own);
-    int result = enter_by(fd, flags, &waiting);
+    int result = enter_by(fd, &waiting);
     if (!signals)
         pthread_sigmask(SIG_SETMASK, &own, NULL);
     return result;

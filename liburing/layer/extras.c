@@ -205,8 +205,10 @@ static struct ring *find_receiver(struct ring *ring, const struct io_uring_sqe *
 /* Puts a registered file into the other ring's table. */
 static int32_t send_file(struct ring *ring, struct ring *target, const struct io_uring_sqe *entry)
 {
-    struct file *file = use_file(ring, (uint32_t)entry->addr3);
-    int32_t slot = file ? pass_file(target, file, entry->file_index) : wulgach_missing_fault(WULGACH_NO_FILE);
+    struct wulgach_passed passed;
+    wulgach_passed_of(submission_of(entry), &passed);
+    struct file *file = use_file(ring, passed.slot);
+    int32_t slot = file ? pass_file(target, file, passed.to) : wulgach_missing_fault(WULGACH_NO_FILE);
     release_file(file);
     return slot;
 }

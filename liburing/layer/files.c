@@ -104,40 +104,67 @@ static bool is_regular(int fd)
     return fstat(fd, &status) == 0 && S_ISREG(status.st_mode);
 }
 
-/* A registered file of a descriptor that stays the application's, with a tag, which its ring is told once it is gone, or NULL. */
-static int make_file_with(struct file **made, int fd, struct inbox *told, struct message *tag)
+/* A file that is made of a descriptor, which stays the application's. */
+struct making {
+    int fd;
+    struct inbox *told;         /* who is told its tag once it is gone: 0 is none */
+    uint64_t tag;
+    struct message *message;    /* for that */
+    struct file *file;
+};
+
+static int copy_file(struct making *making)
 {
-    int32_t fault = wulgach_holding_fault(fd, is_ring(fd));
-    int copy = fault < 0 ? fault : kept_copy_of(fd);
+    int copy = kept_copy_of(making->fd);
     if (copy < 0)
         return copy;
-    *made = malloc(sizeof **made);
-    if (!*made) {
+    making->file = malloc(sizeof *making->file);
+    if (!making->file) {
         close_kept(copy, is_regular(copy));
         return wulgach_missing_fault(WULGACH_NO_MEMORY_OWN);
     }
-    **made = (struct file){.fd = copy, .is_regular = is_regular(copy), .told = told, .tag = tag};
-    wulgach_uses_begin(&(*made)->uses, tag != NULL);
+    *making->file = (struct file){.fd = copy, .is_regular = is_regular(copy), .told = making->told, .tag = making->message};
+    wulgach_uses_begin(&making->file->uses, making->message != NULL);
     return 0;
+}
+
+static int make_step(struct making *making, uint32_t step)
+{
+    switch (step) {
+    case WULGACH_MAKING_FINDS:
+        return counts_as_open(making->fd, false) ? 0 : wulgach_missing_fault(WULGACH_NO_FILE);
+    case WULGACH_MAKING_TAGS:
+        making->message = make_message_of(making->tag, 0);
+        return making->message ? 0 : wulgach_missing_fault(WULGACH_NO_MEMORY_OWN);
+    case WULGACH_MAKING_JUDGES:
+        return wulgach_holding_fault(making->fd, is_ring(making->fd));
+    default:
+        return copy_file(making);
+    }
+}
+
+/* Makes a file step by step, as the library says. */
+static int make_by_steps(struct file **made, struct making making, bool is_registered)
+{
+    int fault = 0;
+    for (uint32_t steps = wulgach_making_steps(is_registered, making.tag != 0); steps && fault == 0; steps &= steps - 1)
+        fault = make_step(&making, (uint32_t)__builtin_ctz(steps));
+    if (fault < 0)
+        free(making.message);
+    else
+        *made = making.file;
+    return fault;
 }
 
 static int make_file_of(struct file **made, int fd)
 {
-    return make_file_with(made, fd, NULL, NULL);
+    return make_by_steps(made, (struct making){.fd = fd}, false);
 }
 
-/* The same of what the application names by its number, with a tag. 0 is none. */
+/* The same of what the application names by its number, with a tag. */
 static int make_tagged_file(struct ring *ring, struct file **made, int fd, uint64_t tag)
 {
-    if (!counts_as_open(fd, false))
-        return wulgach_missing_fault(WULGACH_NO_FILE);
-    struct message *message = tag ? make_message_of(tag, 0) : NULL;
-    if (tag && !message)
-        return wulgach_missing_fault(WULGACH_NO_MEMORY_OWN);
-    int result = make_file_with(made, fd, &ring->inbox, message);
-    if (result < 0)
-        free(message);
-    return result;
+    return make_by_steps(made, (struct making){.fd = fd, .told = &ring->inbox, .tag = tag}, true);
 }
 
 struct file *hold_file(int fd)
@@ -192,14 +219,17 @@ static void put_slot(struct files *files, uint32_t slot, struct file *file)
     release_file(file_of(before));
 }
 
-/* Reads a descriptor, and its tag, of the application's lists. A list that isn't there has no files, or no tags. */
+/* Reads a descriptor, and its tag, of the application's lists, as the library says. A list that isn't there has no files, or no tags. */
 static int read_row(int *fd, uint64_t *tag, uint64_t fds, uint64_t tags, uint32_t index)
 {
     *fd = NO_FILE;
     *tag = 0;
-    int result = tags ? copy_in(tag, tags + index * sizeof *tag, sizeof *tag) : 0;
-    if (result == 0 && fds)
-        result = copy_in(fd, fds + index * sizeof *fd, sizeof *fd);
+    int result = 0;
+    for (uint32_t steps = wulgach_reading_steps(tags, fds); steps && result == 0; steps &= steps - 1)
+        if (__builtin_ctz(steps) == WULGACH_READING_TAG)
+            result = copy_in(tag, tags + index * sizeof *tag, sizeof *tag);
+        else
+            result = copy_in(fd, fds + index * sizeof *fd, sizeof *fd);
     return result;
 }
 
@@ -281,7 +311,7 @@ int register_range(struct ring *ring, uint64_t range)
     if (result < 0)
         return result;
     pthread_mutex_lock(&files->lock);
-    result = wulgach_table_give_out(&files->table, asked.off, asked.len, asked.resv != 0);
+    result = wulgach_table_give_out(&files->table, asked.off, asked.len, wulgach_range_has_reserved((const void *)&asked));
     pthread_mutex_unlock(&files->lock);
     return result;
 }

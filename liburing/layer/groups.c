@@ -80,9 +80,11 @@ static bool make_room(struct group *group, uint32_t more)
 
 int32_t provide_buffers(struct ring *ring, const struct io_uring_sqe *entry)
 {
-    struct wulgach_buffers asked = {.address = entry->addr, .length = entry->len, .count = (uint32_t)entry->fd, .id = (uint16_t)entry->off};
+    struct wulgach_provided provided;
+    wulgach_provided_of(submission_of(entry), &provided);
+    struct wulgach_buffers asked = {.address = provided.address, .length = provided.length, .count = provided.count, .id = (uint16_t)provided.first};
     struct wulgach_group kept = kept_of(ring, entry->buf_group);
-    int32_t fault = wulgach_group_providing_fault(&kept, asked.address, asked.length, asked.count, entry->off);
+    int32_t fault = wulgach_group_providing_fault(&kept, provided.address, provided.length, provided.count, provided.first);
     if (fault < 0)
         return fault;
     struct group *group = any_group(ring, entry->buf_group);
@@ -95,15 +97,45 @@ int32_t remove_buffers(struct ring *ring, const struct io_uring_sqe *entry)
     struct group *group = find_group(ring, entry->buf_group);
     struct wulgach_group kept = kept_of(ring, entry->buf_group);
     int32_t fault = wulgach_group_removing_fault(&kept);
-    return fault < 0 ? fault : (int32_t)wulgach_group_remove(&group->kept, (uint32_t)entry->fd);
+    return fault < 0 ? fault : (int32_t)wulgach_group_remove(&group->kept, wulgach_removed_of(submission_of(entry)));
 }
 
 /* Reads the argument of a call for rings: 0, or its fault. */
 static int read_ring(struct io_uring_buf_reg *asked, uint64_t at, uint32_t count)
 {
     bool is_read = at && count == 1 && copy_in(asked, at, sizeof *asked) == 0;
-    bool has_reserved = is_read && (asked->pad || asked->resv[0] || asked->resv[1] || asked->resv[2]);
+    _Static_assert(sizeof *asked == sizeof(struct wulgach_ring_form), "the library's structure");
+    bool has_reserved = is_read && wulgach_ring_has_reserved((const void *)asked);
     return wulgach_group_argument_fault(count, at != 0, is_read, has_reserved);
+}
+
+/* The fault of the form of a ring, by the group that has its number. */
+static int form_fault(struct ring *ring, const struct io_uring_buf_reg *asked)
+{
+    struct wulgach_group kept = kept_of(ring, asked->bgid);
+    return wulgach_group_registering_fault(&kept, asked->ring_addr, asked->ring_entries, (uint64_t)sysconf(_SC_PAGESIZE));
+}
+
+static int pages_fault(const struct io_uring_buf_reg *asked)
+{
+    struct iovec cells = {(void *)(uintptr_t)asked->ring_addr, asked->ring_entries * sizeof(struct io_uring_buf)};
+    struct known_memory known = {0};
+    int result = pinning_fault(&known, &cells);
+    forget_memory(&known);
+    return result;
+}
+
+static int ring_step(struct ring *ring, const struct io_uring_buf_reg *asked, struct group **group, uint32_t step)
+{
+    switch (step) {
+    case WULGACH_RING_FORM:
+        return form_fault(ring, asked);
+    case WULGACH_RING_PAGES:
+        return pages_fault(asked);
+    default:
+        *group = any_group(ring, asked->bgid);
+        return *group ? 0 : wulgach_missing_fault(WULGACH_NO_MEMORY_OWN);
+    }
 }
 
 int register_buffer_ring(struct ring *ring, uint64_t at, uint32_t count)
@@ -112,19 +144,11 @@ int register_buffer_ring(struct ring *ring, uint64_t at, uint32_t count)
     int result = read_ring(&asked, at, count);
     if (result < 0)
         return result;
-    struct wulgach_group kept = kept_of(ring, asked.bgid);
-    result = wulgach_group_registering_fault(&kept, asked.ring_addr, asked.ring_entries, (uint64_t)sysconf(_SC_PAGESIZE));
+    struct group *group = NULL;
+    for (uint32_t steps = wulgach_ring_steps(); steps && result == 0; steps &= steps - 1)
+        result = ring_step(ring, &asked, &group, (uint32_t)__builtin_ctz(steps));
     if (result < 0)
         return result;
-    struct iovec cells = {(void *)(uintptr_t)asked.ring_addr, asked.ring_entries * sizeof(struct io_uring_buf)};
-    struct known_memory known = {0};
-    result = pinning_fault(&known, &cells);
-    forget_memory(&known);
-    if (result < 0)
-        return result;
-    struct group *group = any_group(ring, asked.bgid);
-    if (!group)
-        return wulgach_missing_fault(WULGACH_NO_MEMORY_OWN);
     group->ring = asked.ring_addr;
     wulgach_group_register(&group->kept, (uint16_t)asked.ring_entries);
     return result;

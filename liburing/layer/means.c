@@ -66,13 +66,16 @@ static int32_t open_file(struct ring *ring, struct request *request, const struc
     return fd >= 0 ? install_file(ring, fd, means->slot) : fd;
 }
 
-/* Those before it have begun in the kernel, which has their files. */
+/* Does what the library says that a close does. Those before it have begun in the kernel, which has their files. */
 static int32_t close_file(struct ring *ring, const struct request *request, const struct wulgach_system_call *call)
 {
-    int32_t fault = wulgach_holding_fault(request->entry.fd, is_ring(request->entry.fd));
-    if (fault >= 0)
-        hold_files_before(ring, request);
-    return fault < 0 ? fault : make_call(call);
+    int32_t result = wulgach_holding_fault(request->entry.fd, is_ring(request->entry.fd));
+    for (uint32_t steps = wulgach_closing_steps(result); steps; steps &= steps - 1)
+        if (__builtin_ctz(steps) == WULGACH_CLOSING_KEEPS)
+            hold_files_before(ring, request);
+        else
+            result = make_call(call);
+    return result;
 }
 
 static int32_t carry_out_by(struct ring *ring, struct request *request, const struct wulgach_means *means)

@@ -67,7 +67,11 @@ bool is_polled(const struct request *request)
 
 bool is_ready(const struct request *request)
 {
-    return is_impatient(request) || is_polled(request);
+    bool is_hasty = is_impatient(request);
+    struct pollfd at = poll_of(request);
+    /* (what the descriptor of a hasty one shows makes no difference) */
+    int came = is_hasty ? 0 : poll(&at, 1, 0);
+    return wulgach_glance_of(is_hasty, false, came, (uint16_t)at.revents) == WULGACH_GLANCE_READY;
 }
 
 /* Cuts the vectors to half their bytes. */

@@ -295,13 +295,22 @@ void note_look(const struct ring *ring, struct request *request, bool is_ready)
         miss_write(ring, request, has_something(request));
 }
 
+/* Whether what a poll has heard of is gone. */
+static bool is_gone(const struct request *request)
+{
+    uint32_t gone = wulgach_waiter_gone(&request->waiter, false, false);
+    if (gone == WULGACH_GONE_ASKS)
+        gone = wulgach_waiter_gone(&request->waiter, true, has_something(request));
+    return gone == WULGACH_GONE_YES;
+}
+
 /* Sees what became of what was there when it was heard. Returns whether a poll was told. */
 static bool tell_of_gone(struct ring *ring)
 {
     bool is_told = false;
     for (size_t i = 0; i < ring->running.count; i++) {
         struct request *request = ring->running.rows[i];
-        if (!request->waiter.has_heard || has_something(request) || !miss_write(ring, request, false))
+        if (!is_gone(request) || !miss_write(ring, request, false))
             continue;
         tell(ring, request, false);
         is_told = true;
@@ -317,7 +326,7 @@ bool watch_pipes(struct ring *ring)
         return false;
     drop_watches(&ring->pipes);
     bool is_heard = tell_of_gone(ring);
-    is_heard |= read_writes(ring, ring->lookout.may_be_own);
+    is_heard |= read_writes(ring, wulgach_lookout_drops_writes(&ring->lookout));
     return is_heard;
 }
 

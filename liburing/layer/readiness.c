@@ -114,7 +114,7 @@ static void list_one(struct watched *watched, int fd, uint32_t events, uint64_t 
 static size_t list_watched(const struct ring *ring, struct watched *watched)
 {
     size_t count = 0, kept = 0;
-    if (ring->pipes.count > 0)
+    if (wulgach_polls_writes(ring->pipes.count))
         list_one(&watched[count++], ring->pipes.inotify, EPOLLIN, 0);
     if (ring->dormant.instance >= 0)
         list_one(&watched[count++], ring->dormant.instance, EPOLLIN, 0);

@@ -23,6 +23,8 @@
 enum { MOST_PROBED = 256 };
 
 _Static_assert(sizeof(struct io_uring_rsrc_register) == 32 && sizeof(struct io_uring_rsrc_update2) == 32, "the library's sizes of structures");
+_Static_assert(sizeof(struct io_uring_rsrc_register) == sizeof(struct wulgach_table_form) && sizeof(struct io_uring_rsrc_update2) == sizeof(struct wulgach_update_form), "the library's structures");
+_Static_assert(sizeof(struct io_uring_files_update) == sizeof(struct wulgach_files_form) && sizeof(struct io_uring_sync_cancel_reg) == sizeof(struct wulgach_cancel_form), "the library's structures");
 
 static bool is_zero(const void *bytes, size_t size)
 {
@@ -56,7 +58,8 @@ static int register_resources(struct ring *ring, uint32_t code, uint64_t at, boo
 {
     struct io_uring_rsrc_register asked = {0};
     bool is_read = copy_in(&asked, at, sizeof asked) == 0;
-    struct wulgach_content content = {.nr = asked.nr, .flags = asked.flags, .has_reserved = asked.resv2, .has_data = asked.data};
+    struct wulgach_content content;
+    wulgach_content_of_table((const void *)&asked, &content);
     int result = wulgach_content_fault(code, is_read, &content);
     if (result < 0)
         return result;
@@ -67,7 +70,8 @@ static int update_resources(struct ring *ring, uint32_t code, uint64_t at, bool 
 {
     struct io_uring_rsrc_update2 asked = {0};
     bool is_read = copy_in(&asked, at, sizeof asked) == 0;
-    struct wulgach_content content = {.nr = asked.nr, .has_reserved = asked.resv || asked.resv2};
+    struct wulgach_content content;
+    wulgach_content_of_update((const void *)&asked, &content);
     int result = wulgach_content_fault(code, is_read, &content);
     if (result < 0)
         return result;
@@ -78,7 +82,8 @@ static int update_files_at(struct ring *ring, uint32_t code, uint64_t at, uint32
 {
     struct io_uring_files_update asked = {0};
     bool is_read = copy_in(&asked, at, sizeof asked) == 0;
-    struct wulgach_content content = {.nr = count, .has_reserved = asked.resv};
+    struct wulgach_content content;
+    wulgach_content_of_files((const void *)&asked, count, &content);
     int result = wulgach_content_fault(code, is_read, &content);
     return result < 0 ? result : update_files(ring, asked.offset, asked.fds, 0, count);
 }
@@ -88,7 +93,8 @@ static int cancel_at_once(struct ring *ring, uint32_t code, uint64_t at)
 {
     struct io_uring_sync_cancel_reg asked = {0};
     bool is_read = copy_in(&asked, at, sizeof asked) == 0;
-    struct wulgach_content content = {.flags = asked.flags, .has_reserved = !is_zero(asked.pad, sizeof asked.pad)};
+    struct wulgach_content content;
+    wulgach_content_of_cancel((const void *)&asked, &content);
     int result = wulgach_content_fault(code, is_read, &content);
     if (result < 0)
         return result;
@@ -149,34 +155,70 @@ static int make_call(struct ring *ring, uint32_t code, uint64_t at, uint32_t cou
     }
 }
 
-static int register_by(int fd, uint32_t code, void *argument, uint32_t count)
+/* One call, as it is made. */
+struct calling {
+    struct wulgach_caller caller;
+    struct ring *ring;          /* held once it was found, or NULL */
+    void *argument;
+    uint32_t code, count;
+};
+
+static void find_called(struct calling *calling)
 {
-    struct wulgach_caller caller = {.fd = fd, .is_open = counts_as_open(fd, false)};
-    struct ring *ring = caller.is_open ? lock_ring(fd) : NULL;
-    if (ring) {
-        ring->call_number++;
-        caller.is_ring = true;
-        caller.is_another = wulgach_issuer_is_another(&ring->issuer, (uint32_t)this_thread());
-        caller.is_allowed = allows_call(ring, code);
+    struct wulgach_caller *caller = &calling->caller;
+    caller->is_open = counts_as_open(caller->fd, false);
+    calling->ring = caller->is_open ? lock_ring(caller->fd) : NULL;
+    caller->is_ring = calling->ring;
+    if (!calling->ring)
+        return;
+    caller->is_another = wulgach_issuer_is_another(&calling->ring->issuer, (uint32_t)this_thread());
+    caller->is_allowed = allows_call(calling->ring, calling->code);
+}
+
+/* Does what the library says comes before a call is carried out. Returns its fault, or 0. */
+static int do_next(struct calling *calling, uint32_t wanted)
+{
+    switch (wanted) {
+    case WULGACH_CHECKS_DESCRIPTOR:
+        find_called(calling);
+        return 0;
+    case WULGACH_COUNTS_CALL:
+        calling->ring->call_number++;
+        return 0;
+    case WULGACH_CHECKS_CALLER:
+        return wulgach_calling_fault(calling->code, &calling->caller);
+    default:
+        return wulgach_argument_fault(calling->code, calling->argument, calling->count);
     }
-    int result = wulgach_calling_fault(code, &caller);
-    if (result == 0)
-        result = wulgach_argument_fault(code, argument, count);
-    if (result == 0) {
-        do_duties_at_register_begin(ring, code);
-        result = make_call(ring, code, (uintptr_t)argument, count);
-        do_duties_at_register_return(ring, code);
+}
+
+static int make_passed(struct calling *calling)
+{
+    do_duties_at_register_begin(calling->ring, calling->code);
+    int result = make_call(calling->ring, calling->code, (uintptr_t)calling->argument, calling->count);
+    do_duties_at_register_return(calling->ring, calling->code);
+    return result;
+}
+
+static int register_by(struct calling *calling)
+{
+    int32_t next = wulgach_registering_next(false, WULGACH_AT_FIRST, 0);
+    while (next >= 0 && next != WULGACH_PASSES) {
+        int result = do_next(calling, (uint32_t)next);
+        next = wulgach_registering_next(calling->ring, (uint32_t)next, result);
     }
-    if (ring)
-        unlock_ring(ring);
+    int result = next == WULGACH_PASSES ? make_passed(calling) : next;
+    if (calling->ring)
+        unlock_ring(calling->ring);
     return result;
 }
 
 int register_at(int fd, uint32_t code, void *argument, uint32_t count)
 {
     sigset_t own;
+    struct calling calling = {.caller = {.fd = fd}, .argument = argument, .code = code, .count = count};
     block_signals(&own);
-    int result = register_by(fd, code, argument, count);
+    int result = register_by(&calling);
     allow_signals(&own);
     return result;
 }

@@ -21,7 +21,7 @@ int register_restrictions(struct ring *ring, uint64_t list, uint32_t count)
     wulgach_restrictions_begin(&made);
     for (uint32_t i = 0; result == 0 && i < count; i++)
         result = wulgach_restrictions_take(&made, &(struct wulgach_restriction){asked[i].opcode, asked[i].register_op});
-    if (result == 0)
+    if (wulgach_restrictions_hold(result))
         ring->restrictions = made;
     return result;
 }

@@ -60,8 +60,7 @@ void free_ring(struct ring *ring)
 static struct wulgach_asked_ring asked_ring(uint32_t entries, const struct io_uring_params *params)
 {
     struct wulgach_asked_ring asked = {.entries = entries, .cq_entries = params->cq_entries, .flags = params->flags, .linux_rules = is_profile_linux()};
-    for (size_t i = 0; i < sizeof params->resv / sizeof *params->resv; i++)
-        asked.has_reserved |= params->resv[i] != 0;
+    asked.has_reserved = wulgach_parameters_have_reserved((const void *)params);
     if (params->flags & IORING_SETUP_SQ_AFF)
         asked.is_online = is_online(params->sq_thread_cpu);
     if (params->flags & IORING_SETUP_ATTACH_WQ) {

@@ -93,16 +93,16 @@ static int poll_unlocked(struct ring *ring, struct sleeper *self, nfds_t count, 
     pthread_mutex_unlock(&ring->lock);
     /* A message that came before that is posted, and wakes this thread. */
     visit_ring(ring, fd);
-    int result = ppoll(self->polled, count, limit->is_set ? &time : NULL, signals);
-    if (result < 0)
-        result = -errno;
+    int came = ppoll(self->polled, count, limit->is_set ? &time : NULL, signals);
+    if (came < 0)
+        came = -errno;
     leave_inner_sleeps(self);
     ring->is_parents = ring->process != this_process();
     if (!ring->is_parents) {
         pthread_mutex_lock(&ring->lock);
         call_by(ring, fd);
     }
-    return wulgach_sleep_came_to(result, ring->is_parents);
+    return wulgach_sleep_came_to(came, ring->is_parents);
 }
 
 /* The process may have fewer descriptors than are polled (ppoll(2)): those that can become dormant, and the call sleeps again. */

@@ -48,8 +48,10 @@ enum { MOST_AT_ONCE = 64 };
 static void look_at_some(const struct ring *ring, struct request **requests, struct pollfd *polled, nfds_t count)
 {
     int came = poll(polled, count, 0);
-    for (nfds_t i = 0; i < count; i++)
-        note_look(ring, requests[i], came < 0 ? is_ready(requests[i]) : wulgach_counts_as_ready(came, (uint16_t)polled[i].revents) || is_impatient(requests[i]));
+    for (nfds_t i = 0; i < count; i++) {
+        uint32_t glance = wulgach_glance_of(is_impatient(requests[i]), true, came, (uint16_t)polled[i].revents);
+        note_look(ring, requests[i], glance == WULGACH_GLANCE_ASKS_ALONE ? is_ready(requests[i]) : glance == WULGACH_GLANCE_READY);
+    }
 }
 
 /* Looks at all of them. */

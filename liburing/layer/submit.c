@@ -144,6 +144,30 @@ static void note_chains(struct ring *ring, size_t first)
     end_asking();
 }
 
+/* What was taken is traced, and recorded: from now on it may go on. */
+static void note_taken(struct ring *ring, uint64_t accepted)
+{
+    trace_callers(ring);
+    for (size_t i = ring->requests.count - accepted; i < ring->requests.count; i++) {
+        trace_request(ring, ring->requests.rows[i]);
+        record_accepted(ring, ring->requests.rows[i]);
+    }
+}
+
+static void do_taken_step(struct ring *ring, const struct wulgach_taken *taken, uint32_t step)
+{
+    switch (step) {
+    case WULGACH_TAKEN_STORES_DROPPED:
+        store_word(&ring->memory.sq->dropped, taken->dropped);
+        return;
+    case WULGACH_TAKEN_STORES_HEAD:
+        store_word(&ring->memory.sq->head, ring->head);
+        return;
+    default:
+        note_taken(ring, taken->accepted);
+    }
+}
+
 /* Has the core take what is staged, behind which this head stands; it has the first `given` of it already. Returns how many requests it has
  * accepted, or the fault of a call that it refused for want of memory. */
 static int take_staged(struct ring *ring, uint32_t given, uint32_t head)
@@ -163,13 +187,8 @@ static int take_staged(struct ring *ring, uint32_t given, uint32_t head)
     note_accepted(ring, accepted);
     demand(taken.head - ring->own_positions == head, "the core stands at another position");
     ring->head = head;
-    store_word(&ring->memory.sq->dropped, taken.dropped);
-    store_word(&ring->memory.sq->head, ring->head);
-    trace_callers(ring);
-    for (size_t i = ring->requests.count - taken.accepted; i < ring->requests.count; i++) {
-        trace_request(ring, ring->requests.rows[i]);
-        record_accepted(ring, ring->requests.rows[i]);
-    }
+    for (uint32_t steps = wulgach_taken_steps(); steps; steps &= steps - 1)
+        do_taken_step(ring, &taken, (uint32_t)__builtin_ctz(steps));
     return (int)taken.accepted;
 }
 

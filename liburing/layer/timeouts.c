@@ -160,7 +160,7 @@ int32_t change_linked_timeout(struct ring *ring, const struct request *change)
         struct request *timeout = ring->requests.rows[i];
         struct wulgach_linked seen = {.user_data = timeout->entry.user_data, .is_linked = is_linked_timeout(timeout)};
         seen.runs = seen.is_linked && wulgach_times_runs(&ring->times, ring->timeouts, ring->timeouts_room, timeout->number);
-        if (wulgach_updates_linked(change->entry.addr, &seen)) {
+        if (wulgach_updates_linked(wulgach_target_of(submission_of(&change->entry)), &seen)) {
             change_timeout(ring, timeout, change);
             return wulgach_removal_result(true);
         }

@@ -1,18 +1,10 @@
--- How a call names its ring, when files are found, and what goes on in one choice, in words that C can read.
-use Rattle.std.specs.Prelude.{ℕ, ℤ, pos, Bool, true, Option, Some, None}
+-- When files are found, and what goes on in one choice, in words that C can read.
+use Rattle.std.specs.Prelude.{ℕ, Bool, true, Option, Some, None}
 use Rattle.uring_enter.specs.declared.asked.Policy.{Policy}
-use Rattle.uring_enter.specs.declared.reaching.Naming.{Naming}
-use Rattle.uring_enter.specs.declared.reaching.Naming.TheVariants.{Refused, ByDescriptor, ByNumber}
 use Rattle.uring_enter.specs.declared.drains.WhenFound.{WhenFound}
 use Rattle.uring_enter.specs.declared.drains.WhenFound.TheVariants.{AtItsStart, ByTheCall, InItsTurn, AsksStart}
 use Rattle.uring_enter.specs.Due.{is_one_choice}
 use Rattle.uring_crossing.specs.EnterForm.{policy_of}
-
--- the error, or 0 of a descriptor and 1 of a number. Our own rule
-abbrev pub word_of_naming : Naming → ℤ
-word_of_naming (Refused fault) = fault
-word_of_naming ByDescriptor = pos 0
-word_of_naming ByNumber = pos 1
 
 -- kinds count in the order of `WhenFound`, from 0. Our own rule
 abbrev pub word_of_when : WhenFound → ℕ

@@ -14,3 +14,5 @@ pub mod MeansForm
 pub mod PinningForm
 pub mod UnknownForm
 pub mod StartForm
+pub mod FollowingForm
+pub mod PassageForm

@@ -2,9 +2,12 @@
 ghost use Rattle.std.specs.Prelude.{◌≡◌, ◌+◌, ◌≤◌, ◌<◌, length, pos, List, [], ◌∷◌};
 ghost use Rattle.uring_register.specs.Enrolling.{Enrolling, Enrolled, Dismissed, KeepsEnrolled, IsEnrolledAt, HasNoRow, content};
 ghost use Rattle.uring_register.specs.Enrolling as spec;
+ghost use Rattle.uring_register.specs.Numbering as numbering;
+ghost use Rattle.uring_c.specs.PassageForm.{word_of_row, row_stage_of};
 
 use uring_register::{
-    begin_rows, dismiss, dismissing_fault, enroll, enrolling_fault, named, row_for,
+    RowOnto, RowStage, begin_rows, dismiss, dismissing_fault, enroll, enrolling_fault, named,
+    next_of_row, row_for,
 };
 
 /// No row holds a ring.
@@ -13,6 +16,42 @@ pub extern "C" fn wulgach_enrolled_begin(rows: &mut [u64])
     ensures { 16 ≤ length rows.old → KeepsEnrolled [] rows.new }
 {
     begin_rows(rows);
+}
+
+/// Returns what a row that gives a ring a number does behind this, which came to `res`.
+#[unsafe(no_mangle)]
+pub extern "C" fn wulgach_enrolling_next(last: u32, res: i32) -> u32
+    ensures { result ≡ word_of_row (numbering.next_of_row (row_stage_of last) res) }
+{
+    row_word(next_of_row(row_stage(last), res))
+}
+
+fn row_stage(word: u32) -> Option<RowStage>
+    ensures { result ≡ row_stage_of word }
+{
+    match word {
+        0 => Some(RowStage::Reads),
+        1 => Some(RowStage::Judges),
+        2 => Some(RowStage::Places),
+        3 => Some(RowStage::Fills),
+        4 => Some(RowStage::Tells),
+        _ => None,
+    }
+}
+
+fn row_word(onto: RowOnto) -> u32
+    ensures { result ≡ word_of_row onto }
+{
+    match onto {
+        RowOnto::Does(RowStage::Reads) => 0,
+        RowOnto::Does(RowStage::Judges) => 1,
+        RowOnto::Does(RowStage::Places) => 2,
+        RowOnto::Does(RowStage::Fills) => 3,
+        RowOnto::Does(RowStage::Tells) => 4,
+        RowOnto::Fails(_) => 5,
+        RowOnto::Empties(_) => 6,
+        RowOnto::IsDone => 7,
+    }
 }
 
 /// The fault of enrolling a ring in the row of this number, or in any, before one is looked for; or 0.

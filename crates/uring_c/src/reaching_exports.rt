@@ -1,22 +1,10 @@
 //! How a call finds its ring, what it begins with, and what goes on in one choice, for C: functions of `c/wulgach_enter.h`.
 ghost use Rattle.std.specs.Prelude.{◌≡◌};
 ghost use Rattle.uring_enter.specs.Reaching as spec;
-ghost use Rattle.uring_c.specs.DecisionForm.{is_one_choice_of, word_of_naming};
+ghost use Rattle.uring_c.specs.DecisionForm.{is_one_choice_of};
 
 use uring_crossing::enter_words::policy;
-use uring_enter::{Naming, looks_in_vain, naming_of, no_ring_fault};
-
-/// Returns how a call with these flags names its ring, or the error with which it is refused.
-#[unsafe(no_mangle)]
-pub extern "C" fn wulgach_naming_of(flags: u32) -> i32
-    ensures { result ≡ word_of_naming (spec.naming_of flags) }
-{
-    match naming_of(flags) {
-        Naming::Refused(fault) => fault,
-        Naming::ByDescriptor => 0,
-        Naming::ByNumber => 1,
-    }
-}
+use uring_enter::{looks_in_vain, no_ring_fault};
 
 /// The error of a call whose descriptor is no ring's, which is open or not.
 #[unsafe(no_mangle)]

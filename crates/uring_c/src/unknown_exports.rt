@@ -8,7 +8,7 @@ ghost use Rattle.uring_enter.specs.Rounds.{most_of_a_round};
 ghost use Rattle.uring_enter.specs.Unknown as unknown;
 ghost use Rattle.uring_c.specs.UnknownForm.{known_of, matter_of};
 
-use uring_enter::{Matter, Rounds, Times, is_taken_so, may_have_others, reads_mask};
+use uring_enter::{Matter, Rounds, Times, is_taken_so, may_have_others};
 
 /// Whether something is taken to be so, where it is known, or isn't.
 #[unsafe(no_mangle)]
@@ -51,14 +51,6 @@ pub extern "C" fn wulgach_times_asks_threads(times: &Times, has_streams: bool) -
         → result ≡ unknown.asks_threads has_streams (has_any (running log)) }
 {
     times.asks_threads(has_streams)
-}
-
-/// Whether a call that is to sleep reads its signal mask, behind so many sleeps.
-#[unsafe(no_mangle)]
-pub extern "C" fn wulgach_reads_mask(sleeps: u32) -> bool
-    ensures { result ≡ unknown.reads_mask sleeps }
-{
-    reads_mask(sleeps)
 }
 
 /// Returns how many positions the next round takes at most.

@@ -76,3 +76,11 @@ pub mod Prospects
 pub mod Awaiting
 pub mod Syncing
 pub mod Starts
+pub mod Following
+pub mod Passages
+pub mod Slept
+pub mod Glances
+pub mod Lying
+pub mod Missed
+pub mod Storing
+pub mod Named

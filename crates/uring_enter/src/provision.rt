@@ -7,7 +7,7 @@ use crate::buffer::NO_ADDRESS;
 use crate::submission::Submission;
 
 /// How many buffers a number says, or 0.
-fn count_of(fd: i32) -> u32
+pub(crate) fn count_of(fd: i32) -> u32
     ensures { result ≡ spec.count_of fd }
 {
     if fd < 0 { 0 } else { fd as u32 }

@@ -16,3 +16,6 @@ pub mod UseLaws
 pub mod Bytes
 pub mod Provided
 pub mod ProvidedLaws
+pub mod Stepping
+pub mod Structures
+pub mod Numbering

@@ -13,9 +13,12 @@ mod group_rows;
 mod holding;
 mod issuer;
 mod issuer_laws;
+mod numbering;
 mod pinning;
 mod registering;
 mod restrictions;
+mod stepping;
+mod structures;
 mod table;
 mod table_laws;
 mod use_laws;
@@ -40,9 +43,16 @@ pub use group_rows::group_argument_fault;
 pub use holding::{Telling, behind_telling, holding_fault, telling_fault};
 pub use issuer::Issuer;
 pub use issuer_laws::{disabled_has_none, keeps_its_issuer, knows_its_issuer};
+pub use numbering::{RowOnto, RowStage, next_of_row};
 pub use pinning::{Memory, is_written_back, pinning_fault};
 pub use registering::{Row, buffer_row, file_row, row_steps, updated};
 pub use restrictions::{Restriction, Restrictions, enabling_fault, restricting_fault};
+pub use stepping::{closing_steps, making_steps, reading_steps, restrictions_hold, ring_steps};
+pub use structures::{
+    CancelForm, FilesForm, ParametersForm, RangeForm, RingForm, TableForm, UpdateForm,
+    content_of_cancel, content_of_files, content_of_table, content_of_update,
+    parameters_have_reserved, range_has_reserved, ring_has_reserved,
+};
 pub use table::Table;
 pub use table_laws::{gives_free_slots, gives_what_is_free, keeps_others};
 pub use use_laws::{ends_as_it_is, goes_when_free, is_gone_once};

@@ -1,0 +1,73 @@
+//! What a look at descriptors says, what an epoll instance tells of requests that are dormant, and what is told of writes, for C: functions of `c/wulgach_lookout.h`.
+ghost use Rattle.std.specs.Prelude.{◌≡◌, true, List, ◌∷◌};
+ghost use Rattle.uring_enter.specs.Glances as glances;
+ghost use Rattle.uring_enter.specs.Lookouts.{Happening, Changed, KeepsLookout, may_be_own};
+ghost use Rattle.uring_enter.specs.Lying as lying;
+ghost use Rattle.uring_enter.specs.Missed as missed;
+ghost use Rattle.uring_enter.specs.Waiters.{Encounter, Around, WasSeen, KeepsWaiter, around, has_heard};
+ghost use Rattle.uring_c.specs.PassageForm.{word_of_glance, word_of_answered, word_of_gone};
+ghost use Rattle.uring_c.specs.RingForm.{known_if};
+
+use uring_enter::{Answered, Glance, Gone, Lookout, Waiter, answer_of, glance_of};
+
+/// Returns what a poll(2), of one descriptor or of many, says of a request.
+#[unsafe(no_mangle)]
+pub extern "C" fn wulgach_glance_of(
+    is_impatient: bool,
+    is_of_many: bool,
+    came: i32,
+    events: u16,
+) -> u32
+    ensures { result ≡ word_of_glance (glances.glance_of is_impatient is_of_many came events) }
+{
+    match glance_of(is_impatient, is_of_many, came, events) {
+        Glance::Unready => 0,
+        Glance::Ready => 1,
+        Glance::AsksAlone => 2,
+    }
+}
+
+/// The instance has told that its descriptor is ready, by which it is dormant no more.
+#[unsafe(no_mangle)]
+pub extern "C" fn wulgach_waiter_is_told_ready(waiter: &mut Waiter, lookout: &mut Lookout)
+    ensures of_ring { (log : List Happening) → KeepsLookout log lookout.old
+        → KeepsLookout (Changed ∷ log) lookout.new }
+    ensures of_one { (log : List Encounter) → KeepsLookout (around log) lookout.old → KeepsWaiter log waiter.old
+        → KeepsWaiter (Around Changed ∷ WasSeen true ∷ log) waiter.new }
+{
+    waiter.is_told_ready(lookout);
+}
+
+/// Returns what an instance's answer makes of who asks it.
+#[unsafe(no_mangle)]
+pub extern "C" fn wulgach_instance_answered(came: i32, most: i32) -> u32
+    ensures { result ≡ word_of_answered (lying.answer_of came most) }
+{
+    match answer_of(came, most) {
+        Answered::IsDone => 0,
+        Answered::AsksAgain => 1,
+        Answered::RousesAll => 2,
+    }
+}
+
+/// Whether the writes that are heard now are told to no poll.
+#[unsafe(no_mangle)]
+pub extern "C" fn wulgach_lookout_drops_writes(lookout: &Lookout) -> bool
+    ensures { (log : List Happening) → KeepsLookout log lookout.now → result ≡ may_be_own log }
+{
+    lookout.drops_writes()
+}
+
+/// Returns whether what a poll has heard of is gone, where it is known whether its pipe has something, or isn't.
+#[unsafe(no_mangle)]
+pub extern "C" fn wulgach_waiter_gone(waiter: &Waiter, knows: bool, is_there: bool) -> u32
+    ensures { (log : List Encounter) → KeepsWaiter log waiter.now
+        → result ≡ word_of_gone (missed.gone (has_heard log) (known_if knows is_there)) }
+{
+    let known = if knows { Some(is_there) } else { None };
+    match waiter.gone(known) {
+        Gone::No => 0,
+        Gone::Asks => 1,
+        Gone::Yes => 2,
+    }
+}

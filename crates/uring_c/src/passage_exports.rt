@@ -1,0 +1,68 @@
+//! In which order a call is refused, and with which fault one that is to sleep fails, for C: functions of `c/wulgach_enter.h`.
+ghost use Rattle.std.specs.Prelude.{◌≡◌};
+ghost use Rattle.uring_enter.specs.Passages as spec;
+ghost use Rattle.uring_enter.specs.Slept as slept;
+ghost use Rattle.uring_c.specs.PassageForm.{word_of_passage, check_of};
+ghost use Rattle.uring_c.specs.UnknownForm.{known_of};
+
+use uring_enter::{Check, Passage, asks_mask, next_of_entering, next_of_registering, sleep_fault};
+
+/// Returns what comes next of a call of io_uring_enter(2) with these flags, behind a check that came to `res`, or the error with which it is refused.
+#[unsafe(no_mangle)]
+pub extern "C" fn wulgach_entering_next(flags: u32, last: u32, res: i32) -> i32
+    ensures { result ≡ word_of_passage (spec.next_of_entering flags (check_of last) res) }
+{
+    passage_word(next_of_entering(flags, check(last), res))
+}
+
+/// Returns the same of a call of io_uring_register(2), whose descriptor was found a ring's or not.
+#[unsafe(no_mangle)]
+pub extern "C" fn wulgach_registering_next(has_ring: bool, last: u32, res: i32) -> i32
+    ensures { result ≡ word_of_passage (spec.next_of_registering has_ring (check_of last) res) }
+{
+    passage_word(next_of_registering(has_ring, check(last), res))
+}
+
+fn check(word: u32) -> Option<Check>
+    ensures { result ≡ check_of word }
+{
+    match word {
+        0 => Some(Check::Number),
+        1 => Some(Check::Descriptor),
+        2 => Some(Check::Counts),
+        3 => Some(Check::Caller),
+        4 => Some(Check::Argument),
+        _ => None,
+    }
+}
+
+fn passage_word(passage: Passage) -> i32
+    ensures { result ≡ word_of_passage passage }
+{
+    match passage {
+        Passage::IsRefused(fault) => fault,
+        Passage::Checks(Check::Number) => 0,
+        Passage::Checks(Check::Descriptor) => 1,
+        Passage::Checks(Check::Counts) => 2,
+        Passage::Checks(Check::Caller) => 3,
+        Passage::Checks(Check::Argument) => 4,
+        Passage::Passes => 5,
+    }
+}
+
+/// Whether a call that is to sleep reads its signal mask, behind so many sleeps, where its last argument has this fault, or 0.
+#[unsafe(no_mangle)]
+pub extern "C" fn wulgach_asks_mask(has_mask: bool, argument: i32, sleeps: u32) -> bool
+    ensures { result ≡ slept.asks_mask has_mask argument sleeps }
+{
+    asks_mask(has_mask, argument, sleeps)
+}
+
+/// With which fault a call that is to sleep fails, or 0.
+#[unsafe(no_mangle)]
+pub extern "C" fn wulgach_sleep_fault(argument: i32, has_read: bool, mask: i32) -> i32
+    ensures { result ≡ slept.sleep_fault argument (known_of has_read mask) }
+{
+    let read = if has_read { Some(mask) } else { None };
+    sleep_fault(argument, read)
+}

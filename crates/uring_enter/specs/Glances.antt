@@ -1,0 +1,13 @@
+-- What a look at descriptors says of a request that waits. poll(2), but where our own rule is named.
+use Rattle.std.specs.Prelude.{ℕ, ℤ, Bool, ◌&&◌, if◌then◌else◌}
+use Rattle.uring_enter.specs.declared.glance.Glance.{Glance}
+use Rattle.uring_enter.specs.declared.glance.Glance.TheVariants.{Unready, Ready, AsksAlone}
+use Rattle.uring_enter.specs.Readiness.{counts_as_ready}
+use Rattle.uring_entry.specs.Errors.{is_below}
+
+-- an impatient one is ready, whatever its descriptor shows. Where many are polled at once and that fails, nothing is known of any, and each is looked at alone: our own rule
+abbrev pub glance_of : (is_impatient is_of_many : Bool) → ℤ → ℕ → Glance
+glance_of is_impatient is_of_many came events =
+    if is_impatient then Ready else
+    if is_of_many && is_below came then AsksAlone else
+    if counts_as_ready came events then Ready else Unready

@@ -1,0 +1,12 @@
+-- What the answers of the epoll instance make of requests that are dormant, of which it tells. Our own rules, but where a manual page is named.
+use Rattle.std.specs.Prelude.{ℤ, if◌then◌else◌}
+use Rattle.std.specs.Ordering.{int_eq}
+use Rattle.uring_enter.specs.declared.lying.Answered.{Answered}
+use Rattle.uring_enter.specs.declared.lying.Answered.TheVariants.{IsDone, AsksAgain, RousesAll}
+use Rattle.uring_entry.specs.Errors.{is_below}
+
+-- of so many an instance tells at most at once, so it is asked again where it has told of as many. Where it fails, as one that the program has closed, nobody is told of anything any more, and all are looked at again. epoll_wait(2)
+abbrev pub answer_of : ℤ → ℤ → Answered
+answer_of came most =
+    if is_below came then RousesAll else
+    if int_eq came most then AsksAgain else IsDone

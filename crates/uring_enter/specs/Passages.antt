@@ -1,0 +1,47 @@
+-- In which order a call is refused before it is carried out, and which calls count. io_uring_enter(2), io_uring_register(2), ERRORS; the order of faults is what Linux 6.18 was seen to do, and which calls count our own rule.
+use Rattle.std.specs.Prelude.{ℕ, ℤ, Bool, Option, Some, None, if◌then◌else◌}
+use Rattle.uring_enter.specs.declared.passage.Check.{Check}
+use Rattle.uring_enter.specs.declared.passage.Check.TheVariants.{Number, Descriptor, Counts, Caller, Argument}
+use Rattle.uring_enter.specs.declared.passage.Passage.{Passage}
+use Rattle.uring_enter.specs.declared.passage.Passage.TheVariants.{Checks, IsRefused, Passes}
+use Rattle.uring_enter.specs.declared.reaching.Naming.{Naming}
+use Rattle.uring_enter.specs.declared.reaching.Naming.TheVariants as naming
+use Rattle.uring_enter.specs.Reaching.{naming_of}
+use Rattle.uring_entry.specs.Errors.{is_below}
+
+-- the first fault ends a call
+abbrev pub unless_refused : ℤ → Passage → Passage
+unless_refused res next = if is_below res then IsRefused res else next
+
+-- what is looked at first, by how a call names its ring
+abbrev pub first_by : Naming → Passage
+first_by (naming.Refused fault) = IsRefused fault
+first_by naming.ByNumber = Checks Number
+first_by naming.ByDescriptor = Checks Descriptor
+
+abbrev pub first_of_entering : ℕ → Passage
+first_of_entering flags = first_by (naming_of flags)
+
+-- of io_uring_enter(2) the flags are looked at first; then the number, where they say that the ring is named by one, and the descriptor that it stands for; then who calls. A call counts once its ring is found, also if who calls is refused: by the count an eventfd knows what ends in a later call than its own
+abbrev pub behind_entering : ℕ → Option Check → Passage
+behind_entering flags None = first_of_entering flags
+behind_entering flags (Some Number) = Checks Descriptor
+behind_entering flags (Some Descriptor) = Checks Counts
+behind_entering flags (Some Counts) = Checks Caller
+behind_entering flags (Some Caller) = Passes
+behind_entering flags (Some Argument) = Passes
+
+abbrev pub next_of_entering : ℕ → Option Check → ℤ → Passage
+next_of_entering flags last res = unless_refused res (behind_entering flags last)
+
+-- of io_uring_register(2) the ring is looked for, where the descriptor has one; then it is looked who calls what, on which descriptor, and then at the argument and its count. A call on a ring counts, whatever it is refused with
+abbrev pub behind_registering : Bool → Option Check → Passage
+behind_registering has_ring None = Checks Descriptor
+behind_registering has_ring (Some Number) = Checks Descriptor
+behind_registering has_ring (Some Descriptor) = if has_ring then Checks Counts else Checks Caller
+behind_registering has_ring (Some Counts) = Checks Caller
+behind_registering has_ring (Some Caller) = Checks Argument
+behind_registering has_ring (Some Argument) = Passes
+
+abbrev pub next_of_registering : Bool → Option Check → ℤ → Passage
+next_of_registering has_ring last res = unless_refused res (behind_registering has_ring last)

@@ -1,0 +1,32 @@
+//! What a look at descriptors says of a request that waits. poll(2).
+
+ghost use Rattle.std.specs.Prelude.{◌≡◌};
+ghost use Rattle.uring_enter.specs.Glances as spec;
+
+use crate::ready::counts_as_ready;
+
+/// What a look says of a request.
+#[derive(Clone, Copy, Drop)]
+pub enum Glance {
+    Unready,
+
+    Ready,
+
+    /// It is to be looked at alone.
+    AsksAlone,
+}
+
+/// What is found of a request that is impatient or isn't, by a poll(2) of its descriptor, or of that and others, that doesn't wait, came to this and shows these events of it.
+pub fn glance_of(is_impatient: bool, is_of_many: bool, came: i32, events: u16) -> Glance
+    ensures { result ≡ spec.glance_of is_impatient is_of_many came events }
+{
+    if is_impatient {
+        Glance::Ready
+    } else if is_of_many && came < 0 {
+        Glance::AsksAlone
+    } else if counts_as_ready(came, events) {
+        Glance::Ready
+    } else {
+        Glance::Unready
+    }
+}

@@ -1,0 +1,48 @@
+//! What the answers of the epoll instance make of requests that are dormant, of which it tells. Our own rules; epoll_wait(2).
+
+ghost use Rattle.std.specs.Prelude.{◌≡◌, true, List, ◌∷◌};
+ghost use Rattle.uring_enter.specs.Lookouts.{Happening, Changed, KeepsLookout};
+ghost use Rattle.uring_enter.specs.Waiters.{Encounter, Around, WasSeen, KeepsWaiter, around};
+ghost use Rattle.uring_enter.specs.Lying as spec;
+
+use crate::lookout::Lookout;
+use crate::waiter::Waiter;
+
+/// What an instance's answer makes of who asks it.
+#[derive(Clone, Copy, Drop)]
+pub enum Answered {
+    /// It has told all.
+    IsDone,
+
+    /// It is asked again: it may have more to tell.
+    AsksAgain,
+
+    /// It doesn't tell: all that are dormant are roused, and none becomes so again.
+    RousesAll,
+}
+
+impl Waiter {
+    /// The instance has told that its descriptor is ready, by which it is dormant no more.
+    pub fn is_told_ready(&mut self, lookout: &mut Lookout)
+        ensures of_ring { (log : List Happening) → KeepsLookout log lookout.old
+            → KeepsLookout (Changed ∷ log) lookout.new }
+        ensures of_one { (log : List Encounter) → KeepsLookout (around log) lookout.old → KeepsWaiter log self.old
+            → KeepsWaiter (Around Changed ∷ WasSeen true ∷ log) self.new }
+    {
+        let _ = self.sees(lookout, true);
+        lookout.changes();
+    }
+}
+
+/// What an instance's answer makes of who asks it, where it tells of so many at most at once. `came`: of how many it has told, or below 0.
+pub fn answer_of(came: i32, most: i32) -> Answered
+    ensures { result ≡ spec.answer_of came most }
+{
+    if came < 0 {
+        Answered::RousesAll
+    } else if came == most {
+        Answered::AsksAgain
+    } else {
+        Answered::IsDone
+    }
+}

@@ -1,0 +1,85 @@
+//! In which order a call is refused before it is carried out, and which calls count. io_uring_enter(2), io_uring_register(2), ERRORS.
+
+ghost use Rattle.std.specs.Prelude.{◌≡◌};
+ghost use Rattle.uring_enter.specs.Passages as spec;
+
+use crate::reaching::{Naming, naming_of};
+
+/// What is looked at of a call, or done, before it is carried out.
+#[derive(Clone, Copy, Drop)]
+pub enum Check {
+    /// The number under which the thread has registered the ring.
+    Number,
+
+    /// The descriptor: whether it is a ring's.
+    Descriptor,
+
+    /// It is counted among the calls on its ring.
+    Counts,
+
+    /// Who calls: whether the ring is enabled, and the thread may.
+    Caller,
+
+    /// The argument and its count.
+    Argument,
+}
+
+/// How a call goes on.
+#[derive(Clone, Copy, Drop)]
+pub enum Passage {
+    Checks(Check),
+
+    /// It is refused with this.
+    IsRefused(i32),
+
+    /// It is carried out.
+    Passes,
+}
+
+/// What comes next of a call of io_uring_enter(2) with these flags, behind a check that came to `res`. `None`: at first.
+pub fn next_of_entering(flags: u32, last: Option<Check>, res: i32) -> Passage
+    ensures { result ≡ spec.next_of_entering flags last res }
+{
+    if res < 0 {
+        return Passage::IsRefused(res);
+    }
+    match last {
+        None => first_of_entering(flags),
+        Some(Check::Number) => Passage::Checks(Check::Descriptor),
+        Some(Check::Descriptor) => Passage::Checks(Check::Counts),
+        Some(Check::Counts) => Passage::Checks(Check::Caller),
+        Some(Check::Caller) | Some(Check::Argument) => Passage::Passes,
+    }
+}
+
+fn first_of_entering(flags: u32) -> Passage
+    ensures { result ≡ spec.first_of_entering flags }
+{
+    match naming_of(flags) {
+        Naming::Refused(fault) => Passage::IsRefused(fault),
+        Naming::ByNumber => Passage::Checks(Check::Number),
+        Naming::ByDescriptor => Passage::Checks(Check::Descriptor),
+    }
+}
+
+/// What comes next of a call of io_uring_register(2), behind a check that came to `res`, where its descriptor was found a ring's or not. `None`: at first.
+pub fn next_of_registering(has_ring: bool, last: Option<Check>, res: i32) -> Passage
+    ensures { result ≡ spec.next_of_registering has_ring last res }
+{
+    if res < 0 {
+        return Passage::IsRefused(res);
+    }
+    match last {
+        None | Some(Check::Number) => Passage::Checks(Check::Descriptor),
+        Some(Check::Descriptor) => {
+            if has_ring {
+                Passage::Checks(Check::Counts)
+            } else {
+                Passage::Checks(Check::Caller)
+            }
+        }
+        Some(Check::Counts) => Passage::Checks(Check::Caller),
+        Some(Check::Caller) => Passage::Checks(Check::Argument),
+        Some(Check::Argument) => Passage::Passes,
+    }
+}

@@ -1,0 +1,45 @@
+//! In which steps what is to be registered is read, looked at and made. Each set is done by rising bits, until a step fails, with whose fault it ends. io_uring_register(2), ERRORS.
+
+ghost use Rattle.std.specs.Prelude.{◌≡◌, if◌then◌else◌};
+ghost use Rattle.uring_register.specs.Stepping as spec;
+
+/// How a row of lists of files or buffers is read, where there is a list of tags, and of descriptors or vectors: its tag (1), then the other (2).
+pub fn reading_steps(has_tags: bool, has_list: bool) -> u32
+    ensures { result ≡ spec.reading_steps has_tags has_list }
+{
+    bit(1, has_tags) | bit(2, has_list)
+}
+
+/// How the file of a descriptor is made, which is to be registered, with a tag or without, or is held for a request: one that is to be registered is open (1), there is memory for its tag (2); it is no ring's (4), and it is copied (8).
+pub fn making_steps(is_registered: bool, has_tag: bool) -> u32
+    ensures { result ≡ spec.making_steps is_registered has_tag }
+{
+    bit(1, is_registered) | bit(2, is_registered && has_tag) | bit(4, true) | bit(8, true)
+}
+
+/// How a ring of provided buffers is registered: its form is looked at (1), then its pages (2), and there is memory for its group (4).
+pub fn ring_steps() -> u32
+    ensures { result ≡ spec.ring_steps }
+{
+    bit(1, true) | bit(2, true) | bit(4, true)
+}
+
+/// What a request does that closes a descriptor with this fault, or 0: those before it keep their files (1), and it is closed (2).
+pub fn closing_steps(fault: i32) -> u32
+    ensures { result ≡ spec.closing_steps fault }
+{
+    bit(1, fault >= 0) | bit(2, fault >= 0)
+}
+
+/// Whether a list of restrictions holds whose rows have come to this, 0 or the fault of one.
+pub fn restrictions_hold(fault: i32) -> bool
+    ensures { result ≡ spec.restrictions_hold fault }
+{
+    fault >= 0
+}
+
+fn bit(weight: u32, is_done: bool) -> u32
+    ensures { result ≡ (if is_done then weight else 0) }
+{
+    if is_done { weight } else { 0 }
+}
