@@ -1,0 +1,155 @@
+/* Tests of requests that once waited without an end, or with work: named pipes that are opened, what isn't ordinary data, and connects. Each is a
+ * process of its own. All hold under every policy.
+ *
+ *   endless [NAME]           with a name: that test alone
+ */
+#define _GNU_SOURCE
+#include "watched.h"
+
+#include <linux/openat2.h>
+#include <sys/resource.h>
+#include <sys/un.h>
+
+/* Urgent data are there or aren't, whatever else is; what a socket was told of errors ends with -11 once there is something else; and a socket that
+ * listens has nothing to be read. */
+static void test_not_ordinary(void)
+{
+    struct ring ring;
+    struct sockaddr_in address;
+    int ends[2];
+    char byte = 0;
+    make_tcp_pair(ends);
+    make_ring(&ring, 8, 0, 0);
+    put_transfer(&ring, IORING_OP_RECV, 0, 0, ends[1], &byte, 1, 0)->msg_flags = MSG_OOB;
+    check(enter(&ring, 1, 0, 0) == 1 && ends_with(&ring, -EINVAL));
+    check(send(ends[0], "X", 1, MSG_OOB) == 1);
+    usleep(1000);
+    put_transfer(&ring, IORING_OP_RECV, 0, 0, ends[1], &byte, 1, 0)->msg_flags = MSG_OOB;
+    check(enter(&ring, 1, 0, 0) == 1 && ends_with(&ring, 1) && byte == 'X');
+    put_transfer(&ring, IORING_OP_RECV, 0, 0, ends[1], &byte, 1, 0)->msg_flags = MSG_ERRQUEUE;
+    check(enter(&ring, 1, 0, 0) == 1 && is_waiting(&ring));
+    check(send(ends[0], "y", 1, 0) == 1 && ends_with(&ring, -EAGAIN));
+    int listener = make_listener(&address);
+    for (int i = 0; i < 2; i++) {
+        put_transfer(&ring, i ? IORING_OP_READ : IORING_OP_RECV, 0, 0, listener, &byte, 1, 0);
+        check(enter(&ring, 1, 0, 0) == 1 && ends_with(&ring, -ENOTCONN));
+    }
+    close_ring(&ring);
+}
+
+static void put_open(struct ring *ring, uint64_t user_data, const char *path, int flags)
+{
+    struct io_uring_sqe *entry = put_plain(ring, IORING_OP_OPENAT, user_data, AT_FDCWD);
+    entry->addr = (uintptr_t)path;
+    entry->open_flags = flags;
+}
+
+static void put_cancel(struct ring *ring, uint64_t user_data, uint64_t target)
+{
+    put_plain(ring, IORING_OP_ASYNC_CANCEL, user_data, -1)->addr = target;
+}
+
+/* Both ends of a named pipe are opened, whichever comes first, and each waits for the other, also for another process'. One that was opened is as it
+ * was asked for. */
+static void test_opened(void)
+{
+    struct ring ring;
+    struct open_how how = {.flags = O_RDONLY};
+    char name[] = "/tmp/unwilling-XXXXXX";
+    int32_t fds[2];
+    check(mkdtemp(name) && chdir(name) == 0 && mkfifo("fifo", 0600) == 0);
+    make_ring(&ring, 8, 0, 0);
+    for (int i = 0; i < 2; i++) {
+        put_open(&ring, 0, "fifo", i ? O_WRONLY : O_RDONLY);
+        put_open(&ring, 1, "fifo", i ? O_RDONLY : O_WRONLY);
+        check(enter(&ring, 2, 0, 0) == 2);
+        reap_all(&ring, 2, fds);
+        for (int end = 0; end < 2; end++)
+            check(fds[end] >= 0 && !(fcntl(fds[end], F_GETFL) & O_NONBLOCK) && close(fds[end]) == 0);
+        put_open(&ring, 0, "fifo", i ? O_WRONLY : O_RDONLY);
+        check(enter(&ring, 1, 0, 0) == 1 && is_waiting(&ring));
+        put_cancel(&ring, 1, 0);
+        check(enter(&ring, 1, 0, 0) == 1);
+        reap_all(&ring, 2, fds);
+        check(fds[0] == -ECANCELED && open("fifo", O_WRONLY | O_NONBLOCK) < 0 && errno == ENXIO);
+    }
+    struct io_uring_sqe *entry = put_plain(&ring, IORING_OP_OPENAT2, 0, AT_FDCWD);
+    entry->addr = (uintptr_t)"fifo";
+    entry->off = (uintptr_t)&how;
+    entry->len = sizeof how;
+    check(enter(&ring, 1, 0, 0) == 1 && is_waiting(&ring));
+    pid_t child = fork();
+    if (child == 0)
+        _exit(open("fifo", O_WRONLY) < 0);
+    check(next_of(&ring).res >= 0 && waitpid(child, fds, 0) == child && fds[0] == 0);
+    check(unlink("fifo") == 0 && rmdir(name) == 0);
+    close_ring(&ring);
+}
+
+static void put_connect(struct ring *ring, int fd, const void *address, size_t size)
+{
+    struct io_uring_sqe *entry = put_plain(ring, IORING_OP_CONNECT, 0, fd);
+    entry->addr = (uintptr_t)address;
+    entry->off = size;
+}
+
+/* A socket that has connected knows it: a second connect ends with -106. */
+static void test_connected(void)
+{
+    struct ring ring;
+    struct sockaddr_in address;
+    int listener = make_listener(&address), caller = socket(AF_INET, SOCK_STREAM, 0);
+    make_ring(&ring, 8, 0, 0);
+    for (int i = 0; i < 2; i++) {
+        put_connect(&ring, caller, &address, sizeof address);
+        check(enter(&ring, 1, 0, 0) == 1 && ends_with(&ring, i == 0 ? 0 : -EISCONN));
+    }
+    check(connect(caller, (void *)&address, sizeof address) < 0 && errno == EISCONN);
+    close(listener);
+    close_ring(&ring);
+}
+
+static long long processor_time(void)
+{
+    struct rusage used;
+    check(getrusage(RUSAGE_SELF, &used) == 0);
+    return (used.ru_utime.tv_sec + used.ru_stime.tv_sec) * 1000000LL + used.ru_utime.tv_usec + used.ru_stime.tv_usec;
+}
+
+/* A connect to a local socket that takes no more waits without work, and is made once it takes one. */
+static void test_full_backlog(void)
+{
+    struct ring ring;
+    struct sockaddr_un address = {AF_UNIX, "\0unwilling"};
+    int listener = socket(AF_UNIX, SOCK_STREAM, 0), callers[4];
+    memcpy(address.sun_path + 10, &(pid_t){getpid()}, sizeof(pid_t));
+    check(bind(listener, (void *)&address, sizeof address) == 0 && listen(listener, 0) == 0);
+    for (int i = 0; i < 4; i++) {
+        callers[i] = socket(AF_UNIX, SOCK_STREAM | SOCK_NONBLOCK, 0);
+        if (connect(callers[i], (void *)&address, sizeof address) < 0)
+            break;
+    }
+    make_ring(&ring, 8, 0, 0);
+    put_connect(&ring, socket(AF_UNIX, SOCK_STREAM, 0), &address, sizeof address);
+    check(enter(&ring, 1, 0, 0) == 1);
+    pid_t child = fork();
+    if (child == 0) {
+        usleep(300000);
+        _exit(accept(listener, NULL, NULL) < 0);
+    }
+    long long before = processor_time();
+    check(next_of(&ring).res == 0 && processor_time() - before < 60000);
+    check(waitpid(child, NULL, 0) == child);
+    close_ring(&ring);
+}
+
+int main(int count, char **words)
+{
+    static const struct named tests[] = {
+        {"opened", test_opened},
+        {"not ordinary", test_not_ordinary},
+        {"connected", test_connected},
+        {"full backlog", test_full_backlog},
+    };
+    return run_all_watched(tests, sizeof tests / sizeof *tests, count > 1 ? words[1] : NULL);
+}
