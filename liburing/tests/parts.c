@@ -190,6 +190,7 @@ union control {
 
 static void hold_descriptor(union control *control, struct msghdr *message, int fd)
 {
+    memset(control, 0, sizeof *control);
     control->header = (struct cmsghdr){.cmsg_level = SOL_SOCKET, .cmsg_type = SCM_RIGHTS, .cmsg_len = CMSG_LEN(sizeof fd)};
     memcpy(CMSG_DATA(&control->header), &fd, sizeof fd);
     message->msg_control = control;
