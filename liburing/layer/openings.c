@@ -22,7 +22,7 @@ static uint64_t flags_of(const struct request *request)
 bool opens_pipe(const struct request *request)
 {
     struct stat status;
-    if (!wulgach_looks_at_path(request->entry.opcode, flags_of(request)) || !request->path)
+    if (!request->path || !wulgach_looks_at_path(request->entry.opcode, flags_of(request)))
         return false;
     int how = flags_of(request) & O_NOFOLLOW ? AT_SYMLINK_NOFOLLOW : 0;
     return fstatat(request->entry.fd, request->path, &status, how) == 0 && S_ISFIFO(status.st_mode);
