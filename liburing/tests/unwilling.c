@@ -112,6 +112,8 @@ static void answer(int listener, int questions, int answers)
             close(found.res);
             put_plain(&ring, IORING_OP_ACCEPT, 0, listener);
         } else {
+            if (byte == 'q')
+                exit(0);
             check(write(answers, "!", 1) == 1);
             put_transfer(&ring, IORING_OP_READ, 1, 0, questions, &byte, 1, -1);
         }
@@ -142,7 +144,7 @@ static void test_herd(void)
         }
     }
     for (int i = 0; i < PROCESSES; i++)
-        check(kill(children[i], SIGKILL) == 0 && waitpid(children[i], NULL, 0) == children[i]);
+        check(write(questions[i][1], "q", 1) == 1 && waitpid(children[i], NULL, 0) == children[i]);
 }
 
 static void put_splice(struct ring *ring, uint8_t code, int from, int to, unsigned length)
