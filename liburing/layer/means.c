@@ -17,6 +17,7 @@
 #include "unwilling.h"
 
 #include <errno.h>
+#include <sys/stat.h>
 #include <unistd.h>
 
 int32_t make_call(const struct wulgach_system_call *call)
@@ -25,10 +26,12 @@ int32_t make_call(const struct wulgach_system_call *call)
     return result < 0 ? -errno : (int32_t)result;
 }
 
-/* Of a splice: its descriptor, if it is to be asked not to wait. A pipe is, by the call's flag. */
+/* Of a splice: its descriptor, if it is to be asked not to wait. A pipe is, by the call's flag, and a file never waits. */
 static int asked_for_splice(int fd)
 {
-    return is_pipe(fd) ? -1 : fd;
+    struct stat status;
+    bool never_waits = is_pipe(fd) || (fstat(fd, &status) == 0 && S_ISREG(status.st_mode));
+    return never_waits ? -1 : fd;
 }
 
 /* Makes the call of an operation, with its descriptors asked not to wait if the library says so. */
