@@ -3,6 +3,7 @@ ghost use Rattle.std.specs.Prelude.{◌≡◌, ◌+◌, ◌<◌, ◌^◌, not, �
 ghost use Rattle.uring_enter.specs.declared.act.Fact.{Fact};
 ghost use Rattle.uring_enter.specs.Courses.{KeepsCourse, is_cancelled};
 ghost use Rattle.uring_enter.specs.Lookouts.{Happening, Waited, Told, KeepsLookout, moments, rounds};
+ghost use Rattle.uring_enter.specs.Readiness as ready;
 ghost use Rattle.uring_enter.specs.Waiters.{Encounter, WouldWait, WasCancelled, WasUpdated, WasSeen, HeardWrite, MissedWrite, Took, KeepsWaiter, around};
 ghost use Rattle.uring_enter.specs.Waiters as waiters;
 ghost use Rattle.uring_crossing.specs.WaitForm.{word_of_look, word_of_sighting, behind_look};
