@@ -81,14 +81,26 @@ static void judge_vain(struct model *model)
         model->now = call->deadline;
 }
 
+static long vain_result(const struct call *call)
+{
+    return call->limit < 0 ? -EDEADLK : call->ready > 0 ? 0 : -ETIME;
+}
+
+/* A timeout that ends meanwhile ends the wait; one that ended before doesn't, whose completion has come into the ring from outside only now. */
+static bool may_be_fired(const struct model *model)
+{
+    const struct call *call = model->call;
+    bool is_refused = call->result < 0 && call->result == vain_result(call);
+    return call->is_fired && !(model->is_late && is_refused);
+}
+
 static void judge_result(struct model *model)
 {
     struct call *call = model->call;
     long wanted = call->accepted;
-    /* A timeout that ends meanwhile ends the wait. */
-    bool is_vain = has_waited(call) && call->ready < enough_of(model) && !call->is_fired;
+    bool is_vain = has_waited(call) && call->ready < enough_of(model) && !may_be_fired(model);
     if (wanted == 0 && is_vain)
-        wanted = call->limit < 0 ? -EDEADLK : call->ready > 0 ? 0 : -ETIME;
+        wanted = vain_result(call);
     if (call->result != wanted)
         wrong(model, "a call returns %ld, and is to return %ld", call->result, wanted);
     if (is_vain)
