@@ -80,9 +80,20 @@ void wulgach_transfer_call(const struct wulgach_submission *entry, const struct 
  * that: of ACCEPT, CONNECT, SPLICE and TEE, but pipes, which a flag of a splice asks. The call of no other operation of sockets waits. */
 bool wulgach_asks_descriptors(uint8_t code);
 
-/* Whether it is looked, before an operation of this code opens a path with these flags, whether that names a pipe: of OPENAT and OPENAT2, if an
- * open of one would wait. Such a one is opened with O_NONBLOCK. */
-bool wulgach_looks_at_path(uint8_t code, uint64_t flags);
+/* Whether an end of a splice is asked so: no pipe, and no regular file, which never waits. Our own rule. */
+bool wulgach_asks_end(bool is_pipe, bool is_regular);
+
+/* Whether an operation of this code, which opens a path with these flags, is asked not to wait (O_NONBLOCK), which is taken back from the file: of
+ * OPENAT and OPENAT2, but of a path alone and of a folder, and where the flags say so themselves. */
+bool wulgach_asks_opening(uint8_t code, uint64_t flags);
+
+/* Whether it is looked before, whether its path names a pipe: if an open of one waits for its other end. It does of an entry that is asynchronous
+ * (IOSQE_ASYNC), or whose flags may make or cut a file. */
+bool wulgach_looks_at_path(uint8_t code, uint64_t flags, bool is_async);
+
+/* Whether an open that was asked not to wait, and came to this, is made once more without that: behind -11 (EWOULDBLOCK), which a lease is waited
+ * for (open(2)). */
+bool wulgach_opens_again(int32_t res);
 
 /* Whether the open of a named pipe waits that was asked with these flags, and came to this with O_NONBLOCK: to -6 (ENXIO), if it is to write; and
  * if it is to read, until a writer was found, or to have been. */

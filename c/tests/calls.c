@@ -168,7 +168,10 @@ static void look_at_results(void)
 {
     for (unsigned code = 0; code < 64; code++)
         demand(wulgach_asks_descriptors((uint8_t)code) == (code == 13 || code == 16 || code == 30 || code == 33), "whose descriptors are asked not to wait");
-    demand(wulgach_looks_at_path(18, 0) && wulgach_looks_at_path(28, 1) && !wulgach_looks_at_path(18, 2) && !wulgach_looks_at_path(18, 2048) && !wulgach_looks_at_path(19, 0), "which path is looked at");
+    demand(wulgach_asks_opening(18, 0) && wulgach_asks_opening(28, 2) && !wulgach_asks_opening(18, 2048) && !wulgach_asks_opening(18, 65536) && !wulgach_asks_opening(19, 0), "which open is asked not to wait");
+    demand(wulgach_looks_at_path(18, 64, false) && wulgach_looks_at_path(28, 513, false) && wulgach_looks_at_path(28, 1, true) && !wulgach_looks_at_path(18, 0, false) && !wulgach_looks_at_path(18, 66, true) && !wulgach_looks_at_path(18, 2048, true) && !wulgach_looks_at_path(19, 0, true), "which path is looked at");
+    demand(wulgach_opens_again(-11) && !wulgach_opens_again(-6) && !wulgach_opens_again(3), "a lease");
+    demand(wulgach_asks_end(false, false) && !wulgach_asks_end(true, false) && !wulgach_asks_end(false, true), "an end of a splice");
     demand(wulgach_opening_waits(1, -6, false) && !wulgach_opening_waits(1, 3, false) && wulgach_opening_waits(0, 3, false) && !wulgach_opening_waits(0, 3, true) && !wulgach_opening_waits(0, -2, false), "which open waits");
     demand(wulgach_has_begun(-115) && !wulgach_has_begun(-11) && !wulgach_has_begun(0), "a connect that goes on");
     struct wulgach_submission receive = {.opcode = 10}, send = {.opcode = 9};

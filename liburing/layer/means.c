@@ -26,12 +26,12 @@ int32_t make_call(const struct wulgach_system_call *call)
     return result < 0 ? -errno : (int32_t)result;
 }
 
-/* Of a splice: its descriptor, if it is to be asked not to wait. A pipe is, by the call's flag, and a file never waits. */
+/* Of a splice: its descriptor, if it is to be asked not to wait. */
 static int asked_for_splice(int fd)
 {
     struct stat status;
-    bool never_waits = is_pipe(fd) || (fstat(fd, &status) == 0 && S_ISREG(status.st_mode));
-    return never_waits ? -1 : fd;
+    bool is_regular = fstat(fd, &status) == 0 && S_ISREG(status.st_mode);
+    return wulgach_asks_end(is_pipe(fd), is_regular) ? fd : -1;
 }
 
 /* Makes the call of an operation, with its descriptors asked not to wait if the library says so. */
@@ -39,6 +39,8 @@ static int32_t make_call_of(struct request *request, const struct wulgach_system
 {
     if (request->standing.is_stream && !request->needs.needs_file)
         return open_pipe(request, call);
+    if (asks_opening(request))
+        return open_at_once(request, call);
     if (!wulgach_asks_descriptors(request->entry.opcode))
         return make_call(call);
     if (request->needs.needs_second)

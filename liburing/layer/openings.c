@@ -1,4 +1,4 @@
-/* Whether an open of a named pipe waits is the library's decision. No descriptor tells that the other end was opened: so such a request is napped
+/* Whether an open is asked not to wait, and that of a named pipe waits all the same, is the library's decision. No descriptor tells that the other end was opened: so such a request is napped
  * for. */
 #define _GNU_SOURCE
 #include "openings.h"
@@ -19,10 +19,15 @@ static uint64_t flags_of(const struct request *request)
     return request->how ? request->how->flags : request->entry.open_flags;
 }
 
+bool asks_opening(const struct request *request)
+{
+    return request->path && wulgach_asks_opening(request->entry.opcode, flags_of(request));
+}
+
 bool opens_pipe(const struct request *request)
 {
     struct stat status;
-    if (!request->path || !wulgach_looks_at_path(request->entry.opcode, flags_of(request)))
+    if (!request->path || !wulgach_looks_at_path(request->entry.opcode, flags_of(request), request->entry.flags & IOSQE_ASYNC))
         return false;
     int how = flags_of(request) & O_NOFOLLOW ? AT_SYMLINK_NOFOLLOW : 0;
     return fstatat(request->entry.fd, request->path, &status, how) == 0 && S_ISFIFO(status.st_mode);
@@ -48,7 +53,7 @@ static bool has_writer(int fd)
 }
 
 /* The call, asked not to wait. */
-static int32_t open_unwilling(struct request *request, struct wulgach_system_call call)
+static int32_t open_unwilling(const struct request *request, struct wulgach_system_call call)
 {
     struct open_how how;
     if (request->how) {
@@ -59,6 +64,22 @@ static int32_t open_unwilling(struct request *request, struct wulgach_system_cal
         call.third |= O_NONBLOCK;
     }
     return make_call(&call);
+}
+
+/* Takes back that a file isn't to wait. */
+static void let_wait(int fd)
+{
+    fcntl(fd, F_SETFL, fcntl(fd, F_GETFL) & ~O_NONBLOCK);
+}
+
+int32_t open_at_once(const struct request *request, const struct wulgach_system_call *call)
+{
+    int32_t fd = open_unwilling(request, *call);
+    if (wulgach_opens_again(fd))
+        return make_call(call);
+    if (fd >= 0)
+        let_wait(fd);
+    return fd;
 }
 
 int32_t open_pipe(struct request *request, const struct wulgach_system_call *call)
@@ -73,6 +94,6 @@ int32_t open_pipe(struct request *request, const struct wulgach_system_call *cal
     }
     request->is_opened = false;
     if (fd >= 0)
-        fcntl(fd, F_SETFL, fcntl(fd, F_GETFL) & ~O_NONBLOCK);
+        let_wait(fd);
     return fd;
 }

@@ -49,7 +49,7 @@ static void put_cancel(struct ring *ring, uint64_t user_data, uint64_t target)
     put_plain(ring, IORING_OP_ASYNC_CANCEL, user_data, -1)->addr = target;
 }
 
-/* Both ends of a named pipe are opened, whichever comes first, and each waits for the other, also for another process'. One that was opened is as it
+/* Both ends of a named pipe are opened by who waits, whichever comes first, and each waits for the other, also for another process'. One that was opened is as it
  * was asked for. */
 static void test_opened(void)
 {
@@ -60,13 +60,13 @@ static void test_opened(void)
     check(mkdtemp(name) && chdir(name) == 0 && mkfifo("fifo", 0600) == 0);
     make_ring(&ring, 8, 0, 0);
     for (int i = 0; i < 2; i++) {
-        put_open(&ring, 0, "fifo", i ? O_WRONLY : O_RDONLY);
-        put_open(&ring, 1, "fifo", i ? O_RDONLY : O_WRONLY);
+        put_open(&ring, 0, "fifo", O_CREAT | (i ? O_WRONLY : O_RDONLY));
+        put_open(&ring, 1, "fifo", O_CREAT | (i ? O_RDONLY : O_WRONLY));
         check(enter(&ring, 2, 0, 0) == 2);
         reap_all(&ring, 2, fds);
         for (int end = 0; end < 2; end++)
             check(fds[end] >= 0 && !(fcntl(fds[end], F_GETFL) & O_NONBLOCK) && close(fds[end]) == 0);
-        put_open(&ring, 0, "fifo", i ? O_WRONLY : O_RDONLY);
+        put_open(&ring, 0, "fifo", O_CREAT | (i ? O_WRONLY : O_RDONLY));
         check(enter(&ring, 1, 0, 0) == 1 && is_waiting(&ring));
         put_cancel(&ring, 1, 0);
         check(enter(&ring, 1, 0, 0) == 1);
@@ -77,12 +77,38 @@ static void test_opened(void)
     entry->addr = (uintptr_t)"fifo";
     entry->off = (uintptr_t)&how;
     entry->len = sizeof how;
+    entry->flags |= IOSQE_ASYNC;
     check(enter(&ring, 1, 0, 0) == 1 && is_waiting(&ring));
     pid_t child = fork();
     if (child == 0)
         _exit(open("fifo", O_WRONLY) < 0);
     check(next_of(&ring).res >= 0 && waitpid(child, fds, 0) == child && fds[0] == 0);
     check(unlink("fifo") == 0 && rmdir(name) == 0);
+    close_ring(&ring);
+}
+
+/* One that a kernel asks not to wait: to read it is open at once, and to write it finds nobody who reads. */
+static void test_opened_at_once(void)
+{
+    struct ring ring;
+    struct open_how how = {.flags = O_RDONLY, .resolve = RESOLVE_IN_ROOT};
+    char name[] = "/tmp/unwilling-XXXXXX";
+    check(mkdtemp(name) && chdir(name) == 0 && mkfifo("fifo", 0600) == 0);
+    make_ring(&ring, 8, 0, 0);
+    put_open(&ring, 0, "fifo", O_WRONLY);
+    check(enter(&ring, 1, 1, IORING_ENTER_GETEVENTS) == 1 && next_of(&ring).res == -ENXIO);
+    put_open(&ring, 0, "fifo", O_RDONLY);
+    check(enter(&ring, 1, 1, IORING_ENTER_GETEVENTS) == 1);
+    int32_t fd = next_of(&ring).res;
+    check(fd >= 0 && !(fcntl(fd, F_GETFL) & O_NONBLOCK) && close(fd) == 0);
+    int folder = open(".", O_RDONLY | O_DIRECTORY);
+    struct io_uring_sqe *entry = put_plain(&ring, IORING_OP_OPENAT2, 0, folder);
+    entry->addr = (uintptr_t)"/fifo";
+    entry->off = (uintptr_t)&how;
+    entry->len = sizeof how;
+    check(enter(&ring, 1, 1, IORING_ENTER_GETEVENTS) == 1);
+    fd = next_of(&ring).res;
+    check(fd >= 0 && close(fd) == 0 && close(folder) == 0 && unlink("fifo") == 0 && rmdir(name) == 0);
     close_ring(&ring);
 }
 
@@ -147,6 +173,7 @@ int main(int count, char **words)
 {
     static const struct named tests[] = {
         {"opened", test_opened},
+        {"opened at once", test_opened_at_once},
         {"not ordinary", test_not_ordinary},
         {"connected", test_connected},
         {"full backlog", test_full_backlog},

@@ -10,9 +10,10 @@ ghost use Rattle.uring_crossing.specs.WaitForm.{task_of};
 
 use uring_crossing::wait_words::task;
 use uring_enter::{
-    Fault, Held, Means, Submission, SystemCall, Transfer, Vectors, asks_descriptors, can_have,
-    control_of, done_result, given_result, has_begun, is_stream_type, looks_at_path, means_of,
-    moved_so_far, opening_waits, placed_result, tells_message, told_result, transfer_call,
+    Fault, Held, Means, Submission, SystemCall, Transfer, Vectors, asks_descriptors, asks_end,
+    asks_opening, can_have, control_of, done_result, given_result, has_begun, is_stream_type,
+    looks_at_path, means_of, moved_so_far, opening_waits, opens_again, placed_result,
+    tells_message, told_result, transfer_call,
 };
 
 /// By what an operation is carried out: `struct wulgach_means` of the header.
@@ -136,12 +137,36 @@ pub extern "C" fn wulgach_asks_descriptors(code: u8) -> bool
     asks_descriptors(code)
 }
 
-/// Whether it is looked, before an operation of this code opens a path with these flags, whether that names a pipe.
+/// Whether an end of a splice is asked so, which is a pipe or not, or a regular file.
 #[unsafe(no_mangle)]
-pub extern "C" fn wulgach_looks_at_path(code: u8, flags: u64) -> bool
-    ensures { result ≡ opens.looks_at_path code flags }
+pub extern "C" fn wulgach_asks_end(is_pipe: bool, is_regular: bool) -> bool
+    ensures { result ≡ spec.asks_end is_pipe is_regular }
 {
-    looks_at_path(code, flags)
+    asks_end(is_pipe, is_regular)
+}
+
+/// Whether an operation of this code, which opens a path with these flags, is asked not to wait.
+#[unsafe(no_mangle)]
+pub extern "C" fn wulgach_asks_opening(code: u8, flags: u64) -> bool
+    ensures { result ≡ opens.asks_opening code flags }
+{
+    asks_opening(code, flags)
+}
+
+/// Whether it is looked before, whether its path names a pipe.
+#[unsafe(no_mangle)]
+pub extern "C" fn wulgach_looks_at_path(code: u8, flags: u64, is_async: bool) -> bool
+    ensures { result ≡ opens.looks_at_path code flags is_async }
+{
+    looks_at_path(code, flags, is_async)
+}
+
+/// Whether an open that was asked not to wait, and came to this, is made once more without that.
+#[unsafe(no_mangle)]
+pub extern "C" fn wulgach_opens_again(res: i32) -> bool
+    ensures { result ≡ opens.opens_again res }
+{
+    opens_again(res)
 }
 
 /// Whether the open of a named pipe waits that was asked with these flags, and came to this without waiting.

@@ -147,6 +147,10 @@ of_ring e =
 abbrev pub asks_descriptors : ℕ → Bool
 asks_descriptors code = code == 13 || code == 16 || code == 30 || code == 33
 
+-- of an end of a splice or a tee it is asked if that is no pipe, which the flag of the call asks (SPLICE_F_NONBLOCK), and no regular file, which never waits, and whose locks the application may have
+abbrev pub asks_end : (is_pipe is_regular : Bool) → Bool
+asks_end is_pipe is_regular = not is_pipe && not is_regular
+
 -- an operation of sockets, a splice or a tee never sleeps in its call, whoever else uses its descriptors: the call has the flags of a message, with MSG_DONTWAIT among them (`call_flags`), or its descriptors are asked not to wait
 abbrev pub CallsNeverSleep : Type 0
 CallsNeverSleep = (e : Submission) → is_of_sockets e.opcode || is_splice e.opcode ≡ true

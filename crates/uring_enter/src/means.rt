@@ -114,6 +114,13 @@ pub fn asks_descriptors(code: u8) -> bool
     matches!(code, 13 | 16 | 30 | 33)
 }
 
+/// Whether an end of a splice is asked so: no pipe, which SPLICE_F_NONBLOCK asks, and no regular file, which never waits. Our own rule.
+pub fn asks_end(is_pipe: bool, is_regular: bool) -> bool
+    ensures { result ≡ spec.asks_end is_pipe is_regular }
+{
+    !is_pipe && !is_regular
+}
+
 /// What may have to wait for its descriptor is asked not to, by a flag of its call or by its descriptors, whoever else uses these.
 pub fn calls_never_sleep()
     ensures { CallsNeverSleep }
