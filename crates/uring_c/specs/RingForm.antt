@@ -1,5 +1,5 @@
 -- What a set-up does, what is mapped of a ring and when it is freed, what becomes of a timeout's time, of a message and of a registered file, in words that C can read.
-use Rattle.std.specs.Prelude.{ℕ, ℤ, pos, Bool, Option, Some, None, ◌==◌, if◌then◌else◌}
+use Rattle.std.specs.Prelude.{ℕ, pos, Bool, Option, Some, None, ◌==◌, if◌then◌else◌}
 use Rattle.uring_enter.specs.declared.ringing.Region.{Region}
 use Rattle.uring_enter.specs.declared.ringing.Region.TheVariants.{Rings, Entries}
 use Rattle.uring_enter.specs.declared.ringing.Stage.{Stage}
