@@ -3,7 +3,7 @@
  * ring's.
  *
  * A close by a system call of the program's own isn't heard, since no filter can tell a ring's number from others; nor is that of the real
- * liburing, but its io_uring_queue_exit is.
+ * liburing.
  */
 #define _GNU_SOURCE
 #include "run.h"
@@ -16,15 +16,12 @@
 bool wulgach_may_name_ring(int fd);
 void wulgach_look_for_closed(void);
 
-struct io_uring;
-
 static struct {
     int (*close)(int);
     int (*close_range)(unsigned, unsigned, int);
     void (*closefrom)(int);
     int (*dup2)(int, int);
     int (*dup3)(int, int, int);
-    void (*queue_exit)(struct io_uring *);
 } real;
 
 /* (a child of vfork is to find them) */
@@ -35,7 +32,6 @@ __attribute__((constructor)) static void find_real(void)
     *(void **)&real.closefrom = dlsym(RTLD_NEXT, "closefrom");
     *(void **)&real.dup2 = dlsym(RTLD_NEXT, "dup2");
     *(void **)&real.dup3 = dlsym(RTLD_NEXT, "dup3");
-    *(void **)&real.queue_exit = dlsym(RTLD_NEXT, "io_uring_queue_exit");
 }
 
 /* Another library's constructor may be first. */
@@ -109,11 +105,4 @@ SEEN int dup3(int fd, int number, int flags)
     if (may_be_ring)
         look_behind();
     return result;
-}
-
-SEEN void io_uring_queue_exit(struct io_uring *ring)
-{
-    want_real();
-    real.queue_exit(ring);
-    look_behind();
 }

@@ -7,6 +7,7 @@
 #define _GNU_SOURCE
 #include "trapped.h"
 
+#include <dlfcn.h>
 #include <fcntl.h>
 #include <netinet/in.h>
 #include <pthread.h>
@@ -115,10 +116,12 @@ static void closed_in_a_call(void)
     unmap(&ring);
 }
 
-/* A ring is gone with its last descriptor, however that is closed, and lets go what it has. */
+/* A ring is gone with its last descriptor, however that is closed, and lets go what it has. Liburing's own end of a ring is left to whichever library the
+ * program loads. */
 static void closes(void)
 {
     int read;
+    WANT(dlsym(RTLD_DEFAULT, "io_uring_queue_exit") == NULL);
     close_in_child(999);
     for (int way = 0; way < 4; way++) {
         struct ring ring = holding(&read);
