@@ -192,15 +192,27 @@ void close_parents(void)
 
 /* ---- locks ---- */
 
+/* Reads the next line of a file, without its end, as much of it as there is room for. No memory is asked for: a handler may close. False: there is none. */
+static bool read_line(int file, char *line, size_t room)
+{
+    size_t length = 0;
+    char letter;
+    while (read(file, &letter, 1) == 1 && letter != '\n')
+        if (length + 1 < room)
+            line[length++] = letter;
+    line[length] = 0;
+    return length > 0;
+}
+
 /* Whether a list of all locks has one of this process on the file of a descriptor. */
-static bool lists_lock(FILE *locks, int fd)
+static bool lists_lock(int locks, int fd)
 {
     char line[256], owner[32], inode[32];
     struct stat status = {0};
     fstat(fd, &status);
     snprintf(owner, sizeof owner, " %d ", (int)this_process());
     snprintf(inode, sizeof inode, ":%llu ", (unsigned long long)status.st_ino);
-    while (fgets(line, sizeof line, locks))
+    while (read_line(locks, line, sizeof line))
         if (strstr(line, " POSIX ") && strstr(line, owner) && strstr(line, inode))
             return true;
     return false;
@@ -212,10 +224,10 @@ static bool is_locked(int fd)
     struct flock lock = {.l_type = F_WRLCK, .l_whence = SEEK_SET};
     if (fcntl(fd, F_OFD_GETLK, &lock) < 0 || lock.l_type == F_UNLCK)
         return false;
-    FILE *locks = lock.l_pid == this_process() ? NULL : fopen("/proc/locks", "re");
-    bool is_listed = locks ? lists_lock(locks, fd) : lock.l_pid == this_process();
-    if (locks)
-        fclose(locks);
+    int locks = lock.l_pid == this_process() ? -1 : open("/proc/locks", O_RDONLY | O_CLOEXEC);
+    bool is_listed = locks >= 0 ? lists_lock(locks, fd) : lock.l_pid == this_process();
+    if (locks >= 0)
+        close(locks);
     return is_listed;
 }
 

@@ -4,12 +4,16 @@
  *
  * A close by a system call of the program's own isn't heard, since no filter can tell a ring's number from others; nor is that of the real
  * liburing.
+ *
+ * A program may close in a signal's handler, amid malloc or free (signal-safety(7)). So what the layer frees behind a close is kept, and freed when it next
+ * frees anything in a call.
  */
 #define _GNU_SOURCE
 #include "run.h"
 
 #include <dlfcn.h>
 #include <errno.h>
+#include <stdlib.h>
 #include <sys/syscall.h>
 #include <unistd.h>
 
@@ -41,10 +45,49 @@ static void want_real(void)
         find_real();
 }
 
+/* Whether the thread looks behind a close now. */
+static __thread bool is_behind __attribute__((tls_model("initial-exec")));
+
+/* A block of memory that is to be freed, and the next (malloc's smallest has room for that). */
+struct block {
+    struct block *next;
+};
+
+static struct block *blocks;
+
+static void keep_block(struct block *block)
+{
+    block->next = __atomic_load_n(&blocks, __ATOMIC_RELAXED);
+    while (!__atomic_compare_exchange_n(&blocks, &block->next, block, true, __ATOMIC_RELEASE, __ATOMIC_RELAXED))
+        ;
+}
+
+void __real_free(void *block);
+
+/* Whatever the layer, its library, and this one free goes here. */
+__attribute__((visibility("hidden"))) void __wrap_free(void *block)
+{
+    if (is_behind) {
+        if (block)
+            keep_block(block);
+        return;
+    }
+    __real_free(block);
+    if (!__atomic_load_n(&blocks, __ATOMIC_RELAXED))
+        return;
+    for (struct block *kept = __atomic_exchange_n(&blocks, NULL, __ATOMIC_ACQUIRE), *next; kept; kept = next) {
+        next = kept->next;
+        __real_free(kept);
+    }
+}
+
 static void look_behind(void)
 {
     int kept = errno;
+    bool was_behind = is_behind;
+    is_behind = true;
     wulgach_look_for_closed();
+    is_behind = was_behind;
     errno = kept;
 }
 
