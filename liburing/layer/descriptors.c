@@ -172,13 +172,14 @@ static void forget(const struct ring *ring)
             by_number[i] = NULL;
 }
 
-/* Ends those that have let go what they had. */
+/* Ends those that have let go what they had. (a child leaves its parent's: the numbers of their traces may be its own by now) */
 static void end_rings(void)
 {
     while (ending) {
         struct ring *ring = ending;
         ending = ring->next;
-        end_ring(ring);
+        if (is_own(ring))
+            end_ring(ring);
     }
 }
 
