@@ -1,5 +1,5 @@
-/* The program's calls by which a ring's descriptor may be closed: behind one the layer frees the rings that nobody can reach any more, as the kernel does
- * with the last descriptor, so that what they have registered and what waits in them is let go. Any other close costs a look whether the number may be a
+/* The program's calls by which a ring's descriptor may be closed: behind one the rings that nobody can reach any more let go what they have registered and
+ * what waits in them, as the kernel has it with the last descriptor. Any other close costs a look whether the number may be a
  * ring's.
  *
  * A close by a system call of the program's own isn't heard, since no filter can tell a ring's number from others; nor is that of the real
