@@ -164,6 +164,6 @@ void wulgach_look_for_closed(void)
     if (!is_known_process())
         return;
     int before = forbid_cancellation();
-    free_closed();
+    let_go_in_handler();
     allow_cancellation(before);
 }

@@ -1,6 +1,9 @@
 /* Finding the ring of a descriptor. Where the layer isn't told that a descriptor is closed, it keeps each ring until a set-up, or a close that it is told
  * of, finds that nobody can reach it any more and that no call is on it. What is left when the process ends isn't freed:
  * threads may use it to the last.
+ *
+ * A close that the layer is told of may stand in a signal's handler, amid whatever the thread does (signal-safety(7)): behind it nothing is asked of the C
+ * library's memory, and no lock is waited for long.
  */
 #define _GNU_SOURCE
 #include "descriptors.h"
@@ -15,14 +18,18 @@
 
 #include <dirent.h>
 #include <errno.h>
+#include <fcntl.h>
+#include <sched.h>
 #include <stdlib.h>
 #include <string.h>
 #include <sys/stat.h>
+#include <sys/syscall.h>
 #include <unistd.h>
 
 static struct ring *rings;          /* those of this process and of its parents, the newest first */
 static struct ring **by_number;     /* the ring that was last found under each descriptor, or NULL */
 static size_t by_number_room;
+static struct ring *ending;         /* those that have let go what they had, and whose traces and memory are left */
 static uint32_t ring_count;
 static pthread_mutex_t rings_lock = PTHREAD_MUTEX_INITIALIZER;
 static sigset_t forker;             /* the signals that the thread has blocked else which forks now, with that lock */
@@ -81,20 +88,31 @@ static bool is_still_reached_by(const struct ring *ring, int fd)
     return ring->ready_fd >= 0 ? is_still_polled_by(ring, fd) : is_reached_by(ring, fd);
 }
 
+/* One of the descriptors in a part of the list of all that is open on a ring, or -1. */
+static int find_listed(const struct ring *ring, const char *entries, long length)
+{
+    for (long at = 0; at < length;) {
+        const struct dirent64 *entry = (const void *)(entries + at);
+        if (is_reached_by(ring, atoi(entry->d_name)))
+            return atoi(entry->d_name);
+        at += entry->d_reclen;
+    }
+    return -1;
+}
+
 /* A descriptor that is open on a ring in this process: its first one, or another; negative: there is none. Where that can't be found out, the
  * first. */
 static int find_descriptor(const struct ring *ring)
 {
     if (is_reached_by(ring, ring->fd))
         return ring->fd;
-    DIR *folder = opendir("/proc/self/fd");
-    int found = -1;
-    for (struct dirent *entry; folder && found < 0 && (entry = readdir(folder));)
-        if (is_reached_by(ring, atoi(entry->d_name)))
-            found = atoi(entry->d_name);
-    if (folder)
-        closedir(folder);
-    return found < 0 && wulgach_is_taken_so(WULGACH_IS_REACHED, folder != NULL, false) ? ring->fd : found;
+    _Alignas(struct dirent64) char entries[1024];
+    int folder = open("/proc/self/fd", O_RDONLY | O_DIRECTORY | O_CLOEXEC), found = -1;
+    for (long length; folder >= 0 && found < 0 && (length = syscall(SYS_getdents64, folder, entries, sizeof entries)) > 0;)
+        found = find_listed(ring, entries, length);
+    if (folder >= 0)
+        close(folder);
+    return found < 0 && wulgach_is_taken_so(WULGACH_IS_REACHED, folder >= 0, false) ? ring->fd : found;
 }
 
 /* The numbers under which rings were found. Those from MOST_NOTED on aren't noted. */
@@ -154,8 +172,19 @@ static void forget(const struct ring *ring)
             by_number[i] = NULL;
 }
 
-/* Frees the rings that nobody can reach any more and that no call is on. */
-static void free_closed_rings(void)
+/* Ends those that have let go what they had. (a child leaves its parent's: the numbers of their traces may be its own by now) */
+static void end_rings(void)
+{
+    while (ending) {
+        struct ring *ring = ending;
+        ending = ring->next;
+        if (is_own(ring))
+            end_ring(ring);
+    }
+}
+
+/* Has the rings that nobody can reach any more, and that no call is on, let go what they have: they are to be ended. */
+static void let_go_closed(void)
 {
     __atomic_store_n(&is_left_in_call, false, __ATOMIC_SEQ_CST);
     for (struct ring **at = &rings; *at;) {
@@ -163,11 +192,19 @@ static void free_closed_rings(void)
         if (is_to_go(ring)) {
             *at = ring->next;
             forget(ring);
-            free_ring(ring);
+            let_go(ring);
+            ring->next = ending;
+            ending = ring;
         } else {
             at = &ring->next;
         }
     }
+}
+
+static void free_closed_rings(void)
+{
+    let_go_closed();
+    end_rings();
 }
 
 /* Remembers the ring of a descriptor. If memory is refused, it is searched for again. */
@@ -252,6 +289,32 @@ void free_closed(void)
     pthread_mutex_lock(&rings_lock);
     free_closed_rings();
     pthread_mutex_unlock(&rings_lock);
+    allow_signals(&own);
+}
+
+/* (who has the lock may wait for what the thread of the handler has: then whoever ends a call next looks) */
+static bool try_rings(void)
+{
+    enum { TRIES = 100 };
+    for (int i = 0; i < TRIES; i++) {
+        if (pthread_mutex_trylock(&rings_lock) == 0)
+            return true;
+        sched_yield();
+    }
+    return false;
+}
+
+void let_go_in_handler(void)
+{
+    sigset_t own;
+    block_signals(&own);
+    __atomic_store_n(&is_left_in_call, true, __ATOMIC_SEQ_CST);
+    if (try_rings()) {
+        let_go_closed();
+        if (ending)
+            __atomic_store_n(&is_left_in_call, true, __ATOMIC_SEQ_CST);
+        pthread_mutex_unlock(&rings_lock);
+    }
     allow_signals(&own);
 }
 

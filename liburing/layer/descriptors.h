@@ -35,7 +35,13 @@ bool may_be_ring(int fd);
 /* Frees the rings that nobody can reach any more. */
 void free_closed(void);
 
-/* Frees a ring. */
+/* Closes what they keep open, where a handler may call so. They are freed with the next call's end, or set-up. What is given to free meanwhile is to be
+ * kept for later by whoever calls. */
+void let_go_in_handler(void);
+
+/* Frees a ring: first what it has, then its trace and itself. */
 void free_ring(struct ring *ring);
+void let_go(struct ring *ring);
+void end_ring(struct ring *ring);
 
 #endif

@@ -16,8 +16,8 @@
 #include <unistd.h>
 
 /* Numbers from MOST_NOTED on aren't noted: a kernel gives none by its own limit (fs.nr_open), unless that was raised. A program that may have more than
- * MANY has room for the layer's beside its own. */
-enum { HIGH_NUMBER = 512, MANY = 1 << 15, MOST_NOTED = 1 << 20, BITS = 64 };
+ * MANY has room for the layer's beside its own; of one that may have fewer the layer takes the last, one of SHARE. */
+enum { HIGH_NUMBER = 512, MANY = 1 << 15, SHARE = 32, MOST_NOTED = 1 << 20, BITS = 64 };
 
 /* Copies that are left open, since the process has locks on their files. Under the lock copies are made and noted, and closed: a fork holds it, so
  * a child knows of each. */
@@ -43,7 +43,7 @@ static int copy_from(int fd, int lowest)
     return copy < 0 ? -errno : copy;
 }
 
-/* ---- numbers that the program can't have ---- */
+/* ---- numbers that the program hardly has, or can't have ---- */
 
 /* The program's limit (getrlimit(2)), and what stands in its place meanwhile. */
 struct limits {
@@ -51,14 +51,15 @@ struct limits {
 };
 
 /* The soft limit says which numbers are given to new descriptors, and the layer's needn't be among them: it is raised to the hard one for a moment, under the
- * lock. False: there are no more. */
+ * lock. The kernel says which it replaced, since the program may set it at any time. False: there are no more. */
 static bool raise_limit(struct limits *limits)
 {
-    if (getrlimit(RLIMIT_NOFILE, &limits->own) < 0 || limits->own.rlim_cur >= limits->own.rlim_max || limits->own.rlim_cur > MANY)
+    struct rlimit own;
+    if (getrlimit(RLIMIT_NOFILE, &own) < 0 || own.rlim_cur >= own.rlim_max || own.rlim_cur > MANY)
         return false;
-    limits->raised = limits->own;
-    limits->raised.rlim_cur = limits->own.rlim_max < MOST_NOTED ? limits->own.rlim_max : MOST_NOTED;
-    return setrlimit(RLIMIT_NOFILE, &limits->raised) == 0;
+    limits->raised = own;
+    limits->raised.rlim_cur = own.rlim_max < MOST_NOTED ? own.rlim_max : MOST_NOTED;
+    return prlimit(0, RLIMIT_NOFILE, &limits->raised, &limits->own) == 0;
 }
 
 /* (the program may have set its limit meanwhile, which stands then) */
@@ -78,21 +79,31 @@ rlim_t limit_of_numbers(void)
     return limit.rlim_cur;
 }
 
-/* A copy under a number past the program's limit, as it is. */
-static int copy_beyond(int fd, const struct rlimit *own)
+/* A copy under one of the last numbers that the program may have, of which the layer takes these few: so the limit stays as it is. */
+static int copy_below(int fd)
 {
-    return copy_from(fd, own->rlim_cur > HIGH_NUMBER ? (int)own->rlim_cur : HIGH_NUMBER);
+    struct rlimit own = {.rlim_cur = RLIM_INFINITY};
+    getrlimit(RLIMIT_NOFILE, &own);
+    return copy_from(fd, own.rlim_cur > MANY ? HIGH_NUMBER : (int)(own.rlim_cur - own.rlim_cur / SHARE));
 }
 
-/* A copy under the highest kind of number that there is: one past the limit, a high one, or any. */
-static int copy_of(int fd)
+/* A copy under a number past the program's limit, as it is. */
+static int copy_beyond(int fd)
 {
     struct limits limits;
-    int copy = -EMFILE;
-    if (raise_limit(&limits)) {
-        copy = copy_beyond(fd, &limits.own);
-        put_limit_back(&limits);
-    }
+    if (!raise_limit(&limits))
+        return -EMFILE;
+    int copy = copy_from(fd, limits.own.rlim_cur > HIGH_NUMBER ? (int)limits.own.rlim_cur : HIGH_NUMBER);
+    put_limit_back(&limits);
+    return copy;
+}
+
+/* A copy under the best number that there is: one of the last, one past the limit, a high one, or any. */
+static int copy_of(int fd)
+{
+    int copy = copy_below(fd);
+    if (copy < 0)
+        copy = copy_beyond(fd);
     if (copy < 0)
         copy = copy_from(fd, HIGH_NUMBER);
     return copy < 0 ? copy_from(fd, 0) : copy;
@@ -111,22 +122,28 @@ int moved_high(int fd)
     return copy;
 }
 
-int made_high(int (*make)(void))
+/* The same where all numbers below the limit are taken: it is raised for the call. */
+static int made_beyond(int (*make)(void))
 {
     struct limits limits;
     lock_kept();
-    bool is_raised = raise_limit(&limits);
-    int fd = make(), error = errno, copy = -1;
-    if (fd >= 0)
-        copy = is_raised ? copy_beyond(fd, &limits.own) : copy_from(fd, HIGH_NUMBER);
-    if (is_raised)
+    int fd = -1, error = EMFILE;
+    if (raise_limit(&limits)) {
+        fd = make();
+        error = errno;
         put_limit_back(&limits);
+    }
     unlock_kept();
     errno = error;
-    if (copy < 0)
-        return fd;
-    close(fd);
-    return copy;
+    return fd;
+}
+
+int made_high(int (*make)(void))
+{
+    int fd = make();
+    if (fd < 0 && errno == EMFILE)
+        fd = made_beyond(make);
+    return moved_high(fd);
 }
 
 /* ---- copies ---- */
@@ -175,15 +192,27 @@ void close_parents(void)
 
 /* ---- locks ---- */
 
+/* Reads the next line of a file, without its end, as much of it as there is room for. No memory is asked for: a handler may close. False: there is none. */
+static bool read_line(int file, char *line, size_t room)
+{
+    size_t length = 0;
+    char letter;
+    while (read(file, &letter, 1) == 1 && letter != '\n')
+        if (length + 1 < room)
+            line[length++] = letter;
+    line[length] = 0;
+    return length > 0;
+}
+
 /* Whether a list of all locks has one of this process on the file of a descriptor. */
-static bool lists_lock(FILE *locks, int fd)
+static bool lists_lock(int locks, int fd)
 {
     char line[256], owner[32], inode[32];
     struct stat status = {0};
     fstat(fd, &status);
     snprintf(owner, sizeof owner, " %d ", (int)this_process());
     snprintf(inode, sizeof inode, ":%llu ", (unsigned long long)status.st_ino);
-    while (fgets(line, sizeof line, locks))
+    while (read_line(locks, line, sizeof line))
         if (strstr(line, " POSIX ") && strstr(line, owner) && strstr(line, inode))
             return true;
     return false;
@@ -195,10 +224,10 @@ static bool is_locked(int fd)
     struct flock lock = {.l_type = F_WRLCK, .l_whence = SEEK_SET};
     if (fcntl(fd, F_OFD_GETLK, &lock) < 0 || lock.l_type == F_UNLCK)
         return false;
-    FILE *locks = lock.l_pid == this_process() ? NULL : fopen("/proc/locks", "re");
-    bool is_listed = locks ? lists_lock(locks, fd) : lock.l_pid == this_process();
-    if (locks)
-        fclose(locks);
+    int locks = lock.l_pid == this_process() ? -1 : open("/proc/locks", O_RDONLY | O_CLOEXEC);
+    bool is_listed = locks >= 0 ? lists_lock(locks, fd) : lock.l_pid == this_process();
+    if (locks >= 0)
+        close(locks);
     return is_listed;
 }
 

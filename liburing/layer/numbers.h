@@ -1,5 +1,6 @@
-/* Descriptors of the layer's own have numbers past the program's limit, where it may raise that, and else high ones: a program that closes a low one twice
- * doesn't close them. */
+/* Descriptors of the layer's own have the last numbers below the program's limit, a few of them; then such past it, where it may raise that, and else high
+ * ones: a program that closes a low one twice doesn't close them. The limit is the process's, and the program and its children may see it raised: so it is
+ * raised for those alone that find none of the last numbers free. */
 #ifndef NUMBERS_H
 #define NUMBERS_H
 

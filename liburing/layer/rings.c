@@ -28,7 +28,7 @@
 #include <sys/stat.h>
 #include <unistd.h>
 
-void free_ring(struct ring *ring)
+void let_go(struct ring *ring)
 {
     wulgach_core_free(&ring->core);
     free_requests(&ring->requests);
@@ -51,9 +51,19 @@ void free_ring(struct ring *ring)
     unregister_eventfd(ring);
     free(ring->waiting);
     free(ring->timeouts);
+}
+
+void end_ring(struct ring *ring)
+{
     close_trace(ring);
     pthread_mutex_destroy(&ring->lock);
     free(ring);
+}
+
+void free_ring(struct ring *ring)
+{
+    let_go(ring);
+    end_ring(ring);
 }
 
 /* What a set-up asks for, by which rules, and what is so of the ring and of the processor that it names. */

@@ -1,22 +1,24 @@
-/* The program's calls by which a ring's descriptor may be closed: behind one the layer frees the rings that nobody can reach any more, as the kernel does
- * with the last descriptor, so that what they have registered and what waits in them is let go. Any other close costs a look whether the number may be a
+/* The program's calls by which a ring's descriptor may be closed: behind one the rings that nobody can reach any more let go what they have registered and
+ * what waits in them, as the kernel has it with the last descriptor. Any other close costs a look whether the number may be a
  * ring's.
  *
  * A close by a system call of the program's own isn't heard, since no filter can tell a ring's number from others; nor is that of the real
- * liburing, but its io_uring_queue_exit is.
+ * liburing.
+ *
+ * A program may close in a signal's handler, amid malloc or free (signal-safety(7)). So what the layer frees behind a close is kept, and freed when it next
+ * frees anything in a call.
  */
 #define _GNU_SOURCE
 #include "run.h"
 
 #include <dlfcn.h>
 #include <errno.h>
+#include <stdlib.h>
 #include <sys/syscall.h>
 #include <unistd.h>
 
 bool wulgach_may_name_ring(int fd);
 void wulgach_look_for_closed(void);
-
-struct io_uring;
 
 static struct {
     int (*close)(int);
@@ -24,7 +26,6 @@ static struct {
     void (*closefrom)(int);
     int (*dup2)(int, int);
     int (*dup3)(int, int, int);
-    void (*queue_exit)(struct io_uring *);
 } real;
 
 /* (a child of vfork is to find them) */
@@ -35,7 +36,6 @@ __attribute__((constructor)) static void find_real(void)
     *(void **)&real.closefrom = dlsym(RTLD_NEXT, "closefrom");
     *(void **)&real.dup2 = dlsym(RTLD_NEXT, "dup2");
     *(void **)&real.dup3 = dlsym(RTLD_NEXT, "dup3");
-    *(void **)&real.queue_exit = dlsym(RTLD_NEXT, "io_uring_queue_exit");
 }
 
 /* Another library's constructor may be first. */
@@ -45,10 +45,49 @@ static void want_real(void)
         find_real();
 }
 
+/* Whether the thread looks behind a close now. */
+static __thread bool is_behind __attribute__((tls_model("initial-exec")));
+
+/* A block of memory that is to be freed, and the next (malloc's smallest has room for that). */
+struct block {
+    struct block *next;
+};
+
+static struct block *blocks;
+
+static void keep_block(struct block *block)
+{
+    block->next = __atomic_load_n(&blocks, __ATOMIC_RELAXED);
+    while (!__atomic_compare_exchange_n(&blocks, &block->next, block, true, __ATOMIC_RELEASE, __ATOMIC_RELAXED))
+        ;
+}
+
+void __real_free(void *block);
+
+/* Whatever the layer, its library, and this one free goes here. */
+__attribute__((visibility("hidden"))) void __wrap_free(void *block)
+{
+    if (is_behind) {
+        if (block)
+            keep_block(block);
+        return;
+    }
+    __real_free(block);
+    if (!__atomic_load_n(&blocks, __ATOMIC_RELAXED))
+        return;
+    for (struct block *kept = __atomic_exchange_n(&blocks, NULL, __ATOMIC_ACQUIRE), *next; kept; kept = next) {
+        next = kept->next;
+        __real_free(kept);
+    }
+}
+
 static void look_behind(void)
 {
     int kept = errno;
+    bool was_behind = is_behind;
+    is_behind = true;
     wulgach_look_for_closed();
+    is_behind = was_behind;
     errno = kept;
 }
 
@@ -109,11 +148,4 @@ SEEN int dup3(int fd, int number, int flags)
     if (may_be_ring)
         look_behind();
     return result;
-}
-
-SEEN void io_uring_queue_exit(struct io_uring *ring)
-{
-    want_real();
-    real.queue_exit(ring);
-    look_behind();
 }

@@ -1,12 +1,13 @@
 /* A program that is linked with nothing of ours, and does what reaches the layer beside its calls. It is run by uring-run.
  *
- *   apart closes | masks | stacks
+ *   apart closes | handlers | masks | stacks
  *
  * Status 0: all was as it is to be. Else a line says what wasn't.
  */
 #define _GNU_SOURCE
 #include "trapped.h"
 
+#include <dlfcn.h>
 #include <fcntl.h>
 #include <netinet/in.h>
 #include <pthread.h>
@@ -14,6 +15,7 @@
 #include <stdlib.h>
 #include <sys/select.h>
 #include <sys/socket.h>
+#include <sys/time.h>
 #include <sys/wait.h>
 
 static void unmap(const struct ring *ring)
@@ -115,10 +117,12 @@ static void closed_in_a_call(void)
     unmap(&ring);
 }
 
-/* A ring is gone with its last descriptor, however that is closed, and lets go what it has. */
+/* A ring is gone with its last descriptor, however that is closed, and lets go what it has. Liburing's own end of a ring is left to whichever library the
+ * program loads. */
 static void closes(void)
 {
     int read;
+    WANT(dlsym(RTLD_DEFAULT, "io_uring_queue_exit") == NULL);
     close_in_child(999);
     for (int way = 0; way < 4; way++) {
         struct ring ring = holding(&read);
@@ -238,11 +242,54 @@ static void stacks(void)
     WANT(write(small.ends[1], "x", 1) == 1 && pthread_join(thread, NULL) == 0 && byte == 'x');
 }
 
+static volatile int closed_in_handler = -1;
+
+static void close_in_handler(int number)
+{
+    (void)number;
+    if (closed_in_handler >= 0)
+        WANT(close(closed_in_handler) == 0);
+    closed_in_handler = -1;
+}
+
+/* Asks for memory and gives it back until a handler has closed a ring. */
+static void use_memory(void)
+{
+    enum { BLOCKS = 50 };
+    char *blocks[BLOCKS];
+    while (closed_in_handler >= 0) {
+        for (int i = 0; i < BLOCKS; i++)
+            blocks[i] = malloc(100 + (size_t)i * 400);
+        for (int i = 0; i < BLOCKS; i++)
+            free(blocks[i]);
+    }
+}
+
+/* A handler that comes amid malloc or free closes a ring, which lets go what it has. */
+static void handlers(void)
+{
+    struct itimerval timer = {.it_interval.tv_usec = 300, .it_value.tv_usec = 300};
+    sigset_t alarms, own;
+    sigemptyset(&alarms);
+    sigaddset(&alarms, SIGALRM);
+    WANT(signal(SIGALRM, close_in_handler) != SIG_ERR && setitimer(ITIMER_REAL, &timer, NULL) == 0);
+    for (int turn = 0; turn < 3000; turn++) {
+        int read;
+        WANT(sigprocmask(SIG_BLOCK, &alarms, &own) == 0);
+        closed_in_handler = holding(&read).fd;
+        WANT(sigprocmask(SIG_SETMASK, &own, NULL) == 0);
+        use_memory();
+        WANT(!is_held(read) && close(read) == 0);
+    }
+}
+
 int main(int argc, char **argv)
 {
     const char *name = argc > 1 ? argv[1] : "";
     if (strcmp(name, "closes") == 0)
         closes();
+    else if (strcmp(name, "handlers") == 0)
+        handlers();
     else if (strcmp(name, "masks") == 0)
         masks();
     else if (strcmp(name, "stacks") == 0)

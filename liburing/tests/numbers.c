@@ -7,6 +7,7 @@
 #include "engines.h"
 
 #include <fcntl.h>
+#include <pthread.h>
 #include <sys/resource.h>
 #include <sys/socket.h>
 #include <sys/wait.h>
@@ -101,7 +102,7 @@ static void test_many_connections(void)
     close_ring(&ring);
 }
 
-/* No number that the program may have is the layer's. */
+/* No number that the program may have is the layer's, but one of its last, a 32nd of all. */
 static void test_others_numbers(void)
 {
     struct rlimit before;
@@ -112,11 +113,11 @@ static void test_others_numbers(void)
     make_ring(&ring, 4, 0, 0);
     check(write(right, "r", 1) == 1 && write(wrong, "w", 1) == 1);
     check(register_at(ring.fd, IORING_REGISTER_FILES, &right, 1) == 0);
-    for (int number = 512; has_more && number < USUAL; number++)
+    for (int number = 512; has_more && number < USUAL - USUAL / 32; number++)
         check(dup2(wrong, number) == number);
     put_transfer(&ring, IORING_OP_READ, 0, IOSQE_FIXED_FILE, 0, &byte, 1, 0);
     check(result_of_one(&ring, 1) == 1 && byte == 'r');
-    for (int number = 512; has_more && number < USUAL; number++)
+    for (int number = 512; has_more && number < USUAL - USUAL / 32; number++)
         close(number);
     check(setrlimit(RLIMIT_NOFILE, &before) == 0);
     close(right);
@@ -155,6 +156,40 @@ static void test_lower_limit(void)
         close(ends[i][0]);
         close(ends[i][1]);
     }
+}
+
+static _Atomic bool is_watched;
+
+/* How often the limit was another meanwhile. */
+static void *watch_limit(void *wrong)
+{
+    while (is_watched)
+        *(unsigned *)wrong += !is_limited_to(USUAL);
+    return NULL;
+}
+
+/* The limit is the process's: it stays what it is while the layer takes a few numbers again and again. */
+static void test_same_limit(void)
+{
+    enum { TURNS = 20000, FILES = 8 };
+    struct rlimit before;
+    struct ring ring;
+    pthread_t thread;
+    unsigned wrong = 0;
+    int fds[FILES], file = make_file();
+    set_limit(USUAL, &before);
+    make_ring(&ring, 4, 0, 0);
+    for (int i = 0; i < FILES; i++)
+        fds[i] = file;
+    is_watched = true;
+    check(pthread_create(&thread, NULL, watch_limit, &wrong) == 0);
+    for (int i = 0; i < TURNS; i++)
+        check(register_at(ring.fd, IORING_REGISTER_FILES, fds, FILES) == 0 && register_at(ring.fd, IORING_UNREGISTER_FILES, NULL, 0) == 0);
+    is_watched = false;
+    check(pthread_join(thread, NULL) == 0 && wrong == 0);
+    check(setrlimit(RLIMIT_NOFILE, &before) == 0);
+    close(file);
+    close_ring(&ring);
 }
 
 /* Whether another process finds the file locked. */
@@ -201,6 +236,7 @@ int main(int count, char **words)
         {"many connections", test_many_connections},
         {"others' numbers", test_others_numbers},
         {"lower limit", test_lower_limit},
+        {"same limit", test_same_limit},
         {"lock", test_lock},
     };
     alarm((unsigned)(PATIENCE * patience()));

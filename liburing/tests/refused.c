@@ -80,6 +80,13 @@ int __wrap_fcntl(int fd, int command, ...)
     return is_refused("fcntl", EMFILE) ? -1 : __real_fcntl(fd, command, word);
 }
 
+int __real_open(const char *path, int flags, ...);
+int __wrap_open(const char *path, int flags, ...);
+int __wrap_open(const char *path, int flags, ...)
+{
+    return is_refused("open", EMFILE) ? -1 : __real_open(path, flags, 0666);
+}
+
 /* This one isn't refused: but the layer closes no number twice, which may be another file's by then. */
 int __real_close(int fd);
 int __wrap_close(int fd);
