@@ -36,7 +36,7 @@ static bool was_found_before(const struct model *model, const struct request *ca
 static bool is_to_be_found(const struct model *model, const struct request *target)
 {
     bool is_cancel = target->action->code == IORING_OP_ASYNC_CANCEL;
-    return can_start(model, target) && !is_cancel && !target->is_doomed && !target->is_cancelled && !may_have_been_cancelled(model, target);
+    return can_start(model, target) && !is_cancel && !target->is_doomed && !target->may_be_doomed && !target->is_cancelled && !may_have_been_cancelled(model, target);
 }
 
 /* A cancel of one by Linux's rules. */
@@ -57,7 +57,8 @@ static void cancel_by_linux(struct model *model, const struct request *cancel, i
     if (target->is_doomed)
         return;
     bool is_waiting_kind = can_wait(model, target);
-    if (res == -EALREADY ? is_waiting_kind || is_in_order(model) : is_in_order(model) && target < cancel && !is_waiting_kind)
+    bool is_impossible = res == -EALREADY ? is_waiting_kind || is_in_order(model) : is_in_order(model) && target < cancel && !is_waiting_kind;
+    if (is_impossible && !target->may_be_doomed)
         wrong(model, "cancel %u ends with %" PRId32 ", and entry %u %s", cancel->index, res, target->index, is_waiting_kind ? "waits" : "has ended in order");
     target->is_cancelled |= res == 0;
 }
@@ -72,12 +73,14 @@ void cancel(struct model *model, const struct request *cancel, int32_t res)
     if (!target && res == 0 && was_found_before(model, cancel))
         return;
     if (res == -ENOENT) {
-        if (target)
+        if (target && !target->may_be_doomed)
             force(model, target, "isn't found by a cancel");
         return;
     }
     if ((res != 0 && res != -EALREADY) || !target)
         wrong(model, "cancel %u ends with %" PRId32 ", and %s", cancel->index, res, target ? "has a target" : "has no target");
+    /* (the core finds none that is doomed) */
+    note_whole(model, target);
     bool is_waiting_kind = can_wait(model, target);
     /* In order, all that comes before and may start has been started. */
     bool has_started = is_in_order(model) && target < cancel && can_start(model, target);
@@ -117,7 +120,7 @@ void remove_one(struct model *model, const struct request *removal, int32_t res)
             target = request;
     bool is_waiting_kind = target && can_wait(model, target);
     if (res == -ENOENT) {
-        if (is_waiting_kind && can_start(model, target) && !target->is_doomed && !target->is_cancelled && !may_have_been_cancelled(model, target))
+        if (is_waiting_kind && can_start(model, target) && !target->is_doomed && !target->may_be_doomed && !target->is_cancelled && !may_have_been_cancelled(model, target))
             wrong(model, "removal %u doesn't find entry %u", removal->index, target->index);
         return;
     }
@@ -126,7 +129,8 @@ void remove_one(struct model *model, const struct request *removal, int32_t res)
     /* One that is doomed waits for nobody. */
     if (target->is_doomed)
         return;
-    force_before(model, target);
+    if (!target->may_be_doomed)
+        force_before(model, target);
     target->is_cancelled = true;
 }
 
@@ -159,7 +163,7 @@ enum finding { NOT_FOUND, MAY_BE_FOUND, FOUND };
  * that isn't loose has its file only when it runs. */
 static enum finding finding_of(const struct model *model, const struct request *cancel, const struct request *request)
 {
-    bool is_in_turn = request->is_doomed ? can_end(model, request) : can_start(model, request);
+    bool is_in_turn = request->is_doomed ? can_end(model, request) : can_start(model, request) || (request->may_be_doomed && !model->is_linux);
     if (!is_sought(cancel, request) || request->is_cancelled || !is_in_turn)
         return NOT_FOUND;
     bool has_waited = can_wait(model, request), is_one_choice = is_in_order(model) || model->program->is_ends;
@@ -167,7 +171,7 @@ static enum finding finding_of(const struct model *model, const struct request *
     bool is_certain = (has_waited || is_one_choice || request->is_doomed) && has_its_file && !request->may_be_cancelled && !may_have_been_cancelled(model, request);
     /* A cancel that is seen late may have ended before this one was submitted. */
     bool was_there = !model->is_late || request->call <= cancel->call;
-    return is_certain && was_there ? FOUND : MAY_BE_FOUND;
+    return is_certain && was_there && !request->may_be_doomed ? FOUND : MAY_BE_FOUND;
 }
 
 static bool is_of_all(const struct request *cancel)
@@ -267,6 +271,7 @@ void see_message(struct model *model, unsigned index, int32_t res)
             continue;
         if (request->is_doomed || (request->is_ended && !message->is_sent))
             wrong(model, "message %u is shown, and wasn't sent", index);
+        note_whole(sender, request);
         if (!sender->has_overflowed)
             force_before(sender, request);
         message->is_seen = true;

@@ -228,17 +228,19 @@ static int32_t success_of(const struct request *request)
     return is_transfer ? (int32_t)most_of(request->action) : 0;
 }
 
-/* Whether a failure of an operation is a success to links, and is skipped as one is: Linux doesn't mark it, once it is carried out. */
-static bool is_forgiven(const struct model *model, const struct request *request)
+/* Whether a failure of an operation is a success to links, and is skipped as one is: Linux doesn't mark it, once it is carried out. One with a
+ * fault of the program's shows that as if it were, though its descriptor isn't open. */
+static bool is_forgiven(const struct model *model, const struct request *request, int32_t res)
 {
     const struct action *action = request->action;
     bool is_of_kind = action->code == IORING_OP_FSYNC || action->code == IORING_OP_FALLOCATE || action->code == IORING_OP_SYNC_FILE_RANGE;
-    return (model->is_linux || model->is_kernel) && is_of_kind && request->failure == 0 && !is_no_file(model, action);
+    bool has_found_none = res == -EBADF && is_no_file(model, action);
+    return (model->is_linux || model->is_kernel) && is_of_kind && request->failure == 0 && !has_found_none;
 }
 
 static bool is_success(const struct model *model, const struct request *request, int32_t res)
 {
-    if (is_forgiven(model, request))
+    if (is_forgiven(model, request, res))
         return true;
     if (request->action->code == IORING_OP_TIMEOUT)
         return res == -ETIME && request->action->is_success;
@@ -281,7 +283,11 @@ static int listed_fault(const struct model *model, const struct request *request
 
 int32_t unseen_result(const struct model *model, const struct request *request)
 {
-    int fault = is_forgiven(model, request) ? listed_fault(model, request) : NO_FAULT;
+    int fault = is_forgiven(model, request, -EIO) ? listed_fault(model, request) : NO_FAULT;
+    /* (where no descriptor is open, a fault alone is skipped) */
+    bool has_some = model->program->fault_rate && is_no_file(model, request->action) && can_have(model, request, FAULT_EIO);
+    if (fault == NO_FAULT && has_some && is_forgiven(model, request, -EIO))
+        return -EIO;
     return fault == FAULT_EIO ? -EIO : fault == FAULT_ENOSPC ? -ENOSPC : success_of(request);
 }
 
