@@ -149,9 +149,11 @@ static bool is_on_handlers_stack(const struct sleeper *sleeper, const void *here
     return now.ss_flags & SS_ONSTACK || (!(then->ss_flags & SS_DISABLE) && (uintptr_t)here - (uintptr_t)then->ss_sp < then->ss_size);
 }
 
+/* (handlers of a call on a stack of the layer's run there too) */
 static bool is_above(const struct sleeper *sleeper, const void *here)
 {
-    return (uintptr_t)here >= (uintptr_t)sleeper->from && are_on_own_stack(here, sleeper->from) && !is_on_handlers_stack(sleeper, here);
+    bool is_on_layers = sleeper->from != sleeper->place;
+    return (is_on_layers || (uintptr_t)here > (uintptr_t)sleeper->from) && are_on_own_stack(here, sleeper->from) && !is_on_handlers_stack(sleeper, here);
 }
 
 static bool is_left(const struct sleeper *sleeper, const void *here)

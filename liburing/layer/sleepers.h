@@ -19,7 +19,7 @@ struct sleeper {
     struct ring *ring;
     const volatile uint64_t *place;     /* on the call's stack, where this mark stands while the sleep lasts */
     uint64_t mark;
-    const volatile void *from;          /* where its call was made, or this place: a next call of the thread that stands no deeper has left it */
+    const volatile void *from;          /* where its call was made, or this place */
     stack_t for_handlers;       /* the stack on which the thread's handlers ran as it began */
     struct pollfd polled[];     /* what it polls */
 };

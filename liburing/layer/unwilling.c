@@ -1,7 +1,7 @@
 /* That a descriptor isn't to wait is seen by all that share the open file, in this process and in others. So others that the layer runs in may
  * have asked it just now, and may be about to take that back: then a call that goes by it sleeps, or takes it for the application's word. So
  * none does that while another does, which a lock of the process tells (fcntl), of a byte that no file has. One that can't be locked, as a pipe's end
- * that can't be written to, is asked without.
+ * that can't be written to, or that the application has locked there, is asked without.
  */
 #define _GNU_SOURCE
 #include "unwilling.h"

@@ -60,14 +60,14 @@ static uintptr_t caller_of(const ucontext_t *at)
     return (uintptr_t)at->uc_mcontext.gregs[REG_RSP];
 }
 
-/* Whether the call that is on the thread's memory was left by a jump: its handlers run on the layer's memory, and this call is made no deeper
- * on the thread's own stack. */
+/* Whether the call that is on the thread's memory was left by a jump: its handlers run on the layer's memory, and this call is made on the
+ * thread's own stack. */
 static bool is_left(const ucontext_t *at)
 {
     pthread_attr_t attributes;
     void *lowest = NULL;
     size_t size = 0;
-    if (!is_in_use || caller_of(at) < used_from || pthread_getattr_np(pthread_self(), &attributes) != 0)
+    if (!is_in_use || pthread_getattr_np(pthread_self(), &attributes) != 0)
         return false;
     pthread_attr_getstack(&attributes, &lowest, &size);
     pthread_attr_destroy(&attributes);
