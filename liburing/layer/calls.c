@@ -22,6 +22,7 @@
 SEEN long wulgach_syscall(long call, ...);
 SEEN long wulgach_polled_syscall(long call, ...);
 SEEN long wulgach_blocked_enter(const long words[6], const sigset_t *signals);
+SEEN const void *wulgach_note_caller(const void *now);
 SEEN void *wulgach_mmap(void *at, size_t size, int protection, int flags, int fd, off_t offset);
 SEEN int wulgach_close(int fd);
 SEEN bool wulgach_may_name_ring(int fd);
@@ -34,7 +35,7 @@ __attribute__((always_inline)) static inline int forbid_cancellation(void)
     int before;
     pthread_setcancelstate(PTHREAD_CANCEL_DISABLE, &before);
     if (own_sleeps.innermost)
-        before = leave_jumped_sleeps(&before, before);
+        before = leave_jumped_sleeps(caller ? caller : &before, before);
     else
         own_sleeps.cancel_state = before;
     return before;
@@ -126,6 +127,14 @@ long wulgach_polled_syscall(long call, ...)
     long result = call_any(call, arguments, true);
     va_end(arguments);
     return result;
+}
+
+/* Calls of this thread are made from here on, and run on another stack; or, if NULL, where they are made. Returns what stood so before. */
+const void *wulgach_note_caller(const void *now)
+{
+    const void *before = caller;
+    caller = now;
+    return before;
 }
 
 long wulgach_blocked_enter(const long words[6], const sigset_t *signals)

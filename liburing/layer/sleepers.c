@@ -1,6 +1,6 @@
 /* Whether a sleep was left by a jump is seen on the stack. A mark stands there, in the frame of the sleep, while that lasts: if it has
  * changed, the sleep was left. And on the stack that the thread was made with, a handler that comes in a sleep has its frames
- * below: if the next call has its own above, the sleep was left.
+ * below: if the next call has its own above, the sleep was left. Of a call that runs on a stack of the layer's it is told where it was made.
  */
 #define _GNU_SOURCE
 #include "sleepers.h"
@@ -16,6 +16,7 @@
 #include <unistd.h>
 
 __thread struct sleeps own_sleeps;
+__thread const void *caller;
 
 static pthread_key_t key;
 static pthread_once_t once = PTHREAD_ONCE_INIT;
@@ -104,7 +105,7 @@ struct sleeper *begin_sleep(struct ring *ring, size_t most, volatile uint64_t *p
     pthread_setspecific(key, &own_sleeps);
     if (!own_sleeps.innermost)
         note_cancel_type();
-    *sleeper = (struct sleeper){.next = ring->sleepers, .outer = own_sleeps.innermost, .ring = ring, .place = place, .mark = next_mark()};
+    *sleeper = (struct sleeper){.next = ring->sleepers, .outer = own_sleeps.innermost, .ring = ring, .place = place, .mark = next_mark(), .from = caller ? caller : (const volatile void *)place};
     sleeper->wake = made_high(make_eventfd);
     sigaltstack(NULL, &sleeper->for_handlers);
     *place = sleeper->mark;
@@ -148,9 +149,11 @@ static bool is_on_handlers_stack(const struct sleeper *sleeper, const void *here
     return now.ss_flags & SS_ONSTACK || (!(then->ss_flags & SS_DISABLE) && (uintptr_t)here - (uintptr_t)then->ss_sp < then->ss_size);
 }
 
+/* (handlers of a call on a stack of the layer's run there too) */
 static bool is_above(const struct sleeper *sleeper, const void *here)
 {
-    return (uintptr_t)here > (uintptr_t)sleeper->place && are_on_own_stack(here, sleeper->place) && !is_on_handlers_stack(sleeper, here);
+    bool is_on_layers = sleeper->from != sleeper->place;
+    return (is_on_layers || (uintptr_t)here > (uintptr_t)sleeper->from) && are_on_own_stack(here, sleeper->from) && !is_on_handlers_stack(sleeper, here);
 }
 
 static bool is_left(const struct sleeper *sleeper, const void *here)

@@ -19,6 +19,7 @@ struct sleeper {
     struct ring *ring;
     const volatile uint64_t *place;     /* on the call's stack, where this mark stands while the sleep lasts */
     uint64_t mark;
+    const volatile void *from;          /* where its call was made, or this place */
     stack_t for_handlers;       /* the stack on which the thread's handlers ran as it began */
     struct pollfd polled[];     /* what it polls */
 };
@@ -30,6 +31,9 @@ struct sleeps {
 };
 
 extern __thread struct sleeps own_sleeps;
+
+/* Where this thread's stack stood as the call was made that runs on another; or NULL: it runs on that stack. */
+extern __thread const void *caller;
 
 /* Begins a sleep of this thread, which polls so many at most, and whose mark stands at this place; NULL if memory was refused. */
 struct sleeper *begin_sleep(struct ring *ring, size_t most, volatile uint64_t *place);

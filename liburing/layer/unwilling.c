@@ -1,7 +1,7 @@
 /* That a descriptor isn't to wait is seen by all that share the open file, in this process and in others. So others that the layer runs in may
  * have asked it just now, and may be about to take that back: then a call that goes by it sleeps, or takes it for the application's word. So
  * none does that while another does, which a lock of the process tells (fcntl), of a byte that no file has. One that can't be locked, as a pipe's end
- * that can't be written to, is asked without.
+ * that can't be written to, or that the application has locked there, is asked without.
  */
 #define _GNU_SOURCE
 #include "unwilling.h"
@@ -44,40 +44,54 @@ static bool is_of_others(int fd)
     return fcntl(fd, F_GETLK, &lock) >= 0 && lock.l_type != F_UNLCK && !(lock.l_start == PLACE && lock.l_len == 1);
 }
 
-static void lock_file(int fd)
+/* Whether the process has it by a lock of the application's, which ours would take off there. */
+static bool is_of_application(int fd)
 {
-    for (int tries = 0; tries < MOST_TRIES && !set_lock(fd, F_WRLCK) && !is_of_others(fd); tries++) {
+    struct flock lock = {.l_type = F_WRLCK, .l_whence = SEEK_SET, .l_start = PLACE, .l_len = 1};
+    return fcntl(fd, F_OFD_GETLK, &lock) >= 0 && lock.l_type != F_UNLCK && lock.l_pid == getpid();
+}
+
+/* Returns whether it is to be unlocked. */
+static bool lock_file(int fd)
+{
+    if (is_of_application(fd))
+        return false;
+    for (int tries = 0; tries < MOST_TRIES && !is_of_others(fd); tries++) {
+        if (set_lock(fd, F_WRLCK))
+            return true;
         if (tries < HASTY_TRIES)
             sched_yield();
         else
             usleep(PAUSE);
     }
+    return false;
 }
 
-/* A descriptor that is asked, or none, and what its flags are else. */
+/* A descriptor that is asked, or none. */
 struct asked {
-    int fd, flags;
+    int fd;
+    bool is_changed, is_locked;
 };
 
 static struct asked ask_not_to_wait(int fd)
 {
-    struct asked asked = {fd, -1};
+    struct asked asked = {.fd = fd};
     if (fd < 0)
         return asked;
-    lock_file(fd);
-    asked.flags = fcntl(fd, F_GETFL);
-    if (asked.flags >= 0 && !(asked.flags & O_NONBLOCK))
-        fcntl(fd, F_SETFL, asked.flags | O_NONBLOCK);
+    asked.is_locked = lock_file(fd);
+    int flags = fcntl(fd, F_GETFL);
+    asked.is_changed = flags >= 0 && !(flags & O_NONBLOCK) && fcntl(fd, F_SETFL, flags | O_NONBLOCK) >= 0;
     return asked;
 }
 
+/* Other flags stay as whoever has set them meanwhile. */
 static void take_back(struct asked asked)
 {
-    if (asked.fd < 0)
-        return;
-    if (asked.flags >= 0 && !(asked.flags & O_NONBLOCK))
-        fcntl(asked.fd, F_SETFL, asked.flags);
-    set_lock(asked.fd, F_UNLCK);
+    int flags = asked.is_changed ? fcntl(asked.fd, F_GETFL) : -1;
+    if (flags >= 0 && flags & O_NONBLOCK)
+        fcntl(asked.fd, F_SETFL, flags & ~O_NONBLOCK);
+    if (asked.is_locked)
+        set_lock(asked.fd, F_UNLCK);
 }
 
 int32_t make_unwilling_call(const struct wulgach_system_call *call, int fd, int second_fd)
@@ -108,9 +122,10 @@ bool is_unwilling(int fd)
     if (!says_not_to_wait(fd))
         return false;
     lock_unwilling();
-    lock_file(fd);
+    bool is_locked = lock_file(fd);
     bool is_so = says_not_to_wait(fd);
-    set_lock(fd, F_UNLCK);
+    if (is_locked)
+        set_lock(fd, F_UNLCK);
     unlock_unwilling();
     return is_so;
 }

@@ -47,7 +47,10 @@ bool add_filter(const struct sock_fprog *program);
 
 /* Whether a signal came on a stack of its own, which may be small, or on a thread's that is; and calling a function on one that is large. */
 bool wants_own_stack(const ucontext_t *at);
-void call_on_own_stack(const ucontext_t *at, void (*function)(void *), void *argument);
+void call_on_own_stack(ucontext_t *at, void (*function)(void *), void *argument);
+
+/* Tells the layer where the stack stands of a call that runs on another one, or NULL, and returns what it was told before. */
+const void *wulgach_note_caller(const void *now);
 
 /* Goes back to where a call was trapped, with the registers and the mask of signals that stand there. Where that can't be done here
  * it returns, and the handler does. */

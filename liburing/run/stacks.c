@@ -15,9 +15,12 @@
 /* Of a thread's memory the lowest part is for signals, the next for traps, and the last for bypasses. */
 enum { SIGNAL_STACK = 1 << 17, STACK = 1 << 20, WHOLE = SIGNAL_STACK + 2 * STACK };
 
-/* Of a thread: its memory, and whether a trapped call is on it. */
-static __thread char *own;
+/* Of a thread: its memory, and other of as much, where the frame of a trap may stand; whether a trapped call is on it, where that was made, and the program's signal stack then; and the memory of the innermost. */
+static __thread char *own, *spare;
 static __thread bool is_in_use;
+static __thread uintptr_t used_from;
+static __thread stack_t used_before;
+static __thread const char *innermost;
 static pthread_key_t key;
 static pthread_once_t once = PTHREAD_ONCE_INIT;
 
@@ -29,7 +32,9 @@ static void unmap(void *memory)
 /* A thread that ends has none; if it calls behind this, it is trapped, and has another. */
 static void end_thread(void *memory)
 {
-    own = NULL;
+    if (spare)
+        unmap(spare);
+    own = spare = NULL;
     bypass_stack = NONE;
     unmap(memory);
 }
@@ -48,6 +53,50 @@ static char *map(void)
 static bool is_on_signal_stack(const ucontext_t *at)
 {
     return at->uc_stack.ss_size > 0 && (uintptr_t)at - (uintptr_t)at->uc_stack.ss_sp < at->uc_stack.ss_size;
+}
+
+static uintptr_t caller_of(const ucontext_t *at)
+{
+    return (uintptr_t)at->uc_mcontext.gregs[REG_RSP];
+}
+
+/* Whether the call that is on the thread's memory was left by a jump: its handlers run on the layer's memory, and this call is made on the
+ * thread's own stack. */
+static bool is_left(const ucontext_t *at)
+{
+    pthread_attr_t attributes;
+    void *lowest = NULL;
+    size_t size = 0;
+    if (!is_in_use || pthread_getattr_np(pthread_self(), &attributes) != 0)
+        return false;
+    pthread_attr_getstack(&attributes, &lowest, &size);
+    pthread_attr_destroy(&attributes);
+    return caller_of(at) - (uintptr_t)lowest < size && used_from - (uintptr_t)lowest < size;
+}
+
+/* Takes the thread's other memory: handlers of a call on this one would write over the trap's frame. Returns whether there is any. */
+static bool change_memory(void)
+{
+    char *other = spare ? spare : map();
+    if (!other)
+        return false;
+    if (bypass_stack == (uintptr_t)own + WHOLE)
+        bypass_stack = (uintptr_t)other + WHOLE;
+    spare = own;
+    own = other;
+    pthread_setspecific(key, own);
+    return true;
+}
+
+/* The thread's memory is free again, and its signal stack the program's, unless the program has set another since. Until then that is the layer's,
+ * and a trap has its frame there. */
+static void leave(ucontext_t *at)
+{
+    if ((uintptr_t)at - (uintptr_t)own < WHOLE && !change_memory())
+        return;
+    is_in_use = false;
+    if (at->uc_stack.ss_sp == innermost)
+        at->uc_stack = used_before;
 }
 
 /* Whether the thread was made with a small stack. That of the process's first thread grows. */
@@ -117,9 +166,18 @@ void allow_bypass(const ucontext_t *at)
     bypass_stack = !wants_own_stack(at) ? HERE : own ? (uintptr_t)own + WHOLE : NONE;
 }
 
-void call_on_own_stack(const ucontext_t *at, void (*function)(void *), void *argument)
+static void note_use(const ucontext_t *at)
+{
+    is_in_use = true;
+    used_from = caller_of(at);
+    used_before = at->uc_stack;
+}
+
+void call_on_own_stack(ucontext_t *at, void (*function)(void *), void *argument)
 {
     make_own();
+    if (is_left(at))
+        leave(at);
     /* A signal's handler that calls while its thread is in a call has another. */
     bool is_first = own && !is_in_use;
     char *memory = is_first ? own : map();
@@ -128,8 +186,14 @@ void call_on_own_stack(const ucontext_t *at, void (*function)(void *), void *arg
         _exit(125);
     }
     struct task task = {function, argument, {.ss_sp = memory, .ss_size = SIGNAL_STACK}, at->uc_stack};
-    is_in_use |= is_first;
+    if (is_first)
+        note_use(at);
+    const char *outer = innermost;
+    const void *before = wulgach_note_caller((const void *)caller_of(at));
+    innermost = memory;
     call_on(memory + SIGNAL_STACK + STACK, run, &task);
+    innermost = outer;
+    wulgach_note_caller(before);
     if (is_first)
         is_in_use = false;
     else

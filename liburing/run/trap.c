@@ -146,8 +146,11 @@ static void answer(int number, siginfo_t *info, void *context)
     int kept = errno;
     if (wants_own_stack(trapped.at))
         call_on_own_stack(trapped.at, serve_trapped, &trapped);
-    else
+    else {
+        const void *before = wulgach_note_caller(NULL);
         serve_trapped(&trapped);
+        wulgach_note_caller(before);
+    }
     errno = kept;
     leave_trap(trapped.at);
 }

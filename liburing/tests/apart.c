@@ -1,6 +1,6 @@
 /* A program that is linked with nothing of ours, and does what reaches the layer beside its calls. It is run by uring-run.
  *
- *   apart closes | handlers | masks | stacks
+ *   apart closes | handlers | jumps | masks | stacks
  *
  * Status 0: all was as it is to be. Else a line says what wasn't.
  */
@@ -11,6 +11,7 @@
 #include <fcntl.h>
 #include <netinet/in.h>
 #include <pthread.h>
+#include <setjmp.h>
 #include <signal.h>
 #include <stdlib.h>
 #include <sys/select.h>
@@ -283,6 +284,69 @@ static void handlers(void)
     }
 }
 
+static sigjmp_buf behind_sleep;
+
+static void jump_in_handler(int number)
+{
+    (void)number;
+    siglongjmp(behind_sleep, 1);
+}
+
+static volatile sig_atomic_t has_left;
+
+/* Sleeps that are left by a jump, each of which the next call notices; then the thread waits to be cancelled. */
+static void *jump_and_wait(void *of)
+{
+    static volatile int jumps;
+    stack_t signals;
+    if (sigsetjmp(behind_sleep, 1) != 0)
+        jumps++;
+    if (jumps < 3)
+        enter(of, 0, 1, NULL);
+    WANT(enter(of, 0, 0, NULL) == 0);
+    WANT(sigaltstack(NULL, &signals) == 0);
+    WANT(signals.ss_flags & SS_DISABLE);
+    has_left = 1;
+    for (;;)
+        pause();
+    return NULL;
+}
+
+static int count_descriptors(void)
+{
+    int count = 0;
+    for (int fd = 0; fd < 65536; fd++)
+        count += fcntl(fd, F_GETFD) >= 0;
+    return count;
+}
+
+/* A thread with a small stack leaves sleeps by a jump: its ring has no descriptor of theirs any more, and it can be cancelled. */
+static void jumps(void)
+{
+    const struct sigaction action = {.sa_handler = jump_in_handler};
+    static struct ring ring;
+    pthread_attr_t attributes;
+    pthread_t thread;
+    struct timespec until;
+    int ends[2];
+    WANT(sigaction(SIGUSR1, &action, NULL) == 0 && pipe(ends) == 0);
+    ring = set_up(0);
+    publish(&ring, (struct io_uring_sqe){.opcode = IORING_OP_POLL_ADD, .fd = ends[0], .poll32_events = POLLIN});
+    WANT(enter(&ring, 1, 0, NULL) == 1);
+    int before = count_descriptors();
+    WANT(pthread_attr_init(&attributes) == 0 && pthread_attr_setstacksize(&attributes, 65536) == 0);
+    WANT(pthread_create(&thread, &attributes, jump_and_wait, &ring) == 0);
+    for (int i = 0; i < 3; i++) {
+        usleep(50000);
+        WANT(pthread_kill(thread, SIGUSR1) == 0);
+    }
+    while (!has_left)
+        usleep(1000);
+    WANT(clock_gettime(CLOCK_REALTIME, &until) == 0 && pthread_cancel(thread) == 0);
+    until.tv_sec += 5;
+    WANT(pthread_timedjoin_np(thread, NULL, &until) == 0 && count_descriptors() <= before + 1);
+}
+
 int main(int argc, char **argv)
 {
     const char *name = argc > 1 ? argv[1] : "";
@@ -294,6 +358,8 @@ int main(int argc, char **argv)
         masks();
     else if (strcmp(name, "stacks") == 0)
         stacks();
+    else if (strcmp(name, "jumps") == 0)
+        jumps();
     else
         return 2;
     return 0;

@@ -8,6 +8,7 @@
 #include "watched.h"
 
 #include <poll.h>
+#include <stdarg.h>
 #include <sys/eventfd.h>
 #include <sys/prctl.h>
 
@@ -15,11 +16,11 @@
 static int shared = -1;
 static unsigned until_taken;
 
-/* Whether this is that file, by whichever descriptor. */
-static bool is_shared(int fd)
+/* Whether a descriptor is of this file, by whichever descriptor. */
+static bool is_of(int fd, int file)
 {
     struct stat one, other;
-    return shared >= 0 && fstat(fd, &one) == 0 && fstat(shared, &other) == 0 && one.st_dev == other.st_dev && one.st_ino == other.st_ino;
+    return file >= 0 && fstat(fd, &one) == 0 && fstat(file, &other) == 0 && one.st_dev == other.st_dev && one.st_ino == other.st_ino;
 }
 
 static void take(void)
@@ -39,8 +40,24 @@ int __wrap_poll(struct pollfd *polled, nfds_t count, int patience)
 {
     int result = __real_poll(polled, count, patience);
     for (nfds_t i = 0; result > 0 && i < count; i++)
-        if (polled[i].revents & POLLIN && is_shared(polled[i].fd) && until_taken-- == 0)
+        if (polled[i].revents & POLLIN && is_of(polled[i].fd, shared) && until_taken-- == 0)
             take();
+    return result;
+}
+
+/* A descriptor whose flags another thread changes while it is asked not to wait. Or -1. */
+static int appended = -1;
+
+int __real_fcntl(int fd, int code, ...);
+int __wrap_fcntl(int fd, int code, ...)
+{
+    va_list arguments;
+    va_start(arguments, code);
+    long argument = va_arg(arguments, long);
+    va_end(arguments);
+    int result = __real_fcntl(fd, code, argument);
+    if (code == F_SETFL && is_of(fd, appended) && argument & O_NONBLOCK)
+        check(__real_fcntl(fd, F_SETFL, argument | O_APPEND) == 0);
     return result;
 }
 
@@ -235,6 +252,39 @@ static void test_no_room(void)
     close_ring(&ring);
 }
 
+static bool is_locked_whole(int fd)
+{
+    int status;
+    pid_t child = fork();
+    if (child == 0) {
+        struct flock lock = {.l_type = F_WRLCK, .l_whence = SEEK_SET, .l_start = (off_t)1 << 62, .l_len = 1};
+        _exit(fcntl(fd, F_GETLK, &lock) == 0 && lock.l_type == F_WRLCK && lock.l_start == 0 && lock.l_len == 0);
+    }
+    check(child > 0 && waitpid(child, &status, 0) == child);
+    return status != 0;
+}
+
+/* What the application has set of a file stays: its lock of the whole, while no copy is closed, and flags that another thread sets amid a call. */
+static void test_kept(void)
+{
+    struct ring ring;
+    char name[] = "/tmp/unwilling-XXXXXX", byte;
+    struct flock whole = {.l_type = F_WRLCK, .l_whence = SEEK_SET};
+    check(mkdtemp(name) && chdir(name) == 0 && mkfifo("fifo", 0600) == 0);
+    int both = open("fifo", O_RDWR);
+    check(fcntl(both, F_SETLK, &whole) == 0 && is_locked_whole(both) && write(both, "x", 1) == 1);
+    make_ring(&ring, 8, 0, 0);
+    check(wulgach_syscall(SYS_io_uring_register, ring.fd, IORING_REGISTER_FILES, &both, 1) == 0);
+    put_transfer(&ring, IORING_OP_READ, 0, IOSQE_FIXED_FILE, 0, &byte, 1, -1);
+    check(enter(&ring, 1, 0, 0) == 1 && next_of(&ring).res == 1 && is_locked_whole(both));
+    appended = both;
+    put_transfer(&ring, IORING_OP_WRITE, 0, 0, both, "x", 1, -1);
+    check(enter(&ring, 1, 0, 0) == 1 && next_of(&ring).res == 1);
+    check((fcntl(both, F_GETFL) & (O_APPEND | O_NONBLOCK)) == O_APPEND);
+    check(unlink("fifo") == 0 && rmdir(name) == 0);
+    close_ring(&ring);
+}
+
 int main(int count, char **words)
 {
     static const struct named tests[] = {
@@ -243,6 +293,7 @@ int main(int count, char **words)
         {"splices", test_splices},
         {"wills", test_wills},
         {"no room", test_no_room},
+        {"kept", test_kept},
     };
     return run_all_watched(tests, sizeof tests / sizeof *tests, count > 1 ? words[1] : NULL);
 }
