@@ -100,7 +100,9 @@ void note_issuable_behind(struct ring *ring, const struct request *ended, int32_
 {
     if (wulgach_lets_others_start(ring->is_linux, told < 0, ended->mapping == CANCEL))
         forget_all(ring);
-    struct request *next = ring->knows_issuable ? request_or_none(&ring->requests, ended->number + 1) : NULL;
+    /* (one between the two may have ended before, which a cancel has found) */
+    size_t place = count_before(&ring->requests, ended->number + 1);
+    struct request *next = ring->knows_issuable && place < ring->requests.count ? ring->requests.rows[place] : NULL;
     if (next && !next->course.has_started && !request_or_none(&ring->issuable, next->number) && can_issue(ring, next->number))
         insert_request(&ring->issuable, next);
 }

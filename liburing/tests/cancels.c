@@ -216,6 +216,31 @@ static void test_cancels_of_any(void)
     close_ring(&ring);
 }
 
+/* By the manual pages' rules a cancel ends a member in the middle of a chain before the one in front of it has ended; once that has, the one behind
+ * starts. */
+static void test_cancelled_middle(void)
+{
+    struct ring ring;
+    int32_t results[4];
+    int ends[2];
+    char byte;
+    check(pipe(ends) == 0);
+    make_ring(&ring, 8, 0, 0);
+    put_transfer(&ring, IORING_OP_READ, 0, IOSQE_IO_HARDLINK, ends[0], &byte, 1, 0);
+    put(&ring, IORING_OP_NOP, 1, IOSQE_IO_HARDLINK);
+    put(&ring, IORING_OP_NOP, 2, 0);
+    check(enter(&ring, 3, 0, 0) == 3);
+    put(&ring, IORING_OP_ASYNC_CANCEL, 3, 0)->addr = 1;
+    check(enter(&ring, 1, 1, IORING_ENTER_GETEVENTS) == 1);
+    check(write(ends[1], "a", 1) == 1);
+    reap_all(&ring, 4, results);
+    check(results[0] == 1 && results[2] == 0);
+    check(is_by_manual() ? results[1] == -ECANCELED && results[3] == 0 : results[1] == 0 && results[3] == -ENOENT);
+    close(ends[0]);
+    close(ends[1]);
+    close_ring(&ring);
+}
+
 /* The completion of a timeout that is removed counts for another. */
 static void test_count_of_removed(void)
 {
@@ -294,6 +319,7 @@ int main(int count, char **words)
         {"cancels", test_cancels},
         {"cancels of any", test_cancels_of_any},
         {"cancel by an unused descriptor", test_cancel_by_unused_descriptor},
+        {"cancelled middle", test_cancelled_middle},
         {"count of removed", test_count_of_removed},
         {"updated clock", test_updated_clock},
         {"awaited", test_awaited},
