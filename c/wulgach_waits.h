@@ -303,8 +303,8 @@ enum wulgach_try {
 };
 
 /* Returns what is next of a transfer (enum wulgach_try), behind what was done last, which came to `res`, and writes what it ends with, if it
- * ends. `last` is 0 at first; behind WULGACH_TRY_FINDS the transfer is as was found, and `res` that of the call before. No call is made that
- * may sleep, whoever else uses its descriptor; a transfer ends with what the last call came to, or with its fault; and what a stream gave is told. */
+ * ends. `last` is 0 at first; behind WULGACH_TRY_FINDS the transfer is as was found, and `res` that of the call before. Each call is
+ * asked not to wait, by itself or by its descriptor; a transfer ends with what the last call came to, or with its fault; and what a stream gave is told. */
 uint32_t wulgach_transfer_next(const struct wulgach_transfer *transfer, uint32_t last, int32_t res, int32_t *end);
 
 /* ---- what becomes of an operation of sockets, of a splice and of a poll ---- */
