@@ -49,12 +49,21 @@ enum wulgach_by {
     WULGACH_BY_PROVISION = 17,          /* buffers are provided, */
     WULGACH_BY_PROVISION_REMOVAL = 18,  /* or removed */
     WULGACH_BY_MESSAGE = 19,            /* a message to a ring */
-    WULGACH_BY_OTHERS = 20              /* a cancel, or a removal or an update of another request */
+    WULGACH_BY_CANCEL = 20,             /* a cancel of other requests, */
+    WULGACH_BY_POLL_REMOVAL = 21,       /* the removal or the update of a poll, */
+    WULGACH_BY_TIMEOUT_REMOVAL = 22     /* or of a timeout */
+};
+
+/* A list of descriptors, whose files are put into slots. */
+struct wulgach_listed {
+    uint64_t address;   /* where the first stands */
+    uint32_t count;
 };
 
 struct wulgach_means {
     uint32_t kind;                      /* enum wulgach_by */
     uint32_t slot;                      /* counts from 0, but where it is named as an entry does; 0 of the others */
+    struct wulgach_listed listed;       /* of what puts files into slots; zeros of the others */
     struct wulgach_system_call call;    /* zeros of what makes none */
 };
 
@@ -83,6 +92,11 @@ bool wulgach_asks_descriptors(uint8_t code);
 /* Whether an end of a splice is asked so: no pipe, and no regular file, which never waits. Our own rule. */
 bool wulgach_asks_end(bool is_pipe, bool is_regular);
 
+/* Writes with which flags a descriptor of this access mode (O_ACCMODE), a pipe's end or not, is opened once more, by its name in /proc, for a call
+ * that has no flag by which it is asked not to wait: a pipe's end that can only be read, which no lock keeps from others. False, and nothing is
+ * written: it is asked itself, by O_NONBLOCK. Our own rule. */
+bool wulgach_asks_anew(bool is_pipe, uint32_t access, uint32_t *flags);
+
 /* Whether an operation of this code, which opens a path with these flags, is asked not to wait (O_NONBLOCK), which is taken back from the file: of
  * OPENAT and OPENAT2, but of a path alone and of a folder, and where the flags say so themselves. */
 bool wulgach_asks_opening(uint8_t code, uint64_t flags);
@@ -106,6 +120,12 @@ bool wulgach_has_begun(int32_t came_to);
  * what that ends with, where they could be told, or had not to be; or couldn't: -14 (EFAULT), though the message is gone. */
 bool wulgach_tells_message(const struct wulgach_submission *entry, int32_t came_to);
 int32_t wulgach_told_result(int32_t came_to, bool is_told);
+
+/* Whether it matters behind a call of this entry, which was asked not to wait and came to this, whether its socket was shut down for reading
+ * (shutdown(2)): behind -11 (EAGAIN) of a read or a receive that may wait, and doesn't go on. And what that counts as where it was: 0, since no
+ * datagram comes any more. A stream's call comes to 0 by itself. */
+bool wulgach_asks_shut(const struct wulgach_submission *entry, int32_t came_to);
+int32_t wulgach_shut_result(int32_t came_to, bool is_shut);
 
 /* Returns what a file ends with that was put into this slot, where its entry asked for that one or, by 2^32 - 1
  * (IORING_FILE_INDEX_ALLOC), for any: the slot of one that asked for any, else 0. */
@@ -152,10 +172,12 @@ struct wulgach_synced_kind {
 bool wulgach_counts_as_synced(const struct wulgach_openness *openness, const struct wulgach_synced_kind *kind);
 
 /* Whether SIGXFSZ may have come of an operation that ended with this: of a write, FALLOCATE or SPLICE, with -27 (EFBIG). In a kernel a worker of
- * its own has the signal, and the program gets none. Whether it may have come at all, where this is the greatest length that the process may give
+ * its own has the signal, and the program gets none. Whether SIGPIPE may have come so: of a splice or a tee, or of a write that IOSQE_ASYNC gives to
+ * a worker, with -32 (EPIPE). Whether SIGXFSZ may have come at all, where this is the greatest length that the process may give
  * a file (getrlimit(2), RLIMIT_FSIZE), if that is known: unless it is 2^64 - 1 (RLIM_INFINITY), or isn't known. And whether a signal that was taken
  * is the call's, by its code (si_code), and by whether this process is told as its sender (si_pid): another is to be pending again. */
 bool wulgach_may_signal(const struct wulgach_submission *entry, int32_t res);
+bool wulgach_may_break(const struct wulgach_submission *entry, int32_t res);
 bool wulgach_is_limited(bool knows, uint64_t most);
 bool wulgach_is_signal_of_call(int32_t code, bool is_own);
 

@@ -37,7 +37,7 @@ struct wulgach_outstanding {
     bool is_cancelled;  /* a cancel has chosen it before */
     bool runs;          /* it has started */
     bool is_stream;     /* it may have to wait for its descriptor */
-    bool may_start;     /* of one that doesn't run: it could start now */
+    bool may_start;     /* of one that doesn't run: it could start now, and isn't taken behind the cancel (wulgach_is_taken_behind) */
 };
 
 /* An entry of the submission ring: see wulgach_form.h. */
@@ -46,6 +46,11 @@ struct wulgach_submission;
 /* Writes what is looked for by the entry of a cancel, or of a removal. If that is a registered file, `fd` is its slot, and `file` is 0: the
  * caller's to write. */
 void wulgach_sought_of(const struct wulgach_submission *entry, struct wulgach_sought *sought);
+
+/* Writes what is looked for by a call of io_uring_register(2) that cancels (wulgach_register.h): what the entry of a cancel looks for that has
+ * its user data, descriptor and flags. Of its slot the same holds. */
+struct wulgach_cancel_form;
+void wulgach_sought_by_call(const struct wulgach_cancel_form *form, struct wulgach_sought *sought);
 
 /* Whether user data is looked for. Then a cancel passes over each request that has other, so that it need be shown those alone that have its own. */
 bool wulgach_goes_by_user_data(const struct wulgach_sought *sought);
@@ -56,6 +61,10 @@ int32_t wulgach_seeking_fault(const struct wulgach_sought *sought, bool is_there
 
 /* Whether a request that runs waits for something: for its descriptor, or as a timeout. A cancel ends no other. */
 bool wulgach_is_waiting(const struct wulgach_outstanding *request);
+
+/* Whether a kernel takes the entry of the request `number` only behind the cancel `cancel`, which is carried out as its own is taken: it was
+ * submitted behind it, and the cancel is behind no link, and doesn't drain. */
+bool wulgach_is_taken_behind(uint64_t cancel, bool is_linked, bool drains, uint64_t number);
 
 /* A cancel that looks at requests, the oldest first. It is the caller's memory, and its fields are the library's. */
 struct wulgach_cancel {
@@ -69,8 +78,8 @@ void wulgach_cancel_begin(struct wulgach_cancel *cancel, const struct wulgach_so
 /* Whether it matters to the cancel if the next request, which doesn't run, could start now. If not, may_start may be anything. */
 bool wulgach_cancel_asks(const struct wulgach_cancel *cancel, const struct wulgach_outstanding *request);
 
-/* Looks at the next request, and says whether it is cancelled: it fits, it is no cancel itself, none has chosen it before, and it waits for
- * something or could start now; and the cancel is of all, or has found none before. */
+/* Looks at the next request, and says whether it is cancelled: it fits, it is neither a cancel itself nor a timeout that is linked behind a
+ * request, none has chosen it before, and it waits for something or could start now; and the cancel is of all, or has found none before. */
 bool wulgach_cancel_sees(struct wulgach_cancel *cancel, const struct wulgach_outstanding *request);
 
 /* What the cancel ends with, once it has looked at all: how many it has cancelled, or of one 0, or -2 (ENOENT) if there was none. */
@@ -88,12 +97,16 @@ struct wulgach_search {
 /* A search for this user data, which hasn't looked at any. */
 void wulgach_search_begin(struct wulgach_search *search, uint64_t user_data);
 
-/* Looks at the next running request, and says whether it is to be cancelled: it is the oldest of this user data, no cancel has chosen it,
- * and it waits for something. */
+/* Looks at the next running request, and says whether it is to be cancelled: it is the oldest of this user data, but cancels and timeouts that
+ * are linked behind a request, no cancel has chosen it, and it waits for something. */
 bool wulgach_search_sees(struct wulgach_search *search, const struct wulgach_outstanding *request);
 
 /* Whether the one that was found is cancelled, by this cancel or another. */
 bool wulgach_search_has_cancelled(const struct wulgach_search *search);
+
+/* What the core has found that has ended the cancel so, once all that run were looked at: -2 (ENOENT) in the place of -114 (EALREADY) if, by
+ * Linux's rules, none of them is one that a cancel finds. */
+int32_t wulgach_search_found_by_core(const struct wulgach_search *search, int32_t res, bool linux_rules);
 
 /* ---- updates ---- */
 
@@ -121,24 +134,12 @@ struct wulgach_linked {
  * update ends with -2 (ENOENT). */
 bool wulgach_updates_linked(uint64_t user_data, const struct wulgach_linked *seen);
 
-/* What an update may change of a poll. */
-struct wulgach_poll {
-    uint64_t user_data;
-    uint32_t events;
-};
+/* Changes a poll's entry as this one updates it: its user data, its events or both. Whether it goes on stays as it is. */
+void wulgach_updated_poll(struct wulgach_submission *poll, const struct wulgach_submission *update);
 
-/* Changes a poll as this entry updates it. Whether it goes on stays as it is. */
-void wulgach_updated_poll(struct wulgach_poll *poll, const struct wulgach_submission *entry);
-
-/* What an update may change of a timeout, beside its time. */
-struct wulgach_terms {
-    uint64_t count;     /* how many completions it counts; 0: none */
-    uint32_t flags;     /* IORING_TIMEOUT_.., as its entry has them */
-};
-
-/* Changes the terms of a timeout as this entry updates it: whether the new time is absolute is the update's, and its clock stays; it has no
- * count any more, be it one that has started or not. */
-void wulgach_updated_terms(struct wulgach_terms *terms, const struct wulgach_submission *entry);
+/* Changes a timeout's entry as this one updates it: whether the new time is absolute is the update's, and its clock stays; it has no count any
+ * more, be it one that has started or not. */
+void wulgach_updated_timeout(struct wulgach_submission *timeout, const struct wulgach_submission *update);
 
 #ifdef __cplusplus
 }

@@ -66,8 +66,19 @@ bool wulgach_course_end(struct wulgach_course *course);
  * copied. False, and nothing is written: it has none, since no completion may be posted before its end. */
 bool wulgach_notice_of(bool reports, bool may_post, int32_t *res);
 
-/* Whether the update of a poll begins it afresh, so that what is there already is told: if it runs. */
-bool wulgach_course_begins_afresh(const struct wulgach_course *course);
+/* What the update of a poll does with it. */
+enum wulgach_changing {
+    WULGACH_CHANGING_ROUSES = 0,    /* it is dormant no more, */
+    WULGACH_CHANGING_DELISTS = 1,   /* no epoll instance of the ring's has its descriptor, */
+    WULGACH_CHANGING_CHANGES = 2,   /* and it gets what the update names; */
+    WULGACH_CHANGING_UNWATCHES = 3, /* its own instance, which was asked for its events so far, is watched no more, */
+    WULGACH_CHANGING_ASKS = 4,      /* it asks for its events, */
+    WULGACH_CHANGING_LOOKS = 5      /* and its descriptor is looked at */
+};
+
+/* The bit 1 << STEP of each of these steps, which are done by rising bits: the first three, and the others if the poll runs. Then it is begun
+ * afresh, so that what is there already is told. */
+uint32_t wulgach_course_steps_at_update(const struct wulgach_course *course);
 
 /* Whether a cancel by io_uring_register(2) waits for a request. */
 enum wulgach_awaited {

@@ -83,19 +83,22 @@ struct wulgach_enter {
     bool took_all;
 };
 
-/* What is looked at of a call, or done, before it is carried out; and that it is. */
+/* What is looked at of a call, or done, before it is carried out. Of one that passes: what is done of it, a set of bits, which are done by rising bits. */
 enum wulgach_passage {
     WULGACH_CHECKS_NUMBER = 0,      /* the number under which the thread has registered the ring */
     WULGACH_CHECKS_DESCRIPTOR = 1,  /* the descriptor: whether it is a ring's */
     WULGACH_COUNTS_CALL = 2,        /* it counts among the calls on its ring */
     WULGACH_CHECKS_CALLER = 3,      /* who calls: whether the ring is enabled, and the thread may */
     WULGACH_CHECKS_ARGUMENT = 4,    /* the argument and its count */
-    WULGACH_PASSES = 5,             /* it is carried out */
-    WULGACH_AT_FIRST = 6            /* nothing was done */
+    WULGACH_AT_FIRST = 6,           /* nothing was done */
+    WULGACH_HAS_STRUCTURE = 8,      /* its last argument is taken for a structure of a mask and a time, and no mask alone */
+    WULGACH_BEGINS_CALL = 16,       /* what any call does as it begins */
+    WULGACH_MAKES_CALL = 32,        /* it is carried out */
+    WULGACH_RETURNS_CALL = 64       /* what any call does as it returns, whatever it came to */
 };
 
-/* Returns what comes next of a call of io_uring_enter(2) with these flags (enum wulgach_passage), behind `last`, which came to `res`, 0 at first; or the
- * error with which it is refused. -22 of a flag that isn't served comes first: IORING_ENTER_GETEVENTS, _SQ_WAKEUP, _SQ_WAIT, _EXT_ARG and _REGISTERED_RING
+/* Returns what comes next of a call of io_uring_enter(2) with these flags (enum wulgach_passage), behind `last`, which came to `res`, 0 at first: what is
+ * looked at; or the steps of one that passes, the last three, and the first with IORING_ENTER_EXT_ARG; or the error with which it is refused, and then nothing is done besides. -22 of a flag that isn't served comes first: IORING_ENTER_GETEVENTS, _SQ_WAKEUP, _SQ_WAIT, _EXT_ARG and _REGISTERED_RING
  * are. With the last the ring is named by a number, which is looked at before the descriptor for which it stands. A call counts once its ring is
  * found, whoever calls, by which an eventfd is told of what has ended in a later one. */
 int32_t wulgach_entering_next(uint32_t flags, uint32_t last, int32_t res);
@@ -160,6 +163,10 @@ struct wulgach_resting {
 /* What it does before it is decided whether it sleeps: files are found, what runs, or was accepted, keeps them, and where requests run, or pipes are watched,
  * pipes are, unless it is to fail with a fault. */
 uint32_t wulgach_duties_before_sleep(const struct wulgach_resting *resting, bool has_fault);
+
+/* What it does where nothing can go on, if the ring has an eventfd: what has ended is shown, of which that is told, since a request may wait for it;
+ * but where this was done since the call began or last slept. */
+uint32_t wulgach_duties_when_stuck(const struct wulgach_resting *resting, bool has_eventfd, bool has_shown);
 
 /* What it does as it falls asleep: where more wait than are looked at in passing, requests become dormant; what has ended is shown, and a descriptor
  * that polls tells of it. */
@@ -378,6 +385,27 @@ bool wulgach_lets_others_start(bool linux_rules, bool has_failed, bool is_cancel
 /* Whether a completion that belongs to no end of a request may be posted, where so many positions are staged and not taken: none is, and, but by Linux's rules, nothing
  * that drains is outstanding; and there is memory for it. */
 bool wulgach_drains_may_post(const struct wulgach_drains *drains, uint64_t staged, bool linux_rules, bool has_memory);
+
+/* ---- behind a completion that was put off ---- */
+
+/* What is to come in a ring. */
+enum wulgach_coming {
+    WULGACH_SUBMISSION_COMES = 0,   /* entries are submitted */
+    WULGACH_POSTING_COMES = 1,      /* a completion is posted that belongs to no end of a request */
+    WULGACH_END_COMES = 2           /* a request ends that isn't carried out any more, since a cancel has found it */
+};
+
+/* Whether it comes. */
+enum wulgach_order {
+    WULGACH_COMES_NOW = 0,
+    WULGACH_POSTS_FIRST = 1,    /* the core is given before what was put off */
+    WULGACH_WAITS_BEHIND = 2    /* not while memory is refused: a submission ends as wulgach_refusal_fault says */
+};
+
+/* Returns whether this comes now (enum wulgach_coming, enum wulgach_order), where a completion that the core was given, and refused memory for, is put off,
+ * or none is; and memory was refused for it again just before, or wasn't. Where none is put off, what comes does so now. Else the core is given that
+ * once more; and if memory is refused still, only an end comes. So nothing is submitted or posted until it is posted. Our own rule. */
+uint32_t wulgach_order_behind(uint32_t what, bool is_put_off, bool is_refused);
 
 #ifdef __cplusplus
 }

@@ -224,11 +224,13 @@ struct wulgach_receiver {
     bool is_disabled;   /* or one that was set up disabled, and isn't enabled */
 };
 
-/* What a message does. */
+/* What is done for a message: a set of bits, which are done by rising bits until a step fails, with whose fault it ends. */
 enum wulgach_sending {
     WULGACH_SENDS_NOTHING = 0,  /* it ends with an error */
-    WULGACH_SENDS_DATA = 1,     /* it ends with 0 */
-    WULGACH_SENDS_FILE = 2      /* a registered file is passed to the other ring's table: it ends with what comes of that */
+    WULGACH_HAS_MESSAGE = 1,    /* there is memory for what the other ring is told: else -12 */
+    WULGACH_FINDS_FILE = 2,     /* a registered file is looked for in the sender's own slot: else -9 */
+    WULGACH_PASSES_FILE = 4,    /* it is passed to the other ring's table: the message ends with what comes of that, else with 0 */
+    WULGACH_TELLS_RING = 8      /* the other ring is told, if it is to be (wulgach_told_of) */
 };
 
 /* A completion that is posted to another ring. */
@@ -242,7 +244,8 @@ struct wulgach_message {
  * registered (io_uring_register(2), IORING_REGISTER_FILES). */
 bool wulgach_may_be_ring(const struct wulgach_submission *entry);
 
-/* Returns what a message to this ring does (enum wulgach_sending), and writes its error, or 0. The first of these counts: -9 (EBADF) to what
+/* Returns what is done for a message to this ring (enum wulgach_sending), and writes its error, or 0: with data all but a file's step, with a file
+ * all, so that none is passed of which the other ring can't be told. The first of these errors counts: -9 (EBADF) to what
  * isn't open; -77 (EBADFD) to what is no ring; -22 (EINVAL) of data with what belongs to files (`addr3`, IORING_MSG_RING_CQE_SKIP, and
  * without IORING_MSG_RING_FLAGS_PASS `file_index`), of a file with a length or to the sender itself, and of what is neither; -77 to a ring
  * that is disabled. Of `addr` and `addr3` 32 bits count. */
@@ -256,6 +259,10 @@ bool wulgach_told_of(const struct wulgach_submission *entry, int32_t res, struct
  * ring, before anything goes on there; and by who has left such a call or has sent a message, as long as there are others and nobody is in one. Our own
  * rule. */
 bool wulgach_posts_message(bool is_there, bool may_post);
+
+/* Whether a ring that another thread may have sent messages to is visited by who can have its lock, and once more behind each visit: messages are there,
+ * and the last visit has left none (as before the first), or one that could be posted as it ended. Our own rule. */
+bool wulgach_visits_again(bool is_there, bool was_left, bool could_post);
 
 /* What the sender of a message does behind it. */
 enum wulgach_visit {

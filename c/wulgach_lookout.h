@@ -71,7 +71,7 @@ struct wulgach_pipe_poll {
     uint32_t watch;             /* by what number writes to its pipe are told; 0: it has none */
     uint32_t events;            /* what a poll waits for, as poll(2) has it */
     bool is_poll;
-    bool is_of_pipe;            /* its descriptor is a pipe's */
+    bool is_of_pipe;            /* its descriptor is a pipe's, which can be read by it */
     bool is_cancelled;          /* a cancel has found it */
 };
 
@@ -179,6 +179,9 @@ uint32_t wulgach_glance_of(bool is_impatient, bool is_of_many, int32_t came, uin
 /* The instance has told that its descriptor is ready, by which it is dormant no more: it counts as seen ready, and threads that sleep are woken. */
 void wulgach_waiter_is_told_ready(struct wulgach_waiter *waiter, struct wulgach_lookout *lookout);
 
+/* Whether the instance takes the descriptor of a request that is to be dormant: its file is kept, or it is that of an instance of the request's own. */
+bool wulgach_instance_takes(bool keeps_file, bool has_own);
+
 enum wulgach_instance_answer {
     WULGACH_INSTANCE_IS_DONE = 0,   /* it has told all */
     WULGACH_INSTANCE_ASKS = 1,      /* it is asked again */
@@ -227,9 +230,10 @@ uint32_t wulgach_duties_behind_end(bool has_file, bool has_instance, bool is_str
 /* Whether a request keeps its file before a close is carried out: it was accepted before the close, and is on the descriptor that this closes. */
 bool wulgach_keeps_before_close(uint64_t number, int32_t fd, uint64_t closing, int32_t closed);
 
-/* Whether the end of a request may close the last descriptor of a file that it keeps, if it keeps one: it is a slot's, or the number that its entry
- * names isn't open on the same file. */
-bool wulgach_may_close_last(bool has_file, bool is_of_slot, bool is_same);
+/* Whether others are looked at again behind the end of a request, of which so many run: the end has closed a descriptor, and that may have been the last
+ * one of a file that the request has kept, if it has kept one. It was a slot's, or the number that the entry names isn't open on the same file: `is_same`
+ * matters only if others run, and to a file that isn't a slot's. */
+bool wulgach_may_close_last(uint64_t others, bool was_closed, bool has_file, bool is_of_slot, bool is_same);
 
 /* Whether it is asked, as a copy of a file's descriptor is to be closed that nobody needs, if the process has locks on the file: of a regular one.
  * Then it is asked of each copy that has stayed so far too. Our own rule. */

@@ -31,6 +31,9 @@ struct wulgach_asked_ring {
  * or has no thread that is to be shared; -22 of the processor. */
 int32_t wulgach_set_up(const struct wulgach_asked_ring *asked, struct wulgach_setup *setup);
 
+/* Whether a ring with these flags has a thread that takes its entries, so that a call which wakes it submits by rounds: IORING_SETUP_SQPOLL. */
+bool wulgach_has_thread(uint32_t flags);
+
 /* What a ring can do (IORING_FEAT_..), whose rings stand in one mapping or in two. */
 uint32_t wulgach_features(bool is_one_mapping);
 
@@ -191,11 +194,13 @@ struct wulgach_parameters_form {    /* the first 40 bytes of `struct io_uring_pa
     uint32_t resv, second_resv, third_resv;
 };
 
-/* Writes what is judged of such a structure: of an update of files alone the call gives the count. All `resv` and `pad` are reserved. */
+/* Writes what is judged of such a structure: of an update of files alone the call gives the count. All `resv` and `pad` are reserved, and of a
+ * probe all bytes, of `struct io_uring_probe` and of its rows. */
 void wulgach_content_of_table(const struct wulgach_table_form *form, struct wulgach_content *content);
 void wulgach_content_of_update(const struct wulgach_update_form *form, struct wulgach_content *content);
 void wulgach_content_of_files(const struct wulgach_files_form *form, uint32_t count, struct wulgach_content *content);
 void wulgach_content_of_cancel(const struct wulgach_cancel_form *form, struct wulgach_content *content);
+void wulgach_content_of_probe(const uint8_t *bytes, size_t count, struct wulgach_content *content);
 
 /* Whether a reserved field of such a one isn't 0. */
 bool wulgach_ring_has_reserved(const struct wulgach_ring_form *form);
@@ -297,10 +302,12 @@ int32_t wulgach_enrolled_named(const uint64_t *words, size_t count, uint32_t num
 
 /* ---- restrictions ---- */
 
-/* A row of a list: `struct io_uring_restriction` without what is reserved. */
+/* A row of a list: `struct io_uring_restriction`. What is reserved isn't looked at. */
 struct wulgach_restriction {
     uint16_t kind;          /* IORING_RESTRICTION_.. */
     uint8_t number;         /* a call of io_uring_register(2), an operation, or flags of entries */
+    uint8_t resv;
+    uint32_t second_resv, third_resv, fourth_resv;
 };
 
 /* What the application of a ring may do. The fields belong to the library. */
@@ -311,16 +318,16 @@ struct wulgach_restrictions {
 };
 
 /* The fault of a list of so many rows, before any is looked at, or 0: -77 (EBADFD) if the ring isn't disabled, -16 (EBUSY) of a second
- * list, -22 (EINVAL) of none or of more than 128 rows. And of enabling a ring: -22 with an argument, -77 if it isn't disabled. */
+ * list, -22 (EINVAL) of none or of more than 103 rows. And of enabling a ring: -22 with an argument, -77 if it isn't disabled. */
 int32_t wulgach_restricting_fault(bool is_disabled, bool are_registered, bool has_list, uint32_t count);
 int32_t wulgach_enabling_fault(bool is_disabled, bool has_argument);
 
-/* Begins those of a ring for which none are registered, or of a list, which allows nothing before it has rows. */
+/* Those of a ring for which none are registered. */
 void wulgach_restrictions_none(struct wulgach_restrictions *restrictions);
-void wulgach_restrictions_begin(struct wulgach_restrictions *restrictions);
 
-/* Takes the next row. -22 if it is of no kind, or of no call or operation that there is: then the list isn't registered. */
-int32_t wulgach_restrictions_take(struct wulgach_restrictions *restrictions, const struct wulgach_restriction *row);
+/* Registers a list of these rows, which are taken in turn: one without rows allows nothing. Returns 0, or -22 if one is of no kind, or of no call
+ * or operation that there is: then nothing changes. */
+int32_t wulgach_restrictions_register(struct wulgach_restrictions *restrictions, const struct wulgach_restriction *rows, size_t count);
 
 /* Whether an entry of this operation may have these flags: a row names the operation, and the flags are all that are required, and no
  * others but those that are allowed. And whether a call of io_uring_register(2) may be made: a row names it, or the ring is disabled. */
@@ -397,7 +404,8 @@ enum wulgach_row_step {
  * slot that gets a file is emptied first, so it stays empty if there is none; one that gets a buffer keeps what it has until that is there. */
 uint32_t wulgach_row_steps(uint32_t row, bool is_of_files);
 
-/* In which steps a row of lists is read, the file of a descriptor made, a ring of provided buffers registered, and a descriptor closed. */
+/* In which steps a row of lists is read, the file of a descriptor made, the buffer of a row made, a ring of provided buffers registered, a list of
+ * restrictions registered, and a descriptor closed. */
 enum wulgach_reading_step {
     WULGACH_READING_TAG = 0,    /* the tag */
     WULGACH_READING_ROW = 1     /* the descriptor, or the vector */
@@ -410,10 +418,21 @@ enum wulgach_making_step {
     WULGACH_MAKING_COPIES = 3   /* and it is copied: -24 (EMFILE) */
 };
 
+enum wulgach_buffer_step {
+    WULGACH_BUFFER_PAGES = 0,   /* its pages are looked at: wulgach_pinning_fault; */
+    WULGACH_BUFFER_MEMORY = 1   /* and there is memory for it, and for its tag: -12 */
+};
+
 enum wulgach_ring_step {
     WULGACH_RING_FORM = 0,      /* its form is looked at, */
     WULGACH_RING_PAGES = 1,     /* and its pages: -14 (EFAULT); */
     WULGACH_RING_GROUP = 2      /* and there is memory for its group: -12 */
+};
+
+enum wulgach_restricting_step {
+    WULGACH_RESTRICTING_LIST = 0,   /* the ring and the length of the list are looked at: wulgach_restricting_fault; */
+    WULGACH_RESTRICTING_READS = 1,  /* the list is read: -14; */
+    WULGACH_RESTRICTING_ROWS = 2    /* and its rows are taken: wulgach_restrictions_register */
 };
 
 enum wulgach_closing_step {
@@ -421,21 +440,55 @@ enum wulgach_closing_step {
     WULGACH_CLOSING_CLOSES = 1  /* and the descriptor is closed */
 };
 
-/* The bit 1 << STEP of each step: they are done by rising bits, until one fails. A list that isn't there isn't read; only a file that is registered is
- * looked for and has a tag, or none; and a close with a fault does nothing. */
-uint32_t wulgach_reading_steps(bool has_tags, bool has_list);
+/* The bit 1 << STEP of each step: they are done by rising bits, until one fails. A list that isn't there isn't read, but that of an update
+ * or of a placing, which ends so with -14 (EFAULT); only a file that is registered is
+ * looked for and has a tag, or none; a list of restrictions without rows isn't read; and a close with a fault does nothing. */
+uint32_t wulgach_reading_steps(bool has_tags, bool has_list, bool is_update);
 uint32_t wulgach_making_steps(bool is_registered, bool has_tag);
+uint32_t wulgach_buffer_steps(void);
 uint32_t wulgach_ring_steps(void);
+uint32_t wulgach_restricting_steps(uint32_t count);
 uint32_t wulgach_closing_steps(int32_t fault);
-
-/* Whether a list of restrictions holds whose rows have come to this, 0 or the fault of one. */
-bool wulgach_restrictions_hold(int32_t fault);
 
 /* The fault of a descriptor that a request is to close or to register, or 0: -9 (EBADF) of none and of a ring. */
 int32_t wulgach_holding_fault(int32_t fd, bool is_ring);
 
 /* What the row of a file ends with that was put into a slot, which could be told or not: 0, or -14 (EFAULT), and then it is taken out again. */
 int32_t wulgach_telling_fault(bool is_told);
+
+/* How the registration of a table goes on. */
+enum wulgach_listing {
+    WULGACH_LISTING_TAKES = 0,  /* the next row is read, and the file or buffer that it names is made */
+    WULGACH_LISTING_PUTS = 1,   /* the table is registered, with what the rows have made */
+    WULGACH_LISTING_DROPS = 2   /* it isn't: what the rows have made goes, and none of its tags is told */
+};
+
+/* Returns that of a table of so many slots (enum wulgach_listing), of whose rows so many were taken, the last with this fault or 0: the first fault ends
+ * it. `has_lists`: there is a list of descriptors or vectors, or one of tags; without any no row is read, and the slots are empty. */
+uint32_t wulgach_table_listing(uint32_t taken, uint32_t count, bool has_lists, int32_t fault);
+
+/* Whether an update, a placing or an enrolling of so many rows takes the next one, which has carried out so many, and come to this fault or 0: what
+ * was done by rows before a fault stays. */
+bool wulgach_takes_next(uint32_t done, uint32_t count, int32_t fault);
+
+/* Writes which slot goes next of a table of so many that is gone, of which so many have gone: the last one first, so that its tag is told first. False,
+ * and nothing is written: all have. */
+bool wulgach_next_to_go(uint32_t count, uint32_t gone, uint32_t *slot);
+
+/* What is done by a row of a list that puts a file where there is room. */
+enum wulgach_placing {
+    WULGACH_PLACING_READS = 0,      /* it is read, */
+    WULGACH_PLACING_MAKES = 1,      /* the file of its descriptor is made, */
+    WULGACH_PLACING_PUTS = 2,       /* a slot that is free gets it, */
+    WULGACH_PLACING_TELLS = 3,      /* and that is told in the row */
+    WULGACH_PLACING_FAILS = 4,      /* it fails with what the last came to, */
+    WULGACH_PLACING_TAKES_OUT = 5,  /* and its file is taken out of the slot again */
+    WULGACH_PLACING_IS_DONE = 6,
+    WULGACH_PLACING_BEGINS = 7
+};
+
+/* Returns what is done behind this (enum wulgach_placing), which came to `res`: BEGINS, and 0, at first. The first fault ends it. */
+uint32_t wulgach_placing_next(uint32_t last, int32_t res);
 
 /* What a call returns that has changed so many slots, and ended with this fault or 0: how many, or of none the fault. */
 int32_t wulgach_updated(uint32_t done, int32_t fault);

@@ -117,6 +117,16 @@ void wulgach_watched_add(struct wulgach_watched *watched, uint32_t events, uint6
 /* Returns what is changed (enum wulgach_watch) of a descriptor that was polled for so, or wasn't, and is to be so, or isn't. */
 uint32_t wulgach_watch_of(const struct wulgach_watched *before, bool was_watched, const struct wulgach_watched *after, bool is_watched);
 
+/* What a ring's descriptor polls for beside what its requests wait for, as a set of bits. */
+enum wulgach_besides {
+    WULGACH_POLLS_WRITES = 1,   /* what tells of writes to pipes */
+    WULGACH_POLLS_INSTANCE = 2  /* the epoll instance that tells of those that are dormant */
+};
+
+/* Returns that (enum wulgach_besides), where so many pipes are watched, and the ring has an epoll instance for those that are dormant, or none: the one where
+ * any are watched, and the other as long as it is there, so that whoever polls the descriptor hears of what a call that sleeps would. Our own rule. */
+uint32_t wulgach_polls_besides(uint64_t watched, bool has_instance);
+
 #ifdef __cplusplus
 }
 #endif

@@ -85,12 +85,12 @@ uint64_t wulgach_time_of(int64_t seconds, int64_t nanoseconds);
 /* How much is left until a time of a clock that says `now`: 0 if it is over. */
 uint64_t wulgach_time_left(uint64_t time, uint64_t now);
 
-/* The number of the clock, of clock_gettime(2), that says how much is left of the time that a timeout with these flags gives; -2
+/* The number of the clock, of clock_gettime(2), that says how much is left of the time that the timeout of an entry (wulgach_form.h) gives; -2
  * (ENOENT): none, its time is how long it runs. */
-int32_t wulgach_timeout_clock(uint32_t flags);
-
-/* How many completions the timeout of an entry counts (wulgach_form.h), of which 32 bits of `off` count; 0: none. */
 struct wulgach_submission;
+int32_t wulgach_timeout_clock(const struct wulgach_submission *entry);
+
+/* How many completions it counts, of which 32 bits of `off` count; 0: none. */
 uint64_t wulgach_timeout_count(const struct wulgach_submission *entry);
 
 /* How long a timeout runs that has this time, whose clock says that it is `now`, if it has one. */

@@ -32,6 +32,9 @@ struct wulgach_needs {
     bool fills_buffer;          /* and puts what belongs to that into its buffer, in front of the bytes */
     bool is_zero_copy;          /* it has a second completion, that its memory may be used again */
     uint32_t events;            /* for which its file is polled, as poll(2) has them, with POLLERR, POLLHUP, POLLNVAL and POLLRDHUP of a poll; or 0 */
+    int32_t fd;                 /* the descriptor of its file, or the slot, */
+    int32_t second_fd;          /* and of the second one */
+    uint16_t buffer;            /* the slot of its registered buffer */
     uint32_t sought;            /* what is looked for before it is carried out: the bit 1 << NEED of each (enum wulgach_need) */
 };
 
@@ -230,18 +233,35 @@ struct wulgach_splice_poll {
 /* Writes for what a splice or a tee is polled: for what it reads from, and once that was found ready for what it writes to. */
 void wulgach_splice_polls(bool is_source_ready, struct wulgach_splice_poll *asked);
 
+/* The ends of a splice or a tee that would have to wait for one of them. */
+struct wulgach_splice_ends {
+    uint32_t domain, kind;      /* of the socket for which it waits, as SO_DOMAIN and SO_TYPE have them; 0 if that is none */
+    bool waits_to_read;         /* it waits for what it reads from, else for what it writes to: */
+    bool is_pipe, other_is_pipe;            /* that is a pipe, and the other end is one; */
+    bool is_unwilling, other_is_unwilling;  /* that isn't to wait, and the other end isn't: O_NONBLOCK */
+};
+
+/* Whether a splice or a tee that would have to wait isn't to, and ends with -11 (EAGAIN): by O_NONBLOCK of what it waits for; and, if that is a
+ * pipe, or a local stream from which it reads, also by SPLICE_F_NONBLOCK, or by O_NONBLOCK of the other end if that is a pipe. */
+bool wulgach_splice_isnt_to_wait(const struct wulgach_submission *entry, const struct wulgach_splice_ends *ends);
+
 /* How far a request has come. */
 struct wulgach_patience {
     uint64_t length;            /* the bytes of its vectors */
     bool has_failed;            /* when it started */
     bool has_begun;             /* of a connect or a splice, or of a receive of urgent data: it was begun */
-    bool is_listening;          /* of a read or a receive: its socket is one that listens */
+    bool knows_listening;       /* its socket was asked whether it listens, */
+    bool is_listening;          /* and does */
 };
 
 /* Whether a request doesn't wait, whatever its descriptor has: it has failed, or is asked not to wait, or for nothing; a connect, a splice
- * and a receive of urgent data until they are begun, which finds their faults; what opens a path; and what would receive of a socket that
- * listens. */
+ * and a receive of urgent data until they are begun, which finds their faults; what opens a path; what would send or receive by a socket that
+ * listens; and what would accept by one that doesn't. */
 bool wulgach_is_impatient(const struct wulgach_submission *entry, const struct wulgach_patience *patience);
+
+/* Whether a request that wasn't found ready as it starts is carried out once all the same, and waits only then: a write, if its descriptor is a
+ * pipe, which may have room in its last page where poll(2) finds none. */
+bool wulgach_is_tried_first(const struct wulgach_submission *entry, bool is_pipe);
 
 /* ---- when a call sleeps, and what came of it ---- */
 
@@ -254,6 +274,20 @@ enum wulgach_beginning {
 /* What a sleep came to, where its ppoll(2) came to this (0 or more, or an error number's negative): that; but -4 (EINTR) in a child that was forked
  * meanwhile, as by a signal's handler, and leaves its parent's ring as it is. Our own rule. */
 int32_t wulgach_sleep_came_to(int32_t res, bool is_child);
+
+/* What is left undone with a ring, as a set of bits. */
+enum wulgach_left {
+    WULGACH_LEAVES_LOCK = 1,    /* its lock isn't taken again behind a sleep */
+    WULGACH_LEAVES_SLEEP = 2,   /* a sleep isn't taken out of its list, and what wakes that isn't closed */
+    WULGACH_LEAVES_DUTIES = 4,  /* whatever is due at a moment isn't done (enum wulgach_duty) */
+    WULGACH_LEAVES_SIGHT = 8,   /* it isn't looked at for what a call is told: nothing can be reaped, and no timeout is over */
+    WULGACH_LEAVES_END = 16,    /* as a call is over, nobody is woken, its lock isn't given back, and no message is posted */
+    WULGACH_LEAVES_MEMORY = 32  /* its trace and its memory aren't ended */
+};
+
+/* Returns what this process leaves undone with a ring that was made by that one (enum wulgach_left): nothing with its own, and all with another's, as a
+ * child that was forked while a call slept on its parent's ring, and is back from that sleep. Our own rule. */
+uint32_t wulgach_left_of(uint32_t maker, uint32_t process);
 
 /* Returns whether a sleep begins (enum wulgach_beginning) whose arguments have this fault, or 0, and before which a poll was told, or none. */
 uint32_t wulgach_sleep_begins(int32_t fault, bool is_told);
@@ -315,7 +349,8 @@ struct wulgach_call {
     uint64_t done;              /* and has moved so far */
     uint64_t control;           /* how many bytes of control data its entry has, or has room for: one that is received with such has one part alone */
     bool is_stream;             /* it may have to wait for its descriptor */
-    bool has_begun;             /* a connect was begun */
+    bool has_begun;             /* a connect was begun, */
+    bool was_repeated;          /* or its call was made once more */
 };
 
 enum wulgach_turn {
@@ -324,8 +359,8 @@ enum wulgach_turn {
     WULGACH_TURN_WAITS = 2,     /* it would have to wait */
     WULGACH_TURN_CALLS = 3,     /* its call is made, so that it doesn't wait */
     WULGACH_TURN_POLLS = 4,     /* its descriptor is polled: 0 if it isn't ready */
-    WULGACH_TURN_ASKS_WILL = 5, /* its descriptor is asked whether it isn't to wait (O_NONBLOCK): 0 if it is; of a splice that which it
-                                 * waits for, and of two pipes either */
+    WULGACH_TURN_ASKS_WILL = 5, /* its descriptor is asked whether it isn't to wait (O_NONBLOCK): 0 if it is; of a splice
+                                 * wulgach_splice_isnt_to_wait tells */
     WULGACH_TURN_ASKS_TYPE = 6, /* its socket is asked whether it is a stream: 0 if it isn't */
     WULGACH_TURN_ASKS_ERROR = 7 /* its socket is asked for its error, which is what that came to: 0 if it has none */
 };
@@ -334,7 +369,7 @@ enum wulgach_turn {
  * writes what it ends with, if it ends with an error, or with what its call gave. `last` is 0 at first; behind a call, `done` has what that
  * has moved. A connection is accepted only on a socket that was found ready just before, where it might wait; a connect that was begun is made
  * again once its socket is ready and has no error; a call ends with what came last, or with -11 (EAGAIN), or 0 of a connect that is found
- * made; and bytes that were moved are told. */
+ * made; and bytes that were moved are told. A connect that comes to -103 (ECONNABORTED) is made once more: the one call behind a call. */
 uint32_t wulgach_call_next(const struct wulgach_submission *entry, const struct wulgach_call *call, uint32_t last, int32_t res, int32_t *end);
 
 /* Which events a poll finds there, where poll(2) or epoll_wait(2), which doesn't wait, came to this and shows these: none of a call that

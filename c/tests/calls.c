@@ -2,6 +2,7 @@
 #define _GNU_SOURCE
 #include "wulgach_calls.h"
 
+#include <fcntl.h>
 #include <stdio.h>
 #include <stdlib.h>
 #include <string.h>
@@ -79,9 +80,9 @@ static const struct row rows[] = {
     {READ, WULGACH_BY_TRANSFER, {0}},
     {WRITEV, WULGACH_BY_TRANSFER, {0}},
     {POLL_ADD, WULGACH_BY_POLL, {0}},
-    {POLL_REMOVE, WULGACH_BY_OTHERS, {0}},
-    {TIMEOUT_REMOVE, WULGACH_BY_OTHERS, {0}},
-    {ASYNC_CANCEL, WULGACH_BY_OTHERS, {0}},
+    {POLL_REMOVE, WULGACH_BY_POLL_REMOVAL, {0}},
+    {TIMEOUT_REMOVE, WULGACH_BY_TIMEOUT_REMOVAL, {0}},
+    {ASYNC_CANCEL, WULGACH_BY_CANCEL, {0}},
     {TIMEOUT, WULGACH_BY_TIMEOUT, {0}},
     {LINK_TIMEOUT, WULGACH_BY_LINKED_TIMEOUT, {0}},
     {PROVIDE_BUFFERS, WULGACH_BY_PROVISION, {0}},
@@ -103,7 +104,7 @@ static void compare_rows(void)
     for (size_t i = 0; i < sizeof rows / sizeof *rows; i++) {
         struct wulgach_means means = means_of(entry_of(rows[i].code));
         snprintf(what, sizeof what, "operation %u", rows[i].code);
-        demand(means.kind == rows[i].kind && means.slot == 0 && is_call(&means.call, rows[i].words), what);
+        demand(means.kind == rows[i].kind && means.slot == 0 && means.listed.address == 0 && means.listed.count == 0 && is_call(&means.call, rows[i].words), what);
     }
 }
 
@@ -115,9 +116,9 @@ static void look_at_slots(void)
     demand(means_of(open).kind == WULGACH_BY_OPENING && means_of(open).slot == 5 && means_of(open).call.number == SYS_openat, "an open into a slot");
     demand(means_of(socket).kind == WULGACH_BY_OPENING && means_of(accept).slot == UINT32_MAX, "a socket, any slot");
     demand(means_of(close).kind == WULGACH_BY_SLOT_REMOVAL && means_of(close).slot == 4 && means_of(close).call.number == 0, "a close of a slot");
-    demand(means_of(update).kind == WULGACH_BY_FILES_UPDATE && means_of(update).slot == OFF, "an update of files");
+    demand(means_of(update).kind == WULGACH_BY_FILES_UPDATE && means_of(update).slot == OFF && means_of(update).listed.address == ADDR && means_of(update).listed.count == LEN, "an update of files");
     update.off = UINT32_MAX;
-    demand(means_of(update).kind == WULGACH_BY_FILES_PLACING, "files where there is room");
+    demand(means_of(update).kind == WULGACH_BY_FILES_PLACING && means_of(update).slot == 0 && means_of(update).listed.address == ADDR && means_of(update).listed.count == LEN, "files where there is room");
 }
 
 static void look_at_variants(void)
@@ -171,18 +172,26 @@ static void look_at_results(void)
     demand(wulgach_asks_opening(18, 0) && wulgach_asks_opening(28, 2) && !wulgach_asks_opening(18, 2048) && !wulgach_asks_opening(18, 65536) && !wulgach_asks_opening(19, 0), "which open is asked not to wait");
     demand(wulgach_looks_at_path(18, 64, false) && wulgach_looks_at_path(28, 513, false) && wulgach_looks_at_path(28, 1, true) && !wulgach_looks_at_path(18, 0, false) && !wulgach_looks_at_path(18, 66, true) && !wulgach_looks_at_path(18, 2048, true) && !wulgach_looks_at_path(19, 0, true), "which path is looked at");
     demand(wulgach_opens_again(-11) && !wulgach_opens_again(-6) && !wulgach_opens_again(3), "a lease");
+    uint32_t flags = 7;
+    demand(!wulgach_asks_anew(true, O_WRONLY, &flags) && !wulgach_asks_anew(false, O_RDONLY, &flags) && flags == 7 && wulgach_asks_anew(true, O_RDONLY, &flags) && flags == (O_NONBLOCK | O_CLOEXEC), "a pipe's end that is opened once more");
     demand(wulgach_asks_end(false, false) && !wulgach_asks_end(true, false) && !wulgach_asks_end(false, true), "an end of a splice");
     demand(wulgach_opening_waits(1, -6, false) && !wulgach_opening_waits(1, 3, false) && wulgach_opening_waits(0, 3, false) && !wulgach_opening_waits(0, 3, true) && !wulgach_opening_waits(0, -2, false), "which open waits");
     demand(wulgach_has_begun(-115) && !wulgach_has_begun(-11) && !wulgach_has_begun(0), "a connect that goes on");
     struct wulgach_submission receive = {.opcode = 10}, send = {.opcode = 9};
     demand(wulgach_tells_message(&receive, 0) && !wulgach_tells_message(&receive, -11) && !wulgach_tells_message(&send, 5), "what is told of a message");
     demand(wulgach_told_result(5, true) == 5 && wulgach_told_result(5, false) == -14, "one that can't be told");
+    struct wulgach_submission going_on = {.opcode = 27, .ioprio = 2}, hasty = {.opcode = 27, .op_flags = 64}, read = {.opcode = 22}, unwilling = {.opcode = 22, .op_flags = 8};
+    demand(wulgach_asks_shut(&receive, -11) && wulgach_asks_shut(&read, -11) && !wulgach_asks_shut(&receive, -107) && !wulgach_asks_shut(&send, -11), "whether a socket was shut down");
+    demand(!wulgach_asks_shut(&going_on, -11) && !wulgach_asks_shut(&hasty, -11) && !wulgach_asks_shut(&unwilling, -11), "where that doesn't matter");
+    demand(wulgach_shut_result(-11, true) == 0 && wulgach_shut_result(-11, false) == -11 && wulgach_shut_result(5, true) == 5, "a socket that was shut down");
     demand(wulgach_placed_result(UINT32_MAX, 7) == 7 && wulgach_placed_result(8, 7) == 0, "a file for any slot, and for one");
     struct wulgach_submission sends = {.opcode = 9}, receives = {.opcode = 10}, splice = {.opcode = 30};
     demand(wulgach_control_of(&sends, 24, 0) == 24 && wulgach_control_of(&sends, 24, 5) == 0 && wulgach_control_of(&receives, 24, 5) == 24, "control data");
     demand(wulgach_moved_so_far(&sends, 5) == 5 && wulgach_moved_so_far(&receives, 1ull << 40) == INT32_MAX && wulgach_moved_so_far(&splice, 1) == 0, "what was moved so far");
     demand(wulgach_done_result(&(struct wulgach_submission){.opcode = 10}, 7, 30) == 7 && wulgach_done_result(&(struct wulgach_submission){.opcode = 10, .ioprio = 2}, 7, 30) == 30 && wulgach_done_result(&(struct wulgach_submission){.opcode = 27, .ioprio = 2}, 7, 30) == 7 && wulgach_done_result(&(struct wulgach_submission){.opcode = 26}, 1ull << 40, 0) == INT32_MAX, "what was moved");
     demand(wulgach_may_signal(&(struct wulgach_submission){.opcode = 23}, -27) && wulgach_may_signal(&(struct wulgach_submission){.opcode = 17}, -27) && wulgach_may_signal(&(struct wulgach_submission){.opcode = 30}, -27) && !wulgach_may_signal(&(struct wulgach_submission){.opcode = 22}, -27) && !wulgach_may_signal(&(struct wulgach_submission){.opcode = 23}, -28), "what may bring a signal");
+    struct wulgach_submission put_off = {.opcode = 23, .flags = 16}, write = {.opcode = 23};
+    demand(wulgach_may_break(&splice, -32) && wulgach_may_break(&put_off, -32) && !wulgach_may_break(&write, -32) && !wulgach_may_break(&splice, -27), "what breaks a pipe unheard");
     static const struct wulgach_openness open = {.is_open = true}, path = {true, true};
     static const struct wulgach_synced_kind regular = {.is_regular = true}, folder = {.is_folder = true}, pipe = {0};
     demand(wulgach_counts_as_synced(&open, &regular) && wulgach_counts_as_synced(&open, &folder) && !wulgach_counts_as_synced(&open, &pipe) && !wulgach_counts_as_synced(&path, &regular) && !wulgach_counts_as_synced(&(struct wulgach_openness){0}, &regular), "what is synced");

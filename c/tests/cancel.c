@@ -1,6 +1,7 @@
 /* What a cancel finds: each call once, with what the manual page calls for, written by hand. */
 #include "wulgach_cancel.h"
 #include "wulgach_form.h"
+#include "wulgach_register.h"
 
 #include <stdio.h>
 #include <stdlib.h>
@@ -46,13 +47,25 @@ static void seek(void)
     demand(wulgach_seeking_fault(&sought, false) == -9 && wulgach_seeking_fault(&sought, true) == 0, "an empty slot");
     wulgach_sought_of(&(struct wulgach_submission){.opcode = CANCEL, .op_flags = 4}, &sought);
     demand(wulgach_seeking_fault(&sought, false) == 0 && !wulgach_goes_by_user_data(&sought), "any needs no slot");
+    wulgach_sought_by_call(&(struct wulgach_cancel_form){.addr = 5, .fd = 3, .flags = 11, .seconds = 4}, &sought);
+    demand(sought.fd == 3 && sought.is_by_fd && sought.is_fixed && sought.is_all && !sought.is_any && !sought.is_of_operation && sought.file == 0, "a call looks by a slot");
+    wulgach_sought_by_call(&(struct wulgach_cancel_form){.addr = 5, .fd = -1}, &sought);
+    demand(sought.user_data == 5 && wulgach_goes_by_user_data(&sought) && !sought.is_fixed && !sought.is_all, "or by user data");
+    wulgach_sought_of(&(struct wulgach_submission){.opcode = CANCEL, .op_flags = 4}, &sought);
     wulgach_cancel_begin(&cancel, &sought);
     demand(!wulgach_cancel_sees(&cancel, &other) && wulgach_cancel_sees(&cancel, &read) && wulgach_cancel_result(&cancel) == 1, "a cancel finds none");
     demand(wulgach_is_waiting(&read) && wulgach_is_waiting(&timeout) && !wulgach_is_waiting(&(struct wulgach_outstanding){0}), "what waits");
 }
 
+/* What a cancel comes before. */
+static void order(void)
+{
+    demand(wulgach_is_taken_behind(3, false, false, 4) && !wulgach_is_taken_behind(4, false, false, 3) && !wulgach_is_taken_behind(3, true, false, 4) && !wulgach_is_taken_behind(3, false, true, 4), "what is taken behind a cancel");
+}
+
 int main(void)
 {
+    order();
     struct wulgach_cancel cancel;
     struct wulgach_outstanding waits = {.user_data = 1, .is_token = true};
     struct wulgach_sought one = {.user_data = 1}, nobody = {.user_data = 3}, any = {.is_any = true}, all = {.user_data = 1, .is_all = true};

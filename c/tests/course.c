@@ -45,7 +45,7 @@ static void cancel_one(void)
     struct wulgach_awaiting awaiting;
     int32_t res;
     wulgach_awaiting_begin(&awaiting);
-    demand(wulgach_awaiting_sees(&awaiting, 3, &course, true) == WULGACH_NOT_AWAITED && !wulgach_course_asks_start(&course) && wulgach_course_begins_afresh(&course), "nobody waits for one that no cancel has found");
+    demand(wulgach_awaiting_sees(&awaiting, 3, &course, true) == WULGACH_NOT_AWAITED && !wulgach_course_asks_start(&course) && wulgach_course_steps_at_update(&course) == 63, "nobody waits for one that no cancel has found");
     demand(wulgach_course_note(&course, WULGACH_FACT_CANCELLED, 0), "a cancel");
     demand(wulgach_awaiting_sees(&awaiting, 3, &course, false) == WULGACH_WRONG_TURN && wulgach_awaiting_sees(&awaiting, 2, &course, false) == WULGACH_WRONG_TURN, "each is looked at in its turn");
     demand(wulgach_awaiting_sees(&awaiting, 4, &course, false) == WULGACH_AWAITED_RUNS, "but for one that it has");
@@ -159,7 +159,9 @@ static void link_requests(void)
     wulgach_member_next(&third, &second, 8, &timeout);
     demand(first.chain == 6 && !first.is_linked && second.chain == 6 && second.is_linked && third.chain == 8 && !third.is_linked, "chains");
     demand(wulgach_member_limits(&second, &first) && !wulgach_member_limits(&third, &second) && !wulgach_member_limits(&third, &first), "whom a timeout limits");
-    demand(wulgach_timeout_clock(0) == -2 && wulgach_timeout_clock(1) == 1 && wulgach_timeout_clock(5) == 7 && wulgach_timeout_clock(9) == 0, "clocks");
+    static const struct { uint32_t flags; int32_t clock; } clocks[] = {{0, -2}, {1, 1}, {5, 7}, {9, 0}};
+    for (size_t i = 0; i < sizeof clocks / sizeof *clocks; i++)
+        demand(wulgach_timeout_clock(&(struct wulgach_submission){.op_flags = clocks[i].flags}) == clocks[i].clock, "clocks");
     demand(wulgach_timeout_lasts(50, 20, false) == 50 && wulgach_timeout_lasts(50, 20, true) == 30 && wulgach_timeout_lasts(50, 60, true) == 0, "how long it lasts");
 }
 

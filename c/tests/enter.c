@@ -188,15 +188,18 @@ static void go_by_policies(void)
     check(policy_of((struct wulgach_asked){.policy = WULGACH_BY_CHOICE, .has_thread = true}) == WULGACH_BY_CHOICE, "by choice");
 }
 
+enum { PASSES = WULGACH_BEGINS_CALL | WULGACH_MAKES_CALL | WULGACH_RETURNS_CALL };
+
 static void reach_rings(void)
 {
     running = "rings";
     check(wulgach_entering_next(1 | 2 | 4 | 8, WULGACH_AT_FIRST, 0) == WULGACH_CHECKS_DESCRIPTOR, "a descriptor");
     check(wulgach_entering_next(16 | 1, WULGACH_AT_FIRST, 0) == WULGACH_CHECKS_NUMBER, "a number");
     check(wulgach_entering_next(16 | 32, WULGACH_AT_FIRST, 0) == -22 && wulgach_entering_next(1u << 31, WULGACH_AT_FIRST, 0) == -22, "an unknown flag");
-    check(wulgach_entering_next(16, WULGACH_CHECKS_NUMBER, 7) == WULGACH_CHECKS_DESCRIPTOR && wulgach_entering_next(0, WULGACH_CHECKS_DESCRIPTOR, 0) == WULGACH_COUNTS_CALL && wulgach_entering_next(0, WULGACH_COUNTS_CALL, 0) == WULGACH_CHECKS_CALLER && wulgach_entering_next(0, WULGACH_CHECKS_CALLER, 0) == WULGACH_PASSES, "one behind the other");
+    check(wulgach_entering_next(16, WULGACH_CHECKS_NUMBER, 7) == WULGACH_CHECKS_DESCRIPTOR && wulgach_entering_next(0, WULGACH_CHECKS_DESCRIPTOR, 0) == WULGACH_COUNTS_CALL && wulgach_entering_next(0, WULGACH_COUNTS_CALL, 0) == WULGACH_CHECKS_CALLER && wulgach_entering_next(0, WULGACH_CHECKS_CALLER, 0) == PASSES, "one behind the other");
+    check(wulgach_entering_next(8, WULGACH_CHECKS_CALLER, 0) == (PASSES | WULGACH_HAS_STRUCTURE) && wulgach_entering_next(7, WULGACH_CHECKS_CALLER, 0) == PASSES, "a structure");
     check(wulgach_entering_next(0, WULGACH_CHECKS_CALLER, -77) == -77, "the first fault");
-    check(wulgach_registering_next(false, WULGACH_AT_FIRST, 0) == WULGACH_CHECKS_DESCRIPTOR && wulgach_registering_next(true, WULGACH_CHECKS_DESCRIPTOR, 0) == WULGACH_COUNTS_CALL && wulgach_registering_next(false, WULGACH_CHECKS_DESCRIPTOR, 0) == WULGACH_CHECKS_CALLER && wulgach_registering_next(true, WULGACH_CHECKS_CALLER, 0) == WULGACH_CHECKS_ARGUMENT && wulgach_registering_next(true, WULGACH_CHECKS_ARGUMENT, 0) == WULGACH_PASSES, "a registration");
+    check(wulgach_registering_next(false, WULGACH_AT_FIRST, 0) == WULGACH_CHECKS_DESCRIPTOR && wulgach_registering_next(true, WULGACH_CHECKS_DESCRIPTOR, 0) == WULGACH_COUNTS_CALL && wulgach_registering_next(false, WULGACH_CHECKS_DESCRIPTOR, 0) == WULGACH_CHECKS_CALLER && wulgach_registering_next(true, WULGACH_CHECKS_CALLER, 0) == WULGACH_CHECKS_ARGUMENT && wulgach_registering_next(true, WULGACH_CHECKS_ARGUMENT, 0) == PASSES, "a registration");
     check(wulgach_no_ring_fault(false) == -9 && wulgach_no_ring_fault(true) == -95, "no ring");
     check(wulgach_looks_in_vain(true, 0, 0) && !wulgach_looks_in_vain(true, 0, 1) && !wulgach_looks_in_vain(true, 1, 0) && !wulgach_looks_in_vain(false, 0, 0), "a look");
 }
@@ -230,6 +233,7 @@ static void do_duties(void)
     running = "duties";
     check(wulgach_duties_at_begin(false, false) == FIRST && wulgach_duties_at_begin(true, false) == (FIRST | TIME) && wulgach_duties_at_begin(true, true) == FIRST, "as it begins");
     check(wulgach_duties_before_sleep(&quiet, false) == 0 && wulgach_duties_before_sleep(&busy, false) == (FOUND | FILES | PIPES) && wulgach_duties_before_sleep(&busy, true) == (FOUND | FILES), "before it sleeps");
+    check(wulgach_duties_when_stuck(&busy, true, false) == ENDS && wulgach_duties_when_stuck(&busy, false, false) == 0 && wulgach_duties_when_stuck(&busy, true, true) == 0 && wulgach_duties_when_stuck(&quiet, true, false) == 0, "where nothing can go on");
     check(wulgach_duties_at_rest(&quiet) == 0 && wulgach_duties_at_rest(&busy) == (DORMANT | ENDS | READINESS), "as it rests");
     check(at_return(&quiet) == LAST && at_return(&busy) == (FOUND | FILES | PIPES | DORMANT | ENDS | READINESS | LAST), "as it returns");
     check(wulgach_duties_before(0, true) == APPLICATION && wulgach_duties_before(22, true) == (ENDS | APPLICATION) && wulgach_duties_before(22, false) == APPLICATION, "before an operation");

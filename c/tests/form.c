@@ -131,7 +131,7 @@ static void go_on(void)
     demand(wulgach_tells(&late, true) && wulgach_tells(&told, true) && wulgach_tells(&early, false) && !wulgach_tells(&early, true), "an eventfd");
 }
 
-/* The fault of a message, or 1: data, or 2: a file. */
+/* The fault of a message, or its steps. */
 static int32_t sending(struct wulgach_submission entry, struct wulgach_receiver to)
 {
     int32_t fault;
@@ -140,6 +140,8 @@ static int32_t sending(struct wulgach_submission entry, struct wulgach_receiver 
     return sending == WULGACH_SENDS_NOTHING ? fault : (int32_t)sending;
 }
 
+enum { DATA = WULGACH_HAS_MESSAGE | WULGACH_TELLS_RING };
+
 #define SENDING(to, ...) sending((struct wulgach_submission){.opcode = 40, __VA_ARGS__}, to)
 
 static void send(void)
@@ -147,10 +149,10 @@ static void send(void)
     struct wulgach_receiver closed = {0}, file = {.is_open = true}, ring = {true, true, false, false}, own = {true, true, true, false}, disabled = {true, true, false, true};
     demand(wulgach_may_be_ring(&(struct wulgach_submission){.opcode = 40, .flags = 4}) && !wulgach_may_be_ring(&(struct wulgach_submission){.opcode = 40, .flags = 1}), "a registered file is no ring");
     demand(SENDING(closed, .addr = 9) == -9 && SENDING(file, .addr = 9) == -77 && SENDING(ring, .addr = 2) == -22, "to what it is sent");
-    demand(SENDING(ring, .len = 7) == 1 && SENDING(own, .len = 7) == 1 && SENDING(disabled, .len = 7) == -77, "data");
-    demand(SENDING(ring, .addr = 1L << 32, .addr3 = 1L << 32) == 1 && SENDING(disabled, .addr3 = 1) == -22 && SENDING(ring, .op_flags = 1) == -22, "what belongs to files");
-    demand(SENDING(ring, .file_index = 1) == -22 && SENDING(ring, .file_index = 1, .op_flags = 2) == 1, "flags that are passed");
-    demand(SENDING(ring, .addr = 1, .addr3 = 3, .file_index = 4, .op_flags = 3) == 2 && SENDING(own, .addr = 1) == -22, "a file");
+    demand(SENDING(ring, .len = 7) == DATA && SENDING(own, .len = 7) == DATA && SENDING(disabled, .len = 7) == -77, "data");
+    demand(SENDING(ring, .addr = 1L << 32, .addr3 = 1L << 32) == DATA && SENDING(disabled, .addr3 = 1) == -22 && SENDING(ring, .op_flags = 1) == -22, "what belongs to files");
+    demand(SENDING(ring, .file_index = 1) == -22 && SENDING(ring, .file_index = 1, .op_flags = 2) == DATA, "flags that are passed");
+    demand(SENDING(ring, .addr = 1, .addr3 = 3, .file_index = 4, .op_flags = 3) == (DATA | WULGACH_FINDS_FILE | WULGACH_PASSES_FILE) && SENDING(own, .addr = 1) == -22, "a file");
     demand(SENDING(disabled, .addr = 1) == -77 && SENDING(disabled, .addr = 1, .len = 1) == -22, "its faults");
 }
 
@@ -202,6 +204,7 @@ static void visit(void)
     demand(wulgach_copies_pieces(WULGACH_FORM_TOKEN) && wulgach_copies_pieces(WULGACH_FORM_CANCEL) && !wulgach_copies_pieces(WULGACH_FORM_REFUSED), "of what is copied");
     demand(wulgach_is_own_fault(-14) && !wulgach_is_own_fault(-12) && !wulgach_is_own_fault(0), "whose fault it is");
     demand(wulgach_posts_message(true, true) && !wulgach_posts_message(true, false) && !wulgach_posts_message(false, true), "which message is posted");
+    demand(wulgach_visits_again(true, false, false) && wulgach_visits_again(true, true, true) && !wulgach_visits_again(true, true, false) && !wulgach_visits_again(false, false, true), "how often a ring is visited");
     demand(wulgach_visit_of(&none, 0) == WULGACH_VISITS_NOBODY && wulgach_visit_of(&ring, 0) == WULGACH_VISITS_OTHER && wulgach_visit_of(&own, 0) == WULGACH_POSTS_OWN && wulgach_visit_of(&ring, -9) == WULGACH_VISITS_NOBODY, "who posts a message");
 }
 

@@ -222,6 +222,7 @@ static void sleep_or_not(void)
     demand(wulgach_fires_behind(&(struct wulgach_waited){0}) && !wulgach_fires_behind(&(struct wulgach_waited){.result = -4}) && !wulgach_fires_behind(&(struct wulgach_waited){.is_never = true}), "behind which sleep a timeout fires");
     demand(wulgach_sleep_begins(-14, true) == WULGACH_SLEEP_FAILS && wulgach_sleep_begins(0, true) == WULGACH_SLEEP_WAKES && wulgach_sleep_begins(0, false) == WULGACH_SLEEPS, "whether a sleep begins");
     demand(wulgach_sleep_came_to(2, false) == 2 && wulgach_sleep_came_to(-12, false) == -12 && wulgach_sleep_came_to(2, true) == -4, "a child leaves a sleep");
+    demand(wulgach_left_of(7, 7) == 0 && wulgach_left_of(7, 8) == 63, "a child leaves its parent's ring");
     demand(waited((struct wulgach_waited){0}) == WULGACH_WOKEN && waited((struct wulgach_waited){.is_over = true}) == WULGACH_TIMED_OUT, "a sleep that ends");
     demand(waited((struct wulgach_waited){.result = -4, .is_over = true}) == WULGACH_INTERRUPTED && waited((struct wulgach_waited){.result = -12}) == WULGACH_FAILED, "a sleep that fails");
     demand(waited((struct wulgach_waited){.is_never = true}) == WULGACH_ENDLESS && waited((struct wulgach_waited){.is_never = true, .has_messages = true}) == WULGACH_ENDLESS && waited((struct wulgach_waited){.is_never = true, .has_messages = true, .may_post = true}) == WULGACH_WOKEN, "nothing to wait for");
@@ -230,7 +231,9 @@ static void sleep_or_not(void)
 static void keep_files(void)
 {
     demand(wulgach_keeps_before_close(3, 5, 4, 5) && !wulgach_keeps_before_close(4, 5, 4, 5) && !wulgach_keeps_before_close(5, 5, 4, 5) && !wulgach_keeps_before_close(3, 6, 4, 5), "before a close");
-    demand(wulgach_may_close_last(true, true, true) && wulgach_may_close_last(true, false, false) && !wulgach_may_close_last(true, false, true) && !wulgach_may_close_last(false, true, false), "the last descriptor of a file");
+    demand(wulgach_may_close_last(1, true, true, true, true) && wulgach_may_close_last(2, true, true, false, false) && !wulgach_may_close_last(2, true, true, false, true) && !wulgach_may_close_last(2, true, false, true, false), "the last descriptor of a file");
+    demand(!wulgach_may_close_last(0, true, true, true, false) && !wulgach_may_close_last(2, false, true, true, false), "nobody else, and none that was closed");
+    demand(wulgach_instance_takes(true, false) && wulgach_instance_takes(false, true) && !wulgach_instance_takes(false, false), "what an instance takes");
     demand(wulgach_asks_locks(true) && !wulgach_asks_locks(false), "what has locks");
     demand(wulgach_stays_open(true, WULGACH_MOST_LEFT - 1) && !wulgach_stays_open(true, WULGACH_MOST_LEFT) && !wulgach_stays_open(false, 0), "a copy of what is locked");
 }

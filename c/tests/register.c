@@ -50,23 +50,27 @@ static void refuse_flags(void)
     demand(SET_UP(.entries = 0, .flags = ATTACH_WQ) == -22 && SET_UP(.entries = 1, .flags = ATTACH_WQ | SQ_AFF) == -6, "which comes first");
 }
 
+/* What a list of these rows is refused for, or 0: then they are registered. */
+#define TAKE(made, ...) wulgach_restrictions_register(made, (struct wulgach_restriction[]){__VA_ARGS__}, sizeof((struct wulgach_restriction[]){__VA_ARGS__}) / sizeof(struct wulgach_restriction))
+
 static void take_rows(void)
 {
     struct wulgach_restrictions none, made;
     wulgach_restrictions_none(&none);
     demand(wulgach_restrictions_allow_entry(&none, 200, 255) && wulgach_restrictions_allow_call(&none, 99, false), "no restrictions");
-    wulgach_restrictions_begin(&made);
-    demand(!wulgach_restrictions_allow_entry(&made, 0, 0) && !wulgach_restrictions_allow_call(&made, 0, false) && wulgach_restrictions_allow_call(&made, 0, true), "no rows");
-    demand(wulgach_restrictions_take(&made, &(struct wulgach_restriction){0, 25}) == 0 && wulgach_restrictions_take(&made, &(struct wulgach_restriction){0, 26}) == -22, "calls");
-    demand(wulgach_restrictions_take(&made, &(struct wulgach_restriction){1, 48}) == 0 && wulgach_restrictions_take(&made, &(struct wulgach_restriction){1, 49}) == -22, "operations");
-    demand(wulgach_restrictions_take(&made, &(struct wulgach_restriction){1, 0}) == 0 && wulgach_restrictions_take(&made, &(struct wulgach_restriction){4, 0}) == -22, "kinds");
+    made = none;
+    demand(wulgach_restrictions_register(&made, NULL, 0) == 0 && !wulgach_restrictions_allow_entry(&made, 0, 0) && !wulgach_restrictions_allow_call(&made, 0, false) && wulgach_restrictions_allow_call(&made, 0, true), "no rows");
+    made = none;
+    demand(TAKE(&made, {.kind = 0, .number = 26}) == -22 && TAKE(&made, {.kind = 1, .number = 49}) == -22 && TAKE(&made, {.kind = 4}) == -22, "rows that there aren't");
+    demand(TAKE(&made, {.kind = 0, .number = 25}, {.kind = 4}, {.kind = 1, .number = 48}) == -22 && wulgach_restrictions_allow_call(&made, 24, false), "a list with a bad row holds nothing");
+    demand(TAKE(&made, {.kind = 0, .number = 25, .resv = 1, .fourth_resv = 2}, {.kind = 1, .number = 48}, {.kind = 1, .number = 0}) == 0, "rows");
     demand(wulgach_restrictions_allow_call(&made, 25, false) && !wulgach_restrictions_allow_call(&made, 24, false) && !wulgach_restrictions_allow_call(&made, 89, false), "which calls");
     demand(wulgach_restrictions_allow_entry(&made, 48, 0) && wulgach_restrictions_allow_entry(&made, 0, 0) && !wulgach_restrictions_allow_entry(&made, 47, 0) && !wulgach_restrictions_allow_entry(&made, 112, 0), "which operations");
     demand(!wulgach_restrictions_allow_entry(&made, 0, 4), "no flags");
-    demand(wulgach_restrictions_take(&made, &(struct wulgach_restriction){2, 255}) == 0 && wulgach_restrictions_take(&made, &(struct wulgach_restriction){2, 4}) == 0 && wulgach_restrictions_take(&made, &(struct wulgach_restriction){3, 16}) == 0, "flags");
-    demand(wulgach_restrictions_allow_entry(&made, 0, 16) && wulgach_restrictions_allow_entry(&made, 0, 20) && !wulgach_restrictions_allow_entry(&made, 0, 4) && !wulgach_restrictions_allow_entry(&made, 0, 24), "which flags");
+    demand(TAKE(&made, {.kind = 1, .number = 0}, {.kind = 2, .number = 255}, {.kind = 2, .number = 4}, {.kind = 3, .number = 16}) == 0, "flags");
+    demand(wulgach_restrictions_allow_entry(&made, 0, 16) && wulgach_restrictions_allow_entry(&made, 0, 20) && !wulgach_restrictions_allow_entry(&made, 0, 4) && !wulgach_restrictions_allow_entry(&made, 0, 24), "which flags, by the last row of a kind");
     demand(wulgach_restricting_fault(false, true, true, 1) == -77 && wulgach_restricting_fault(true, true, false, 1) == -16 && wulgach_restricting_fault(true, false, false, 1) == -22, "a list");
-    demand(wulgach_restricting_fault(true, false, true, 129) == -22 && wulgach_restricting_fault(true, false, true, 128) == 0, "its length");
+    demand(wulgach_restricting_fault(true, false, true, 104) == -22 && wulgach_restricting_fault(true, false, true, 103) == 0, "its length");
     demand(wulgach_enabling_fault(false, true) == -22 && wulgach_enabling_fault(false, false) == -77 && wulgach_enabling_fault(true, false) == 0, "enabling");
 }
 
@@ -168,24 +172,52 @@ static void read_structures(void)
     demand(content.nr == 5 && !content.has_reserved, "an update of files");
     wulgach_content_of_cancel(&(struct wulgach_cancel_form){.flags = 4, .fourth_pad = 1}, &content);
     demand(content.flags == 4 && content.has_reserved, "a cancel");
+    static const uint8_t probe[32] = {[31] = 1};
+    wulgach_content_of_probe(probe, 32, &content);
+    demand(content.nr == 0 && content.flags == 0 && content.has_reserved && !content.has_data, "a probe");
+    wulgach_content_of_probe(probe, 31, &content);
+    demand(!content.has_reserved, "a probe of zeros");
     demand(wulgach_ring_has_reserved(&(struct wulgach_ring_form){.pad = 1}) && !wulgach_ring_has_reserved(&(struct wulgach_ring_form){.bgid = 1}), "a ring of buffers");
     demand(wulgach_range_has_reserved(&(struct wulgach_range_form){.resv = 1}) && !wulgach_range_has_reserved(&(struct wulgach_range_form){.len = 1}), "a range");
     demand(wulgach_parameters_have_reserved(&(struct wulgach_parameters_form){.third_resv = 1}) && !wulgach_parameters_have_reserved(&(struct wulgach_parameters_form){.wq_fd = 1}), "parameters");
 }
 
+static void take_lists(void)
+{
+    uint32_t slot = 9;
+    demand(wulgach_table_listing(0, 2, true, 0) == WULGACH_LISTING_TAKES && wulgach_table_listing(2, 2, true, 0) == WULGACH_LISTING_PUTS, "a table's rows");
+    demand(wulgach_table_listing(1, 2, true, -9) == WULGACH_LISTING_DROPS && wulgach_table_listing(2, 2, true, -9) == WULGACH_LISTING_DROPS && wulgach_table_listing(0, 2, false, 0) == WULGACH_LISTING_PUTS, "a fault, and no lists");
+    demand(wulgach_takes_next(0, 1, 0) && !wulgach_takes_next(1, 1, 0) && !wulgach_takes_next(0, 1, -9), "an update's rows");
+    demand(wulgach_next_to_go(3, 0, &slot) && slot == 2 && wulgach_next_to_go(3, 2, &slot) && slot == 0, "which slot goes next");
+    demand(!wulgach_next_to_go(3, 3, &slot) && !wulgach_next_to_go(0, 0, &slot) && slot == 0, "all have gone");
+    demand(wulgach_has_thread(2) && wulgach_has_thread(6) && !wulgach_has_thread(0xfffffffd), "a ring with a thread");
+}
+
+static void place_file(void)
+{
+    uint32_t next = WULGACH_PLACING_BEGINS;
+    for (uint32_t stage = WULGACH_PLACING_READS; stage <= WULGACH_PLACING_TELLS; stage++)
+        demand((next = wulgach_placing_next(next, 0)) == stage && wulgach_placing_next(stage, -14) == (stage == WULGACH_PLACING_TELLS ? WULGACH_PLACING_TAKES_OUT : WULGACH_PLACING_FAILS), "a placing's stages");
+    demand(wulgach_placing_next(WULGACH_PLACING_TELLS, 0) == WULGACH_PLACING_IS_DONE && wulgach_placing_next(WULGACH_PLACING_PUTS, 5) == WULGACH_PLACING_TELLS, "a file is placed");
+}
+
 static void go_by_steps(void)
 {
-    demand(wulgach_reading_steps(true, true) == 3 && wulgach_reading_steps(true, false) == 1 << WULGACH_READING_TAG && wulgach_reading_steps(false, true) == 1 << WULGACH_READING_ROW && wulgach_reading_steps(false, false) == 0, "how a row is read");
+    demand(wulgach_reading_steps(true, true, false) == 3 && wulgach_reading_steps(true, false, false) == 1 << WULGACH_READING_TAG && wulgach_reading_steps(false, true, false) == 1 << WULGACH_READING_ROW && wulgach_reading_steps(false, false, false) == 0, "how a row is read");
+    demand(wulgach_reading_steps(true, false, true) == 3 && wulgach_reading_steps(false, false, true) == 1 << WULGACH_READING_ROW, "also without a list");
     demand(wulgach_making_steps(true, true) == 15 && wulgach_making_steps(true, false) == 13 && wulgach_making_steps(false, false) == 12 && wulgach_making_steps(false, true) == 12, "how a file is made");
     demand(wulgach_ring_steps() == 7, "how a ring of buffers is registered");
     demand(wulgach_closing_steps(0) == 3 && wulgach_closing_steps(-9) == 0, "what a close does");
-    demand(wulgach_restrictions_hold(0) && !wulgach_restrictions_hold(-22), "a list of restrictions");
+    demand(wulgach_buffer_steps() == 3, "how a buffer is made");
+    demand(wulgach_restricting_steps(0) == 5 && wulgach_restricting_steps(1) == 7, "how a list of restrictions is registered");
 }
 
 static void look_at_rows(void)
 {
     read_structures();
     give_numbers();
+    take_lists();
+    place_file();
     go_by_steps();
     demand(file_row(0, 1, false) == WULGACH_ROW_FILLS && file_row(-1, 0, false) == WULGACH_ROW_EMPTIES && file_row(-1, 1, true) == -22, "files");
     demand(wulgach_row_steps(WULGACH_ROW_FILLS, true) == 7 && wulgach_row_steps(WULGACH_ROW_FILLS, false) == 6 && wulgach_row_steps(WULGACH_ROW_EMPTIES, false) == 1 && wulgach_row_steps(WULGACH_ROW_KEEPS, true) == 0 && wulgach_row_steps(WULGACH_ROW_REFUSED, true) == 0, "what is done with a slot");

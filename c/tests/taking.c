@@ -77,6 +77,13 @@ static void post(void)
     demand(wulgach_notice_of(true, true, &res) && res == INT32_MIN && wulgach_notice_of(false, true, &res) && res == 0, "a notice");
 }
 
+static void put_off(void)
+{
+    for (uint32_t what = WULGACH_SUBMISSION_COMES; what <= WULGACH_END_COMES; what++)
+        demand(wulgach_order_behind(what, false, false) == WULGACH_COMES_NOW && wulgach_order_behind(what, true, false) == WULGACH_POSTS_FIRST, "what was put off comes first");
+    demand(wulgach_order_behind(WULGACH_SUBMISSION_COMES, true, true) == WULGACH_WAITS_BEHIND && wulgach_order_behind(WULGACH_POSTING_COMES, true, true) == WULGACH_WAITS_BEHIND && wulgach_order_behind(WULGACH_END_COMES, true, true) == WULGACH_COMES_NOW, "memory is refused still");
+}
+
 static void search_and_update(void)
 {
     struct wulgach_outstanding other = {.user_data = 1, .is_token = true, .runs = true, .is_stream = true}, read = {.user_data = 2, .is_token = true, .runs = true}, poll = {.user_data = 2, .is_token = true, .runs = true, .is_stream = true};
@@ -85,20 +92,26 @@ static void search_and_update(void)
     demand(!wulgach_search_sees(&search, &other) && wulgach_search_sees(&search, &poll) && !wulgach_search_sees(&search, &poll) && wulgach_search_has_cancelled(&search), "the oldest that waits");
     wulgach_search_begin(&search, 2);
     demand(!wulgach_search_sees(&search, &read) && !wulgach_search_sees(&search, &poll) && !wulgach_search_has_cancelled(&search), "the oldest is carried out");
-    struct wulgach_poll changed = {.user_data = 5, .events = 1};
+    demand(wulgach_search_found_by_core(&search, -114, true) == -114, "one was found");
+    struct wulgach_outstanding limiting = {.user_data = 2, .code = 15, .is_token = true, .runs = true};
+    wulgach_search_begin(&search, 2);
+    demand(!wulgach_search_sees(&search, &limiting) && wulgach_search_found_by_core(&search, -114, true) == -2 && wulgach_search_found_by_core(&search, -114, false) == -114 && wulgach_search_found_by_core(&search, 0, true) == 0, "a linked timeout isn't found");
+    demand(wulgach_search_sees(&search, &poll) && wulgach_search_found_by_core(&search, -114, true) == -114, "what stands behind it is");
+    struct wulgach_submission changed = {.opcode = 6, .user_data = 5, .op_flags = 1, .len = 1, .off = 9};
     wulgach_updated_poll(&changed, &(struct wulgach_submission){.len = 4, .off = 6});
-    demand(changed.user_data == 6 && changed.events == 1, "user data");
+    demand(changed.user_data == 6 && changed.op_flags == 1, "user data");
     wulgach_updated_poll(&changed, &(struct wulgach_submission){.len = 2, .off = 8, .op_flags = 4});
-    demand(changed.user_data == 6 && changed.events == 4, "events");
+    demand(changed.user_data == 6 && changed.op_flags == 4 && changed.len == 1 && changed.off == 9 && changed.opcode == 6, "events, and nothing else");
     demand(wulgach_poll_removal(&(struct wulgach_submission){.len = 1}) == WULGACH_REMOVAL_CANCELS && wulgach_poll_removal(&(struct wulgach_submission){.len = 2}) == WULGACH_REMOVAL_UPDATES, "a poll's removal");
     demand(wulgach_timeout_removal(&(struct wulgach_submission){0}) == WULGACH_REMOVAL_CANCELS && wulgach_timeout_removal(&(struct wulgach_submission){.op_flags = 3}) == WULGACH_REMOVAL_UPDATES && wulgach_timeout_removal(&(struct wulgach_submission){.op_flags = 19}) == WULGACH_REMOVAL_UPDATES_LINKED && wulgach_timeout_removal(&(struct wulgach_submission){.op_flags = 17}) == WULGACH_REMOVAL_CANCELS, "a timeout's");
     demand(wulgach_removal_result(true) == 0 && wulgach_removal_result(false) == -2, "what a removal ends with");
     struct wulgach_linked linked = {.user_data = 5, .is_linked = true, .runs = true}, still = {.user_data = 5, .is_linked = true}, loose = {.user_data = 5, .runs = true};
     demand(wulgach_updates_linked(5, &linked) && !wulgach_updates_linked(6, &linked) && !wulgach_updates_linked(5, &still) && !wulgach_updates_linked(5, &loose), "a linked timeout's");
-    struct wulgach_terms relative = {.count = 5, .flags = 33}, absolute = {.flags = 40};
-    wulgach_updated_terms(&relative, &(struct wulgach_submission){.op_flags = 2});
-    wulgach_updated_terms(&absolute, &(struct wulgach_submission){.op_flags = 3});
-    demand(relative.flags == 32 && relative.count == 0 && absolute.flags == 41 && absolute.count == 0, "a timeout's terms");
+    struct wulgach_submission relative = {.opcode = 11, .off = 5, .op_flags = 33, .user_data = 7}, absolute = {.op_flags = 40};
+    wulgach_updated_timeout(&relative, &(struct wulgach_submission){.op_flags = 2, .user_data = 8, .off = 3});
+    wulgach_updated_timeout(&absolute, &(struct wulgach_submission){.op_flags = 3});
+    demand(relative.op_flags == 32 && relative.off == 0 && absolute.op_flags == 41 && absolute.off == 0, "a timeout's flags and count");
+    demand(relative.opcode == 11 && relative.user_data == 7, "and nothing else");
 }
 
 /* What comes behind so many pieces of an entry, none of which has a fault, and which hold one vector. */
@@ -240,6 +253,7 @@ int main(void)
     take_positions();
     choose();
     post();
+    put_off();
     search_and_update();
     copy_pieces();
     look_at_names();

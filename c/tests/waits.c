@@ -30,6 +30,9 @@ static void look_at_needs(void)
     demand(!NEEDS(.opcode = NOP).needs_file && NEEDS(.opcode = READ).needs_file && NEEDS(.opcode = FSYNC).needs_file && !NEEDS(.opcode = 18).needs_file, "a file");
     demand(NEEDS(.opcode = READ, .flags = 1).is_registered && !NEEDS(.opcode = READ).is_registered, "a registered file");
     demand(NEEDS(.opcode = SPLICE, .op_flags = 1u << 31).is_second_registered && NEEDS(.opcode = TEE).needs_second && !NEEDS(.opcode = READ).needs_second, "a second file");
+    demand(NEEDS(.opcode = READ, .fd = 7).fd == 7 && NEEDS(.opcode = READ, .fd = -1).fd == -1 && NEEDS(.opcode = NOP, .fd = 5).fd == 5 && NEEDS(.opcode = SPLICE, .fd = 3, .file_index = 4).fd == 3, "which file");
+    demand(NEEDS(.opcode = SPLICE, .fd = 3, .file_index = 4).second_fd == 4 && NEEDS(.opcode = TEE, .file_index = UINT32_MAX).second_fd == -1, "which second file");
+    demand(NEEDS(.opcode = READ_FIXED, .buf_index = 65535).buffer == 65535 && NEEDS(.opcode = NOP, .buf_index = 2).buffer == 2 && NEEDS(.opcode = SEND_ZC, .buf_index = 3).buffer == 3, "which buffer");
     demand(NEEDS(.opcode = READ_FIXED).uses_buffer && NEEDS(.opcode = SEND_ZC, .ioprio = 4).uses_buffer && !NEEDS(.opcode = SEND_ZC, .ioprio = 1).uses_buffer && !NEEDS(.opcode = READ).uses_buffer, "a buffer");
     demand(NEEDS(.opcode = READ, .flags = 32).selects && NEEDS(.opcode = TIMEOUT).is_timeout && !NEEDS(.opcode = 15).is_timeout, "a provided buffer, a timeout");
     demand(NEEDS(.opcode = POLL_ADD, .len = 1).goes_on && NEEDS(.opcode = ACCEPT, .ioprio = 1).goes_on && NEEDS(.opcode = RECV, .ioprio = 2).goes_on && !NEEDS(.opcode = RECV, .ioprio = 1).goes_on && !NEEDS(.opcode = READ, .len = 1).goes_on, "one that goes on");
@@ -59,13 +62,13 @@ static void see_changes(void)
 
 static void need_as_told(void)
 {
-    struct wulgach_submission read = {.opcode = READ};
+    struct wulgach_submission read = {.opcode = READ, .fd = 3, .buf_index = 4};
     struct wulgach_needs token, cancel, refused;
     wulgach_needs_as(&read, WULGACH_FORM_TOKEN, &token);
     wulgach_needs_as(&read, WULGACH_FORM_CANCEL, &cancel);
     wulgach_needs_as(&read, WULGACH_FORM_REFUSED, &refused);
-    demand(token.needs_file && token.is_read && token.sought == 17, "a token");
-    demand(!cancel.needs_file && cancel.sought == 0 && !refused.is_read && refused.events == 0, "what is no token needs nothing");
+    demand(token.needs_file && token.is_read && token.sought == 17 && token.fd == 3 && token.buffer == 4, "a token");
+    demand(!cancel.needs_file && cancel.sought == 0 && !refused.is_read && refused.events == 0 && refused.fd == 0 && refused.second_fd == 0 && cancel.buffer == 0, "what is no token needs nothing");
     demand(wulgach_counts_as_ready(1, 1) && !wulgach_counts_as_ready(0, 0) && wulgach_counts_as_ready(-1, 0) && !wulgach_counts_as_ready(2, 0), "what a poll tells");
 }
 
@@ -154,9 +157,13 @@ static bool impatient(uint8_t code, uint32_t flags, struct wulgach_patience pati
 
 static void be_impatient(void)
 {
-    struct wulgach_patience fresh = {.length = 8}, empty = {0}, failed = {.length = 8, .has_failed = true}, begun = {.length = 8, .has_begun = true}, listening = {.length = 8, .is_listening = true};
+    struct wulgach_patience fresh = {.length = 8}, empty = {0}, failed = {.length = 8, .has_failed = true}, begun = {.length = 8, .has_begun = true}, deaf = {.length = 8, .knows_listening = true}, listening = {.length = 8, .knows_listening = true, .is_listening = true};
     demand(impatient(READ, 0, listening) && impatient(18, 0, fresh) && impatient(28, 0, fresh), "what ends whatever its descriptor has");
+    demand(impatient(RECV, 0, listening) && impatient(26, 0, listening) && !impatient(ACCEPT, 0, listening) && !impatient(POLL_ADD, 0, listening), "by a socket that listens");
+    demand(impatient(ACCEPT, 0, deaf) && !impatient(ACCEPT, 0, fresh) && !impatient(RECV, 0, deaf) && !impatient(26, 0, deaf), "by one that doesn't");
     demand(impatient(RECV, 1, fresh) && !impatient(RECV, 1, begun) && !impatient(26, 1, fresh), "urgent data");
+    struct wulgach_submission write = {.opcode = WRITE}, read = {.opcode = READ}, send = {.opcode = SEND};
+    demand(wulgach_is_tried_first(&write, true) && !wulgach_is_tried_first(&write, false) && !wulgach_is_tried_first(&read, true) && !wulgach_is_tried_first(&send, true), "what is tried first");
     demand(!impatient(READ, 0, fresh) && impatient(READ, 8, fresh) && impatient(READ, 0, empty) && impatient(READ, 0, failed), "a read");
     demand(impatient(RECV, 64, fresh) && !impatient(RECV, 8, empty) && !impatient(ACCEPT, 64, fresh), "a receive");
     demand(impatient(CONNECT, 0, fresh) && !impatient(CONNECT, 0, begun) && impatient(SPLICE, 0, fresh) && !impatient(SPLICE, 0, begun) && !impatient(POLL_ADD, 0, fresh), "a connect, a splice");
@@ -198,12 +205,32 @@ static void call(void)
     struct wulgach_call fresh = {.length = 8, .is_stream = true}, part = {.length = 8, .done = 3, .is_stream = true}, begun = {.is_stream = true, .has_begun = true, .done = 1};
     demand(turn(ACCEPT, 0, fresh, 0, 0) == 1000 + WULGACH_TURN_POLLS && turn(ACCEPT, 0, fresh, WULGACH_TURN_POLLS, 1) == 1000 + WULGACH_TURN_CALLS && turn(ACCEPT, 0, fresh, WULGACH_TURN_POLLS, 0) == 1000 + WULGACH_TURN_ASKS_WILL, "an accept");
     demand(turn(ACCEPT, 0, fresh, WULGACH_TURN_ASKS_WILL, 1) == -11 && turn(ACCEPT, 0, fresh, WULGACH_TURN_ASKS_WILL, 0) == 1000 + WULGACH_TURN_WAITS && turn(ACCEPT, 0, fresh, WULGACH_TURN_CALLS, 0) == 0, "what its socket says");
-    demand(turn(CONNECT, 0, fresh, 0, 0) == 1000 + WULGACH_TURN_CALLS && turn(CONNECT, 0, fresh, WULGACH_TURN_CALLS, -115) == 1000 + WULGACH_TURN_WAITS && turn(CONNECT, 0, begun, 0, 0) == 1000 + WULGACH_TURN_POLLS && turn(CONNECT, 0, begun, WULGACH_TURN_POLLS, 1) == 1000 + WULGACH_TURN_ASKS_ERROR && turn(CONNECT, 0, begun, WULGACH_TURN_ASKS_ERROR, -111) == -111 && turn(CONNECT, 0, begun, WULGACH_TURN_ASKS_ERROR, 0) == 1000 + WULGACH_TURN_CALLS && turn(CONNECT, 0, begun, WULGACH_TURN_CALLS, -106) == 0 && turn(CONNECT, 0, fresh, WULGACH_TURN_CALLS, -106) == -106 && turn(CONNECT, 0, begun, WULGACH_TURN_CALLS, -114) == 1000 + WULGACH_TURN_WAITS, "a connect");
+    demand(turn(CONNECT, 0, fresh, 0, 0) == 1000 + WULGACH_TURN_CALLS && turn(CONNECT, 0, fresh, WULGACH_TURN_CALLS, -115) == 1000 + WULGACH_TURN_WAITS && turn(CONNECT, 0, begun, 0, 0) == 1000 + WULGACH_TURN_POLLS && turn(CONNECT, 0, begun, WULGACH_TURN_POLLS, 1) == 1000 + WULGACH_TURN_ASKS_ERROR && turn(CONNECT, 0, begun, WULGACH_TURN_ASKS_ERROR, -111) == -111 && turn(CONNECT, 0, begun, WULGACH_TURN_ASKS_ERROR, 0) == 1000 + WULGACH_TURN_CALLS && turn(CONNECT, 0, begun, WULGACH_TURN_CALLS, -106) == 0 && turn(CONNECT, 0, fresh, WULGACH_TURN_CALLS, -106) == -106 && turn(CONNECT, 0, fresh, WULGACH_TURN_CALLS, -11) == 1000 + WULGACH_TURN_ASKS_WILL && turn(CONNECT, 0, fresh, WULGACH_TURN_ASKS_WILL, 1) == -11 && turn(CONNECT, 0, begun, WULGACH_TURN_CALLS, -114) == 1000 + WULGACH_TURN_WAITS, "a connect");
+    struct wulgach_call repeated = {.is_stream = true, .was_repeated = true};
+    demand(turn(CONNECT, 0, fresh, WULGACH_TURN_CALLS, -103) == 1000 + WULGACH_TURN_CALLS && turn(CONNECT, 0, begun, WULGACH_TURN_CALLS, -103) == 1000 + WULGACH_TURN_CALLS && turn(CONNECT, 0, repeated, WULGACH_TURN_CALLS, -103) == -103 && turn(CONNECT, 0, repeated, WULGACH_TURN_CALLS, 0) == 0, "a connect that is made once more");
     demand(turn(RECV, 0, fresh, WULGACH_TURN_CALLS, -11) == 1000 + WULGACH_TURN_ASKS_WILL && turn(RECV, 64, fresh, WULGACH_TURN_CALLS, -11) == -11 && turn(RECV, 0, part, WULGACH_TURN_CALLS, 3) == 1000 + WULGACH_TURN_ENDS_WITH_DONE, "a receive");
     demand(turn(RECV, 256, part, WULGACH_TURN_CALLS, 3) == 1000 + WULGACH_TURN_ASKS_TYPE && turn(RECV, 256, part, WULGACH_TURN_ASKS_TYPE, 1) == 1000 + WULGACH_TURN_WAITS && turn(RECV, 256, part, WULGACH_TURN_CALLS, 0) == 1000 + WULGACH_TURN_ENDS_WITH_DONE && turn(RECV, 256, part, WULGACH_TURN_CALLS, -104) == 1000 + WULGACH_TURN_ENDS_WITH_DONE, "of all");
     struct wulgach_call with_control = {.length = 8, .done = 3, .control = 24, .is_stream = true};
     demand(turn(10, 256, with_control, WULGACH_TURN_CALLS, 3) == 1000 + WULGACH_TURN_ENDS_WITH_DONE && turn(10, 256, part, WULGACH_TURN_CALLS, 3) == 1000 + WULGACH_TURN_ASKS_TYPE && turn(9, 256, with_control, WULGACH_TURN_CALLS, 3) == 1000 + WULGACH_TURN_ASKS_TYPE, "with control data");
-    demand(turn(SPLICE, 0, begun, WULGACH_TURN_CALLS, -11) == 1000 + WULGACH_TURN_ASKS_WILL && turn(SPLICE, 0, begun, WULGACH_TURN_ASKS_WILL, 1) == -11 && turn(RECV, 8192, fresh, WULGACH_TURN_CALLS, -11) == -11 && turn(RECV, 1, fresh, WULGACH_TURN_CALLS, -11) == 1000 + WULGACH_TURN_ASKS_WILL && turn(SPLICE, 2, begun, WULGACH_TURN_CALLS, -11) == -11 && turn(SPLICE, 0, begun, WULGACH_TURN_CALLS, 5) == 5, "a splice");
+    demand(turn(SPLICE, 0, begun, WULGACH_TURN_CALLS, -11) == 1000 + WULGACH_TURN_ASKS_WILL && turn(SPLICE, 0, begun, WULGACH_TURN_ASKS_WILL, 1) == -11 && turn(RECV, 8192, fresh, WULGACH_TURN_CALLS, -11) == -11 && turn(RECV, 1, fresh, WULGACH_TURN_CALLS, -11) == 1000 + WULGACH_TURN_ASKS_WILL && turn(SPLICE, 2, begun, WULGACH_TURN_CALLS, -11) == 1000 + WULGACH_TURN_ASKS_WILL && turn(SPLICE, 0, begun, WULGACH_TURN_CALLS, 5) == 5, "a splice");
+}
+
+/* Which splices aren't to wait, with SPLICE_F_NONBLOCK or without. */
+static bool is_hasty(bool has_flag, struct wulgach_splice_ends ends)
+{
+    struct wulgach_submission entry = {.opcode = SPLICE, .op_flags = has_flag ? 2 : 0};
+    return wulgach_splice_isnt_to_wait(&entry, &ends);
+}
+
+#define LOCAL .domain = 1, .kind = 1
+#define TCP .domain = 2, .kind = 1
+
+static void splice_ends(void)
+{
+    demand(!is_hasty(false, (struct wulgach_splice_ends){.is_pipe = true, .other_is_pipe = true, .waits_to_read = true}) && is_hasty(true, (struct wulgach_splice_ends){.is_pipe = true}) && is_hasty(false, (struct wulgach_splice_ends){.is_pipe = true, .other_is_pipe = true, .other_is_unwilling = true}), "a pipe");
+    demand(!is_hasty(false, (struct wulgach_splice_ends){.is_pipe = true, .other_is_unwilling = true}) && is_hasty(false, (struct wulgach_splice_ends){.is_pipe = true, .is_unwilling = true}), "a pipe beside a socket");
+    demand(is_hasty(true, (struct wulgach_splice_ends){LOCAL, .waits_to_read = true, .other_is_pipe = true}) && is_hasty(false, (struct wulgach_splice_ends){LOCAL, .waits_to_read = true, .other_is_pipe = true, .other_is_unwilling = true}) && !is_hasty(true, (struct wulgach_splice_ends){LOCAL, .other_is_pipe = true}), "a local stream");
+    demand(!is_hasty(true, (struct wulgach_splice_ends){TCP, .waits_to_read = true, .other_is_pipe = true, .other_is_unwilling = true}) && is_hasty(false, (struct wulgach_splice_ends){TCP, .waits_to_read = true, .is_unwilling = true}) && !is_hasty(true, (struct wulgach_splice_ends){.domain = 1, .kind = 5, .waits_to_read = true}), "another socket");
 }
 
 static void seek(void)
@@ -272,6 +299,7 @@ int main(void)
     be_impatient();
     transfer();
     call();
+    splice_ends();
     poll_one();
     seek();
     miss();

@@ -130,20 +130,19 @@ int find_kind(struct request *request)
 
 static int find_buffer(struct ring *ring, struct request *request)
 {
-    int why = use_buffer(ring, request->entry.buf_index, request->vectors, &request->buffer);
+    int why = use_buffer(ring, request->needs.buffer, request->vectors, &request->buffer);
     return why < 0 ? fault_of_buffer(request, why) : 0;
 }
 
 /* Looks for what is needed. Returns its fault, or 0. */
 static int look_for(struct ring *ring, struct request *request, enum wulgach_need need)
 {
-    const struct io_uring_sqe *entry = &request->entry;
     const struct wulgach_needs *needs = &request->needs;
     switch (need) {
     case WULGACH_NEEDS_FILE:
-        return find_fd(ring, &request->fd, entry->fd, needs->is_registered, &request->file);
+        return find_fd(ring, &request->fd, needs->fd, needs->is_registered, &request->file);
     case WULGACH_NEEDS_SECOND:
-        return find_fd(ring, &request->second_fd, entry->splice_fd_in, needs->is_second_registered, &request->second_file);
+        return find_fd(ring, &request->second_fd, needs->second_fd, needs->is_second_registered, &request->second_file);
     case WULGACH_NEEDS_OPEN:
         return counts_as_open(request->fd, needs->is_registered) ? 0 : wulgach_missing_fault(WULGACH_NO_FILE);
     case WULGACH_NEEDS_BUFFER:
@@ -157,7 +156,7 @@ static int look_for(struct ring *ring, struct request *request, enum wulgach_nee
 void assign(struct ring *ring, struct request *request)
 {
     request->is_assigned = true;
-    request->fd = request->entry.fd;
+    request->fd = request->needs.fd;
     for (uint32_t sought = request->needs.sought; sought && request->started == 0; sought &= sought - 1)
         request->started = look_for(ring, request, (enum wulgach_need)__builtin_ctz(sought));
 }

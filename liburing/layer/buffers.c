@@ -27,13 +27,13 @@ static struct buffer *buffer_of(uint64_t word)
     return (struct buffer *)(uintptr_t)word;
 }
 
-/* Reads a row of the application's lists, as the library says. A list that isn't there has no buffers, or no tags. */
-static int read_row(struct iovec *bytes, uint64_t *tag, uint64_t vectors, uint64_t tags, uint32_t index)
+/* Reads a row of the application's lists, as the library says. A list that isn't read has no buffers, or no tags. */
+static int read_row(struct iovec *bytes, uint64_t *tag, uint64_t vectors, uint64_t tags, uint32_t index, bool is_update)
 {
     *bytes = (struct iovec){0};
     *tag = 0;
     int result = 0;
-    for (uint32_t steps = wulgach_reading_steps(tags, vectors); steps && result == 0; steps &= steps - 1)
+    for (uint32_t steps = wulgach_reading_steps(tags, vectors, is_update); steps && result == 0; steps &= steps - 1)
         if (__builtin_ctz(steps) == WULGACH_READING_TAG)
             result = copy_in(tag, tags + index * sizeof *tag, sizeof *tag);
         else
@@ -56,23 +56,30 @@ static int make_buffer(struct ring *ring, uint64_t *word, const struct iovec *by
     return 0;
 }
 
+/* Makes the buffer of a row that names one, in the steps that the library says. */
 static int make_there(struct ring *ring, struct known_memory *known, uint64_t *word, const struct iovec *bytes, uint64_t tag)
 {
-    int fault = pinning_fault(known, bytes);
-    return fault < 0 ? fault : make_buffer(ring, word, bytes, tag);
+    int fault = 0;
+    for (uint32_t steps = wulgach_buffer_steps(); steps && fault == 0; steps &= steps - 1)
+        if (__builtin_ctz(steps) == WULGACH_BUFFER_PAGES)
+            fault = pinning_fault(known, bytes);
+        else
+            fault = make_buffer(ring, word, bytes, tag);
+    return fault;
 }
 
-/* Makes the buffer of a row, if the row has one. */
+/* Writes what a slot, an empty one, gets by a row of a list, and does no more of what the library says that an update does by it. */
 static int make_row(struct ring *ring, struct known_memory *known, uint64_t *word, uint64_t vectors, uint64_t tags, uint32_t index)
 {
     struct iovec bytes;
     uint64_t tag;
     int32_t fault;
     *word = 0;
-    int result = read_row(&bytes, &tag, vectors, tags, index);
-    if (result < 0 || wulgach_buffer_row((uintptr_t)bytes.iov_base, bytes.iov_len, tag, &fault) != WULGACH_ROW_FILLS)
-        return result < 0 ? result : fault;
-    return make_there(ring, known, word, &bytes, tag);
+    int result = read_row(&bytes, &tag, vectors, tags, index, false);
+    if (result < 0)
+        return result;
+    uint32_t steps = wulgach_row_steps(wulgach_buffer_row((uintptr_t)bytes.iov_base, bytes.iov_len, tag, &fault), false);
+    return steps & 1U << WULGACH_STEP_MAKES ? make_there(ring, known, word, &bytes, tag) : fault;
 }
 
 /* Of a table that isn't registered after all, no tag is told. */
@@ -83,10 +90,12 @@ static void drop_tags(const uint64_t *words, uint32_t count)
             wulgach_uses_drop_tag(&buffer_of(words[i])->uses);
 }
 
+/* Its slots go one behind the other, as the library says. */
 static void free_words(uint64_t *words, uint32_t count)
 {
-    for (uint32_t i = 0; i < count; i++)
-        release_buffer(buffer_of(words[i]));
+    uint32_t slot;
+    for (uint32_t gone = 0; wulgach_next_to_go(count, gone, &slot); gone++)
+        release_buffer(buffer_of(words[slot]));
     free(words);
 }
 
@@ -99,17 +108,20 @@ int register_buffers(struct ring *ring, uint64_t vectors, uint64_t tags, uint32_
     if (!words)
         return wulgach_missing_fault(WULGACH_NO_MEMORY_OWN);
     struct known_memory known = {0};
-    for (uint32_t i = 0; result == 0 && i < count && (vectors || tags); i++)
-        result = make_row(ring, &known, &words[i], vectors, tags, i);
+    uint32_t taken = 0, listing;
+    while ((listing = wulgach_table_listing(taken, count, vectors || tags, result)) == WULGACH_LISTING_TAKES) {
+        result = make_row(ring, &known, &words[taken], vectors, tags, taken);
+        taken++;
+    }
     forget_memory(&known);
-    if (result < 0) {
+    if (listing == WULGACH_LISTING_PUTS) {
+        ring->buffers.words = words;
+        wulgach_table_register(&ring->buffers.table, words, count);
+    } else {
         drop_tags(words, count);
         free_words(words, count);
-        return result;
     }
-    ring->buffers.words = words;
-    wulgach_table_register(&ring->buffers.table, words, count);
-    return 0;
+    return result;
 }
 
 int unregister_buffers(struct ring *ring, bool has_argument)
@@ -147,10 +159,10 @@ int update_buffers(struct ring *ring, uint32_t offset, uint64_t vectors, uint64_
     int result = wulgach_table_updating_fault(&ring->buffers.table, offset, count);
     uint32_t done = 0;
     struct known_memory known = {0};
-    while (result == 0 && done < count) {
+    while (wulgach_takes_next(done, count, result)) {
         struct iovec bytes;
         uint64_t tag;
-        result = vectors ? read_row(&bytes, &tag, vectors, tags, done) : wulgach_missing_fault(WULGACH_NO_MEMORY);
+        result = read_row(&bytes, &tag, vectors, tags, done, true);
         if (result == 0)
             result = update_buffer(ring, &known, offset + done, &bytes, tag);
         done += result == 0;

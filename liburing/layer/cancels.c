@@ -10,6 +10,7 @@
 #include "openness.h"
 #include "polls.h"
 #include "progress.h"
+#include "readiness.h"
 #include "ring.h"
 #include "steps.h"
 #include "streams.h"
@@ -38,8 +39,8 @@ static struct wulgach_outstanding seen_of(const struct request *request)
     return (struct wulgach_outstanding){
         .user_data = request->entry.user_data,
         .file = (uintptr_t)request->file,
-        .fd = (uint32_t)request->entry.fd,
-        .is_registered = request->entry.flags & IOSQE_FIXED_FILE,
+        .fd = (uint32_t)request->needs.fd,
+        .is_registered = request->needs.is_registered,
         .needs_file = request->needs.needs_file,
         .is_assigned = request->is_assigned,
         .code = request->entry.opcode,
@@ -56,28 +57,29 @@ bool is_cancellable(const struct request *request)
     return wulgach_is_waiting(&seen);
 }
 
-/* Has a cancel look at a request. The core is asked whether that could start only where it matters. */
-static bool look_for(struct ring *ring, struct wulgach_cancel *cancel, const struct request *request)
+/* Has the cancel of a seeker, or of a call of io_uring_register(2), which comes behind all (NULL), look at a request. The core is asked whether that could start only where it matters. */
+static bool look_for(struct ring *ring, struct wulgach_cancel *cancel, const struct request *seeker, const struct request *request)
 {
     struct wulgach_outstanding seen = seen_of(request);
-    seen.may_start = wulgach_cancel_asks(cancel, &seen) && can_issue(ring, request->number);
+    bool is_behind = seeker && wulgach_is_taken_behind(seeker->number, seeker->member.is_linked, seeker->is_draining, request->number);
+    seen.may_start = wulgach_cancel_asks(cancel, &seen) && !is_behind && can_issue(ring, request->number);
     return wulgach_cancel_sees(cancel, &seen);
 }
 
 /* Cancels what is sought, and returns what the canceller ends with. */
-static int32_t cancel_all(struct ring *ring, const struct wulgach_sought *sought)
+static int32_t cancel_all(struct ring *ring, const struct request *canceller, const struct wulgach_sought *sought)
 {
     struct wulgach_cancel cancel;
     struct seeking seeking;
     wulgach_cancel_begin(&cancel, sought);
     begin_seeking(&seeking, ring, sought);
     for (struct request *request; (request = next_sought(&seeking));)
-        if (look_for(ring, &cancel, request))
+        if (look_for(ring, &cancel, canceller, request))
             cancel_request(ring, request);
     return wulgach_cancel_result(&cancel);
 }
 
-bool cancel_running(struct ring *ring, uint64_t user_data)
+bool cancel_running(struct ring *ring, uint64_t user_data, int32_t *found)
 {
     struct wulgach_search search;
     struct seeking seeking;
@@ -88,33 +90,38 @@ bool cancel_running(struct ring *ring, uint64_t user_data)
         if (seen.runs && wulgach_search_sees(&search, &seen))
             cancel_request(ring, request);
     }
+    *found = wulgach_search_found_by_core(&search, *found, ring->is_linux);
     return wulgach_search_has_cancelled(&search);
 }
 
-static int32_t cancel_by(struct ring *ring, const struct request *canceller)
+int32_t cancel_sought(struct ring *ring, const struct request *canceller, struct wulgach_sought *sought)
 {
-    const struct io_uring_sqe *entry = &canceller->entry;
-    struct wulgach_sought sought;
-    wulgach_sought_of(submission_of(entry), &sought);
-    struct file *file = sought.is_by_fd && sought.is_fixed ? use_file(ring, sought.fd) : NULL;
-    bool is_there = sought.is_fixed ? file != NULL : sought.is_by_fd && counts_as_open(entry->fd, false);
-    sought.file = (uintptr_t)file;
-    int32_t fault = wulgach_seeking_fault(&sought, is_there);
-    int32_t res = fault < 0 ? fault : cancel_all(ring, &sought);
+    struct file *file = sought->is_by_fd && sought->is_fixed ? use_file(ring, sought->fd) : NULL;
+    bool is_there = sought->is_fixed ? file != NULL : sought->is_by_fd && counts_as_open((int)sought->fd, false);
+    sought->file = (uintptr_t)file;
+    int32_t fault = wulgach_seeking_fault(sought, is_there);
+    int32_t res = fault < 0 ? fault : cancel_all(ring, canceller, sought);
     release_file(file);
     return res;
 }
 
-struct request *find_request(struct ring *ring, const struct io_uring_sqe *seeker)
+int32_t cancel_by(struct ring *ring, const struct request *canceller)
+{
+    struct wulgach_sought sought;
+    wulgach_sought_of(submission_of(&canceller->entry), &sought);
+    return cancel_sought(ring, canceller, &sought);
+}
+
+struct request *find_request(struct ring *ring, const struct request *seeker)
 {
     struct wulgach_sought sought;
     struct wulgach_cancel cancel;
-    wulgach_sought_of(submission_of(seeker), &sought);
+    wulgach_sought_of(submission_of(&seeker->entry), &sought);
     struct seeking seeking;
     wulgach_cancel_begin(&cancel, &sought);
     begin_seeking(&seeking, ring, &sought);
     for (struct request *request; (request = next_sought(&seeking));)
-        if (look_for(ring, &cancel, request))
+        if (look_for(ring, &cancel, seeker, request))
             return request;
     return NULL;
 }
@@ -127,56 +134,68 @@ static void look_at_changed(struct ring *ring, struct request *poll)
     wulgach_lookout_updates(&ring->lookout, place_of(&ring->running, poll->number), can_finish(ring, poll));
 }
 
-static void change_poll(struct ring *ring, struct request *poll, const struct io_uring_sqe *change)
+/* It gets what the update names. */
+static void change_entry(struct ring *ring, struct request *poll, const struct io_uring_sqe *change)
 {
-    rouse(ring, poll);
-    delist(ring, poll);
-    struct wulgach_poll changed = {
-        .user_data = poll->entry.user_data,
-        .events = poll->entry.poll32_events,
-    };
-    wulgach_updated_poll(&changed, submission_of(change));
+    struct io_uring_sqe changed = poll->entry;
+    wulgach_updated_poll(submission_at(&changed), submission_of(change));
     rename_in_directory(ring, poll, changed.user_data);
-    poll->entry.poll32_events = changed.events;
+    poll->entry = changed;
     wulgach_needs_of(submission_of(&poll->entry), &poll->needs);
-    if (wulgach_course_begins_afresh(&poll->course)) {
-        poll->started = start_poll(poll);
-        look_at_changed(ring, poll);
-    }
 }
 
-static int32_t remove_poll(struct ring *ring, const struct io_uring_sqe *removal)
+static void do_step_of_update(struct ring *ring, struct request *poll, const struct io_uring_sqe *change, enum wulgach_changing step)
+{
+    switch (step) {
+    case WULGACH_CHANGING_ROUSES:
+        rouse(ring, poll);
+        return;
+    case WULGACH_CHANGING_DELISTS:
+        delist(ring, poll);
+        return;
+    case WULGACH_CHANGING_CHANGES:
+        change_entry(ring, poll, change);
+        return;
+    case WULGACH_CHANGING_UNWATCHES:
+        unwatch(ring, poll->epoll);
+        return;
+    case WULGACH_CHANGING_ASKS:
+        poll->started = start_poll(poll);
+        return;
+    case WULGACH_CHANGING_LOOKS:
+        look_at_changed(ring, poll);
+        return;
+    }
+    __builtin_unreachable();
+}
+
+/* Does with a poll what the library says that an update does, by rising bits. */
+static void change_poll(struct ring *ring, struct request *poll, const struct io_uring_sqe *change)
+{
+    for (uint32_t steps = wulgach_course_steps_at_update(&poll->course); steps; steps &= steps - 1)
+        do_step_of_update(ring, poll, change, (enum wulgach_changing)__builtin_ctz(steps));
+}
+
+int32_t remove_poll(struct ring *ring, const struct request *removal)
 {
     struct request *poll = find_request(ring, removal);
-    if (poll && wulgach_poll_removal(submission_of(removal)) == WULGACH_REMOVAL_UPDATES)
-        change_poll(ring, poll, removal);
+    if (poll && wulgach_poll_removal(submission_of(&removal->entry)) == WULGACH_REMOVAL_UPDATES)
+        change_poll(ring, poll, &removal->entry);
     else if (poll)
         cancel_request(ring, poll);
     return wulgach_removal_result(poll != NULL);
 }
 
-static int32_t remove_timeout(struct ring *ring, const struct request *removal)
+int32_t remove_timeout(struct ring *ring, const struct request *removal)
 {
     const struct io_uring_sqe *entry = &removal->entry;
     uint32_t what = wulgach_timeout_removal(submission_of(entry));
     if (what == WULGACH_REMOVAL_UPDATES_LINKED)
         return change_linked_timeout(ring, removal);
-    struct request *timeout = find_request(ring, entry);
+    struct request *timeout = find_request(ring, removal);
     if (timeout && what == WULGACH_REMOVAL_UPDATES)
         change_timeout(ring, timeout, removal);
     else if (timeout)
         cancel_request(ring, timeout);
     return wulgach_removal_result(timeout != NULL);
-}
-
-int32_t act_on_others(struct ring *ring, const struct request *request)
-{
-    switch (request->entry.opcode) {
-    case IORING_OP_POLL_REMOVE:
-        return remove_poll(ring, &request->entry);
-    case IORING_OP_TIMEOUT_REMOVE:
-        return remove_timeout(ring, request);
-    default:
-        return cancel_by(ring, request);
-    }
 }

@@ -89,7 +89,7 @@ static uint64_t store_shown(struct ring *ring)
 void show_flags(struct ring *ring)
 {
     /* A call may bring something: so a peek that finds nothing calls, requests go on, and a descriptor that polls is readable no more. */
-    store_word(&ring->memory.sq->flags, wulgach_shown_flags(&ring->completions.at, ring->requests.count, ring->is_readable, ring->flags & IORING_SETUP_SQPOLL));
+    store_word(&ring->memory.sq->flags, wulgach_shown_flags(&ring->completions.at, ring->requests.count, ring->is_readable, ring->has_thread));
 }
 
 void show(struct ring *ring)

@@ -1,5 +1,6 @@
 /* Copies by the system calls that read and write a process's memory, here its own: they end with an error where a load
- * or a store would end the program. Where they aren't allowed, memory is copied as it comes.
+ * or a store would end the program. Where they aren't allowed, memory is copied as it comes. The process is named by the
+ * thread that calls: its first one may have ended.
  */
 #define _GNU_SOURCE
 #include "copying.h"
@@ -27,7 +28,7 @@ static int judge(ssize_t copied, size_t size)
 int copy_in(void *to, uint64_t from, size_t size)
 {
     struct iovec here = {to, size}, there = {(void *)(uintptr_t)from, size};
-    int result = judge(process_vm_readv(this_process(), &here, 1, &there, 1, 0), size);
+    int result = judge(process_vm_readv(this_thread(), &here, 1, &there, 1, 0), size);
     if (result <= 0)
         return result;
     memcpy(to, there.iov_base, size);
@@ -37,7 +38,7 @@ int copy_in(void *to, uint64_t from, size_t size)
 int copy_out(uint64_t to, const void *from, size_t size)
 {
     struct iovec here = {(void *)(uintptr_t)from, size}, there = {(void *)(uintptr_t)to, size};
-    int result = judge(process_vm_writev(this_process(), &here, 1, &there, 1, 0), size);
+    int result = judge(process_vm_writev(this_thread(), &here, 1, &there, 1, 0), size);
     if (result <= 0)
         return result;
     memcpy(there.iov_base, from, size);

@@ -73,6 +73,11 @@ static bool is_own(const struct ring *ring)
     return ring->process == this_process();
 }
 
+uint32_t what_is_left(const struct ring *ring)
+{
+    return wulgach_left_of((uint32_t)ring->process, (uint32_t)this_process());
+}
+
 /* Whether a descriptor is open on this ring. Memory is known by its inode. */
 static bool is_reached_by(const struct ring *ring, int fd)
 {
@@ -107,7 +112,7 @@ static int find_descriptor(const struct ring *ring)
     if (is_reached_by(ring, ring->fd))
         return ring->fd;
     _Alignas(struct dirent64) char entries[1024];
-    int folder = open("/proc/self/fd", O_RDONLY | O_DIRECTORY | O_CLOEXEC), found = -1;
+    int folder = open("/proc/thread-self/fd", O_RDONLY | O_DIRECTORY | O_CLOEXEC), found = -1;
     for (long length; folder >= 0 && found < 0 && (length = syscall(SYS_getdents64, folder, entries, sizeof entries)) > 0;)
         found = find_listed(ring, entries, length);
     if (folder >= 0)
@@ -172,13 +177,13 @@ static void forget(const struct ring *ring)
             by_number[i] = NULL;
 }
 
-/* Ends those that have let go what they had. (a child leaves its parent's: the numbers of their traces may be its own by now) */
+/* Ends those that have let go what they had. (the numbers of the traces of a parent's may be its child's own by now) */
 static void end_rings(void)
 {
     while (ending) {
         struct ring *ring = ending;
         ending = ring->next;
-        if (is_own(ring))
+        if (!(what_is_left(ring) & WULGACH_LEAVES_MEMORY))
             end_ring(ring);
     }
 }
@@ -352,14 +357,15 @@ void call_by(struct ring *ring, int fd)
 }
 
 /* A message that comes while the lock is held is posted by who holds it; one that comes between its last look and its
- * unlocking, by who looks again, if it can be posted. What has to wait for a drain is posted behind that. */
+ * unlocking, by who looks again. When that is done, the library says. */
 __attribute__((noinline)) static void visit_with_messages(struct ring *ring, int fd)
 {
-    bool may_post = true;
-    while (wulgach_posts_message(has_messages(ring), may_post) && pthread_mutex_trylock(&ring->lock) == 0) {
+    bool is_left = false, may_post = false;
+    while (wulgach_visits_again(has_messages(ring), is_left, may_post) && pthread_mutex_trylock(&ring->lock) == 0) {
         call_by(ring, fd);
         post_messages(ring);
-        may_post = !has_messages(ring) || can_post_extra(ring);
+        is_left = has_messages(ring);
+        may_post = is_left && can_post_extra(ring);
         do_duties_behind_posting(ring);
         wake_sleepers(ring);
         pthread_mutex_unlock(&ring->lock);
@@ -374,7 +380,7 @@ void visit_ring(struct ring *ring, int fd)
 
 void unlock_ring(struct ring *ring)
 {
-    if (ring->is_parents)
+    if (ring->left & WULGACH_LEAVES_END)
         return;
     int fd = ring->called_fd;
     wake_sleepers(ring);

@@ -17,6 +17,9 @@ void unlock_ring(struct ring *ring);
 struct ring *hold_ring(int fd);
 void release_ring(struct ring *ring);
 
+/* What this process leaves undone with a ring, as the library says. */
+uint32_t what_is_left(const struct ring *ring);
+
 /* The lock of a ring is held again in a call by this descriptor, which another thread may have closed: then another that is open stands for it. */
 void call_by(struct ring *ring, int fd);
 

@@ -109,7 +109,7 @@ static bool is_to_lie(const struct ring *ring, const struct request *request)
 static bool enlist_kept(struct ring *ring, struct request *request)
 {
     hold_file_of(request);
-    if ((request->file || request->epoll >= 0) && enlist(ring, request))
+    if (wulgach_instance_takes(request->file, request->epoll >= 0) && enlist(ring, request))
         return true;
     delist(ring, request);
     request->is_unlisted = true;

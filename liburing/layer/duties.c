@@ -53,7 +53,7 @@ static void do_duty(struct ring *ring, enum wulgach_duty duty)
 /* Does what is in a set, by rising bits. */
 static void do_all(struct ring *ring, uint32_t duties)
 {
-    if (ring->is_parents)
+    if (ring->left & WULGACH_LEAVES_DUTIES)
         return;
     for (; duties; duties &= duties - 1)
         do_duty(ring, (enum wulgach_duty)__builtin_ctz(duties));
@@ -75,6 +75,7 @@ static struct wulgach_resting resting(const struct ring *ring)
 
 void do_duties_at_begin(struct ring *ring, bool has_slept)
 {
+    ring->has_shown = false;
     do_all(ring, wulgach_duties_at_begin(is_time_real(), has_slept));
 }
 
@@ -84,6 +85,17 @@ bool do_duties_before_sleep(struct ring *ring, bool has_fault)
     ring->pipes.has_told = false;
     do_all(ring, wulgach_duties_before_sleep(&at, has_fault));
     return ring->pipes.has_told;
+}
+
+bool do_duties_when_stuck(struct ring *ring)
+{
+    if (!ring->telling.is_registered)
+        return false;
+    struct wulgach_resting at = resting(ring);
+    uint32_t duties = wulgach_duties_when_stuck(&at, ring->telling.is_registered, ring->has_shown);
+    ring->has_shown |= duties != 0;
+    do_all(ring, duties);
+    return duties != 0;
 }
 
 void do_duties_at_rest(struct ring *ring)

@@ -11,6 +11,9 @@ bool do_duties_before_sleep(struct ring *ring, bool has_fault);
 void do_duties_at_rest(struct ring *ring);
 void do_duties_at_return(struct ring *ring);
 
+/* Where nothing can go on. True: something was done, so that it is to be asked once more. */
+bool do_duties_when_stuck(struct ring *ring);
+
 /* As a call of io_uring_register(2) begins, and returns. */
 void do_duties_at_register_begin(struct ring *ring, uint32_t code);
 void do_duties_at_register_return(struct ring *ring, uint32_t code);

@@ -36,25 +36,40 @@ __attribute__((noinline)) static void forget_descriptor(struct ring *ring, struc
     leave_pipe(ring, request);
 }
 
-/* Whether its end may close the last descriptor of this file, or none, which is a slot's, or named by this number. */
-static bool may_close(const struct file *file, bool is_of_slot, int fd)
+/* A file that a request has kept until its end, or none, as the library is told of it. */
+struct kept {
+    bool has_file, is_of_slot, is_same;
+};
+
+/* Whether it is the file of the number that its entry names is asked only where that matters to `wulgach_may_close_last`. */
+static struct kept kept_of(uint64_t others, const struct file *file, bool is_of_slot, int fd)
 {
-    return wulgach_may_close_last(file, is_of_slot, file && !is_of_slot && is_file_of(file, fd));
+    return (struct kept){file, is_of_slot, others && file && !is_of_slot && is_file_of(file, fd)};
 }
 
-/* Whether its end may close the last descriptor of a file while others wait, as that of a pipe's other end. */
-static bool may_close_last(const struct ring *ring, const struct request *request)
+static bool may_close(uint64_t others, bool was_closed, const struct kept *kept)
 {
-    const struct io_uring_sqe *entry = &request->entry;
-    if ((!request->file && !request->second_file) || ring->running.count + ring->dormant.count == 0)
-        return false;
-    return may_close(request->file, request->needs.is_registered, entry->fd) || may_close(request->second_file, request->needs.is_second_registered, entry->splice_fd_in);
+    return wulgach_may_close_last(others, was_closed, kept->has_file, kept->is_of_slot, kept->is_same);
+}
+
+/* A request that has files lets them go. Others may go on behind it, as who reads a pipe whose other end it has closed. */
+static void leave_files(struct ring *ring, struct request *request)
+{
+    const struct wulgach_needs *needs = &request->needs;
+    uint64_t others = ring->running.count + ring->dormant.count;
+    struct kept first = kept_of(others, request->file, needs->is_registered, needs->fd);
+    struct kept second = kept_of(others, request->second_file, needs->is_second_registered, needs->second_fd);
+    bool was_closed = end_request(&ring->requests, request);
+    if (may_close(others, was_closed, &first) || may_close(others, was_closed, &second))
+        wulgach_lookout_moves(&ring->lookout);
 }
 
 static void unwatch_files(struct ring *ring, const struct request *request)
 {
     if (request->file)
         unwatch(ring, request->file->fd);
+    if (request->second_file)
+        unwatch(ring, request->second_file->fd);
     if (request->epoll >= 0)
         unwatch(ring, request->epoll);
 }
@@ -63,9 +78,10 @@ static void unwatch_files(struct ring *ring, const struct request *request)
 static void leave(struct ring *ring, struct request *request)
 {
     take_from_directory(ring, request);
-    bool may_be_last = may_close_last(ring, request);
-    if (end_request(&ring->requests, request) && may_be_last)
-        wulgach_lookout_moves(&ring->lookout);
+    if (request->file || request->second_file)
+        leave_files(ring, request);
+    else
+        end_request(&ring->requests, request);
 }
 
 /* A request that ends, what the core was told of it, and whether a completion is posted. */
@@ -121,17 +137,18 @@ void end_of(struct ring *ring, struct request *request, int32_t res, int32_t tol
     if (!is_posted)
         record_silent_end(ring, request);
     struct end_of_request end = {request, told, is_posted};
-    uint32_t duties = wulgach_duties_behind_end(request->file, request->epoll >= 0, request->standing.is_stream, request->is_draining);
+    uint32_t duties = wulgach_duties_behind_end(request->file || request->second_file, request->epoll >= 0, request->standing.is_stream, request->is_draining);
     for (; duties; duties &= duties - 1)
         do_duty(ring, &end, (enum wulgach_end_duty)__builtin_ctz(duties));
 }
 
-/* A cancel of the core's has ended so: cancels what it has found all the same, and says whether there is one. */
-static bool cancel_behind(struct ring *ring, const struct request *cancel, struct request *next, int32_t res)
+/* A cancel of the core's has ended so: cancels what it has found all the same, and says whether there is one. Of a core that has found what no cancel
+ * finds the result is put right. */
+static bool cancel_behind(struct ring *ring, const struct request *cancel, struct request *next, int32_t *res)
 {
-    if (wulgach_looks_for_running(true, res))
-        return cancel_running(ring, wulgach_target_of(submission_of(&cancel->entry)));
-    if (!next || !wulgach_looks_for_next(true, res, ring->is_linux))
+    if (wulgach_looks_for_running(true, *res) && cancel_running(ring, wulgach_target_of(submission_of(&cancel->entry)), res))
+        return true;
+    if (!next || !wulgach_looks_for_next(true, *res, ring->is_linux))
         return false;
     cancel_request(ring, next);
     return true;
@@ -144,7 +161,7 @@ int32_t shown_of(struct ring *ring, const struct request *request, struct reques
         .fault = request->fault,
         .is_faulty = request->mapping == REFUSED,
         .is_cancel = is_cancel,
-        .has_cancelled = is_cancel && cancel_behind(ring, request, next, res),
+        .has_cancelled = is_cancel && cancel_behind(ring, request, next, &res),
         .is_linked_timeout = is_linked_timeout(request),
         .has_fired = request->has_fired,
     };

@@ -176,12 +176,12 @@ static int dismiss_row(uint64_t at)
     return result;
 }
 
-/* Ends at the first row that can't be done: those before it stay so. */
+/* Takes as many rows as the library says. */
 static int for_each_row(int (*change)(uint64_t at), uint64_t list, uint32_t count)
 {
     int result = make_table();
     uint32_t done = 0;
-    while (result == 0 && done < count) {
+    while (wulgach_takes_next(done, count, result)) {
         result = change(list + done * sizeof(struct io_uring_rsrc_update));
         done += result == 0;
     }

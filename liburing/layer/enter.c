@@ -35,6 +35,7 @@ struct waiting {
     sigset_t *given;                /* room for that */
     uint32_t sleeps;                /* how often the call has begun to sleep */
     uint32_t flags;
+    bool is_extended;               /* the last argument is a structure */
     int fault;                      /* of the last argument, read behind the submission; 0: none */
 };
 
@@ -43,7 +44,7 @@ static int read_extended(struct waiting *waiting)
 {
     struct io_uring_getevents_arg extended;
     struct __kernel_timespec time;
-    struct wulgach_argument argument = {.size = waiting->mask_size, .is_extended = true};
+    struct wulgach_argument argument = {.size = waiting->mask_size, .is_extended = waiting->is_extended};
     argument.is_readable = argument.size == sizeof extended && copy_in(&extended, waiting->mask, sizeof extended) == 0;
     argument.has_time = argument.is_readable && extended.ts;
     argument.is_time_readable = argument.has_time && copy_in(&time, extended.ts, sizeof time) == 0;
@@ -110,8 +111,8 @@ static int submit_published(struct ring *ring, uint32_t to_submit)
  * where nothing was submitted; else it ends the call where that would sleep. */
 static enum wulgach_reply_kind submit_entries(struct ring *ring, struct waiting *waiting, struct wulgach_reply *reply)
 {
-    int submitted = ring->flags & IORING_SETUP_SQPOLL ? submit_published(ring, waiting->to_submit) : submit(ring, waiting->to_submit);
-    if (waiting->flags & IORING_ENTER_EXT_ARG && wulgach_reads_argument(waiting->flags & IORING_ENTER_GETEVENTS, waiting->to_submit, submitted)) {
+    int submitted = ring->has_thread ? submit_published(ring, waiting->to_submit) : submit(ring, waiting->to_submit);
+    if (waiting->is_extended && wulgach_reads_argument(waiting->flags & IORING_ENTER_GETEVENTS, waiting->to_submit, submitted)) {
         waiting->fault = read_extended(waiting);
         submitted = (int)wulgach_submission_with_fault(submitted, waiting->fault);
     }
@@ -192,7 +193,7 @@ static enum wulgach_reply_kind do_wanted(struct ring *ring, struct waiting *wait
 
 static void see(struct ring *ring, struct wulgach_reply *reply)
 {
-    if (ring->is_parents)
+    if (ring->left & WULGACH_LEAVES_SIGHT)
         return;
     reply->ready = count_ready(ring);
     reply->expired = ring->times.expired;
@@ -202,7 +203,6 @@ static void see(struct ring *ring, struct wulgach_reply *reply)
 /* Carries a call out: what it does next, when it sleeps and what it returns is the library's decision. */
 static int carry_call_out(struct ring *ring, struct waiting *waiting, uint32_t flags)
 {
-    bool has_thread = ring->flags & IORING_SETUP_SQPOLL;
     struct wulgach_asked asked = {
         .to_submit = waiting->to_submit,
         .min_complete = waiting->min_complete,
@@ -210,8 +210,8 @@ static int carry_call_out(struct ring *ring, struct waiting *waiting, uint32_t f
         .policy = kind_of_policy(),
         .gets = flags & IORING_ENTER_GETEVENTS,
         /* One with an eventfd may sleep on it. */
-        .may_leave = wulgach_eventfd_may_leave(&ring->telling, has_thread),
-        .has_thread = has_thread,
+        .may_leave = wulgach_eventfd_may_leave(&ring->telling, ring->has_thread),
+        .has_thread = ring->has_thread,
     };
     struct wulgach_enter call;
     struct wulgach_command command;
@@ -227,11 +227,24 @@ static int carry_call_out(struct ring *ring, struct waiting *waiting, uint32_t f
     return (int)command.result;
 }
 
-static int enter_ring(struct ring *ring, struct waiting *waiting)
+/* Does what the library says is done of a call that passes, by rising bits. */
+static int enter_ring(struct ring *ring, struct waiting *waiting, uint32_t steps)
 {
-    do_duties_at_begin(ring, false);
-    int result = carry_call_out(ring, waiting, waiting->flags);
-    do_duties_at_return(ring);
+    int result = 0;
+    for (; steps; steps &= steps - 1)
+        switch (steps & -steps) {
+        case WULGACH_HAS_STRUCTURE:
+            waiting->is_extended = true;
+            break;
+        case WULGACH_BEGINS_CALL:
+            do_duties_at_begin(ring, false);
+            break;
+        case WULGACH_MAKES_CALL:
+            result = carry_call_out(ring, waiting, waiting->flags);
+            break;
+        default:
+            do_duties_at_return(ring);
+        }
     return result;
 }
 
@@ -257,9 +270,9 @@ static int enter_by(int fd, struct waiting *waiting)
 {
     struct ring *ring = NULL;
     int32_t next = wulgach_entering_next(waiting->flags, WULGACH_AT_FIRST, 0);
-    while (next >= 0 && next != WULGACH_PASSES)
+    while (next >= 0 && next < WULGACH_AT_FIRST)
         next = wulgach_entering_next(waiting->flags, (uint32_t)next, do_next(&ring, &fd, waiting, (uint32_t)next));
-    int result = next == WULGACH_PASSES ? enter_ring(ring, waiting) : next;
+    int result = next < 0 ? next : enter_ring(ring, waiting, (uint32_t)next);
     if (ring)
         unlock_ring(ring);
     return result;

@@ -58,6 +58,6 @@ void tell_eventfd(struct ring *ring, uint64_t told)
     uint32_t flags = load_word(&ring->memory.cq->flags);
     bool takes = wulgach_eventfd_tells(&ring->telling, flags) && has_room(ring);
     uint64_t added = wulgach_eventfd_added(&ring->telling, flags, told, takes);
-    ssize_t written = added > 0 ? write(ring->eventfd, &added, sizeof added) : 0;
-    (void)written;
+    if (added > 0 && write(ring->eventfd, &added, sizeof added) > 0)
+        wulgach_lookout_moves(&ring->lookout);
 }

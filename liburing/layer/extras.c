@@ -73,11 +73,10 @@ static void put_off(struct ring *ring, struct request *request, int32_t res)
     __atomic_add_fetch(&ring->inbox.count, 1, __ATOMIC_SEQ_CST);
 }
 
-bool post_unposted(struct ring *ring)
+/* Gives the core what was put off once more. False: memory is refused still. */
+static bool post_unposted(struct ring *ring)
 {
     struct request *request = ring->unposted;
-    if (!request)
-        return true;
     ring->unposted = NULL;
     if (!reserve_all(ring, 1) || !take_own(ring, request, ring->unposted_res)) {
         ring->unposted = request;
@@ -87,11 +86,20 @@ bool post_unposted(struct ring *ring)
     return true;
 }
 
+bool comes_now(struct ring *ring, enum wulgach_coming what)
+{
+    uint32_t order;
+    bool is_refused = false;
+    while ((order = wulgach_order_behind(what, ring->unposted, is_refused)) == WULGACH_POSTS_FIRST)
+        is_refused = !post_unposted(ring);
+    return order == WULGACH_COMES_NOW;
+}
+
 bool can_post_extra(struct ring *ring)
 {
     if (!wulgach_drains_may_post(&ring->drains, ring->staged.count, ring->is_linux, true))
         return false;
-    bool has_memory = post_unposted(ring) && reserve_all(ring, 1) && reserve_request(&ring->requests);
+    bool has_memory = (!ring->unposted || comes_now(ring, WULGACH_POSTING_COMES)) && reserve_all(ring, 1) && reserve_request(&ring->requests);
     return wulgach_drains_may_post(&ring->drains, ring->staged.count, ring->is_linux, has_memory);
 }
 
@@ -202,31 +210,57 @@ static struct ring *find_receiver(struct ring *ring, const struct io_uring_sqe *
     return target;
 }
 
-/* Puts a registered file into the other ring's table. */
-static int32_t send_file(struct ring *ring, struct ring *target, const struct io_uring_sqe *entry)
-{
+/* What is sent: what the other ring is told, and the file that is passed to it. */
+struct sending {
+    struct message *message;
     struct wulgach_passed passed;
-    wulgach_passed_of(submission_of(entry), &passed);
-    struct file *file = use_file(ring, passed.slot);
-    int32_t slot = file ? pass_file(target, file, passed.to) : wulgach_missing_fault(WULGACH_NO_FILE);
-    release_file(file);
-    return slot;
+    struct file *file;
+};
+
+/* Looks for the registered file that is to be passed. */
+static int32_t find_passed(struct ring *ring, const struct io_uring_sqe *entry, struct sending *sending)
+{
+    wulgach_passed_of(submission_of(entry), &sending->passed);
+    sending->file = use_file(ring, sending->passed.slot);
+    return sending->file ? 0 : wulgach_missing_fault(WULGACH_NO_FILE);
 }
 
-/* Carries a message out that has no fault: what it is told of stands ready before. */
-static int32_t send_to(struct ring *ring, struct ring *target, const struct io_uring_sqe *entry, bool is_file)
+/* Tells the other ring of what a message has come to, if it is to be told: then the message is its. */
+static void tell_ring(struct ring *target, const struct io_uring_sqe *entry, int32_t res, struct message **message)
 {
     struct wulgach_message told;
-    struct message *message = make_message_of(0, 0);
-    if (!message)
-        return wulgach_missing_fault(WULGACH_NO_MEMORY_OWN);
-    int32_t res = is_file ? send_file(ring, target, entry) : 0;
-    if (!wulgach_told_of(submission_of(entry), res, &told)) {
-        free(message);
+    if (!wulgach_told_of(submission_of(entry), res, &told))
+        return;
+    **message = (struct message){NULL, told.user_data, told.res, told.flags};
+    put_message(&target->inbox, *message);
+    *message = NULL;
+}
+
+static int32_t do_step_of_message(struct ring *ring, struct ring *target, const struct io_uring_sqe *entry, uint32_t step, int32_t res, struct sending *sending)
+{
+    switch (step) {
+    case WULGACH_HAS_MESSAGE:
+        sending->message = make_message_of(0, 0);
+        return sending->message ? res : wulgach_missing_fault(WULGACH_NO_MEMORY_OWN);
+    case WULGACH_FINDS_FILE:
+        return find_passed(ring, entry, sending);
+    case WULGACH_PASSES_FILE:
+        return pass_file(target, sending->file, sending->passed.to);
+    default:
+        tell_ring(target, entry, res, &sending->message);
         return res;
     }
-    *message = (struct message){NULL, told.user_data, told.res, told.flags};
-    put_message(&target->inbox, message);
+}
+
+/* Carries a message out, by rising bits, until a step fails. */
+static int32_t send_to(struct ring *ring, struct ring *target, const struct io_uring_sqe *entry, uint32_t steps)
+{
+    struct sending sending = {0};
+    int32_t res = 0;
+    for (; steps && res >= 0; steps &= steps - 1)
+        res = do_step_of_message(ring, target, entry, steps & -steps, res, &sending);
+    free(sending.message);
+    release_file(sending.file);
     return res;
 }
 
@@ -235,9 +269,9 @@ int32_t send_message(struct ring *ring, const struct io_uring_sqe *entry)
     struct wulgach_receiver to;
     struct ring *target = find_receiver(ring, entry, &to);
     int32_t result;
-    uint32_t sending = wulgach_sending_of(submission_of(entry), &to, &result);
-    if (sending != WULGACH_SENDS_NOTHING)
-        result = send_to(ring, target, entry, sending == WULGACH_SENDS_FILE);
+    uint32_t steps = wulgach_sending_of(submission_of(entry), &to, &result);
+    if (steps != WULGACH_SENDS_NOTHING)
+        result = send_to(ring, target, entry, steps);
     uint32_t visit = wulgach_visit_of(&to, result);
     if (visit == WULGACH_POSTS_OWN)
         post_messages(ring);

@@ -179,10 +179,12 @@ struct file *share_file(struct file *file)
     return file;
 }
 
+/* Its slots go one behind the other, as the library says. */
 static void free_words(uint64_t *words, uint32_t count)
 {
-    for (uint32_t i = 0; i < count; i++)
-        release_file(file_of(words[i]));
+    uint32_t slot;
+    for (uint32_t gone = 0; wulgach_next_to_go(count, gone, &slot); gone++)
+        release_file(file_of(words[slot]));
     free(words);
 }
 
@@ -219,13 +221,13 @@ static void put_slot(struct files *files, uint32_t slot, struct file *file)
     release_file(file_of(before));
 }
 
-/* Reads a descriptor, and its tag, of the application's lists, as the library says. A list that isn't there has no files, or no tags. */
-static int read_row(int *fd, uint64_t *tag, uint64_t fds, uint64_t tags, uint32_t index)
+/* Reads a descriptor, and its tag, of the application's lists, as the library says. A list that isn't read has no files, or no tags. */
+static int read_row(int *fd, uint64_t *tag, uint64_t fds, uint64_t tags, uint32_t index, bool is_update)
 {
     *fd = NO_FILE;
     *tag = 0;
     int result = 0;
-    for (uint32_t steps = wulgach_reading_steps(tags, fds); steps && result == 0; steps &= steps - 1)
+    for (uint32_t steps = wulgach_reading_steps(tags, fds, is_update); steps && result == 0; steps &= steps - 1)
         if (__builtin_ctz(steps) == WULGACH_READING_TAG)
             result = copy_in(tag, tags + index * sizeof *tag, sizeof *tag);
         else
@@ -240,7 +242,7 @@ static int make_row(struct ring *ring, uint64_t *word, uint64_t fds, uint64_t ta
     uint64_t tag;
     int32_t fault;
     struct file *file = NULL;
-    int result = read_row(&fd, &tag, fds, tags, index);
+    int result = read_row(&fd, &tag, fds, tags, index, false);
     if (result < 0)
         return result;
     if (wulgach_file_row(fd, tag, false, &fault) == WULGACH_ROW_FILLS)
@@ -257,9 +259,12 @@ int register_files(struct ring *ring, uint64_t fds, uint64_t tags, uint32_t coun
     uint64_t *words = calloc(count, sizeof *words);
     if (!words)
         return wulgach_missing_fault(WULGACH_NO_MEMORY_OWN);
-    for (uint32_t i = 0; result == 0 && i < count && (fds || tags); i++)
-        result = make_row(ring, &words[i], fds, tags, i);
-    if (result == 0)
+    uint32_t taken = 0, listing;
+    while ((listing = wulgach_table_listing(taken, count, fds || tags, result)) == WULGACH_LISTING_TAKES) {
+        result = make_row(ring, &words[taken], fds, tags, taken);
+        taken++;
+    }
+    if (listing == WULGACH_LISTING_PUTS)
         put_table(&ring->files, words, count);
     else
         drop_words(words, count);
@@ -292,10 +297,10 @@ int update_files(struct ring *ring, uint32_t offset, uint64_t fds, uint64_t tags
 {
     int result = wulgach_table_updating_fault(&ring->files.table, offset, count);
     uint32_t done = 0;
-    while (result == 0 && done < count) {
+    while (wulgach_takes_next(done, count, result)) {
         int fd;
         uint64_t tag;
-        result = fds ? read_row(&fd, &tag, fds, tags, done) : wulgach_missing_fault(WULGACH_NO_MEMORY);
+        result = read_row(&fd, &tag, fds, tags, done, true);
         if (result == 0)
             result = update_file(ring, offset + done, fd, tag);
         done += result == 0;
@@ -359,22 +364,44 @@ int remove_file(struct ring *ring, uint32_t slot)
     return result;
 }
 
-static int place_file(struct ring *ring, uint64_t fds, uint32_t index)
-{
+/* A file that is put where there is room, by a row of a list. */
+struct placing {
+    uint64_t fds;
+    uint32_t index;
     int fd;
     uint64_t tag;
     struct file *file;
-    int result = fds ? read_row(&fd, &tag, fds, 0, index) : wulgach_missing_fault(WULGACH_NO_MEMORY);
-    if (result == 0)
-        result = make_tagged_file(ring, &file, fd, tag);
-    if (result < 0)
-        return result;
-    int slot = put_file(ring, file, IORING_FILE_INDEX_ALLOC);
-    if (slot < 0)
-        return slot;
-    result = wulgach_telling_fault(copy_out(fds + index * sizeof slot, &slot, sizeof slot) == 0);
-    if (result < 0)
-        remove_file(ring, (uint32_t)slot);
+    int slot;
+};
+
+static int do_step_of_placing(struct ring *ring, struct placing *placing, uint32_t step)
+{
+    int *slot = &placing->slot;
+    switch (step) {
+    case WULGACH_PLACING_READS:
+        return read_row(&placing->fd, &placing->tag, placing->fds, 0, placing->index, true);
+    case WULGACH_PLACING_MAKES:
+        return make_tagged_file(ring, &placing->file, placing->fd, placing->tag);
+    case WULGACH_PLACING_PUTS:
+        *slot = put_file(ring, placing->file, IORING_FILE_INDEX_ALLOC);
+        return *slot;
+    default:
+        return wulgach_telling_fault(copy_out(placing->fds + placing->index * sizeof *slot, slot, sizeof *slot) == 0);
+    }
+}
+
+/* Does with a row what the library says. Returns its fault, or 0. */
+static int place_file(struct ring *ring, uint64_t fds, uint32_t index)
+{
+    struct placing placing = {.fds = fds, .index = index};
+    int result = 0;
+    uint32_t next = wulgach_placing_next(WULGACH_PLACING_BEGINS, 0);
+    while (next <= WULGACH_PLACING_TELLS) {
+        result = do_step_of_placing(ring, &placing, next);
+        next = wulgach_placing_next(next, result);
+    }
+    if (next == WULGACH_PLACING_TAKES_OUT)
+        remove_file(ring, (uint32_t)placing.slot);
     return result;
 }
 
@@ -382,7 +409,7 @@ int place_files(struct ring *ring, uint64_t fds, uint32_t count)
 {
     int result = wulgach_table_updating_fault(&ring->files.table, 0, 0);
     uint32_t done = 0;
-    while (result == 0 && done < count) {
+    while (wulgach_takes_next(done, count, result)) {
         result = place_file(ring, fds, done);
         done += result == 0;
     }

@@ -15,7 +15,7 @@
 #include <sys/syscall.h>
 #include <unistd.h>
 
-enum { HIGH = 900 };
+enum { HIGH = 900, PAGE = 4096, MOST_ASKED = 64 };
 
 static struct {
     char path[PATH_ROOM], disk[PATH_ROOM], output[PATH_ROOM];
@@ -66,30 +66,67 @@ static void append(const struct iovec *parts, size_t count)
     }
 }
 
-void log_event(struct event *event, const char *path, const char *second_path, const struct iovec *bytes, size_t count)
+/* How far memory can be read from here on, over so many pages at most: a byte of each is asked for. Where nobody may ask it can be. */
+static uintptr_t ask_pages(pid_t thread, uintptr_t at, uintptr_t end)
+{
+    struct iovec pages[MOST_ASKED];
+    char first[MOST_ASKED];
+    size_t count = 0;
+    for (; count < MOST_ASKED && at < end; at = (at / PAGE + 1) * PAGE)
+        pages[count++] = (struct iovec){(void *)at, 1};
+    const struct iovec here = {first, count};
+    ssize_t read = process_vm_readv(thread, &here, 1, pages, count, 0);
+    if (read == (ssize_t)count || (read < 0 && (errno == ENOSYS || errno == EPERM)))
+        return at < end ? at : end;
+    return (uintptr_t)pages[read > 0 ? read : 0].iov_base;
+}
+
+/* How many bytes of a run can be read, from its first on. */
+static size_t readable(pid_t thread, const struct iovec *bytes)
+{
+    const uintptr_t begin = (uintptr_t)bytes->iov_base, end = begin + bytes->iov_len;
+    uintptr_t at = begin, next;
+    int kept = errno;
+    while (at < end && (next = ask_pages(thread, at, end)) > at)
+        at = next;
+    errno = kept;
+    return at - begin;
+}
+
+/* Puts into `parts` what can be read of runs of bytes, from the first on, as the kernel would write of them; returns how many bytes these are. */
+static size_t take_readable(pid_t thread, const struct iovec *bytes, size_t count, struct iovec *parts)
 {
     size_t length = 0;
+    bool is_whole = true;
+    for (size_t i = 0; i < count; i++) {
+        parts[i] = (struct iovec){bytes[i].iov_base, is_whole ? readable(thread, &bytes[i]) : 0};
+        length += parts[i].iov_len;
+        is_whole = is_whole && parts[i].iov_len == bytes[i].iov_len;
+    }
+    return length;
+}
+
+/* (an event of which less could be written than it says would hide all that stand behind it) */
+void log_event(struct event *event, const char *path, const char *second_path, const struct iovec *bytes, size_t count)
+{
     struct iovec parts[count + 3];
     event->process = (uint32_t)pass(SYS_getpid, 0, 0, 0, 0, 0, 0);
     event->thread = (uint32_t)pass(SYS_gettid, 0, 0, 0, 0, 0, 0);
     event->path = path ? (uint16_t)strlen(path) : 0;
     event->second_path = second_path ? (uint16_t)strlen(second_path) : 0;
-    for (size_t i = 0; i < count; i++)
-        length += bytes[i].iov_len;
+    size_t length = take_readable((pid_t)event->thread, bytes, count, parts + 3);
     event->bytes = (uint32_t)length;
     event->size = (uint32_t)(sizeof *event + event->path + event->second_path + length);
     parts[0] = (struct iovec){event, sizeof *event};
     parts[1] = (struct iovec){(void *)(uintptr_t)path, event->path};
     parts[2] = (struct iovec){(void *)(uintptr_t)second_path, event->second_path};
-    if (count > 0)
-        memcpy(parts + 3, bytes, count * sizeof *bytes);
     append(parts, count + 3);
 }
 
 bool path_of(int fd, char path[PATH_ROOM])
 {
-    char name[32];
-    snprintf(name, sizeof name, "/proc/self/fd/%d", fd);
+    char name[40];
+    snprintf(name, sizeof name, "/proc/thread-self/fd/%d", fd);
     long length = pass(SYS_readlink, (long)name, (long)path, PATH_ROOM - 1, 0, 0, 0);
     if (length < 0)
         return false;

@@ -74,10 +74,11 @@ static int32_t open_file(struct ring *ring, struct request *request, const struc
 /* Does what the library says that a close does. Those before it have begun in the kernel, which has their files. */
 static int32_t close_file(struct ring *ring, const struct request *request, const struct wulgach_system_call *call)
 {
-    int32_t result = wulgach_holding_fault(request->entry.fd, is_ring(request->entry.fd));
+    int fd = (int)call->first;
+    int32_t result = wulgach_holding_fault(fd, is_ring(fd));
     for (uint32_t steps = wulgach_closing_steps(result); steps; steps &= steps - 1)
         if (__builtin_ctz(steps) == WULGACH_CLOSING_KEEPS)
-            hold_files_before(ring, request);
+            hold_files_before(ring, request, fd);
         else
             result = make_call(call);
     return result;
@@ -108,9 +109,9 @@ static int32_t carry_out_by(struct ring *ring, struct request *request, const st
     case WULGACH_BY_SLOT_REMOVAL:
         return remove_file(ring, means->slot);
     case WULGACH_BY_FILES_PLACING:
-        return place_files(ring, entry->addr, entry->len);
+        return place_files(ring, means->listed.address, means->listed.count);
     case WULGACH_BY_FILES_UPDATE:
-        return update_files(ring, means->slot, entry->addr, 0, entry->len);
+        return update_files(ring, means->slot, means->listed.address, 0, means->listed.count);
     case WULGACH_BY_TIMEOUT:
         return end_timeout(ring, request);
     case WULGACH_BY_LINKED_TIMEOUT:
@@ -121,8 +122,12 @@ static int32_t carry_out_by(struct ring *ring, struct request *request, const st
         return remove_buffers(ring, entry);
     case WULGACH_BY_MESSAGE:
         return send_message(ring, entry);
-    case WULGACH_BY_OTHERS:
-        return act_on_others(ring, request);
+    case WULGACH_BY_CANCEL:
+        return cancel_by(ring, request);
+    case WULGACH_BY_POLL_REMOVAL:
+        return remove_poll(ring, request);
+    case WULGACH_BY_TIMEOUT_REMOVAL:
+        return remove_timeout(ring, request);
     default:
         stop_program("an operation is carried out by nothing");
     }

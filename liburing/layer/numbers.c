@@ -175,6 +175,22 @@ void forget_kept(int fd)
         __atomic_and_fetch(&kept[fd / BITS], ~((uint64_t)1 << fd % BITS), __ATOMIC_RELAXED);
 }
 
+void keep_for_later(int fd)
+{
+    lock_kept();
+    fcntl(fd, F_SETFD, FD_CLOEXEC);
+    note(fd);
+    unlock_kept();
+}
+
+void give_to_application(int fd, bool closes_on_exec)
+{
+    lock_kept();
+    forget_kept(fd);
+    fcntl(fd, F_SETFD, closes_on_exec ? FD_CLOEXEC : 0);
+    unlock_kept();
+}
+
 /* (not noted any more first: another may have the number as soon as it is closed) */
 static void close_noted(int fd)
 {

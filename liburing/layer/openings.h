@@ -10,8 +10,8 @@ bool asks_opening(const struct request *request);
 /* Opens it so, by this call. Returns its descriptor, or the negative of an error number. */
 int32_t open_at_once(const struct request *request, const struct wulgach_system_call *call);
 
-/* Whether a request opens a named pipe, and may have to wait until its other end is open. */
-bool opens_pipe(const struct request *request);
+/* Whether a request opens a named pipe, and may have to wait until its other end is open. Then its path is looked up here, and no more. */
+bool opens_pipe(struct request *request);
 
 /* Opens it, by this call. Returns its descriptor, the negative of an error number, or WOULD_WAIT. */
 int32_t open_pipe(struct request *request, const struct wulgach_system_call *call);

@@ -20,8 +20,8 @@ bool counts_as_open(int fd, bool is_of_slot)
 
 size_t name_of_descriptor(int fd, char name[MOST_OF_NAME])
 {
-    char path[32];
-    snprintf(path, sizeof path, "/proc/self/fd/%d", fd);
+    char path[40];
+    snprintf(path, sizeof path, "/proc/thread-self/fd/%d", fd);
     ssize_t length = readlink(path, name, MOST_OF_NAME);
     return length < 0 ? 0 : (size_t)length;
 }

@@ -50,7 +50,7 @@ struct pollfd poll_of(const struct request *request)
 
 bool is_impatient(const struct request *request)
 {
-    struct wulgach_patience patience = {.length = request->length, .has_failed = request->started < 0, .has_begun = request->has_called, .is_listening = request->is_listening};
+    struct wulgach_patience patience = {.length = request->length, .has_failed = request->started < 0, .has_begun = request->has_called, .knows_listening = request->knows_listening, .is_listening = request->is_listening};
     return wulgach_is_impatient(submission_of(&request->entry), &patience);
 }
 
@@ -88,11 +88,7 @@ static void shorten(struct request *request)
 
 bool is_not_to_wait(const struct request *request)
 {
-    if (!request->needs.needs_second)
-        return is_unwilling(request->fd);
-    if (is_pipe(request->fd) && is_pipe(request->second_fd))
-        return is_unwilling(request->fd) || is_unwilling(request->second_fd);
-    return is_unwilling(poll_of(request).fd);
+    return request->needs.needs_second ? is_unwilling_splice(request) : is_unwilling(request->fd);
 }
 
 /* The transfer as the library is told of it. */
@@ -132,8 +128,10 @@ static int32_t call_transfer(const struct request *request, const struct wulgach
     struct wulgach_system_call call;
     wulgach_transfer_call(submission_of(&request->entry), &vectors, transfer, way, &call);
     if (way == WULGACH_CALL_UNWILLING)
-        return make_unwilling_call(&call, request->fd, -1);
+        return make_unwilling_transfer(&call, request->fd);
     int32_t res = request->needs.is_read ? make_passing_call(&call) : make_call(&call);
+    if (wulgach_asks_shut(submission_of(&request->entry), res) && is_shut(request->fd))
+        res = wulgach_shut_result(make_call(&call), true);
     if (way == WULGACH_CALL_AT_ONCE && res == -EOPNOTSUPP)
         note_slow(request->fd);
     return res;
@@ -270,6 +268,8 @@ int32_t carry_out(struct ring *ring, struct request *request, enum injection fau
     res = request->needs.selects ? call_with_buffer(ring, request, fault) : call_or_wait(ring, request);
     if (res < 0 && wulgach_may_signal(submission_of(&request->entry), res))
         take_back_signal();
+    if (res < 0 && wulgach_may_break(submission_of(&request->entry), res))
+        take_back_broken();
     return res;
 }
 

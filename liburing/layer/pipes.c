@@ -9,6 +9,7 @@
 #include "polls.h"
 #include "ring.h"
 
+#include <fcntl.h>
 #include <poll.h>
 #include <stdio.h>
 #include <stdlib.h>
@@ -42,12 +43,18 @@ static struct wulgach_pipe_poll seen_of(const struct request *request)
     };
 }
 
-bool is_poll_of_pipe(const struct request *request)
+/* Whether a descriptor is a pipe's by which that can be read. */
+static bool reads_pipe(int fd)
 {
     struct stat status;
+    return fstat(fd, &status) == 0 && S_ISFIFO(status.st_mode) && (fcntl(fd, F_GETFL) & O_ACCMODE) != O_WRONLY;
+}
+
+bool is_poll_of_pipe(const struct request *request)
+{
     struct wulgach_pipe_poll seen = seen_of(request);
     seen.is_of_pipe = true;
-    return wulgach_awaits_writes(&seen) && fstat(request->fd, &status) == 0 && S_ISFIFO(status.st_mode);
+    return wulgach_awaits_writes(&seen) && reads_pipe(request->fd);
 }
 
 static bool is_watching(const struct request *request)
@@ -88,12 +95,12 @@ static int make_inotify(void)
 /* The watch of a descriptor's pipe, which is one however many descriptors it has; 0: there is none to be had. */
 static int watch_of(struct pipes *pipes, int fd)
 {
-    char path[32];
+    char path[40];
     if (pipes->inotify < 0)
         pipes->inotify = made_high(make_inotify);
     if (!reserve_watch(pipes))
         return 0;
-    snprintf(path, sizeof path, "/proc/self/fd/%d", fd);
+    snprintf(path, sizeof path, "/proc/thread-self/fd/%d", fd);
     int watch = inotify_add_watch(pipes->inotify, path, IN_MODIFY);
     return watch < 0 ? 0 : watch;
 }

@@ -120,7 +120,8 @@ static void finish_running(struct ring *ring, struct request *request)
     } else {
         do_duties_before_posting(ring);
         /* (the last event of one that goes on was put off, maybe) */
-        post_unposted(ring);
+        if (ring->unposted)
+            comes_now(ring, WULGACH_END_COMES);
     }
     int32_t told = is_success(ring, request, res) ? TOLD_SUCCESS : TOLD_FAILURE;
     if (request->needs.is_zero_copy)
@@ -181,7 +182,7 @@ static bool issue_waiting(struct ring *ring, struct request *request)
     int32_t res;
     note_standing(ring, request);
     bool is_cancel = request->mapping == CANCEL;
-    struct request *next = is_cancel && wulgach_looks_ahead(is_cancel, ring->is_linux) ? find_request(ring, &request->entry) : NULL;
+    struct request *next = is_cancel && wulgach_looks_ahead(is_cancel, ring->is_linux) ? find_request(ring, request) : NULL;
     uint32_t kind = issue(ring, request->number, &res);
     note_issued(ring, request);
     if (kind == WULGACH_ENDED) {
@@ -235,6 +236,8 @@ enum progress go_on(struct ring *ring, bool may_return)
 {
     post_messages(ring);
     struct request *first = first_in_order(ring);
+    if (!first && do_duties_when_stuck(ring))
+        first = first_in_order(ring);
     if (!first)
         return STUCK;
     if (is_by_choice())

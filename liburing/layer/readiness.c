@@ -114,15 +114,18 @@ static void list_one(struct watched *watched, int fd, uint32_t events, uint64_t 
 static size_t list_watched(const struct ring *ring, struct watched *watched)
 {
     size_t count = 0, kept = 0;
-    if (wulgach_polls_writes(ring->pipes.count))
+    uint32_t besides = wulgach_polls_besides(ring->pipes.count, ring->dormant.instance >= 0);
+    if (besides & WULGACH_POLLS_WRITES)
         list_one(&watched[count++], ring->pipes.inotify, EPOLLIN, 0);
-    if (ring->dormant.instance >= 0)
+    if (besides & WULGACH_POLLS_INSTANCE)
         list_one(&watched[count++], ring->dormant.instance, EPOLLIN, 0);
     for (size_t i = 0; i < ring->running.count; i++) {
         const struct request *request = ring->running.rows[i];
         if (!wulgach_polls(&request->standing))
             continue;
         struct pollfd polled = poll_of(request);
+        if (polled.fd < 0)
+            continue;
         list_one(&watched[count++], polled.fd, (uint16_t)polled.events, request->begun);
     }
     qsort(watched, count, sizeof *watched, by_descriptor);

@@ -16,6 +16,7 @@
 #include "process.h"
 #include "progress.h"
 #include "ring.h"
+#include "wulgach_cancel.h"
 
 #include <errno.h>
 #include <string.h>
@@ -26,12 +27,6 @@ _Static_assert(sizeof(struct io_uring_rsrc_register) == 32 && sizeof(struct io_u
 _Static_assert(sizeof(struct io_uring_rsrc_register) == sizeof(struct wulgach_table_form) && sizeof(struct io_uring_rsrc_update2) == sizeof(struct wulgach_update_form), "the library's structures");
 _Static_assert(sizeof(struct io_uring_files_update) == sizeof(struct wulgach_files_form) && sizeof(struct io_uring_sync_cancel_reg) == sizeof(struct wulgach_cancel_form), "the library's structures");
 
-static bool is_zero(const void *bytes, size_t size)
-{
-    static const unsigned char none[sizeof(struct io_uring_probe) + MOST_PROBED * sizeof(struct io_uring_probe_op)];
-    return memcmp(bytes, none, size) == 0;
-}
-
 static int probe(uint32_t code, uint64_t at, uint32_t count)
 {
     union {
@@ -40,8 +35,10 @@ static int probe(uint32_t code, uint64_t at, uint32_t count)
     } copy;
     count = wulgach_probed(count);
     size_t size = sizeof copy.probe + count * sizeof *copy.probe.ops;
+    memset(&copy, 0, size);
     bool is_read = copy_in(&copy, at, size) == 0;
-    struct wulgach_content content = {.has_reserved = is_read && !is_zero(&copy, size)};
+    struct wulgach_content content;
+    wulgach_content_of_probe(copy.bytes, size, &content);
     int result = wulgach_content_fault(code, is_read, &content);
     if (result < 0)
         return result;
@@ -98,9 +95,10 @@ static int cancel_at_once(struct ring *ring, uint32_t code, uint64_t at)
     int result = wulgach_content_fault(code, is_read, &content);
     if (result < 0)
         return result;
-    struct request cancel = {.entry = {.opcode = IORING_OP_ASYNC_CANCEL, .addr = asked.addr, .fd = asked.fd, .cancel_flags = asked.flags}};
+    struct wulgach_sought sought;
+    wulgach_sought_by_call((const void *)&asked, &sought);
     /* (what it has found ends as it goes on: so its time limit is never over before) */
-    result = act_on_others(ring, &cancel);
+    result = cancel_sought(ring, NULL, &sought);
     end_cancelled(ring);
     return result;
 }
@@ -192,22 +190,32 @@ static int do_next(struct calling *calling, uint32_t wanted)
     }
 }
 
-static int make_passed(struct calling *calling)
+/* Does what the library says is done of a call that passes, by rising bits. */
+static int make_passed(struct calling *calling, uint32_t steps)
 {
-    do_duties_at_register_begin(calling->ring, calling->code);
-    int result = make_call(calling->ring, calling->code, (uintptr_t)calling->argument, calling->count);
-    do_duties_at_register_return(calling->ring, calling->code);
+    int result = 0;
+    for (; steps; steps &= steps - 1)
+        switch (steps & -steps) {
+        case WULGACH_BEGINS_CALL:
+            do_duties_at_register_begin(calling->ring, calling->code);
+            break;
+        case WULGACH_MAKES_CALL:
+            result = make_call(calling->ring, calling->code, (uintptr_t)calling->argument, calling->count);
+            break;
+        default:
+            do_duties_at_register_return(calling->ring, calling->code);
+        }
     return result;
 }
 
 static int register_by(struct calling *calling)
 {
     int32_t next = wulgach_registering_next(false, WULGACH_AT_FIRST, 0);
-    while (next >= 0 && next != WULGACH_PASSES) {
+    while (next >= 0 && next < WULGACH_AT_FIRST) {
         int result = do_next(calling, (uint32_t)next);
         next = wulgach_registering_next(calling->ring, (uint32_t)next, result);
     }
-    int result = next == WULGACH_PASSES ? make_passed(calling) : next;
+    int result = next < 0 ? next : make_passed(calling, (uint32_t)next);
     if (calling->ring)
         unlock_ring(calling->ring);
     return result;

@@ -3,6 +3,7 @@
 #include "buffers.h"
 #include "fault.h"
 #include "files.h"
+#include "numbers.h"
 
 #include <stdlib.h>
 #include <string.h>
@@ -41,6 +42,11 @@ const struct wulgach_submission *submission_of(const struct io_uring_sqe *entry)
 {
     _Static_assert(sizeof(struct wulgach_submission) == sizeof *entry, "an entry has the library's fields");
     return (const void *)entry;
+}
+
+struct wulgach_submission *submission_at(struct io_uring_sqe *entry)
+{
+    return (void *)entry;
 }
 
 enum mapping form_of(const struct io_uring_sqe *entry, int32_t refusal, bool is_allowed, int32_t *fault)
@@ -158,8 +164,10 @@ static bool free_parts(const struct request *request)
     free(request->second_path);
     free(request->value);
     free(request->how);
+    if (request->has_found_pipe)
+        close_kept(request->found_pipe, false);
     if (request->is_opened)
-        close(request->opened);
+        close_kept(request->opened, false);
     free(request->time);
     if (request->epoll >= 0)
         close(request->epoll);

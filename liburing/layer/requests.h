@@ -42,8 +42,12 @@ struct request {
     bool is_tried;                  /* whether it may have to wait isn't known: it is tried first, */
     bool is_tried_at_once;          /* and nothing was asked of its descriptor, */
     bool was_tried;                 /* or it was */
-    bool is_listening;              /* of a read or a receive that had to wait as it started: its socket listens */
+    bool knows_listening;           /* as it started, and had to wait, its socket was asked whether it listens, */
+    bool is_listening;              /* and did */
+    bool was_repeated;              /* of a connect: its call was made once more */
     bool has_called;                /* it was carried out, and would have waited, */
+    bool has_found_pipe;            /* its path names a pipe that it is to open and may have to wait for, by this descriptor for its path alone */
+    int found_pipe;
     bool is_opened;                 /* a named pipe was opened to read, by this descriptor, and waits for who writes; */
     int opened;
     uint32_t vain;                  /* so often since its descriptor was last found not to be ready as a sleep began */
@@ -119,8 +123,9 @@ void note_fact(struct request *request, enum wulgach_fact fact, int32_t res);
  * not. */
 enum mapping form_of(const struct io_uring_sqe *entry, int32_t refusal, bool is_allowed, int32_t *fault);
 
-/* An entry as the library has it. */
+/* An entry as the library has it; and one that it changes. */
 const struct wulgach_submission *submission_of(const struct io_uring_sqe *entry);
+struct wulgach_submission *submission_at(struct io_uring_sqe *entry);
 
 /* Takes a request out, and keeps its memory. Returns whether a file was closed that it had. */
 bool end_request(struct requests *requests, struct request *request);

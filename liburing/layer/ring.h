@@ -37,7 +37,7 @@ struct ring {
     dev_t device;                       /* the memfd's device and inode: how a descriptor is known as this ring's */
     ino_t inode;
     pid_t process;                      /* who made it: a forked child has the memory, and not the core */
-    bool is_parents;                    /* a child that a handler has forked returns from its parent's sleep: it leaves the ring as it is */
+    uint32_t left;                      /* what is left undone with it, since a child that a handler has forked is back from its parent's sleep */
     int fd;                             /* the first descriptor: it may be closed, or another file's by now */
     int called_fd;                      /* the one of the call that has its lock, or of the last one */
     int ready_fd;                       /* an eventfd, if the descriptor polls; or negative: the descriptor is memory */
@@ -48,6 +48,7 @@ struct ring {
     size_t watched_count;
     uint32_t index;                     /* its number among the process's rings, from 0 */
     uint32_t flags;                     /* IORING_SETUP_.. */
+    bool has_thread;                    /* by which the kernel's would take its entries */
     uint32_t calls;                     /* how many calls are on it: it lives as long. A call begins under the lock of all rings */
     pthread_mutex_t lock;               /* held during each call, but not while it sleeps */
     struct sleeper *sleepers;           /* the threads that sleep in a call on it */
@@ -81,6 +82,7 @@ struct ring {
     uint32_t head;                      /* the submission ring's, as the application was told it */
     uint32_t own_positions;             /* how many positions of the core's submission ring were the layer's own */
     struct wulgach_eventfd telling;     /* whether an eventfd is registered, and of what it is told; */
+    bool has_shown;                     /* what has ended was shown since the call began, or last slept, as nothing could go on; */
     int eventfd;                        /* then one of the layer's own */
     uint64_t call_number;               /* how many calls were made on it */
     struct wulgach_issuer issuer;       /* the one thread that may call, or submit, if there is one; and whether the ring is disabled */

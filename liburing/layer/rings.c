@@ -77,7 +77,7 @@ static struct wulgach_asked_ring asked_ring(uint32_t entries, const struct io_ur
         struct ring *shared = hold_ring((int)params->wq_fd);
         asked.is_open = counts_as_open((int)params->wq_fd, false);
         asked.is_ring = shared || is_ring((int)params->wq_fd);
-        asked.has_thread = shared && shared->flags & IORING_SETUP_SQPOLL;
+        asked.has_thread = shared && shared->has_thread;
         if (shared)
             release_ring(shared);
     }
@@ -140,6 +140,7 @@ static int make_ring(struct ring **made, uint32_t entries, struct io_uring_param
     ring->process = this_process();
     start_clock(ring);
     ring->flags = params->flags;
+    ring->has_thread = wulgach_has_thread(ring->flags);
     wulgach_strict_begin(&ring->strict);
     wulgach_issuer_begin(&ring->issuer, (uint32_t)this_thread(), ring->flags, is_strict());
     params->features = wulgach_features(is_polled);

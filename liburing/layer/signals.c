@@ -1,5 +1,5 @@
-/* SIGXFSZ. The kernel sends it to the thread that made the call, and a thread's own signals are taken before its process's: so the call's is
- * taken first, if there is one. Which of those that are taken is the call's is the library's decision.
+/* SIGXFSZ and SIGPIPE. The kernel sends them to the thread that made the call, and a thread's own signals are taken before its process's: so the
+ * call's is taken first, if there is one. Which of those that are taken is the call's is the library's decision.
  */
 #define _GNU_SOURCE
 #include "signals.h"
@@ -20,16 +20,26 @@ static bool has_limit(void)
     return wulgach_is_limited(knows, limit.rlim_cur);
 }
 
-void take_back_signal(void)
+/* Takes back the signal of this number that a call has brought, if there is one. */
+static void take_back(int signal)
 {
     static const struct timespec no_time = {0, 0};
-    if (!has_limit())
-        return;
     siginfo_t told;
     sigset_t signals;
     sigemptyset(&signals);
-    sigaddset(&signals, SIGXFSZ);
+    sigaddset(&signals, signal);
     /* (the C library's call tells a thread's signal as a process's) */
     if (syscall(SYS_rt_sigtimedwait, &signals, &told, &no_time, (size_t)_NSIG / 8) > 0 && !wulgach_is_signal_of_call(told.si_code, told.si_pid == this_process()))
-        syscall(SYS_rt_tgsigqueueinfo, this_process(), this_thread(), SIGXFSZ, &told);
+        syscall(SYS_rt_tgsigqueueinfo, this_process(), this_thread(), signal, &told);
+}
+
+void take_back_signal(void)
+{
+    if (has_limit())
+        take_back(SIGXFSZ);
+}
+
+void take_back_broken(void)
+{
+    take_back(SIGPIPE);
 }

@@ -97,12 +97,12 @@ static int poll_unlocked(struct ring *ring, struct sleeper *self, nfds_t count, 
     if (came < 0)
         came = -errno;
     leave_inner_sleeps(self);
-    ring->is_parents = ring->process != this_process();
-    if (!ring->is_parents) {
+    ring->left = what_is_left(ring);
+    if (!(ring->left & WULGACH_LEAVES_LOCK)) {
         pthread_mutex_lock(&ring->lock);
         call_by(ring, fd);
     }
-    return wulgach_sleep_came_to(came, ring->is_parents);
+    return wulgach_sleep_came_to(came, ring->process != this_process());
 }
 
 /* The process may have fewer descriptors than are polled (ppoll(2)): those that can become dormant, and the call sleeps again. */

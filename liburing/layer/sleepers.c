@@ -45,7 +45,7 @@ static void forget(struct sleeper *sleeper)
 
 void end_sleep(struct sleeper *sleeper)
 {
-    if (sleeper->ring->is_parents) {
+    if (sleeper->ring->left & WULGACH_LEAVES_SLEEP) {
         forget(sleeper);
         return;
     }
@@ -55,12 +55,11 @@ void end_sleep(struct sleeper *sleeper)
     forget(sleeper);
 }
 
-/* Leaves the innermost sleep, and its call, for the thread. A child that was forked in one leaves its parent's ring as it is: its lock may
- * be held by another thread of the parent's, and the descriptor's number may be the child's own by now. */
+/* Leaves the innermost sleep, and its call, for the thread. */
 static void leave(struct sleeper *sleeper)
 {
     struct ring *ring = sleeper->ring;
-    if (ring->process != this_process()) {
+    if (what_is_left(ring) & WULGACH_LEAVES_SLEEP) {
         forget(sleeper);
         return;
     }

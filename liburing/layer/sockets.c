@@ -10,6 +10,7 @@
 #include <errno.h>
 #include <fcntl.h>
 #include <limits.h>
+#include <poll.h>
 #include <stdlib.h>
 #include <string.h>
 #include <sys/socket.h>
@@ -173,12 +174,32 @@ static int32_t error_of_socket(const struct request *request)
     return getsockopt(request->fd, SOL_SOCKET, SO_ERROR, &error, &size) < 0 ? -errno : -error;
 }
 
+bool is_shut(int fd)
+{
+    struct pollfd at = {.fd = fd, .events = POLLRDHUP};
+    return poll(&at, 1, 0) > 0 && at.revents & POLLRDHUP;
+}
+
+static int32_t call_once(struct ring *ring, struct request *request, uint64_t *filled)
+{
+    return filled ? receive_into_buffer(request, filled) : carry_out_by_means(ring, request);
+}
+
+/* Makes the call, and behind one that finds nothing once more where no more can come: a datagram may have come just before that. */
+static int32_t call_unless_shut(struct ring *ring, struct request *request, uint64_t *filled)
+{
+    int32_t res = call_once(ring, request, filled);
+    if (!wulgach_asks_shut(submission_of(&request->entry), res) || !is_shut(request->fd))
+        return res;
+    return wulgach_shut_result(call_once(ring, request, filled), true);
+}
+
 /* Does what the library said is next, and says what that came to. */
 static int32_t take_turn(struct ring *ring, struct request *request, uint32_t turn, uint64_t *filled)
 {
     switch (turn) {
     case WULGACH_TURN_CALLS:
-        return filled ? receive_into_buffer(request, filled) : carry_out_by_means(ring, request);
+        return call_unless_shut(ring, request, filled);
     case WULGACH_TURN_POLLS:
         return is_polled(request);
     case WULGACH_TURN_ASKS_WILL:
@@ -196,8 +217,9 @@ static struct wulgach_call call_of(const struct request *request)
         .length = request->length,
         .done = request->done,
         .control = request->control,
-        .is_stream = request->standing.is_stream,
+        .is_stream = request->standing.is_stream && !is_impatient(request),
         .has_begun = request->done > 0,
+        .was_repeated = request->was_repeated,
     };
 }
 
@@ -207,10 +229,12 @@ int32_t call_socket(struct ring *ring, struct request *request)
     bool fills = request->needs.fills_buffer;
     int32_t res = 0;
     uint64_t filled = 0;
-    uint32_t turn = 0;
+    uint32_t turn = 0, last;
     for (;;) {
         struct wulgach_call call = call_of(request);
-        turn = wulgach_call_next(entry, &call, turn, res, &res);
+        last = turn;
+        turn = wulgach_call_next(entry, &call, last, res, &res);
+        request->was_repeated |= turn == WULGACH_TURN_CALLS && last == WULGACH_TURN_CALLS;
         if (turn <= WULGACH_TURN_WAITS)
             break;
         res = take_turn(ring, request, turn, fills ? &filled : NULL);

@@ -16,6 +16,9 @@ int copy_address(struct request *request, uint64_t from, size_t size);
 /* Carries the operation out: its result, or WOULD_WAIT. */
 int32_t call_socket(struct ring *ring, struct request *request);
 
+/* Whether a descriptor is a socket that nothing more comes from: it was shut down for reading, or its peer for writing. */
+bool is_shut(int fd);
+
 /* The call of a message, which is moved on by what was moved. Returns its result. */
 int32_t move_message(struct request *request, const struct wulgach_means *means);
 

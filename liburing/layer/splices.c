@@ -1,7 +1,11 @@
 /* Splices and tees are asked not to wait, and again once both descriptors are ready. Which is polled, and for what, is the library's decision. */
+#define _GNU_SOURCE
 #include "splices.h"
 #include "operations.h"
+#include "unwilling.h"
 #include "wulgach_waits.h"
+
+#include <sys/socket.h>
 
 /* What is polled where what it reads from was found ready, or wasn't. */
 static struct pollfd poll_behind(const struct request *request, bool is_source_ready)
@@ -15,4 +19,29 @@ struct pollfd poll_of_splice(const struct request *request)
 {
     struct pollfd source = poll_behind(request, false);
     return shows_ready(source) ? poll_behind(request, true) : source;
+}
+
+/* A number that a socket has, or 0. */
+static uint32_t number_of_socket(int fd, int name)
+{
+    int number = 0;
+    socklen_t size = sizeof number;
+    return getsockopt(fd, SOL_SOCKET, name, &number, &size) == 0 ? (uint32_t)number : 0;
+}
+
+bool is_unwilling_splice(const struct request *request)
+{
+    struct wulgach_splice_poll asked;
+    wulgach_splice_polls(shows_ready(poll_behind(request, false)), &asked);
+    int fd = asked.is_of_source ? request->second_fd : request->fd, other = asked.is_of_source ? request->fd : request->second_fd;
+    struct wulgach_splice_ends ends = {
+        .domain = number_of_socket(fd, SO_DOMAIN),
+        .kind = number_of_socket(fd, SO_TYPE),
+        .waits_to_read = asked.is_of_source,
+        .is_pipe = is_pipe(fd),
+        .other_is_pipe = is_pipe(other),
+        .is_unwilling = is_unwilling(fd),
+        .other_is_unwilling = is_unwilling(other),
+    };
+    return wulgach_splice_isnt_to_wait(submission_of(&request->entry), &ends);
 }

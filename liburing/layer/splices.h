@@ -8,4 +8,7 @@
 
 struct pollfd poll_of_splice(const struct request *request);
 
+/* Whether one that would have to wait isn't to. */
+bool is_unwilling_splice(const struct request *request);
+
 #endif

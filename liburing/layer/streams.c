@@ -3,6 +3,8 @@
 #include "files.h"
 #include "operations.h"
 #include "pipes.h"
+#include "polls.h"
+#include "unwilling.h"
 
 #include <poll.h>
 #include <sys/socket.h>
@@ -12,19 +14,22 @@ void look_at(const struct ring *ring, struct request *request)
     note_look(ring, request, is_ready(request));
 }
 
-/* Whether it would receive of a socket that listens. */
-static bool is_of_listener(const struct request *request)
+/* Asks a socket whether it listens. */
+static void ask_listening(struct request *request)
 {
     int listens = 0;
     socklen_t size = sizeof listens;
-    return (request->needs.is_read || request->needs.is_receive) && getsockopt(request->fd, SOL_SOCKET, SO_ACCEPTCONN, &listens, &size) == 0 && listens;
+    request->knows_listening = getsockopt(request->fd, SOL_SOCKET, SO_ACCEPTCONN, &listens, &size) == 0;
+    request->is_listening = listens != 0;
 }
 
 void look_first(const struct ring *ring, struct request *request)
 {
     bool is_found = is_ready(request);
-    if (!is_found)
-        is_found = request->is_listening = is_of_listener(request);
+    if (!is_found && !is_poll(request) && !request->needs.needs_second) {
+        ask_listening(request);
+        is_found = is_impatient(request) || wulgach_is_tried_first(submission_of(&request->entry), is_pipe(request->fd));
+    }
     note_look(ring, request, is_found);
 }
 
@@ -87,7 +92,8 @@ bool is_found_ready(struct ring *ring, struct request *request)
 /* Whether a request is to have a file of its own. (an epoll instance keeps none open) */
 static bool is_to_hold(const struct request *request)
 {
-    return wulgach_keeps_open(&request->standing, &request->needs, request->is_assigned, request->started, request->file);
+    bool has_files = request->file && (request->second_file || !request->needs.needs_second);
+    return wulgach_keeps_open(&request->standing, &request->needs, request->is_assigned, request->started, has_files);
 }
 
 /* The last one for which that was done, of those that were kept one right after the other: a number is one file's meanwhile. */
@@ -96,11 +102,15 @@ struct holder {
     struct file *file;
 };
 
-/* What waits has a number of its own. */
-static void hold_beside(struct request *request, struct holder *last)
+static void hold_second(struct request *request)
 {
-    if (!is_to_hold(request))
-        return;
+    request->second_file = hold_file(request->second_fd);
+    if (request->second_file)
+        request->second_fd = request->second_file->fd;
+}
+
+static void hold_first(struct request *request, struct holder *last)
+{
     int fd = request->fd;
     if (last->file && last->fd == fd && !request->standing.is_stream)
         request->file = share_file(last->file);
@@ -109,6 +119,17 @@ static void hold_beside(struct request *request, struct holder *last)
     *last = (struct holder){fd, request->file};
     if (request->file)
         request->fd = request->file->fd;
+}
+
+/* What waits has numbers of its own. */
+static void hold_beside(struct request *request, struct holder *last)
+{
+    if (!is_to_hold(request))
+        return;
+    if (!request->file)
+        hold_first(request, last);
+    if (request->needs.needs_second && !request->second_file)
+        hold_second(request);
 }
 
 void hold_file_of(struct request *request)
@@ -133,11 +154,11 @@ void hold_new_files(struct ring *ring)
     ring->held_before = ring->accepted;
 }
 
-void hold_files_before(struct ring *ring, const struct request *closing)
+void hold_files_before(struct ring *ring, const struct request *closing, int fd)
 {
     const struct requests *requests = &ring->requests;
     struct holder last = {-1, NULL};
     for (size_t i = 0; i < requests->count; i++)
-        if (wulgach_keeps_before_close(requests->rows[i]->number, requests->rows[i]->fd, closing->number, closing->entry.fd))
+        if (wulgach_keeps_before_close(requests->rows[i]->number, requests->rows[i]->fd, closing->number, fd))
             hold_beside(requests->rows[i], &last);
 }

@@ -4,7 +4,7 @@
 
 #include "ring.h"
 
-/* Looks at the descriptor of a request; and of one that has just started, which may be to receive of a socket that listens. */
+/* Looks at the descriptor of a request; and of one that has just started, whose socket may be of no use to it, as one that listens to a receive. */
 void look_at(const struct ring *ring, struct request *request);
 void look_first(const struct ring *ring, struct request *request);
 
@@ -16,7 +16,7 @@ bool is_found_ready(struct ring *ring, struct request *request);
  * taken as it stands. */
 void hold_files(struct ring *ring);
 void hold_new_files(struct ring *ring);
-void hold_files_before(struct ring *ring, const struct request *closing);
+void hold_files_before(struct ring *ring, const struct request *closing, int fd);
 void hold_file_of(struct request *request);
 
 #endif

@@ -217,7 +217,7 @@ int submit(struct ring *ring, uint32_t count)
     uint32_t cell, most = wulgach_taking_begin(&taking, &asked, &cell);
     if (most == 0)
         return 0;
-    if (!post_unposted(ring))
+    if (ring->unposted && !comes_now(ring, WULGACH_SUBMISSION_COMES))
         return wulgach_refusal_fault(0, true);
     int32_t fault = stage_taken(ring, &taking, most, cell);
     return fault < 0 ? fault : take_staged(ring, given, taking.next);

@@ -36,7 +36,7 @@ static uint64_t time_of_clock(clockid_t clock)
 /* How much later than now the time is over that an entry gives. */
 static uint64_t time_left(const struct request *timeout)
 {
-    int32_t clock = wulgach_timeout_clock(timeout->entry.timeout_flags);
+    int32_t clock = wulgach_timeout_clock(submission_of(&timeout->entry));
     uint64_t time = wulgach_time_of(timeout->time->tv_sec, timeout->time->tv_nsec);
     return wulgach_timeout_lasts(time, clock < 0 ? 0 : time_of_clock(clock), clock >= 0);
 }
@@ -146,11 +146,8 @@ void fire_linked_timeout(struct ring *ring, const struct wulgach_timeout *timeou
 
 void change_timeout(struct ring *ring, struct request *timeout, const struct request *change)
 {
-    struct wulgach_terms terms = {.count = timeout->entry.off, .flags = timeout->entry.timeout_flags};
-    wulgach_updated_terms(&terms, submission_of(&change->entry));
+    wulgach_updated_timeout(submission_at(&timeout->entry), submission_of(&change->entry));
     *timeout->time = *change->time;
-    timeout->entry.off = terms.count;
-    timeout->entry.timeout_flags = terms.flags;
     wulgach_times_change(&ring->times, ring->timeouts, ring->timeouts_room, timeout->number, time_left(timeout));
 }
 

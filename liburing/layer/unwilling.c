@@ -1,7 +1,8 @@
 /* That a descriptor isn't to wait is seen by all that share the open file, in this process and in others. So others that the layer runs in may
  * have asked it just now, and may be about to take that back: then a call that goes by it sleeps, or takes it for the application's word. So
- * none does that while another does, which a lock of the process tells (fcntl), of a byte that no file has. One that can't be locked, as a pipe's end
- * that can't be written to, or that the application has locked there, is asked without.
+ * none does that while another does, which a lock of the process tells (fcntl), of a byte that no file has. A pipe's end that can't be locked, since it
+ * can only be read, is opened once more for the call, if there is a /proc; anything else that can't be, or that the application has locked there, is
+ * asked without.
  */
 #define _GNU_SOURCE
 #include "unwilling.h"
@@ -11,6 +12,7 @@
 #include <fcntl.h>
 #include <pthread.h>
 #include <sched.h>
+#include <stdio.h>
 #include <unistd.h>
 
 /* So often it is tried to lock one that another has, a tenth of a second at least: then that has been stopped, maybe. Behind the first tries this
@@ -103,6 +105,31 @@ int32_t make_unwilling_call(const struct wulgach_system_call *call, int fd, int 
     take_back(first);
     unlock_unwilling();
     return res;
+}
+
+/* A descriptor on what is open by this one, which is opened once more and isn't to wait, and which nobody else has; or -1. */
+static int open_anew(int fd)
+{
+    char name[sizeof "/proc/self/fd/" + 11];
+    uint32_t flags;
+    int access = fcntl(fd, F_GETFL);
+    if (access < 0 || !wulgach_asks_anew(is_pipe(fd), (uint32_t)access & O_ACCMODE, &flags))
+        return -1;
+    snprintf(name, sizeof name, "/proc/self/fd/%d", fd);
+    return open(name, (int)flags);
+}
+
+int32_t make_unwilling_transfer(const struct wulgach_system_call *call, int fd)
+{
+    lock_unwilling();
+    int anew = open_anew(fd);
+    struct wulgach_system_call other = *call;
+    other.first = (uint64_t)anew;
+    int32_t res = anew >= 0 ? make_call(&other) : 0;
+    if (anew >= 0)
+        close(anew);
+    unlock_unwilling();
+    return anew >= 0 ? res : make_unwilling_call(call, fd, -1);
 }
 
 bool is_pipe(int fd)

@@ -15,6 +15,9 @@ void unlock_unwilling(void);
 /* Makes a call whose descriptors are these, either of which may be -1. Returns its result, or the negative of an error number. */
 int32_t make_unwilling_call(const struct wulgach_system_call *call, int fd, int second_fd);
 
+/* The same of a call that moves bytes, whose descriptor is its first argument. */
+int32_t make_unwilling_transfer(const struct wulgach_system_call *call, int fd);
+
 /* Whether a descriptor is a pipe's end. */
 bool is_pipe(int fd);
 

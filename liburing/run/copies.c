@@ -13,15 +13,22 @@ enum { MOST_COPIED = 1 << 20 };
 /* Where the bytes go to. */
 struct way {
     int to;
-    const int64_t *place;   /* or NULL: the descriptor's own */
-    int length;             /* which word is the length */
+    const void *at;     /* the address of the place, or NULL: it is the descriptor's own */
+    int64_t place;
+    int length;         /* which word is the length */
 };
 
 static struct way way_of(long call, const long words[6])
 {
     if (call == SYS_sendfile)
-        return (struct way){(int)words[0], NULL, 3};
-    return (struct way){(int)words[2], (const int64_t *)words[3], 4};
+        return (struct way){(int)words[0], NULL, -1, 3};
+    return (struct way){(int)words[2], (const void *)words[3], -1, 4};
+}
+
+/* False if the place can't be read, which the kernel refuses. */
+static bool read_place(struct way *way)
+{
+    return !way->at || read_memory(way->at, &way->place, sizeof way->place);
 }
 
 /* The end of an operation that moved so many bytes, which are read here. */
@@ -45,13 +52,13 @@ long call_copy(long call, const long words[6])
     long cut[6] = {words[0], words[1], words[2], words[3], words[4], words[5]};
     char path[PATH_ROOM];
     uint64_t file;
-    if (!is_on_disk(way.to, path, &file))
+    if (!is_on_disk(way.to, path, &file) || !read_place(&way))
         return pass(call, words[0], words[1], words[2], words[3], words[4], words[5]);
     /* (fewer bytes than were asked for is a lawful answer) */
     if (cut[way.length] > MOST_COPIED)
         cut[way.length] = MOST_COPIED;
     struct event event = {.kind = EVENT_COPY, .file = file, .length = (uint64_t)cut[way.length]};
-    event.offset = place_of_write(way.to, way.place ? *way.place : -1, false);
+    event.offset = place_of_write(way.to, way.place, false);
     event.flags = syncs_writes(way.to) ? SYNCS_ITS_RANGE : 0;
     log_event(&event, path, NULL, NULL, 0);
     long result = pass(call, cut[0], cut[1], cut[2], cut[3], cut[4], cut[5]);

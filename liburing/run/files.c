@@ -43,11 +43,10 @@ static long carry(long call, const long words[6])
     return pass(call, words[0], words[1], words[2], words[3], words[4], words[5]);
 }
 
-/* The vectors of a call; false if they can't be read. */
-static bool read_vectors(const void *from, size_t count, struct iovec *vectors)
+bool read_memory(const void *from, void *to, size_t size)
 {
-    struct iovec here = {vectors, count * sizeof *vectors}, there = {(void *)(uintptr_t)from, count * sizeof *vectors};
-    return process_vm_readv(getpid(), &here, 1, &there, 1, 0) == (ssize_t)there.iov_len;
+    const struct iovec here = {to, size}, there = {(void *)(uintptr_t)from, size};
+    return process_vm_readv((pid_t)pass(SYS_gettid, 0, 0, 0, 0, 0, 0), &here, 1, &there, 1, 0) == (ssize_t)size;
 }
 
 /* A write, of one run of bytes or of vectors. */
@@ -96,7 +95,7 @@ static long call_write_vectors(long call, const long words[6])
     if (count == 0 || count > MOST_VECTORS)
         return carry(call, words);
     struct iovec vectors[count];
-    if (!read_vectors((const void *)words[1], count, vectors))
+    if (!read_memory((const void *)words[1], vectors, count * sizeof *vectors))
         return carry(call, words);
     struct written written = {(int)words[0], call == SYS_pwritev2 ? (int)words[5] : 0, call == SYS_writev ? -1 : words[3], vectors, count};
     return call_write(call, words, &written);

@@ -128,8 +128,8 @@ static bool make_room(struct mapped *mapped, size_t room)
 
 static int open_again(int fd)
 {
-    char name[32];
-    snprintf(name, sizeof name, "/proc/self/fd/%d", fd);
+    char name[40];
+    snprintf(name, sizeof name, "/proc/thread-self/fd/%d", fd);
     long low = pass(SYS_open, (long)name, O_RDONLY | O_CLOEXEC, 0, 0, 0, 0);
     long high = low < 0 ? low : pass(SYS_fcntl, low, F_DUPFD_CLOEXEC, HIGH, 0, 0, 0);
     if (high < 0)

@@ -1,4 +1,5 @@
-/* Calls that wait with another mask, or give a thread one: SIGSYS stays open in it, since a handler that comes meanwhile may call io_uring. */
+/* Calls that wait with another mask, or give a thread one: SIGSYS stays open in it, since a handler that comes meanwhile may call io_uring. And
+ * the older calls whose masks are of 32 signals. */
 #define _GNU_SOURCE
 #include "run.h"
 
@@ -22,6 +23,40 @@ SEEN int sigsuspend(const sigset_t *set)
     REAL(int, sigsuspend, (const sigset_t *));
     sigset_t copy;
     return sigsuspend(without_trap(set, &copy));
+}
+
+SEEN int __sigsuspend(const sigset_t *set) __attribute__((alias("sigsuspend"), nonnull(1)));
+
+/* SIGSYS in a mask of 32 signals. */
+enum { TRAP = 1 << (SIGSYS - 1) };
+
+SEEN int sigsetmask(int mask)
+{
+    REAL(int, sigsetmask, (int));
+    return sigsetmask(mask & ~TRAP);
+}
+
+SEEN int sigblock(int mask)
+{
+    REAL(int, sigblock, (int));
+    return sigblock(mask & ~TRAP);
+}
+
+/* (the header's sigpause is another, which takes a signal and no mask) */
+SEEN int pause_with(int mask) __asm__("sigpause");
+
+int pause_with(int mask)
+{
+    static int (*call)(int);
+    if (!call)
+        *(void **)&call = dlsym(RTLD_NEXT, "sigpause");
+    return call(mask & ~TRAP);
+}
+
+SEEN int __sigpause(int mask_or_signal, int is_signal)
+{
+    REAL(int, __sigpause, (int, int));
+    return __sigpause(is_signal ? mask_or_signal : mask_or_signal & ~TRAP, is_signal);
 }
 
 SEEN int ppoll(struct pollfd *polled, nfds_t count, const struct timespec *time, const sigset_t *set)

@@ -11,8 +11,6 @@
 #include <string.h>
 #include <sys/stat.h>
 #include <sys/syscall.h>
-#include <sys/uio.h>
-#include <unistd.h>
 
 #ifndef SYS_renameat2
 #define SYS_renameat2 316
@@ -32,8 +30,7 @@ static bool read_path(const char *from, char room[PATH_ROOM])
         size_t part = 4096 - ((uintptr_t)(from + at) & 4095);
         if (part > PATH_ROOM - at)
             part = PATH_ROOM - at;
-        struct iovec here = {room + at, part}, there = {(void *)(uintptr_t)(from + at), part};
-        if (process_vm_readv(getpid(), &here, 1, &there, 1, 0) != (ssize_t)part)
+        if (!read_memory(from + at, room + at, part))
             return false;
         if (memchr(room + at, '\0', part))
             return room[0] != '\0';

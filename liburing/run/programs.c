@@ -1,5 +1,5 @@
 /* A program that this one becomes or starts inherits the filter, and so needs this library too: a surrounding without
- * LD_PRELOAD is given it again. One that can't take it, since it is linked statically or changes its user, is told of: the
+ * LD_PRELOAD is given it again, and one that preloads others has it in front of these. One that can't take it, since it is linked statically or changes its user, is told of: the
  * kernel ends it with SIGSYS if it calls io_uring.
  */
 #define _GNU_SOURCE
@@ -17,7 +17,9 @@
 #include <stdlib.h>
 #include <string.h>
 #include <sys/stat.h>
+#include <sys/syscall.h>
 #include <unistd.h>
+#include <wordexp.h>
 
 extern char **environ;
 
@@ -26,13 +28,27 @@ enum { MOST_VARIABLES = 24 };
 static char *variables[MOST_VARIABLES + 1];
 static size_t variable_count;
 
+/* This library's path, as it was loaded. */
+static const char *own = "";
+
+/* The length of "LD_PRELOAD=". */
+enum { PRELOAD = 11 };
+
+static bool is_preload(const char *variable)
+{
+    return strncmp(variable, "LD_PRELOAD=", PRELOAD) == 0;
+}
+
 static bool is_ours(const char *variable)
 {
-    return strncmp(variable, "LD_PRELOAD=", 11) == 0 || strncmp(variable, "WULGACH_", 8) == 0;
+    return is_preload(variable) || strncmp(variable, "WULGACH_", 8) == 0;
 }
 
 static void __attribute__((constructor)) remember(void)
 {
+    Dl_info about;
+    if (dladdr(variables, &about) != 0 && about.dli_fname)
+        own = about.dli_fname;
     for (char **at = environ; *at && variable_count < MOST_VARIABLES; at++)
         if (is_ours(*at))
             variables[variable_count++] = strdup(*at);
@@ -55,9 +71,51 @@ static size_t count_of(char *const *words)
     return count;
 }
 
-/* The surrounding with what is missing of ours. There is room for it in `room`. */
-static char *const *with_ours(char *const *surrounding, char **room)
+/* Whether a list of libraries, with colons or spaces between, names this one. */
+static bool names_own(const char *list)
 {
+    size_t length = strlen(own), word;
+    for (; *list; list += word + (list[word] != '\0')) {
+        word = strcspn(list, ": ");
+        if (word == length && strncmp(list, own, length) == 0)
+            return true;
+    }
+    return false;
+}
+
+/* The LD_PRELOAD that is taken of a surrounding, the last one, if it doesn't name this library; or NULL. */
+static char *const *preload_without_own(char *const *surrounding)
+{
+    char *const *found = NULL;
+    for (; surrounding && *surrounding; surrounding++)
+        if (is_preload(*surrounding))
+            found = surrounding;
+    return found && !names_own(*found + PRELOAD) ? found : NULL;
+}
+
+/* How long that is with this library in front, and its end. */
+static size_t room_with_own(char *const *surrounding)
+{
+    char *const *other = preload_without_own(surrounding);
+    return other ? strlen(*other) + strlen(own) + 2 : 1;
+}
+
+static char *put_own(const char *other, char *room)
+{
+    const char *list = other + PRELOAD;
+    sprintf(room, "LD_PRELOAD=%s%s%s", own, *list ? ":" : "", list);
+    return room;
+}
+
+/* Room for a surrounding with ours, on the stack: a child of vfork has no memory of its own. */
+#define ROOM_FOR(surrounding)                                       \
+    char *room[count_of(surrounding) + MOST_VARIABLES + 1];         \
+    char preload[room_with_own(surrounding)]
+
+/* The surrounding with what is missing of ours. */
+static char *const *with_ours(char *const *surrounding, char **room, char *preload)
+{
+    char *const *other = preload_without_own(surrounding);
     size_t count = count_of(surrounding);
     if (count > 0)
         memcpy(room, surrounding, count * sizeof *room);
@@ -65,6 +123,8 @@ static char *const *with_ours(char *const *surrounding, char **room)
         if (!has_name(surrounding, variables[i]))
             room[count++] = variables[i];
     room[count] = NULL;
+    if (other)
+        room[other - surrounding] = put_own(*other, preload);
     return room;
 }
 
@@ -85,21 +145,31 @@ static bool is_static(int file)
 static bool changes_user(int file)
 {
     struct stat about;
-    return fstat(file, &about) == 0 && ((about.st_mode & S_ISUID && about.st_uid != geteuid()) || (about.st_mode & S_ISGID && about.st_gid != getegid()));
+    return fstat(file, &about) == 0 && S_ISREG(about.st_mode) && ((about.st_mode & S_ISUID && about.st_uid != geteuid()) || (about.st_mode & S_ISGID && about.st_gid != getegid()));
 }
 
 /* Tells of a program that isn't reached. */
-static void look_at(const char *path)
+static void look_at_file(int file, const char *name)
 {
-    int kept = errno, file = open(path, O_RDONLY | O_CLOEXEC);
+    if (is_static(file))
+        say("it is linked statically and can't be reached: SIGSYS ends it if it calls io_uring, or writes to memory that it shares with a file", name);
+    else if (changes_user(file))
+        say("it changes its user and can't be reached: SIGSYS ends it if it calls io_uring, or writes to memory that it shares with a file", name);
+}
+
+static void look_below(int folder, const char *path)
+{
+    int kept = errno, file = openat(folder, path, O_RDONLY | O_CLOEXEC);
     if (file >= 0) {
-        if (is_static(file))
-            say("it is linked statically and can't be reached: SIGSYS ends it if it calls io_uring, or writes to memory that it shares with a file", path);
-        else if (changes_user(file))
-            say("it changes its user and can't be reached: SIGSYS ends it if it calls io_uring, or writes to memory that it shares with a file", path);
+        look_at_file(file, path);
         close(file);
     }
     errno = kept;
+}
+
+static void look_at(const char *path)
+{
+    look_below(AT_FDCWD, path);
 }
 
 /* The same of a name that is looked for in PATH. */
@@ -132,18 +202,27 @@ SEEN int execve(const char *path, char *const *words, char *const *surrounding)
     int (*call)(const char *, char *const *, char *const *);
     *(void **)&call = next("execve");
     look_at(path);
-    char *room[count_of(surrounding) + MOST_VARIABLES + 1];
-    return call(path, words, with_ours(surrounding, room));
+    ROOM_FOR(surrounding);
+    return call(path, words, with_ours(surrounding, room, preload));
 }
 
 SEEN int fexecve(int file, char *const *words, char *const *surrounding)
 {
     int (*call)(int, char *const *, char *const *);
     *(void **)&call = next("fexecve");
-    if (is_static(file))
-        say("it is linked statically and can't be reached: SIGSYS ends it if it calls io_uring, or writes to memory that it shares with a file", "a program");
-    char *room[count_of(surrounding) + MOST_VARIABLES + 1];
-    return call(file, words, with_ours(surrounding, room));
+    look_at_file(file, "a program");
+    ROOM_FOR(surrounding);
+    return call(file, words, with_ours(surrounding, room, preload));
+}
+
+/* The file itself has an empty path. (A C library before 2.34 hasn't this call.) */
+SEEN int execveat(int at, const char *path, char *const *words, char *const *surrounding, int flags)
+{
+    look_below(at, path);
+    if (flags & AT_EMPTY_PATH && faccessat(at, path, F_OK, 0) != 0)
+        look_at_file(at, "a program");
+    ROOM_FOR(surrounding);
+    return (int)syscall(SYS_execveat, at, path, words, with_ours(surrounding, room, preload), flags);
 }
 
 SEEN int execvpe(const char *name, char *const *words, char *const *surrounding)
@@ -151,8 +230,8 @@ SEEN int execvpe(const char *name, char *const *words, char *const *surrounding)
     int (*call)(const char *, char *const *, char *const *);
     *(void **)&call = next("execvpe");
     look_for(name);
-    char *room[count_of(surrounding) + MOST_VARIABLES + 1];
-    return call(name, words, with_ours(surrounding, room));
+    ROOM_FOR(surrounding);
+    return call(name, words, with_ours(surrounding, room, preload));
 }
 
 SEEN int execv(const char *path, char *const *words)
@@ -206,8 +285,8 @@ SEEN int posix_spawn(pid_t *process, const char *path, const posix_spawn_file_ac
     int (*call)(pid_t *, const char *, const posix_spawn_file_actions_t *, const posix_spawnattr_t *, char *const *, char *const *);
     *(void **)&call = next("posix_spawn");
     look_at(path);
-    char *room[count_of(surrounding) + MOST_VARIABLES + 1];
-    return call(process, path, actions, attributes, words, with_ours(surrounding, room));
+    ROOM_FOR(surrounding);
+    return call(process, path, actions, attributes, words, with_ours(surrounding, room, preload));
 }
 
 SEEN int posix_spawnp(pid_t *process, const char *name, const posix_spawn_file_actions_t *actions, const posix_spawnattr_t *attributes, char *const *words, char *const *surrounding)
@@ -215,13 +294,17 @@ SEEN int posix_spawnp(pid_t *process, const char *name, const posix_spawn_file_a
     int (*call)(pid_t *, const char *, const posix_spawn_file_actions_t *, const posix_spawnattr_t *, char *const *, char *const *);
     *(void **)&call = next("posix_spawnp");
     look_for(name);
-    char *room[count_of(surrounding) + MOST_VARIABLES + 1];
-    return call(process, name, actions, attributes, words, with_ours(surrounding, room));
+    ROOM_FOR(surrounding);
+    return call(process, name, actions, attributes, words, with_ours(surrounding, room, preload));
 }
 
 /* The C library starts the shell of these by itself, with the program's own surrounding. */
 static void restore(void)
 {
+    char *const *other = preload_without_own(environ);
+    char *preload = other ? malloc(room_with_own(environ)) : NULL;
+    if (preload)
+        environ[other - environ] = put_own(*other, preload);
     for (size_t i = 0; i < variable_count; i++)
         if (!has_name(environ, variables[i]))
             putenv(variables[i]);
@@ -241,4 +324,12 @@ SEEN FILE *popen(const char *line, const char *mode)
     *(void **)&call = next("popen");
     restore();
     return call(line, mode);
+}
+
+SEEN int wordexp(const char *line, wordexp_t *words, int flags)
+{
+    int (*call)(const char *, wordexp_t *, int);
+    *(void **)&call = next("wordexp");
+    restore();
+    return call(line, words, flags);
 }

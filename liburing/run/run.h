@@ -23,6 +23,9 @@ int real_sigmask(int how, const sigset_t *set, sigset_t *before);
 /* The set without SIGSYS, in this copy. NULL stays NULL. */
 const sigset_t *without_trap(const sigset_t *set, sigset_t *copy);
 
+/* SIGSYS may come to this thread again. */
+void unblock_trap(void);
+
 /* While a call is served all signals are blocked but SIGSYS and the two of the C library's own. */
 #define OPEN_IN_TRAP ((uint64_t)1 << (SIGSYS - 1) | (uint64_t)3 << 31)
 

@@ -1,6 +1,6 @@
 /* SIGSYS stays the trap's: a program that asks to catch, ignore or block it, or all signals, is told that it is so, and
- * it isn't; so it is with masks to wait with (masks.c). What a program says of SIGSYS is kept, so that it is told the same when it asks again. One that asks the kernel
- * itself, as the runtime of Go does, is told that it is done, and it isn't.
+ * it isn't; so it is with masks (masks.c) and contexts (contexts.c). What a program says of SIGSYS is kept, so that it is told the same when it asks again. One
+ * that asks the kernel itself, as the runtime of Go does, is told that it is done, and it isn't.
  *
  * A program that blocks it by a call of its own isn't reached: if a thread of its has blocked SIGSYS when it calls io_uring,
  * the kernel ends the program with that signal.
@@ -84,10 +84,64 @@ SEEN int sigaction(int number, const struct sigaction *action, struct sigaction 
     return real_sigaction(number, &copy, before);
 }
 
-SEEN sighandler_t signal(int number, sighandler_t handler)
+SEEN int __sigaction(int number, const struct sigaction *action, struct sigaction *before) __attribute__((alias("sigaction"), nothrow, leaf));
+
+/* What a program says of SIGSYS by an older call. */
+static sighandler_t note_handler(sighandler_t handler)
 {
-    struct sigaction action = {.sa_handler = handler, .sa_flags = SA_RESTART}, before;
-    return sigaction(number, &action, &before) == 0 ? before.sa_handler : SIG_ERR;
+    const sighandler_t before = asked.sa_handler;
+    if (handler != SIG_ERR) {
+        asked = (struct sigaction){.sa_handler = handler, .sa_flags = SA_RESTART};
+        return before;
+    }
+    errno = EINVAL;
+    return SIG_ERR;
+}
+
+/* Of another signal these do as the C library's do, and block no other. */
+#define CATCHES(name)                                                                   \
+    SEEN sighandler_t name(int number, sighandler_t handler)                            \
+    {                                                                                   \
+        static sighandler_t (*call)(int, sighandler_t);                                 \
+        if (!call)                                                                      \
+            *(void **)&call = next(#name);                                              \
+        return number == SIGSYS ? note_handler(handler) : call(number, handler);        \
+    }
+
+CATCHES(signal)
+CATCHES(ssignal)
+CATCHES(bsd_signal)
+CATCHES(sysv_signal)
+CATCHES(__sysv_signal)
+
+/* SIGSYS isn't held, whoever asks for that. */
+SEEN sighandler_t sigset(int number, sighandler_t handler)
+{
+    static sighandler_t (*call)(int, sighandler_t);
+    if (!call)
+        *(void **)&call = next("sigset");
+    if (number != SIGSYS)
+        return call(number, handler);
+    return handler == SIG_HOLD ? asked.sa_handler : note_handler(handler);
+}
+
+SEEN int sigignore(int number)
+{
+    static int (*call)(int);
+    if (!call)
+        *(void **)&call = next("sigignore");
+    if (number != SIGSYS)
+        return call(number);
+    note_handler(SIG_IGN);
+    return 0;
+}
+
+SEEN int sighold(int number)
+{
+    static int (*call)(int);
+    if (!call)
+        *(void **)&call = next("sighold");
+    return number == SIGSYS ? 0 : call(number);
 }
 
 SEEN int pthread_sigmask(int how, const sigset_t *set, sigset_t *before)

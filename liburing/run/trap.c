@@ -222,8 +222,7 @@ static bool set_map_trap(void)
     return add_filter(&program);
 }
 
-/* SIGSYS is blocked where a parent that wasn't reached had blocked it. */
-static void unblock_trap(void)
+void unblock_trap(void)
 {
     sigset_t trap;
     sigemptyset(&trap);
@@ -254,6 +253,7 @@ static bool is_trapped(void)
 
 static void __attribute__((constructor)) begin(void)
 {
+    /* (a parent that wasn't reached may have blocked it) */
     unblock_trap();
     bool is_set = is_trapped(), has_log = is_logging();
     if (!catch_trap() || !(is_set || (set_trap() && set_map_trap() && (!has_log || trap_files())))) {

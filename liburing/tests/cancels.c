@@ -310,6 +310,36 @@ static void test_awaited(void)
     close(ends[1]);
 }
 
+static bool is_in_order(void)
+{
+    const char *policy = getenv("WULGACH_POLICY");
+    return !policy || strcmp(policy, "order") == 0 || strcmp(policy, "lazy") == 0;
+}
+
+/* What was submitted behind a cancel or a removal, also in one call with it, isn't found unless it has started: in order it never has. */
+static void test_behind_a_cancel(void)
+{
+    struct ring ring;
+    int32_t results[2];
+    struct __kernel_timespec moment = {.tv_nsec = 1000000};
+    make_ring(&ring, 8, 0, 0);
+    put(&ring, IORING_OP_ASYNC_CANCEL, 0, 0)->cancel_flags = IORING_ASYNC_CANCEL_ANY | IORING_ASYNC_CANCEL_ALL;
+    put(&ring, IORING_OP_NOP, 1, 0);
+    check(enter(&ring, 2, 0, 0) == 2);
+    reap_all(&ring, 2, results);
+    check(results[0] == 0 && results[1] == 0);
+    for (int cancels = 0; cancels < 2; cancels++) {
+        put(&ring, cancels ? IORING_OP_ASYNC_CANCEL : IORING_OP_TIMEOUT_REMOVE, 0, 0)->addr = 1;
+        put_transfer(&ring, IORING_OP_TIMEOUT, 1, 0, -1, &moment, 1, 0);
+        check(enter(&ring, 2, 0, 0) == 2);
+        reap_all(&ring, 2, results);
+        bool is_found = results[0] == 0;
+        check(is_found ? !is_in_order() || is_by_manual() : results[0] == -ENOENT);
+        check(results[1] == (is_found ? -ECANCELED : -ETIME));
+    }
+    close_ring(&ring);
+}
+
 int main(int count, char **words)
 {
     static const struct named tests[] = {
@@ -318,6 +348,7 @@ int main(int count, char **words)
         {"timeouts", test_timeouts},
         {"cancels", test_cancels},
         {"cancels of any", test_cancels_of_any},
+        {"behind a cancel", test_behind_a_cancel},
         {"cancel by an unused descriptor", test_cancel_by_unused_descriptor},
         {"cancelled middle", test_cancelled_middle},
         {"count of removed", test_count_of_removed},

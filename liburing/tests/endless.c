@@ -87,6 +87,86 @@ static void test_opened(void)
     close_ring(&ring);
 }
 
+/* The descriptor that has what a path names, or -1. */
+static int descriptor_of(const char *path)
+{
+    struct stat sought, found;
+    check(stat(path, &sought) == 0);
+    for (int fd = 0; fd < 1024; fd++)
+        if (fstat(fd, &found) == 0 && found.st_dev == sought.st_dev && found.st_ino == sought.st_ino)
+            return fd;
+    return -1;
+}
+
+static int descriptor_of_child(const char *path)
+{
+    int status;
+    pid_t child = fork();
+    if (child == 0)
+        _exit(descriptor_of(path) + 1);
+    check(child > 0 && waitpid(child, &status, 0) == child && WIFEXITED(status));
+    return WEXITSTATUS(status) - 1;
+}
+
+/* What an open that waits has open already, no child has, and no program that is started; once it has ended, they have it. */
+static void test_opened_meanwhile(void)
+{
+    struct ring ring;
+    char name[] = "/tmp/unwilling-XXXXXX";
+    check(mkdtemp(name) && chdir(name) == 0 && mkfifo("fifo", 0600) == 0);
+    make_ring(&ring, 8, 0, 0);
+    for (int closes = 0; closes < 2; closes++) {
+        put_open(&ring, 0, "fifo", O_CREAT | O_RDONLY | (closes ? O_CLOEXEC : 0));
+        check(enter(&ring, 1, 0, 0) == 1 && is_waiting(&ring) && descriptor_of_child("fifo") < 0);
+        int fd = descriptor_of("fifo");
+        check(fd < 0 || fcntl(fd, F_GETFD) & FD_CLOEXEC);
+        int writer = open("fifo", O_WRONLY | O_NONBLOCK);
+        check(writer >= 0);
+        fd = next_of(&ring).res;
+        check(fd >= 0 && !(fcntl(fd, F_GETFD) & FD_CLOEXEC) == !closes && close(writer) == 0 && descriptor_of_child("fifo") == fd && close(fd) == 0);
+    }
+    put_open(&ring, 0, "fifo", O_CREAT | O_RDONLY);
+    check(enter(&ring, 1, 0, 0) == 1 && is_waiting(&ring));
+    put_cancel(&ring, 1, 0);
+    check(enter(&ring, 1, 0, 0) == 1 && next_of(&ring).res + next_of(&ring).res == -ECANCELED && descriptor_of("fifo") < 0);
+    check(unlink("fifo") == 0 && rmdir(name) == 0);
+    close_ring(&ring);
+}
+
+/* What an open that waits is to open was found as it started: its path may name nothing by then, and the folder where that begins be closed, or what else has the
+ * number that its entry has. */
+static void test_found_once(void)
+{
+    struct ring ring;
+    struct open_how how = {.flags = O_WRONLY, .resolve = RESOLVE_IN_ROOT};
+    char name[] = "/tmp/unwilling-XXXXXX", path[64];
+    int ends[2];
+    check(mkdtemp(name) && chdir(name) == 0 && pipe(ends) == 0);
+    snprintf(path, sizeof path, "%s/fifo", name);
+    make_ring(&ring, 8, 0, 0);
+    for (int i = 0; i < 3; i++) {
+        check(mkfifo("fifo", 0600) == 0);
+        int folder = i == 2 ? ends[0] : open(".", O_RDONLY | O_DIRECTORY);
+        struct io_uring_sqe *entry = put_plain(&ring, i == 1 ? IORING_OP_OPENAT2 : IORING_OP_OPENAT, 0, folder);
+        entry->addr = (uintptr_t)(i == 2 ? path : i == 1 ? "/fifo" : "fifo");
+        entry->flags |= IOSQE_ASYNC;
+        if (i == 1) {
+            entry->off = (uintptr_t)&how;
+            entry->len = sizeof how;
+        } else {
+            entry->open_flags = O_WRONLY;
+        }
+        check(enter(&ring, 1, 0, 0) == 1 && is_waiting(&ring));
+        check(close(i == 2 ? ends[1] : folder) == 0 && rename("fifo", "other") == 0);
+        int reader = open("other", O_RDONLY | O_NONBLOCK);
+        check(reader >= 0 && unlink("other") == 0);
+        int fd = next_of(&ring).res;
+        check(fd >= 0 && !(fcntl(fd, F_GETFL) & O_NONBLOCK) && close(fd) == 0 && close(reader) == 0);
+    }
+    check(close(ends[0]) == 0 && rmdir(name) == 0);
+    close_ring(&ring);
+}
+
 /* One that a kernel asks not to wait: to read it is open at once, and to write it finds nobody who reads. */
 static void test_opened_at_once(void)
 {
@@ -173,6 +253,8 @@ int main(int count, char **words)
 {
     static const struct named tests[] = {
         {"opened", test_opened},
+        {"opened meanwhile", test_opened_meanwhile},
+        {"found once", test_found_once},
         {"opened at once", test_opened_at_once},
         {"not ordinary", test_not_ordinary},
         {"connected", test_connected},

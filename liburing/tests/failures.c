@@ -5,6 +5,7 @@
 #include "profile.h"
 
 #include <fcntl.h>
+#include <netinet/in.h>
 #include <poll.h>
 #include <sys/eventfd.h>
 #include <sys/socket.h>
@@ -162,6 +163,126 @@ static void test_short_reads(void)
     stop();
 }
 
+static int32_t connect_to(int fd, const struct sockaddr_in *address)
+{
+    struct io_uring_sqe *entry = put_plain(&ring, IORING_OP_CONNECT, 0, fd);
+    entry->addr = (uintptr_t)address;
+    entry->off = sizeof *address;
+    return result_of_one(&ring, 1);
+}
+
+/* A connect behind one that was refused, on the same socket, is a new one: it is refused too, or succeeds if somebody listens by then. */
+static void test_refused_connects(void)
+{
+    struct sockaddr_in address = {.sin_family = AF_INET, .sin_addr.s_addr = htonl(INADDR_LOOPBACK)};
+    socklen_t size = sizeof address;
+    begin(0);
+    int listener = socket(AF_INET, SOCK_STREAM, 0), fd = socket(AF_INET, SOCK_STREAM, 0);
+    check(listener >= 0 && fd >= 0 && bind(listener, (struct sockaddr *)&address, size) == 0 && getsockname(listener, (struct sockaddr *)&address, &size) == 0);
+    for (int i = 0; i < 3; i++)
+        check(connect_to(fd, &address) == -ECONNREFUSED);
+    check(listen(listener, 1) == 0);
+    check(connect_to(fd, &address) == 0 && connect_to(fd, &address) == -EISCONN);
+    close(listener);
+    close(fd);
+    stop();
+}
+
+static void put_splice(int in, int out, uint32_t flags)
+{
+    struct io_uring_sqe *entry = put_plain(&ring, IORING_OP_SPLICE, 0, out);
+    entry->splice_fd_in = in;
+    entry->off = entry->splice_off_in = (uint64_t)-1;
+    entry->len = 8;
+    entry->splice_flags = flags;
+}
+
+/* Two sockets that are connected: local ones of this type, or, with 0, of the Internet. */
+static void connect_pair(int type, int pair[2])
+{
+    struct sockaddr_in address = {.sin_family = AF_INET, .sin_addr.s_addr = htonl(INADDR_LOOPBACK)};
+    socklen_t size = sizeof address;
+    if (type) {
+        check(socketpair(AF_UNIX, type, 0, pair) == 0);
+        return;
+    }
+    int listener = socket(AF_INET, SOCK_STREAM, 0);
+    check(bind(listener, (struct sockaddr *)&address, size) == 0 && listen(listener, 1) == 0 && getsockname(listener, (struct sockaddr *)&address, &size) == 0);
+    pair[0] = socket(AF_INET, SOCK_STREAM, 0);
+    check(connect(pair[0], (struct sockaddr *)&address, size) == 0);
+    pair[1] = accept(listener, NULL, NULL);
+    close(listener);
+}
+
+/* A splice from a socket that has nothing isn't to wait if the socket isn't; from a local stream also by its flag, and by its pipe. */
+static void test_splices_that_wait(void)
+{
+    enum { PLAIN, BY_SOCKET, BY_FLAG, BY_PIPE };
+    static const int types[] = {SOCK_STREAM, SOCK_SEQPACKET, 0};
+    for (int i = 0; i < 3; i++)
+        for (int way = PLAIN; way <= BY_PIPE; way++) {
+            int pair[2];
+            bool waits = way == PLAIN || (way != BY_SOCKET && types[i] != SOCK_STREAM);
+            begin(0);
+            connect_pair(types[i], pair);
+            check(fcntl(pair[0], F_SETFL, way == BY_SOCKET ? O_NONBLOCK : 0) == 0 && fcntl(ends[1], F_SETFL, way == BY_PIPE ? O_NONBLOCK : 0) == 0);
+            put_splice(pair[0], ends[1], way == BY_FLAG ? SPLICE_F_NONBLOCK : 0);
+            submit(1);
+            if (waits) {
+                expect(0, NULL);
+                check(write(pair[1], "four", 4) == 4);
+                EXPECT({0, 4});
+            } else {
+                EXPECT({0, -EAGAIN});
+            }
+            close(pair[0]);
+            close(pair[1]);
+            stop();
+        }
+}
+
+/* Nor does the flag of a splice count for a socket that takes no more. */
+static void test_splice_to_full_socket(void)
+{
+    static char bytes[1 << 16];
+    int pair[2];
+    ssize_t taken = 0;
+    begin(0);
+    connect_pair(SOCK_STREAM, pair);
+    while (send(pair[0], bytes, sizeof bytes, MSG_DONTWAIT) > 0)
+        ;
+    feed();
+    put_splice(ends[0], pair[0], SPLICE_F_NONBLOCK);
+    submit(1);
+    expect(0, NULL);
+    while ((taken = recv(pair[1], bytes, sizeof bytes, MSG_DONTWAIT)) > 0)
+        ;
+    check(taken < 0);
+    EXPECT({0, 1});
+    close(pair[0]);
+    close(pair[1]);
+    stop();
+}
+
+/* A poll of the eventfd that is registered with its own ring ends in the call in which that is told, which is told of the poll too. */
+static void test_own_eventfd(void)
+{
+    uint64_t told = 0;
+    int fd = eventfd(0, EFD_NONBLOCK);
+    begin(0);
+    check(fd >= 0 && register_at(ring.fd, IORING_REGISTER_EVENTFD, &fd, 1) == 0);
+    put_plain(&ring, IORING_OP_POLL_ADD, 0, fd)->poll32_events = POLLIN;
+    submit(1);
+    check(count_ready(&ring) == 0);
+    put(&ring, IORING_OP_NOP, 1, 0);
+    submit(1);
+    check(count_ready(&ring) == 2);
+    EXPECT({1, 0}, {0, POLLIN});
+    check(read(fd, &told, sizeof told) == sizeof told && told == 2);
+    close(fd);
+    stop();
+}
+
 int main(int count, char **words)
 {
     static const struct named tests[] = {
@@ -170,6 +291,10 @@ int main(int count, char **words)
         {"unpolled", test_unpolled},
         {"unbuffered", test_unbuffered},
         {"short reads", test_short_reads},
+        {"refused connects", test_refused_connects},
+        {"own eventfd", test_own_eventfd},
+        {"splices that wait", test_splices_that_wait},
+        {"splice to a full socket", test_splice_to_full_socket},
     };
     return are_rings_there() ? run_tests(tests, sizeof tests / sizeof *tests, count > 1 ? words[1] : NULL) : 0;
 }

@@ -7,6 +7,7 @@
 #include "polled.h"
 
 #include <sys/resource.h>
+#include <sys/socket.h>
 #include <sys/wait.h>
 
 static void test_refused(void)
@@ -129,13 +130,14 @@ static void test_cancelled_at_once(void)
     close_ring(&ring);
 }
 
-static void put_splice(struct ring *ring, uint64_t user_data, int from, int to)
+static struct io_uring_sqe *put_splice(struct ring *ring, uint64_t user_data, int from, int to)
 {
     struct io_uring_sqe *entry = put(ring, IORING_OP_SPLICE, user_data, 0);
     entry->fd = to;
     entry->splice_fd_in = from;
     entry->off = entry->splice_off_in = UINT64_MAX;
     entry->len = 1;
+    return entry;
 }
 
 /* Requests 2 and 3 wait for a number. When 5, whose number is their sum, waits for it in their place, that is another pipe's: it makes the
@@ -175,6 +177,72 @@ static void test_renewed(void)
         close(out[i]);
     }
     close_ring(&ring);
+}
+
+/* A call whose request waits for its descriptor. */
+static void enter_and_wait(struct ring *ring)
+{
+    check(enter(ring, 1, 0, 0) == 1);
+    while (is_readable(ring, 0))
+        check(enter(ring, 0, 0, IORING_ENTER_GETEVENTS) == 0);
+    check(count_ready(ring) == 0);
+}
+
+/* A poll of a socket that goes on, and is changed, makes the descriptor readable as before. */
+static void test_changed(void)
+{
+    struct ring ring;
+    int ends[2];
+    check(socketpair(AF_UNIX, SOCK_STREAM, 0, ends) == 0);
+    make_ring(&ring, 4, 0, 0);
+    struct io_uring_sqe *entry = put(&ring, IORING_OP_POLL_ADD, 1, 0);
+    entry->fd = ends[0];
+    entry->poll32_events = POLLIN;
+    entry->len = IORING_POLL_ADD_MULTI;
+    enter_and_wait(&ring);
+    entry = put(&ring, IORING_OP_POLL_REMOVE, 2, 0);
+    entry->addr = 1;
+    entry->poll32_events = POLLIN;
+    entry->len = IORING_POLL_UPDATE_EVENTS | IORING_POLL_ADD_MULTI;
+    check(enter(&ring, 1, 1, IORING_ENTER_GETEVENTS) == 1 && reap_by_peeks(&ring) == 1 && !is_readable(&ring, 20));
+    check(write(ends[1], "x", 1) == 1 && is_readable(&ring, 1000));
+    check(next_of(&ring).user_data == 1);
+    close(ends[0]);
+    close(ends[1]);
+    close_ring(&ring);
+}
+
+/* A splice waits for a pipe that is open by another number too, by its slot or by its own number, which is then emptied or closed. Once
+ * it is cancelled, nothing tells of that pipe.
+ */
+static void end_splice(bool is_fixed)
+{
+    struct ring ring;
+    int in[2], out[2], none = -1;
+    check(pipe(in) == 0 && pipe(out) == 0);
+    int kept = dup(in[0]);
+    make_ring(&ring, 4, 0, 0);
+    check(register_at(ring.fd, IORING_REGISTER_FILES, &in[0], 1) == 0);
+    put_splice(&ring, 1, is_fixed ? 0 : in[0], out[1])->splice_flags = is_fixed ? SPLICE_F_FD_IN_FIXED : 0;
+    enter_and_wait(&ring);
+    struct io_uring_files_update update = {.fds = (uintptr_t)&none};
+    check(register_at(ring.fd, IORING_REGISTER_FILES_UPDATE, &update, 1) == 1);
+    put(&ring, IORING_OP_ASYNC_CANCEL, 2, 0)->addr = 1;
+    close(in[0]);
+    check(enter(&ring, 1, 2, IORING_ENTER_GETEVENTS) == 1 && reap_by_peeks(&ring) == 2);
+    check(write(in[1], "x", 1) == 1);
+    check(enter(&ring, 0, 0, IORING_ENTER_GETEVENTS) == 0 && !is_readable(&ring, 20));
+    close(in[1]);
+    close(kept);
+    close(out[0]);
+    close(out[1]);
+    close_ring(&ring);
+}
+
+static void test_ended_splice(void)
+{
+    end_splice(true);
+    end_splice(false);
 }
 
 static void *submit_later(void *ring)
@@ -226,6 +294,8 @@ int main(int count, char **words)
         {"pipe", test_pipe},
         {"cancelled at once", test_cancelled_at_once},
         {"renewed", test_renewed},
+        {"changed", test_changed},
+        {"ended splice", test_ended_splice},
         {"threads", test_threads},
         {"file limit", test_file_limit},
     };

@@ -212,6 +212,32 @@ static void test_linked_timeouts(void)
     }
 }
 
+/* A cancel of what has the user data of a linked timeout doesn't find that, whatever has become of its request, and the chain goes on behind it; it finds
+ * what else has the same. (by the manual pages' rules one without flags may find it) */
+static void test_cancels_of_linked_timeouts(void)
+{
+    struct __kernel_timespec hour = {.tv_sec = 3600};
+    for (int way = is_by_manual() ? 2 : 0; way < 4; way++) {
+        int32_t results[4];
+        bool has_other = way & 1, is_of_all = way & 2;
+        begin(0);
+        feed();
+        put_waiting(0, IOSQE_IO_LINK);
+        put_transfer(&ring, IORING_OP_LINK_TIMEOUT, 1, IOSQE_IO_LINK, -1, &hour, 1, 0);
+        put(&ring, IORING_OP_NOP, 2, 0);
+        if (has_other)
+            put_transfer(&ring, IORING_OP_TIMEOUT, 1, 0, -1, &hour, 1, 0);
+        struct io_uring_sqe *cancel = put(&ring, IORING_OP_ASYNC_CANCEL, 3, 0);
+        cancel->addr = 1;
+        cancel->cancel_flags = is_of_all ? IORING_ASYNC_CANCEL_ALL : 0;
+        submit(has_other ? 5 : 4);
+        reap_all(&ring, has_other ? 5 : 4, results);
+        check(results[0] == 1 && results[1] == -ECANCELED && results[2] == 0);
+        check(results[3] == (is_of_all ? has_other : has_other ? 0 : -ENOENT));
+        stop();
+    }
+}
+
 int main(int count, char **words)
 {
     static const struct named tests[] = {
@@ -222,6 +248,7 @@ int main(int count, char **words)
         {"drains", test_drains},
         {"messages beside drains", test_messages_beside_drains},
         {"linked timeouts", test_linked_timeouts},
+        {"cancels of linked timeouts", test_cancels_of_linked_timeouts},
     };
     return are_rings_there() ? run_tests(tests, sizeof tests / sizeof *tests, count > 1 ? words[1] : NULL) : 0;
 }

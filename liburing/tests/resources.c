@@ -62,6 +62,9 @@ static void test_tags_of_buffers(void)
     check(register_at(ring.fd, IORING_REGISTER_BUFFERS_UPDATE, &update, sizeof update) == -EINVAL);
     check(register_at(ring.fd, IORING_UNREGISTER_BUFFERS, NULL, 0) == 0);
     check(next_of(&ring).user_data == 12);
+    check(register_at(ring.fd, IORING_REGISTER_BUFFERS2, &asked, sizeof asked) == 0);
+    check(register_at(ring.fd, IORING_UNREGISTER_BUFFERS, NULL, 0) == 0);
+    check(next_of(&ring).user_data == 12 && next_of(&ring).user_data == 11);
     close(ends[0]);
     close(ends[1]);
     close_ring(&ring);
@@ -191,11 +194,13 @@ static void test_advice(void)
 
 static void test_restrictions(void)
 {
+    static struct io_uring_restriction many[104];
     struct ring ring;
     struct io_uring_restriction rows[2] = {{.opcode = IORING_RESTRICTION_SQE_OP, .sqe_op = IORING_OP_NOP}, {.opcode = IORING_RESTRICTION_REGISTER_OP, .register_op = IORING_REGISTER_PROBE}};
     int fd = make_file();
     make_ring(&ring, 8, 0, IORING_SETUP_R_DISABLED);
     check(enter(&ring, 0, 0, IORING_ENTER_GETEVENTS) == -EBADFD);
+    check(register_at(ring.fd, IORING_REGISTER_RESTRICTIONS, many, 104) == -EINVAL);
     check(register_at(ring.fd, IORING_REGISTER_RESTRICTIONS, rows, 2) == 0);
     check(register_at(ring.fd, IORING_REGISTER_RESTRICTIONS, rows, 2) == -EBUSY);
     check(register_at(ring.fd, IORING_REGISTER_ENABLE_RINGS, NULL, 0) == 0);

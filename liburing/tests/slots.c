@@ -157,6 +157,20 @@ static void test_tags_of_files(void)
     close_ring(&ring);
 }
 
+/* The tags of a table that goes are told from its last slot on. */
+static void test_tags_of_table(void)
+{
+    struct ring ring;
+    int list[3] = {0, -1, 0};
+    uint64_t tags[3] = {11, 0, 13};
+    struct io_uring_rsrc_register asked = {.nr = 3, .data = (uintptr_t)list, .tags = (uintptr_t)tags};
+    make_ring(&ring, 4, 0, 0);
+    check(register_at(ring.fd, IORING_REGISTER_FILES2, &asked, sizeof asked) == 0);
+    check(register_at(ring.fd, IORING_UNREGISTER_FILES, NULL, 0) == 0);
+    check(next_of(&ring).user_data == 13 && next_of(&ring).user_data == 11);
+    close_ring(&ring);
+}
+
 /* A slot that can't be told is empty again. */
 static void test_untold_slots(void)
 {
@@ -303,6 +317,7 @@ int main(int count, char **words)
         {"direct descriptors", test_direct_descriptors},
         {"slots", test_slots},
         {"tags of files", test_tags_of_files},
+        {"tags of a table", test_tags_of_table},
         {"untold slots", test_untold_slots},
         {"turns", test_turns},
         {"turn at a return", test_turn_at_return},

@@ -7,6 +7,7 @@
 #include <pthread.h>
 #include <signal.h>
 #include <sys/eventfd.h>
+#include <sys/wait.h>
 #include <time.h>
 
 /* A thread with a ring of its own: chains of three, one after the other. */
@@ -314,6 +315,40 @@ static void test_cells_before_tail(void)
     close_ring(&ring);
 }
 
+/* The first thread of the process has ended: memory is copied, and descriptors are named, as before. */
+static void *use_ring_alone(void *first)
+{
+    struct ring ring, other;
+    char byte;
+    struct iovec vector = {&byte, 1};
+    int file = make_file();
+    check(pthread_join(*(pthread_t *)first, NULL) == 0);
+    make_ring(&ring, 4, 0, 0);
+    int copy = dup(ring.fd);
+    close(ring.fd);
+    ring.fd = copy;
+    make_ring(&other, 4, 0, 0);
+    check(write(file, "x", 1) == 1);
+    put_transfer(&ring, IORING_OP_READV, 0, 0, file, &vector, 1, 0);
+    check(enter(&ring, 1, 1, IORING_ENTER_GETEVENTS) == 1 && reap(&ring).res == 1 && byte == 'x');
+    check(register_at(ring.fd, IORING_REGISTER_EVENTFD, &file, 1) == -EINVAL);
+    exit(0);
+}
+
+static void test_first_has_ended(void)
+{
+    static pthread_t first;
+    pthread_t thread;
+    int status;
+    pid_t child = fork();
+    if (child == 0) {
+        first = pthread_self();
+        check(pthread_create(&thread, NULL, use_ring_alone, &first) == 0);
+        pthread_exit(NULL);
+    }
+    check(waitpid(child, &status, 0) == child && status == 0);
+}
+
 int main(int count, char **words)
 {
     static const struct named tests[] = {
@@ -327,6 +362,7 @@ int main(int count, char **words)
         {"limit beside threads", test_limit_beside_threads},
         {"not all submitted", test_not_all_submitted},
         {"cells before tail", test_cells_before_tail},
+        {"first has ended", test_first_has_ended},
     };
     alarm((unsigned)(PATIENCE * patience()));
     return run_tests(tests, sizeof tests / sizeof *tests, count > 1 ? words[1] : NULL);

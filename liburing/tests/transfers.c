@@ -337,6 +337,40 @@ static void test_too_long(void)
     close_ring(&ring);
 }
 
+static int broken;      /* how often SIGPIPE came */
+
+static void count_broken(int signal)
+{
+    (void)signal;
+    broken++;
+}
+
+/* A splice and a tee to what nobody reads, and a write that is to be a worker's, bring no signal; another write does. */
+static void test_broken_pipe(void)
+{
+    struct ring ring;
+    int from[2], to[2];
+    struct sigaction own, counts = {.sa_handler = count_broken};
+    check(pipe(from) == 0 && pipe(to) == 0 && write(from[1], "four", 4) == 4 && close(to[0]) == 0);
+    check(sigaction(SIGPIPE, &counts, &own) == 0);
+    make_ring(&ring, 8, 0, 0);
+    for (int tees = 0; tees < 2; tees++) {
+        struct io_uring_sqe *entry = put_transfer(&ring, tees ? IORING_OP_TEE : IORING_OP_SPLICE, 0, 0, to[1], NULL, 4, tees ? 0 : UINT64_MAX);
+        entry->splice_fd_in = from[0];
+        entry->splice_off_in = tees ? 0 : UINT64_MAX;
+        check(result_of_one(&ring, 1) == -EPIPE && broken == 0);
+    }
+    put_transfer(&ring, IORING_OP_WRITE, 0, IOSQE_ASYNC, to[1], "four", 4, 0);
+    check(result_of_one(&ring, 1) == -EPIPE && broken == 0);
+    put_transfer(&ring, IORING_OP_WRITE, 0, 0, to[1], "four", 4, 0);
+    check(result_of_one(&ring, 1) == -EPIPE && broken == 1);
+    check(sigaction(SIGPIPE, &own, NULL) == 0);
+    close(from[0]);
+    close(from[1]);
+    close(to[1]);
+    close_ring(&ring);
+}
+
 int main(int count, char **words)
 {
     static const struct named tests[] = {
@@ -347,6 +381,7 @@ int main(int count, char **words)
         {"used again", test_used_again},
         {"in turn", test_in_turn},
         {"too long", test_too_long},
+        {"broken pipe", test_broken_pipe},
     };
     static const struct named injection = {"injection", test_injection};
     if (count > 1 && strcmp(words[1], injection.name) == 0)

@@ -1,7 +1,7 @@
 /* A program that is linked with nothing of ours and calls io_uring by the processor's own instruction. Run by uring-run
  * its rings are the layer's, which it sees by their descriptors: those are epoll instances.
  *
- *   trapped nop | shared | blocked | signals | registers | issuers | threads | fork | vfork | exec | list | spawn | shell | sqpoll | filter | static PROGRAM
+ *   trapped nop | shared | blocked | signals | registers | issuers | threads | fork | vfork | exec | list | spawn | shell | preload | sqpoll | filter | static PROGRAM
  *
  * Status 0: all was as it is to be. Else a line says what wasn't.
  */
@@ -10,6 +10,7 @@
 #include "trapped.h"
 
 #include <errno.h>
+#include <fcntl.h>
 #include <linux/filter.h>
 #include <linux/io_uring.h>
 #include <linux/seccomp.h>
@@ -29,6 +30,7 @@
 #include <sys/time.h>
 #include <sys/wait.h>
 #include <unistd.h>
+#include <wordexp.h>
 
 static void no_op_on(const struct ring *ring)
 {
@@ -231,31 +233,71 @@ static void forked(void)
     no_op();
 }
 
-static void vforked(const char *self)
+static void vforked(const char *self, char *const *surrounding)
 {
     pid_t child = vfork();
     if (child == 0) {
-        execve(self, nop_words, no_surrounding);
+        execve(self, nop_words, surrounding);
         _exit(1);
     }
     want_success(child);
 }
 
-static void spawned(const char *self)
+/* By a descriptor of the program. */
+static void begun(const char *self, char *const *surrounding)
+{
+    int file = open(self, O_RDONLY | O_CLOEXEC);
+    pid_t child = vfork();
+    if (child == 0) {
+        execveat(file, "", nop_words, surrounding, AT_EMPTY_PATH);
+        _exit(1);
+    }
+    want_success(child);
+    WANT(close(file) == 0);
+}
+
+static void spawned(const char *self, char *const *surrounding)
 {
     pid_t child;
-    WANT(posix_spawn(&child, self, NULL, NULL, nop_words, no_surrounding) == 0);
+    WANT(posix_spawn(&child, self, NULL, NULL, nop_words, surrounding) == 0);
     want_success(child);
 }
 
 static void shell(const char *self)
 {
     char line[4200];
-    clearenv();
     snprintf(line, sizeof line, "%s nop", self);
     WANT(system(line) == 0);
     FILE *pipe = popen(line, "r");
     WANT(pipe && pclose(pipe) == 0);
+}
+
+/* A line of words that a command makes. */
+static void expand(const char *self)
+{
+    char line[4200];
+    wordexp_t words;
+    snprintf(line, sizeof line, "$(%s nop && echo succeeds)", self);
+    WANT(wordexp(line, &words, 0) == 0 && words.we_wordc == 1 && strcmp(words.we_wordv[0], "succeeds") == 0);
+    wordfree(&words);
+}
+
+/* A surrounding that preloads another library, or none, keeps what it has, and reaches the program that is started all the same. */
+static void preloaded(const char *self)
+{
+    static char *const lists[] = {"LD_PRELOAD=", "LD_PRELOAD=libm.so.6", "LD_PRELOAD=libc.so.6 libm.so.6"};
+    for (int i = 0; i < 3; i++) {
+        char *const surrounding[] = {lists[i], NULL};
+        vforked(self, surrounding);
+        begun(self, surrounding);
+        spawned(self, surrounding);
+        WANT(setenv("LD_PRELOAD", strchr(lists[i], '=') + 1, 1) == 0);
+        expand(self);
+        WANT(setenv("LD_PRELOAD", strchr(lists[i], '=') + 1, 1) == 0);
+        shell(self);
+        WANT(i == 0 || system("case $LD_PRELOAD in *[:\\ ]libm.so.6) ;; *) exit 1 ;; esac") == 0);
+        shell(self);
+    }
 }
 
 static void sqpoll(void)
@@ -298,15 +340,18 @@ int main(int argc, char **argv)
     else if (strcmp(name, "fork") == 0)
         forked();
     else if (strcmp(name, "vfork") == 0)
-        vforked(self);
+        vforked(self, no_surrounding);
     else if (strcmp(name, "exec") == 0)
         execve(self, nop_words, no_surrounding);
     else if (strcmp(name, "list") == 0)
         execle(self, "trapped", "nop", NULL, no_surrounding);
     else if (strcmp(name, "spawn") == 0)
-        spawned(self);
-    else if (strcmp(name, "shell") == 0)
+        spawned(self, no_surrounding);
+    else if (strcmp(name, "shell") == 0) {
+        clearenv();
         shell(self);
+    } else if (strcmp(name, "preload") == 0)
+        preloaded(self);
     else if (strcmp(name, "sqpoll") == 0)
         sqpoll();
     else if (strcmp(name, "filter") == 0)

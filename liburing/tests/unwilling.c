@@ -48,6 +48,9 @@ int __wrap_poll(struct pollfd *polled, nfds_t count, int patience)
 /* A descriptor whose flags another thread changes while it is asked not to wait. Or -1. */
 static int appended = -1;
 
+/* One of which another process, which has it from the same open, takes back just then that it isn't to wait. Or -1. */
+static int taken_back = -1;
+
 int __real_fcntl(int fd, int code, ...);
 int __wrap_fcntl(int fd, int code, ...)
 {
@@ -58,6 +61,8 @@ int __wrap_fcntl(int fd, int code, ...)
     int result = __real_fcntl(fd, code, argument);
     if (code == F_SETFL && is_of(fd, appended) && argument & O_NONBLOCK)
         check(__real_fcntl(fd, F_SETFL, argument | O_APPEND) == 0);
+    if (code == F_SETFL && is_of(fd, taken_back) && argument & O_NONBLOCK)
+        check(__real_fcntl(fd, F_SETFL, argument & ~O_NONBLOCK) == 0);
     return result;
 }
 
@@ -110,6 +115,24 @@ static void test_taken(void)
     check(enter(&ring, 1, 0, 0) == 1);
     wait_for_taken(&ring, reader, bring_byte);
     check(unlink("fifo") == 0 && rmdir(name) == 0);
+    close_ring(&ring);
+}
+
+/* A read end of a named pipe can't be locked: so another process that reads there by it too may have asked it not to wait just before, and take that
+ * back amid the call. */
+static void test_taken_back(void)
+{
+    struct ring ring;
+    char name[] = "/tmp/unwilling-XXXXXX", byte;
+    check(mkdtemp(name) && chdir(name) == 0 && mkfifo("fifo", 0600) == 0);
+    written_to = open("fifo", O_RDWR);
+    int reader = open("fifo", O_RDONLY);
+    make_ring(&ring, 8, 0, 0);
+    taken_back = reader;
+    put_transfer(&ring, IORING_OP_READ, 0, 0, reader, &byte, 1, -1);
+    check(enter(&ring, 1, 0, 0) == 1);
+    wait_for_taken(&ring, reader, bring_byte);
+    check(byte == 'x' && unlink("fifo") == 0 && rmdir(name) == 0);
     close_ring(&ring);
 }
 
@@ -289,6 +312,7 @@ int main(int count, char **words)
 {
     static const struct named tests[] = {
         {"taken", test_taken},
+        {"taken back", test_taken_back},
         {"herd", test_herd},
         {"splices", test_splices},
         {"wills", test_wills},

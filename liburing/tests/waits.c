@@ -255,6 +255,10 @@ static void test_wrong_end(void)
         put_transfer(&ring, IORING_OP_WRITE, 0, flags, is_registered ? 0 : ends[0], text, 4, 0);
         check(result_of_one(&ring, 1) == -EBADF);
     }
+    /* Nor has the end that writes anything to be read, whatever is written. */
+    put_plain(&ring, IORING_OP_POLL_ADD, 0, ends[1])->poll_events = POLLIN;
+    check(enter(&ring, 1, 0, 0) == 1 && write(ends[1], text, 4) == 4);
+    check(enter_for(&ring, 1, 1000) == -ETIME);
     close(ends[0]);
     close(ends[1]);
     close_ring(&ring);
@@ -292,6 +296,29 @@ static void test_splice(void)
     close_ring(&ring);
 }
 
+/* A write to a pipe that shows no room ends, though, if the last page has room for it; one for which that has none waits until it was read. */
+static void test_last_page(void)
+{
+    struct ring ring;
+    static char bytes[4096];
+    int ends[2];
+    check(pipe(ends) == 0 && fcntl(ends[1], F_SETPIPE_SZ, 4096) == 4096);
+    make_ring(&ring, 8, 0, 0);
+    put_transfer(&ring, IORING_OP_WRITE, 0, 0, ends[1], bytes, 1000, 0);
+    check(result_of_one(&ring, 1) == 1000);
+    struct pollfd at = {.fd = ends[1], .events = POLLOUT};
+    check(poll(&at, 1, 0) == 0);
+    put_transfer(&ring, IORING_OP_WRITE, 0, 0, ends[1], bytes, 100, 0);
+    check(result_of_one(&ring, 1) == 100);
+    put_transfer(&ring, IORING_OP_WRITE, 0, 0, ends[1], bytes, 4000, 0);
+    check(enter(&ring, 1, 0, 0) == 1 && enter_for(&ring, 1, 1000) == -ETIME);
+    check(read(ends[0], bytes, sizeof bytes) == 1100);
+    check(wait_for_one(&ring) == 4000);
+    close(ends[0]);
+    close(ends[1]);
+    close_ring(&ring);
+}
+
 int main(int count, char **words)
 {
     static const struct named tests[] = {
@@ -303,6 +330,7 @@ int main(int count, char **words)
         {"events in choices", test_events_in_choices},
         {"wrong end", test_wrong_end},
         {"splice", test_splice},
+        {"last page", test_last_page},
     };
     return run_tests(tests, sizeof tests / sizeof *tests, count > 1 ? words[1] : NULL);
 }

@@ -16,3 +16,7 @@ pub mod UnknownForm
 pub mod StartForm
 pub mod FollowingForm
 pub mod PassageForm
+pub mod LeavingForm
+pub mod PuttingOffForm
+pub mod ListingForm
+pub mod ChangingForm

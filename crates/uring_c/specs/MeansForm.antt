@@ -3,14 +3,18 @@ use Rattle.std.specs.Prelude.{ℕ, ℤ, Bool, false, ◌==◌, Option, Some, Non
 use Rattle.uring_enter.specs.declared.system_call.SystemCall.{SystemCall}
 use Rattle.uring_enter.specs.declared.fault.Fault.{Fault}
 use Rattle.uring_enter.specs.declared.fault.Fault.TheVariants as fault
+use Rattle.uring_enter.specs.declared.means.Listed.{Listed}
 use Rattle.uring_enter.specs.declared.means.Means.{Means}
-use Rattle.uring_enter.specs.declared.means.Means.TheVariants.{Nothing, Transfer, Poll, Call, Opening, Sync, Close, Connect, Splice, Send, Receive, ReceiveMessage, SlotRemoval, FilesPlacing, FilesUpdate, Timeout, LinkedTimeout, Provision, ProvisionRemoval, Message, Others}
+use Rattle.uring_enter.specs.declared.means.Means.TheVariants.{Nothing, Transfer, Poll, Call, Opening, Sync, Close, Connect, Splice, Send, Receive, ReceiveMessage, SlotRemoval, FilesPlacing, FilesUpdate, Timeout, LinkedTimeout, Provision, ProvisionRemoval, Message, Cancel, PollRemoval, TimeoutRemoval}
 use Rattle.uring_enter.specs.Faults.{can_have, given_result}
 use Rattle.uring_enter.specs.SystemCalls.{of_three}
 use Rattle.uring_c.specs.declared.call_exports.MeansWords.{MeansWords}
 
+abbrev pub no_list : Listed
+no_list = record { address = 0; count = 0 }
+
 abbrev pub words : ℕ → ℕ → SystemCall → MeansWords
-words kind slot call = record { kind = kind; slot = slot; call = call }
+words kind slot call = record { kind = kind; slot = slot; listed = no_list; call = call }
 
 -- one that names no slot
 abbrev pub by_call : ℕ → SystemCall → MeansWords
@@ -19,6 +23,10 @@ by_call kind call = words kind 0 call
 -- one that makes no system call: all numbers of that are 0
 abbrev pub by_slot : ℕ → ℕ → MeansWords
 by_slot kind slot = words kind slot (of_three 0 0 0 0)
+
+-- nor does one that puts files into slots
+abbrev pub by_list : ℕ → ℕ → Listed → MeansWords
+by_list kind slot listed = record { kind = kind; slot = slot; listed = listed; call = of_three 0 0 0 0 }
 
 abbrev pub bare : ℕ → MeansWords
 bare kind = by_slot kind 0
@@ -38,14 +46,16 @@ words_of_means (Send call) = by_call 9 call
 words_of_means (Receive call) = by_call 10 call
 words_of_means (ReceiveMessage call) = by_call 11 call
 words_of_means (SlotRemoval slot) = by_slot 12 slot
-words_of_means FilesPlacing = bare 13
-words_of_means (FilesUpdate slot) = by_slot 14 slot
+words_of_means (FilesPlacing listed) = by_list 13 0 listed
+words_of_means (FilesUpdate slot listed) = by_list 14 slot listed
 words_of_means Timeout = bare 15
 words_of_means LinkedTimeout = bare 16
 words_of_means Provision = bare 17
 words_of_means ProvisionRemoval = bare 18
 words_of_means Message = bare 19
-words_of_means Others = bare 20
+words_of_means Cancel = bare 20
+words_of_means PollRemoval = bare 21
+words_of_means TimeoutRemoval = bare 22
 
 -- faults count in the order of `Fault`, from 1. Our own rule
 abbrev pub fault_of_word : ℕ → Option Fault

@@ -1,16 +1,22 @@
 -- What a message to another ring does, and what is changed of what a ring's descriptor polls for, in words that C can read.
-use Rattle.std.specs.Prelude.{ℕ, ℤ, pos, Bool, Option, Some, None, if◌then◌else◌}
+use Rattle.std.specs.Prelude.{ℕ, ◌^◌, ℤ, pos, Bool, Option, Some, None, if◌then◌else◌}
+use Rattle.std.specs.Int.RustNames.{bit_or}
+use Rattle.uring_enter.specs.Messages.{MessageStep, HasMemory, FindsFile, PassesFile, Tells, place, is_done}
+use Rattle.uring_enter.specs.declared.message.MessageSteps.{MessageSteps}
 use Rattle.uring_enter.specs.declared.message.Sending.{Sending}
-use Rattle.uring_enter.specs.declared.message.Sending.TheVariants.{Fails, Posts, Passes}
+use Rattle.uring_enter.specs.declared.message.Sending.TheVariants.{Fails}
+use Rattle.uring_enter.specs.declared.watched.Besides.{Besides}
 use Rattle.uring_enter.specs.declared.watched.Watch.{Watch}
 use Rattle.uring_enter.specs.declared.watched.Watch.TheVariants.{Stays, Adds, Removes, Renews}
 use Rattle.uring_enter.specs.declared.watched.Watched.{Watched}
 
--- kinds count in the order of `Sending`, from 0. Our own rule
-abbrev pub word_of_sending : Sending → ℕ
-word_of_sending (Fails _) = 0
-word_of_sending Posts = 1
-word_of_sending Passes = 2
+-- the bit of a step, where it is done, is 2 to the power of its place: so steps are done by rising bits. Our own rule
+abbrev pub bit : MessageSteps → MessageStep → ℕ
+bit s step = if is_done s step then 2 ^ place step else 0
+
+abbrev pub word_of_message : MessageSteps → ℕ
+word_of_message s =
+    bit_or (bit_or (bit_or (bit s HasMemory) (bit s FindsFile)) (bit s PassesFile)) (bit s Tells)
 
 abbrev pub fault_of_sending : Sending → ℤ
 fault_of_sending (Fails fault) = fault
@@ -25,3 +31,7 @@ word_of_watch Renews = 3
 
 abbrev pub watched_of : Watched → Bool → Option Watched
 watched_of w has = if has then Some w else None
+
+-- 1 and 2. Our own rule
+abbrev pub word_of_besides : Besides → ℕ
+word_of_besides b = bit_or (if b.writes then 1 else 0) (if b.instance then 2 else 0)

@@ -1,5 +1,9 @@
 -- In which order a call is refused and a ring gets a number, what is found of a descriptor, what an epoll instance's answer makes of who asks it, and what of a pipe is gone, in words that C can read.
-use Rattle.std.specs.Prelude.{ℕ, ℤ, pos, Option, Some, None, ◌==◌, if◌then◌else◌}
+use Rattle.std.specs.Prelude.{ℕ, Bool, ◌+◌, ◌^◌, ℤ, pos, Option, Some, None, ◌==◌, if◌then◌else◌}
+use Rattle.std.specs.Int.{w32, cast_signed}
+use Rattle.std.specs.Int.RustNames.{bit_or}
+use Rattle.uring_enter.specs.Passages.{CallStep, HasStructure, Begins, IsMade, Returns, place, is_done, call_steps}
+use Rattle.uring_enter.specs.declared.passage.CallSteps.{CallSteps}
 use Rattle.uring_enter.specs.declared.passage.Check.{Check}
 use Rattle.uring_enter.specs.declared.passage.Check.TheVariants.{Number, Descriptor, Counts, Caller, Argument}
 use Rattle.uring_enter.specs.declared.passage.Passage.{Passage}
@@ -15,15 +19,23 @@ use Rattle.uring_enter.specs.declared.lying.Answered.TheVariants as answered
 use Rattle.uring_enter.specs.declared.missed.Gone.{Gone}
 use Rattle.uring_enter.specs.declared.missed.Gone.TheVariants as gone
 
--- the error, or what is done next in the order of `Check`, from 0; and 5 of a call that is carried out. Our own rule
-abbrev pub word_of_passage : Passage → ℤ
-word_of_passage (IsRefused fault) = fault
-word_of_passage (Checks Number) = pos 0
-word_of_passage (Checks Descriptor) = pos 1
-word_of_passage (Checks Counts) = pos 2
-word_of_passage (Checks Caller) = pos 3
-word_of_passage (Checks Argument) = pos 4
-word_of_passage Passes = pos 5
+-- the bit of a step of a call is 2 to the power of its place, behind the numbers of checks, which have three bits: so steps are done by rising bits. Our own rule
+abbrev pub bit : CallSteps → CallStep → ℕ
+bit s step = if is_done s step then 2 ^ (3 + place step) else 0
+
+abbrev pub word_of_call : CallSteps → ℕ
+word_of_call s =
+    bit_or (bit_or (bit_or (bit s HasStructure) (bit s Begins)) (bit s IsMade)) (bit s Returns)
+
+-- the error, or what is looked at next in the order of `Check`, from 0; or the steps of a call that passes. Our own rule
+abbrev pub word_of_passage : Passage → (is_extended : Bool) → ℤ
+word_of_passage (IsRefused fault) is_extended = fault
+word_of_passage (Checks Number) is_extended = pos 0
+word_of_passage (Checks Descriptor) is_extended = pos 1
+word_of_passage (Checks Counts) is_extended = pos 2
+word_of_passage (Checks Caller) is_extended = pos 3
+word_of_passage (Checks Argument) is_extended = pos 4
+word_of_passage Passes is_extended = cast_signed w32 (word_of_call (call_steps Passes is_extended))
 
 -- what a call has done, by that word; None: nothing
 abbrev pub check_of : ℕ → Option Check

@@ -5,15 +5,15 @@ ghost use Rattle.uring_enter.specs.Means as spec;
 ghost use Rattle.uring_enter.specs.Parts as parts;
 ghost use Rattle.uring_enter.specs.PipeOpens as opens;
 ghost use Rattle.uring_enter.specs.TransferCalls.{call_of};
-ghost use Rattle.uring_c.specs.MeansForm.{words, words_of_means, fault_of_word, can_have_one, given_one};
+ghost use Rattle.uring_c.specs.MeansForm.{words, by_list, words_of_means, fault_of_word, can_have_one, given_one};
 ghost use Rattle.uring_crossing.specs.WaitForm.{task_of};
 
 use uring_crossing::wait_words::task;
 use uring_enter::{
-    Fault, Held, Means, Submission, SystemCall, Transfer, Vectors, asks_descriptors, asks_end,
-    asks_opening, can_have, control_of, done_result, given_result, has_begun, is_stream_type,
-    looks_at_path, means_of, moved_so_far, opening_waits, opens_again, placed_result,
-    tells_message, told_result, transfer_call,
+    Fault, Held, Listed, Means, Submission, SystemCall, Transfer, Vectors, asks_anew,
+    asks_descriptors, asks_end, asks_opening, asks_shut, can_have, control_of, done_result,
+    given_result, has_begun, is_stream_type, looks_at_path, means_of, moved_so_far, opening_waits,
+    opens_again, placed_result, shut_result, tells_message, told_result, transfer_call,
 };
 
 /// By what an operation is carried out: `struct wulgach_means` of the header.
@@ -22,6 +22,7 @@ use uring_enter::{
 pub struct MeansWords {
     pub kind: u32,
     pub slot: u32,
+    pub listed: Listed,
     pub call: SystemCall,
 }
 
@@ -43,10 +44,31 @@ const NO_CALL: SystemCall = SystemCall {
     sixth: 0,
 };
 
+const NO_LIST: Listed = Listed {
+    address: 0,
+    count: 0,
+};
+
 fn words(kind: u32, slot: u32, call: SystemCall) -> MeansWords
     ensures { result ≡ words kind slot call }
 {
-    MeansWords { kind, slot, call }
+    MeansWords {
+        kind,
+        slot,
+        listed: NO_LIST,
+        call,
+    }
+}
+
+fn with_list(kind: u32, slot: u32, listed: Listed) -> MeansWords
+    ensures { result ≡ by_list kind slot listed }
+{
+    MeansWords {
+        kind,
+        slot,
+        listed,
+        call: NO_CALL,
+    }
 }
 
 fn means_words(means: Means) -> MeansWords
@@ -66,14 +88,16 @@ fn means_words(means: Means) -> MeansWords
         Means::Receive(call) => words(10, 0, call),
         Means::ReceiveMessage(call) => words(11, 0, call),
         Means::SlotRemoval(slot) => words(12, slot, NO_CALL),
-        Means::FilesPlacing => words(13, 0, NO_CALL),
-        Means::FilesUpdate(slot) => words(14, slot, NO_CALL),
+        Means::FilesPlacing(listed) => with_list(13, 0, listed),
+        Means::FilesUpdate(slot, listed) => with_list(14, slot, listed),
         Means::Timeout => words(15, 0, NO_CALL),
         Means::LinkedTimeout => words(16, 0, NO_CALL),
         Means::Provision => words(17, 0, NO_CALL),
         Means::ProvisionRemoval => words(18, 0, NO_CALL),
         Means::Message => words(19, 0, NO_CALL),
-        Means::Others => words(20, 0, NO_CALL),
+        Means::Cancel => words(20, 0, NO_CALL),
+        Means::PollRemoval => words(21, 0, NO_CALL),
+        Means::TimeoutRemoval => words(22, 0, NO_CALL),
     }
 }
 
@@ -143,6 +167,19 @@ pub extern "C" fn wulgach_asks_end(is_pipe: bool, is_regular: bool) -> bool
     ensures { result ≡ spec.asks_end is_pipe is_regular }
 {
     asks_end(is_pipe, is_regular)
+}
+
+/// Writes with which flags a descriptor of this access mode, a pipe's end or not, is opened once more for a call that has no flag by which it is asked not to wait. False, and nothing is written: it is asked itself.
+#[unsafe(no_mangle)]
+pub extern "C" fn wulgach_asks_anew(is_pipe: bool, access: u32, flags: &mut u32) -> bool
+    ensures { MatchOption (spec.asks_anew is_pipe access) ((result ≡ false) × (flags.new ≡ flags.old))
+        (λ anew. (result ≡ true) × (flags.new ≡ anew)) }
+{
+    let Some(anew) = asks_anew(is_pipe, access) else {
+        return false;
+    };
+    *flags = anew;
+    true
 }
 
 /// Whether an operation of this code, which opens a path with these flags, is asked not to wait.
@@ -223,6 +260,22 @@ pub extern "C" fn wulgach_told_result(came_to: i32, is_told: bool) -> i32
     ensures { result ≡ results.told_result came_to is_told }
 {
     told_result(came_to, is_told)
+}
+
+/// Whether it matters behind a call of this entry that came to this whether its socket was shut down for reading.
+#[unsafe(no_mangle)]
+pub extern "C" fn wulgach_asks_shut(entry: &Submission, came_to: i32) -> bool
+    ensures { result ≡ results.asks_shut entry.now came_to }
+{
+    asks_shut(entry, came_to)
+}
+
+/// What a call counts as that came to this, where its socket was shut down for reading or wasn't.
+#[unsafe(no_mangle)]
+pub extern "C" fn wulgach_shut_result(came_to: i32, is_shut: bool) -> i32
+    ensures { result ≡ results.shut_result came_to is_shut }
+{
+    shut_result(came_to, is_shut)
 }
 
 /// What a file ends with that was put into this slot, where its entry asked for that one or for any.

@@ -5,12 +5,13 @@ ghost use Rattle.uring_enter.specs.declared.cancel.Sought.{Sought};
 ghost use Rattle.uring_enter.specs.Cancels as cancels;
 ghost use Rattle.uring_enter.specs.Cancels.{is_waiting as waits};
 ghost use Rattle.uring_enter.specs.Seeking as seeking;
-ghost use Rattle.uring_enter.specs.Cancels.{result_of, is_cancelled, is_asked, HasSeen, HasSought, oldest, is_stopped, has_cancelled};
+ghost use Rattle.uring_enter.specs.Cancels.{result_of, is_cancelled, is_asked, HasSeen, HasSought, oldest, is_stopped, has_cancelled, found_by_core};
 
 use uring_enter::{
-    Cancel, Outstanding, Search, Sought, Submission, goes_by_user_data, is_waiting, seeking_fault,
-    sought_of,
+    Cancel, Outstanding, Search, Sought, Submission, goes_by_user_data, is_taken_behind,
+    is_waiting, seeking_fault, sought_by_call, sought_of,
 };
+use uring_register::CancelForm;
 
 /// Writes what is looked for by the entry of a cancel, or of a removal.
 #[unsafe(no_mangle)]
@@ -18,6 +19,14 @@ pub extern "C" fn wulgach_sought_of(entry: &Submission, sought: &mut Sought)
     ensures { sought.new ≡ seeking.sought_of entry.now }
 {
     *sought = sought_of(entry);
+}
+
+/// Writes what is looked for by a call of io_uring_register(2) that cancels.
+#[unsafe(no_mangle)]
+pub extern "C" fn wulgach_sought_by_call(form: &CancelForm, sought: &mut Sought)
+    ensures { sought.new ≡ seeking.sought_by_call form.now.addr form.now.fd form.now.flags }
+{
+    *sought = sought_by_call(form.addr, form.fd, form.flags);
 }
 
 /// Why nothing is looked for, or 0.
@@ -42,6 +51,19 @@ pub extern "C" fn wulgach_is_waiting(request: &Outstanding) -> bool
     ensures { result ≡ waits request.now }
 {
     is_waiting(request)
+}
+
+/// Whether a kernel takes the entry of the request of this number only behind a cancel of that number.
+#[unsafe(no_mangle)]
+pub extern "C" fn wulgach_is_taken_behind(
+    cancel: u64,
+    is_linked: bool,
+    drains: bool,
+    number: u64,
+) -> bool
+    ensures { result ≡ cancels.is_taken_behind cancel is_linked drains number }
+{
+    is_taken_behind(cancel, is_linked, drains, number)
 }
 
 /// A cancel that hasn't looked at any request.
@@ -107,4 +129,13 @@ pub extern "C" fn wulgach_search_has_cancelled(search: &Search) -> bool
         → result ≡ has_cancelled (oldest user_data seen) }
 {
     search.has_cancelled()
+}
+
+/// What the core has found that has ended the cancel so, once all that run were looked at: -2 in the place of -114 if, by Linux's rules, none of them is one that a cancel finds.
+#[unsafe(no_mangle)]
+pub extern "C" fn wulgach_search_found_by_core(search: &Search, res: i32, linux: bool) -> i32
+    ensures { (user_data : ℕ) (seen : List Outstanding) → HasSought user_data seen search.now
+        → result ≡ found_by_core res seen user_data linux }
+{
+    search.found_by_core(res, linux)
 }

@@ -4,13 +4,15 @@ ghost use Rattle.uring_enter.specs.Descriptors as found;
 ghost use Rattle.uring_enter.specs.Openness as opened;
 ghost use Rattle.uring_enter.specs.Readiness as ready;
 ghost use Rattle.uring_enter.specs.Signals as signals;
+ghost use Rattle.uring_enter.specs.Splices as splices;
 ghost use Rattle.uring_enter.specs.Syncing as syncing;
 ghost use Rattle.uring_c.specs.UnknownForm.{known_of};
 
 use uring_enter::{
-    Nature, Openness, SplicePoll, Submission, SyncedKind, asks_counter, asks_openness,
+    Nature, Openness, SpliceEnds, SplicePoll, Submission, SyncedKind, asks_counter, asks_openness,
     counts_as_open, counts_as_synced, ends_at_start, fault_asks_buffer, is_counter_name,
-    is_eventfd_name, is_limited, is_missing, is_signal_of_call, may_signal, splice_poll,
+    is_eventfd_name, is_limited, is_missing, is_signal_of_call, isnt_to_wait, may_break,
+    may_signal, splice_poll,
 };
 
 /// Whether a descriptor counts as open that is this, and is named by its number, or by the slot that holds its file.
@@ -95,12 +97,20 @@ pub extern "C" fn wulgach_counts_as_synced(openness: &Openness, kind: &SyncedKin
     counts_as_synced(openness, kind)
 }
 
-/// Whether a signal may have come of an operation that ended with this.
+/// Whether SIGXFSZ may have come of an operation that ended with this.
 #[unsafe(no_mangle)]
 pub extern "C" fn wulgach_may_signal(entry: &Submission, res: i32) -> bool
     ensures { result ≡ signals.may_signal entry.now res }
 {
     may_signal(entry, res)
+}
+
+/// Whether SIGPIPE may have come of an operation that ended with this.
+#[unsafe(no_mangle)]
+pub extern "C" fn wulgach_may_break(entry: &Submission, res: i32) -> bool
+    ensures { result ≡ signals.may_break entry.now res }
+{
+    may_break(entry, res)
 }
 
 /// Whether the kernel may send a signal for a file that gets too long, where this is the greatest length that the process may give one, if that is known.
@@ -125,4 +135,12 @@ pub extern "C" fn wulgach_splice_polls(is_source_ready: bool, asked: &mut Splice
     ensures { asked.new ≡ ready.splice_poll is_source_ready }
 {
     *asked = splice_poll(is_source_ready);
+}
+
+/// Whether a splice or a tee that would have to wait isn't to, and ends with -11.
+#[unsafe(no_mangle)]
+pub extern "C" fn wulgach_splice_isnt_to_wait(entry: &Submission, ends: &SpliceEnds) -> bool
+    ensures { result ≡ splices.isnt_to_wait entry.now ends.now }
+{
+    isnt_to_wait(entry, ends)
 }

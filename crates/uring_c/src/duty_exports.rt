@@ -7,7 +7,7 @@ ghost use Rattle.uring_c.specs.DutyForm.{word_of_duties};
 use uring_enter::{
     Duties, Resting, duties_at_begin, duties_at_register_begin, duties_at_register_return,
     duties_at_rest, duties_at_return, duties_before, duties_before_posting, duties_before_sleep,
-    duties_behind_posting, duties_behind_storing, polls_instance, polls_writes,
+    duties_behind_posting, duties_behind_storing, duties_when_stuck, polls_instance, polls_writes,
 };
 use uring_register::may_post;
 
@@ -25,6 +25,18 @@ pub extern "C" fn wulgach_duties_before_sleep(resting: &Resting, has_fault: bool
     ensures { result ≡ word_of_duties (spec.before_sleep resting.now has_fault) }
 {
     duties_word(duties_before_sleep(resting, has_fault))
+}
+
+/// What it does where nothing can go on, in a ring whose eventfd is registered or isn't, and in which this was done since the call began or last slept, or wasn't.
+#[unsafe(no_mangle)]
+pub extern "C" fn wulgach_duties_when_stuck(
+    resting: &Resting,
+    has_eventfd: bool,
+    has_shown: bool,
+) -> u32
+    ensures { result ≡ word_of_duties (spec.when_stuck resting.now has_eventfd has_shown) }
+{
+    duties_word(duties_when_stuck(resting, has_eventfd, has_shown))
 }
 
 /// What it does as it falls asleep.

@@ -19,12 +19,18 @@ pub extern "C" fn wulgach_keeps_before_close(
     keeps_before_close(number, fd, closing, closed)
 }
 
-/// Whether the end of a request may close the last descriptor of a file that it keeps, if it keeps one.
+/// Whether the end of a request may have closed the last descriptor of a file that it has kept, if it has kept one, so that others are looked at again.
 #[unsafe(no_mangle)]
-pub extern "C" fn wulgach_may_close_last(has_file: bool, is_of_slot: bool, is_same: bool) -> bool
-    ensures { result ≡ keeping.may_close_last has_file is_of_slot is_same }
+pub extern "C" fn wulgach_may_close_last(
+    others: u64,
+    was_closed: bool,
+    has_file: bool,
+    is_of_slot: bool,
+    is_same: bool,
+) -> bool
+    ensures { result ≡ keeping.may_close_last others was_closed has_file is_of_slot is_same }
 {
-    may_close_last(has_file, is_of_slot, is_same)
+    may_close_last(others, was_closed, has_file, is_of_slot, is_same)
 }
 
 /// Whether a pipe counts as written to behind an event.

@@ -8,7 +8,9 @@ ghost use Rattle.uring_enter.specs.Waiters.{Encounter, Around, WasSeen, KeepsWai
 ghost use Rattle.uring_c.specs.PassageForm.{word_of_glance, word_of_answered, word_of_gone};
 ghost use Rattle.uring_c.specs.RingForm.{known_if};
 
-use uring_enter::{Answered, Glance, Gone, Lookout, Waiter, answer_of, glance_of};
+use uring_enter::{
+    Answered, Glance, Gone, Lookout, Waiter, answer_of, glance_of, takes_descriptor,
+};
 
 /// Returns what a poll(2), of one descriptor or of many, says of a request.
 #[unsafe(no_mangle)]
@@ -36,6 +38,14 @@ pub extern "C" fn wulgach_waiter_is_told_ready(waiter: &mut Waiter, lookout: &mu
         → KeepsWaiter (Around Changed ∷ WasSeen true ∷ log) waiter.new }
 {
     waiter.is_told_ready(lookout);
+}
+
+/// Whether the instance takes the descriptor of a request that is to be dormant.
+#[unsafe(no_mangle)]
+pub extern "C" fn wulgach_instance_takes(keeps_file: bool, has_own: bool) -> bool
+    ensures { result ≡ lying.takes_descriptor keeps_file has_own }
+{
+    takes_descriptor(keeps_file, has_own)
 }
 
 /// Returns what an instance's answer makes of who asks it.

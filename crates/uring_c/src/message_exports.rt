@@ -1,9 +1,13 @@
 //! What a message to another ring does, for C: functions of `c/wulgach_form.h`.
 ghost use Rattle.std.specs.Prelude.{◌≡◌, is_some, unwrap_or};
 ghost use Rattle.uring_enter.specs.Messages as spec;
-ghost use Rattle.uring_c.specs.MessageForm.{word_of_sending, fault_of_sending};
+ghost use Rattle.uring_c.specs.MessageForm.{word_of_message, fault_of_sending};
 
-use uring_enter::{Message, Receiver, Sending, Submission, may_be_ring, sending_of, told_of};
+use crate::duty_exports::bit;
+use uring_enter::{
+    Message, MessageSteps, Receiver, Sending, Submission, may_be_ring, message_steps, sending_of,
+    told_of,
+};
 
 /// Whether the file that the entry of a message names may be a ring's.
 #[unsafe(no_mangle)]
@@ -13,25 +17,24 @@ pub extern "C" fn wulgach_may_be_ring(entry: &Submission) -> bool
     may_be_ring(entry)
 }
 
-/// Returns what a message to this ring does, and writes its error, or 0.
+/// Returns what is done for a message to this ring, as a set of steps, and writes its error, or 0.
 #[unsafe(no_mangle)]
 pub extern "C" fn wulgach_sending_of(entry: &Submission, to: &Receiver, fault: &mut i32) -> u32
-    ensures sending { result ≡ word_of_sending (spec.sending_of entry.now to.now) }
+    ensures steps { result ≡ word_of_message (spec.message_steps (spec.sending_of entry.now to.now)) }
     ensures fault { fault.new ≡ fault_of_sending (spec.sending_of entry.now to.now) }
 {
     let sending = sending_of(entry, *to);
     *fault = sending_fault(sending);
-    sending_word(sending)
+    steps_word(message_steps(sending))
 }
 
-fn sending_word(sending: Sending) -> u32
-    ensures { result ≡ word_of_sending sending }
+fn steps_word(steps: MessageSteps) -> u32
+    ensures { result ≡ word_of_message steps }
 {
-    match sending {
-        Sending::Fails(_) => 0,
-        Sending::Posts => 1,
-        Sending::Passes => 2,
-    }
+    bit(1, steps.has_memory)
+        | bit(2, steps.finds_file)
+        | bit(4, steps.passes_file)
+        | bit(8, steps.tells)
 }
 
 fn sending_fault(sending: Sending) -> i32

@@ -1,7 +1,7 @@
 //! What is registered with a ring, for C: functions of `c/wulgach_register.h`. The words of slots are the caller's memory.
-ghost use Rattle.std.specs.Prelude.{◌≡◌, ◌≢◌, ◌+◌, ◌≤◌, ◌<◌, pos, negsuc, length, ℕ, true, false, Option, None, Some, List, [], ◌∷◌};
+ghost use Rattle.std.specs.Prelude.{◌≡◌, ◌≢◌, ◌+◌, ◌≤◌, ◌<◌, pos, negsuc, length, ℕ, true, false, Option, None, Some, List, [], ◌∷◌, reverse};
 ghost use Rattle.uring_register.specs.declared.restrictions.Restriction.{Restriction};
-ghost use Rattle.uring_register.specs.Restricting.{KeepsRestrictions, row_fault, allows_entry, allows_call};
+ghost use Rattle.uring_register.specs.Restricting.{KeepsRestrictions, list_fault, allows_entry, allows_call};
 ghost use Rattle.uring_register.specs.Restricting.{restricting_fault as fault_of_list};
 ghost use Rattle.uring_register.specs.Restricting.{enabling_fault as fault_of_enabling};
 ghost use Rattle.uring_register.specs.Tables.{Filing, Registered, Unregistered, Filled, KeepsTable, IsGiven, GivesNone, range_fault, behind_range, size, content};
@@ -21,26 +21,17 @@ pub extern "C" fn wulgach_restrictions_none(restrictions: &mut Restrictions)
     *restrictions = Restrictions::none();
 }
 
-/// A list of restrictions begins, without rows.
+/// Registers a list of these rows, which are taken in turn. Returns 0, or the fault of the first that has one: then nothing changes.
 #[unsafe(no_mangle)]
-pub extern "C" fn wulgach_restrictions_begin(restrictions: &mut Restrictions)
-    ensures { KeepsRestrictions (Some []) restrictions.new }
-{
-    *restrictions = Restrictions::begin();
-}
-
-/// Takes the next row of a list. Returns 0, or its fault: then nothing changes.
-#[unsafe(no_mangle)]
-pub extern "C" fn wulgach_restrictions_take(
+pub extern "C" fn wulgach_restrictions_register(
     restrictions: &mut Restrictions,
-    row: &Restriction,
+    rows: &[Restriction],
 ) -> i32
-    ensures fault { result ≡ row_fault row.now }
-    ensures after { (rows : List Restriction) → KeepsRestrictions (Some rows) restrictions.old
-        → result ≡ pos 0 → KeepsRestrictions (Some (row.now ∷ rows)) restrictions.new }
+    ensures fault { result ≡ list_fault rows.now }
+    ensures after { result ≡ pos 0 → KeepsRestrictions (Some (reverse rows.now)) restrictions.new }
     ensures kept { (result ≡ pos 0 → ⊥) → restrictions.new ≡ restrictions.old }
 {
-    restrictions.takes(*row)
+    restrictions.register(rows)
 }
 
 /// Whether an entry of this operation may have these flags.

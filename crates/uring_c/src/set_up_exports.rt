@@ -3,10 +3,11 @@ ghost use Rattle.std.specs.Prelude.{◌≡◌, ◌↔◌, pos};
 ghost use Rattle.uring_entry.specs.Setup.{Setup};
 ghost use Rattle.uring_enter.specs.SettingUp.{IsMade, IsRefusedWith};
 ghost use Rattle.uring_enter.specs.SettingUp.{features as features_of};
+ghost use Rattle.uring_enter.specs.SettingUp.{has_thread as has_one};
 ghost use Rattle.uring_crossing.specs.SetUps.{IsRefused, HasBadSq, HasBadCq, HasBadFiles, words_of_setup};
 
 use uring_crossing::set_up_words::SetupWords;
-use uring_enter::{AskedRing, features, set_up};
+use uring_enter::{AskedRing, features, has_thread, set_up};
 use uring_entry::BadSetup;
 
 /// Returns which field of a machine's set-up is out of its range: 1 for `sq`, else 2 for `cq`, else 3 for `files`, or 0 if none is. A core's `files` don't count.
@@ -46,4 +47,12 @@ pub extern "C" fn wulgach_features(is_one_mapping: bool) -> u32
     ensures { result ≡ features_of is_one_mapping }
 {
     features(is_one_mapping)
+}
+
+/// Whether a ring with these flags has a thread that takes its entries.
+#[unsafe(no_mangle)]
+pub extern "C" fn wulgach_has_thread(flags: u32) -> bool
+    ensures { result ≡ has_one flags }
+{
+    has_thread(flags)
 }

@@ -4,7 +4,9 @@ ghost use Rattle.uring_enter.specs.Storing as storing;
 ghost use Rattle.uring_register.specs.Stepping as spec;
 
 use uring_enter::{heard_steps, shows_again, taken_steps};
-use uring_register::{closing_steps, making_steps, reading_steps, restrictions_hold, ring_steps};
+use uring_register::{
+    buffer_steps, closing_steps, making_steps, reading_steps, restricting_steps, ring_steps,
+};
 
 /// What is done once the core has taken what a call has staged, the bit of each step.
 #[unsafe(no_mangle)]
@@ -30,12 +32,12 @@ pub extern "C" fn wulgach_shows_again(moved: u64) -> bool
     shows_again(moved)
 }
 
-/// How a row of lists of files or buffers is read, the bit of each step.
+/// How a row of lists of files or buffers is read, of an update or a placing or not, the bit of each step.
 #[unsafe(no_mangle)]
-pub extern "C" fn wulgach_reading_steps(has_tags: bool, has_list: bool) -> u32
-    ensures { result ≡ spec.reading_steps has_tags has_list }
+pub extern "C" fn wulgach_reading_steps(has_tags: bool, has_list: bool, is_update: bool) -> u32
+    ensures { result ≡ spec.reading_steps has_tags has_list is_update }
 {
-    reading_steps(has_tags, has_list)
+    reading_steps(has_tags, has_list, is_update)
 }
 
 /// How the file of a descriptor is made, the bit of each step.
@@ -54,18 +56,26 @@ pub extern "C" fn wulgach_ring_steps() -> u32
     ring_steps()
 }
 
+/// How the buffer of a row is made that names one, the bit of each step.
+#[unsafe(no_mangle)]
+pub extern "C" fn wulgach_buffer_steps() -> u32
+    ensures { result ≡ spec.buffer_steps }
+{
+    buffer_steps()
+}
+
+/// How a list of so many restrictions is registered, the bit of each step.
+#[unsafe(no_mangle)]
+pub extern "C" fn wulgach_restricting_steps(count: u32) -> u32
+    ensures { result ≡ spec.restricting_steps count }
+{
+    restricting_steps(count)
+}
+
 /// What a request does that closes a descriptor with this fault, or 0, the bit of each step.
 #[unsafe(no_mangle)]
 pub extern "C" fn wulgach_closing_steps(fault: i32) -> u32
     ensures { result ≡ spec.closing_steps fault }
 {
     closing_steps(fault)
-}
-
-/// Whether a list of restrictions holds whose rows have come to this.
-#[unsafe(no_mangle)]
-pub extern "C" fn wulgach_restrictions_hold(fault: i32) -> bool
-    ensures { result ≡ spec.restrictions_hold fault }
-{
-    restrictions_hold(fault)
 }

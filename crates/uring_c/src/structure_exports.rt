@@ -4,7 +4,7 @@ ghost use Rattle.uring_register.specs.Structures as spec;
 
 use uring_register::{
     CancelForm, Content, FilesForm, ParametersForm, RangeForm, RingForm, TableForm, UpdateForm,
-    content_of_cancel, content_of_files, content_of_table, content_of_update,
+    content_of_cancel, content_of_files, content_of_probe, content_of_table, content_of_update,
     parameters_have_reserved, range_has_reserved, ring_has_reserved,
 };
 
@@ -38,6 +38,14 @@ pub extern "C" fn wulgach_content_of_cancel(form: &CancelForm, content: &mut Con
     ensures { content.new ≡ spec.content_of_cancel form.now }
 {
     *content = content_of_cancel(form);
+}
+
+/// Writes what is judged of a probe, of which these are all bytes.
+#[unsafe(no_mangle)]
+pub extern "C" fn wulgach_content_of_probe(bytes: &[u8], content: &mut Content)
+    ensures { content.new ≡ spec.content_of_probe bytes.now }
+{
+    *content = content_of_probe(bytes);
 }
 
 /// Whether a reserved field of a ring of provided buffers isn't 0.

@@ -37,12 +37,12 @@ pub extern "C" fn wulgach_time_left(time: u64, now: u64) -> u64
     left_until(time, now)
 }
 
-/// The number of the clock that says how much is left of the time that a timeout with these flags gives, or -2 if its time is how long it runs.
+/// The number of the clock that says how much is left of the time that the timeout of an entry gives, or -2 if its time is how long it runs.
 #[unsafe(no_mangle)]
-pub extern "C" fn wulgach_timeout_clock(flags: u32) -> i32
-    ensures { result ≡ word_of_clock (clock_of flags) }
+pub extern "C" fn wulgach_timeout_clock(entry: &Submission) -> i32
+    ensures { result ≡ word_of_clock (clock_of entry.now) }
 {
-    clock_word(clock_of(flags))
+    clock_word(clock_of(entry))
 }
 
 /// How many completions the timeout of an entry counts, or 0.

@@ -7,10 +7,13 @@ ghost use Rattle.uring_enter.specs.Afresh as afresh;
 ghost use Rattle.uring_enter.specs.Awaiting.{KeepsAwaiting, Look, HasSeen, HasEnded, may_see};
 ghost use Rattle.uring_enter.specs.Timings.{Happened, Starts, IsFound, Ends, was_found, runs, runs_behind};
 ghost use Rattle.uring_enter.specs.Visits as visits;
+ghost use Rattle.uring_c.specs.ChangingForm.{word_of_changing};
 ghost use Rattle.uring_c.specs.RingForm.{word_of_timing, word_of_visit, word_of_awaited, word_of_turn};
 
+use crate::duty_exports::bit;
 use uring_enter::{
-    Awaited, Awaiting, Course, Member, Receiver, Timing, Visit, posts_message, visit_of,
+    Awaited, Awaiting, Changing, Course, Member, Receiver, Timing, Visit, posts_message, visit_of,
+    visits_again,
 };
 
 /// Returns what becomes of a timeout's time when a request starts.
@@ -77,12 +80,31 @@ pub extern "C" fn wulgach_posts_message(is_there: bool, may_post: bool) -> bool
     posts_message(is_there, may_post)
 }
 
-/// Whether the update of a poll begins it afresh.
+/// Whether a ring is visited, and once more behind each visit.
 #[unsafe(no_mangle)]
-pub extern "C" fn wulgach_course_begins_afresh(course: &Course) -> bool
-    ensures { (log : List Fact) → KeepsCourse log course.now → result ≡ afresh.begins_afresh log }
+pub extern "C" fn wulgach_visits_again(is_there: bool, was_left: bool, could_post: bool) -> bool
+    ensures { result ≡ visits.visits_again is_there was_left could_post }
 {
-    course.begins_afresh()
+    visits_again(is_there, was_left, could_post)
+}
+
+/// What the update of a poll does with it, as a set of steps.
+#[unsafe(no_mangle)]
+pub extern "C" fn wulgach_course_steps_at_update(course: &Course) -> u32
+    ensures { (log : List Fact) → KeepsCourse log course.now → result ≡ word_of_changing (afresh.at_update log) }
+{
+    changing_word(course.steps_at_update())
+}
+
+fn changing_word(steps: Changing) -> u32
+    ensures { result ≡ word_of_changing steps }
+{
+    bit(1, steps.rouses)
+        | bit(2, steps.delists)
+        | bit(4, steps.changes)
+        | bit(8, steps.unwatches)
+        | bit(16, steps.asks_events)
+        | bit(32, steps.looks)
 }
 
 /// Whether it matters to a cancel by io_uring_register(2) whether the core lets the request start.

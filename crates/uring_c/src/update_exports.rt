@@ -4,8 +4,8 @@ ghost use Rattle.uring_enter.specs.Updates as spec;
 ghost use Rattle.uring_c.specs.TakingForm.{word_of_removal};
 
 use uring_enter::{
-    Linked, Poll, Removal, Submission, Terms, poll_removal, removal_result, timeout_removal,
-    updated_poll, updated_terms, updates_linked,
+    Linked, Removal, Submission, poll_removal, removal_result, timeout_removal, updated_poll,
+    updated_timeout, updates_linked,
 };
 
 /// What the removal of a poll does.
@@ -50,18 +50,18 @@ pub extern "C" fn wulgach_updates_linked(user_data: u64, seen: &Linked) -> bool
     updates_linked(user_data, seen)
 }
 
-/// Changes a poll as this entry updates it.
+/// Changes a poll's entry as this one updates it.
 #[unsafe(no_mangle)]
-pub extern "C" fn wulgach_updated_poll(poll: &mut Poll, entry: &Submission)
-    ensures { poll.new ≡ spec.updated_poll poll.old entry.now }
+pub extern "C" fn wulgach_updated_poll(poll: &mut Submission, update: &Submission)
+    ensures { poll.new ≡ spec.updated_poll poll.old update.now }
 {
-    *poll = updated_poll(*poll, entry);
+    *poll = updated_poll(poll, update);
 }
 
-/// Changes the terms of a timeout as this entry updates it.
+/// Changes a timeout's entry as this one updates it.
 #[unsafe(no_mangle)]
-pub extern "C" fn wulgach_updated_terms(terms: &mut Terms, entry: &Submission)
-    ensures { terms.new ≡ spec.updated_terms terms.old entry.now }
+pub extern "C" fn wulgach_updated_timeout(timeout: &mut Submission, update: &Submission)
+    ensures { timeout.new ≡ spec.updated_timeout timeout.old update.now }
 {
-    *terms = updated_terms(*terms, entry);
+    *timeout = updated_timeout(timeout, update);
 }

@@ -15,8 +15,9 @@ use uring_crossing::wait_words::{
 };
 use uring_enter::{
     Call, Known, Nature, Needs, Patience, PollStart, Submission, Transfer, Trial, asks_instance,
-    buffer_fault, counts_as_ready, instance_events, is_impatient, needs_as, needs_of, next_finding,
-    next_step, next_turn, no_buffer_fault, poll_result, poll_start, present_of, start_fault,
+    buffer_fault, counts_as_ready, instance_events, is_impatient, is_tried_first, needs_as,
+    needs_of, next_finding, next_step, next_turn, no_buffer_fault, poll_result, poll_start,
+    present_of, start_fault,
 };
 
 /// Writes what the operation of an entry needs.
@@ -57,6 +58,14 @@ pub extern "C" fn wulgach_is_impatient(entry: &Submission, patience: &Patience) 
     ensures { result ≡ ready.is_impatient entry.now patience.now }
 {
     is_impatient(entry, patience)
+}
+
+/// Whether a request that wasn't found ready as it starts is carried out once all the same.
+#[unsafe(no_mangle)]
+pub extern "C" fn wulgach_is_tried_first(entry: &Submission, is_pipe: bool) -> bool
+    ensures { result ≡ ready.is_tried_first entry.now is_pipe }
+{
+    is_tried_first(entry, is_pipe)
 }
 
 /// Returns what is next of a transfer, behind what was done last, which came to `res`, and writes what it ends with, if it ends.

@@ -1,9 +1,11 @@
 //! What a ring's descriptor polls for, for C: functions of `c/wulgach_shown.h`.
 ghost use Rattle.std.specs.Prelude.{◌≡◌, List, [], ◌∷◌};
 ghost use Rattle.uring_enter.specs.Watching.{Waiting, Waits, KeepsWatched, change_of};
-ghost use Rattle.uring_c.specs.MessageForm.{word_of_watch, watched_of};
+ghost use Rattle.uring_enter.specs.Watching as spec;
+ghost use Rattle.uring_c.specs.MessageForm.{word_of_besides, word_of_watch, watched_of};
 
-use uring_enter::{Watch, Watched, watch_of};
+use crate::duty_exports::bit;
+use uring_enter::{Watch, Watched, polls_besides, watch_of};
 
 /// Begins a descriptor for which nobody waits.
 #[unsafe(no_mangle)]
@@ -52,4 +54,13 @@ fn watch_word(watch: Watch) -> u32
         Watch::Removes => 2,
         Watch::Renews => 3,
     }
+}
+
+/// Returns what a ring's descriptor polls for beside what its requests wait for, where so many pipes are watched, and the ring has an epoll instance for those that are dormant, or none.
+#[unsafe(no_mangle)]
+pub extern "C" fn wulgach_polls_besides(watched: u64, has_instance: bool) -> u32
+    ensures { result ≡ word_of_besides (spec.polls_besides watched has_instance) }
+{
+    let besides = polls_besides(watched, has_instance);
+    bit(1, besides.writes) | bit(2, besides.instance)
 }

@@ -15,7 +15,7 @@ use Rattle.uring_core.specs.Histories.{Event, History, world, IsLawfulApart}
 use Rattle.uring_core.specs.World.{World, with_end_of}
 use Rattle.uring_core.specs.declared.step.Step.{Step}
 use Rattle.uring_core.specs.declared.answer.Answer.{Answer}
-use Rattle.uring_core.proofs.CompletionMoves.{CompletionMove, stays, ends, flushes, sees_tail, reaps, stores_head, completion_move}
+use Rattle.uring_core.proofs.CompletionMoves.{CompletionMove, stays, ends, reaps, completion_move}
 use Rattle.uring_core.proofs.Sound.{sound_of}
 use Rattle.uring_laws.proofs.RingLaws.{begin_posted}
 use Rattle.uring_timelines.specs.Moves.{MeetsBytes}
@@ -119,10 +119,7 @@ met_by known g w s a v (stays _ _ l r is_closed off none left) agree = (subst (E
 met_by known g w s a v (ends _ _ n res bytes r off is same one) agree =
     let met = end_met known g.cq w.completions (completion_for (entry_of w.requests n) res bytes) (posts g.linux w.requests n res) agree in
     (subst (EndMeets (bytes_at known (length w.completions.posted) (length (with_end_of g w n res bytes).posted))) (sym is) met.0, met.1)
-met_by known g w s a v (flushes moved) agree = (tt, agree)
-met_by known g w s a v (sees_tail tail) agree = (tt, agree)
-met_by known g w s a v (reaps completion next) agree = (tt, agree)
-met_by known g w s a v (stores_head head) agree = (tt, agree)
+met_by known g w s a v _ agree = (tt, agree)
 
 pub agree_behind : (g : Setup) (known : List (List ℕ)) (s : Step) (a : Answer) (h : History) → IsLawfulApart g ((s, a) ∷ h)
     → Agree known (posted_bytes g h) → EndMeets (known_by g known h (s, a)) (end_told_by (s, a))

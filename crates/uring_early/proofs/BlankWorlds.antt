@@ -14,7 +14,7 @@ use Rattle.uring_linux.specs.Drains.{Drains}
 use Rattle.uring_rules.specs.Rules.{posts}
 use Rattle.uring_core.specs.Histories.{History, world, IsLawfulApart}
 use Rattle.uring_core.specs.StepAnswers.{CalledForApart, FinishesApart, next_answer_of, reap_answer_of}
-use Rattle.uring_core.specs.World.{World, requests_of, with_end_of, happens, filling, staging, beginning, taking, taking_of, taking_entry_of, ending, ending_of, issuing, finishing, reaping, closing}
+use Rattle.uring_core.specs.World.{World, requests_of, with_end_of, happens, taking, taking_of, taking_entry_of, ending, ending_of}
 use Rattle.uring_core.specs.declared.step.Step.{Step}
 use Rattle.uring_core.specs.declared.step.Step.TheVariants as step
 use Rattle.uring_core.specs.declared.answer.Answer.{Answer}
@@ -68,18 +68,6 @@ reap_same l =
     by true = refl
     by false = refl
 
-fill_made : (w : World) (slot : ℕ) (entry : Sqe) (a : Answer) → filling (blank_world w) slot entry a ≡ blank_world (filling w slot entry a)
-fill_made w slot entry answer.Filled = refl
-fill_made w slot entry _ = refl
-
-index_made : (w : World) (word : ℕ) (a : Answer) → staging (blank_world w) word a ≡ blank_world (staging w word a)
-index_made w word answer.Staged = refl
-index_made w word _ = refl
-
-begin_made : (w : World) (count : ℕ) (a : Answer) → beginning (blank_world w) count a ≡ blank_world (beginning w count a)
-begin_made w count (answer.Call length) = refl
-begin_made w count _ = refl
-
 taking_made : (g : Setup) (w : World) (call : Option Call) → taking_of g (blank_world w) call ≡ blank_world (taking_of g w call)
 taking_made g w None = refl
 taking_made g w (Some call) = refl
@@ -102,59 +90,39 @@ end_made : (g : Setup) (w : World) (a : Answer) → ending g (blank_world w) a �
 end_made g w (answer.Taken accepted missed head) = ending_made g w w.submission.call
 end_made g w _ = refl
 
-issue_made : (g : Setup) (w : World) (n : ℕ) (a : Answer) → issuing g (blank_world w) n a ≡ blank_world (issuing g w n a)
-issue_made g w n answer.Run = refl
-issue_made g w n (answer.Ended res bytes) = λ i. record {
+pub made_same : (g : Setup) (w : World) (s : Step) (a : Answer)
+    → happens g (blank_world w) s (blank_answer s a) ≡ blank_world (happens g w s a)
+made_same g w (step.Fill slot entry) answer.Filled = refl
+made_same g w (step.Index word) answer.Staged = refl
+made_same g w (step.Begin count) (answer.Call length) = refl
+made_same g w step.Take a = take_made g w a
+made_same g w step.End a = end_made g w a
+made_same g w (step.Issue n) answer.Run = refl
+made_same g w (step.Issue n) (answer.Ended res bytes) = λ i. record {
   submission = w.submission;
   requests = issued_same g.linux w.requests n res i;
   drains = drains_ended_same g.linux (requests_of w) n res i;
   completions = end_same g w n res no_bytes i;
   is_closed = w.is_closed;
 }
-issue_made g w n _ = refl
-
-finish_made : (g : Setup) (w : World) (n : ℕ) (a : Answer)
-    → finishing g (blank_world w) n (blank_answer (step.Finish n) a) ≡ blank_world (finishing g w n a)
-finish_made g w n (answer.Ended res bytes) = λ i. record {
+made_same g w (step.Finish n) (answer.Ended res bytes) = λ i. record {
   submission = w.submission;
   requests = record { accepted = w.requests.accepted; cuts = w.requests.cuts; started = w.requests.started; cancelled = w.requests.cancelled; ended = ends_same w.requests.ended n res bytes i };
   drains = drains_ended_same g.linux (requests_of w) n res i;
   completions = end_same g w n res bytes i;
   is_closed = w.is_closed;
 }
-finish_made g w n _ = refl
-
-reap_made : (w : World) (a : Answer) → reaping (blank_world w) (blank_answer step.Reap a) ≡ blank_world (reaping w a)
-reap_made w (answer.Reaped c) = λ i. record {
+made_same g w step.Flush a = ap (λ (n : ℕ). record w { requests = blank_requests w.requests; completions = record (blank_completions w.completions) { put = n; seen_head = w.completions.head } }) (put_same g.cq w.completions)
+made_same g w step.Reap (answer.Reaped c) = λ i. record {
   submission = w.submission;
   requests = blank_requests w.requests;
   drains = w.drains;
   completions = record (blank_completions w.completions) { reaped = sym (map-append blank_completion w.completions.reaped (c ∷ [])) i };
   is_closed = w.is_closed;
 }
-reap_made w _ = refl
-
-close_made : (w : World) (a : Answer) → closing (blank_world w) a ≡ blank_world (closing w a)
-close_made w answer.Shut = refl
-close_made w _ = refl
-
-pub made_same : (g : Setup) (w : World) (s : Step) (a : Answer)
-    → happens g (blank_world w) s (blank_answer s a) ≡ blank_world (happens g w s a)
-made_same g w (step.Fill slot entry) a = fill_made w slot entry a
-made_same g w (step.Index word) a = index_made w word a
-made_same g w step.StoreTail a = refl
-made_same g w step.LoadHead a = refl
-made_same g w (step.Begin count) a = begin_made w count a
-made_same g w step.Take a = take_made g w a
-made_same g w step.End a = end_made g w a
-made_same g w (step.Issue n) a = issue_made g w n a
-made_same g w (step.Finish n) a = finish_made g w n a
-made_same g w step.Flush a = ap (λ (n : ℕ). record w { requests = blank_requests w.requests; completions = record (blank_completions w.completions) { put = n; seen_head = w.completions.head } }) (put_same g.cq w.completions)
-made_same g w step.LoadCqTail a = refl
-made_same g w step.Reap a = reap_made w a
 made_same g w step.StoreCqHead a = ap (λ (n : ℕ). record w { requests = blank_requests w.requests; completions = record (blank_completions w.completions) { head = n } }) (length-map w.completions.reaped blank_completion)
-made_same g w step.Close a = close_made w a
-made_same g w step.Next a = refl
+made_same g w step.Close answer.Shut = refl
+made_same g w _ _ = refl
 
 pub world_same : (g : Setup) (h : History) → world g (map blank h) ≡ blank_world (world g h)
 world_same g [] = refl

@@ -44,11 +44,8 @@ start_same r n = ap (λ (b : Bool). if b then Some (operation_of (entry_of r n))
 
 mark_blank : (known : Option (List ℕ)) (r : Requests) (e : Event) → known_mark known (blank_requests r) (blank e) ≡ known_mark known r e
 mark_blank known r (step.Issue n, answer.Run) = ap (start_mark n) (start_same r n)
-mark_blank known r (step.Issue n, _) = refl
 mark_blank known r (step.Finish n, answer.Ended res bytes) = refl
-mark_blank known r (step.Finish n, _) = refl
 mark_blank known r (step.Reap, answer.Reaped c) = refl
-mark_blank known r (step.Reap, _) = refl
 mark_blank known r (_, a) = refl
 
 pub mark_same : (g : Setup) (known : List (List ℕ)) (h : History) (e : Event)
@@ -68,7 +65,6 @@ known_marks_same g known h (e ∷ later) =
 pub passed_so : (st : Standing) (known : Option (List ℕ)) (r : Requests) (e : Event)
     → passed st (known_mark known r e) ≡ passed st (mark_by r e)
 passed_so st known r (step.Finish n, answer.Ended res bytes) = refl
-passed_so st known r (step.Finish n, _) = refl
 passed_so st known r (_, a) = refl
 
 -- ---- the bytes of a finish
@@ -105,12 +101,8 @@ fill_event : (g : Setup) (t : Timeline) (st : Standing) (known : Option (List �
 fill_event g t st known r (step.Finish n) (answer.Ended res bytes) stands passes meets =
     finish_filled t known n res bytes (effect_of t n) refl
     (effect_so (is_running (requests_in g t) n) n (operation_at g t n) (effect_of t n) (record { res = res; bytes = known }) (subst (λ (x : Option Running). EndsBy (taken_of x) (record { res = res; bytes = known })) (stands.running n) passes))
-fill_event g t st known r (step.Finish n) a stands passes meets =
-    record { filled = a; same_blank = refl; same_bare = refl; same_reap = refl; ends = tt; meets = tt }
 fill_event g t st known r (step.Issue n) (answer.Ended res bytes) stands passes meets =
     record { filled = answer.Ended res bytes; same_blank = refl; same_bare = refl; same_reap = refl; ends = tt; meets = meets }
-fill_event g t st known r (step.Issue n) a stands passes meets =
-    record { filled = a; same_blank = refl; same_bare = refl; same_reap = refl; ends = tt; meets = tt }
 fill_event g t st known r s a stands passes meets =
     record { filled = a; same_blank = refl; same_bare = refl; same_reap = refl; ends = tt; meets = tt }
 
@@ -138,7 +130,6 @@ reap_meets : (g : Setup) (h : History) (s : Step) (a : Answer) (later : List (Li
     → ReapMeets (world g h) s a
 reap_meets g h step.Reap (answer.Reaped c) later agree = λ d next.
     next_has (world g h).completions c d later agree next
-reap_meets g h step.Reap _ later agree = tt
 reap_meets g h _ a later agree = tt
 
 -- how a search stands at a mark, and what is known there
@@ -210,16 +201,10 @@ by_moves g known (Take n o ∷ moves) [] t st at =
     absurd (let f : false ≡ true = at.walk.0.waits in cc)
 by_moves g known (Take n o ∷ moves) (e ∷ later) t st at =
     let taken : TakesEffect g t n o = takes_effect g t st (known_marks g known (map blank (made_in t)) (map blank (e ∷ later))) n o at.stands at.walk.0 in
-    by_moves g known moves (e ∷ later) (Takes n o ∷ t) (took st n o) (record {
-      walk = at.walk.1;
-      stands = stands_takes g t st n o at.stands taken.runs;
-      timely = (taken, at.timely);
-      lawful = at.lawful;
-      all = at.all;
-      meet = at.meet;
-      agree = at.agree;
-      told = at.told;
-    })
+    by_moves g known moves (e ∷ later) (Takes n o ∷ t) (took st n o)
+    (let walk = at.walk.1 in
+    let stands = stands_takes g t st n o at.stands taken.runs in
+    let timely : IsTimely g (Takes n o ∷ t) = (taken, at.timely) in assumption (walk, stands, timely, at))
 
 pub history_onto : (events : List Event) → onto [] events ≡ history_of events
 history_onto events = onto_is events [] ∙ append-nil (history_of events)

@@ -42,11 +42,8 @@ told_meet g events lawful = (all_meet g (bytes_told events) events [] lawful (to
 
 issue_meets : (known : Option (List ℕ)) (e : Event) → EndMeets known (end_told_by e) → IssueMeets known (blank e)
 issue_meets known (step.Issue n, answer.Ended res bytes) meets = meets
-issue_meets known (step.Issue n, _) meets = tt
 issue_meets known (step.Finish n, answer.Ended res bytes) meets = tt
-issue_meets known (step.Finish n, _) meets = tt
 issue_meets known (step.Reap, answer.Reaped c) meets = tt
-issue_meets known (step.Reap, _) meets = tt
 issue_meets known (_, a) meets = tt
 
 issues_meet : (g : Setup) (known : List (List ℕ)) (h : History) (later : List Event) → AllMeet g known h later
@@ -67,7 +64,6 @@ pass_loose : (running : List Running) (known : Option (List ℕ)) (r : Requests)
     → Passes running (mark_by r e) → Passes running (known_mark known r e)
 pass_loose running known r (step.Finish n, answer.Ended res bytes) meets passes =
     end_loose (taken_by running n) known (record { res = res; bytes = Some bytes }) bytes refl meets passes
-pass_loose running known r (step.Finish n, _) meets passes = passes
 pass_loose running known r (_, a) meets passes = passes
 
 -- a mark that is no end
@@ -78,10 +74,8 @@ awaits_start running n (Some op) marks = refl
 awaits_so : (running : List Running) (known : Option (List ℕ)) (r : Requests) (e : Event) (marks more : List Mark)
     → awaits running (mark_by r e ∷ marks) ≡ awaits running (known_mark known r e ∷ more)
 awaits_so running known r (step.Finish n, answer.Ended res bytes) marks more = refl
-awaits_so running known r (step.Finish n, _) marks more = refl
 awaits_so running known r (step.Issue n, answer.Run) marks more =
     awaits_start running n (operation_running r n) marks ∙ sym (awaits_start running n (operation_running r n) more)
-awaits_so running known r (step.Issue n, _) marks more = refl
 awaits_so running known r (_, a) marks more = refl
 
 meets_loose : (known : Option (List ℕ)) (bytes : List ℕ) (e : End) (o : Outcome) → e.bytes ≡ Some bytes → MeetsBytes known bytes
@@ -99,10 +93,8 @@ fits_more : (known : Option (List ℕ)) (r : Requests) (e : Event) (k : ℕ) (o 
     → FitsEnd (end_in (mark_by r e ∷ marks) k) o → FitsEnd (end_in (known_mark known r e ∷ more) k) o
 fits_more known r (step.Finish n, answer.Ended res bytes) k o marks more meets later fits =
     fits_by (n == k) known bytes (record { res = res; bytes = Some bytes }) o (end_in marks k) (end_in more k) refl meets later fits
-fits_more known r (step.Finish n, _) k o marks more meets later fits = later fits
 fits_more known r (step.Issue n, answer.Run) k o marks more meets later fits =
     subst (λ (x : Option End). FitsEnd x o) (sym (start_ends n k (operation_running r n) more)) (later (subst (λ (x : Option End). FitsEnd x o) (start_ends n k (operation_running r n) marks) fits))
-fits_more known r (step.Issue n, _) k o marks more meets later fits = later fits
 fits_more known r (_, a) k o marks more meets later fits = later fits
 
 fits_loose : (g : Setup) (known : List (List ℕ)) (h : History) (later : List Event) (k : ℕ) (o : Outcome) → AllMeet g known h later
@@ -147,7 +139,6 @@ loosen g known (Take n o ∷ moves) (e ∷ later) h st meet walk =
 
 blank_bare : (e : Event) → blank (bare e) ≡ blank e
 blank_bare (step.Finish n, answer.Ended res bytes) = refl
-blank_bare (step.Finish n, _) = refl
 blank_bare (_, a) = refl
 
 pub blanks_bare : (es : List Event) → map blank (map bare es) ≡ map blank es
@@ -156,7 +147,6 @@ blanks_bare (e ∷ es) = ap₂ (λ (x : Event) (xs : List Event). x ∷ xs) (bla
 
 reaped_bare : (e : Event) → bytes_reaped (bare e) ≡ bytes_reaped e
 reaped_bare (step.Finish n, answer.Ended res bytes) = refl
-reaped_bare (step.Finish n, _) = refl
 reaped_bare (_, a) = refl
 
 told_bare : (es : List Event) → bytes_told (map bare es) ≡ bytes_told es

@@ -1,8 +1,8 @@
 -- Which operations run behind an event, by its mark.
 use Rattle.std.proofs.Common.{◌≡◌, ◌==◌, ◌||◌, ◌&&◌, ℕ, ℤ, Bool, true, false, not, List, Some, None, if◌then◌else◌, refl, sym, ap, subst, ◌∙◌}
-use Rattle.std.proofs.lemmas.Bool.{and_parts, eq-eqb, eqb-true}
+use Rattle.std.proofs.lemmas.Bool.{eq-eqb, eqb-true}
 use Rattle.uring_entry.specs.Preparation.{operation_of}
-use Rattle.uring_entry.specs.Requests.{Ending, Requests, entry_of, has_ended, has_started, is_outstanding, is_running, no_bytes, chosen_by, with_cancelled, with_started, with_ended}
+use Rattle.uring_entry.specs.Requests.{Ending, Requests, entry_of, has_ended, has_started, is_running, no_bytes, chosen_by, with_cancelled, with_started, with_ended}
 use Rattle.uring_entry.specs.Setup.{Setup}
 use Rattle.uring_rules.specs.Rules.{cancel_result, doomed_result, with_issued_end}
 use Rattle.uring_entry.proofs.RequestLemmas.{list_any_push}
@@ -12,6 +12,8 @@ use Rattle.uring_core.specs.declared.step.Step.TheVariants as step
 use Rattle.uring_core.specs.declared.answer.Answer.{Answer}
 use Rattle.uring_core.specs.declared.answer.Answer.TheVariants as answer
 use Rattle.uring_core.proofs.Changes.{Change, IsSilent, refuses, takes, drops, closes, runs, dooms, cancels, finishes}
+use Rattle.std.proofs.Math.Bool.{or-true}
+use Rattle.uring_laws.proofs.EndedRequests.{not_ended}
 use Rattle.uring_timelines.specs.declared.mark.Mark.{Mark}
 use Rattle.uring_timelines.specs.declared.mark.Mark.TheVariants.{Starts, Ends, Idle}
 use Rattle.uring_early.specs.Marks.{mark_by, start_mark}
@@ -66,12 +68,6 @@ issued_idle true r m n res idle = end_idle r m n res no_bytes idle
 issued_idle false r m n res idle =
     end_idle (with_cancelled r (chosen_by r m res)) m n res no_bytes idle
 
-pub open_of : (r : Requests) (m : ℕ) → is_outstanding r m ≡ true → has_ended r m ≡ false
-open_of r m outstanding = by (has_ended r m) (and_parts _ _ outstanding).1 where
-  by : (b : Bool) → not b ≡ true → b ≡ false
-  by false free = refl
-  by true free = sym free
-
 -- ---- of events
 
 none_some : {X : Type 0} (x : X) → Some x ≡ None → ⊥
@@ -79,21 +75,15 @@ none_some x e = absurd cc
 
 idle_of : (r : Requests) (s : Step) (a : Answer) → IsSilent (s, a) → mark_by r (s, a) ≡ Idle
 idle_of r (step.Issue n) answer.Run silent = absurd (none_some n silent.starts)
-idle_of r (step.Issue n) _ silent = refl
 idle_of r (step.Finish n) (answer.Ended res bytes) silent =
     absurd (none_some (record { number = n; res = res; bytes = bytes }) silent.ends)
-idle_of r (step.Finish n) _ silent = refl
 idle_of r _ a silent = refl
 
 -- the mark of a start has the operation
 pub started_mark : (r : Requests) (m : ℕ) → has_ended r m ≡ false
     → mark_by (with_started r m) (step.Issue m, answer.Run) ≡ Starts m (operation_of (entry_of r m))
 started_mark r m unended =
-    ap (λ (b : Bool). start_mark m (if b then Some (operation_of (entry_of r m)) else None)) (start_runs r m m unended ∙ ap (λ (b : Bool). is_running r m || b) (eq-eqb m m refl) ∙ or_true (is_running r m))
-  where
-    or_true : (b : Bool) → (b || true) ≡ true
-    or_true true = refl
-    or_true false = refl
+    ap (λ (b : Bool). start_mark m (if b then Some (operation_of (entry_of r m)) else None)) (start_runs r m m unended ∙ ap (λ (b : Bool). is_running r m || b) (eq-eqb m m refl) ∙ or-true (is_running r m))
 
 pub runs_by : (g : Setup) (w : World) (s : Step) (a : Answer) (n : ℕ) → Change g w s a
     → is_running (happens g w s a).requests n ≡ runs_behind (mark_by (happens g w s a).requests (s, a)) (is_running w.requests n) n
@@ -107,7 +97,7 @@ runs_by g w s a n (drops call place opened left at invalid) =
 runs_by g w s a n (closes accepted missed head call opened all told) =
     subst (λ o. is_running (ending_of g w o).requests n ≡ is_running w.requests n) (sym opened) refl
 runs_by g w s a n (runs m outstanding idle spared ready no_cancel) =
-    let unended : has_ended w.requests m ≡ false = open_of w.requests m outstanding in
+    let unended : has_ended w.requests m ≡ false = not_ended w.requests m outstanding in
     start_runs w.requests m n unended
     ∙ sym (ap (λ (k : Mark). runs_behind k (is_running w.requests n) n) (started_mark w.requests m unended))
 runs_by g w s a n (dooms m outstanding idle doomed) =

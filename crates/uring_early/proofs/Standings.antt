@@ -1,12 +1,13 @@
 -- How operations stand along a timeline: as a search has it, behind each event and each effect.
 use Rattle.std.proofs.Common.{◌≡◌, ◌==◌, ◌||◌, ◌&&◌, ℕ, ℤ, Bool, true, false, not, List, [], ◌∷◌, ◌++◌, map, Option, Some, None, if◌then◌else◌, refl, sym, ap, subst, ◌∙◌}
 use Rattle.std.specs.Option.{option_map}
-use Rattle.std.proofs.lemmas.Bool.{and_parts, both_ways, eq-eqb, eqb-true, false_from_ne_true}
+use Rattle.std.proofs.lemmas.Bool.{and_from, and_parts, both_ways, eq-eqb, eqb-true, false_from_ne_true}
+use Rattle.std.proofs.Math.Bool.{or-false, and-true, and-false}
 use Rattle.std.proofs.lemmas.Option.{same_Some}
 use Rattle.uring_entry.specs.Preparation.{operation_of}
 use Rattle.uring_entry.specs.Requests.{Requests, entry_of, has_ended, has_started, is_running, operation_running}
 use Rattle.uring_entry.specs.Setup.{Setup}
-use Rattle.uring_rules.specs.Rules.{cancel_result, doomed_result, with_issued_end}
+use Rattle.uring_rules.specs.Rules.{with_issued_end}
 use Rattle.uring_entry.specs.declared.operation.Op.{Op}
 use Rattle.uring_entry.specs.declared.operation.Outcome.{Outcome}
 use Rattle.uring_files.specs.Contents.{FileContents, empty_files}
@@ -18,9 +19,11 @@ use Rattle.uring_core.specs.declared.step.Step.TheVariants as step
 use Rattle.uring_core.specs.declared.answer.Answer.{Answer}
 use Rattle.uring_core.specs.declared.answer.Answer.TheVariants as answer
 use Rattle.uring_core.specs.StepAnswers.{CalledForApart, FinishesApart}
-use Rattle.uring_core.specs.World.{World, happens, taking_of, taking_entry_of, ending_of}
-use Rattle.uring_core.proofs.Changes.{Change, IsSilent, change_of, refuses, takes, drops, closes, runs, dooms, cancels}
-use Rattle.uring_entry.proofs.RequestLemmas.{list_any_push}
+use Rattle.uring_linux.specs.LinuxRequests.{LinuxRequests}
+use Rattle.uring_core.specs.World.{World, requests_of}
+use Rattle.uring_core.proofs.ListCounts.{any_kept}
+use Rattle.uring_core.proofs.Moves.{Move, starts, ends_doomed, ends_cancel, move_of}
+use Rattle.uring_core.proofs.Changes.{Change, IsSilent, change_of, refuses, runs}
 use Rattle.uring_core.proofs.Sound.{sound_of}
 use Rattle.uring_laws.proofs.Growth.{event_grows}
 use Rattle.uring_effects.specs.Effects.{Makes, Takes, Timeline, made_in, requests_in, operation_at, effects_in, files_at, effect_of, TakesEffect, EndsAsTaken, IsTimely}
@@ -30,7 +33,8 @@ use Rattle.uring_timelines.specs.declared.running.Running.{Running}
 use Rattle.uring_timelines.specs.Moves.{EndsBy, MayTake, Passes, Standing, look, op_of, passed, plain, taken_by, taken_of, taking, took, with_taken, without}
 use Rattle.uring_timelines.proofs.Plain.{after_plain, outcome_back}
 use Rattle.uring_early.specs.Marks.{mark_by, start_mark}
-use Rattle.uring_early.proofs.Running.{open_of, runs_behind, runs_by}
+use Rattle.uring_early.proofs.Running.{runs_behind, runs_by}
+use Rattle.uring_laws.proofs.EndedRequests.{not_ended}
 
 -- ---- the list of what runs
 
@@ -124,27 +128,13 @@ issued_starts true r m n res = refl
 issued_starts false r m n res = refl
 
 -- an effect that was taken was by what had started
-starts_stay : (g : Setup) (w : World) (s : Step) (a : Answer) (n : ℕ) → Change g w s a
-    → has_started w.requests n ≡ true → has_started (happens g w s a).requests n ≡ true
-starts_stay g w s a n (refuses _ _ same silent) started =
-    ap (λ (v : World). has_started v.requests n) (same w) ∙ started
-starts_stay g w s a n (takes entry call place opened left at valid) started =
-    subst (λ o. has_started (taking_entry_of g w entry o).requests n ≡ true) (sym opened) started
-starts_stay g w s a n (drops call place opened left at invalid) started =
-    subst (λ o. has_started (taking_of g w o).requests n ≡ true) (sym opened) started
-starts_stay g w s a n (closes accepted missed head call opened all told) started =
-    subst (λ o. has_started (ending_of g w o).requests n ≡ true) (sym opened) started
-starts_stay g w s a n (runs m outstanding idle spared ready no_cancel) started =
-    list_any_push (λ k. k == n) w.requests.started m ∙ ap (λ (b : Bool). b || (m == n)) started
-starts_stay g w s a n (dooms m outstanding idle doomed) started =
-    issued_starts g.linux w.requests m n (doomed_result g.linux w.requests m) ∙ started
-starts_stay g w s a n (cancels m outstanding idle spared ready cancel) started =
-    issued_starts g.linux w.requests m n (cancel_result g.linux w.requests m) ∙ started
-starts_stay g w s a n _ started = started
-
-started_kept : (g : Setup) (s : Step) (a : Answer) (h : History) (n : ℕ) → IsLawfulApart g ((s, a) ∷ h)
-    → has_started (world g h).requests n ≡ true → has_started (world g ((s, a) ∷ h)).requests n ≡ true
-started_kept g s a h n lawful started = starts_stay g (world g h) s a n (change_of g (world g h) s a lawful.0) started
+starts_stay : (linux : Bool) (l : LinuxRequests) (s : Step) (a : Answer) (q : Requests) (n : ℕ) → Move linux l s a q
+    → has_started l.requests n ≡ true → has_started q n ≡ true
+starts_stay linux l s a q n (starts m outstanding idle spared ready no_cancel) started =
+    any_kept (λ k. k == n) l.requests.started _ started
+starts_stay linux l s a q n (ends_doomed m outstanding) started = issued_starts linux l.requests m n _ ∙ started
+starts_stay linux l s a q n (ends_cancel m outstanding spared ready cancel) started = issued_starts linux l.requests m n _ ∙ started
+starts_stay linux l s a q n _ started = started
 
 newest_started : (g : Setup) (t : Timeline) (m n : ℕ) (p o : Outcome) (b : Bool) → (m == n) ≡ b
     → has_started (requests_in g t) m ≡ true → (effect_of t n ≡ Some o → has_started (requests_in g t) n ≡ true)
@@ -157,7 +147,7 @@ effect_started : (g : Setup) (t : Timeline) (n : ℕ) (o : Outcome) → IsTimely
     → effect_of t n ≡ Some o → has_started (requests_in g t) n ≡ true
 effect_started g [] n o timely lawful is = let f : None ≡ Some o = is in absurd cc
 effect_started g (Makes (s, a) ∷ t) n o timely lawful is =
-    started_kept g s a (made_in t) n lawful (effect_started g t n o timely.1 lawful.1 is)
+    starts_stay g.linux (requests_of (world g (made_in t))) s a _ n (move_of g s a (made_in t) lawful) (effect_started g t n o timely.1 lawful.1 is)
 effect_started g (Takes m p ∷ t) n o timely lawful is =
     newest_started g t m n p o (m == n) refl (and_parts _ _ timely.0.runs).0 (effect_started g t n o timely.1 lawful) is
 
@@ -172,9 +162,8 @@ unstarted_free g t n timely lawful idle = by (effect_of t n) refl where
 -- ---- behind an event
 
 passed_files : (s : Standing) (m : Mark) → (passed s m).files ≡ s.files
-passed_files s (Starts n op) = refl
-passed_files s (Ends n e) = refl
 passed_files s Idle = refl
+passed_files s _ = refl
 
 -- a request of the same entry stands as before, if it runs as before
 stands_so : (r later : Requests) (n : ℕ) (taken : Option Outcome) → is_running later n ≡ is_running r n
@@ -200,12 +189,11 @@ StartFacts r s a = Unit {0}
 
 silent_start : (r : Requests) (s : Step) (a : Answer) → IsSilent (s, a) → StartFacts r s a
 silent_start r (step.Issue k) answer.Run silent = let f : Some k ≡ None = silent.starts in absurd cc
-silent_start r (step.Issue k) _ silent = tt
 silent_start r _ a silent = tt
 
 start_facts : (g : Setup) (w : World) (s : Step) (a : Answer) → Change g w s a → StartFacts w.requests s a
 start_facts g w s a (refuses _ _ same silent) = silent_start w.requests s a silent
-start_facts g w s a (runs m outstanding idle spared ready no_cancel) = (idle, open_of w.requests m outstanding)
+start_facts g w s a (runs m outstanding idle spared ready no_cancel) = (idle, not_ended w.requests m outstanding)
 start_facts g w s a _ = tt
 
 -- what a mark of a start tells
@@ -225,32 +213,13 @@ start_by r n k op (Some p) is mark =
 start_from : (r : Requests) (s : Step) (a : Answer) (k : ℕ) (op : Op) → mark_by r (s, a) ≡ Starts k op
     → IsStart r s a k op
 start_from r (step.Issue n) answer.Run k op mark = start_by r n k op (operation_running r n) refl mark
-start_from r (step.Issue n) _ k op mark = let f : Idle ≡ Starts k op = mark in absurd cc
 start_from r (step.Finish n) (answer.Ended res bytes) k op mark =
     let f : Ends n (record { res = res; bytes = Some bytes }) ≡ Starts k op = mark in absurd cc
-start_from r (step.Finish n) _ k op mark = let f : Idle ≡ Starts k op = mark in absurd cc
 start_from r _ a k op mark = let f : Idle ≡ Starts k op = mark in absurd cc
 
 or_none : (o : Option Running) → or_else o None ≡ o
 or_none None = refl
 or_none (Some x) = refl
-
-or_false : (b : Bool) → (b || false) ≡ b
-or_false true = refl
-or_false false = refl
-
-and_true : (b : Bool) → (b && true) ≡ b
-and_true true = refl
-and_true false = refl
-
-and_false : (b : Bool) → (b && false) ≡ false
-and_false true = refl
-and_false false = refl
-
-unstarted : (started ended : Bool) → (started && not ended) ≡ false → ended ≡ false → started ≡ false
-unstarted true true idle unended = unended
-unstarted true false idle unended = idle
-unstarted false ended idle unended = refl
 
 -- a running request asks for this operation
 asked_by : (b : Bool) (op asked : Op) → (if b then Some asked else None) ≡ Some op → (b ≡ true) × (asked ≡ op)
@@ -274,9 +243,9 @@ module _ (g : Setup) (t : Timeline) (st : Standing) (s : Step) (a : Answer) wher
     later = requests_in g (Makes (s, a) ∷ t)
 
     by : (b : Bool) → (k == n) ≡ b → (if b then None else look st.running n) ≡ standing_at later (effect_of t n) n
-    by true same = ap (λ (b : Bool). one_of b n (operation_of (entry_of later n)) (effect_of t n)) (sym (runs_so n ∙ ap (λ (b : Bool). is_running (requests_in g t) n && not b) same ∙ and_false (is_running (requests_in g t) n)))
+    by true same = ap (λ (b : Bool). one_of b n (operation_of (entry_of later n)) (effect_of t n)) (sym (runs_so n ∙ ap (λ (b : Bool). is_running (requests_in g t) n && not b) same ∙ and-false (is_running (requests_in g t) n)))
     by false other =
-        stands.running n ∙ stands_so (requests_in g t) later n (effect_of t n) (runs_so n ∙ ap (λ (b : Bool). is_running (requests_in g t) n && not b) other ∙ and_true (is_running (requests_in g t) n)) (entry_same g s a (made_in t) n lawful)
+        stands.running n ∙ stands_so (requests_in g t) later n (effect_of t n) (runs_so n ∙ ap (λ (b : Bool). is_running (requests_in g t) n && not b) other ∙ and-true (is_running (requests_in g t) n)) (entry_same g s a (made_in t) n lawful)
 
   behind_start : (k : ℕ) (op : Op) → Stands g t st → IsLawfulApart g ((s, a) ∷ made_in t)
       → is_running (requests_in g t) k ≡ false → effect_of t k ≡ None
@@ -302,19 +271,22 @@ module _ (g : Setup) (t : Timeline) (st : Standing) (s : Step) (a : Answer) wher
     by true same = subst (λ (m : ℕ). or_else (look st.running m) (Some new) ≡ standing_at later (effect_of t m) m) (eqb-true k n same) here
     by false other =
         or_none (look st.running n) ∙ stands.running n
-        ∙ stands_so (requests_in g t) later n (effect_of t n) (runs_so n ∙ ap (λ (b : Bool). is_running (requests_in g t) n || b) other ∙ or_false (is_running (requests_in g t) n)) (entry_same g s a (made_in t) n lawful)
+        ∙ stands_so (requests_in g t) later n (effect_of t n) (runs_so n ∙ ap (λ (b : Bool). is_running (requests_in g t) n || b) other ∙ or-false (is_running (requests_in g t) n)) (entry_same g s a (made_in t) n lawful)
+
+  runs_so : IsLawfulApart g ((s, a) ∷ made_in t) → {m : Mark} → mark_by (requests_in g (Makes (s, a) ∷ t)) (s, a) ≡ m → (k : ℕ) → is_running (requests_in g (Makes (s, a) ∷ t)) k ≡ runs_behind m (is_running (requests_in g t) k) k
+  runs_so lawful is k = runs_by g (world g (made_in t)) s a k (change_of g (world g (made_in t)) s a lawful.0) ∙ ap (λ (x : Mark). runs_behind x (is_running (requests_in g t) k) k) is
 
   behind_mark : (m : Mark) → mark_by (requests_in g (Makes (s, a) ∷ t)) (s, a) ≡ m → IsTimely g t → Stands g t st
       → IsLawfulApart g ((s, a) ∷ made_in t)
       → (n : ℕ) → look (passed st m).running n ≡ standing_at (requests_in g (Makes (s, a) ∷ t)) (effect_of t n) n
   behind_mark Idle is timely stands lawful n =
-      behind_idle stands lawful (λ k. runs_by g (world g (made_in t)) s a k (change_of g (world g (made_in t)) s a lawful.0) ∙ ap (λ (x : Mark). runs_behind x (is_running (requests_in g t) k) k) is) n
+      behind_idle stands lawful (runs_so lawful is) n
   behind_mark (Ends m e) is timely stands lawful n =
-      behind_end m stands lawful (λ k. runs_by g (world g (made_in t)) s a k (change_of g (world g (made_in t)) s a lawful.0) ∙ ap (λ (x : Mark). runs_behind x (is_running (requests_in g t) k) k) is) n
+      behind_end m stands lawful (runs_so lawful is) n
   behind_mark (Starts m op) is timely stands lawful n =
       let start : IsStart (requests_in g (Makes (s, a) ∷ t)) s a m op = start_from (requests_in g (Makes (s, a) ∷ t)) s a m op is in
       let facts : (is_running (requests_in g t) m ≡ false) × (has_ended (requests_in g t) m ≡ false) = subst (λ (x : Answer). StartFacts (requests_in g t) (step.Issue m) x) start.answer_is (subst (λ (x : Step). StartFacts (requests_in g t) x a) start.step_is (start_facts g (world g (made_in t)) s a (change_of g (world g (made_in t)) s a lawful.0))) in
-      behind_start m op stands lawful facts.0 (unstarted_free g t m timely lawful.1 (unstarted (has_started (requests_in g t) m) (has_ended (requests_in g t) m) facts.0 facts.1)) start.asks (λ k. runs_by g (world g (made_in t)) s a k (change_of g (world g (made_in t)) s a lawful.0) ∙ ap (λ (x : Mark). runs_behind x (is_running (requests_in g t) k) k) is) n
+      behind_start m op stands lawful facts.0 (unstarted_free g t m timely lawful.1 (false_from_ne_true _ (λ started. both_ways _ facts.0 (and_from _ _ started (ap not facts.1))))) start.asks (runs_so lawful is) n
 
 pub stands_makes : (g : Setup) (t : Timeline) (st : Standing) (s : Step) (a : Answer) → IsTimely g t → Stands g t st
     → IsLawfulApart g ((s, a) ∷ made_in t)
@@ -379,7 +351,6 @@ pub ends_so : (g : Setup) (t : Timeline) (st : Standing) (s : Step) (a : Answer)
     → Passes st.running (mark_by (requests_in g (Makes (s, a) ∷ t)) (s, a)) → EndsAsTaken t (s, a)
 ends_so g t st (step.Finish n) (answer.Ended res bytes) stands passes =
     taken_one_of (is_running (requests_in g t) n) n (operation_at g t n) (effect_of t n) (record { res = res; bytes = bytes }) (ap taken_of (sym (stands.running n)) ∙ ended_by (taken_by st.running n) res bytes passes)
-ends_so g t st (step.Finish n) _ stands passes = tt
 ends_so g t st _ a stands passes = tt
 
 -- and what ends as it was taken passes
@@ -400,8 +371,6 @@ passes_so g t st (step.Finish n) (answer.Ended res bytes) stands called ends =
     ∙ ap (λ (b : Bool). taken_of (one_of b n (operation_at g t n) (effect_of t n))) (finish_runs (is_running (requests_in g t) n) res bytes called)
     ∙ ends in
     subst (λ (o : Option Outcome). EndsBy o (record { res = res; bytes = Some bytes })) (sym taken) (refl, refl)
-passes_so g t st (step.Finish n) _ stands called ends = tt
 passes_so g t st (step.Issue n) answer.Run stands called ends =
     start_passes st.running n (operation_running (requests_in g (Makes (step.Issue n, answer.Run) ∷ t)) n)
-passes_so g t st (step.Issue n) _ stands called ends = tt
 passes_so g t st _ a stands called ends = tt

@@ -203,10 +203,8 @@ ends_before g (step.Finish k) (answer.Ended res bytes) t later ends so n o taken
       let is : record { res = res; bytes = bytes } ≡ o = same_Some (record { res = res; bytes = bytes }) o (sym ends ∙ ap (effect_of t) (eqb-true k n same) ∙ taken) in
       (ap (λ (x : Outcome). x.res) is, ap (λ (x : Outcome). x.bytes) is)
   by false other = so n o taken
-ends_before g (step.Finish k) _ t later ends so n o taken = so n o taken
 ends_before g (step.Issue k) answer.Run t later ends so n o taken =
     subst (λ (x : Option End). FitsEnd x o) (sym (start_ends k n (operation_running (requests_in g (Makes (step.Issue k, answer.Run) ∷ t)) k) (marks_behind g ((step.Issue k, answer.Run) ∷ made_in t) later))) (so n o taken)
-ends_before g (step.Issue k) _ t later ends so n o taken = so n o taken
 ends_before g _ a t later ends so n o taken = so n o taken
 
 goes_pass : (st : Standing) (m : Mark) (marks : List Mark) → Passes st.running m → Goes (passed st m) marks

@@ -34,7 +34,6 @@ at_finishes (event ∷ before) = Makes event ∷ with_taken event (at_finishes b
 
 made_same : (e : Event) (t : Timeline) → made_in (with_taken e t) ≡ made_in t
 made_same (step.Finish n, answer.Ended res bytes) t = refl
-made_same (step.Finish n, _) t = refl
 made_same _ t = refl
 
 made : (h : History) → made_in (at_finishes h) ≡ h
@@ -49,7 +48,6 @@ one_more : (g : Setup) (e : Event) (t : Timeline) (before : History) → made_in
 one_more g (step.Finish n, answer.Ended res bytes) t before is same =
     ap (λ (l : List Done). l ++ record { number = n; op = operation_of (entry_of (world g (made_in t)).requests n); outcome = record { res = res; bytes = bytes } } ∷ []) same
     ∙ ap (λ (h : History). done_in g before ++ record { number = n; op = operation_of (entry_of (world g h).requests n); outcome = record { res = res; bytes = bytes } } ∷ []) is
-one_more g (step.Finish n, _) t before is same = same
 one_more g _ t before is same = same
 
 effects : (g : Setup) (h : History) → effects_in g (at_finishes h) ≡ done_in g h
@@ -76,7 +74,6 @@ not_taken : (n : ℕ) (e : Event) (t : Timeline) (before : History)
     → effect_of t n ≡ None → effect_of (with_taken e t) n ≡ None
 not_taken n (step.Finish m, answer.Ended res bytes) t before none prior =
     ap (λ (b : Bool). if b then Some (record { res = res; bytes = bytes }) else effect_of t n) (last_false n (told end_told_by before) (record { number = m; res = res; bytes = bytes }) none) ∙ prior
-not_taken n (step.Finish m, _) t before none prior = prior
 not_taken n _ t before none prior = prior
 
 none_taken : (n : ℕ) (h : History) → list_any (is_of n) (told end_told_by h) ≡ false
@@ -117,7 +114,6 @@ timely_more g (step.Finish n, answer.Ended res bytes) before apart called prior 
         prior,
       ),
     )
-timely_more g (step.Finish n, _) before apart called prior = (tt, prior)
 timely_more g _ before apart called prior = (tt, prior)
 
 timely : (g : Setup) (h : History) → IsLawful g h → IsTimely g (at_finishes h)

@@ -64,7 +64,6 @@ event_allowed : (g : Setup) (e : Event) (before : Timeline) → IsTimely g befor
     → IsLawfulApart g (made_in before) → EndsAsTaken before e → GivesAllowed (requests_in g before) e
 event_allowed g (step.Finish n, answer.Ended res bytes) before timely lawful ends =
     (effect_allowed g before timely lawful n (record { res = res; bytes = bytes }) ends).may
-event_allowed g (step.Finish n, _) before timely lawful ends = tt
 event_allowed g _ before timely lawful ends = tt
 
 all_allowed : (g : Setup) (t : Timeline) → IsTimely g t → IsLawfulApart g (made_in t)

@@ -1,13 +1,13 @@
 -- Effects can wait: a step changes places with the effects right before it, up to that of the request that it finishes, since their requests still run behind it, and those that happened last are left out.
-use Rattle.std.proofs.Common.{◌≡◌, ◌==◌, ◌++◌, ◌||◌, ◌&&◌, ◌<◌, ℕ, ℤ, Bool, true, false, not, List, [], ◌∷◌, length, Option, Some, if◌then◌else◌, refl, sym, ap, subst, ◌∙◌}
-use Rattle.std.proofs.lemmas.Bool.{and_parts, both_ways, eq-eqb, eqb-true, false_from_ne_true}
+use Rattle.std.proofs.Common.{◌≡◌, ◌≢◌, ◌==◌, ◌++◌, ◌||◌, ◌<◌, ℕ, ℤ, Bool, true, false, List, [], ◌∷◌, length, Option, Some, if◌then◌else◌, refl, sym, ap, subst, ◌∙◌}
+use Rattle.std.proofs.lemmas.Bool.{and_from, and_parts, both_ways, eq-eqb}
 use Rattle.uring_entry.specs.Preparation.{operation_of}
-use Rattle.uring_entry.specs.Requests.{Ending, Requests, entry_of, has_ended, is_running, no_bytes, chosen_by, with_cancelled, with_started, with_ended}
+use Rattle.uring_entry.specs.Requests.{Requests, entry_of, is_running, no_bytes, chosen_by, with_cancelled, with_started}
 use Rattle.uring_rules.specs.Rules.{with_issued_end}
 use Rattle.uring_entry.specs.Setup.{Setup}
 use Rattle.uring_entry.specs.declared.operation.Op.{Op}
 use Rattle.uring_entry.specs.declared.operation.Outcome.{Outcome}
-use Rattle.uring_entry.proofs.RequestLemmas.{list_any_push}
+use Rattle.uring_entry.proofs.RequestLemmas.{list_any_push, is_running_ended_other}
 use Rattle.uring_files.specs.Contents.{empty_files}
 use Rattle.uring_files.specs.Done.{Done, files_left}
 use Rattle.uring_files.specs.Operations.{IsOutcome}
@@ -25,43 +25,22 @@ use Rattle.uring_effects.specs.Laws.{IsLawfulLate}
 
 -- ---- what runs goes on
 
-both_so : (a b : Bool) → a ≡ true → b ≡ true → (a && b) ≡ true
-both_so true b e f = f
-both_so false b e f = absurd cc
-
 -- another starts
 start_runs : (r : Requests) (m n : ℕ) → is_running r n ≡ true → is_running (with_started r m) n ≡ true
 start_runs r m n running =
     let parts = and_parts _ _ running in
-    both_so _ _ (list_any_push (λ k. k == n) r.started m ∙ ap (λ (b : Bool). b || (m == n)) parts.0) parts.1
+    and_from _ _ (list_any_push (λ k. k == n) r.started m ∙ ap (λ (b : Bool). b || (m == n)) parts.0) parts.1
 
--- another ends
-end_runs : (r : Requests) (m n : ℕ) (res : ℤ) (bytes : List ℕ) → (m == n) ≡ false
-    → is_running r n ≡ true → is_running (with_ended r m res bytes) n ≡ true
-end_runs r m n res bytes other running =
-    let parts = and_parts _ _ running in
-    both_so _ _ parts.0 (ap not (list_any_push (λ (e : Ending). e.number == n) r.ended (record { number = m; res = res; bytes = bytes }) ∙ ap (λ (b : Bool). has_ended r n || b) other ∙ or_false (has_ended r n)) ∙ parts.1)
-  where
-    or_false : (b : Bool) → (b || false) ≡ b
-    or_false true = refl
-    or_false false = refl
-
--- another ends as it is issued, by either's rules
-issued_runs : (linux : Bool) (r : Requests) (m n : ℕ) (res : ℤ) → (m == n) ≡ false
+-- another ends as it is issued, by either's rules: what doesn't run is another than what does
+issued_runs : (linux : Bool) (r : Requests) (m n : ℕ) (res : ℤ) → is_running r m ≡ false
     → is_running r n ≡ true → is_running (with_issued_end linux r m res) n ≡ true
-issued_runs true r m n res other running = end_runs r m n res no_bytes other running
-issued_runs false r m n res other running =
-    end_runs (with_cancelled r (chosen_by r m res)) m n res no_bytes other running
+issued_runs linux r m n res idle running = by linux where
+  differ : n ≢ m
+  differ same = both_ways (is_running r m) idle (subst (λ k. is_running r k ≡ true) same running)
 
--- told from either side
-other_way : (m n : ℕ) → (m == n) ≡ false → (n == m) ≡ false
-other_way m n other =
-    false_from_ne_true _ (λ same. both_ways _ other (eq-eqb m n (sym (eqb-true n m same))))
-
--- what doesn't run is another than what does
-idle_other : (r : Requests) (m n : ℕ) → is_running r m ≡ false → is_running r n ≡ true → (m == n) ≡ false
-idle_other r m n idle running =
-    false_from_ne_true _ (λ same. both_ways _ idle (subst (λ (k : ℕ). is_running r k ≡ true) (sym (eqb-true m n same)) running))
+  by : (linux : Bool) → is_running (with_issued_end linux r m res) n ≡ true
+  by true = is_running_ended_other r m res no_bytes n differ ∙ running
+  by false = is_running_ended_other (with_cancelled r (chosen_by r m res)) m res no_bytes n differ ∙ running
 
 change_runs : (g : Setup) (w : World) (s : Step) (a : Answer) (n : ℕ) → Change g w s a
     → is_end_of n (s, a) ≡ false → is_running w.requests n ≡ true
@@ -77,11 +56,11 @@ change_runs g w s a n (closes accepted missed head call opened all told) other r
 change_runs g w s a n (runs m outstanding idle spared ready no_cancel) other running =
     start_runs w.requests m n running
 change_runs g w s a n (dooms m outstanding idle doomed) other running =
-    issued_runs g.linux w.requests m n _ (idle_other w.requests m n idle running) running
+    issued_runs g.linux w.requests m n _ idle running
 change_runs g w s a n (cancels m outstanding idle spared ready cancel) other running =
-    issued_runs g.linux w.requests m n _ (idle_other w.requests m n idle running) running
+    issued_runs g.linux w.requests m n _ idle running
 change_runs g w s a n (finishes m res bytes ran) other running =
-    end_runs w.requests m n res bytes (other_way n m other) running
+    is_running_ended_other w.requests m res bytes n (λ same. both_ways (n == m) other (eq-eqb n m same)) ∙ running
 change_runs g w s a n _ other running = running
 
 step_runs : (g : Setup) (s : Step) (a : Answer) (h : History) (n : ℕ) → IsLawfulApart g ((s, a) ∷ h)
@@ -171,7 +150,6 @@ ends_past : (s : Step) (a : Answer) (n : ℕ) (o : Outcome) (t : Timeline) → i
     → EndsAsTaken (Takes n o ∷ t) (s, a) → EndsAsTaken t (s, a)
 ends_past (step.Finish m) (answer.Ended res bytes) n o t other ends =
     sym (ap (λ (b : Bool). if b then Some o else effect_of t m) other) ∙ ends
-ends_past (step.Finish m) _ n o t other ends = tt
 ends_past _ a n o t other ends = tt
 
 timely_stand : (g : Setup) (b : Bool) (s : Step) (a : Answer) (n : ℕ) (o : Outcome) (t : Timeline)
@@ -228,7 +206,6 @@ lawful_late g s a t lawful =
 
 ends_late : (s : Step) (a : Answer) (t : Timeline) → EndsAsTaken t (s, a) → EndsAsTaken (late t) (s, a)
 ends_late (step.Finish n) (answer.Ended res bytes) t ends = effect_late t n ∙ ends
-ends_late (step.Finish n) _ t ends = tt
 ends_late _ a t ends = tt
 
 -- it is timely, with the same effects

@@ -1,10 +1,10 @@
--- The law of what a cancel by io_uring_register(2) waits for.
+-- The laws of what a cancel by io_uring_register(2) waits for, and of what an update does with a poll.
 use Rattle.std.proofs.Common.{◌≡◌, ℤ, Bool, true, false, not, ◌&&◌, Option, Some, None, refl, ap, if◌then◌else◌}
 use Rattle.std.proofs.lemmas.Bool.{false≢true, true≢false}
 use Rattle.uring_enter.specs.declared.afresh.Awaited.{Awaited}
 use Rattle.uring_enter.specs.declared.afresh.Awaited.TheVariants.{NotAwaited, Runs, Waits}
 use Rattle.uring_enter.specs.Courses.{has_started, has_ended, is_cancelled, is_tried, result, moved, end_by, act_by, is_ending}
-use Rattle.uring_enter.specs.Afresh.{EndsAtOnce}
+use Rattle.uring_enter.specs.Afresh.{EndsAtOnce, AsksWhatWasChanged}
 
 abbrev is_running : Awaited → Bool
 is_running Runs = true
@@ -50,3 +50,7 @@ ends_at_once log may_start one = (
   runs_by (has_ended log) (is_cancelled log) (has_started log) may_start (is_tried log) (result log) (moved log) one,
   waits_by (has_ended log) (is_cancelled log) (has_started log) may_start (is_tried log) (result log) (moved log) one,
 )
+
+pub asks_what_was_changed : AsksWhatWasChanged
+asks_what_was_changed true is = (refl, refl, refl, refl)
+asks_what_was_changed false is = absurd (false≢true is)

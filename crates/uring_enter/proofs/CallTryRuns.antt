@@ -9,7 +9,7 @@ use Rattle.uring_enter.specs.declared.waiting_call.Turn.{Turn}
 use Rattle.uring_enter.specs.declared.waiting_call.Turn.TheVariants.{Does, Waits, Ends, EndsWithDone}
 use Rattle.uring_enter.specs.Needs.{is_of_sockets}
 use Rattle.uring_enter.specs.Readiness.{has_message_flags}
-use Rattle.uring_enter.specs.CallTries.{polls_first, is_asked, is_connected, waits_for_all, would_wait, ends_with, behind, behind_call, behind_connect, behind_message, EndsWithWhatCame, LosesNoBytes}
+use Rattle.uring_enter.specs.CallTries.{polls_first, is_asked, is_connected, is_repeated, waits_for_all, would_wait, ends_with, behind, behind_call, behind_connect, behind_message, EndsWithWhatCame, LosesNoBytes}
 use Rattle.uring_entry.specs.Errors.{error}
 
 abbrev end_in : Turn → ℤ
@@ -38,16 +38,18 @@ message_end : (e : Submission) (c : Call) (res end : ℤ) → behind_message e c
 message_end e c (negsuc below) end is = with_end (has_message_flags e.opcode && not (c.done == 0)) (negsuc below) end is
 message_end e c (pos n) end is = absurd (no_end (not (n == 0) && waits_for_all e c) (Does AsksType) EndsWithDone end refl refl is)
 
-call_end : (connect waits connected eleven message : Bool) (would later : Turn) (res end : ℤ)
+call_end : (connect repeated waits connected eleven message : Bool) (would later : Turn) (res end : ℤ)
     → (would ≡ Ends end → end ≡ error 11) → (later ≡ Ends end → end ≡ res)
-    → (if connect then (if waits then Waits else if connected then Ends (pos 0) else Ends res) else if eleven then would else if message then later else Ends res) ≡ Ends end
+    → (if connect then (if repeated then Does Calls else if eleven then Does AsksWill else if waits then Waits else if connected then Ends (pos 0) else Ends res) else if eleven then would else if message then later else Ends res) ≡ Ends end
     → (end ≡ res) ⊎ ((end ≡ error 11) ⊎ ((end ≡ pos 0) × ((connect ≡ true) × (connected ≡ true))))
-call_end true true connected eleven message would later res end one two is = absurd (false≢true (ap has_end is))
-call_end true false true eleven message would later res end one two is = inr (inr (sym (ap end_in is), (refl, refl)))
-call_end true false false eleven message would later res end one two is = inl (sym (ap end_in is))
-call_end false waits connected true message would later res end one two is = inr (inl (one is))
-call_end false waits connected false true would later res end one two is = inl (two is)
-call_end false waits connected false false would later res end one two is = inl (sym (ap end_in is))
+call_end true true waits connected eleven message would later res end one two is = absurd (false≢true (ap has_end is))
+call_end true false waits connected true message would later res end one two is = absurd (false≢true (ap has_end is))
+call_end true false true connected false message would later res end one two is = absurd (false≢true (ap has_end is))
+call_end true false false true false message would later res end one two is = inr (inr (sym (ap end_in is), (refl, refl)))
+call_end true false false false false message would later res end one two is = inl (sym (ap end_in is))
+call_end false repeated waits connected true message would later res end one two is = inr (inl (one is))
+call_end false repeated waits connected false true would later res end one two is = inl (two is)
+call_end false repeated waits connected false false would later res end one two is = inl (sym (ap end_in is))
 
 error_end : (goes_on : Bool) (res end : ℤ) → (if goes_on then Does Calls else Ends res) ≡ Ends end → end ≡ res
 error_end true res end is = absurd (false≢true (ap has_end is))
@@ -66,7 +68,7 @@ will_end false moved end is = with_end moved (error 11) end is
 pub ends_with_what_came : EndsWithWhatCame
 ends_with_what_came e c None res end is = absurd (no_end (polls_first e c) (Does Polls) (Does Calls) end refl refl is)
 ends_with_what_came e c (Some Calls) res end is =
-    call_end (e.opcode == 16) (int_eq res (error 115) || int_eq res (error 11) || c.has_begun && int_eq res (error 114)) (is_connected c res) (int_eq res (error 11)) (has_message_flags e.opcode) (would_wait e c) (behind_message e c res) res end
+    call_end (e.opcode == 16) (is_repeated c res) (int_eq res (error 115) || c.has_begun && int_eq res (error 114)) (is_connected c res) (int_eq res (error 11)) (has_message_flags e.opcode) (would_wait e c) (behind_message e c res) res end
     (λ would. would_end (is_asked e) (has_message_flags e.opcode && not (c.done == 0)) end would)
     (λ later. message_end e c res end later) is
 ends_with_what_came e c (Some Polls) res end is = absurd (poll_end (e.opcode == 16) (not (int_eq res (pos 0))) end is)

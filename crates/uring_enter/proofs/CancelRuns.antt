@@ -1,10 +1,10 @@
 -- The laws of cancels.
-use Rattle.std.proofs.Common.{◌≡◌, ◌==◌, ℕ, ◌≤◌, Bool, true, false, not, ◌&&◌, ◌||◌, List, [], ◌∷◌, Option, Some, None, refl, ap, arith, if◌then◌else◌}
+use Rattle.std.proofs.Common.{◌≡◌, ◌==◌, ℕ, ◌≤◌, Bool, true, false, not, ◌&&◌, ◌||◌, List, [], ◌∷◌, Option, Some, None, refl, arith, if◌then◌else◌}
 use Rattle.std.proofs.lemmas.Bool.{false≢true, true≢false}
 use Rattle.uring_enter.specs.declared.cancel.Sought.{Sought}
 use Rattle.uring_enter.specs.declared.cancel.Outstanding.{Outstanding}
-use Rattle.uring_enter.specs.Cancels.{is_of_all, fits, fits_fd, is_free, is_waiting, is_none, can_be_found, finds_any, first_of, one_more, count_of, oldest}
-use Rattle.uring_enter.specs.CancelLaws.{CancelsWhatFits, CancelsAllThatFit, CancelsTheOldest, AsksWhatMatters, PassesOverOthers, SearchPassesOverOthers}
+use Rattle.uring_enter.specs.Cancels.{is_of_all, fits, fits_fd, is_ever_found, is_free, is_waiting, is_none, is_meant, can_be_found, finds_any, first_of, one_more, count_of, oldest}
+use Rattle.uring_enter.specs.CancelLaws.{CancelsWhatFits, CancelsAllThatFit, CancelsTheOldest, AsksWhatMatters, PassesOverLinked, PassesOverOthers, SearchPassesOverOthers}
 
 fits_by : (b f g : Bool) → (b && f && g) ≡ true → (f ≡ true) × (g ≡ true)
 fits_by true true true is = (refl, refl)
@@ -100,6 +100,31 @@ unsought_by found r true cancelled waiting is = absurd (true≢false is)
 unsought_by None r false cancelled waiting is = (refl, refl)
 unsought_by (Some it) r false cancelled waiting is = (refl, refl)
 
+without_one : (one two : Bool) → one ≡ false → (one && two) ≡ false
+without_one true two is = absurd (true≢false is)
+without_one false two is = refl
+
+without_two : (one two : Bool) → two ≡ false → (one && two) ≡ false
+without_two true two is = is
+without_two false two is = refl
+
 pub search_passes_over_others : SearchPassesOverOthers
 search_passes_over_others user_data earlier r is =
-    unsought_by (oldest user_data earlier) r (r.user_data == user_data) r.is_cancelled (is_waiting r) is
+    unsought_by (oldest user_data earlier) r (is_meant user_data r) r.is_cancelled (is_waiting r)
+    (without_one (r.user_data == user_data) (is_ever_found r) is)
+
+unfound_by : (b f token cancelled ever next : Bool) → ever ≡ false
+    → (b && f && ((token && not cancelled && ever) && next)) ≡ false
+unfound_by false f token cancelled ever next is = refl
+unfound_by true false token cancelled ever next is = refl
+unfound_by true true false cancelled ever next is = refl
+unfound_by true true true true ever next is = refl
+unfound_by true true true false true next is = absurd (true≢false is)
+unfound_by true true true false false next is = refl
+
+pub passes_over_linked : PassesOverLinked
+passes_over_linked s earlier r is = (
+  unfound_by (is_of_all s || not (finds_any s earlier)) (fits s r) r.is_token r.is_cancelled (is_ever_found r) (if r.runs then is_waiting r else r.may_start) is,
+  λ user_data. unsought_by (oldest user_data earlier) r (is_meant user_data r) r.is_cancelled (is_waiting r)
+      (without_two (r.user_data == user_data) (is_ever_found r) is),
+)

@@ -22,3 +22,7 @@ mod MeansRuns
 mod DutyRuns
 mod AfreshRuns
 mod AwaitingRuns
+mod LeavingRuns
+mod PuttingOffRuns
+mod PassageRuns
+mod StepRuns

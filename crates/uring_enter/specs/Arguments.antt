@@ -2,8 +2,13 @@
 use Rattle.std.specs.Prelude.{ℕ, ℤ, pos, Bool, not, ◌&&◌, ◌==◌, if◌then◌else◌}
 use Rattle.std.specs.Ordering.{int_eq}
 use Rattle.uring_entry.specs.Errors.{error}
+use Rattle.uring_enter.specs.Clocks.{has_some}
 use Rattle.uring_enter.specs.Replies.{is_none}
 use Rattle.uring_enter.specs.declared.argument.Argument.{Argument}
+
+-- with IORING_ENTER_EXT_ARG (8) it is a structure of a mask and a time, else a mask alone
+abbrev pub is_extended : ℕ → Bool
+is_extended flags = has_some flags 8
 
 -- a call reads its argument behind its submission, if it gets events and all was submitted. Else nothing of it is refused
 abbrev pub is_read : Bool → ℕ → ℤ → Bool

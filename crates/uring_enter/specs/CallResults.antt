@@ -4,7 +4,9 @@ use Rattle.std.specs.Ordering.{int_eq}
 use Rattle.uring_enter.specs.declared.submission.Submission.{Submission}
 use Rattle.uring_entry.specs.Errors.{error, is_below}
 use Rattle.uring_enter.specs.NoOps.{signed}
-use Rattle.uring_enter.specs.Needs.{fills_buffer}
+use Rattle.uring_enter.specs.Clocks.{has_some}
+use Rattle.uring_enter.specs.Needs.{fills_buffer, goes_on, is_read, is_receive}
+use Rattle.uring_enter.specs.CallTries.{is_asked}
 
 -- a connect that came to -115 (EINPROGRESS) goes on by itself, and ends as its socket does. One that came to -11 (EAGAIN), as of a local socket whose peer takes no more, hasn't begun, and is made again. connect(2), ERRORS
 abbrev pub has_begun : ℤ → Bool
@@ -17,6 +19,16 @@ tells_message e came_to = e.opcode == 10 && not (is_below came_to)
 -- where they can't be written it ends with -14 (EFAULT), though the message is gone. recvmsg(2), ERRORS; what the kernel does
 abbrev pub told_result : ℤ → (is_told : Bool) → ℤ
 told_result came_to is_told = if is_told then came_to else error 14
+
+-- a socket of datagrams that was shut down for reading has no more, and a receive or a read that waits ends with 0; but one that is asked not to wait is told -11 (EAGAIN) there too. So behind that it matters whether a socket was shut down, unless the entry asks it not to wait, by its flags of a message or RWF_NOWAIT (8), or goes on. shutdown(2), SHUT_RD; what Linux 6.18 was seen to do
+abbrev pub asks_shut : Submission → ℤ → Bool
+asks_shut e came_to =
+    int_eq came_to (error 11) && not (goes_on e)
+    && (is_receive e.opcode && not (is_asked e) || is_read e.opcode && not (has_some e.op_flags 8))
+
+-- what a call came to counts as 0 that was asked not to wait, where the socket was shut down
+abbrev pub shut_result : ℤ → (is_shut : Bool) → ℤ
+shut_result came_to is_shut = if int_eq came_to (error 11) && is_shut then pos 0 else came_to
 
 -- a file that is put into a slot ends with 0; with the slot, in 32 bits, if its entry asked for any, by 2^32 - 1 (IORING_FILE_INDEX_ALLOC). io_uring_enter(2), IORING_OP_OPENAT and IORING_OP_ACCEPT
 abbrev pub placed_result : (asked slot : ℕ) → ℤ

@@ -9,7 +9,7 @@ use Rattle.uring_enter.specs.declared.waiting_call.Doing.TheVariants.{Calls, Pol
 use Rattle.uring_enter.specs.declared.waiting_call.Turn.{Turn}
 use Rattle.uring_enter.specs.declared.waiting_call.Turn.TheVariants.{Does, Waits, Ends, EndsWithDone}
 use Rattle.uring_enter.specs.Clocks.{has_some}
-use Rattle.uring_enter.specs.Needs.{is_receive, is_splice, goes_on}
+use Rattle.uring_enter.specs.Needs.{is_receive, goes_on}
 use Rattle.uring_enter.specs.Parts.{is_alone}
 use Rattle.uring_enter.specs.Readiness.{has_message_flags}
 use Rattle.uring_entry.specs.Errors.{error}
@@ -25,14 +25,13 @@ begins e c = if polls_first e c then Does Polls else Does Calls
 abbrev pub ends_with : Submission → Call → ℤ → Turn
 ends_with e c res = if has_message_flags e.opcode && not (c.done == 0) then EndsWithDone else Ends res
 
--- the entry asks it not to wait: MSG_DONTWAIT (64), SPLICE_F_NONBLOCK (2); and what a socket was told of errors, by MSG_ERRQUEUE (8192), is there or isn't. recv(2)
+-- the entry asks it not to wait: MSG_DONTWAIT (64); and what a socket was told of errors, by MSG_ERRQUEUE (8192), is there or isn't. recv(2). That a splice asks so (SPLICE_F_NONBLOCK) doesn't count for each of its ends
 abbrev pub is_asked : Submission → Bool
 is_asked e =
-    is_splice e.opcode && has_some e.op_flags 2
-    || is_receive e.opcode && has_some e.op_flags 8192
+    is_receive e.opcode && has_some e.op_flags 8192
     || has_message_flags e.opcode && has_some e.op_flags 64
 
--- what would have had to wait ends so (-11, EAGAIN) if the entry asks for that; else it waits, unless its descriptor isn't to wait (O_NONBLOCK)
+-- what would have had to wait ends so (-11, EAGAIN) if the entry asks for that; else it waits, unless its descriptor isn't to wait (O_NONBLOCK), or its splice isn't
 abbrev pub would_wait : Submission → Call → Turn
 would_wait e c = if is_asked e then ends_with e c (error 11) else Does AsksWill
 
@@ -51,10 +50,16 @@ behind_message e c (pos n) = if not (n == 0) && waits_for_all e c then Does Asks
 abbrev pub is_connected : Call → ℤ → Bool
 is_connected c res = c.has_begun && (int_eq res (error 106) || int_eq res (error 77))
 
--- a connect that was begun (-115, EINPROGRESS), or is still going on (-114, EALREADY), waits; so does one to a local socket that takes no more (-11, EAGAIN)
+-- a connect that came to -103 (ECONNABORTED), as one does behind another that was refused on its socket, is made once more, and no more often. What Linux 6.18 does
+abbrev pub is_repeated : Call → ℤ → Bool
+is_repeated c res = not c.was_repeated && int_eq res (error 103)
+
+-- a connect that was begun (-115, EINPROGRESS), or is still going on (-114, EALREADY), waits; so does one to a local socket that takes no more (-11, EAGAIN), unless its own isn't to wait
 abbrev pub behind_connect : Call → ℤ → Turn
 behind_connect c res =
-    if int_eq res (error 115) || int_eq res (error 11) || c.has_begun && int_eq res (error 114) then Waits else
+    if is_repeated c res then Does Calls else
+    if int_eq res (error 11) then Does AsksWill else
+    if int_eq res (error 115) || c.has_begun && int_eq res (error 114) then Waits else
     if is_connected c res then Ends (pos 0) else Ends res
 
 abbrev pub behind_call : Submission → Call → ℤ → Turn
@@ -94,11 +99,16 @@ abbrev pub had_no_error : Option Doing → ℤ → Bool
 had_no_error (Some AsksError) res = int_eq res (pos 0)
 had_no_error _ res = false
 
--- a connection is accepted only right behind its socket was found ready, and a connect that was begun is made again only right behind its socket was found to have no error
+-- a connect is made once more
+abbrev pub repeats : Call → Option Doing → ℤ → Bool
+repeats c (Some Calls) res = is_repeated c res
+repeats c _ res = false
+
+-- a connection is accepted only right behind its socket was found ready, and a connect that was begun is made again only right behind its socket was found to have no error, or once more
 abbrev pub AcceptsWhatCame : Type 0
 AcceptsWhatCame = (e : Submission) (c : Call) (last : Option Doing) (res : ℤ) → polls_first e c ≡ true
     → next_of e c last res ≡ Does Calls
-    → (if e.opcode == 16 then had_no_error last res else was_ready last res) ≡ true
+    → (if e.opcode == 16 then had_no_error last res || repeats c last res else was_ready last res) ≡ true
 
 -- a call ends with what came last, or with -11; but a connect that is found made, with 0
 abbrev pub EndsWithWhatCame : Type 0

@@ -2,7 +2,7 @@
 use Rattle.std.specs.Prelude.{◌≡◌, ◌==◌, ◌≤◌, ℕ, true, false, List, ◌∷◌}
 use Rattle.uring_enter.specs.declared.cancel.Sought.{Sought}
 use Rattle.uring_enter.specs.declared.cancel.Outstanding.{Outstanding}
-use Rattle.uring_enter.specs.Cancels.{is_of_all, goes_by_user_data, fits, can_be_found, finds_any, is_cancelled, count_of, is_asked, oldest, is_stopped}
+use Rattle.uring_enter.specs.Cancels.{is_of_all, goes_by_user_data, fits, can_be_found, finds_any, is_cancelled, count_of, is_asked, is_ever_found, oldest, is_stopped}
 
 -- what is cancelled fits, and can be found
 abbrev pub CancelsWhatFits : Type 0
@@ -19,6 +19,12 @@ abbrev pub CancelsTheOldest : Type 0
 CancelsTheOldest = (s : Sought) (earlier : List Outstanding) → is_of_all s ≡ false
     → ((r : Outstanding) → is_cancelled s earlier r ≡ true → finds_any s earlier ≡ false)
     × (count_of s earlier ≤ 1)
+
+-- no cancel cancels another, nor a timeout that is linked behind a request, whatever it looks for
+abbrev pub PassesOverLinked : Type 0
+PassesOverLinked = (s : Sought) (earlier : List Outstanding) (r : Outstanding) → is_ever_found r ≡ false
+    → (is_cancelled s earlier r ≡ false)
+    × ((user_data : ℕ) → (is_stopped user_data earlier r ≡ false) × (oldest user_data (r ∷ earlier) ≡ oldest user_data earlier))
 
 -- where it isn't asked whether a request could start, it doesn't matter
 abbrev pub AsksWhatMatters : Type 0

@@ -1,10 +1,11 @@
 -- What a cancel finds among the requests that haven't ended. io_uring_enter(2), IORING_OP_ASYNC_CANCEL, but where our own rule is named.
-use Rattle.std.specs.Prelude.{◌≡◌, ℕ, ℤ, pos, ◌+◌, ◌-◌, ◌^◌, Bool, true, false, not, ◌&&◌, ◌||◌, ◌==◌, min, Option, Some, None, List, [], ◌∷◌, if◌then◌else◌}
+use Rattle.std.specs.Prelude.{◌≡◌, ℕ, ℤ, pos, ◌+◌, ◌-◌, ◌^◌, Bool, true, false, not, ◌&&◌, ◌||◌, ◌==◌, nat_lt, min, Option, Some, None, List, [], ◌∷◌, if◌then◌else◌}
 use Rattle.uring_enter.specs.declared.cancel.Sought.{Sought}
 use Rattle.uring_enter.specs.declared.cancel.Outstanding.{Outstanding}
 use Rattle.uring_enter.specs.declared.cancel.Cancel.{Cancel}
 use Rattle.uring_enter.specs.declared.search.Search.{Search}
 use Rattle.uring_entry.specs.Errors.{error}
+use Rattle.std.specs.Ordering.{int_eq}
 
 -- whether a cancel is of all that it finds
 abbrev pub is_of_all : Sought → Bool
@@ -29,15 +30,23 @@ fits s r =
     if s.is_by_fd then fits_fd s r else
     r.user_data == s.user_data
 
--- whether a cancel may choose a request: no other has, and it is no cancel itself (14). The second is what Linux 6.18 does
+-- whether any cancel finds a request of this operation, of these that are carried out outside of the core: none finds another cancel (14), nor a timeout that is linked behind a request (15). What Linux 6.18 does
+abbrev pub is_ever_found : Outstanding → Bool
+is_ever_found r = not (r.code == 14 || r.code == 15)
+
+-- whether a cancel may choose a request: no other has
 abbrev pub is_free : Outstanding → Bool
-is_free r = r.is_token && not r.is_cancelled && not (r.code == 14)
+is_free r = r.is_token && not r.is_cancelled && is_ever_found r
 
 -- whether a request that runs waits for something: for its descriptor, or as a timeout (11)
 abbrev pub is_waiting : Outstanding → Bool
 is_waiting r = r.is_stream || r.code == 11
 
--- whether a request can be found at all: it waits for something, or could start now. One behind a link or a drain can't; what the kernel does
+-- whether a kernel takes the entry of a request only behind a cancel that is carried out as its own is taken: one that was submitted behind it, where the cancel is behind no link and doesn't drain. What Linux 6.18 does
+abbrev pub is_taken_behind : (cancel : ℕ) → (is_linked drains : Bool) → (number : ℕ) → Bool
+is_taken_behind cancel is_linked drains number = not is_linked && not drains && nat_lt cancel number
+
+-- whether a request can be found at all: it waits for something, or could start now, before the cancel. One behind a link or a drain can't; what the kernel does
 abbrev pub can_be_found : Outstanding → Bool
 can_be_found r = is_free r && (if r.runs then is_waiting r else r.may_start)
 
@@ -77,20 +86,29 @@ abbrev pub first_of : Option Outstanding → Bool → Outstanding → Option Out
 first_of (Some found) fits r = Some found
 first_of None fits r = if fits then Some r else None
 
--- the oldest of these that a cancel by user data fits, where the core has found one that runs
+-- whether a cancel by user data looks for a running request, where the core has found one that runs
+abbrev pub is_meant : ℕ → Outstanding → Bool
+is_meant user_data r = r.user_data == user_data && is_ever_found r
+
+-- the oldest of these that it looks for
 abbrev pub oldest : ℕ → List Outstanding → Option Outstanding
 oldest user_data [] = None
-oldest user_data (r ∷ earlier) = first_of (oldest user_data earlier) (r.user_data == user_data) r
+oldest user_data (r ∷ earlier) = first_of (oldest user_data earlier) (is_meant user_data r) r
 
 -- whether a running request is cancelled then: it is the oldest, and waits for something. One that is carried out isn't
 abbrev pub is_stopped : ℕ → List Outstanding → Outstanding → Bool
 is_stopped user_data earlier r =
-    is_none (oldest user_data earlier) && r.user_data == user_data && not r.is_cancelled && is_waiting r
+    is_none (oldest user_data earlier) && is_meant user_data r && not r.is_cancelled && is_waiting r
 
 -- whether the cancel has cancelled the one that it found: that waits, or another cancel has chosen it
 abbrev pub has_cancelled : Option Outstanding → Bool
 has_cancelled None = false
 has_cancelled (Some r) = r.is_cancelled || is_waiting r
+
+-- what the core has found by Linux's rules, of one that it has ended so: nobody (-2, ENOENT) if all that runs is of operations that no cancel finds. By the manual pages' rules they are found
+abbrev pub found_by_core : ℤ → List Outstanding → ℕ → (linux : Bool) → ℤ
+found_by_core res seen user_data linux =
+    if linux && int_eq res (error 114) && is_none (oldest user_data seen) then error 2 else res
 
 -- glue: a search that has looked at these, the newest first
 pub record HasSought (user_data : ℕ) (seen : List Outstanding) (s : Search) : Type 0 where

@@ -9,11 +9,11 @@ abbrev pub has_some : ℕ → ℕ → Bool
 has_some flags bits = not (bit_and flags bits == 0)
 
 -- the clock of an absolute time: that of the flag, else CLOCK_MONOTONIC. A relative one has none: it lasts so long
-abbrev pub clock_of : ℕ → Option Clock
-clock_of flags =
-    if not (has_some flags 1) then None else
-    if has_some flags 4 then Some Boottime else
-    if has_some flags 8 then Some Realtime else Some Monotonic
+abbrev pub clock_of : Submission → Option Clock
+clock_of e =
+    if not (has_some e.op_flags 1) then None else
+    if has_some e.op_flags 4 then Some Boottime else
+    if has_some e.op_flags 8 then Some Realtime else Some Monotonic
 
 -- how long a timeout lasts: an absolute time for what is left of it by its clock now, a relative one as long as it says
 abbrev pub lasts : ℕ → Option ℕ → ℕ

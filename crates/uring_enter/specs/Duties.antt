@@ -74,6 +74,12 @@ before_sleep r has_fault = record nothing {
   watches_pipes = not has_fault && (r.runs || r.has_watches);
 }
 
+-- where nothing can go on, in a ring whose eventfd is registered: a request may wait for that, as a poll of it does. So what has ended is shown, of which the eventfd is told; once as a call begins and once behind each sleep, since of what such a poll ends with it is told too. A kernel tells it the moment that something ends
+abbrev pub when_stuck : Resting → (has_eventfd has_shown : Bool) → Duties
+when_stuck r has_eventfd has_shown = record nothing {
+  shows_ends = has_eventfd && not has_shown && r.has_ends;
+}
+
 -- whether those that wait for their descriptors become dormant, of which an epoll instance tells in the place of a look at each in each call: more of them run than are looked at in passing
 abbrev pub are_many : Resting → Bool
 are_many r = nat_lt r.looked_at r.waiting

@@ -1,14 +1,21 @@
 -- What a request's file is kept for, and what others hear of its end. Our own rules, but where it is said what a kernel does: there a request has its file from the moment in which it begins, and each write and each end is told as it comes.
-use Rattle.std.specs.Prelude.{ℕ, ℤ, Bool, not, ◌&&◌, ◌||◌, nat_lt}
+use Rattle.std.specs.Prelude.{◌≡◌, ℕ, ℤ, Bool, true, false, not, ◌&&◌, ◌||◌, nat_lt}
 use Rattle.std.specs.Ordering.{int_eq}
 
 -- whether a request keeps its file before a close is carried out: it was accepted before that, so that a kernel would have begun it, and is on the descriptor that is closed
 abbrev pub keeps_before_close : (number : ℕ) → (fd : ℤ) → (closing : ℕ) → (closed : ℤ) → Bool
 keeps_before_close number fd closing closed = nat_lt number closing && int_eq fd closed
 
--- whether the end of a request may close the last descriptor of a file that it keeps: no other of the application's is known to be open on it. That of a slot may be gone, and the number that its entry names may be another file's by now
-abbrev pub may_close_last : (has_file is_of_slot is_same : Bool) → Bool
-may_close_last has_file is_of_slot is_same = has_file && (is_of_slot || not is_same)
+-- whether the end of a request may have closed the last descriptor of a file that it has kept, by which others can go on, as who reads the other end of a pipe: others run, it has closed one, and no other of the application's is known to be open on the file. That of a slot may be gone, and the number that its entry names may be another file's by now
+abbrev pub may_close_last : (others : ℕ) → (was_closed has_file is_of_slot is_same : Bool) → Bool
+may_close_last others was_closed has_file is_of_slot is_same =
+    nat_lt 0 others && was_closed && has_file && (is_of_slot || not is_same)
+
+-- whether the number is another file's is asked where it matters alone
+abbrev pub AsksWhereItMatters : Type 0
+AsksWhereItMatters = (others : ℕ) (was_closed has_file is_same : Bool)
+    → (may_close_last 0 was_closed has_file false is_same ≡ false)
+    × (may_close_last others was_closed has_file true true ≡ may_close_last others was_closed has_file true false)
 
 -- whether a pipe counts as written to behind an event: it tells of a write to that pipe, or that events were dropped, among which there may have been such a one
 abbrev pub counts_as_written : (is_dropped is_write is_own : Bool) → Bool

@@ -75,6 +75,7 @@ pub mod Keeping
 pub mod Prospects
 pub mod Awaiting
 pub mod Syncing
+pub mod Splices
 pub mod Starts
 pub mod Following
 pub mod Passages
@@ -84,3 +85,5 @@ pub mod Lying
 pub mod Missed
 pub mod Storing
 pub mod Named
+pub mod Leaving
+pub mod PuttingOff

@@ -1,11 +1,12 @@
 -- By what the operation of an entry is carried out: which system call, and with which arguments; or what whoever keeps the ring does itself. io_uring_enter(2), at each operation, which names the call of section 2 that it is like: its fields are that call's arguments. The numbers of operations are those of <linux/io_uring.h>.
-use Rattle.std.specs.Prelude.{◌≡◌, ℕ, ◌-◌, Bool, true, not, ◌&&◌, ◌||◌, ◌==◌, nat_le, if◌then◌else◌}
+use Rattle.std.specs.Prelude.{◌≡◌, ℕ, ◌-◌, Bool, true, not, ◌&&◌, ◌||◌, ◌==◌, nat_le, Option, Some, None, if◌then◌else◌}
 use Rattle.std.specs.Int.RustNames.{bit_and, bit_or}
 use Rattle.uring_enter.specs.declared.submission.Submission.{Submission}
 use Rattle.uring_enter.specs.declared.system_call.SystemCall.{SystemCall}
 use Rattle.uring_enter.specs.declared.means.Held.{Held}
+use Rattle.uring_enter.specs.declared.means.Listed.{Listed}
 use Rattle.uring_enter.specs.declared.means.Means.{Means}
-use Rattle.uring_enter.specs.declared.means.Means.TheVariants.{Nothing, Transfer, Poll, Call, Opening, Sync, Close, Connect, Splice, Send, Receive, ReceiveMessage, SlotRemoval, FilesPlacing, FilesUpdate, Timeout, LinkedTimeout, Provision, ProvisionRemoval, Message, Others}
+use Rattle.uring_enter.specs.declared.means.Means.TheVariants.{Nothing, Transfer, Poll, Call, Opening, Sync, Close, Connect, Splice, Send, Receive, ReceiveMessage, SlotRemoval, FilesPlacing, FilesUpdate, Timeout, LinkedTimeout, Provision, ProvisionRemoval, Message, Cancel, PollRemoval, TimeoutRemoval}
 use Rattle.uring_enter.specs.Clocks.{has_some}
 use Rattle.uring_enter.specs.Layouts.{call_flags}
 use Rattle.uring_enter.specs.Needs.{is_transfer, is_send, is_of_sockets, is_splice, advised_length}
@@ -119,9 +120,14 @@ of_attributes e h =
     if e.opcode == 43 then Call (of_four sys.fgetxattr (word_of h.fd) h.second_path e.off e.len) else
     Call (of_four sys.getxattr h.path h.second_path e.off e.len)
 
+-- the descriptors of an update of files: `addr` is where their list begins, `len` how many they are
+abbrev pub listed_of : Submission → Listed
+listed_of e = record { address = e.addr; count = e.len }
+
 -- files are put into the table from a slot on, or, with IORING_FILE_INDEX_ALLOC (2^32 - 1), where there is room
 abbrev pub files_of : Submission → Means
-files_of e = if low e.off == 4294967295 then FilesPlacing else FilesUpdate (low e.off)
+files_of e =
+    if low e.off == 4294967295 then FilesPlacing (listed_of e) else FilesUpdate (low e.off) (listed_of e)
 
 -- operations on what the ring itself has
 abbrev pub of_ring : Submission → Means
@@ -129,7 +135,9 @@ of_ring e =
     -- POLL_ADD
     if e.opcode == 6 then Poll else
     -- POLL_REMOVE, TIMEOUT_REMOVE and ASYNC_CANCEL
-    if e.opcode == 7 || e.opcode == 12 || e.opcode == 14 then Others else
+    if e.opcode == 7 then PollRemoval else
+    if e.opcode == 12 then TimeoutRemoval else
+    if e.opcode == 14 then Cancel else
     -- TIMEOUT and LINK_TIMEOUT
     if e.opcode == 11 then Timeout else
     if e.opcode == 15 then LinkedTimeout else
@@ -151,7 +159,11 @@ asks_descriptors code = code == 13 || code == 16 || code == 30 || code == 33
 abbrev pub asks_end : (is_pipe is_regular : Bool) → Bool
 asks_end is_pipe is_regular = not is_pipe && not is_regular
 
--- an operation of sockets, a splice or a tee never sleeps in its call, whoever else uses its descriptors: the call has the flags of a message, with MSG_DONTWAIT among them (`call_flags`), or its descriptors are asked not to wait
+-- a pipe's end that is open to read alone (O_RDONLY, 0) is shared with others who ask it so and take that back, and no lock keeps them away, since a file is locked to be written by who can write it. fcntl(2), F_SETLK. So for a call that has no flag it is opened once more, by its name in /proc, not to wait (O_NONBLOCK, 2048), and to be closed in a program that is started (O_CLOEXEC, 524288); nobody else has that. Our own rule
+abbrev pub asks_anew : (is_pipe : Bool) → (access : ℕ) → Option ℕ
+asks_anew is_pipe access = if is_pipe && access == 0 then Some 526336 else None
+
+-- the call of an operation of sockets, of a splice or a tee is asked not to wait: it has the flags of a message, with MSG_DONTWAIT among them (`call_flags`), or its descriptors are asked while it is made. It says no more than that: of two processes that use one descriptor, each may take back what the other has asked of it
 abbrev pub CallsNeverSleep : Type 0
 CallsNeverSleep = (e : Submission) → is_of_sockets e.opcode || is_splice e.opcode ≡ true
     → has_message_flags e.opcode || asks_descriptors e.opcode ≡ true

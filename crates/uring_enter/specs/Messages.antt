@@ -1,10 +1,11 @@
 -- What a message to another ring does. io_uring_enter(2), IORING_OP_MSG_RING; the order of its faults, and which bits of a field count, is what Linux 6.18 does.
-use Rattle.std.specs.Prelude.{ℕ, ℤ, Bool, not, ◌&&◌, ◌||◌, ◌==◌, Option, Some, None, if◌then◌else◌}
+use Rattle.std.specs.Prelude.{◌≡◌, ℕ, ℤ, Bool, true, false, not, ◌&&◌, ◌||◌, ◌==◌, nat_lt, Option, Some, None, if◌then◌else◌}
 use Rattle.std.specs.Int.{w32, cast_signed}
 use Rattle.std.specs.Int.RustNames.{bit_and}
 use Rattle.uring_enter.specs.declared.submission.Submission.{Submission}
 use Rattle.uring_enter.specs.declared.message.Receiver.{Receiver}
 use Rattle.uring_enter.specs.declared.message.Message.{Message}
+use Rattle.uring_enter.specs.declared.message.MessageSteps.{MessageSteps}
 use Rattle.uring_enter.specs.declared.message.Sending.{Sending}
 use Rattle.uring_enter.specs.declared.message.Sending.TheVariants.{Fails, Posts, Passes}
 use Rattle.uring_enter.specs.Clocks.{has_some}
@@ -57,3 +58,47 @@ told_of e res =
     if is_below res || has_some e.op_flags 1 then None else
     if low e.addr == 0 then Some (message_of e) else
     Some (record { user_data = e.off; res = res; flags = 0 })
+
+pub data MessageStep : Type 0 where
+  HasMemory : MessageStep
+  FindsFile : MessageStep
+  PassesFile : MessageStep
+  Tells : MessageStep
+
+-- the place of a step: they are done by rising places, until one fails, with whose fault the message ends
+abbrev pub place : MessageStep → ℕ
+place HasMemory = 0
+place FindsFile = 1
+place PassesFile = 2
+place Tells = 3
+
+abbrev pub is_done : MessageSteps → MessageStep → Bool
+is_done s HasMemory = s.has_memory
+is_done s FindsFile = s.finds_file
+is_done s PassesFile = s.passes_file
+is_done s Tells = s.tells
+
+abbrev pub is_sent : Sending → Bool
+is_sent (Fails _) = false
+is_sent Posts = true
+is_sent Passes = true
+
+abbrev pub passes : Sending → Bool
+passes (Fails _) = false
+passes Posts = false
+passes Passes = true
+
+-- what is done for a message: there is memory for what the other ring is told, so that no file is put into its table of which it can't be told, our own rule; then a file is looked for in the sender's own slot, -9 (EBADF), before the other ring's table is looked at, as Linux does it, and passed; and the other ring is told. Of one that has failed nothing is
+abbrev pub message_steps : Sending → MessageSteps
+message_steps s = record { has_memory = is_sent s; finds_file = passes s; passes_file = passes s; tells = is_sent s }
+
+-- whether a step that is done comes before another
+abbrev pub comes_before : MessageSteps → MessageStep → MessageStep → Bool
+comes_before s first second = is_done s first && is_done s second && nat_lt (place first) (place second)
+
+-- where a file is passed, it was found before, there is memory for what the other ring is told of it, and that is told behind
+abbrev pub PassesWhatCanBeTold : Type 0
+PassesWhatCanBeTold = (s : Sending) → is_done (message_steps s) PassesFile ≡ true
+    → (comes_before (message_steps s) HasMemory PassesFile ≡ true)
+    × (comes_before (message_steps s) FindsFile PassesFile ≡ true)
+    × (comes_before (message_steps s) PassesFile Tells ≡ true)

@@ -1,5 +1,6 @@
 -- What carrying out an operation needs, and of which kind it is, by lists of operations. io_uring_enter(2), at each operation; the numbers are those of <linux/io_uring.h>.
-use Rattle.std.specs.Prelude.{ℕ, Bool, false, not, ◌&&◌, ◌||◌, ◌==◌, ◌^◌, if◌then◌else◌}
+use Rattle.std.specs.Prelude.{ℕ, pos, Bool, false, not, ◌&&◌, ◌||◌, ◌==◌, ◌^◌, if◌then◌else◌}
+use Rattle.std.specs.Int.{w32, cast_signed}
 use Rattle.std.specs.Int.RustNames.{bit_and, bit_or}
 use Rattle.uring_enter.specs.declared.submission.Submission.{Submission}
 use Rattle.uring_enter.specs.declared.needs.Needs.{Needs}
@@ -135,7 +136,7 @@ abbrev pub sought_of : Submission → ℕ
 sought_of e =
     set_of (is_sought e File) (is_sought e Second) (is_sought e Openness) (is_sought e Buffer) (is_sought e Kind)
 
--- TIMEOUT is 11; IOSQE_FIXED_FILE is 1, SPLICE_F_FD_IN_FIXED 2^31 and IOSQE_BUFFER_SELECT 32
+-- TIMEOUT is 11; IOSQE_FIXED_FILE is 1, SPLICE_F_FD_IN_FIXED 2^31 and IOSQE_BUFFER_SELECT 32. Its file stands in `fd`, the one that a splice reads from in `splice_fd_in`, which is `file_index` with a sign, and its registered buffer in `buf_index`
 abbrev pub needs_of : Submission → Needs
 needs_of e = record {
   needs_file = needs_file e.opcode || wants_file e;
@@ -155,6 +156,9 @@ needs_of e = record {
   fills_buffer = fills_buffer e;
   is_zero_copy = is_zero_copy e.opcode;
   events = events_of e;
+  fd = e.fd;
+  second_fd = cast_signed w32 e.file_index;
+  buffer = e.buf_index;
   sought = sought_of e;
 }
 
@@ -178,6 +182,9 @@ nothing = record {
   fills_buffer = false;
   is_zero_copy = false;
   events = 0;
+  fd = pos 0;
+  second_fd = pos 0;
+  buffer = 0;
   sought = 0;
 }
 

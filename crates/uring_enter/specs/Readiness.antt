@@ -13,7 +13,7 @@ use Rattle.uring_enter.specs.declared.ready.Look.{Look}
 use Rattle.uring_enter.specs.declared.ready.Look.TheVariants.{Asks, Waits, Finishes}
 use Rattle.uring_entry.specs.Errors.{is_below}
 use Rattle.uring_enter.specs.Clocks.{has_some}
-use Rattle.uring_enter.specs.Needs.{is_transfer, is_of_sockets, is_splice, takes_urgent}
+use Rattle.uring_enter.specs.Needs.{is_transfer, is_write, is_of_sockets, is_splice, takes_urgent}
 
 -- one that is to take a provided buffer, and has found none since it started, ends so, whatever its descriptor has. One that has found one waits for its descriptor, whatever becomes of that buffer: it takes what its group has then. So Linux 6.18 was seen to do
 abbrev pub finds_what_it_wants : Standing → Needs → Moment → Bool
@@ -141,13 +141,23 @@ is_impatient_transfer e length = has_some e.op_flags 8 || length == 0 && not (ha
 abbrev pub is_begun_at_once : Submission → Bool
 is_begun_at_once e = e.opcode == 16 || is_splice e.opcode || takes_urgent e
 
--- one that doesn't wait whatever its descriptor has: it has failed when it started, its socket listens, so that it ends with an error (-107, ENOTCONN), it opens a path (OPENAT, 18, and OPENAT2, 28), it is to be begun, it is a transfer as above, or it is asked not to wait by MSG_DONTWAIT (64)
+-- its socket was asked whether it listens, and is of no use to it: a transfer or a message of one that does ends with an error, as -107 (ENOTCONN) or -32 (EPIPE), and an ACCEPT (13) of one that doesn't, with -22 (EINVAL) or -95 (EOPNOTSUPP). listen(2), accept(2)
+abbrev pub is_in_vain : Submission → Patience → Bool
+is_in_vain e p =
+    if e.opcode == 13 then p.knows_listening && not p.is_listening else
+    p.knows_listening && p.is_listening && (is_transfer e.opcode || has_message_flags e.opcode)
+
+-- one that doesn't wait whatever its descriptor has: it has failed when it started, its socket is of no use to it, it opens a path (OPENAT, 18, and OPENAT2, 28), it is to be begun, it is a transfer as above, or it is asked not to wait by MSG_DONTWAIT (64)
 abbrev pub is_impatient : Submission → Patience → Bool
 is_impatient e p =
-    p.has_failed || p.is_listening || e.opcode == 18 || e.opcode == 28
+    p.has_failed || is_in_vain e p || e.opcode == 18 || e.opcode == 28
     || is_begun_at_once e && not p.has_begun
     || has_message_flags e.opcode && has_some e.op_flags 64
     || is_transfer e.opcode && is_impatient_transfer e p.length
+
+-- whether one that wasn't found ready as it starts is carried out once all the same, and waits only then: a write to a pipe, which may have room in its last page where poll(2) finds none. pipe(7); Linux 6.18 carries each out before it polls
+abbrev pub is_tried_first : Submission → (is_pipe : Bool) → Bool
+is_tried_first e is_pipe = is_pipe && is_write e.opcode
 
 -- a splice or a tee waits for what it reads from, by POLLIN (1), and once that is ready for what it writes to, by POLLOUT (4). poll(2); which comes first is our own rule
 abbrev pub splice_poll : (is_source_ready : Bool) → SplicePoll

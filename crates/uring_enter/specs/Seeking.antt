@@ -1,5 +1,5 @@
--- What a cancel or a removal looks for, by its entry. io_uring_enter(2), IORING_OP_ASYNC_CANCEL, IORING_OP_POLL_REMOVE and IORING_OP_TIMEOUT_REMOVE.
-use Rattle.std.specs.Prelude.{ℕ, ℤ, pos, Bool, not, ◌&&◌, ◌||◌, ◌==◌, if◌then◌else◌}
+-- What a cancel or a removal looks for, by its entry, or by the call that makes it. io_uring_enter(2), IORING_OP_ASYNC_CANCEL, IORING_OP_POLL_REMOVE and IORING_OP_TIMEOUT_REMOVE; io_uring_register(2), IORING_REGISTER_SYNC_CANCEL.
+use Rattle.std.specs.Prelude.{ℕ, ℤ, pos, Bool, false, not, ◌&&◌, ◌||◌, ◌==◌, if◌then◌else◌}
 use Rattle.std.specs.Int.{w32, cast_unsigned}
 use Rattle.uring_enter.specs.declared.submission.Submission.{Submission}
 use Rattle.uring_enter.specs.declared.cancel.Sought.{Sought}
@@ -25,6 +25,20 @@ sought_of e =
       is_by_fd = is_cancel && has_some e.op_flags 2;
       is_fixed = is_cancel && (has_some e.op_flags 8 || has_some e.flags 1);
     }
+
+-- a cancel of io_uring_register(2) looks as the entry of a cancel does with the same user data, descriptor and flags: by user data, or as these say
+abbrev pub sought_by_call : ℕ → ℤ → ℕ → Sought
+sought_by_call user_data fd flags = record {
+  user_data = user_data;
+  file = 0;
+  fd = cast_unsigned w32 fd;
+  code = 0;
+  is_of_operation = false;
+  is_any = has_some flags 4;
+  is_all = has_some flags 1;
+  is_by_fd = has_some flags 2;
+  is_fixed = has_some flags 8;
+}
 
 -- -9 (EBADF) where it looks by a descriptor that isn't open, or by a slot that has no file; then it looks at nothing. What Linux 6.18 does
 abbrev pub seeking_fault : Sought → Bool → ℤ

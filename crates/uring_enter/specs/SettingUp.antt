@@ -65,6 +65,10 @@ IsRefusedWith a fault =
     ((is_malformed a ≡ true) ⊎ HasNoSizes a) × (fault ≡ error 22)
     ⊎ (is_malformed a ≡ false) × ((s : Setup) × IsSetupFor (asked_sq a) (asked_cq a) 1 0 s) × (is_below (place_fault a) ≡ true) × (fault ≡ place_fault a)
 
+-- IORING_SETUP_SQPOLL: the ring has a thread that takes its entries. Who wakes it takes what it would have taken, by rounds (`Rounds`); on another ring a call takes its own
+abbrev pub has_thread : ℕ → Bool
+has_thread flags = has_some flags 2
+
 -- what a ring can do: IORING_FEAT_NODROP (2), SUBMIT_STABLE (4), RW_CUR_POS (8), CUR_PERSONALITY (16), FAST_POLL (32), SQPOLL_NONFIXED (128), EXT_ARG (256), NATIVE_WORKERS (512), RSRC_TAGS (1024), CQE_SKIP (2048) and LINKED_FILE (4096); and SINGLE_MMAP (1)
 abbrev pub features : Bool → ℕ
 features one =

@@ -1,8 +1,9 @@
--- SIGXFSZ, which comes of a call that makes a file longer than a process may have one. setrlimit(2), RLIMIT_FSIZE. In a kernel a worker of its own makes the call, and the program gets no signal: what Linux 6.18 was seen to do.
+-- SIGXFSZ, which comes of a call that makes a file longer than a process may have one, and SIGPIPE, of one that writes to what nobody reads. setrlimit(2), RLIMIT_FSIZE; pipe(7). Where in a kernel a worker of its own makes the call, the program gets no signal: what Linux 6.18 was seen to do.
 use Rattle.std.specs.Prelude.{ℕ, ℤ, pos, ◌^◌, ◌-◌, Bool, false, not, ◌&&◌, ◌||◌, ◌==◌, Option, Some, None}
 use Rattle.std.specs.Ordering.{int_eq}
 use Rattle.uring_enter.specs.declared.submission.Submission.{Submission}
-use Rattle.uring_enter.specs.Needs.{is_write}
+use Rattle.uring_enter.specs.Clocks.{has_some}
+use Rattle.uring_enter.specs.Needs.{is_write, is_splice}
 use Rattle.uring_entry.specs.Errors.{error}
 
 -- a write, FALLOCATE (17) or SPLICE (30) may have had one that ends with -27 (EFBIG)
@@ -10,7 +11,12 @@ abbrev pub may_signal : Submission → ℤ → Bool
 may_signal e res =
     (is_write e.opcode || e.opcode == 17 || e.opcode == 30) && int_eq res (error 27)
 
--- whether the kernel may send one at all, by the greatest length that the process may give a file (getrlimit(2), RLIMIT_FSIZE), if that is known: 2^64 - 1 (RLIM_INFINITY) limits nothing, and -27 is the file system's own then. Where it isn't known nothing is taken back: our own rule
+-- a splice or a tee, or a write that a worker makes since IOSQE_ASYNC (16) asks for it, may have had SIGPIPE that ends with -32 (EPIPE). Another write makes its call itself, and its program gets the signal
+abbrev pub may_break : Submission → ℤ → Bool
+may_break e res =
+    (is_splice e.opcode || is_write e.opcode && has_some e.flags 16) && int_eq res (error 32)
+
+-- whether the kernel may send a SIGXFSZ at all, by the greatest length that the process may give a file (getrlimit(2), RLIMIT_FSIZE), if that is known: 2^64 - 1 (RLIM_INFINITY) limits nothing, and -27 is the file system's own then. Where it isn't known nothing is taken back: our own rule
 abbrev pub is_limited : Option ℕ → Bool
 is_limited (Some bytes) = not (bytes == 2 ^ 64 - 1)
 is_limited None = false

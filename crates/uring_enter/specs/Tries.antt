@@ -78,7 +78,7 @@ asks_descriptor _ = false
 abbrev pub never_sleeps : Transfer → Bool
 never_sleeps t = t.is_tried || not t.is_stream || t.is_impatient
 
--- a call is made only in a way that doesn't sleep. That its descriptor was found ready just before isn't enough: whoever else uses that may have taken what there was
+-- each call is asked not to wait, or its descriptor is for as long as it is made, or neither would wait. That its descriptor was found ready just before isn't enough: whoever else uses that may have taken what there was. It says no more than how the call is made: of two processes that use one descriptor, each may take back what the other has asked of it
 abbrev pub SleepsNever : Type 0
 SleepsNever = (t : Transfer) (last : Option Task) (res : ℤ) (how : How) → next_of t last res ≡ Does (Calls how)
     → asks_not_to_wait how || asks_descriptor how || never_sleeps t ≡ true

@@ -3,8 +3,6 @@ use Rattle.std.specs.Prelude.{ℕ, ℤ, pos, Bool, ◌&&◌, ◌==◌, if◌then
 use Rattle.std.specs.Int.RustNames.{bit_and, bit_or}
 use Rattle.uring_enter.specs.declared.submission.Submission.{Submission}
 use Rattle.uring_enter.specs.declared.update.Linked.{Linked}
-use Rattle.uring_enter.specs.declared.update.Poll.{Poll}
-use Rattle.uring_enter.specs.declared.update.Terms.{Terms}
 use Rattle.uring_enter.specs.declared.update.Removal.{Removal}
 use Rattle.uring_enter.specs.declared.update.Removal.TheVariants.{Cancel, Update, UpdateLinked}
 use Rattle.uring_enter.specs.Clocks.{has_some}
@@ -28,17 +26,17 @@ timeout_removal e =
 abbrev pub updates_linked : ℕ → Linked → Bool
 updates_linked user_data seen = seen.is_linked && seen.runs && seen.user_data == user_data
 
--- a poll keeps what isn't updated, and goes on, or doesn't, as before, whether or not the update has IORING_POLL_ADD_MULTI: what Linux 6.18 was seen to do
-abbrev pub updated_poll : Poll → Submission → Poll
-updated_poll p e = record {
+-- a poll keeps what isn't updated, and goes on, or doesn't, as before, whether or not the update has IORING_POLL_ADD_MULTI: what Linux 6.18 was seen to do. Its events are those of `poll32_events`, and so are the new ones; its new user data is `off`
+abbrev pub updated_poll : Submission → Submission → Submission
+updated_poll p e = record p {
   user_data = if has_some e.len 4 then e.off else p.user_data;
-  events = if has_some e.len 2 then e.op_flags else p.events;
+  op_flags = if has_some e.len 2 then e.op_flags else p.op_flags;
 }
 
 -- whether the new time is absolute the update says: IORING_TIMEOUT_ABS is 1. Its clock is that of the timeout, which keeps all other flags of 32 bits: what Linux 6.18 was seen to do
 abbrev pub updated_flags : ℕ → Submission → ℕ
 updated_flags flags e = bit_or (bit_and flags 4294967294) (bit_and e.op_flags 1)
 
--- its new time is all that it waits for then: it has no count any more, be it one that has started or not. What Linux 6.18 does
-abbrev pub updated_terms : Terms → Submission → Terms
-updated_terms t e = record { count = 0; flags = updated_flags t.flags e }
+-- its new time is all that a timeout waits for then: it has no count any more, which `off` was, be it one that has started or not. What Linux 6.18 does
+abbrev pub updated_timeout : Submission → Submission → Submission
+updated_timeout t e = record t { off = 0; op_flags = updated_flags t.op_flags e }

@@ -1,6 +1,8 @@
 -- What a ring's descriptor polls for, by the requests that wait for one descriptor. epoll_ctl(2): a number that is closed and opened again is another file, which isn't polled for. That a descriptor is polled for afresh once another request waits for it is our own rule.
-use Rattle.std.specs.Prelude.{◌≡◌, ℕ, max, ◌&&◌, ◌==◌, List, [], ◌∷◌, Option, Some, None, if◌then◌else◌}
+use Rattle.std.specs.Prelude.{◌≡◌, ℕ, max, Bool, true, ◌&&◌, ◌==◌, List, [], ◌∷◌, Option, Some, None, if◌then◌else◌}
 use Rattle.std.specs.Int.RustNames.{bit_or}
+use Rattle.uring_enter.specs.Duties.{polls_writes, polls_instance}
+use Rattle.uring_enter.specs.declared.watched.Besides.{Besides}
 use Rattle.uring_enter.specs.declared.watched.Watched.{Watched}
 use Rattle.uring_enter.specs.declared.watched.Watch.{Watch}
 use Rattle.uring_enter.specs.declared.watched.Watch.TheVariants.{Stays, Adds, Removes, Renews}
@@ -31,3 +33,14 @@ change_of None (Some after) = Adds
 change_of (Some before) None = Removes
 change_of (Some before) (Some after) =
     if before.events == after.events && before.begun == after.begun then Stays else Renews
+
+-- beside what its requests wait for, a ring's descriptor polls for what tells of writes to pipes where any are watched, as a sleep does; and for the epoll instance of those that are dormant as long as there is one, whether any are: so nothing is changed of it as requests become dormant and are roused. Our own rule
+abbrev pub polls_besides : (watched : ℕ) → (has_instance : Bool) → Besides
+polls_besides watched has_instance = record { writes = polls_writes watched; instance = has_instance }
+
+-- whoever polls the descriptor hears of what a call that sleeps would hear of, if there is an instance where any are dormant
+abbrev pub PollsWhatASleepDoes : Type 0
+PollsWhatASleepDoes = (watched dormant : ℕ) (has_instance : Bool)
+    → (polls_instance dormant ≡ true → has_instance ≡ true)
+    → (polls_writes watched ≡ true → (polls_besides watched has_instance).writes ≡ true)
+    × (polls_instance dormant ≡ true → (polls_besides watched has_instance).instance ≡ true)

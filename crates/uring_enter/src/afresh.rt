@@ -4,7 +4,7 @@ ghost use Rattle.std.specs.Prelude.{◌≡◌, List};
 ghost use Rattle.uring_enter.specs.declared.act.Fact.{Fact};
 ghost use Rattle.uring_enter.specs.Courses.{KeepsCourse};
 ghost use Rattle.uring_enter.specs.Afresh as spec;
-ghost use Rattle.uring_enter.specs.Afresh.{AsksForTheStart, EndsAtOnce};
+ghost use Rattle.uring_enter.specs.Afresh.{AsksForTheStart, EndsAtOnce, AsksWhatWasChanged};
 
 use crate::course::Course;
 
@@ -21,9 +21,52 @@ pub enum Awaited {
     Waits,
 }
 
+/// What the update of a poll does with it, in the order in which it stands here.
+#[derive(Clone, Copy, Drop)]
+pub struct Changing {
+    /// It is dormant no more.
+    pub rouses: bool,
+
+    /// No epoll instance of the ring's has its descriptor any more.
+    pub delists: bool,
+
+    /// It gets what the update names.
+    pub changes: bool,
+
+    /// Its own instance, which was asked for its events so far, is watched no more.
+    pub unwatches: bool,
+
+    /// It asks for its events.
+    pub asks_events: bool,
+
+    /// Its descriptor is looked at.
+    pub looks: bool,
+}
+
+/// The same, where it begins it afresh or doesn't.
+fn changing_by(begins_afresh: bool) -> Changing
+    ensures { result ≡ spec.changing_by begins_afresh }
+{
+    Changing {
+        rouses: true,
+        delists: true,
+        changes: true,
+        unwatches: begins_afresh,
+        asks_events: begins_afresh,
+        looks: begins_afresh,
+    }
+}
+
 impl Course {
+    /// What the update of a poll does with it. One that runs is begun afresh.
+    pub fn steps_at_update(&self) -> Changing
+        ensures { (log : List Fact) → KeepsCourse log self.now → result ≡ spec.at_update log }
+    {
+        changing_by(self.begins_afresh())
+    }
+
     /// Whether the update of a poll begins it afresh: it runs.
-    pub fn begins_afresh(&self) -> bool
+    fn begins_afresh(&self) -> bool
         ensures { (log : List Fact) → KeepsCourse log self.now → result ≡ spec.begins_afresh log }
     {
         self.has_started && !self.has_ended
@@ -56,6 +99,11 @@ impl Course {
 /// Whoever a cancel by io_uring_register(2) waits for ends the moment that it goes on: so the cancel's time limit isn't over before, however short it is.
 pub fn ends_at_once()
     ensures { EndsAtOnce }
+{}
+
+/// A poll that is begun afresh asks for the events that it has got, behind all that told of those which it had, and is looked at last.
+pub fn asks_what_was_changed()
+    ensures { AsksWhatWasChanged }
 {}
 
 /// Where it isn't asked whether the request may start, it doesn't matter.

@@ -1,7 +1,7 @@
 //! The last arguments of a call: whether they are read, and which are refused. io_uring_enter(2), IORING_ENTER_EXT_ARG.
 
 ghost use Rattle.std.specs.Prelude.{◌≡◌};
-ghost use Rattle.uring_enter.specs.Arguments.{is_read, argument_fault, mask_fault, with_fault};
+ghost use Rattle.uring_enter.specs.Arguments.{is_extended, is_read, argument_fault, mask_fault, with_fault};
 
 /// The last argument of a call, as far as it was read.
 #[repr(C)]
@@ -21,6 +21,13 @@ pub struct Argument {
 
     /// The time can be read.
     pub is_time_readable: bool,
+}
+
+/// Whether the last argument of a call with these flags is a structure of a mask and a time. IORING_ENTER_EXT_ARG.
+pub fn is_extended(flags: u32) -> bool
+    ensures { result ≡ is_extended flags }
+{
+    flags & 8 != 0
 }
 
 /// Whether a call reads its last argument that is asked to submit so many entries, and whose submission came to this.

@@ -157,6 +157,13 @@ fn has_bad_processor(asked: &AskedRing) -> bool
         }
 }
 
+/// Whether a ring with these flags has a thread that takes its entries: then a call submits by rounds. IORING_SETUP_SQPOLL.
+pub fn has_thread(flags: u32) -> bool
+    ensures { result ≡ spec.has_thread flags }
+{
+    flags & 2 != 0
+}
+
 /// What a ring can do, as its set-up tells it, whose rings stand in one mapping or in two.
 pub fn features(is_one_mapping: bool) -> u32
     ensures { result ≡ spec.features is_one_mapping }

@@ -3,8 +3,10 @@
 ghost use Rattle.std.specs.Prelude.{◌≡◌};
 ghost use Rattle.uring_enter.specs.CallResults as spec;
 
+use crate::needs::{goes_on, is_read, is_receive};
 use crate::no_op::signed;
 use crate::submission::Submission;
+use crate::waiting_call::is_asked;
 
 /// Whether a connect that came to this goes on without its call: it isn't made again.
 pub fn has_begun(came_to: i32) -> bool
@@ -25,6 +27,29 @@ pub fn told_result(came_to: i32, is_told: bool) -> i32
     ensures { result ≡ spec.told_result came_to is_told }
 {
     if is_told { came_to } else { -14 }
+}
+
+/// Whether it matters behind a call of this entry that came to this whether its socket was shut down for reading.
+pub fn asks_shut(entry: &Submission, came_to: i32) -> bool
+    ensures { result ≡ spec.asks_shut entry.now came_to }
+{
+    if came_to != -11 || goes_on(entry) {
+        false
+    } else {
+        is_receive(entry.opcode) && !is_asked(entry)
+            || is_read(entry.opcode) && entry.op_flags & 8 == 0
+    }
+}
+
+/// What a call counts as that came to this, where its socket was shut down for reading or wasn't.
+pub fn shut_result(came_to: i32, is_shut: bool) -> i32
+    ensures { result ≡ spec.shut_result came_to is_shut }
+{
+    if came_to == -11 && is_shut {
+        0
+    } else {
+        came_to
+    }
 }
 
 /// What a file ends with that was put into this slot, where its entry asked for that one or for any.

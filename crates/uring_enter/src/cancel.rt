@@ -4,7 +4,7 @@ ghost use Rattle.std.specs.Prelude.{◌≡◌, List, [], ◌∷◌};
 ghost use Rattle.uring_enter.specs.declared.cancel.Outstanding.{Outstanding};
 ghost use Rattle.uring_enter.specs.declared.cancel.Sought.{Sought};
 ghost use Rattle.uring_enter.specs.Cancels as spec;
-ghost use Rattle.uring_enter.specs.Cancels.{is_of_all, fits, fits_fd, is_free, is_waiting, can_be_found, one_more, result_of, is_cancelled, is_asked, HasSeen};
+ghost use Rattle.uring_enter.specs.Cancels.{is_of_all, fits, fits_fd, is_ever_found, is_free, is_waiting, can_be_found, one_more, result_of, is_cancelled, is_asked, HasSeen};
 
 /// What a cancel looks for, and whether it is content with one.
 #[repr(C)]
@@ -74,7 +74,7 @@ pub struct Outstanding {
     /// It may have to wait for its descriptor.
     pub is_stream: bool,
 
-    /// Of one that doesn't run: it could start now.
+    /// Of one that doesn't run: it could start now, and isn't taken only behind the cancel.
     pub may_start: bool,
 }
 
@@ -171,11 +171,18 @@ fn fits_fd(sought: Sought, request: &Outstanding) -> bool
     }
 }
 
-/// Whether a cancel may choose a request: no other has, and it is no cancel itself.
+/// Whether any cancel finds a request of this operation: none finds another, nor a timeout that is linked behind a request.
+pub(crate) fn is_ever_found(request: &Outstanding) -> bool
+    ensures { result ≡ is_ever_found request.now }
+{
+    !matches!(request.code, 14 | 15)
+}
+
+/// Whether a cancel may choose a request: no other has.
 fn is_free(request: &Outstanding) -> bool
     ensures { result ≡ is_free request.now }
 {
-    request.is_token && !request.is_cancelled && request.code != 14
+    request.is_token && !request.is_cancelled && is_ever_found(request)
 }
 
 /// Whether a cancel looks for user data, so that it need be shown those requests alone that have its own.
@@ -190,6 +197,13 @@ pub fn is_waiting(request: &Outstanding) -> bool
     ensures { result ≡ is_waiting request.now }
 {
     request.is_stream || request.code == 11
+}
+
+/// Whether a kernel takes the entry of the request of this number only behind a cancel of that number, which is behind a link or isn't, and drains or doesn't.
+pub fn is_taken_behind(cancel: u64, is_linked: bool, drains: bool, number: u64) -> bool
+    ensures { result ≡ spec.is_taken_behind cancel is_linked drains number }
+{
+    !is_linked && !drains && cancel < number
 }
 
 /// Whether a request can be found at all.

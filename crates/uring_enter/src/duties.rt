@@ -107,6 +107,16 @@ pub fn duties_before_sleep(resting: &Resting, has_fault: bool) -> Duties
     }
 }
 
+/// Where nothing can go on, in a ring whose eventfd is registered or isn't, and in which this was done since the call began or last slept, or wasn't.
+pub fn duties_when_stuck(resting: &Resting, has_eventfd: bool, has_shown: bool) -> Duties
+    ensures { result ≡ spec.when_stuck resting.now has_eventfd has_shown }
+{
+    Duties {
+        shows_ends: has_eventfd && !has_shown && resting.has_ends,
+        ..NONE
+    }
+}
+
 /// As a call falls asleep.
 pub fn duties_at_rest(resting: &Resting) -> Duties
     ensures { result ≡ spec.at_rest resting.now }

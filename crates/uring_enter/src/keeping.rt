@@ -2,6 +2,7 @@
 
 ghost use Rattle.std.specs.Prelude.{◌≡◌};
 ghost use Rattle.uring_enter.specs.Keeping as spec;
+ghost use Rattle.uring_enter.specs.Keeping.{AsksWhereItMatters};
 
 /// Whether the request of this number, on this descriptor, keeps its file before a close is carried out, which has a number too and closes another descriptor or the same.
 pub fn keeps_before_close(number: u64, fd: i32, closing: u64, closed: i32) -> bool
@@ -10,12 +11,23 @@ pub fn keeps_before_close(number: u64, fd: i32, closing: u64, closed: i32) -> bo
     number < closing && fd == closed
 }
 
-/// Whether the end of a request may close the last descriptor of a file that it keeps, if it keeps one: of a slot or not, and the one that its entry names is open on the same file or not.
-pub fn may_close_last(has_file: bool, is_of_slot: bool, is_same: bool) -> bool
-    ensures { result ≡ spec.may_close_last has_file is_of_slot is_same }
+/// Whether the end of a request may have closed the last descriptor of a file that it has kept, if it has kept one: of a slot or not, and the one that its entry names is open on the same file or not; so that others are looked at again, of which so many run. `was_closed`: it has closed one.
+pub fn may_close_last(
+    others: u64,
+    was_closed: bool,
+    has_file: bool,
+    is_of_slot: bool,
+    is_same: bool,
+) -> bool
+    ensures { result ≡ spec.may_close_last others was_closed has_file is_of_slot is_same }
 {
-    has_file && (is_of_slot || !is_same)
+    others > 0 && was_closed && has_file && (is_of_slot || !is_same)
 }
+
+/// Whether a descriptor is open on the same file matters only if others run, and to a file that isn't a slot's.
+pub fn asks_whether_same()
+    ensures { AsksWhereItMatters }
+{}
 
 /// Whether a pipe counts as written to behind an event that tells of dropped events, or of a write, to this pipe or another.
 pub fn counts_as_written(is_dropped: bool, is_write: bool, is_own: bool) -> bool

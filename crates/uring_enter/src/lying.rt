@@ -34,6 +34,13 @@ impl Waiter {
     }
 }
 
+/// Whether the instance takes the descriptor of a request that is to be dormant: its file is kept, or the descriptor is that of an instance of the request's own. Our own rule.
+pub fn takes_descriptor(keeps_file: bool, has_own: bool) -> bool
+    ensures { result ≡ spec.takes_descriptor keeps_file has_own }
+{
+    keeps_file || has_own
+}
+
 /// What an instance's answer makes of who asks it, where it tells of so many at most at once. `came`: of how many it has told, or below 0.
 pub fn answer_of(came: i32, most: i32) -> Answered
     ensures { result ≡ spec.answer_of came most }

@@ -42,6 +42,16 @@ pub struct Held {
     pub offset_out: u64,
 }
 
+/// A list of descriptors, whose files are put into slots.
+#[repr(C)]
+#[derive(Clone, Copy, Drop)]
+pub struct Listed {
+    /// Where the first stands.
+    pub address: u64,
+
+    pub count: u32,
+}
+
 /// By what an operation is carried out.
 #[derive(Clone, Copy, Drop)]
 pub enum Means {
@@ -85,10 +95,10 @@ pub enum Means {
     SlotRemoval(u32),
 
     /// Files are put where there is room,
-    FilesPlacing,
+    FilesPlacing(Listed),
 
     /// or from this slot on.
-    FilesUpdate(u32),
+    FilesUpdate(u32, Listed),
 
     Timeout,
 
@@ -103,8 +113,14 @@ pub enum Means {
     /// A message to a ring.
     Message,
 
-    /// A cancel or a removal of other requests.
-    Others,
+    /// A cancel of other requests,
+    Cancel,
+
+    /// or the removal of a poll,
+    PollRemoval,
+
+    /// or of a timeout.
+    TimeoutRemoval,
 }
 
 /// Whether the descriptors of an operation are asked not to wait while its call is made, which has no flag for that: of ACCEPT, CONNECT, SPLICE and TEE, but pipes, which SPLICE_F_NONBLOCK asks. O_NONBLOCK.
@@ -121,7 +137,18 @@ pub fn asks_end(is_pipe: bool, is_regular: bool) -> bool
     !is_pipe && !is_regular
 }
 
-/// What may have to wait for its descriptor is asked not to, by a flag of its call or by its descriptors, whoever else uses these.
+/// With which flags a descriptor of this access mode, a pipe's end or not, is opened once more for a call that has no flag by which it is asked not to wait. `None`: it is asked itself. Our own rule.
+pub fn asks_anew(is_pipe: bool, access: u32) -> Option<u32>
+    ensures { result ≡ spec.asks_anew is_pipe access }
+{
+    if is_pipe && access == 0 {
+        Some(0x8_0800)
+    } else {
+        None
+    }
+}
+
+/// What may have to wait for its descriptor is asked not to, by a flag of its call or by its descriptors.
 pub fn calls_never_sleep()
     ensures { CallsNeverSleep }
 {}
@@ -329,14 +356,24 @@ fn of_attributes(entry: &Submission, held: &Held) -> Means
     })
 }
 
+/// The descriptors of an update of files.
+fn listed_of(entry: &Submission) -> Listed
+    ensures { result ≡ spec.listed_of entry.now }
+{
+    Listed {
+        address: entry.addr,
+        count: entry.len,
+    }
+}
+
 fn files_of(entry: &Submission) -> Means
     ensures { result ≡ spec.files_of entry.now }
 {
     let slot = low(entry.off) as u32;
     if slot == u32::MAX {
-        Means::FilesPlacing
+        Means::FilesPlacing(listed_of(entry))
     } else {
-        Means::FilesUpdate(slot)
+        Means::FilesUpdate(slot, listed_of(entry))
     }
 }
 
@@ -346,8 +383,10 @@ fn of_ring(entry: &Submission) -> Means
 {
     match entry.opcode {
         6 => Means::Poll,
-        7 | 12 | 14 => Means::Others,
+        7 => Means::PollRemoval,
         11 => Means::Timeout,
+        12 => Means::TimeoutRemoval,
+        14 => Means::Cancel,
         15 => Means::LinkedTimeout,
         20 => files_of(entry),
         31 => Means::Provision,

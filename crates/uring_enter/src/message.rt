@@ -2,6 +2,7 @@
 
 ghost use Rattle.std.specs.Prelude.{◌≡◌};
 ghost use Rattle.uring_enter.specs.Messages as spec;
+ghost use Rattle.uring_enter.specs.Messages.{PassesWhatCanBeTold};
 
 use crate::submission::Submission;
 
@@ -33,6 +34,22 @@ pub enum Sending {
 
     /// It passes a registered file to the other ring's table, and ends with what comes of that.
     Passes,
+}
+
+/// What is done for a message, in the order in which it stands here, until a step fails, with whose fault it ends.
+#[derive(Clone, Copy, Drop)]
+pub struct MessageSteps {
+    /// There is memory for what the other ring is told.
+    pub has_memory: bool,
+
+    /// The file is looked for in the sender's own table.
+    pub finds_file: bool,
+
+    /// It is put into the other ring's table.
+    pub passes_file: bool,
+
+    /// The other ring is told, if it is to be.
+    pub tells: bool,
 }
 
 /// A completion that is posted to another ring.
@@ -103,6 +120,24 @@ fn sending_file(entry: &Submission, to: Receiver) -> Sending
         Sending::Passes
     }
 }
+
+/// What is done for a message that does this.
+pub fn message_steps(sending: Sending) -> MessageSteps
+    ensures { result ≡ spec.message_steps sending }
+{
+    let is_sent = !matches!(sending, Sending::Fails(_));
+    MessageSteps {
+        has_memory: is_sent,
+        finds_file: matches!(sending, Sending::Passes),
+        passes_file: matches!(sending, Sending::Passes),
+        tells: is_sent,
+    }
+}
+
+/// A file is passed only where it was found, and there is memory for what the other ring is told of it.
+pub fn passes_what_can_be_told()
+    ensures { PassesWhatCanBeTold }
+{}
 
 /// What the other ring is told, where a message does what it does with this result. `None`: nothing.
 pub fn told_of(entry: &Submission, res: i32) -> Option<Message>

@@ -62,6 +62,15 @@ pub struct Needs {
     /// The events for which its file is polled, as poll(2) has them; of a poll also those of which every poll is told.
     pub events: u32,
 
+    /// The descriptor of its file, or the slot,
+    pub fd: i32,
+
+    /// and of the second one.
+    pub second_fd: i32,
+
+    /// The slot of its registered buffer.
+    pub buffer: u16,
+
     /// What is looked for before it is carried out, the bit of each: its file (1), the second one (2), whether the first is open (4), its registered buffer (8), and whether it may have to wait for its descriptor (16). These are looked for by rising bits, and the first that isn't there ends its request.
     pub sought: u32,
 }
@@ -90,6 +99,9 @@ pub fn needs_of(entry: &Submission) -> Needs
             fills_buffer: false,
             is_zero_copy: false,
             events: 1,
+            fd: entry.fd,
+            second_fd: entry.file_index.cast_signed(),
+            buffer: entry.buf_index,
             sought: sought(true, false, false, false),
         },
         _ => needs_of_any(entry),
@@ -127,6 +139,9 @@ fn nothing() -> Needs
         fills_buffer: false,
         is_zero_copy: false,
         events: 0,
+        fd: 0,
+        second_fd: 0,
+        buffer: 0,
         sought: 0,
     }
 }
@@ -153,6 +168,9 @@ fn needs_of_no_op(entry: &Submission) -> Needs
         fills_buffer: false,
         is_zero_copy: false,
         events: 0,
+        fd: entry.fd,
+        second_fd: entry.file_index.cast_signed(),
+        buffer: entry.buf_index,
         sought: sought(
             wants_file(entry),
             false,
@@ -184,6 +202,9 @@ fn needs_of_any(entry: &Submission) -> Needs
         fills_buffer: entry.opcode == 10 && entry.ioprio & 2 != 0,
         is_zero_copy: is_zero_copy(entry.opcode),
         events: events_of(entry),
+        fd: entry.fd,
+        second_fd: entry.file_index.cast_signed(),
+        buffer: entry.buf_index,
         sought: sought_of(entry),
     }
 }

@@ -2,6 +2,7 @@
 
 ghost use Rattle.std.specs.Prelude.{◌≡◌};
 ghost use Rattle.uring_enter.specs.Passages as spec;
+ghost use Rattle.uring_enter.specs.Passages.{RefusedDoesNothing, MadeBetweenDuties};
 
 use crate::reaching::{Naming, naming_of};
 
@@ -34,6 +35,35 @@ pub enum Passage {
 
     /// It is carried out.
     Passes,
+}
+
+/// What is done of a call besides its checks, in the order in which it stands here.
+#[derive(Clone, Copy, Drop)]
+pub struct CallSteps {
+    /// Its last argument is taken for a structure of a mask and a time, and no mask alone.
+    pub has_structure: bool,
+
+    /// What any call does as it begins.
+    pub begins: bool,
+
+    /// It is carried out.
+    pub is_made: bool,
+
+    /// What any call does as it returns.
+    pub returns: bool,
+}
+
+/// What is done of a call besides its checks, where this comes next, and its last argument is a structure or isn't.
+pub fn call_steps(next: Passage, is_extended: bool) -> CallSteps
+    ensures { result ≡ spec.call_steps next is_extended }
+{
+    let passes = matches!(next, Passage::Passes);
+    CallSteps {
+        has_structure: passes && is_extended,
+        begins: passes,
+        is_made: passes,
+        returns: passes,
+    }
 }
 
 /// What comes next of a call of io_uring_enter(2) with these flags, behind a check that came to `res`. `None`: at first.
@@ -83,3 +113,13 @@ pub fn next_of_registering(has_ring: bool, last: Option<Check>, res: i32) -> Pas
         Some(Check::Argument) => Passage::Passes,
     }
 }
+
+/// A call that is refused does nothing besides.
+pub fn refused_does_nothing()
+    ensures { RefusedDoesNothing }
+{}
+
+/// One that passes is carried out between what any call does as it begins and as it returns.
+pub fn made_between_duties()
+    ensures { MadeBetweenDuties }
+{}

@@ -7,7 +7,7 @@ ghost use Rattle.uring_enter.specs.Readiness as spec;
 ghost use Rattle.uring_enter.specs.Readiness.{FinishesWhatCan, LooksOnce, NeedsNoLook, PollsWhatMatters};
 
 use crate::course::Course;
-use crate::needs::{Needs, is_of_sockets, is_splice, is_transfer, takes_urgent};
+use crate::needs::{Needs, is_of_sockets, is_splice, is_transfer, is_write, takes_urgent};
 use crate::submission::Submission;
 
 /// What a request that runs is.
@@ -88,7 +88,10 @@ pub struct Patience {
     /// Of a connect or a splice, or of a receive of urgent data: it was begun.
     pub has_begun: bool,
 
-    /// Of a read or a receive: its socket is one that listens, of which nothing can be received.
+    /// Its socket was asked whether it listens,
+    pub knows_listening: bool,
+
+    /// and does.
     pub is_listening: bool,
 }
 
@@ -214,7 +217,7 @@ fn look_at_descriptor(standing: &Standing, needs: &Needs, known: &Moment) -> Loo
 pub fn is_impatient(entry: &Submission, patience: &Patience) -> bool
     ensures { result ≡ spec.is_impatient entry.now patience.now }
 {
-    if patience.has_failed || patience.is_listening || matches!(entry.opcode, 18 | 28) {
+    if patience.has_failed || is_in_vain(entry, patience) || matches!(entry.opcode, 18 | 28) {
         true
     } else if is_begun_at_once(entry) && !patience.has_begun {
         true
@@ -223,6 +226,26 @@ pub fn is_impatient(entry: &Submission, patience: &Patience) -> bool
     } else {
         has_message_flags(entry.opcode) && entry.op_flags & 64 != 0
     }
+}
+
+/// Whether its socket listens, and nothing is sent by it or received; or doesn't, and it is to accept.
+fn is_in_vain(entry: &Submission, patience: &Patience) -> bool
+    ensures { result ≡ spec.is_in_vain entry.now patience.now }
+{
+    if entry.opcode == 13 {
+        patience.knows_listening && !patience.is_listening
+    } else {
+        patience.knows_listening
+            && patience.is_listening
+            && (is_transfer(entry.opcode) || has_message_flags(entry.opcode))
+    }
+}
+
+/// Whether a request that wasn't found ready as it starts is carried out once all the same, where its descriptor is a pipe or isn't.
+pub fn is_tried_first(entry: &Submission, is_pipe: bool) -> bool
+    ensures { result ≡ spec.is_tried_first entry.now is_pipe }
+{
+    is_pipe && is_write(entry.opcode)
 }
 
 /// A connect, a splice, and a receive of urgent data.

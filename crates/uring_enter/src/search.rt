@@ -2,9 +2,9 @@
 
 ghost use Rattle.std.specs.Prelude.{◌≡◌, ℕ, List, [], ◌∷◌};
 ghost use Rattle.uring_enter.specs.declared.cancel.Outstanding.{Outstanding};
-ghost use Rattle.uring_enter.specs.Cancels.{HasSought, oldest, is_stopped, has_cancelled};
+ghost use Rattle.uring_enter.specs.Cancels.{HasSought, oldest, is_meant, is_stopped, has_cancelled, found_by_core};
 
-use crate::cancel::{Outstanding, is_waiting};
+use crate::cancel::{Outstanding, is_ever_found, is_waiting};
 
 /// A search among the running requests, the oldest first.
 #[repr(C)]
@@ -39,7 +39,7 @@ impl Search {
         ensures after { (user_data : ℕ) (seen : List Outstanding) → HasSought user_data seen self.old
             → HasSought user_data (request.now ∷ seen) self.new }
     {
-        let is_it = !self.has_found && request.user_data == self.user_data;
+        let is_it = !self.has_found && is_meant(self.user_data, request);
         if is_it {
             self.has_found = true;
             self.has_cancelled = request.is_cancelled || is_waiting(request);
@@ -54,4 +54,23 @@ impl Search {
     {
         self.has_cancelled
     }
+
+    /// What the core has found that has ended the cancel so, once all that run were looked at: -2 in the place of -114 if, by Linux's rules, none of them is one that a cancel finds.
+    pub fn found_by_core(&self, res: i32, linux: bool) -> i32
+        ensures { (user_data : ℕ) (seen : List Outstanding) → HasSought user_data seen self.now
+            → result ≡ found_by_core res seen user_data linux }
+    {
+        if linux && res == -114 && !self.has_found {
+            -2
+        } else {
+            res
+        }
+    }
+}
+
+/// Whether a cancel by user data looks for a running request.
+fn is_meant(user_data: u64, request: &Outstanding) -> bool
+    ensures { result ≡ is_meant user_data request.now }
+{
+    request.user_data == user_data && is_ever_found(request)
 }

@@ -1,4 +1,4 @@
-//! What a cancel or a removal looks for, by its entry. io_uring_enter(2), IORING_OP_ASYNC_CANCEL, IORING_OP_POLL_REMOVE and IORING_OP_TIMEOUT_REMOVE.
+//! What a cancel or a removal looks for, by its entry, or by the call that makes it. io_uring_enter(2), IORING_OP_ASYNC_CANCEL, IORING_OP_POLL_REMOVE and IORING_OP_TIMEOUT_REMOVE; io_uring_register(2), IORING_REGISTER_SYNC_CANCEL.
 
 ghost use Rattle.std.specs.Prelude.{◌≡◌};
 ghost use Rattle.uring_enter.specs.Seeking as spec;
@@ -21,6 +21,23 @@ pub fn sought_of(entry: &Submission) -> Sought
         is_all: is_cancel && entry.op_flags & 1 != 0,
         is_by_fd: is_cancel && entry.op_flags & 2 != 0,
         is_fixed: is_cancel && (entry.op_flags & 8 != 0 || entry.flags & 1 != 0),
+    }
+}
+
+/// What is looked for by a cancel of io_uring_register(2) with these fields: what one with an entry looks for that has them and no more.
+pub fn sought_by_call(user_data: u64, fd: i32, flags: u32) -> Sought
+    ensures { result ≡ spec.sought_by_call user_data fd flags }
+{
+    Sought {
+        user_data,
+        file: 0,
+        fd: fd.cast_unsigned(),
+        code: 0,
+        is_of_operation: false,
+        is_any: flags & 4 != 0,
+        is_all: flags & 1 != 0,
+        is_by_fd: flags & 2 != 0,
+        is_fixed: flags & 8 != 0,
     }
 }
 

@@ -1,16 +1,23 @@
-//! Behind which results a signal is taken back, SIGXFSZ, and which signal is the call's. setrlimit(2), RLIMIT_FSIZE.
+//! Behind which results a signal is taken back, SIGXFSZ or SIGPIPE, and which signal is the call's. setrlimit(2), RLIMIT_FSIZE; pipe(7).
 
 ghost use Rattle.std.specs.Prelude.{◌≡◌};
 ghost use Rattle.uring_enter.specs.Signals as spec;
 
-use crate::needs::is_write;
+use crate::needs::{is_splice, is_write};
 use crate::submission::Submission;
 
-/// Whether a signal may have come of an operation that ended with this.
+/// Whether SIGXFSZ may have come of an operation that ended with this.
 pub fn may_signal(entry: &Submission, res: i32) -> bool
     ensures { result ≡ spec.may_signal entry.now res }
 {
     res == -27 && (is_write(entry.opcode) || matches!(entry.opcode, 17 | 30))
+}
+
+/// Whether SIGPIPE may have come of an operation that ended with this, and that a worker of a kernel's would have carried out.
+pub fn may_break(entry: &Submission, res: i32) -> bool
+    ensures { result ≡ spec.may_break entry.now res }
+{
+    res == -32 && (is_splice(entry.opcode) || is_write(entry.opcode) && entry.flags & 16 != 0)
 }
 
 /// Whether the kernel may send a signal for a file that gets too long, where this is the greatest length that the process may give one, in bytes, if that is known.

@@ -132,15 +132,15 @@ pub enum Clock {
     Realtime,
 }
 
-/// The clock that says how much is left of the time that a timeout with these flags gives. `None`: its time is how long it runs.
-pub fn clock_of(flags: u32) -> Option<Clock>
-    ensures { result ≡ clock_of flags }
+/// The clock that says how much is left of the time that the timeout of an entry gives. `None`: its time is how long it runs.
+pub fn clock_of(entry: &Submission) -> Option<Clock>
+    ensures { result ≡ clock_of entry.now }
 {
-    if flags & 1 == 0 {
+    if entry.op_flags & 1 == 0 {
         None
-    } else if flags & 4 != 0 {
+    } else if entry.op_flags & 4 != 0 {
         Some(Clock::Boottime)
-    } else if flags & 8 != 0 {
+    } else if entry.op_flags & 8 != 0 {
         Some(Clock::Realtime)
     } else {
         Some(Clock::Monotonic)

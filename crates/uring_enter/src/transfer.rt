@@ -185,7 +185,7 @@ pub fn offset_of(transfer: &Transfer, offset: u64) -> u64
     }
 }
 
-/// A call is made only in a way that doesn't sleep, whoever else uses its descriptor.
+/// Each call is asked not to wait, or its descriptor is, or what it is made on never waits.
 pub fn sleeps_never()
     ensures { SleepsNever }
 {}

@@ -8,27 +8,6 @@ use crate::missing::{Missing, missing_fault};
 use crate::submission::Submission;
 use crate::waiter::Waiter;
 
-/// What an update may change of a poll.
-#[repr(C)]
-#[derive(Clone, Copy, Drop)]
-pub struct Poll {
-    pub user_data: u64,
-
-    /// The events that it waits for.
-    pub events: u32,
-}
-
-/// What an update may change of a timeout, beside its time.
-#[repr(C)]
-#[derive(Clone, Copy, Drop)]
-pub struct Terms {
-    /// How many completions it counts; 0: none.
-    pub count: u64,
-
-    /// IORING_TIMEOUT_.., as its entry has them.
-    pub flags: u32,
-}
-
 /// A request as an update of linked timeouts sees it.
 #[repr(C)]
 #[derive(Clone, Copy, Drop)]
@@ -97,38 +76,40 @@ pub fn updates_linked(user_data: u64, seen: &Linked) -> bool
     seen.is_linked && seen.runs && seen.user_data == user_data
 }
 
-/// A poll behind an update by this entry. One that goes on still does, and another doesn't, whatever the update says.
-pub fn updated_poll(poll: Poll, entry: &Submission) -> Poll
-    ensures { result ≡ spec.updated_poll poll entry.now }
+/// A poll's entry behind an update by this one: its user data and its events are the update's, as far as that gives them. One that goes on still does, and another doesn't, whatever the update says.
+pub fn updated_poll(poll: &Submission, update: &Submission) -> Submission
+    ensures { result ≡ spec.updated_poll poll.now update.now }
 {
-    Poll {
-        user_data: if entry.len & 4 != 0 {
-            entry.off
+    Submission {
+        user_data: if update.len & 4 != 0 {
+            update.off
         } else {
             poll.user_data
         },
-        events: if entry.len & 2 != 0 {
-            entry.op_flags
+        op_flags: if update.len & 2 != 0 {
+            update.op_flags
         } else {
-            poll.events
+            poll.op_flags
         },
+        ..*poll
     }
 }
 
-/// A timeout's terms behind an update by this entry: whether its time is absolute is the update's, and its clock stays. It has no count any more, whether or not it has started.
-pub fn updated_terms(terms: Terms, entry: &Submission) -> Terms
-    ensures { result ≡ spec.updated_terms terms entry.now }
+/// A timeout's entry behind an update by this one: whether its time is absolute is the update's, and its clock stays. It has no count any more, whether or not it has started.
+pub fn updated_timeout(timeout: &Submission, update: &Submission) -> Submission
+    ensures { result ≡ spec.updated_timeout timeout.now update.now }
 {
-    Terms {
-        count: 0,
-        flags: updated_flags(terms.flags, entry),
+    Submission {
+        off: 0,
+        op_flags: updated_flags(timeout.op_flags, update),
+        ..*timeout
     }
 }
 
-fn updated_flags(flags: u32, entry: &Submission) -> u32
-    ensures { result ≡ spec.updated_flags flags entry.now }
+fn updated_flags(flags: u32, update: &Submission) -> u32
+    ensures { result ≡ spec.updated_flags flags update.now }
 {
-    flags & !1 | entry.op_flags & 1
+    flags & !1 | update.op_flags & 1
 }
 
 impl Waiter {

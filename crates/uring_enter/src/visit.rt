@@ -2,6 +2,7 @@
 
 ghost use Rattle.std.specs.Prelude.{◌≡◌};
 ghost use Rattle.uring_enter.specs.Visits as spec;
+ghost use Rattle.uring_enter.specs.Visits.{StopsWhereNoneCanBePosted};
 
 use crate::message::Receiver;
 
@@ -24,6 +25,13 @@ pub fn posts_message(is_there: bool, may_post: bool) -> bool
     is_there && may_post
 }
 
+/// Whether a ring is visited, and once more behind each visit, by who can have its lock: messages are there, and the last visit has left none, or one that could be posted as it ended.
+pub fn visits_again(is_there: bool, was_left: bool, could_post: bool) -> bool
+    ensures { result ≡ spec.visits_again is_there was_left could_post }
+{
+    is_there && (!was_left || could_post)
+}
+
 /// What the sender of a message to this ring does behind one that has come to this result.
 pub fn visit_of(to: Receiver, res: i32) -> Visit
     ensures { result ≡ spec.visit_of to res }
@@ -38,3 +46,8 @@ pub fn visit_of(to: Receiver, res: i32) -> Visit
         Visit::Nothing
     }
 }
+
+/// A ring is left with messages only where the last visit has found that one of them can't be posted.
+pub fn stops_where_none_can_be_posted()
+    ensures { StopsWhereNoneCanBePosted }
+{}

@@ -4,7 +4,7 @@ ghost use Rattle.std.specs.Prelude.{◌≡◌};
 ghost use Rattle.uring_enter.specs.CallTries as spec;
 ghost use Rattle.uring_enter.specs.CallTries.{AcceptsWhatCame, EndsWithWhatCame, LosesNoBytes};
 
-use crate::needs::{goes_on, is_receive, is_splice};
+use crate::needs::{goes_on, is_receive};
 use crate::parts::is_alone;
 use crate::ready::has_message_flags;
 use crate::submission::Submission;
@@ -27,6 +27,9 @@ pub struct Call {
 
     /// A connect was begun.
     pub has_begun: bool,
+
+    /// Its call was made once more.
+    pub was_repeated: bool,
 }
 
 /// What is done for an operation.
@@ -38,7 +41,7 @@ pub enum Doing {
     /// Its descriptor is polled: 0 if it isn't ready.
     Polls,
 
-    /// Its descriptor is asked whether it isn't to wait: 0 if it is. Of a splice it is that which it waits for, and of two pipes either. O_NONBLOCK.
+    /// Its descriptor is asked whether it isn't to wait: 0 if it is. O_NONBLOCK. Of a splice `isnt_to_wait` is asked.
     AsksWill,
 
     /// Its socket is asked whether it is a stream: 0 if it isn't.
@@ -112,11 +115,10 @@ fn ends_with(entry: &Submission, call: &Call, res: i32) -> Turn
 }
 
 /// Whether the entry asks it not to wait.
-fn is_asked(entry: &Submission) -> bool
+pub(crate) fn is_asked(entry: &Submission) -> bool
     ensures { result ≡ spec.is_asked entry.now }
 {
-    is_splice(entry.opcode) && entry.op_flags & 2 != 0
-        || is_receive(entry.opcode) && entry.op_flags & 8192 != 0
+    is_receive(entry.opcode) && entry.op_flags & 8192 != 0
         || has_message_flags(entry.opcode) && entry.op_flags & 64 != 0
 }
 
@@ -170,10 +172,21 @@ fn is_connected(call: &Call, res: i32) -> bool
     call.has_begun && (res == -106 || res == -77)
 }
 
+/// Whether a connect is made once more.
+fn is_repeated(call: &Call, res: i32) -> bool
+    ensures { result ≡ spec.is_repeated call.now res }
+{
+    !call.was_repeated && res == -103
+}
+
 fn behind_connect(call: &Call, res: i32) -> Turn
     ensures { result ≡ spec.behind_connect call.now res }
 {
-    if res == -115 || res == -11 || call.has_begun && res == -114 {
+    if is_repeated(call, res) {
+        Turn::Does(Doing::Calls)
+    } else if res == -11 {
+        Turn::Does(Doing::AsksWill)
+    } else if res == -115 || call.has_begun && res == -114 {
         Turn::Waits
     } else if is_connected(call, res) {
         Turn::Ends(0)
@@ -239,7 +252,7 @@ pub fn unpolled_result(events: u16) -> i32
     if present == 0 { -22 } else { present as i32 }
 }
 
-/// A connection is accepted only right behind its socket was found ready, and a connect that was begun is made again only right behind it was found to have no error.
+/// A connection is accepted only right behind its socket was found ready, and a connect that was begun is made again only right behind it was found to have no error, or once more.
 pub fn accepts_what_came()
     ensures { AcceptsWhatCame }
 {}

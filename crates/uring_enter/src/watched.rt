@@ -1,7 +1,10 @@
 //! What a ring's descriptor polls for: the descriptors that its requests wait for, each for the events of all of them. epoll_ctl(2).
 
 ghost use Rattle.std.specs.Prelude.{◌≡◌, List, [], ◌∷◌};
-ghost use Rattle.uring_enter.specs.Watching.{Waiting, Waits, KeepsWatched, change_of};
+ghost use Rattle.uring_enter.specs.Watching.{Waiting, Waits, KeepsWatched, change_of, PollsWhatASleepDoes};
+ghost use Rattle.uring_enter.specs.Watching as spec;
+
+use crate::duties::polls_writes;
 
 /// What is polled for of one descriptor.
 #[repr(C)]
@@ -28,6 +31,16 @@ pub enum Watch {
 
     /// It is polled for afresh: it may be another file by now.
     Renews,
+}
+
+/// What a ring's descriptor polls for beside what its requests wait for.
+#[derive(Clone, Copy, Drop)]
+pub struct Besides {
+    /// What tells of writes to pipes.
+    pub writes: bool,
+
+    /// The epoll instance that tells of those that are dormant.
+    pub instance: bool,
 }
 
 impl Watched {
@@ -68,3 +81,18 @@ pub fn watch_of(before: Option<Watched>, after: Option<Watched>) -> Watch
         }
     }
 }
+
+/// What a ring's descriptor polls for beside what its requests wait for, where so many pipes are watched, and the ring has an epoll instance for those that are dormant, or none.
+pub fn polls_besides(watched: u64, has_instance: bool) -> Besides
+    ensures { result ≡ spec.polls_besides watched has_instance }
+{
+    Besides {
+        writes: polls_writes(watched),
+        instance: has_instance,
+    }
+}
+
+/// What a sleep polls besides, the ring's descriptor does too.
+pub fn polls_what_a_sleep_does()
+    ensures { PollsWhatASleepDoes }
+{}

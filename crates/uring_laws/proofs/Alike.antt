@@ -85,6 +85,9 @@ pub record HaveSameRings (g : Setup) (v w : World) : Type 0 where
   pub is_closed : v.is_closed ≡ w.is_closed
   pub drains : g.linux ≡ true → v.drains ≡ w.drains
 
+pub with_files : (g : Setup) (v w : World) → HaveSameRings g v w → files_of g v ≡ files_of g w → AreAlike g v w
+with_files g v w rings files = assumption (rings, files)
+
 by_rings : (g : Setup) (v : World) (s c : List ℕ) (e : List Ending) (d : Drains) → AreSame v.requests s c e
     → (g.linux ≡ true → v.drains ≡ d) → HaveSameRings g v (with_lists v s c e d)
 by_rings g v s c e d a same = record {
@@ -181,14 +184,7 @@ alike_then g h k s a lawful other al =
     let w : World = world g k in
     let apart : IsLawfulApart g ((s, a) ∷ h) = lawful_apart g ((s, a) ∷ h) lawful in
     let rings : HaveSameRings g (happens g v s a) (happens g w s a) = subst (λ u. HaveSameRings g (happens g v s a) (happens g u s a)) (same_but g v w al) (rings_then g v w.requests.started w.requests.cancelled w.requests.ended w.drains (lists_of g v w al) al.drains s a (change_of g v s a apart.0)) in
-    record {
-      submission = rings.submission;
-      requests = rings.requests;
-      completions = rings.completions;
-      is_closed = rings.is_closed;
-      drains = rings.drains;
-      files = files_then g h k s a apart (lawful_apart g ((s, a) ∷ k) other) al;
-    }
+    with_files g (happens g v s a) (happens g w s a) rings (files_then g h k s a apart (lawful_apart g ((s, a) ∷ k) other) al)
 
 pub alike_go_on : (g : Setup) → AlikeGoOnAlike g
 alike_go_on g [] h k lawful al behind = record { lawful = lawful; alike = al }

@@ -11,6 +11,12 @@ use Rattle.uring_linux.specs.LinuxRequests.{breaker_of, cancel_result, first_of,
 use Rattle.uring_laws.proofs.AlikeRequests.{ReadSame, listed, behind_same, outstanding_same, running_same}
 use Rattle.uring_laws.proofs.AlikeDrains as drains
 
+-- who posts is asked of entries alone, once it is told who broke the group
+pub behind_one : (r : Requests) (s c : List ℕ) (e : List Ending) (o : Option ℕ) (n : ℕ) (res : ℤ)
+    → posts_behind (listed r s c e) o n res ≡ posts_behind r o n res
+behind_one r s c e None n res = refl
+behind_one r s c e (Some m) n res = refl
+
 module _ (r : Requests) (s c : List ℕ) (e : List Ending) (a : ReadSame r s c e) where
   abbrev q : Requests
   q = listed r s c e
@@ -52,13 +58,9 @@ module _ (r : Requests) (s c : List ℕ) (e : List Ending) (a : ReadSame r s c e
       ap (λ b. if b then first_of q n else failed_member_of q n) (faulty_same n)
       ∙ ap₂ (λ x y. if is_in_faulty_group r n then x else y) (first_same n) (failed_one_same n)
 
-  behind_one : (o : Option ℕ) (n : ℕ) (res : ℤ) → posts_behind q o n res ≡ posts_behind r o n res
-  behind_one None n res = refl
-  behind_one (Some m) n res = refl
-
   pub posts_same : (n : ℕ) (res : ℤ) → posts_behind q (breaker_of q n) n res ≡ posts_behind r (breaker_of r n) n res
   posts_same n res =
-      behind_one (breaker_of q n) n res ∙ ap (λ (o : Option ℕ). posts_behind r o n res) (breaker_same n)
+      behind_one r s c e (breaker_of q n) n res ∙ ap (λ (o : Option ℕ). posts_behind r o n res) (breaker_same n)
 
   pub issuable_same : (d : Drains) (n : ℕ) → is_issuable (record { requests = q; drains = d }) n ≡ is_issuable (record { requests = r; drains = d }) n
   issuable_same d n =

@@ -1,5 +1,5 @@
 -- Requests with other lists, of which the definitions read the same, stand alike by the manual pages' rules: each reads who started, was doomed by a cancel, ended and failed, and nothing else of them.
-use Rattle.std.proofs.Common.{◌≡◌, ℕ, zero, suc, ◌==◌, ℤ, pos, neg_ℤ, Bool, not, ◌&&◌, ◌||◌, nat_lt, if◌then◌else◌, List, [], ◌∷◌, ◌++◌, length, Option, Some, None, refl, sym, ap, ap₂, ◌∙◌}
+use Rattle.std.proofs.Common.{◌≡◌, ℕ, zero, suc, ◌==◌, ℤ, pos, neg_ℤ, Bool, not, ◌&&◌, ◌||◌, nat_lt, if◌then◌else◌, List, [], ◌∷◌, ◌++◌, length, Option, Some, None, refl, sym, ap, ap₂, ◌∙◌, ◌<◌, arith}
 use Rattle.std.specs.List.{list_any}
 use Rattle.std.specs.Option.{option_to_list}
 use Rattle.uring_entry.specs.declared.errno.TheConstants.{EALREADY}
@@ -41,10 +41,10 @@ read_same r s c e a = record {
   failed = λ n. sym (a.ended (λ x. (x.number == n) && not (is_success (entry_of r n) x.res)));
 }
 
-all_below_same : (p q : ℕ → Bool) (n : ℕ) → ((k : ℕ) → p k ≡ q k) → all_below p n ≡ all_below q n
+pub all_below_same : (p q : ℕ → Bool) (n : ℕ) → ((k : ℕ) → k < n → p k ≡ q k) → all_below p n ≡ all_below q n
 all_below_same p q zero h = refl
 all_below_same p q (suc n) h =
-    ap₂ (λ xs b. xs ++ (if b then n ∷ [] else [])) (all_below_same p q n h) (h n)
+    ap₂ (λ xs b. xs ++ (if b then n ∷ [] else [])) (all_below_same p q n (λ k lt. h k (omega (arith, lt)))) (h n (omega arith))
 
 module _ (r : Requests) (s c : List ℕ) (e : List Ending) (a : ReadSame r s c e) where
   abbrev q : Requests
@@ -84,7 +84,7 @@ module _ (r : Requests) (s c : List ℕ) (e : List Ending) (a : ReadSame r s c e
 
   all_same : (n : ℕ) → targets_of q n ≡ targets_of r n
   unfolding targets_of
-  all_same n = all_below_same (is_target q n) (is_target r n) (length r.accepted) (target_same n)
+  all_same n = all_below_same (is_target q n) (is_target r n) (length r.accepted) (λ k lt. target_same n k)
 
   found_same : (o : Option ℕ) → result_for q o ≡ result_for r o
   found_same None = refl

@@ -1,10 +1,12 @@
 -- Operations that stay apart don't meet: `apart_dont_meet`. What one leaves of a file, the other finds as it was, and both orders leave the same bytes.
-use Rattle.std.proofs.Common.{◌≡◌, ◌≢◌, ℕ, zero, suc, ◌+◌, ◌-◌, ◌<◌, ◌≤◌, ◌==◌, ◌%◌, ◌^◌, min, ℤ, pos, negsuc, neg_ℤ, Bool, true, false, not, ◌||◌, cond, if◌then◌else◌, List, [], ◌∷◌, length, take, drop, get_or, Option, Some, None, refl, sym, ap, ap₂, ◌∙◌, arith, ◌⊎◌, inl, inr}
+use Rattle.std.proofs.Common.{◌≡◌, ◌≢◌, ℕ, zero, suc, ◌+◌, ◌-◌, ◌<◌, ◌≤◌, ◌==◌, ◌%◌, ◌^◌, min, ℤ, pos, negsuc, neg_ℤ, Bool, true, false, not, ◌&&◌, cond, if◌then◌else◌, List, [], ◌∷◌, length, take, drop, get_or, Option, Some, None, refl, sym, ap, ap₂, ◌∙◌, arith, ◌⊎◌, inl, inr}
 use Rattle.std.specs.Prelude.{slice_set, nat_le, nat_lt}
 use Rattle.std.specs.Option.{option_map, option_map_or}
 use Rattle.std.specs.Ordering.{int_eq}
-use Rattle.std.proofs.lemmas.Bool.{true≢false, cases_Bool, cases_lt, or_cases, and_from, and_left, and_right, not-true, leb-true, le-leb, lt-leb, lt-ltb, le-ltb}
+use Rattle.std.proofs.lemmas.Bool.{true≢false, cases_Bool, cases_lt, or_cases, or_left, or_right, and_parts, and_right, not-true, leb-true, ltb-true, le-ltb}
 use Rattle.std.proofs.lemmas.Bool.Decides.{Decides-int_eq}
+use Rattle.std.proofs.lemmas.Cmp.{int_eq_equiv}
+use Rattle.std.proofs.Math.Bool.{or_comm}
 use Rattle.std.proofs.lemmas.Grind.{same_number_lists}
 use Rattle.std.proofs.lemmas.List.{length-take, length-drop, get_or-drop}
 use Rattle.uring_entry.specs.Layout.{padded}
@@ -22,18 +24,9 @@ use Rattle.uring_laws.specs.Swaps.{are_disjoint, are_on_others, stay_apart, stay
 
 -- Bytes written over others.
 
-inside : (old new : List ℕ) (off : ℕ) (now : List ℕ) (k : ℕ) → IsWrittenOver old new off now → off ≤ k
-    → k < off + length new
-    → get_or now k 0 ≡ get_or new (k - off) 0
-inside old new off now k w low high =
-    w.bytes k
-    ∙ ap (λ b. if b then get_or new (k - off) 0 else get_or old k 0) (and_from (nat_le off k) (nat_lt k (off + length new)) (le-leb off k low) (lt-ltb k (off + length new) high))
-
-below : (old new : List ℕ) (off : ℕ) (now : List ℕ) (k : ℕ) → IsWrittenOver old new off now → k < off
-    → get_or now k 0 ≡ get_or old k 0
-below old new off now k w low =
-    w.bytes k
-    ∙ ap (λ b. if b then get_or new (k - off) 0 else get_or old k 0) (and_left (nat_le off k) (nat_lt k (off + length new)) (lt-leb off k low))
+-- whether byte k is among so many from an offset on
+abbrev among : (off len k : ℕ) → Bool
+among off len k = nat_le off k && nat_lt k (off + len)
 
 behind : (old new : List ℕ) (off : ℕ) (now : List ℕ) (k : ℕ) → IsWrittenOver old new off now
     → off + length new ≤ k
@@ -41,6 +34,17 @@ behind : (old new : List ℕ) (off : ℕ) (now : List ℕ) (k : ℕ) → IsWritt
 behind old new off now k w high =
     w.bytes k
     ∙ ap (λ b. if b then get_or new (k - off) 0 else get_or old k 0) (and_right (nat_le off k) (nat_lt k (off + length new)) (le-ltb k (off + length new) high))
+
+among_tells : (off len k : ℕ) → among off len k ≡ true → (off ≤ k) × (k < off + len)
+among_tells off len k is =
+    let p = and_parts (nat_le off k) (nat_lt k (off + len)) is in
+    (leb-true off k p.0, ltb-true k (off + len) p.1)
+
+-- of two tests at most one is passed, so that they may be asked in any order
+either_test : (p q : Bool) (x y z : ℕ) → (p ≡ true → q ≡ true → ⊥)
+    → (if p then x else if q then y else z) ≡ (if q then y else if p then x else z)
+either_test true true x y z apart = absurd (apart refl refl)
+either_test _ _ x y z apart = refl
 
 -- no bytes change nothing
 if_none : (b : Bool) (xs ys : List ℕ) → b ≡ true → (if b then xs else ys) ≡ xs
@@ -56,32 +60,15 @@ some_over : (old a b with_a with_b left right : List ℕ) (o p : ℕ) → IsWrit
     → (o + length a ≤ p) ⊎ (p + length b ≤ o)
     → left ≡ right
 some_over old a b with_a with_b left right o p wa wb wl wr apart =
-    same_number_lists left right (omega (arith, wa.len, wb.len, wl.len, wr.len)) each where
-      in_a : (k : ℕ) → o ≤ k → k < o + length a → get_or left k 0 ≡ get_or right k 0
-      in_a k low high = elim apart [
-        | inl before ↦ below with_a b p left k wl (omega (arith, high, before)) ∙ inside old a o with_a k wa low high ∙ sym (inside with_b a o right k wr low high)
-        | inr after_b ↦ behind with_a b p left k wl (omega (arith, low, after_b)) ∙ inside old a o with_a k wa low high ∙ sym (inside with_b a o right k wr low high)
-      ]
-
-      off_a : (k : ℕ) → get_or with_a k 0 ≡ get_or old k 0 → get_or right k 0 ≡ get_or with_b k 0 → get_or left k 0 ≡ get_or right k 0
-      off_a k one two = elim (cases_lt k p) [
-        | inl low ↦ below with_a b p left k wl low ∙ one ∙ sym (two ∙ below old b p with_b k wb low)
-        | inr high ↦
-            elim (cases_lt k (p + length b)) [
-              | inl within ↦ inside with_a b p left k wl high within ∙ sym (two ∙ inside old b p with_b k wb high within)
-              | inr past ↦ behind with_a b p left k wl past ∙ one ∙ sym (two ∙ behind old b p with_b k wb past)
-            ]
-      ]
-
-      each : (k : ℕ) → k < length left → get_or left k 0 ≡ get_or right k 0
-      each k within = elim (cases_lt k o) [
-        | inl low ↦ off_a k (below old a o with_a k wa low) (below with_b a o right k wr low)
-        | inr high ↦
-            elim (cases_lt k (o + length a)) [
-              | inl there ↦ in_a k high there
-              | inr past ↦ off_a k (behind old a o with_a k wa past) (behind with_b a o right k wr past)
-            ]
-      ]
+    same_number_lists left right (omega (arith, wa.len, wb.len, wl.len, wr.len)) (λ k within.
+    wl.bytes k ∙ ap (λ n. if among p (length b) k then get_or b (k - p) 0 else n) (wa.bytes k)
+    ∙ either_test (among p (length b) k) (among o (length a) k) _ _ _ (not_both k)
+    ∙ sym (wr.bytes k ∙ ap (λ n. if among o (length a) k then get_or a (k - o) 0 else n) (wb.bytes k))) where
+      not_both : (k : ℕ) → among p (length b) k ≡ true → among o (length a) k ≡ true → ⊥
+      not_both k in_b in_a =
+          let x = among_tells p (length b) k in_b in
+          let y = among_tells o (length a) k in_a in
+          elim apart [ inl before ↦ omega (arith, before, x.0, y.1) | inr after_b ↦ omega (arith, after_b, x.1, y.0) ]
 
 over_either : (old a b : List ℕ) (o p : ℕ) → (o + length a ≤ p) ⊎ (p + length b ≤ o)
     → overwritten (overwritten old o a) p b ≡ overwritten (overwritten old p b) o a
@@ -159,9 +146,7 @@ chosen_either : (a b : Bool) (files : List FileContents) (fd other : ℤ) (f g :
     → cond b (with_changed (cond a (with_changed files fd f) files) other g) (cond a (with_changed files fd f) files)
     ≡ cond a (with_changed (cond b (with_changed files other g) files) fd f) (cond b (with_changed files other g) files)
 chosen_either true true files fd other f g same = changed_either files fd other f g same
-chosen_either true false files fd other f g same = refl
-chosen_either false true files fd other f g same = refl
-chosen_either false false files fd other f g same = refl
+chosen_either _ _ files fd other f g same = refl
 
 -- What an operation gives where another was carried out.
 
@@ -243,28 +228,12 @@ gives_same files d e res apart = elim (or_cases (are_on_others d e) (stay_apart_
 
 swapped_disjoint : (off len at count : ℕ) → are_disjoint off len at count ≡ true
     → are_disjoint at count off len ≡ true
-swapped_disjoint off len at count e = either (nat_le (off + len) at) (nat_le (at + count) off) e where
-  either : (x y : Bool) → (x || y) ≡ true → (y || x) ≡ true
-  either true true f = refl
-  either true false f = refl
-  either false true f = refl
-  either false false f = f
-
-same_test : (fd other : ℤ) → int_eq fd other ≡ int_eq other fd
-same_test fd other = elim (cases_Bool (int_eq fd other)) [
-  | inl same ↦ same ∙ sym ((Decides-int_eq other fd).1 (sym ((Decides-int_eq fd other).0 same)))
-  | inr differ ↦
-      elim (cases_Bool (int_eq other fd)) [
-        | inl same ↦ absurd (unlike fd other differ (sym ((Decides-int_eq other fd).0 same)))
-        | inr unlike_too ↦ differ ∙ sym unlike_too
-      ]
-]
+swapped_disjoint off len at count e = or_comm (nat_le (at + count) off) (nat_le (off + len) at) ∙ e
 
 others_either : (asked other : Option ℤ) → others asked other ≡ true → others other asked ≡ true
 others_either None None apart = refl
-others_either None (Some k) apart = refl
-others_either (Some own) None apart = refl
-others_either (Some own) (Some k) apart = ap not (same_test k own) ∙ apart
+others_either (Some own) (Some k) apart = ap not (int_eq_equiv.symm k own) ∙ apart
+others_either _ _ apart = refl
 
 on_one_either : (d e : Op) → stay_apart_on_one d e ≡ true → stay_apart_on_one e d ≡ true
 on_one_either (Read fd off len) (Read other at count) a = refl
@@ -277,19 +246,11 @@ on_one_either (Fsync fd) (Read other at count) a = refl
 on_one_either (Fsync fd) (Fsync other) a = refl
 on_one_either d e a = absurd (true≢false (sym a))
 
-or_first : (x y : Bool) → x ≡ true → (x || y) ≡ true
-or_first true y is = refl
-or_first false y is = absurd (true≢false (sym is))
-
-or_second : (x y : Bool) → y ≡ true → (x || y) ≡ true
-or_second true y is = refl
-or_second false y is = is
-
 apart_either : (d e : Op) → stay_apart d e ≡ true → stay_apart e d ≡ true
 apart_either d e apart = elim (or_cases (are_on_others d e) (stay_apart_on_one d e) apart) [
   | inl elsewhere ↦
-      or_first (are_on_others e d) (stay_apart_on_one e d) (others_either (file_asked d) (file_asked e) elsewhere)
-  | inr on_one ↦ or_second (are_on_others e d) (stay_apart_on_one e d) (on_one_either d e on_one)
+      or_left (are_on_others e d) (stay_apart_on_one e d) (others_either (file_asked d) (file_asked e) elsewhere)
+  | inr on_one ↦ or_right (are_on_others e d) (stay_apart_on_one e d) (on_one_either d e on_one)
 ]
 
 written_either : (file : FileContents) (a b : List ℕ) (o p len count : ℕ) → length a ≤ len

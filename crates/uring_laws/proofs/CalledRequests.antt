@@ -9,7 +9,7 @@ use Rattle.uring_entry.specs.Requests.{Requests, has_ended, is_outstanding, is_j
 use Rattle.uring_entry.proofs.BelowLemmas.{some_below_same, some_below_in}
 use Rattle.uring_entry.specs.Below.{some_below}
 use Rattle.uring_linux.specs.declared.deferred.Deferred.{Deferred}
-use Rattle.uring_linux.specs.Drains.{Drains, is_in_some, deferred_with, still_deferred, with_deferred, with_ring}
+use Rattle.uring_linux.specs.Drains.{Drains, is_in_some, deferred_with, with_deferred, with_ring}
 use Rattle.uring_linux.specs.LinuxRequests.{LinuxRequests, after_going_on, is_alone, is_deferred, is_faulty_from, is_in_turn, keeps_back, with_accepted, with_cut, with_group, with_last_entry}
 use Rattle.uring_linux.specs.Happenings.{with_entries}
 use Rattle.uring_linux.proofs.Deferring.{HasGoneOn, not_alone}
@@ -20,6 +20,7 @@ use Rattle.uring_core.proofs.Groups.{longer, entry_kept, join_kept, member_kept,
 use Rattle.uring_linux.proofs.InOrder.{in_pushed, pushed_old, still_fewer}
 use Rattle.uring_laws.proofs.LinuxSound.{doom_called}
 use Rattle.uring_laws.proofs.StartedRequests.{CanStart}
+use Rattle.uring_laws.proofs.EndedRequests.{unmoved}
 
 -- Who is deferred behind a call.
 
@@ -55,15 +56,11 @@ module _ (r : Requests) (d : Drains) where
       | inr new ↦ (let from : d.from ≤ k = new.0 in omega (arith, from, lt))
     ])
 
-    unmoved : (alone : Bool) (groups : List Deferred) → alone ≡ false → is_in_some groups n ≡ true → is_in_some (still_deferred alone groups) n ≡ true
-    unmoved false [] e f = f
-    unmoved false (g ∷ rest) e f = f
-    unmoved true groups e f = absurd (let x : true ≡ false = e in cc)
-
     go : (plain : Bool) → is_in_some (after_group plain).deferred n ≡ true
     go true = held
     go false =
-        unmoved (is_alone r (deferred_with d (length r.accepted))) (deferred_with d (length r.accepted)) (not_alone r (deferred_with d (length r.accepted)) k accepted still with_next) (pushed_old d.deferred next_group n held)
+        let all : List Deferred = deferred_with d (length r.accepted) in
+        ap (λ groups. is_in_some groups n) (unmoved (is_alone r all) all (not_alone r all k accepted still with_next)) ∙ pushed_old d.deferred next_group n held
 
   group_from : d.from ≤ length r.accepted → d.from ≤ (with_group r d).from
   group_from le = go (not d.ring || is_faulty_from r d.from) where
@@ -206,16 +203,13 @@ deferred_called l entries n within b = elim (cases_Bool (is_deferred l n)) [
 
 -- Who can start.
 
-module _ (l : LinuxRequests) (entries : List Sqe) (cut : (length l.requests.accepted ≡ 0) ⊎ (list_any (λ c. c == length l.requests.accepted) l.requests.cuts ≡ true)) (n : ℕ) (within : n < length l.requests.accepted) where
-  abbrev r : Requests
-  r = l.requests
-
-  waits_kept : (k : ℕ) → k < n → waits_for (with_call r entries) n k ≡ waits_for r n k
+module _ (r : Requests) (entries : List Sqe) (cut : (length r.accepted ≡ 0) ⊎ (list_any (λ c. c == length r.accepted) r.cuts ≡ true)) (n : ℕ) (within : n < length r.accepted) where
+  pub waits_kept : (k : ℕ) → k < n → waits_for (with_call r entries) n k ≡ waits_for r n k
   waits_kept k low =
       ap₂ (λ x y. (is_joined (with_call r entries) k n || x) || y) (member_kept r entries cut is_drain k (omega (arith, within, low))) (member_kept r entries cut is_drain n within)
       ∙ ap (λ x. (x || is_draining r k) || is_draining r n) (join_kept r entries cut k n within)
 
-  ready_kept : is_ready (with_call r entries) n ≡ is_ready r n
+  pub ready_kept : is_ready (with_call r entries) n ≡ is_ready r n
   unfolding is_ready
   ready_kept = ap not (some_below_same (holds_back (with_call r entries) n) (holds_back r n) n (λ k low. ap (λ b. not (has_ended r k) && b) (waits_kept k low)))
 
@@ -223,22 +217,26 @@ module _ (l : LinuxRequests) (entries : List Sqe) (cut : (length l.requests.acce
   unfolding is_in_turn
   turn_kept = ap not (some_below_same (keeps_back (with_call r entries) n) (keeps_back r n) n (λ k low. ap (λ b. b && not (has_ended r k)) (join_kept r entries cut k n within)))
 
-  outstanding_kept : is_outstanding (with_call r entries) n ≡ is_outstanding r n
+  pub outstanding_kept : is_outstanding (with_call r entries) n ≡ is_outstanding r n
   outstanding_kept =
       let more = longer r entries cut in
       ap (λ b. b && not (has_ended r n)) (lt-ltb n (length (with_call r entries).accepted) (omega (arith, within, more)) ∙ sym (lt-ltb n (length r.accepted) within))
 
+module _ (l : LinuxRequests) (entries : List Sqe) (cut : (length l.requests.accepted ≡ 0) ⊎ (list_any (λ c. c == length l.requests.accepted) l.requests.cuts ≡ true)) (n : ℕ) (within : n < length l.requests.accepted) where
+  abbrev r : Requests
+  r = l.requests
+
   ends_doomed_kept : (linux : Bool) → ends_doomed linux (with_call r entries) n ≡ ends_doomed linux r n
-  ends_doomed_kept true = ap₂ (λ x y. x && y) turn_kept (doom_called r entries cut n within)
+  ends_doomed_kept true = ap₂ (λ x y. x && y) (turn_kept r entries cut n within) (doom_called r entries cut n within)
   ends_doomed_kept false = doom_kept r entries cut n within
 
   may_start_kept : (linux : Bool) → (linux ≡ true → IsBetween l) → may_start linux (called_by linux l entries) n ≡ may_start linux l n
-  may_start_kept true so = ap₂ (λ x y. x && not y) turn_kept (deferred_called l entries n within (so refl))
-  may_start_kept false so = ready_kept
+  may_start_kept true so = ap₂ (λ x y. x && not y) (turn_kept r entries cut n within) (deferred_called l entries n within (so refl))
+  may_start_kept false so = ready_kept r entries cut n within
 
   pub start_kept : (linux : Bool) → (linux ≡ true → IsBetween l) → CanStart linux l n → CanStart linux (called_by linux l entries) n
   start_kept linux so c = record {
-    outstanding = outstanding_kept ∙ c.outstanding;
+    outstanding = outstanding_kept r entries cut n within ∙ c.outstanding;
     idle = c.idle;
     spared = ends_doomed_kept linux ∙ c.spared;
     ready = may_start_kept linux so ∙ c.ready;
@@ -247,7 +245,7 @@ module _ (l : LinuxRequests) (entries : List Sqe) (cut : (length l.requests.acce
 
   pub start_was : (linux : Bool) → (linux ≡ true → IsBetween l) → CanStart linux (called_by linux l entries) n → CanStart linux l n
   start_was linux so c = record {
-    outstanding = sym outstanding_kept ∙ c.outstanding;
+    outstanding = sym (outstanding_kept r entries cut n within) ∙ c.outstanding;
     idle = c.idle;
     spared = sym (ends_doomed_kept linux) ∙ c.spared;
     ready = sym (may_start_kept linux so) ∙ c.ready;

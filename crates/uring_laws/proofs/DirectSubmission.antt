@@ -152,16 +152,11 @@ submission_direct : (g : Setup) (h : History) (w : World) (s : Step) (a : Answer
     → DirectSubmission g ((s, a) ∷ h) v
 submission_direct g h w s a v (stays _ _ r c is_closed off left) sound entries i =
     let f = none_called g h w (s, a) off.opens_none off.opens off.closes off.takes i in
-    record {
-      content = λ slot. i.content slot ∙ sym (ap (λ o. unwrap_or (option_or o (last_told (filled_by slot) h)) zero_entry) (off.fills slot));
-      published = i.published ∙ ap staged_words (sym (before_same is_store_tail (s, a) h off.stores_tail));
-      staged = ap (λ b. staged_words b ++ w.submission.fresh) (before_same is_store_tail (s, a) h off.stores_tail) ∙ i.staged ∙ sym (told_same staged_by (s, a) h off.stages);
-      calls = f.calls;
-      closed = f.closed;
-      openings = f.openings;
-      seen = i.seen ∙ ap taken_count (sym (before_same is_load_head (s, a) h off.loads_head));
-      opened = f.opened;
-    }
+    let content : (slot : ℕ) → w.submission.content slot ≡ slot_content ((s, a) ∷ h) slot = λ slot. i.content slot ∙ sym (ap (λ o. unwrap_or (option_or o (last_told (filled_by slot) h)) zero_entry) (off.fills slot)) in
+    let published = i.published ∙ ap staged_words (sym (before_same is_store_tail (s, a) h off.stores_tail)) in
+    let staged = ap (λ b. staged_words b ++ w.submission.fresh) (before_same is_store_tail (s, a) h off.stores_tail) ∙ i.staged ∙ sym (told_same staged_by (s, a) h off.stages) in
+    let seen = i.seen ∙ ap taken_count (sym (before_same is_load_head (s, a) h off.loads_head)) in
+    assumption (content, published, staged, seen, f)
 submission_direct g h w s a v (fills slot entry) sound entries i =
     let f = none_called g h w (s, a) refl refl refl refl i in
     let content : (asked : ℕ) → (if asked == slot then entry else w.submission.content asked) ≡ slot_content ((step.Fill slot entry, answer.Filled) ∷ h) asked =

@@ -1,12 +1,12 @@
 -- What an end leaves of other requests, by either's rules: who can start, who is to end as doomed and who posts; and the drains that two ends leave, in either order.
-use Rattle.std.proofs.Common.{◌≡◌, ◌≢◌, ℕ, ◌<◌, ◌==◌, ℤ, Bool, true, false, not, ◌&&◌, ◌||◌, nat_lt, if◌then◌else◌, List, [], ◌∷◌, ◌++◌, length, Option, Some, None, refl, sym, subst, ap, ap₂, ◌∙◌, inl, inr}
+use Rattle.std.proofs.Common.{◌≡◌, ◌≢◌, ℕ, ◌<◌, ◌==◌, ℤ, Bool, true, false, not, ◌&&◌, ◌||◌, nat_lt, if◌then◌else◌, List, [], ◌∷◌, ◌++◌, length, Option, refl, sym, subst, ap, ap₂, ◌∙◌, inl, inr}
 use Rattle.std.specs.List.{list_any}
-use Rattle.std.proofs.lemmas.Bool.{and_from, and_parts, and_left, and_right, and_cases, or_parts, both_ways, cases_Bool, cases_eq, not-true, not-false, false_from_ne_true}
+use Rattle.std.proofs.lemmas.Bool.{and_from, and_parts, and_left, and_right, and_cases, or_parts, both_ways, cases_Bool, not-true, not-false, false_from_ne_true}
 use Rattle.uring_entry.specs.Success.{is_success}
-use Rattle.uring_entry.specs.Requests.{Requests, Ending, entry_of, has_ended, is_outstanding, is_running, is_doomed, is_cancelled, is_draining, is_in_faulty_group, is_joined, is_ready, is_soft, some_member, holds_back, waits_for, no_bytes, with_ended}
+use Rattle.uring_entry.specs.Requests.{Requests, Ending, entry_of, has_ended, is_outstanding, is_running, is_doomed, is_cancelled, is_draining, is_in_faulty_group, is_joined, is_ready, some_member, holds_back, waits_for, no_bytes, with_ended}
 use Rattle.uring_entry.specs.Why.{failed_member_of, is_failure_before}
 use Rattle.uring_entry.proofs.BelowLemmas.{some_below_none, least_below_same}
-use Rattle.uring_entry.proofs.RequestLemmas.{list_any_push, has_ended_same, has_ended_other, has_failed_other, is_ready_yes, is_ready_inside, is_running_ended_other, is_doomed_faulty, is_doomed_behind, is_doomed_cancelled}
+use Rattle.uring_entry.proofs.RequestLemmas.{list_any_push, has_ended_same, has_ended_other, is_ready_yes, is_ready_inside, is_running_ended_other, is_doomed_faulty, is_doomed_behind, is_doomed_cancelled}
 use Rattle.uring_entry.proofs.EventLemmas.{is_doomed_tells, is_behind_failure_tells, is_behind_failure_from}
 use Rattle.uring_linux.specs.declared.deferred.Deferred.{Deferred}
 use Rattle.uring_linux.specs.Drains.{Drains, is_in_some, still_deferred}
@@ -16,10 +16,12 @@ use Rattle.uring_linux.proofs.Deferring.{not_alone}
 use Rattle.uring_rules.specs.Rules.{ends_doomed, may_start, posts, drains_ended}
 use Rattle.uring_core.proofs.ListCounts.{any_kept}
 use Rattle.uring_laws.proofs.AlikeDrains.{going_same}
+use Rattle.uring_laws.proofs.AlikeLinux.{behind_one}
+use Rattle.std.proofs.Math.Bool.{or_comm}
 use Rattle.uring_linux.proofs.FaultsKept.{faulty_ended}
 use Rattle.uring_linux.proofs.InOrder.{still_fewer}
 use Rattle.uring_laws.proofs.LinuxSound as sound
-use Rattle.uring_laws.proofs.LinuxSound.{IsFirst, behind_end, doom_ended, doom_stays, first_ended, turn_first}
+use Rattle.uring_laws.proofs.LinuxSound.{IsFirst, behind_end, failure_end, doom_ended, doom_stays, first_ended, turn_first}
 use Rattle.uring_laws.proofs.StartedRequests.{CanStart}
 
 -- m has ended
@@ -54,7 +56,7 @@ module _ (r : Requests) (m : ℕ) (res : ℤ) (bytes : List ℕ) (n : ℕ) where
   unfolding some_member is_joined
   waits_end k = refl
 
-  ready_end : is_ready r n ≡ true → is_ready q n ≡ true
+  pub ready_end : is_ready r n ≡ true → is_ready q n ≡ true
   ready_end ready = is_ready_yes q n free where
     free : (k : ℕ) → k < n → holds_back q n k ≡ false
     free k low = elim (and_cases (not (has_ended r k)) (waits_for r n k) (is_ready_inside r n k ready low)) [
@@ -104,23 +106,12 @@ module _ (r : Requests) (m : ℕ) (res : ℤ) (bytes : List ℕ) (n : ℕ) where
   ends_doomed_stays false doomed = stays_doomed doomed
 
   failed_one_end : IsFirst r n → has_ended r m ≡ false → failed_member_of q n ≡ failed_member_of r n
-  unfolding is_joined
-  failed_one_end first still = least_below_same (is_failure_before q n) (is_failure_before r n) n by_number where
-    by_number : (k : ℕ) → k < n → is_failure_before q n k ≡ is_failure_before r n k
-    by_number k low = elim (cases_eq k m) [
-      | inl same ↦
-          let none : is_joined r k n ≡ false = false_from_ne_true _ (λ joined. both_ways _ still (subst (λ j. has_ended r j ≡ true) same (first k low joined))) in
-          and_left _ _ (and_left _ _ none) ∙ sym (and_left _ _ (and_left _ _ none))
-      | inr differ ↦ ap (λ b. is_joined r k n && is_soft (entry_of r k) && b) (has_failed_other r m res bytes k differ)
-    ]
+  failed_one_end first still =
+      least_below_same (is_failure_before q n) (is_failure_before r n) n (failure_end r m res bytes n (λ lt. false_from_ne_true _ (λ joined. both_ways _ still (first m lt joined))))
 
   first_one_end : first_of q n ≡ first_of r n
   unfolding first_of is_joined
   first_one_end = refl
-
-  behind_one : (o : Option ℕ) (other : ℤ) → posts_behind q o n other ≡ posts_behind r o n other
-  behind_one None other = refl
-  behind_one (Some k) other = refl
 
   breaker_end : IsFirst r n → has_ended r m ≡ false → breaker_of q n ≡ breaker_of r n
   breaker_end first still =
@@ -131,7 +122,7 @@ module _ (r : Requests) (m : ℕ) (res : ℤ) (bytes : List ℕ) (n : ℕ) where
   pub posts_end : (linux : Bool) → (linux ≡ true → IsFirst r n) → has_ended r m ≡ false → (other : ℤ)
       → posts linux q n other ≡ posts linux r n other
   posts_end true first still other =
-      behind_one (breaker_of q n) other ∙ ap (λ (o : Option ℕ). posts_behind r o n other) (breaker_end (first refl) still)
+      behind_one r r.started r.cancelled q.ended (breaker_of q n) n other ∙ ap (λ (o : Option ℕ). posts_behind r o n other) (breaker_end (first refl) still)
   posts_end false first still other = refl
 
 -- Who can start beside an end.
@@ -198,12 +189,7 @@ other_than r m res bytes n outstanding same =
 
 pub either_order : (x y z : Bool) → ((x || y) || z) ≡ ((x || z) || y)
 either_order true y z = refl
-either_order false true true = refl
-either_order false true false = refl
-either_order false false z = sym (none z) where
-  none : (b : Bool) → (b || false) ≡ b
-  none true = refl
-  none false = refl
+either_order false y z = or_comm y z
 
 -- whoever is outstanding and not deferred when another ends keeps the deferred from going on
 pub record IsApart (l : LinuxRequests) (n : ℕ) : Type 0 where
@@ -211,7 +197,7 @@ pub record IsApart (l : LinuxRequests) (n : ℕ) : Type 0 where
   pub still : has_ended l.requests n ≡ false
   pub free : is_in_some l.drains.deferred n ≡ false
 
-unmoved : (alone : Bool) (groups : List Deferred) → alone ≡ false → still_deferred alone groups ≡ groups
+pub unmoved : (alone : Bool) (groups : List Deferred) → alone ≡ false → still_deferred alone groups ≡ groups
 unmoved false [] e = refl
 unmoved false (g ∷ rest) e = refl
 unmoved true groups e = absurd (let f : true ≡ false = e in cc)

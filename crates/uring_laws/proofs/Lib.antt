@@ -46,7 +46,7 @@ pub mod Swapping
 pub mod Apart
 pub mod CalledRequests
 pub mod Unseen
-pub mod DoomedEnds
+pub mod TwoEnds
 pub mod Sides
 pub mod Reordered
 -- The definitions, computed on one history:

@@ -12,7 +12,7 @@ use Rattle.uring_linux.specs.declared.deferred.Deferred.{Deferred}
 use Rattle.uring_linux.specs.Drains.{Drains, is_in_some, still_deferred, deferred_with, with_deferred, with_ring}
 use Rattle.uring_linux.specs.LinuxRequests.{LinuxRequests, has_fault, is_let_in, is_granted_drain, is_in_faulty_group, is_deferred, is_alone, is_faulty_from, after_going_on, with_group, with_last_entry, with_accepted, with_cut, with_ended}
 use Rattle.uring_linux.specs.Happenings.{Happening, Call, Start, End, with_entries, made_by, MayHaveHappened}
-use Rattle.uring_linux.proofs.WindowEvents.{last_accepted, last_kept}
+use Rattle.uring_linux.proofs.WindowEvents.{last_accepted}
 use Rattle.uring_linux.proofs.Deferring.{not_alone}
 use Rattle.uring_linux.proofs.Standings.{fine_let_in}
 use Rattle.uring_linux.proofs.InOrder.{pushed_new, pushed_old, ring_off, order_higher, order_push, order_still}
@@ -20,7 +20,7 @@ use Rattle.uring_linux.proofs.FaultsKept.{group_faulty, healthy_from}
 use Rattle.uring_linux.proofs.Reaching.{IsSettled, accepted_settled, all_between}
 use Rattle.uring_laws.specs.LinuxLaws.{is_first, owes_drain, may_take, is_owed_by, takes_drain, drains}
 use Rattle.uring_laws.proofs.LinuxGroups.{marks, IsTold, AreTold, gone_calm, left_calm}
-use Rattle.uring_laws.proofs.LinuxKept.{HasDrain, Waits, KeepsGroups, accepted_keeps, cut_keeps, started_keeps, ended_keeps, WaitForNone, RingDrains, IsOwed, IsDrained, more_waits, more_ring, more_told}
+use Rattle.uring_laws.proofs.LinuxKept.{HasDrain, Waits, KeepsGroups, accepted_keeps, cut_keeps, started_keeps, ended_keeps, WaitForNone, RingDrains, IsOwed, Holds, IsDrained, more_waits, more_ring, more_told, more_begins, still_holds}
 
 -- Whoever goes on waits for nobody that hasn't ended.
 
@@ -56,15 +56,9 @@ gone_ended r xs high n m true is told low lt apart here gone w = elim (cases_Boo
 
 record IsAmid (r : Requests) (d : Drains) : Type 0 where
   some : d.from < length r.accepted
-  begins : (k : ℕ) → suc k ≡ d.from → is_last r k ≡ true
   one : (k : ℕ) → d.from ≤ k → suc k < length r.accepted → is_last r k ≡ false
   last : (k : ℕ) → suc k ≡ length r.accepted → is_last r k ≡ true
-  told : AreTold r 0 d.deferred d.from
-  waits : WaitForNone r d.from d.deferred
-  ring : RingDrains r d
-  group : d.group ≡ false → (k : ℕ) → d.from ≤ k → k < length r.accepted → has_fault r k ≡ false → marks r k ≡ false
-  on : d.ring ≡ false → d.group ≡ false
-  owed : IsOwed r d
+  holds : Holds r d
 
 module _ (r : Requests) (d : Drains) (i : IsAmid r d) where
   joined_new : (m n : ℕ) → d.from ≤ m → n < length r.accepted → is_joined r m n ≡ true
@@ -82,8 +76,8 @@ module _ (r : Requests) (d : Drains) (i : IsAmid r d) where
   calm_new n still low high right =
       some_below_none (λ m. is_in_group r m n && marks r m) (length r.accepted)
       (λ m lt. elim (cases_lt m d.from) [
-        | inl before ↦ and_left _ _ (is_joined_no r (min m n) (max m n) (d.from - 1) (omega (arith, before, low)) (omega (arith, before, low)) (i.begins (d.from - 1) (omega (arith, before))))
-        | inr past ↦ and_right _ _ (i.group still m past lt (right_new n m low high past lt right))
+        | inl before ↦ and_left _ _ (is_joined_no r (min m n) (max m n) (d.from - 1) (omega (arith, before, low)) (omega (arith, before, low)) (i.holds.begins (d.from - 1) (omega (arith, before))))
+        | inr past ↦ and_right _ _ (i.holds.group still m past lt (right_new n m low high past lt right))
       ])
 
   abbrev g : Deferred
@@ -91,26 +85,26 @@ module _ (r : Requests) (d : Drains) (i : IsAmid r d) where
 
   told_new : is_faulty_from r d.from ≡ false → IsTold r g
   told_new right = record {
-    begins = i.begins;
+    begins = i.holds.begins;
     ends = i.last;
     one = i.one;
-    told = λ still k le lt. i.group still k le lt (healthy_from r d.from right k le lt);
+    told = λ still k le lt. i.holds.group still k le lt (healthy_from r d.from right k le lt);
   }
 
   abbrev all : List Deferred
   all = deferred_with d (length r.accepted)
 
   told_all : is_faulty_from r d.from ≡ false → AreTold r 0 all (length r.accepted)
-  told_all right = order_push (IsTold r) 0 d.deferred d.from g (omega arith) i.some (told_new right) i.told
+  told_all right = order_push (IsTold r) 0 d.deferred d.from g (omega arith) i.some (told_new right) i.holds.told
 
   some_waits : (b : Bool) → (not d.ring || is_faulty_from r d.from) ≡ true → WaitForNone r (length r.accepted) d.deferred
   some_waits b e n m lt under apart out right w = elim (cases_lt n d.from) [
-    | inl before ↦ i.waits n m before under apart out right w
+    | inl before ↦ i.holds.waits n m before under apart out right w
     | inr past ↦ elim (or_cases (not d.ring) (is_faulty_from r d.from) e) [
       | inl off ↦ elim w [
-        | inl drains ↦ absurd (both_ways _ (calm_new n (i.on (not-true _ off)) past lt right) drains)
+        | inl drains ↦ absurd (both_ways _ (calm_new n (i.holds.on (not-true _ off)) past lt right) drains)
         | inr other ↦ elim (cases_lt m d.from) [
-          | inl low ↦ i.ring (not-true _ off) m low other
+          | inl low ↦ i.holds.ring (not-true _ off) m low other
           | inr high ↦ absurd (both_ways _ apart (joined_new m n high lt))
         ]
       ]
@@ -122,7 +116,7 @@ module _ (r : Requests) (d : Drains) (i : IsAmid r d) where
   held_waits fine n m lt under apart out right w = elim (cases_Bool (is_in_some all n)) [
     | inl here ↦ gone_ended r all (length r.accepted) n m (is_alone r all) refl (told_all fine) (omega (arith, lt, under)) under apart here out w
     | inr never ↦ elim (cases_lt n d.from) [
-      | inl before ↦ i.waits n m before under apart (false_from_ne_true (is_in_some d.deferred n) (λ old. both_ways (is_in_some all n) never (pushed_old d.deferred g n old))) right w
+      | inl before ↦ i.holds.waits n m before under apart (false_from_ne_true (is_in_some d.deferred n) (λ old. both_ways (is_in_some all n) never (pushed_old d.deferred g n old))) right w
       | inr past ↦ absurd (both_ways (is_in_some all n) never (pushed_new d.deferred g n past lt))
     ]
   ]
@@ -139,8 +133,8 @@ module _ (r : Requests) (d : Drains) (i : IsAmid r d) where
 
   some_ring : RingDrains r (with_deferred d (length r.accepted) d.deferred)
   some_ring off m lt other = elim (cases_lt m d.from) [
-    | inl before ↦ i.ring off m before other
-    | inr past ↦ absurd (both_ways _ (calm_new m (i.on off) past lt other.right) other.drains)
+    | inl before ↦ i.holds.ring off m before other
+    | inr past ↦ absurd (both_ways _ (calm_new m (i.holds.on off) past lt other.right) other.drains)
   ]
 
   group_drained : IsDrained r (with_group r d)
@@ -149,30 +143,41 @@ module _ (r : Requests) (d : Drains) (i : IsAmid r d) where
         → IsDrained r (if b then with_deferred d (length r.accepted) d.deferred else with_ring (with_deferred d (length r.accepted) (after_going_on r (deferred_with d (length r.accepted)))) d.group)
     go true e = record {
       low = omega arith;
-      begins = i.last;
       amid = λ k le lt. absurd (omega (arith, le, lt));
-      told = let lt = i.some in order_higher (IsTold r) 0 d.deferred d.from (length r.accepted) (omega (arith, lt)) i.told;
-      waits = some_waits true e;
-      ring = some_ring;
-      group = λ still k le lt. absurd (omega (arith, le, lt));
-      on = λ off. refl;
-      owed = i.owed;
+      holds = record {
+        begins = i.last;
+        told = let lt = i.some in order_higher (IsTold r) 0 d.deferred d.from (length r.accepted) (omega (arith, lt)) i.holds.told;
+        waits = some_waits true e;
+        ring = some_ring;
+        group = λ still k le lt. absurd (omega (arith, le, lt));
+        on = λ off. refl;
+        owed = i.holds.owed;
+      };
     }
     go false e =
         let p = or_parts (not d.ring) (is_faulty_from r d.from) e in
         record {
           low = omega arith;
-          begins = i.last;
           amid = λ k le lt. absurd (omega (arith, le, lt));
-          told = order_still (IsTold r) (is_alone r all) 0 all (length r.accepted) (told_all p.1);
-          waits = held_waits p.1;
-          ring = λ off m lt other. let q = ring_off d.ring d.group (after_going_on r all) (not-false _ p.0) off in none_left (is_alone r all) refl p.1 q.0 q.1 m lt other;
-          group = λ still k le lt. absurd (omega (arith, le, lt));
-          on = λ off. refl;
-          owed = i.owed;
+          holds = record {
+            begins = i.last;
+            told = order_still (IsTold r) (is_alone r all) 0 all (length r.accepted) (told_all p.1);
+            waits = held_waits p.1;
+            ring = λ off m lt other. let q = ring_off d.ring d.group (after_going_on r all) (not-false _ p.0) off in none_left (is_alone r all) refl p.1 q.0 q.1 m lt other;
+            group = λ still k le lt. absurd (omega (arith, le, lt));
+            on = λ off. refl;
+            owed = i.holds.owed;
+          };
         }
 
 -- An entry is accepted.
+
+-- if both don't hold and one does, the other doesn't
+and_right_no : (a b : Bool) → a ≡ true → (a && b) ≡ false → b ≡ false
+and_right_no a b is none = sym (ap (λ c. c && b) is) ∙ none
+
+and_left_no : (a b : Bool) → (a && b) ≡ false → b ≡ true → a ≡ false
+and_left_no a b none is = false_from_ne_true a (λ so. both_ways (a && b) none (and_from a b so is))
 
 -- a drain is owed behind an entry, if the entry owes one, or one was owed and it may not take that
 owed_on : (first was let_in granted : Bool) → (first ≡ false → (was || granted) ≡ true)
@@ -200,14 +205,7 @@ accepted_drained l e s i = go (is_linked e) refl where
   keeps = accepted_keeps l.requests e
 
   ring : RingDrains r d
-  ring off = more_ring l.requests r l.drains keeps i (or_parts l.drains.ring _ off).0
-
-  drain_if : (drain granted : Bool) → (drain && granted) ≡ false → granted ≡ true → drain ≡ false
-  drain_if drain true e f = and_true drain e where
-    and_true : (b : Bool) → (b && true) ≡ false → b ≡ false
-    and_true true g = g
-    and_true false g = refl
-  drain_if drain false e f = absurd (let g : false ≡ true = f in cc)
+  ring off = more_ring l.requests r l.drains keeps i.low i.holds (or_parts l.drains.ring _ off).0
 
   -- the entry is the first of its group exactly if a group was accepted right before it
   first_is : (l.drains.from == last) ≡ is_first r last
@@ -219,7 +217,7 @@ accepted_drained l e s i = go (is_linked e) refl where
     | inr past ↦
         (let low = i.low in eq-eqb l.drains.from last (omega (arith, low, past)))
         ∙ sym (ap not (some_below_none (λ k. is_joined r k last) last
-        (λ k lt. is_joined_no r k last (last - 1) (omega (arith, lt)) (omega (arith, lt)) (keeps.cut (last - 1) (omega (arith, lt)) (i.begins (last - 1) (let low = i.low in omega (arith, low, past, lt)))))))
+        (λ k lt. is_joined_no r k last (last - 1) (omega (arith, lt)) (omega (arith, lt)) (keeps.cut (last - 1) (omega (arith, lt)) (i.holds.begins (last - 1) (let low = i.low in omega (arith, low, past, lt)))))))
   ]
 
   -- a drain was owed that the entry takes
@@ -229,12 +227,8 @@ accepted_drained l e s i = go (is_linked e) refl where
       let k : ℕ = found.0 in
       let within : k < last = found.1 in
       let parts = and_parts (owes_drain r k) _ found.2 in
-      i.owed k within (sym (keeps.owe k within) ∙ parts.0)
-      (λ f past lt. sym (keeps.take f lt) ∙ and_false (nat_lt k f) (may_take r f) (lt-ltb k f past) (some_below_out (λ j. nat_lt k j && may_take r j) last (not-true _ parts.1) f lt))
-    where
-      and_false : (a b : Bool) → a ≡ true → (a && b) ≡ false → b ≡ false
-      and_false true b is e = e
-      and_false false b is e = absurd (let f : false ≡ true = is in cc)
+      i.holds.owed k within (sym (keeps.owe k within) ∙ parts.0)
+      (λ f past lt. sym (keeps.take f lt) ∙ and_right_no (nat_lt k f) (may_take r f) (lt-ltb k f past) (some_below_out (λ j. nat_lt k j && may_take r j) last (not-true _ parts.1) f lt))
 
   takes_none : (l.drains.owed && ((l.drains.from == last) && is_let_in r last)) ≡ false → takes_drain r last ≡ false
   takes_none none = false_from_ne_true (takes_drain r last) (λ takes.
@@ -246,11 +240,11 @@ accepted_drained l e s i = go (is_linked e) refl where
       let p = or_parts l.drains.group _ still in
       let q = or_parts (is_granted_drain r last) _ p.1 in
       elim (cases_lt k last) [
-        | inl before ↦ keeps.drain k before ∙ i.group p.0 k le before (sym (keeps.faults.fault k before) ∙ fine)
+        | inl before ↦ keeps.drain k before ∙ i.holds.group p.0 k le before (sym (keeps.faults.fault k before) ∙ fine)
         | inr past ↦
             let same : last ≡ k = omega (arith, past, lt, more) in
             subst (λ j. has_fault r j ≡ false → marks r j ≡ false) same
-            (λ right. or_from _ _ (drain_if (is_drain (entry_of r last)) (is_let_in r last) q.0 (fine_let_in r last right)) (takes_none q.1)) fine
+            (λ right. or_from _ _ (and_left_no (is_drain (entry_of r last)) (is_let_in r last) q.0 (fine_let_in r last right)) (takes_none q.1)) fine
       ]
 
   owed : IsOwed r d
@@ -267,23 +261,27 @@ accepted_drained l e s i = go (is_linked e) refl where
       ])
     where
       still : k < last → l.drains.owed ≡ true
-      still before = i.owed k before (sym (keeps.owe k before) ∙ owes) (λ f past low. sym (keeps.take f low) ∙ none f past (omega (arith, low, more)))
+      still before = i.holds.owed k before (sym (keeps.owe k before) ∙ owes) (λ f past low. sym (keeps.take f low) ∙ none f past (omega (arith, low, more)))
 
       let_out : (l.drains.from == last) ≡ true → k < last → is_let_in r last ≡ false
-      let_out first before = and_by (is_first r last) (is_let_in r last) (sym first_is ∙ first) (none last before (omega (arith, more)))
-        where
-          and_by : (a b : Bool) → a ≡ true → (a && b) ≡ false → b ≡ false
-          and_by true b is e = e
-          and_by false b is e = absurd (let f : false ≡ true = is in cc)
+      let_out first before = and_right_no (is_first r last) (is_let_in r last) (sym first_is ∙ first) (none last before (omega (arith, more)))
 
   on_by : (a b x : Bool) → (a ≡ false → b ≡ false) → (a || x) ≡ false → (b || x) ≡ false
   on_by a b x so off = let p = or_parts a x off in or_from _ _ (so p.0) p.1
 
   on : d.ring ≡ false → d.group ≡ false
-  on off = on_by l.drains.ring l.drains.group _ i.on off
+  on off = on_by l.drains.ring l.drains.group _ i.holds.on off
 
-  begins : (k : ℕ) → suc k ≡ d.from → is_last r k ≡ true
-  begins k is = let low = i.low in keeps.cut k (omega (arith, is, low)) (i.begins k is)
+  holds : Holds r d
+  holds = record {
+    begins = more_begins l.requests r l.drains keeps i.low i.holds;
+    told = more_told l.requests r l.drains keeps i.low i.holds;
+    waits = more_waits l.requests r l.drains keeps i.low i.holds;
+    ring = ring;
+    group = group;
+    on = on;
+    owed = owed;
+  }
 
   new_open : is_linked e ≡ true → is_last r last ≡ false
   new_open linked = or_from _ _ (ap (λ x. not (is_linked x)) (entry_of_accepted_at l.requests e) ∙ ap not linked) (s.later last (omega arith)).cut
@@ -291,29 +289,17 @@ accepted_drained l e s i = go (is_linked e) refl where
   go : (b : Bool) → is_linked e ≡ b → IsDrained r (if b then d else with_group r d)
   go true linked = record {
     low = let low = i.low in omega (arith, low, more);
-    begins = begins;
     amid = λ k le lt. elim (cases_lt k last) [
       | inl before ↦ last_accepted l.requests e k before ∙ i.amid k le before
       | inr past ↦ (let same : last ≡ k = omega (arith, past, lt, more) in subst (λ j. is_last r j ≡ false) same (new_open linked))
     ];
-    told = more_told l.requests r l.drains keeps i;
-    waits = more_waits l.requests r l.drains keeps i;
-    ring = ring;
-    group = group;
-    on = on;
-    owed = owed;
+    holds = holds;
   }
   go false free = group_drained r d (record {
     some = let low = i.low in omega (arith, low, more);
-    begins = begins;
     one = λ k le lt. (let before : k < last = omega (arith, lt, more) in last_accepted l.requests e k before ∙ i.amid k le before);
     last = λ k is. (let same : k ≡ last = omega (arith, is, more) in or_left _ _ (ap (λ n. not (is_linked (entry_of r n))) same ∙ ap (λ x. not (is_linked x)) (entry_of_accepted_at l.requests e) ∙ ap not free));
-    told = more_told l.requests r l.drains keeps i;
-    waits = more_waits l.requests r l.drains keeps i;
-    ring = ring;
-    group = group;
-    on = on;
-    owed = owed;
+    holds = holds;
   })
 
 entries_drained : (l : LinuxRequests) (entries : List Sqe) → IsSettled l → IsDrained l.requests l.drains
@@ -330,85 +316,46 @@ cut_drained l i = go (nat_lt l.drains.from (length l.requests.accepted)) refl wh
   r : Requests
   r = manual.with_cut l.requests
 
-  keeps : KeepsGroups l.requests r
-  keeps = cut_keeps l.requests
-
-  begins : (k : ℕ) → suc k ≡ l.drains.from → is_last r k ≡ true
-  begins k is = last_kept l.requests k (i.begins k is)
-
-  group : l.drains.group ≡ false → (k : ℕ) → l.drains.from ≤ k → k < length r.accepted → has_fault r k ≡ false → marks r k ≡ false
-  group still k le lt fine = keeps.drain k lt ∙ i.group still k le lt fine
-
-  owed : IsOwed r l.drains
-  owed k lt owes none = i.owed k lt (sym (keeps.owe k lt) ∙ owes) (λ f past low. sym (keeps.take f low) ∙ none f past low)
+  holds : Holds r l.drains
+  holds = still_holds l.requests r l.drains (cut_keeps l.requests) i.low i.holds refl
 
   go : (b : Bool) → nat_lt l.drains.from (length l.requests.accepted) ≡ b → IsDrained r (if b then with_group r l.drains else l.drains)
   go true e = group_drained r l.drains (record {
     some = ltb-true _ _ e;
-    begins = begins;
     one = λ k le lt. is_last_cut l.requests k (λ f. absurd (omega (arith, f, lt))) ∙ i.amid k le (omega (arith, lt));
     last = λ k is. is_last_cut_last l.requests k is;
-    told = more_told l.requests r l.drains keeps i;
-    waits = more_waits l.requests r l.drains keeps i;
-    ring = more_ring l.requests r l.drains keeps i;
-    group = group;
-    on = i.on;
-    owed = owed;
+    holds = holds;
   })
   go false e =
       let past : length l.requests.accepted ≤ l.drains.from = ltb-false _ _ e in
-      record {
-        low = i.low;
-        begins = begins;
-        amid = λ k le lt. absurd (omega (arith, le, lt, past));
-        told = more_told l.requests r l.drains keeps i;
-        waits = more_waits l.requests r l.drains keeps i;
-        ring = more_ring l.requests r l.drains keeps i;
-        group = group;
-        on = i.on;
-        owed = owed;
-      }
+      record { low = i.low; amid = λ k le lt. absurd (omega (arith, le, lt, past)); holds = holds }
 
 -- A request starts or ends, between calls.
 
 start_drained : (l : LinuxRequests) (n : ℕ) → IsDrained l.requests l.drains
     → IsDrained (manual.with_started l.requests n) l.drains
-start_drained l n i =
-    let q : Requests = manual.with_started l.requests n in
-    let keeps = started_keeps l.requests n in
-    record {
-      low = i.low;
-      begins = i.begins;
-      amid = i.amid;
-      told = more_told l.requests q l.drains keeps i;
-      waits = more_waits l.requests q l.drains keeps i;
-      ring = more_ring l.requests q l.drains keeps i;
-      group = λ still k le lt fine. keeps.drain k lt ∙ i.group still k le lt fine;
-      on = i.on;
-      owed = λ k lt owes none. i.owed k lt (sym (keeps.owe k lt) ∙ owes) (λ f past low. sym (keeps.take f low) ∙ none f past low);
-    }
+start_drained l n i = record {
+  low = i.low;
+  amid = i.amid;
+  holds = still_holds l.requests (manual.with_started l.requests n) l.drains (started_keeps l.requests n) i.low i.holds refl;
+}
 
 end_drained : (l : LinuxRequests) (n : ℕ) (res : ℤ) (bytes : List ℕ) → IsDrained l.requests l.drains
     → IsDrained (with_ended l n res bytes).requests (with_ended l n res bytes).drains
 end_drained l n res bytes i =
     let q : Requests = manual.with_ended l.requests n res bytes in
     let xs : List Deferred = l.drains.deferred in
-    let keeps = ended_keeps l.requests n res bytes in
-    let told : AreTold q 0 xs l.drains.from = more_told l.requests q l.drains keeps i in
-    let waits : WaitForNone q l.drains.from xs = more_waits l.requests q l.drains keeps i in
+    let h : Holds q l.drains = still_holds l.requests q l.drains (ended_keeps l.requests n res bytes) i.low i.holds refl in
     record {
       low = i.low;
-      begins = i.begins;
       amid = i.amid;
-      told = order_still (IsTold q) (is_alone q xs) 0 xs l.drains.from told;
-      waits = λ k m lt under apart out right w. elim (cases_Bool (is_in_some xs k)) [
-        | inl here ↦ (let low = i.low in gone_ended q xs l.drains.from k m (is_alone q xs) refl told (omega (arith, lt, under, low)) under apart here out w)
-        | inr never ↦ waits k m lt under apart never right w
-      ];
-      ring = more_ring l.requests q l.drains keeps i;
-      group = λ still k le lt fine. keeps.drain k lt ∙ i.group still k le lt fine;
-      on = i.on;
-      owed = λ k lt owes none. i.owed k lt (sym (keeps.owe k lt) ∙ owes) (λ f past low. sym (keeps.take f low) ∙ none f past low);
+      holds =
+          let told = order_still (IsTold q) (is_alone q xs) 0 xs l.drains.from h.told in
+          let waits : WaitForNone q l.drains.from (still_deferred (is_alone q xs) xs) = λ k m lt under apart out right w. elim (cases_Bool (is_in_some xs k)) [
+            | inl here ↦ (let low = i.low in gone_ended q xs l.drains.from k m (is_alone q xs) refl h.told (omega (arith, lt, under, low)) under apart here out w)
+            | inr never ↦ h.waits k m lt under apart never right w
+          ] in
+          assumption (told, waits, h);
     }
 
 -- Whatever happened.
@@ -416,14 +363,16 @@ end_drained l n res bytes i =
 nothing_drained : IsDrained manual.no_request (made_by []).drains
 nothing_drained = record {
   low = omega arith;
-  begins = λ k e. absurd (omega (arith, e));
   amid = λ k le lt. absurd (omega (arith, lt));
-  told = omega arith;
-  waits = λ n m lt. absurd (omega (arith, lt));
-  ring = λ off m lt. absurd (omega (arith, lt));
-  group = λ still k le lt. absurd (omega (arith, lt));
-  on = λ off. refl;
-  owed = λ k lt. absurd (omega (arith, lt));
+  holds = record {
+    begins = λ k e. absurd (omega (arith, e));
+    told = omega arith;
+    waits = λ n m lt. absurd (omega (arith, lt));
+    ring = λ off m lt. absurd (omega (arith, lt));
+    group = λ still k le lt. absurd (omega (arith, lt));
+    on = λ off. refl;
+    owed = λ k lt. absurd (omega (arith, lt));
+  };
 }
 
 all_drained : (happened : List Happening) → MayHaveHappened happened
@@ -443,4 +392,4 @@ pub waits_for_none : (happened : List Happening) → MayHaveHappened happened �
     → has_ended (made_by happened).requests m ≡ true
 waits_for_none happened may n m lt under apart free right w =
     let closed = (all_between happened may).closed in
-    (all_drained happened may).waits n m (omega (arith, lt, closed)) under apart free right w
+    (all_drained happened may).holds.waits n m (omega (arith, lt, closed)) under apart free right w

@@ -171,10 +171,9 @@ abbrev pub IsOwed : Requests → Drains → Type 0
 IsOwed r d = (k : ℕ) → k < length r.accepted → owes_drain r k ≡ true
     → ((f : ℕ) → k < f → f < length r.accepted → may_take r f ≡ false) → d.owed ≡ true
 
-pub record IsDrained (r : Requests) (d : Drains) : Type 0 where
-  pub low : d.from ≤ length r.accepted
+-- what holds of requests and drains, whether or not a group is being accepted
+pub record Holds (r : Requests) (d : Drains) : Type 0 where
   pub begins : (k : ℕ) → suc k ≡ d.from → is_last r k ≡ true
-  pub amid : (k : ℕ) → d.from ≤ k → k < length r.accepted → is_last r k ≡ false
   pub told : AreTold r 0 d.deferred d.from
   pub waits : WaitForNone r d.from d.deferred
   pub ring : RingDrains r d
@@ -182,23 +181,40 @@ pub record IsDrained (r : Requests) (d : Drains) : Type 0 where
   pub on : d.ring ≡ false → d.group ≡ false
   pub owed : IsOwed r d
 
+pub record IsDrained (r : Requests) (d : Drains) : Type 0 where
+  pub low : d.from ≤ length r.accepted
+  pub amid : (k : ℕ) → d.from ≤ k → k < length r.accepted → is_last r k ≡ false
+  pub holds : Holds r d
+
 -- the same once more was accepted, of what stood before
-module _ (r q : Requests) (d : Drains) (same : KeepsGroups r q) (i : IsDrained r d) where
+module _ (r q : Requests) (d : Drains) (same : KeepsGroups r q) (low : d.from ≤ length r.accepted) (i : Holds r d) where
   waits_before : (n m : ℕ) → n < d.from → m < n → Waits q n m → Waits r n m
-  waits_before n m lt under (inl drains) = let low = i.low in inl (draining_kept r q same n d.from low lt i.begins drains)
+  waits_before n m lt under (inl drains) = inl (draining_kept r q same n d.from low lt i.begins drains)
   waits_before n m lt under (inr other) =
-      let low = i.low in
       inr (record { drains = draining_kept r q same m d.from low (omega (arith, lt, under)) i.begins other.drains; right = right_kept r q same.faults m (omega (arith, lt, under, low)) other.right })
 
   pub more_waits : WaitForNone q d.from d.deferred
   more_waits n m lt under apart out right w =
-      let low = i.low in
       same.ended m (i.waits n m lt under (sym (joined_kept r q same.faults m n (omega (arith, lt, low))) ∙ apart) out (right_kept r q same.faults n (omega (arith, lt, low)) right) (waits_before n m lt under w))
 
   pub more_ring : RingDrains q d
   more_ring off m lt other =
-      let low = i.low in
       same.ended m (i.ring off m lt (record { drains = draining_kept r q same m d.from low lt i.begins other.drains; right = right_kept r q same.faults m (omega (arith, lt, low)) other.right }))
 
   pub more_told : AreTold q 0 d.deferred d.from
-  more_told = order_kept (IsTold r) (IsTold q) 0 d.deferred d.from i.told (λ g there some within is. let low = i.low in told_more r q same g some (omega (arith, within, low)) is)
+  more_told = order_kept (IsTold r) (IsTold q) 0 d.deferred d.from i.told (λ g there some within is. told_more r q same g some (omega (arith, within, low)) is)
+
+  pub more_begins : (k : ℕ) → suc k ≡ d.from → is_last q k ≡ true
+  more_begins k is = same.cut k (omega (arith, is, low)) (i.begins k is)
+
+  -- and all of it, if no more was accepted
+  pub still_holds : length q.accepted ≡ length r.accepted → Holds q d
+  still_holds many = record {
+    begins = more_begins;
+    told = more_told;
+    waits = more_waits;
+    ring = more_ring;
+    group = λ still k le lt fine. let before : k < length r.accepted = omega (arith, lt, many) in same.drain k before ∙ i.group still k le before (sym (same.faults.fault k before) ∙ fine);
+    on = i.on;
+    owed = λ k lt owes none. let before : k < length r.accepted = omega (arith, lt, many) in i.owed k before (sym (same.owe k before) ∙ owes) (λ f past under. sym (same.take f under) ∙ none f past (omega (arith, under, many)));
+  }

@@ -12,6 +12,7 @@ use Rattle.uring_entry.specs.Preparation.{is_faulty}
 use Rattle.uring_entry.specs.Submission.{entries_of, places_from}
 use Rattle.uring_entry.specs.declared.errno.TheConstants.{EINVAL, EOPNOTSUPP, ECANCELED}
 use Rattle.uring_entry.specs.Requests.{Requests, Ending, no_request, entry_of, has_started, has_ended, has_failed, is_last, is_soft, is_joined, is_in_group, is_behind_failure, with_call, with_started, with_ended}
+use Rattle.uring_entry.specs.Why.{is_failure_before}
 use Rattle.uring_entry.proofs.BelowLemmas.{some_below_same, some_below_between, some_below_out}
 use Rattle.uring_entry.proofs.RequestLemmas.{is_joined_no, list_any_push, has_failed_other}
 use Rattle.uring_entry.proofs.EventLemmas.{is_joined_started, is_joined_ended, is_behind_failure_tells, is_behind_failure_from}
@@ -76,19 +77,23 @@ start_linux r n spared first s =
 -- A request ends.
 
 -- by either's rules the end of another counts for nobody who isn't behind it in its group
+pub failure_end : (r : Requests) (m : ℕ) (res : ℤ) (bytes : List ℕ) (n : ℕ)
+    → (m < n → is_joined r m n ≡ false) → (k : ℕ) → k < n
+    → is_failure_before (with_ended r m res bytes) n k ≡ is_failure_before r n k
+unfolding is_joined
+failure_end r m res bytes n apart k low = elim (cases_eq k m) [
+  | inl same ↦
+      let none : is_joined r k n ≡ false = subst (λ j. j < n → is_joined r j n ≡ false) (sym same) apart low in
+      and_left _ _ (and_left _ _ none) ∙ sym (and_left _ _ (and_left _ _ none))
+  | inr differ ↦ ap (λ b. is_joined r k n && is_soft (entry_of r k) && b) (has_failed_other r m res bytes k differ)
+]
+
 pub behind_end : (r : Requests) (m : ℕ) (res : ℤ) (bytes : List ℕ) (n : ℕ)
     → (m < n → is_joined r m n ≡ false)
     → is_behind_failure (with_ended r m res bytes) n ≡ is_behind_failure r n
-unfolding is_behind_failure is_joined
+unfolding is_behind_failure
 behind_end r m res bytes n apart =
-    some_below_same (λ k. is_joined (with_ended r m res bytes) k n && is_soft (entry_of r k) && has_failed (with_ended r m res bytes) k) (λ k. is_joined r k n && is_soft (entry_of r k) && has_failed r k) n by_number where
-      by_number : (k : ℕ) → k < n → (is_joined r k n && is_soft (entry_of r k) && has_failed (with_ended r m res bytes) k) ≡ (is_joined r k n && is_soft (entry_of r k) && has_failed r k)
-      by_number k low = elim (cases_eq k m) [
-        | inl same ↦
-            let none : is_joined r k n ≡ false = subst (λ j. j < n → is_joined r j n ≡ false) (sym same) apart low in
-            and_left _ _ (and_left _ _ none) ∙ sym (and_left _ _ (and_left _ _ none))
-        | inr differ ↦ ap (λ b. is_joined r k n && is_soft (entry_of r k) && b) (has_failed_other r m res bytes k differ)
-      ]
+    some_below_same (is_failure_before (with_ended r m res bytes) n) (is_failure_before r n) n (failure_end r m res bytes n apart)
 
 module _ (r : Requests) (n : ℕ) (res : ℤ) (bytes : List ℕ) where
   pub first_ended : (m : ℕ) → IsFirst r m → IsFirst (with_ended r n res bytes) m

@@ -1,5 +1,6 @@
--- The laws of doomed requests, links and drains, by the manual pages' rules.
-use Rattle.std.proofs.Common.{◌≡◌, ℕ, ◌<◌, ◌==◌, pos, neg_ℤ, true, false, not, ◌||◌, List, ◌∷◌, ◌++◌, Option, Some, None, length, slice_get, count_by, refl, sym, subst, ap, ◌∙◌, inl, inr, arith}
+-- The laws of doomed requests, links and drains, by the manual pages' rules; and what these and those of Linux share.
+use Rattle.std.proofs.Common.{◌≡◌, ℕ, ◌<◌, ◌==◌, ℤ, pos, neg_ℤ, Bool, true, false, not, ◌&&◌, ◌||◌, List, ◌∷◌, ◌++◌, Option, Some, None, length, slice_get, count_by, refl, sym, subst, ap, ◌∙◌, ◌⊎◌, inl, inr, arith}
+use Rattle.std.specs.List.{list_any}
 use Rattle.std.specs.Ordering.{int_eq}
 use Rattle.std.proofs.lemmas.Bool.{and_from, both_ways, eq-eqb, true_from_ne_false, false_from_ne_true, cond_both}
 use Rattle.std.proofs.lemmas.Bool.Decides.{Decides-int_eq}
@@ -7,9 +8,11 @@ use Rattle.std.proofs.lemmas.List.Folds.{list_any_at}
 use Rattle.std.proofs.lemmas.Option.{slice_get_within, get_or_from_slice_get}
 use Rattle.uring_entry.specs.Setup.{Setup}
 use Rattle.uring_entry.specs.declared.errno.TheConstants.{EALREADY, ECANCELED}
-use Rattle.uring_entry.specs.Requests.{Requests, Ending, has_started, has_ended, is_joined, is_draining, is_doomed, is_ready, is_running, waits_for, doomed_result, cancel_result, count_result, result_for, target_of, targets_of, entry_of}
+use Rattle.uring_entry.specs.Requests.{Requests, Ending, has_started, has_ended, is_joined, is_draining, is_doomed, is_running, waits_for, doomed_result, cancel_result, count_result, result_for, target_of, targets_of, entry_of}
 use Rattle.uring_entry.specs.Preparation.{is_cancel_all}
-use Rattle.uring_core.specs.World.{World}
+use Rattle.uring_linux.specs.LinuxRequests.{LinuxRequests}
+use Rattle.uring_rules.specs.Rules as by_rules
+use Rattle.uring_core.specs.World.{World, requests_of}
 use Rattle.uring_core.specs.StepAnswers.{IsEnded}
 use Rattle.uring_core.specs.Histories.{History, world, IsLawfulApart, by_manual}
 use Rattle.uring_core.specs.Events.{started_by}
@@ -18,30 +21,86 @@ use Rattle.uring_core.specs.declared.step.Step.TheVariants as step
 use Rattle.uring_core.specs.declared.answer.Answer.{Answer}
 use Rattle.uring_core.specs.declared.answer.Answer.TheVariants as answer
 use Rattle.uring_core.proofs.Changes.{Change, change_of, IsSilent, refuses, runs, dooms, cancels}
-use Rattle.uring_core.proofs.SoundRequests.{IsSoundManual, EndsDoomed, is_otherwise, outstanding_tells, waited}
+use Rattle.uring_core.proofs.SoundRequests.{IsSoundManual, outstanding_tells, waited}
 use Rattle.uring_core.proofs.ListCounts.{count_none, count_some}
 use Rattle.uring_core.proofs.Sound.{sound_of}
 use Rattle.uring_laws.proofs.ToldRequests.{tells_requests}
 use Rattle.uring_laws.proofs.Growth.{Grows, grows, event_grows, then_grows, lawful_before}
+
+-- By either's rules.
+
+-- an end has this result, if none of its request has another
+pub result_told : (ended : List Ending) (k : ℕ) (e : Ending) (res : ℤ) → slice_get ended k ≡ Some e
+    → list_any (λ x. (x.number == e.number) && not (int_eq x.res res)) ended ≡ false → e.res ≡ res
+result_told ended k e res at none =
+    let within = slice_get_within ended k e at in
+    let here = get_or_from_slice_get ended k e e at in
+    (Decides-int_eq e.res res).0
+    (true_from_ne_false _ (λ differ. both_ways _ none (list_any_at (λ x. (x.number == e.number) && not (int_eq x.res res)) ended k e within (ap (λ x. (x.number == e.number) && not (int_eq x.res res)) here ∙ and_from (e.number == e.number) _ (eq-eqb e.number _ refl) (ap not differ)))))
+
+pub end_there : (r : Requests) (k : ℕ) (e : Ending) → slice_get r.ended k ≡ Some e → has_ended r e.number ≡ true
+end_there r k e at = list_any_at (λ x. x.number == e.number) r.ended k e (slice_get_within r.ended k e at) (ap (λ x. x.number == e.number) (get_or_from_slice_get r.ended k e e at) ∙ eq-eqb _ _ refl)
+
+pub ended_once : (g : Setup) (before : History) (m : ℕ) → IsLawfulApart g before
+    → has_ended (world g before).requests m ≡ true → times_ended before m ≡ 1
+ended_once g before m lawful ended =
+    let s = (sound_of g before lawful).requests in
+    let once : count_by (λ e. e.number == m) (world g before).requests.ended ≡ 1 = omega (arith, s.ends_once m, count_some (λ e. e.number == m) (world g before).requests.ended ended) in
+    subst (λ xs. count_by (λ e. e.number == m) xs ≡ 1) (sym (tells_requests g before lawful).ended) once
+
+-- an Issue that is refused neither starts nor ends its request
+pub refused_no_end : (n : ℕ) (a : Answer) → IsSilent (step.Issue n, a) → IsEnded a → ⊥
+refused_no_end n (answer.Ended res bytes) silent ended = let e = silent.ends in absurd cc
+refused_no_end n _ silent ended = ended
+
+pub refused_no_run : (n : ℕ) (a : Answer) → IsSilent (step.Issue n, a) → a ≡ answer.Run → ⊥
+refused_no_run n a silent run = let e : started_by (step.Issue n, answer.Run)
+    ≡ None = subst (λ b. started_by (step.Issue n, b) ≡ None) run silent.starts in absurd cc
+
+-- what ends with ECANCELED as it is issued is doomed, since no cancel ends so
+pub cancelled_doomed : (g : Setup) (w : World) (n : ℕ) (a : Answer) (bytes : List ℕ)
+    → int_eq (by_rules.cancel_result g.linux w.requests n) (neg_ℤ ECANCELED) ≡ false
+    → Change g w (step.Issue n) a → a ≡ answer.Ended (neg_ℤ ECANCELED) bytes
+    → by_rules.ends_doomed g.linux w.requests n ≡ true
+cancelled_doomed g w n a bytes unlike (refuses _ _ same silent) is =
+    absurd (refused_no_end n a silent (subst IsEnded (sym is) tt))
+cancelled_doomed g w n a bytes unlike (runs _ outstanding idle spared ready no_cancel) is = absurd cc
+cancelled_doomed g w n a bytes unlike (dooms _ outstanding idle doomed) is = doomed
+cancelled_doomed g w n a bytes unlike (cancels _ outstanding idle spared ready cancel) is =
+    let e : by_rules.cancel_result g.linux w.requests n ≡ neg_ℤ ECANCELED = cc in
+    absurd (both_ways _ unlike ((Decides-int_eq (by_rules.cancel_result g.linux w.requests n) (neg_ℤ ECANCELED)).1 e))
+
+-- what is known where an Issue starts its request
+pub record Started (linux : Bool) (l : LinuxRequests) (n : ℕ) : Type 0 where
+  pub accepted : n < length l.requests.accepted
+  pub spared : by_rules.ends_doomed linux l.requests n ≡ false
+  pub ready : by_rules.may_start linux l n ≡ true
+
+pub started_so : (g : Setup) (w : World) (n : ℕ) (a : Answer) → Change g w (step.Issue n) a
+    → (a ≡ answer.Run) ⊎ (IsEnded a × (by_rules.ends_doomed g.linux w.requests n ≡ false))
+    → Started g.linux (requests_of w) n
+started_so g w n a (refuses _ _ same silent) (inl run) = absurd (refused_no_run n a silent run)
+started_so g w n a (refuses _ _ same silent) (inr ended) = absurd (refused_no_end n a silent ended.0)
+started_so g w n a (runs _ outstanding idle spared ready no_cancel) start =
+    record { accepted = (outstanding_tells w.requests n outstanding).0; spared = spared; ready = ready }
+started_so g w n a (dooms _ outstanding idle doomed) (inl run) = absurd cc
+started_so g w n a (dooms _ outstanding idle doomed) (inr ended) = absurd (both_ways _ ended.1 doomed)
+started_so g w n a (cancels _ outstanding idle spared ready cancel) start =
+    record { accepted = (outstanding_tells w.requests n outstanding).0; spared = spared; ready = ready }
+
+-- By the manual pages'.
 
 unstarted : (r : Requests) (n : ℕ) → IsSoundManual r → is_doomed r n ≡ true
     → has_started r n ≡ false
 unstarted r n s doomed =
     false_from_ne_true _ (λ started. both_ways _ (s.started_free n started).spared doomed)
 
--- an end among these that has another result is among those that do
-ends_doomed : (r : Requests) (k : ℕ) (e : Ending) → IsSoundManual r → slice_get r.ended k ≡ Some e
+doomed_end : (r : Requests) (k : ℕ) (e : Ending) → IsSoundManual r → slice_get r.ended k ≡ Some e
     → is_doomed r e.number ≡ true → e.res ≡ doomed_result r e.number
-ends_doomed r k e s at doomed =
-    let within = slice_get_within r.ended k e at in
-    let here = get_or_from_slice_get r.ended k e e at in
-    let ended : has_ended r e.number ≡ true = list_any_at (λ x. x.number == e.number) r.ended k e within (ap (λ x. x.number == e.number) here ∙ eq-eqb _ _ refl) in
-    let otherwise = λ (d : EndsDoomed r e.number) (differ : int_eq e.res (doomed_result r e.number) ≡ false).
-    both_ways _ d (list_any_at (is_otherwise r e.number) r.ended k e within (ap (is_otherwise r e.number) here ∙ and_from (e.number == e.number) _ (eq-eqb e.number _ refl) (ap not differ))) in
-    elim (s.ended_how e.number ended) [
-      | inl d ↦ (Decides-int_eq e.res (doomed_result r e.number)).0 (true_from_ne_false _ (otherwise d))
-      | inr free ↦ absurd (both_ways _ free.spared doomed)
-    ]
+doomed_end r k e s at doomed = elim (s.ended_how e.number (end_there r k e at)) [
+  | inl d ↦ result_told r.ended k e (doomed_result r e.number) at d
+  | inr free ↦ absurd (both_ways _ free.spared doomed)
+]
 
 pub never_run : (g : Setup) (h : History) → IsLawfulApart (by_manual g) h → DoomedNeverRun (by_manual g) h
 never_run g h lawful =
@@ -49,7 +108,7 @@ never_run g h lawful =
     let t = tells_requests (by_manual g) h lawful in
     record {
       never_run = λ n doomed. subst (λ xs. count_by (λ m. m == n) xs ≡ 0) (sym t.started) (count_none (λ m. m == n) (world (by_manual g) h).requests.started (unstarted (world (by_manual g) h).requests n s doomed));
-      ends_so = λ k e at doomed. ends_doomed (world (by_manual g) h).requests k e s (subst (λ xs. slice_get xs k ≡ Some e) t.ended at) doomed;
+      ends_so = λ k e at doomed. doomed_end (world (by_manual g) h).requests k e s (subst (λ xs. slice_get xs k ≡ Some e) t.ended at) doomed;
     }
 
 -- ECANCELED is no result of a cancel
@@ -61,32 +120,12 @@ one_unlike r (Some m) = cond_both (is_running r m) (neg_ℤ EALREADY) (pos 0) (�
 cancel_unlike : (r : Requests) (n : ℕ) → int_eq (cancel_result r n) (neg_ℤ ECANCELED) ≡ false
 cancel_unlike r n = cond_both (is_cancel_all (entry_of r n)) (count_result (length (targets_of r n))) (result_for r (target_of r n)) (λ res. int_eq res (neg_ℤ ECANCELED) ≡ false) (λ _. refl) (λ _. one_unlike r (target_of r n))
 
--- an Issue that is refused neither starts nor ends its request
-pub refused_no_end : (n : ℕ) (a : Answer) → IsSilent (step.Issue n, a) → IsEnded a → ⊥
-refused_no_end n (answer.Ended res bytes) silent ended = let e = silent.ends in absurd cc
-refused_no_end n _ silent ended = ended
-
-pub refused_no_run : (n : ℕ) (a : Answer) → IsSilent (step.Issue n, a) → a ≡ answer.Run → ⊥
-refused_no_run n a silent run = let e : started_by (step.Issue n, answer.Run)
-    ≡ None = subst (λ b. started_by (step.Issue n, b) ≡ None) run silent.starts in absurd cc
-
-doomed_just_before : (g : Setup) (w : World) (n : ℕ) (a : Answer) (bytes : List ℕ)
-    → Change (by_manual g) w (step.Issue n) a → a ≡ answer.Ended (neg_ℤ ECANCELED) bytes
-    → is_doomed w.requests n ≡ true
-doomed_just_before g w n a bytes (refuses _ _ same silent) is =
-    absurd (refused_no_end n a silent (subst IsEnded (sym is) tt))
-doomed_just_before g w n a bytes (runs _ outstanding idle spared ready no_cancel) is = absurd cc
-doomed_just_before g w n a bytes (dooms _ outstanding idle doomed) is = doomed
-doomed_just_before g w n a bytes (cancels _ outstanding idle spared ready cancel) is =
-    let e : cancel_result w.requests n ≡ neg_ℤ ECANCELED = cc in
-    absurd (both_ways _ (cancel_unlike w.requests n) ((Decides-int_eq (cancel_result w.requests n) (neg_ℤ ECANCELED)).1 e))
-
 pub were_doomed : (g : Setup) (after before : History) (n : ℕ) (bytes : List ℕ)
     → IsLawfulApart (by_manual g) (after ++ (step.Issue n, answer.Ended (neg_ℤ ECANCELED) bytes) ∷ before)
     → is_doomed (world (by_manual g) before).requests n ≡ true
 were_doomed g after before n bytes lawful =
     let l = lawful_before (by_manual g) after ((step.Issue n, answer.Ended (neg_ℤ ECANCELED) bytes) ∷ before) lawful in
-    doomed_just_before (by_manual g) (world (by_manual g) before) n _ bytes (change_of (by_manual g) (world (by_manual g) before) (step.Issue n) _ l.0) refl
+    cancelled_doomed (by_manual g) (world (by_manual g) before) n _ bytes (cancel_unlike (world (by_manual g) before).requests n) (change_of (by_manual g) (world (by_manual g) before) (step.Issue n) _ l.0) refl
 
 pub stay_doomed : (g : Setup) (after before : History) (n : ℕ) → IsLawfulApart (by_manual g) (after ++ before)
     → n < length (world (by_manual g) before).requests.accepted → is_doomed (world (by_manual g) before).requests n ≡ true
@@ -95,28 +134,6 @@ stay_doomed g after before n lawful within doomed =
     (grows (by_manual g) after before lawful).stays_doomed n within doomed
 
 -- Links and drains.
-
--- what is known where an Issue starts its request
-record Started (w : World) (n : ℕ) : Type 0 where
-  accepted : n < length w.requests.accepted
-  ready : is_ready w.requests n ≡ true
-
-started_ready : (g : Setup) (w : World) (n : ℕ) (a : Answer) → Change (by_manual g) w (step.Issue n) a
-    → IsStart w.requests n a → Started w n
-started_ready g w n a (refuses _ _ same silent) (inl run) = absurd (refused_no_run n a silent run)
-started_ready g w n a (refuses _ _ same silent) (inr ended) =
-    absurd (refused_no_end n a silent ended.0)
-started_ready g w n a (runs _ outstanding idle spared ready no_cancel) start = record {
-  accepted = (outstanding_tells w.requests n outstanding).0;
-  ready = ready;
-}
-started_ready g w n a (dooms _ outstanding idle doomed) (inl run) = absurd cc
-started_ready g w n a (dooms _ outstanding idle doomed) (inr ended) =
-    absurd (both_ways _ ended.1 doomed)
-started_ready g w n a (cancels _ outstanding idle spared ready cancel) start = record {
-  accepted = (outstanding_tells w.requests n outstanding).0;
-  ready = ready;
-}
 
 same_wait : (r later : Requests) (n m : ℕ) → Grows r later → m < n → n < length r.accepted
     → waits_for later n m ≡ waits_for r n m
@@ -133,10 +150,7 @@ pub waits : (g : Setup) (after before : History) (m n : ℕ) (a : Answer)
 waits g after before m n a lawful start lt waiting =
     let l = lawful_before (by_manual g) after ((step.Issue n, a) ∷ before) lawful in
     let c = change_of (by_manual g) (world (by_manual g) before) (step.Issue n) a l.0 in
-    let at = started_ready (by_manual g) (world (by_manual g) before) n a c start in
+    let at = started_so (by_manual g) (world (by_manual g) before) n a c start in
     let more = then_grows _ _ _ (event_grows (by_manual g) (step.Issue n) a before l) (grows (by_manual g) after ((step.Issue n, a) ∷ before) lawful) in
     let ended = waited (world (by_manual g) before).requests n m at.ready lt (sym (same_wait _ _ n m more lt at.accepted) ∙ waiting) in
-    let s = (sound_of (by_manual g) before l.1).requests in
-    let t = tells_requests (by_manual g) before l.1 in
-    let once : count_by (λ e. e.number == m) (world (by_manual g) before).requests.ended ≡ 1 = omega (arith, s.ends_once m, count_some (λ e. e.number == m) (world (by_manual g) before).requests.ended ended) in
-    subst (λ xs. count_by (λ e. e.number == m) xs ≡ 1) (sym t.ended) once
+    ended_once (by_manual g) before m l.1 ended

@@ -1,7 +1,7 @@
 -- What why says, from what each case of it says: proofs of the laws on reasons.
-use Rattle.std.proofs.Common.{◌≡◌, ℕ, ◌<◌, ◌≤◌, length, Bool, true, false, not, ◌&&◌, ◌||◌, nat_lt, Option, Some, None, is_some, unwrap_or, refl, sym, ◌∙◌, ap, subst, arith, inl, inr}
+use Rattle.std.proofs.Common.{◌≡◌, ℕ, ◌<◌, ◌≤◌, length, Bool, true, false, not, ◌&&◌, ◌||◌, nat_lt, Option, Some, None, is_some, unwrap_or, refl, sym, ◌∙◌, ap, ap₂, subst, arith, inl, inr}
 use Rattle.std.specs.Prelude.{if◌then◌else◌, ◌⊎◌, ◌↔◌}
-use Rattle.std.proofs.lemmas.Bool.{cases_lt, cases_Bool, and_from, and_left, and_right, and_parts, or_left, or_right, or_parts, or_from, both_ways, lt-ltb, le-ltb, not-true, ltb-true, false_from_ne_true}
+use Rattle.std.proofs.lemmas.Bool.{cases_lt, and_from, and_parts, or_parts, or_from, both_ways, lt-ltb, le-ltb, not-true, ltb-true}
 use Rattle.uring_entry.specs.Below.{least_below}
 use Rattle.uring_entry.specs.Requests.{Requests, some_member, entry_of, has_ended, is_outstanding, is_running, is_issuable, is_doomed, is_ready, is_in_faulty_group, is_behind_failure, is_cancelled, is_joined, is_draining, waits_for, holds_back, doomed_result, cancel_result, no_bytes}
 use Rattle.uring_entry.specs.Preparation.{fault_of}
@@ -12,8 +12,8 @@ use Rattle.uring_entry.specs.declared.why.Why.TheVariants.{NeverAccepted, HasEnd
 use Rattle.uring_entry.specs.declared.why.Doom.{Doom}
 use Rattle.uring_entry.specs.declared.why.Since.{Since}
 use Rattle.uring_entry.specs.declared.why.Since.TheVariants.{SameGroup, ItDrains, OwnDrains, Deferred}
-use Rattle.uring_entry.proofs.BelowLemmas.{IsLeast, least_below_out, least_below_tells, is_some_least_below, least_below_none}
-use Rattle.uring_entry.proofs.RequestLemmas.{is_joined_yes, is_joined_inside, is_ready_yes, is_ready_inside}
+use Rattle.uring_entry.proofs.BelowLemmas.{IsLeast, least_below_tells, is_some_least_below, least_below_none}
+use Rattle.uring_entry.proofs.RequestLemmas.{is_joined_yes, is_joined_inside, is_ready_inside}
 use Rattle.uring_entry.proofs.WhyLemmas.{StillWaits, IsTold, told, told_as, why_waiting}
 use Rattle.uring_entry.specs.Preparation.{is_cancel}
 use Rattle.uring_entry.specs.Setup.{Setup}
@@ -42,89 +42,63 @@ told_unstarted r n u =
     record { given = ltb-true n (length r.accepted) parts.0; unended = not-true _ parts.1; unstarted = u.still }
 
 -- whom nothing holds back is ready, and the other way round
+ready_is : (r : Requests) (n : ℕ) → is_ready r n ≡ not (is_some (holder_of r n))
+unfolding is_ready
+ready_is r n = ap not (sym (is_some_least_below (holds_back r n) n))
+
 ready_none : (r : Requests) (n : ℕ) → holder_of r n ≡ None → is_ready r n ≡ true
-ready_none r n e = is_ready_yes r n (λ m low. least_below_out (holds_back r n) n e m low)
+ready_none r n e = ready_is r n ∙ ap (λ o. not (is_some o)) e
 
 none_ready : (r : Requests) (n : ℕ) → is_ready r n ≡ true → holder_of r n ≡ None
 none_ready r n ready =
     least_below_none (holds_back r n) n (λ m low. is_ready_inside r n m ready low)
 
-ready_some : (r : Requests) (n m : ℕ) → holder_of r n ≡ Some m → is_ready r n ≡ false
-ready_some r n m e =
-    false_from_ne_true _ (λ ready. let f : None ≡ Some m = sym (none_ready r n ready) ∙ e in cc)
+-- what is told of n, by the tests that ask for it
+abbrev told_by : Requests → ℕ → (given ended running doomed : Bool) → Option ℕ → Why
+told_by r n given ended running doomed holder =
+    if not given then NeverAccepted else
+    if ended then HasEnded else
+    if running then Runs else
+    if doomed then IsDoomed (doom_of r n) else
+    waiting_for r n holder
 
 -- Who was never accepted, has ended or runs.
 
-unaccepted_is : (r : Requests) (n : ℕ) (why : Why) → IsTold r n why → length r.accepted ≤ n
-    → why ≡ NeverAccepted
-unaccepted_is r n NeverAccepted t le = refl
-unaccepted_is r n HasEnded t le = absurd (omega (arith, t.0))
-unaccepted_is r n Runs t le = absurd (omega (arith, t.0))
-unaccepted_is r n (IsDoomed doom) t le = absurd (omega (arith, t.0.given))
-unaccepted_is r n (Waits m since) t le = absurd (omega (arith, t.0.given))
-unaccepted_is r n MayStart t le = absurd (omega (arith, t.0.given))
-
-ended_is : (r : Requests) (n : ℕ) (why : Why) → IsTold r n why → n < length r.accepted
-    → has_ended r n ≡ true → why ≡ HasEnded
-ended_is r n NeverAccepted t given ended = absurd (omega (arith, t))
-ended_is r n HasEnded t given ended = refl
-ended_is r n Runs t given ended = absurd (both_ways _ t.1 ended)
-ended_is r n (IsDoomed doom) t given ended = absurd (both_ways _ t.0.unended ended)
-ended_is r n (Waits m since) t given ended = absurd (both_ways _ t.0.unended ended)
-ended_is r n MayStart t given ended = absurd (both_ways _ t.0.unended ended)
-
-runs_is : (r : Requests) (n : ℕ) (why : Why) → IsTold r n why → n < length r.accepted
-    → has_ended r n ≡ false → is_running r n ≡ true → why ≡ Runs
-runs_is r n NeverAccepted t given unended runs = absurd (omega (arith, t))
-runs_is r n HasEnded t given unended runs = absurd (both_ways _ unended t.1)
-runs_is r n Runs t given unended runs = refl
-runs_is r n (IsDoomed doom) t given unended runs = absurd (both_ways _ t.0.unstarted runs)
-runs_is r n (Waits m since) t given unended runs = absurd (both_ways _ t.0.unstarted runs)
-runs_is r n MayStart t given unended runs = absurd (both_ways _ t.0.unstarted runs)
-
 pub unaccepted_said : (r : Requests) (n : ℕ)
     → (why_of r n ≡ NeverAccepted) ↔ (length r.accepted ≤ n)
-unaccepted_said r n =
-    ((λ e. told_as r n NeverAccepted e), (λ le. unaccepted_is r n (why_of r n) (told r n) le))
+unaccepted_said r n = (
+  (λ e. told_as r n NeverAccepted e),
+  (λ le. ap (λ given. told_by r n given (has_ended r n) (is_running r n) (is_doomed r n) (holder_of r n)) (le-ltb n (length r.accepted) le)),
+)
 
 pub ended_said : (r : Requests) (n : ℕ)
     → (why_of r n ≡ HasEnded) ↔ ((n < length r.accepted) × (has_ended r n ≡ true))
-ended_said r n =
-    ((λ e. told_as r n HasEnded e), (λ h. ended_is r n (why_of r n) (told r n) h.0 h.1))
+ended_said r n = (
+  (λ e. told_as r n HasEnded e),
+  (λ h. ap₂ (λ given ended. told_by r n given ended (is_running r n) (is_doomed r n) (holder_of r n)) (lt-ltb n (length r.accepted) h.0) h.1),
+)
 
 pub runs_said : (r : Requests) (n : ℕ)
     → (why_of r n ≡ Runs) ↔ ((is_outstanding r n ≡ true) × (is_running r n ≡ true))
 runs_said r n = (
   (λ e. let t = told_as r n Runs e in (and_from _ _ (lt-ltb n (length r.accepted) t.0) (ap not t.1), t.2)),
-  (λ h. let parts = and_parts _ _ h.0 in runs_is r n (why_of r n) (told r n) (ltb-true n (length r.accepted) parts.0) (not-true _ parts.1) h.1),
+  (λ h. let parts = and_parts _ _ h.0 in
+      ap₂ (λ given ended. told_by r n given ended (is_running r n) (is_doomed r n) (holder_of r n)) parts.0 (not-true _ parts.1)
+      ∙ ap (λ running. told_by r n true false running (is_doomed r n) (holder_of r n)) h.1),
 )
 
 -- What can be issued.
 
-issuable_doomed : (r : Requests) (n : ℕ) → StillWaits r n → is_doomed r n ≡ true
-    → is_issuable r n ≡ true
-issuable_doomed r n s doomed =
-    let u = unstarted_told r n s in
-    and_from _ _ (and_from _ _ u.outstanding (ap not u.still)) (or_left _ _ doomed)
-
-issuable_free : (r : Requests) (n : ℕ) → StillWaits r n → holder_of r n ≡ None
-    → is_issuable r n ≡ true
-issuable_free r n s e =
-    let u = unstarted_told r n s in
-    and_from _ _ (and_from _ _ u.outstanding (ap not u.still)) (or_right _ _ (ready_none r n e))
-
-issuable_told : (r : Requests) (n : ℕ) (why : Why) → IsTold r n why
-    → is_issuable r n ≡ can_be_issued why
-issuable_told r n NeverAccepted le =
-    and_left _ _ (and_left _ _ (and_left _ _ (le-ltb n (length r.accepted) le)))
-issuable_told r n HasEnded t = and_left _ _ (and_left _ _ (and_right _ _ (ap not t.1)))
-issuable_told r n Runs t = and_left _ _ (and_right _ _ (ap not t.2))
-issuable_told r n (IsDoomed doom) t = issuable_doomed r n t.0 t.1
-issuable_told r n (Waits m since) t = and_right _ _ (or_from _ _ t.1 (ready_some r n m t.2))
-issuable_told r n MayStart t = issuable_free r n t.0 t.2
+issuable_by : (r : Requests) (n : ℕ) (given ended running doomed : Bool) (holder : Option ℕ)
+    → (given && not ended && not running && (doomed || not (is_some holder)))
+    ≡ can_be_issued (told_by r n given ended running doomed holder)
+issuable_by r n true false false false None = refl
+issuable_by r n _ _ _ _ _ = refl
 
 pub issuable_said : (r : Requests) (n : ℕ) → is_issuable r n ≡ can_be_issued (why_of r n)
-issuable_said r n = issuable_told r n (why_of r n) (told r n)
+issuable_said r n =
+    ap (λ ready. is_outstanding r n && not (is_running r n) && (is_doomed r n || ready)) (ready_is r n)
+    ∙ issuable_by r n (nat_lt n (length r.accepted)) (has_ended r n) (is_running r n) (is_doomed r n) (holder_of r n)
 
 pub may_start_said : (r : Requests) (n : ℕ) → why_of r n ≡ MayStart → CanStart r n
 may_start_said r n e =
@@ -212,21 +186,13 @@ pub data Stands (r : Requests) (m : ℕ) : Type 0 where
   waits_on : (k : ℕ) (other : Since) → why_of r m ≡ Waits k other → IsLeast (holds_back r m) m k → Stands r m
 
 stands : (r : Requests) (m : ℕ) → m < length r.accepted → has_ended r m ≡ false → Stands r m
-stands r m given going =
-    elim (cases_Bool (is_running r m)) [
-      | inl runs ↦ goes_on (inl runs)
-      | inr still ↦
-          let s : StillWaits r m = record { given = given; unended = going; unstarted = still } in
-          elim (cases_Bool (is_doomed r m)) [
-            | inl doomed ↦ goes_on (inr (issuable_doomed r m s doomed))
-            | inr free ↦ behind s free (holder_of r m) refl
-          ]
-    ]
-  where
-    behind : StillWaits r m → is_doomed r m ≡ false → (o : Option ℕ) → holder_of r m ≡ o → Stands r m
-    behind s free None e = goes_on (inr (issuable_free r m s e))
-    behind s free (Some k) e =
-        waits_on k (since_of r m k) (why_waiting r m s free ∙ ap (waiting_for r m) e) (least_below_tells (holds_back r m) m k e)
+stands r m given going = by_why (why_of r m) refl (told r m) where
+  by_why : (why : Why) → why_of r m ≡ why → IsTold r m why → Stands r m
+  by_why NeverAccepted is t = absurd (omega (arith, t, given))
+  by_why HasEnded is t = absurd (both_ways _ going t.1)
+  by_why Runs is t = goes_on (inl t.2)
+  by_why (Waits k since) is t = waits_on k since is (least_below_tells (holds_back r m) m k t.2)
+  by_why why is t = goes_on (inr (issuable_said r m ∙ ap can_be_issued is))
 
 -- whoever holds another back hasn't ended
 holder_going : (r : Requests) (n m : ℕ) → holds_back r n m ≡ true → has_ended r m ≡ false
@@ -283,55 +249,28 @@ two_steps r n m since e =
 
 -- The answer to an Issue, by the manual pages' rules.
 
--- the tests that are left, with what the next one gives
-abbrev by_ready : World → ℕ → Bool → Answer
-by_ready w n ready =
-    if not ready then answer.NotReady else
-    if is_cancel (entry_of w.requests n) then answer.Ended (cancel_result w.requests n) no_bytes else answer.Run
-
-abbrev by_doomed : World → ℕ → Bool → Answer
-by_doomed w n doomed =
+abbrev asked_by : World → ℕ → (outstanding running doomed ready : Bool) → Answer
+asked_by w n outstanding running doomed ready =
+    if not outstanding then answer.Unknown else
+    if running then answer.Running else
     if doomed then answer.Ended (doomed_result w.requests n) no_bytes else
-    by_ready w n (is_ready w.requests n)
+    if not ready then answer.NotReady else
+    if is_cancel (entry_of w.requests n) then answer.Ended (cancel_result w.requests n) no_bytes else
+    answer.Run
 
-abbrev by_running : World → ℕ → Bool → Answer
-by_running w n running = if running then answer.Running else by_doomed w n (is_doomed w.requests n)
-
-abbrev by_outstanding : World → ℕ → Bool → Answer
-by_outstanding w n outstanding =
-    if not outstanding then answer.Unknown else by_running w n (is_running w.requests n)
-
-abbrev asked : World → ℕ → Answer
-asked w n = by_outstanding w n (is_outstanding w.requests n)
-
-unknown_answer : (w : World) (n : ℕ) → is_outstanding w.requests n ≡ false
-    → asked w n ≡ answer.Unknown
-unknown_answer w n e = ap (by_outstanding w n) e
-
-unstarted_answer : (w : World) (n : ℕ) → StillWaits w.requests n
-    → asked w n ≡ by_doomed w n (is_doomed w.requests n)
-unstarted_answer w n s = let u = unstarted_told w.requests n s in ap (by_outstanding w n) u.outstanding ∙ ap (by_running w n) u.still
-
-ready_answer : (w : World) (n : ℕ) (ready : Bool) → StillWaits w.requests n
-    → is_doomed w.requests n ≡ false → is_ready w.requests n ≡ ready
-    → asked w n ≡ by_ready w n ready
-ready_answer w n ready s free e =
-    unstarted_answer w n s ∙ ap (by_doomed w n) free ∙ ap (by_ready w n) e
-
-agrees_told : (w : World) (n : ℕ) (why : Why) → IsTold w.requests n why
-    → asked w n ≡ answer_told false w.requests n why
-agrees_told w n NeverAccepted le =
-    unknown_answer w n (and_left _ _ (le-ltb n (length w.requests.accepted) le))
-agrees_told w n HasEnded t = unknown_answer w n (and_right _ _ (ap not t.1))
-agrees_told w n Runs t =
-    ap (by_outstanding w n) (and_from _ _ (lt-ltb n (length w.requests.accepted) t.0) (ap not t.1)) ∙ ap (by_running w n) t.2
-agrees_told w n (IsDoomed doom) t = unstarted_answer w n t.0 ∙ ap (by_doomed w n) t.1
-agrees_told w n (Waits m since) t = ready_answer w n false t.0 t.1 (ready_some w.requests n m t.2)
-agrees_told w n MayStart t = ready_answer w n true t.0 t.1 (ready_none w.requests n t.2)
+agrees : (w : World) (n : ℕ) (given ended running doomed : Bool) (holder : Option ℕ)
+    → asked_by w n (given && not ended) running doomed (not (is_some holder))
+    ≡ answer_told false w.requests n (told_by w.requests n given ended running doomed holder)
+agrees w n true false false false None = refl
+agrees w n _ _ _ _ _ = refl
 
 manual_agrees : (w : World) (n : ℕ)
-    → asked w n ≡ answer_told false w.requests n (why_of w.requests n)
-manual_agrees w n = agrees_told w n (why_of w.requests n) (told w.requests n)
+    → asked_by w n (is_outstanding w.requests n) (is_running w.requests n) (is_doomed w.requests n) (is_ready w.requests n)
+    ≡ answer_told false w.requests n (why_of w.requests n)
+manual_agrees w n =
+    let r : Requests = w.requests in
+    ap (asked_by w n (is_outstanding r n) (is_running r n) (is_doomed r n)) (ready_is r n)
+    ∙ agrees w n (nat_lt n (length r.accepted)) (has_ended r n) (is_running r n) (is_doomed r n) (holder_of r n)
 
 -- By Linux's rules.
 
@@ -366,12 +305,9 @@ turn_agrees l n false false = refl
 kernel_agrees : (l : LinuxRequests) (n : ℕ) (given ended running : Bool) (holder : Option ℕ)
     → kernel_asked l n (given && not ended) running (not (is_some holder))
     ≡ answer_told true l.requests n (kernel_told l n given ended running holder)
-kernel_agrees l n false ended running holder = refl
-kernel_agrees l n true true running holder = refl
-kernel_agrees l n true false true holder = refl
-kernel_agrees l n true false false (Some m) = refl
 kernel_agrees l n true false false None =
     turn_agrees l n (kernel.is_doomed l.requests n) (is_deferred l n)
+kernel_agrees l n _ _ _ _ = refl
 
 -- whom no earlier member of its group keeps back is in its turn
 turn_is : (r : Requests) (n : ℕ)

@@ -1,5 +1,5 @@
 -- The steps on the submission ring change places with those on requests and completions: `submission_then_rest` and `rest_then_submission`. Neither side reads what the other writes, by either's rules.
-use Rattle.std.proofs.Common.{◌≡◌, ℕ, ℤ, Bool, true, false, List, ◌∷◌, Option, Some, None, refl, sym, subst, ap, ◌∙◌}
+use Rattle.std.proofs.Common.{rules, ◌≡◌, ℕ, ℤ, Bool, true, false, List, ◌∷◌, Option, Some, None, refl, sym, subst, ap, ◌∙◌}
 use Rattle.uring_entry.specs.Setup.{Setup}
 use Rattle.uring_entry.specs.Layout.{Sqe}
 use Rattle.uring_entry.specs.Submission.{Submission, Call}
@@ -14,7 +14,7 @@ use Rattle.uring_core.specs.declared.step.Step.{Step}
 use Rattle.uring_core.specs.declared.step.Step.TheVariants as step
 use Rattle.uring_core.specs.declared.answer.Answer.{Answer}
 use Rattle.uring_core.specs.declared.answer.Answer.TheVariants as answer
-use Rattle.uring_core.proofs.Changes.{Change, refuses, fills, stages, stores, loads, begins, takes, drops, closes, runs, dooms, cancels, finishes, flushes, sees_tail, reaps, stores_head, shuts, change_of}
+use Rattle.uring_core.proofs.Changes.{Change, refuses, takes, drops, dooms, cancels, change_of}
 use Rattle.uring_laws.specs.Swaps.{ChangePlaces, IsOnSubmission, IsOnRest, SubmissionThenRest, RestThenSubmission}
 use Rattle.uring_laws.proofs.Swapping.{alike_same}
 use Rattle.uring_laws.proofs.WholeLaws.{lawful_apart}
@@ -74,17 +74,7 @@ on_submission g w s a (takes entry call place opened left at valid) on =
     record { alone = taken_sub g w entry w.submission.call; beside = λ x. taken_with g w x entry w.submission.call }
 on_submission g w s a (drops call place opened left at invalid) on =
     record { alone = dropped_sub g w w.submission.call; beside = λ x. dropped_with g w x w.submission.call }
-on_submission g w s a (closes accepted missed head call opened all told) on = absurd on
-on_submission g w s a (runs n outstanding idle spared ready no_cancel) on = absurd on
-on_submission g w s a (dooms n outstanding idle doomed) on = absurd on
-on_submission g w s a (cancels n outstanding idle spared ready cancel) on = absurd on
-on_submission g w s a (finishes n res bytes running) on = absurd on
-on_submission g w s a (flushes moved) on = absurd on
-on_submission g w s a (sees_tail tail) on = absurd on
-on_submission g w s a (reaps completion next) on = absurd on
-on_submission g w s a (stores_head head) on = absurd on
-on_submission g w s a (shuts none) on = absurd on
-on_submission g w s a _ on = record { alone = refl; beside = λ x. refl }
+on_submission g w s a _ on = search rules
 
 -- an end as a request is issued changes neither entries nor cuts, by either's rules
 issued_alone : (linux : Bool) (r : Requests) (n : ℕ) (res : ℤ)
@@ -109,20 +99,11 @@ on_rest g w t b (refuses _ _ same silent) on = record {
   alone = same w ∙ ap (λ (v : World). with_rest w (rest_of v)) (sym (same w));
   beside = λ x. same (submitted w x) ∙ ap (λ (v : World). submitted v x) (sym (same w));
 }
-on_rest g w t b (fills slot entry free) on = absurd on
-on_rest g w t b (stages word free) on = absurd on
-on_rest g w t b (stores tail) on = absurd on
-on_rest g w t b (loads head) on = absurd on
-on_rest g w t b (begins count open_ring none unspent) on = absurd on
-on_rest g w t b (takes entry call place opened left at valid) on = absurd on
-on_rest g w t b (drops call place opened left at invalid) on = absurd on
-on_rest g w t b (closes accepted missed head call opened all told) on = absurd on
-on_rest g w t b (shuts none) on = absurd on
 on_rest g w t b (dooms n outstanding idle doomed) on =
     record { alone = ends_alone g w n _ no_bytes; beside = λ x. refl }
 on_rest g w t b (cancels n outstanding idle spared ready cancel) on =
     record { alone = ends_alone g w n _ no_bytes; beside = λ x. refl }
-on_rest g w t b _ on = record { alone = refl; beside = λ x. refl }
+on_rest g w t b _ on = search rules
 
 -- Answers.
 
@@ -132,24 +113,13 @@ CalledAlike g v w s a = (CalledFor g v s a → CalledFor g w s a) × (CalledFor 
 
 sub_called : (g : Setup) (w : World) (x : Rest) (s : Step) (a : Answer) → IsOnSubmission s
     → CalledAlike g w (with_rest w x) s a
-sub_called g w x (step.Fill slot entry) a on = (λ called. called, λ called. called)
-sub_called g w x (step.Index word) a on = (λ called. called, λ called. called)
-sub_called g w x step.StoreTail a on = (λ called. called, λ called. called)
-sub_called g w x step.LoadHead a on = (λ called. called, λ called. called)
-sub_called g w x (step.Begin count) a on = (λ called. called, λ called. called)
-sub_called g w x step.Take a on = (λ called. called, λ called. called)
-sub_called g w x _ a on = absurd on
+sub_called g w x (step.Issue n) a on = absurd on
+sub_called g w x _ a on = search rules
 
 rest_called : (g : Setup) (w : World) (x : Submission) (t : Step) (b : Answer) → IsOnRest t
     → CalledAlike g w (submitted w x) t b
-rest_called g w x (step.Issue n) b on = (λ called. called, λ called. called)
-rest_called g w x (step.Finish n) b on = (λ called. called, λ called. called)
-rest_called g w x step.Flush b on = (λ called. called, λ called. called)
-rest_called g w x step.LoadCqTail b on = (λ called. called, λ called. called)
-rest_called g w x step.Reap b on = (λ called. called, λ called. called)
-rest_called g w x step.StoreCqHead b on = (λ called. called, λ called. called)
-rest_called g w x step.Next b on = (λ called. called, λ called. called)
-rest_called g w x _ b on = absurd on
+rest_called g w x step.Take b on = absurd on
+rest_called g w x _ b on = search rules
 
 record Sides (g : Setup) (h : History) (s t : Step) (a b : Answer) : Type 0 where
   later : ChangePlaces g h (s, a) (t, b)

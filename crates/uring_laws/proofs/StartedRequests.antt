@@ -1,5 +1,5 @@
 -- What a start leaves as it was, by either's rules: who is doomed, who may start, who posts and how the drains stand. Only who runs changes.
-use Rattle.std.proofs.Common.{◌≡◌, ◌≢◌, ℕ, ℤ, Bool, true, false, not, ◌&&◌, if◌then◌else◌, List, [], ◌∷◌, ◌++◌, Option, Some, None, refl, sym, ap, ap₂, ◌∙◌}
+use Rattle.std.proofs.Common.{◌≡◌, ◌≢◌, ℕ, ℤ, Bool, true, false, not, ◌&&◌, if◌then◌else◌, List, [], ◌∷◌, ◌++◌, Option, refl, sym, ap, ap₂, ◌∙◌}
 use Rattle.uring_entry.specs.Layout.{Sqe}
 use Rattle.uring_entry.specs.Preparation.{is_cancel}
 use Rattle.uring_entry.specs.Requests as manual
@@ -14,6 +14,7 @@ use Rattle.uring_entry.specs.Setup.{Setup}
 use Rattle.uring_core.specs.declared.answer.Answer.{Answer}
 use Rattle.uring_core.specs.declared.answer.Answer.TheVariants as answer
 use Rattle.uring_laws.proofs.AlikeDrains.{called_same, going_same}
+use Rattle.uring_laws.proofs.AlikeLinux.{behind_one}
 use Rattle.uring_laws.proofs.LinuxSound.{doom_started}
 
 turn_started : (r : Requests) (m n : ℕ) → is_in_turn (manual.with_started r m) n ≡ is_in_turn r n
@@ -26,7 +27,7 @@ ends_doomed_started true r m n =
     ap₂ (λ x y. x && y) (turn_started r m n) (doom_started r m n)
 ends_doomed_started false r m n = is_doomed_started r m n
 
-ready_started : (r : Requests) (m n : ℕ) → is_ready (manual.with_started r m) n ≡ is_ready r n
+pub ready_started : (r : Requests) (m n : ℕ) → is_ready (manual.with_started r m) n ≡ is_ready r n
 unfolding is_ready some_member is_joined
 ready_started r m n = refl
 
@@ -39,15 +40,10 @@ breaker_started : (r : Requests) (m n : ℕ) → breaker_of (manual.with_started
 unfolding is_in_faulty_group first_of is_joined
 breaker_started r m n = refl
 
-behind_one : (r : Requests) (m : ℕ) (o : Option ℕ) (n : ℕ) (res : ℤ)
-    → posts_behind (manual.with_started r m) o n res ≡ posts_behind r o n res
-behind_one r m None n res = refl
-behind_one r m (Some k) n res = refl
-
 pub posts_started : (linux : Bool) (r : Requests) (m n : ℕ) (res : ℤ)
     → posts linux (manual.with_started r m) n res ≡ posts linux r n res
 posts_started true r m n res =
-    behind_one r m (breaker_of (manual.with_started r m) n) n res ∙ ap (λ (o : Option ℕ). posts_behind r o n res) (breaker_started r m n)
+    behind_one r (r.started ++ m ∷ []) r.cancelled r.ended (breaker_of (manual.with_started r m) n) n res ∙ ap (λ (o : Option ℕ). posts_behind r o n res) (breaker_started r m n)
 posts_started false r m n res = refl
 
 pub drains_ended_started : (linux : Bool) (l : LinuxRequests) (m n : ℕ) (res : ℤ)

@@ -1,6 +1,6 @@
--- Starts and ends that change places, by either's rules: `starts_change`, `start_then_end`, `end_then_start` and `finishes_change`.
+-- Starts that change places with starts and ends, by either's rules: `starts_change`, `start_then_end` and `end_then_start`.
 -- A start changes nothing that a definition reads but who runs; an end changes who has ended and failed, which counts for those alone that wait for it.
-use Rattle.std.proofs.Common.{◌≡◌, ◌≢◌, ℕ, ℤ, Bool, true, false, ◌&&◌, ◌||◌, if◌then◌else◌, List, [], ◌∷◌, ◌++◌, refl, sym, subst, ap, ap₂, ◌∙◌, ◌⊎◌, inl, inr, append-nil}
+use Rattle.std.proofs.Common.{◌≡◌, ◌≢◌, ℕ, ℤ, Bool, true, false, ◌&&◌, ◌||◌, if◌then◌else◌, List, [], ◌∷◌, ◌++◌, refl, sym, subst, ap, ap₂, ◌∙◌, append-nil}
 use Rattle.std.specs.List.{list_any}
 use Rattle.std.proofs.lemmas.Bool.{and_right, both_ways}
 use Rattle.uring_entry.specs.Setup.{Setup}
@@ -8,27 +8,25 @@ use Rattle.uring_entry.specs.Preparation.{is_cancel, operation_of}
 use Rattle.uring_entry.specs.Success.{is_success}
 use Rattle.uring_entry.specs.Requests as manual
 use Rattle.uring_entry.specs.Requests.{Requests, entry_of, has_ended, is_outstanding, is_running, choices_of, no_bytes, with_started, with_ended}
-use Rattle.uring_entry.specs.Completions.{Completions, with_posted, completion_for}
+use Rattle.uring_entry.specs.Completions.{with_posted, completion_for}
 use Rattle.uring_entry.specs.declared.operation.Outcome.{Outcome}
-use Rattle.uring_entry.proofs.RequestLemmas.{list_any_push, is_running_ended_same, is_running_ended_other, is_running_started_same, is_running_started_other}
+use Rattle.uring_entry.proofs.RequestLemmas.{list_any_push, is_running_started_same, is_running_started_other}
 use Rattle.uring_linux.specs.Drains.{Drains}
-use Rattle.uring_rules.specs.Rules.{ends_doomed, may_start, doomed_result, cancel_result, posts, with_issued_end}
-use Rattle.uring_files.specs.Contents.{FileContents, empty_files}
-use Rattle.uring_files.specs.Operations.{after, IsOutcome}
-use Rattle.uring_core.specs.World.{World, requests_of, happens, with_end_of}
+use Rattle.uring_rules.specs.Rules.{ends_doomed, may_start, doomed_result, cancel_result, with_issued_end}
+use Rattle.uring_files.specs.Contents.{FileContents}
+use Rattle.uring_files.specs.Operations.{IsOutcome}
+use Rattle.uring_core.specs.World.{World, requests_of, happens}
 use Rattle.uring_core.specs.StepAnswers.{issue_answer}
 use Rattle.uring_core.specs.CalledFor.{CalledFor, IsLawful, EndsOn, files_of}
-use Rattle.uring_core.specs.Histories.{History, world, IsLawfulApart}
+use Rattle.uring_core.specs.Histories.{Event, History, world}
 use Rattle.uring_core.specs.declared.step.Step.{Step}
 use Rattle.uring_core.specs.declared.step.Step.TheVariants as step
-use Rattle.uring_core.specs.declared.answer.Answer.{Answer}
 use Rattle.uring_core.specs.declared.answer.Answer.TheVariants as answer
-use Rattle.uring_core.proofs.FileHistory.{files_kept, files_ended}
+use Rattle.uring_core.proofs.FileHistory.{files_kept}
 use Rattle.uring_core.proofs.RequestEnds.{doomed_fails}
-use Rattle.uring_laws.specs.Swaps.{AreAlike, ChangePlaces, StartsChange, StartThenEnd, EndThenStart, FinishesChange, start_of}
+use Rattle.uring_laws.specs.Swaps.{AreAlike, ChangePlaces, Ends, StartsChange, StartThenEnd, EndThenStart, start_of}
 use Rattle.uring_laws.proofs.StartedRequests.{CanStart, issued_by, can_start, start_called, start_before, start_behind, ends_doomed_started, posts_started, drains_ended_started}
-use Rattle.uring_laws.proofs.EndedRequests.{start_past, start_ahead, not_ended, not_over, other_than, either_order, posts_end, drains_either}
-use Rattle.uring_laws.proofs.Turns.{GoesOn, running_goes_on}
+use Rattle.uring_laws.proofs.EndedRequests.{start_past, start_ahead, not_ended, not_over, other_than, either_order}
 use Rattle.uring_laws.proofs.WholeLaws.{lawful_apart}
 
 -- What an answer tells, and what calls for it.
@@ -121,14 +119,42 @@ starts_change g h m n lawful =
 
 -- A start and an end.
 
-abbrev pub ended : Setup → World → ℕ → ℤ → List ℕ → World
-ended g w m res bytes = happens g w (step.Finish m) (answer.Ended res bytes)
+-- n ends so
+abbrev pub ended : Setup → World → ℕ → Outcome → World
+ended g w n x = happens g w (step.Finish n) (answer.Ended x.res x.bytes)
 
--- the event ends m so, whether as running or as doomed
-pub record IsEnd (g : Setup) (w : World) (m : ℕ) (res : ℤ) (bytes : List ℕ) (s : Step) (a : Answer) : Type 0 where
-  pub called : CalledFor g w s a
-  pub makes : happens g w s a ≡ ended g w m res bytes
-  pub still : has_ended w.requests m ≡ false
+-- the end of a request that runs, or of a doomed one as it is issued
+abbrev pub end_step : (runs : Bool) → ℕ → Step
+end_step true n = step.Finish n
+end_step false n = step.Issue n
+
+abbrev pub end_by : (runs : Bool) → ℕ → Outcome → Event
+end_by runs n x = (end_step runs n, answer.Ended x.res x.bytes)
+
+abbrev doom : (linux : Bool) → Requests → ℕ → Outcome
+doom linux r n = record { res = doomed_result linux r n; bytes = no_bytes }
+
+-- n may end so: it runs and its operation gives this, or it is to end as doomed
+abbrev pub MayEnd : Setup → World → (runs : Bool) → ℕ → Outcome → Type 0
+MayEnd g w true n x = (is_running w.requests n ≡ true) × IsOutcome (files_of g w) (operation_of (entry_of w.requests n)) x
+MayEnd g w false n x = IsToEnd g.linux w.requests n × (x ≡ doom g.linux w.requests n)
+
+-- an end that is called for, of one that is doomed if it doesn't run
+pub may_end : (g : Setup) (w : World) (runs : Bool) (n : ℕ) (x : Outcome)
+    → (runs ≡ false → ends_doomed g.linux w.requests n ≡ true)
+    → CalledFor g w (end_step runs n) (answer.Ended x.res x.bytes) → MayEnd g w runs n x
+may_end g w true n x doomed called =
+    tells_end (files_of g w) w.requests n (is_running w.requests n) x.res x.bytes called
+may_end g w false n x doomed called =
+    let r : Requests = w.requests in
+    let p = tells_doomed (is_outstanding r n) (is_running r n) (ends_doomed g.linux r n) (may_start g.linux (requests_of w) n) (is_cancel (entry_of r n)) (doomed_result g.linux r n) (cancel_result g.linux r n) x.res x.bytes (doomed refl) called in
+    (record { outstanding = p.0.0; idle = p.0.1; doomed = doomed refl }, λ i. record { res = p.1.0 i; bytes = p.1.1 i })
+
+-- the step ends n so
+pub record IsEnd (g : Setup) (w : World) (n : ℕ) (x : Outcome) (s : Step) : Type 0 where
+  pub called : CalledFor g w s (answer.Ended x.res x.bytes)
+  pub makes : happens g w s (answer.Ended x.res x.bytes) ≡ ended g w n x
+  pub still : has_ended w.requests n ≡ false
 
 none_chosen : (r : Requests) (m : ℕ)
     → (if is_cancel (entry_of r m) && is_success (entry_of r m) (manual.doomed_result r m) then choices_of r m else []) ≡ []
@@ -143,221 +169,95 @@ doomed_leaves false r m =
 
 doomed_makes : (g : Setup) (w : World) (m : ℕ)
     → happens g w (step.Issue m) (answer.Ended (doomed_result g.linux w.requests m) no_bytes)
-    ≡ ended g w m (doomed_result g.linux w.requests m) no_bytes
+    ≡ ended g w m (doom g.linux w.requests m)
 doomed_makes g w m =
-    ap (λ (q : Requests). record (ended g w m (doomed_result g.linux w.requests m) no_bytes) { requests = q }) (doomed_leaves g.linux w.requests m)
+    ap (λ (q : Requests). record (ended g w m (doom g.linux w.requests m)) { requests = q }) (doomed_leaves g.linux w.requests m)
 
-pub finish_is_end : (g : Setup) (w : World) (m : ℕ) (res : ℤ) (bytes : List ℕ)
-    → is_running w.requests m ≡ true
-    → IsOutcome (files_of g w) (operation_of (entry_of w.requests m)) (record { res = res; bytes = bytes })
-    → IsEnd g w m res bytes (step.Finish m) (answer.Ended res bytes)
-finish_is_end g w m res bytes running outcome = record {
-  called = ends_so (files_of g w) w.requests m (is_running w.requests m) res bytes running outcome;
+pub is_end : (g : Setup) (w : World) (runs : Bool) (n : ℕ) (x : Outcome) → MayEnd g w runs n x
+    → IsEnd g w n x (end_step runs n)
+is_end g w true n x may = record {
+  called = ends_so (files_of g w) w.requests n (is_running w.requests n) x.res x.bytes may.0 may.1;
   makes = refl;
-  still = not_over w.requests m running;
+  still = not_over w.requests n may.0;
 }
+is_end g w false n x may = subst (λ z. IsEnd g w n z (step.Issue n)) (sym may.1) (record {
+  called = doom_called g w n may.0;
+  makes = doomed_makes g w n;
+  still = not_ended w.requests n may.0.outstanding;
+})
 
-pub doom_is_end : (g : Setup) (w : World) (m : ℕ) → IsToEnd g.linux w.requests m
-    → IsEnd g w m (doomed_result g.linux w.requests m) no_bytes (step.Issue m) (answer.Ended (doomed_result g.linux w.requests m) no_bytes)
-doom_is_end g w m c = record {
-  called = doom_called g w m c;
-  makes = doomed_makes g w m;
-  still = not_ended w.requests m c.outstanding;
-}
+-- m may end behind the start of n exactly if it could before it
+module _ (g : Setup) (w : World) (n m : ℕ) (x : Outcome) (differ : m ≢ n) (files : files_of g (begun w n) ≡ files_of g w) where
+  may_behind : (runs : Bool) → MayEnd g w runs m x → MayEnd g (begun w n) runs m x
+  may_behind true may =
+      (is_running_started_other w.requests n m differ ∙ may.0, subst (λ fs. IsOutcome fs (operation_of (entry_of w.requests m)) x) (sym files) may.1)
+  may_behind false may =
+      (record { outstanding = may.0.outstanding; idle = is_running_started_other w.requests n m differ ∙ may.0.idle; doomed = ends_doomed_started g.linux w.requests n m ∙ may.0.doomed }, may.1)
 
--- both orders of a start and an end, each of which can be first
-record BothOrders (g : Setup) (h : History) (n : ℕ) (s : Step) (a : Answer) : Type 0 where
-  later : ChangePlaces g h (start_of n) (s, a)
-  earlier : ChangePlaces g h (s, a) (start_of n)
+  may_before : (runs : Bool) → MayEnd g (begun w n) runs m x → MayEnd g w runs m x
+  may_before true may =
+      (sym (is_running_started_other w.requests n m differ) ∙ may.0, subst (λ fs. IsOutcome fs (operation_of (entry_of w.requests m)) x) files may.1)
+  may_before false may =
+      (record { outstanding = may.0.outstanding; idle = sym (is_running_started_other w.requests n m differ) ∙ may.0.idle; doomed = sym (ends_doomed_started g.linux w.requests n m) ∙ may.0.doomed }, may.1)
 
-ended_either : (g : Setup) (w : World) (n m : ℕ) (res : ℤ) (bytes : List ℕ)
-    → ended g (begun w n) m res bytes ≡ begun (ended g w m res bytes) n
-ended_either g w n m res bytes =
-    ap₂ (λ (d : Drains) b. record (begun (ended g w m res bytes) n) { drains = d; completions = if b then with_posted g.cq w.completions (completion_for (entry_of w.requests m) res bytes) else w.completions })
-    (drains_ended_started g.linux (requests_of w) n m res) (posts_started g.linux w.requests n m res)
+ended_either : (g : Setup) (w : World) (n m : ℕ) (x : Outcome) → ended g (begun w n) m x ≡ begun (ended g w m x) n
+ended_either g w n m x =
+    ap₂ (λ (d : Drains) b. record (begun (ended g w m x) n) { drains = d; completions = if b then with_posted g.cq w.completions (completion_for (entry_of w.requests m) x.res x.bytes) else w.completions })
+    (drains_ended_started g.linux (requests_of w) n m x.res) (posts_started g.linux w.requests n m x.res)
 
-both_orders : (g : Setup) (h : History) (m n : ℕ) (s : Step) (a : Answer) (res : ℤ) (bytes : List ℕ)
-    → IsEnd g (world g h) m res bytes s a → IsEnd g (world g (start_of n ∷ h)) m res bytes s a
-    → CanStart g.linux (requests_of (world g h)) n → CanStart g.linux (requests_of (ended g (world g h) m res bytes)) n
-    → IsLawful g h → BothOrders g h n s a
-both_orders g h m n s a res bytes first second can could lawful =
+-- both orders of a start and an end
+record BothOrders (g : Setup) (h : History) (n : ℕ) (e : Event) : Type 0 where
+  later : ChangePlaces g h (start_of n) e
+  earlier : ChangePlaces g h e (start_of n)
+
+both_orders : (g : Setup) (h : History) (runs : Bool) (m n : ℕ) (x : Outcome) → m ≢ n → MayEnd g (world g h) runs m x
+    → CanStart g.linux (requests_of (world g h)) n → IsLawful g h → BothOrders g h n (end_by runs m x)
+both_orders g h runs m n x differ may can lawful =
     let w : World = world g h in
-    let same : world g ((s, a) ∷ start_of n ∷ h) ≡ world g (start_of n ∷ (s, a) ∷ h) = second.makes ∙ (ended_either g w n m res bytes ∙ ap (λ (u : World). begun u n) (sym first.makes)) in
-    let behind : CalledFor g (world g ((s, a) ∷ h)) (step.Issue n) answer.Run = subst (λ u. answer.Run ≡ issue_answer g u n) (sym first.makes) (start_called g (ended g w m res bytes) n could) in
+    let started : IsLawful g (start_of n ∷ h) = (start_called g w n can, lawful) in
+    let files : files_of g (begun w n) ≡ files_of g w = files_kept g (step.Issue n) answer.Run h (lawful_apart g (start_of n ∷ h) started) tt in
+    let first : IsEnd g w m x (end_step runs m) = is_end g w runs m x may in
+    let second : IsEnd g (begun w n) m x (end_step runs m) = is_end g (begun w n) runs m x (may_behind g w n m x differ files runs may) in
+    let could : CanStart g.linux (requests_of (ended g w m x)) n = start_past (requests_of w) m x.res x.bytes n first.still g.linux (λ e. differ (sym e)) can in
+    let same : world g (end_by runs m x ∷ start_of n ∷ h) ≡ world g (start_of n ∷ end_by runs m x ∷ h) = second.makes ∙ (ended_either g w n m x ∙ ap (λ (u : World). begun u n) (sym first.makes)) in
+    let behind : CalledFor g (world g (end_by runs m x ∷ h)) (step.Issue n) answer.Run = subst (λ u. answer.Run ≡ issue_answer g u n) (sym first.makes) (start_called g (ended g w m x) n could) in
     record {
       later = record { lawful = (behind, (first.called, lawful)); alike = alike_same g _ _ same };
-      earlier = record {
-        lawful = (second.called, (start_called g w n can, lawful));
-        alike = alike_same g _ _ (sym same);
-      };
+      earlier = record { lawful = (second.called, started); alike = alike_same g _ _ (sym same) };
     }
 
--- the end of a request that runs, or is to end as doomed, beside the start of another
-finish_orders : (g : Setup) (h : History) (m n : ℕ) (res : ℤ) (bytes : List ℕ) → m ≢ n
-    → is_running (world g h).requests m ≡ true
-    → IsOutcome (files_of g (world g h)) (operation_of (entry_of (world g h).requests m)) (record { res = res; bytes = bytes })
-    → CanStart g.linux (requests_of (world g h)) n → IsLawful g h
-    → BothOrders g h n (step.Finish m) (answer.Ended res bytes)
-finish_orders g h m n res bytes differ running outcome can lawful =
+-- an event that ends m, by what it is
+pub data EndView (linux : Bool) (r : Requests) (m : ℕ) : Event → Type 0 where
+  ends_by : (runs : Bool) (x : Outcome) → (runs ≡ false → ends_doomed linux r m ≡ true) → EndView linux r m (end_by runs m x)
+
+pub view : (linux : Bool) (r : Requests) (m : ℕ) (e : Event) → Ends linux r m e → EndView linux r m e
+view linux r m (step.Finish k, answer.Ended res bytes) is =
+    subst (λ j. EndView linux r m (step.Finish j, answer.Ended res bytes)) (sym is) (ends_by true (record { res = res; bytes = bytes }) (λ no. absurd cc))
+view linux r m (step.Issue k, answer.Ended res bytes) is =
+    subst (λ j. EndView linux r m (step.Issue j, answer.Ended res bytes)) (sym is.0) (ends_by false (record { res = res; bytes = bytes }) (λ idle. subst (λ j. ends_doomed linux r j ≡ true) is.0 is.1))
+view linux r m _ is = absurd is
+
+start_then : (g : Setup) (h : History) (m n : ℕ) (e : Event) → EndView g.linux (world g h).requests m e → m ≢ n
+    → IsLawful g (e ∷ start_of n ∷ h) → ChangePlaces g h (start_of n) e
+start_then g h m n e (ends_by runs x doomed) differ lawful =
     let w : World = world g h in
-    let first : IsLawful g (start_of n ∷ h) = (start_called g w n can, lawful) in
-    let files : files_of g (world g (start_of n ∷ h)) ≡ files_of g w = files_kept g (step.Issue n) answer.Run h (lawful_apart g (start_of n ∷ h) first) tt in
-    both_orders g h m n (step.Finish m) (answer.Ended res bytes) res bytes (finish_is_end g w m res bytes running outcome)
-    (finish_is_end g (world g (start_of n ∷ h)) m res bytes (is_running_started_other w.requests n m differ ∙ running) (subst (λ fs. IsOutcome fs (operation_of (entry_of w.requests m)) (record { res = res; bytes = bytes })) (sym files) outcome))
-    can (start_past (requests_of w) m res bytes n (not_over w.requests m running) g.linux (λ e. differ (sym e)) can) lawful
-
-doom_orders : (g : Setup) (h : History) (m n : ℕ) → m ≢ n → IsToEnd g.linux (world g h).requests m
-    → CanStart g.linux (requests_of (world g h)) n → IsLawful g h
-    → BothOrders g h n (step.Issue m) (answer.Ended (doomed_result g.linux (world g h).requests m) no_bytes)
-doom_orders g h m n differ end can lawful =
-    let w : World = world g h in
-    let r : Requests = w.requests in
-    both_orders g h m n (step.Issue m) (answer.Ended (doomed_result g.linux r m) no_bytes) (doomed_result g.linux r m) no_bytes (doom_is_end g w m end)
-    (doom_is_end g (world g (start_of n ∷ h)) m (record { outstanding = end.outstanding; idle = is_running_started_other r n m differ ∙ end.idle; doomed = ends_doomed_started g.linux r n m ∙ end.doomed }))
-    can (start_past (requests_of w) m (doomed_result g.linux r m) no_bytes n (not_ended r m end.outstanding) g.linux (λ e. differ (sym e)) can) lawful
-
--- a doomed request that ends as it is issued
-pub tells_to_end : (g : Setup) (w : World) (m : ℕ) (res : ℤ) (bytes : List ℕ) → ends_doomed g.linux w.requests m ≡ true
-    → answer.Ended res bytes ≡ issue_answer g w m
-    → IsToEnd g.linux w.requests m × (answer.Ended res bytes ≡ answer.Ended (doomed_result g.linux w.requests m) no_bytes)
-tells_to_end g w m res bytes doomed e =
-    let r : Requests = w.requests in
-    let p = tells_doomed (is_outstanding r m) (is_running r m) (ends_doomed g.linux r m) (may_start g.linux (requests_of w) m) (is_cancel (entry_of r m)) (doomed_result g.linux r m) (cancel_result g.linux r m) res bytes doomed e in
-    (record { outstanding = p.0.0; idle = p.0.1; doomed = doomed }, ap₂ (λ z bs. answer.Ended z bs) p.1.0 p.1.1)
-
--- A start, and then an end.
-
-finish_later : (g : Setup) (h : History) (m n : ℕ) (res : ℤ) (bytes : List ℕ) → m ≢ n
-    → IsLawful g ((step.Finish m, answer.Ended res bytes) ∷ start_of n ∷ h)
-    → ChangePlaces g h (start_of n) (step.Finish m, answer.Ended res bytes)
-finish_later g h m n res bytes differ lawful =
-    let w : World = world g h in
-    let v : World = world g (start_of n ∷ h) in
-    let end = tells_end (files_of g v) v.requests m (is_running v.requests m) res bytes lawful.0 in
-    let files : files_of g v ≡ files_of g w = files_kept g (step.Issue n) answer.Run h (lawful_apart g (start_of n ∷ h) lawful.1) tt in
-    (finish_orders g h m n res bytes differ (sym (is_running_started_other w.requests n m differ) ∙ end.0) (subst (λ fs. IsOutcome fs (operation_of (entry_of w.requests m)) (record { res = res; bytes = bytes })) files end.1) (can_start g w n lawful.1.0) lawful.1.1).later
-
-doom_later : (g : Setup) (h : History) (m n : ℕ) (res : ℤ) (bytes : List ℕ) → m ≢ n
-    → ends_doomed g.linux (world g h).requests m ≡ true
-    → IsLawful g ((step.Issue m, answer.Ended res bytes) ∷ start_of n ∷ h)
-    → ChangePlaces g h (start_of n) (step.Issue m, answer.Ended res bytes)
-doom_later g h m n res bytes differ doomed lawful =
-    let w : World = world g h in
-    let r : Requests = w.requests in
-    let told = tells_to_end g (world g (start_of n ∷ h)) m res bytes (ends_doomed_started g.linux r n m ∙ doomed) lawful.0 in
-    let end : IsToEnd g.linux r m = record { outstanding = told.0.outstanding; idle = sym (is_running_started_other r n m differ) ∙ told.0.idle; doomed = doomed } in
-    subst (λ a. ChangePlaces g h (start_of n) (step.Issue m, a)) (sym told.1) (doom_orders g h m n differ end (can_start g w n lawful.1.0) lawful.1.1).later
+    let files : files_of g (begun w n) ≡ files_of g w = files_kept g (step.Issue n) answer.Run h (lawful_apart g (start_of n ∷ h) lawful.1) tt in
+    let may : MayEnd g (begun w n) runs m x = may_end g (begun w n) runs m x (λ idle. ends_doomed_started g.linux w.requests n m ∙ doomed idle) lawful.0 in
+    (both_orders g h runs m n x differ (may_before g w n m x differ files runs may) (can_start g w n lawful.1.0) lawful.1.1).later
 
 pub start_then_end : (g : Setup) → StartThenEnd g
-start_then_end g h m n (step.Finish k, answer.Ended res bytes) is differ lawful =
-    finish_later g h k n res bytes (λ e. differ (sym is ∙ e)) lawful
-start_then_end g h m n (step.Issue k, answer.Ended res bytes) is differ lawful =
-    doom_later g h k n res bytes (λ e. differ (sym is.0 ∙ e)) is.1 lawful
-start_then_end g h m n _ is differ lawful = absurd is
+start_then_end g h m n e is differ lawful =
+    start_then g h m n e (view g.linux (world g h).requests m e is) differ lawful
 
--- An end, and then a start.
-
-finish_earlier : (g : Setup) (h : History) (m n : ℕ) (res : ℤ) (bytes : List ℕ)
-    → may_start g.linux (requests_of (world g h)) n ≡ true
-    → IsLawful g (start_of n ∷ (step.Finish m, answer.Ended res bytes) ∷ h)
-    → ChangePlaces g h (step.Finish m, answer.Ended res bytes) (start_of n)
-finish_earlier g h m n res bytes ready lawful =
+then_start : (g : Setup) (h : History) (m n : ℕ) (e : Event) → EndView g.linux (world g h).requests m e
+    → may_start g.linux (requests_of (world g h)) n ≡ true → IsLawful g (start_of n ∷ e ∷ h) → ChangePlaces g h e (start_of n)
+then_start g h m n e (ends_by runs x doomed) ready lawful =
     let w : World = world g h in
-    let r : Requests = w.requests in
-    let end = tells_end (files_of g w) r m (is_running r m) res bytes lawful.1.0 in
-    let could : CanStart g.linux (requests_of (ended g w m res bytes)) n = can_start g (ended g w m res bytes) n lawful.0 in
-    let differ : n ≢ m = other_than r m res bytes n could.outstanding in
-    (finish_orders g h m n res bytes (λ e. differ (sym e)) end.0 end.1 (start_ahead (requests_of w) m res bytes n (not_over r m end.0) g.linux differ ready could) lawful.1.1).earlier
-
-doom_earlier : (g : Setup) (h : History) (m n : ℕ) (res : ℤ) (bytes : List ℕ)
-    → ends_doomed g.linux (world g h).requests m ≡ true → may_start g.linux (requests_of (world g h)) n ≡ true
-    → IsLawful g (start_of n ∷ (step.Issue m, answer.Ended res bytes) ∷ h)
-    → ChangePlaces g h (step.Issue m, answer.Ended res bytes) (start_of n)
-doom_earlier g h m n res bytes doomed ready lawful =
-    let w : World = world g h in
-    let r : Requests = w.requests in
-    let told = tells_to_end g w m res bytes doomed lawful.1.0 in
-    let behind : answer.Run ≡ issue_answer g (happens g w (step.Issue m) (answer.Ended (doomed_result g.linux r m) no_bytes)) n = subst (λ a. answer.Run ≡ issue_answer g (happens g w (step.Issue m) a) n) told.1 lawful.0 in
-    let could : CanStart g.linux (requests_of (ended g w m (doomed_result g.linux r m) no_bytes)) n = can_start g (ended g w m (doomed_result g.linux r m) no_bytes) n (subst (λ u. answer.Run ≡ issue_answer g u n) (doomed_makes g w m) behind) in
-    let differ : n ≢ m = other_than r m (doomed_result g.linux r m) no_bytes n could.outstanding in
-    subst (λ a. ChangePlaces g h (step.Issue m, a) (start_of n)) (sym told.1) (doom_orders g h m n (λ e. differ (sym e)) told.0 (start_ahead (requests_of w) m (doomed_result g.linux r m) no_bytes n (not_ended r m told.0.outstanding) g.linux differ ready could) lawful.1.1).earlier
+    let may : MayEnd g w runs m x = may_end g w runs m x doomed lawful.1.0 in
+    let end : IsEnd g w m x (end_step runs m) = is_end g w runs m x may in
+    let could : CanStart g.linux (requests_of (ended g w m x)) n = can_start g (ended g w m x) n (subst (λ u. answer.Run ≡ issue_answer g u n) end.makes lawful.0) in
+    let differ : n ≢ m = other_than w.requests m x.res x.bytes n could.outstanding in
+    (both_orders g h runs m n x (λ e. differ (sym e)) may (start_ahead (requests_of w) m x.res x.bytes n end.still g.linux differ ready could) lawful.1.1).earlier
 
 pub end_then_start : (g : Setup) → EndThenStart g
-end_then_start g h m n (step.Finish k, answer.Ended res bytes) is ready lawful =
-    finish_earlier g h k n res bytes ready lawful
-end_then_start g h m n (step.Issue k, answer.Ended res bytes) is ready lawful =
-    doom_earlier g h k n res bytes is.1 ready lawful
-end_then_start g h m n _ is ready lawful = absurd is
-
--- Two ends of running requests.
-
--- an end that posts nothing leaves the completions as they are
-silent : (g : Setup) (w : World) (n : ℕ) (res : ℤ) (bytes : List ℕ) → posts g.linux w.requests n res ≡ false
-    → with_end_of g w n res bytes ≡ w.completions
-silent g w n res bytes none =
-    ap (λ b. if b then with_posted g.cq w.completions (completion_for (entry_of w.requests n) res bytes) else w.completions) none
-
--- what n posts behind the end of another, on which whether it posts doesn't depend
-posted_behind : (g : Setup) (w : World) (m n : ℕ) (x y : Outcome)
-    → posts g.linux (with_ended w.requests m x.res x.bytes) n y.res ≡ posts g.linux w.requests n y.res
-    → with_end_of g (ended g w m x.res x.bytes) n y.res y.bytes
-    ≡ (if posts g.linux w.requests n y.res then with_posted g.cq (with_end_of g w m x.res x.bytes) (completion_for (entry_of w.requests n) y.res y.bytes) else with_end_of g w m x.res x.bytes)
-posted_behind g w m n x y same =
-    ap (λ b. if b then with_posted g.cq (with_end_of g w m x.res x.bytes) (completion_for (entry_of w.requests n) y.res y.bytes) else with_end_of g w m x.res x.bytes) same
-
--- two ends of which one posts nothing
-posted_first : (g : Setup) (w : World) (m n : ℕ) (x y : Outcome) → posts g.linux w.requests m x.res ≡ false
-    → posts g.linux (with_ended w.requests m x.res x.bytes) n y.res ≡ posts g.linux w.requests n y.res
-    → posts g.linux (with_ended w.requests n y.res y.bytes) m x.res ≡ posts g.linux w.requests m x.res
-    → with_end_of g (ended g w m x.res x.bytes) n y.res y.bytes ≡ with_end_of g (ended g w n y.res y.bytes) m x.res x.bytes
-posted_first g w m n x y none later earlier =
-    posted_behind g w m n x y later
-    ∙ ap (λ (k : Completions). if posts g.linux w.requests n y.res then with_posted g.cq k (completion_for (entry_of w.requests n) y.res y.bytes) else k) (silent g w m x.res x.bytes none)
-    ∙ sym (silent g (ended g w n y.res y.bytes) m x.res x.bytes (earlier ∙ none))
-
-pub posted_alike : (g : Setup) (w : World) (m n : ℕ) (x y : Outcome)
-    → (posts g.linux w.requests m x.res ≡ false) ⊎ (posts g.linux w.requests n y.res ≡ false)
-    → posts g.linux (with_ended w.requests m x.res x.bytes) n y.res ≡ posts g.linux w.requests n y.res
-    → posts g.linux (with_ended w.requests n y.res y.bytes) m x.res ≡ posts g.linux w.requests m x.res
-    → with_end_of g (ended g w m x.res x.bytes) n y.res y.bytes ≡ with_end_of g (ended g w n y.res y.bytes) m x.res x.bytes
-posted_alike g w m n x y (inl none) later earlier = posted_first g w m n x y none later earlier
-posted_alike g w m n x y (inr none) later earlier = sym (posted_first g w n m y x none earlier later)
-
-pub finishes_change : (g : Setup) → FinishesChange g
-finishes_change g h m n x y quiet apart lawful =
-    let w : World = world g h in
-    let r : Requests = w.requests in
-    let v : World = ended g w m x.res x.bytes in
-    let u : World = ended g w n y.res y.bytes in
-    let fs : List FileContents = empty_files g.files in
-    let one = tells_end (files_of g w) r m (is_running r m) x.res x.bytes lawful.1.0 in
-    let two = tells_end (files_of g v) v.requests n (is_running v.requests n) y.res y.bytes lawful.0 in
-    let differ : n ≢ m = λ same. both_ways (is_running v.requests n) (subst (λ k. is_running v.requests k ≡ false) (sym same) (is_running_ended_same r m x.res x.bytes)) two.0 in
-    let ran : is_running r n ≡ true = sym (is_running_ended_other r m x.res x.bytes n differ) ∙ two.0 in
-    let apart_h : IsLawfulApart g h = lawful_apart g h lawful.1.1 in
-    let first_on : (g.linux ≡ true → GoesOn (requests_of w) m) = running_goes_on g h m apart_h one.0 in
-    let second_on : (g.linux ≡ true → GoesOn (requests_of w) n) = running_goes_on g h n apart_h ran in
-    let runs : is_running u.requests m ≡ true = is_running_ended_other r n y.res y.bytes m (λ e. differ (sym e)) ∙ one.0 in
-    let left_by_n : files_of g u ≡ after (files_of g w) (operation_of (entry_of r n)) y.res = files_ended r n y.res y.bytes fs in
-    let left_by_m : files_of g v ≡ after (files_of g w) (operation_of (entry_of r m)) x.res = files_ended r m x.res x.bytes fs in
-    let second : IsOutcome (files_of g u) (operation_of (entry_of r m)) x = subst (λ z. IsOutcome z (operation_of (entry_of r m)) x) (sym left_by_n) apart.second in
-    record {
-      lawful = (
-        ends_so (files_of g u) u.requests m (is_running u.requests m) x.res x.bytes runs second,
-        (ends_so (files_of g w) r n (is_running r n) y.res y.bytes ran apart.first, lawful.1.1),
-      );
-      alike = record {
-        submission = refl;
-        requests = record { accepted = refl; cuts = refl; started = λ p. refl; cancelled = λ p. refl; ended = λ p. two_pushed p r.ended (record { number = m; res = x.res; bytes = x.bytes }) (record { number = n; res = y.res; bytes = y.bytes }) };
-        completions = posted_alike g w m n x y quiet
-            (posts_end r m x.res x.bytes n g.linux (λ is. (second_on is).first) (not_over r m one.0) y.res)
-            (posts_end r n y.res y.bytes m g.linux (λ is. (first_on is).first) (not_over r n ran) x.res);
-        is_closed = refl;
-        drains = λ is. drains_either g.linux (requests_of w) m n x.res y.res x.bytes y.bytes differ (λ k. (first_on k).apart) (λ k. (second_on k).apart);
-        files =
-            files_ended v.requests n y.res y.bytes fs
-            ∙ ap (λ z. after z (operation_of (entry_of r n)) y.res) left_by_m
-            ∙ apart.leave
-            ∙ sym (files_ended u.requests m x.res x.bytes fs ∙ ap (λ z. after z (operation_of (entry_of r m)) x.res) left_by_n);
-      };
-    }
+end_then_start g h m n e is ready lawful = then_start g h m n e (view g.linux (world g h).requests m e is) ready lawful

@@ -1,21 +1,18 @@
 -- Which positions were taken.
-use Rattle.std.proofs.Common.{◌≡◌, ℕ, ◌+◌, false, nat_lt, [], ◌∷◌, ◌++◌, take, map, Some, None, slice_get, refl, sym, ap, ◌∙◌, arith, append-nil}
+use Rattle.std.proofs.Common.{◌≡◌, ◌+◌, false, [], ◌∷◌, ◌++◌, take, map, Some, None, refl, sym, ap, ap₂, ◌∙◌, arith, append-nil}
 use Rattle.std.proofs.lemmas.Bool.{ltb-false}
 use Rattle.std.proofs.lemmas.List.{take-append-le}
 use Rattle.std.proofs.lemmas.List.Sums.{sum_by_push}
 use Rattle.uring_entry.specs.Setup.{Setup, IsWithinLimits}
-use Rattle.uring_entry.specs.Layout.{Sqe}
-use Rattle.uring_entry.specs.Submission.{Call, Place, taken, entries_of, place_of, call_length}
+use Rattle.uring_entry.specs.Submission.{taken, entries_of, place_of}
 use Rattle.uring_core.specs.Stops.{open_taken, reached}
-use Rattle.uring_core.specs.World.{World, happens, taking_of, taking_entry_of, ending_of}
-use Rattle.uring_core.specs.Histories.{History, world, IsLawfulApart}
+use Rattle.uring_core.specs.World.{World}
+use Rattle.uring_core.specs.Histories.{Event, History, world, IsLawfulApart}
 use Rattle.uring_core.specs.Events.{takes_position, entry_taken_by}
 use Rattle.uring_laws.specs.Direct.{entries_taken, positions_taken}
 use Rattle.uring_laws.specs.Laws.{TakenOnceInOrder}
 use Rattle.uring_core.specs.declared.step.Step.{Step}
-use Rattle.uring_core.specs.declared.step.Step.TheVariants as step
 use Rattle.uring_core.specs.declared.answer.Answer.{Answer}
-use Rattle.uring_core.specs.declared.answer.Answer.TheVariants as answer
 use Rattle.uring_core.proofs.SubmissionMoves.{SubmissionMove, stays, stores, begins, takes, drops, closes, submission_move}
 use Rattle.uring_core.proofs.SoundRings.{IsSoundSubmission, open_count}
 use Rattle.uring_core.proofs.Sound.{sound_of}
@@ -27,88 +24,49 @@ pub record TakesPlaces (h : History) (w : World) : Type 0 where
   pub count : positions_taken h ≡ reached w.submission
   pub entries : entries_taken h ≡ entries_of (take (reached w.submission) w.submission.published)
 
-took_valid : (g : Setup) (h : History) (w : World) (entry : Sqe) (call : Call) (place : Place)
-    → w.submission.call ≡ Some call
-    → slice_get w.submission.published (taken w.submission + call.taken) ≡ Some place
-    → place.entry ≡ Some entry
-    → TakesPlaces h w
-    → TakesPlaces ((step.Take, answer.Entry entry) ∷ h) (taking_entry_of g w entry (Some call))
-took_valid g h w entry call place opened at valid i =
-    let t : open_taken w.submission.call ≡ call.taken = ap open_taken opened in
-    let next : reached w.submission + 1 ≡ taken w.submission + (call.taken + 1) = omega arith in
-    let here : reached w.submission ≡ taken w.submission + call.taken = omega arith in
-    record {
-      count = count_more takes_position (step.Take, answer.Entry entry) h refl ∙ omega (arith, i.count);
-      entries = ap (λ xs. xs ++ entry ∷ []) (i.entries ∙ ap (λ k. entries_of (take k w.submission.published)) here) ∙ sym (one_further w.submission.published (taken w.submission + call.taken) place (Some entry) at valid) ∙ ap (λ k. entries_of (take k w.submission.published)) (omega arith);
-    }
-
-took_invalid : (g : Setup) (h : History) (w : World) (call : Call) (place : Place)
-    → w.submission.call ≡ Some call
-    → slice_get w.submission.published (taken w.submission + call.taken) ≡ Some place
-    → place.entry ≡ None
-    → TakesPlaces h w → TakesPlaces ((step.Take, answer.Dropped) ∷ h) (taking_of g w (Some call))
-took_invalid g h w call place opened at invalid i =
-    let t : open_taken w.submission.call ≡ call.taken = ap open_taken opened in
-    let here : reached w.submission ≡ taken w.submission + call.taken = omega arith in
-    record {
-      count = count_more takes_position (step.Take, answer.Dropped) h refl ∙ omega (arith, i.count);
-      entries = i.entries ∙ ap (λ k. entries_of (take k w.submission.published)) here ∙ sym (append-nil _) ∙ sym (one_further w.submission.published (taken w.submission + call.taken) place None at invalid) ∙ ap (λ k. entries_of (take k w.submission.published)) (omega arith);
-    }
-
-closed_places : (g : Setup) (h : History) (w : World) (accepted missed head : ℕ) (call : Call)
-    → w.submission.call ≡ Some call → nat_lt call.taken call.count ≡ false
-    → IsSoundSubmission g.sq w.submission
-    → TakesPlaces h w
-    → TakesPlaces ((step.End, answer.Taken accepted missed head) ∷ h) (ending_of g w (Some call))
-closed_places g h w accepted missed head call opened all sound i =
-    let t : open_taken w.submission.call ≡ call.taken = ap open_taken opened in
-    let c : open_count w.submission.call ≡ call.count = ap open_count opened in
-    let n = sum_by_push (λ x. x) w.submission.calls call.count in
-    let f = ltb-false _ _ all in
-    let same : reached w.submission ≡ reached (ending_of g w (Some call)).submission = omega arith in
-    record {
-      count = count_same takes_position (step.End, answer.Taken accepted missed head) h refl ∙ i.count ∙ same;
-      entries = i.entries ∙ ap (λ k. entries_of (take k w.submission.published)) same;
-    }
-
-begun_places : (g : Setup) (h : History) (w : World) (count : ℕ) → w.submission.call ≡ None
-    → TakesPlaces h w
-    → TakesPlaces ((step.Begin count, answer.Call (call_length w.submission count)) ∷ h) (happens g w (step.Begin count) (answer.Call (call_length w.submission count)))
-begun_places g h w count no_call i =
-    let t : open_taken w.submission.call ≡ 0 = ap open_taken no_call in
-    let same : reached w.submission ≡ taken w.submission + 0 = omega arith in
-    record {
-      count = count_same takes_position (step.Begin count, answer.Call (call_length w.submission count)) h refl ∙ i.count ∙ same;
-      entries = i.entries ∙ ap (λ k. entries_of (take k w.submission.published)) same;
-    }
-
-stored_places : (g : Setup) (h : History) (w : World) (tail : ℕ)
-    → IsSoundSubmission g.sq w.submission → TakesPlaces h w
-    → TakesPlaces ((step.StoreTail, answer.Tail tail) ∷ h) (happens g w step.StoreTail (answer.Tail tail))
-stored_places g h w tail sound i =
-    record {
-      count = count_same takes_position (step.StoreTail, answer.Tail tail) h refl ∙ i.count;
-      entries = i.entries ∙ ap entries_of (sym (take-append-le (reached w.submission) w.submission.published (map (place_of g.sq w.submission.content) w.submission.fresh) (omega arith)));
-    }
+-- what neither takes a position nor reaches further leaves it so
+still_places : (h : History) (e : Event) (w v : World) → takes_position e ≡ false → entry_taken_by e ≡ None
+    → reached w.submission ≡ reached v.submission → w.submission.published ≡ v.submission.published
+    → TakesPlaces h w → TakesPlaces (e ∷ h) v
+still_places h e w v idle none same places i = record {
+  count = count_same takes_position e h idle ∙ i.count ∙ same;
+  entries = told_same entry_taken_by e h none ∙ i.entries ∙ ap₂ (λ k xs. entries_of (take k xs)) same places;
+}
 
 places_kept : (g : Setup) (h : History) (w : World) (s : Step) (a : Answer) (v : World)
     → SubmissionMove g w s a v → IsSoundSubmission g.sq w.submission → TakesPlaces h w
     → TakesPlaces ((s, a) ∷ h) v
 places_kept g h w s a v (stays _ _ r c is_closed off left) sound i =
-    record { count = count_same takes_position (s, a) h off.takes ∙ i.count; entries = told_same entry_taken_by (s, a) h off.takes_entry ∙ i.entries }
-places_kept g h w s a v (stores tail) sound i = stored_places g h w tail sound i
-places_kept g h w s a v (begins count is_open no_call unspent) sound i =
-    begun_places g h w count no_call i
-places_kept g h w s a v (takes entry call place opened left at valid) sound i =
-    took_valid g h w entry call place opened at valid i
-places_kept g h w s a v (drops call place opened left at invalid) sound i =
-    took_invalid g h w call place opened at invalid i
-places_kept g h w s a v (closes accepted missed head call opened all counted) sound i =
-    closed_places g h w accepted missed head call opened all sound i
-places_kept g h w s a v _ sound i = record {
+    still_places h (s, a) w _ off.takes off.takes_entry refl refl i
+places_kept g h w s a v (stores tail) sound i = record {
   count = count_same takes_position (s, a) h refl ∙ i.count;
-  entries = i.entries;
+  entries = i.entries ∙ ap entries_of (sym (take-append-le (reached w.submission) w.submission.published (map (place_of g.sq w.submission.content) w.submission.fresh) (omega arith)));
 }
+places_kept g h w s a v (begins count is_open no_call unspent) sound i =
+    let t : open_taken w.submission.call ≡ 0 = ap open_taken no_call in
+    still_places h (s, a) w _ refl refl (omega arith) refl i
+places_kept g h w s a v (takes entry call place opened left at valid) sound i =
+    let t : open_taken w.submission.call ≡ call.taken = ap open_taken opened in
+    let next : reached w.submission + 1 ≡ taken w.submission + (call.taken + 1) = omega arith in
+    let here : reached w.submission ≡ taken w.submission + call.taken = omega arith in
+    record {
+      count = count_more takes_position (s, a) h refl ∙ omega (arith, i.count);
+      entries = ap (λ xs. xs ++ entry ∷ []) (i.entries ∙ ap (λ k. entries_of (take k w.submission.published)) here) ∙ sym (one_further w.submission.published (taken w.submission + call.taken) place (Some entry) at valid) ∙ ap (λ k. entries_of (take k w.submission.published)) (omega arith);
+    }
+places_kept g h w s a v (drops call place opened left at invalid) sound i =
+    let t : open_taken w.submission.call ≡ call.taken = ap open_taken opened in
+    let here : reached w.submission ≡ taken w.submission + call.taken = omega arith in
+    record {
+      count = count_more takes_position (s, a) h refl ∙ omega (arith, i.count);
+      entries = i.entries ∙ ap (λ k. entries_of (take k w.submission.published)) here ∙ sym (append-nil _) ∙ sym (one_further w.submission.published (taken w.submission + call.taken) place None at invalid) ∙ ap (λ k. entries_of (take k w.submission.published)) (omega arith);
+    }
+places_kept g h w s a v (closes accepted missed head call opened all counted) sound i =
+    let t : open_taken w.submission.call ≡ call.taken = ap open_taken opened in
+    let c : open_count w.submission.call ≡ call.count = ap open_count opened in
+    let n = sum_by_push (λ x. x) w.submission.calls call.count in
+    let f = ltb-false _ _ all in
+    still_places h (s, a) w _ refl refl (omega arith) refl i
+places_kept g h w s a v _ sound i = still_places h (s, a) w _ refl refl refl refl i
 
 pub takes_places : (g : Setup) (h : History) → IsLawfulApart g h → TakesPlaces h (world g h)
 takes_places g [] lawful = record { count = refl; entries = refl }

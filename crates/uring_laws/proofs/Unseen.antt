@@ -1,6 +1,6 @@
 -- A start changes places with each step that is on the rings, by either's rules: `start_then_rings` and `rings_then_start`.
 -- Such a step asks nobody who runs; of the requests it changes at most which are accepted, behind all that there are.
-use Rattle.std.proofs.Common.{◌≡◌, ℕ, ◌<◌, ◌==◌, true, not, List, ◌∷◌, length, Option, Some, None, refl, sym, subst, ap, ◌∙◌, ◌⊎◌}
+use Rattle.std.proofs.Common.{rules, ◌≡◌, ℕ, ◌<◌, ◌==◌, true, not, List, ◌∷◌, length, Option, Some, None, refl, sym, subst, ap, ◌∙◌, ◌⊎◌}
 use Rattle.std.specs.List.{list_any}
 use Rattle.std.proofs.lemmas.Bool.{and_parts, ltb-true}
 use Rattle.uring_entry.specs.Setup.{Setup}
@@ -16,7 +16,7 @@ use Rattle.uring_core.specs.Histories.{world, IsLawfulApart}
 use Rattle.uring_core.specs.declared.step.Step.{Step}
 use Rattle.uring_core.specs.declared.step.Step.TheVariants as step
 use Rattle.uring_core.specs.declared.answer.Answer.{Answer}
-use Rattle.uring_core.proofs.Changes.{Change, refuses, takes, drops, closes, runs, dooms, cancels, finishes, change_of}
+use Rattle.uring_core.proofs.Changes.{Change, refuses, takes, drops, closes, change_of}
 use Rattle.uring_core.proofs.Sound.{sound_of}
 use Rattle.uring_laws.specs.Swaps.{IsOnRings, StartThenRings, RingsThenStart}
 use Rattle.uring_laws.proofs.StartedRequests.{CanStart, can_start, start_called, drains_called_started}
@@ -29,9 +29,7 @@ use Rattle.uring_laws.proofs.WholeLaws.{lawful_apart}
 called_either : (g : Setup) (w : World) (n : ℕ) (s : Step) (a : Answer) → IsOnRings s
     → (CalledFor g (begun w n) s a → CalledFor g w s a) × (CalledFor g w s a → CalledFor g (begun w n) s a)
 called_either g w n (step.Issue m) a on = absurd on
-called_either g w n (step.Finish m) a on = absurd on
-called_either g w n step.Next a on = absurd on
-called_either g w n _ a on = (λ called. called, λ called. called)
+called_either g w n _ a on = search rules
 
 -- Both orders make the same.
 
@@ -61,11 +59,7 @@ made_either g w n s a (drops call place opened left at invalid) on =
     dropped_either g w n w.submission.call
 made_either g w n s a (closes accepted missed head call opened all told) on =
     closed_either g w n w.submission.call
-made_either g w n s a (runs m outstanding idle spared ready no_cancel) on = absurd on
-made_either g w n s a (dooms m outstanding idle doomed) on = absurd on
-made_either g w n s a (cancels m outstanding idle spared ready cancel) on = absurd on
-made_either g w n s a (finishes m res bytes running) on = absurd on
-made_either g w n s a _ on = refl
+made_either g w n s a _ on = search rules
 
 -- Who could start before such a step can start behind it, and the other way round.
 
@@ -98,11 +92,7 @@ module _ (g : Setup) (w : World) (n : ℕ) (cut : (length w.requests.accepted �
   start_either s a (takes entry call place opened left at valid) on = same_either _ (taken_requests entry w.submission.call)
   start_either s a (drops call place opened left at invalid) on = same_either _ (dropped_requests w.submission.call)
   start_either s a (closes accepted missed head call opened all told) on = closed_start w.submission.call
-  start_either s a (runs m outstanding idle spared ready no_cancel) on = absurd on
-  start_either s a (dooms m outstanding idle doomed) on = absurd on
-  start_either s a (cancels m outstanding idle spared ready cancel) on = absurd on
-  start_either s a (finishes m res bytes running) on = absurd on
-  start_either s a _ on = (λ c. c, λ c. c)
+  start_either s a _ on = search rules
 
 pub start_then_rings : (g : Setup) → StartThenRings g
 start_then_rings g h n s a on lawful =

@@ -3,7 +3,6 @@
 mod dispatch;
 mod entry;
 mod files;
-mod linux_dispatch;
 mod rings;
 mod rules;
 
@@ -15,9 +14,14 @@ fn check(rt: &impl Abort, wrong: Option<usize>) {
     assert_eq!(rt; wrong, None);
 }
 
+/// The same of a history or a case with this name.
+fn check_row(rt: &impl Abort, wrong: Option<usize>, name: &str) {
+    assert_eq!(rt; wrong, None, "{name}");
+}
+
 /// The same, where what was done could be refused memory.
-fn check_done(rt: &impl Abort, wrong: Result<Option<usize>, Fail>) -> Result<(), Fail> {
-    check(rt, wrong?);
+fn check_done(rt: &impl Abort, wrong: Result<Option<usize>, Fail>, name: &str) -> Result<(), Fail> {
+    check_row(rt, wrong?, name);
     Ok(())
 }
 

@@ -10,15 +10,17 @@ use Rattle.uring_entry.specs.Preparation.{is_cancel, is_cancel_all, is_faulty, o
 use Rattle.uring_entry.specs.Below.{least_below, all_below, found_or}
 use Rattle.uring_entry.specs.Success.{is_success}
 use Rattle.uring_entry.specs.declared.errno.TheConstants.{EINVAL, ECANCELED}
-use Rattle.uring_entry.specs.Requests.{Requests, entry_of, has_ended, is_outstanding, is_running, is_doomed, is_ready, is_issuable, holds_back, is_candidate, target_of, is_target, targets_of, result_for, count_result, cancel_result, chosen_by, doomed_result, no_bytes, with_call, with_ended}
-use Rattle.uring_entry.proofs.BelowLemmas.{some_below_same, least_below_same}
+use Rattle.uring_entry.specs.Requests.{Requests, entry_of, has_ended, is_outstanding, is_running, is_doomed, is_ready, is_issuable, is_candidate, target_of, is_target, targets_of, result_for, count_result, cancel_result, chosen_by, doomed_result, no_bytes, with_call, with_ended}
+use Rattle.uring_entry.proofs.BelowLemmas.{least_below_same}
 use Rattle.uring_files.specs.Operations.{after, result_of}
 use Rattle.uring_core.proofs.Groups.{longer, entry_kept, doom_kept}
 use Rattle.uring_moves.specs.Moments.{Moment, started, ended_at_once, issued, finished, is_finishable, moved, posted_with}
 use Rattle.uring_moves.specs.Direct.{AreUnnamed}
 use Rattle.uring_moves.specs.declared.move_of_calls.Move.TheVariants as move
-use Rattle.uring_moves.proofs.MovesLead.{can_then, if_so, if_not}
-use Rattle.uring_moves.proofs.Prompting.{waits_called, candidate_names, can_of}
+use Rattle.uring_laws.proofs.AlikeRequests.{all_below_same}
+use Rattle.uring_laws.proofs.CalledRequests.{outstanding_kept, ready_kept}
+use Rattle.uring_moves.proofs.MovesLead.{can_of, can_then, if_so, if_not}
+use Rattle.uring_moves.proofs.Prompting.{candidate_names}
 
 -- Bounds that go further, over numbers at which a test fails.
 
@@ -48,11 +50,6 @@ all_between p n (suc m) le h =
       | inr high ↦ let same : suc m ≡ n = omega arith in ap (all_below p) same
     ]
 
-all_same : (p q : ℕ → Bool) (n : ℕ) → ((k : ℕ) → k < n → p k ≡ q k) → all_below p n ≡ all_below q n
-all_same p q zero same = refl
-all_same p q (suc n) same =
-    ap₂ (λ xs b. xs ++ (if b then n ∷ [] else [])) (all_same p q n (λ k low. same k (omega arith))) (same n (omega arith))
-
 result_same : (r : Requests) (call : List Sqe) (o : Option ℕ)
     → result_for (with_call r call) o ≡ result_for r o
 result_same r call None = refl
@@ -61,21 +58,10 @@ result_same r call (Some k) = refl
 -- What a call leaves as it was.
 
 module _ (named : ℕ → Bool) (r : Requests) (call : List Sqe) (cut : (length r.accepted ≡ 0) ⊎ (list_any (λ c. c == length r.accepted) r.cuts ≡ true)) (unnamed : AreUnnamed named call) where
-  pub ready_kept : (n : ℕ) → n < length r.accepted → is_ready (with_call r call) n ≡ is_ready r n
-  unfolding is_ready
-  ready_kept n low =
-      ap not (some_below_same (holds_back (with_call r call) n) (holds_back r n) n (λ k less. ap (λ b. not (has_ended r k) && b) (waits_called r call n k cut low less)))
-
-  pub outstanding_kept : (n : ℕ) → n < length r.accepted
-      → is_outstanding (with_call r call) n ≡ is_outstanding r n
-  outstanding_kept n low =
-      let l = longer r call cut in
-      ap (λ b. b && not (has_ended r n)) (lt-ltb n (length (with_call r call).accepted) (omega arith) ∙ sym (lt-ltb n (length r.accepted) low))
-
   candidate_kept : (n k : ℕ) → n < length r.accepted → k < length r.accepted
       → is_candidate (with_call r call) n k ≡ is_candidate r n k
   candidate_kept n k low less =
-      ap (λ b. b && not (k == n) && (user_data_of (entry_of (with_call r call) k) == addr_of (entry_of (with_call r call) n)) && not (is_doomed (with_call r call) k)) (outstanding_kept k less)
+      ap (λ b. b && not (k == n) && (user_data_of (entry_of (with_call r call) k) == addr_of (entry_of (with_call r call) n)) && not (is_doomed (with_call r call) k)) (outstanding_kept r call cut k less)
       ∙ ap₂ (λ e f. is_outstanding r k && not (k == n) && (user_data_of e == addr_of f) && not (is_doomed (with_call r call) k)) (entry_kept r call cut k less) (entry_kept r call cut n low)
       ∙ ap (λ b. is_outstanding r k && not (k == n) && (user_data_of (entry_of r k) == addr_of (entry_of r n)) && not b) (doom_kept r call cut k less)
 
@@ -102,7 +88,7 @@ module _ (named : ℕ → Bool) (r : Requests) (call : List Sqe) (cut : (length 
   unfolding targets_of
   targets_kept n names low =
       all_between (is_target (with_call r call) n) (length r.accepted) (length (with_call r call).accepted) (longer r call cut) (λ k high within. ap (λ b. b && not (is_running r k)) (none_there n k names low high within))
-      ∙ all_same (is_target (with_call r call) n) (is_target r n) (length r.accepted) (λ k less. ap (λ b. b && not (is_running r k)) (candidate_kept n k low less))
+      ∙ all_below_same (is_target (with_call r call) n) (is_target r n) (length r.accepted) (λ k less. ap (λ b. b && not (is_running r k)) (candidate_kept n k low less))
 
   pub result_kept : (n : ℕ) → named (addr_of (entry_of r n)) ≡ true → n < length r.accepted
       → cancel_result (with_call r call) n ≡ cancel_result r n
@@ -200,7 +186,7 @@ module _ (named : ℕ → Bool) (m : Moment) (call : List Sqe) (later : List (Li
       let p = and_parts (is_outstanding r n && not (is_running r n)) (is_doomed r n || is_ready r n) c.0 in
       let o = and_parts (is_outstanding r n) (not (is_running r n)) p.0 in
       let low : n < length r.accepted = ltb-true n (length r.accepted) (and_parts (nat_lt n (length r.accepted)) (not (has_ended r n)) o.0).0 in
-      let same : is_issuable q n ≡ is_issuable r n = ap (λ b. b && not (is_running r n) && (is_doomed q n || is_ready q n)) (outstanding_kept named r call cut unnamed n low) ∙ ap₂ (λ d s. is_outstanding r n && not (is_running r n) && (d || s)) (doom_kept r call cut n low) (ready_kept named r call cut unnamed n low) in
+      let same : is_issuable q n ≡ is_issuable r n = ap (λ b. b && not (is_running r n) && (is_doomed q n || is_ready q n)) (outstanding_kept r call cut n low) ∙ ap₂ (λ d s. is_outstanding r n && not (is_running r n) && (d || s)) (doom_kept r call cut n low) (ready_kept r call cut n low) in
       can_then (is_issuable q n) (issued (called m call later) n) (called next call later) (same ∙ c.0) (issued_behind n names low ∙ ap (λ y. called y call later) c.1)
 
   pub finish_behind : (n : ℕ) (next : Moment) → moved m (move.Finish n) ≡ Some next

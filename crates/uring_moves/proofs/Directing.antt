@@ -13,7 +13,8 @@ use Rattle.uring_moves.specs.Prompt.{IsPrompt, ArePrompt}
 use Rattle.uring_moves.specs.Direct.{AreUnnamed, IsNextUnnamed, IsDirect, AreDirect, DirectMovesLead}
 use Rattle.uring_moves.specs.declared.move_of_calls.Move.{Move}
 use Rattle.uring_moves.specs.declared.move_of_calls.Move.TheVariants as move
-use Rattle.uring_moves.proofs.Prompting.{IsCalm, one_calm, first_calm, can_of, prompt_moves_lead}
+use Rattle.uring_moves.proofs.MovesLead.{can_of}
+use Rattle.uring_moves.proofs.Prompting.{IsCalm, one_calm, first_calm, prompt_moves_lead}
 use Rattle.uring_moves.proofs.CallsAhead.{called, issue_behind, finish_behind}
 
 -- Moments that run ahead.

@@ -2,6 +2,7 @@
 -- By cases on `Change`: the close of a call is an accepting, an issue and a finish that isn't refused are moves, and all else is silent.
 use Rattle.std.proofs.Common.{◌≡◌, ℕ, ◌+◌, ◌≤◌, ℤ, Bool, true, false, not, ◌&&◌, ◌||◌, nat_lt, List, [], ◌∷◌, ◌++◌, length, take, drop, map, Option, Some, None, if◌then◌else◌, refl, sym, subst, ap, ap₂, ◌∙◌, arith, append_assoc, append-nil}
 use Rattle.std.specs.Option.{option_and_then}
+use Rattle.std.specs.Prelude.{unwrap_or}
 use Rattle.std.proofs.Math.Seq.{take-add}
 use Rattle.std.proofs.lemmas.Bool.{lt-ltb, and_parts}
 use Rattle.std.proofs.lemmas.List.{length-map, length-take-le, map-append, drop-map, take-map, take-append-le, length-drop}
@@ -133,11 +134,15 @@ pub can_then : (can : Bool) (x y : Moment) → can ≡ true → x ≡ y → (if 
 can_then true x y is same = ap (λ z. Some z) same
 can_then false x y is same = absurd cc
 
+pub can_of : (can : Bool) (m next : Moment) → (if can then Some m else None) ≡ Some next
+    → (can ≡ true) × (m ≡ next)
+can_of true m next e = (refl, ap (λ o. unwrap_or o next) e)
+can_of false m next e = absurd cc
+
 pub issuable_so : (outstanding running doomed ready : Bool) → outstanding ≡ true → running ≡ false
     → (doomed || ready) ≡ true → (outstanding && not running && (doomed || ready)) ≡ true
 issuable_so true false doomed ready e f h = h
-issuable_so true true doomed ready e f h = absurd cc
-issuable_so false running doomed ready e f h = absurd cc
+issuable_so _ _ doomed ready e f h = absurd cc
 
 pub or_first : (a b : Bool) → a ≡ true → (a || b) ≡ true
 or_first true b e = refl

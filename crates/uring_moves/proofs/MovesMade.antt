@@ -163,9 +163,7 @@ issue_made g w n files left true false false true false can = record {
   shows = refl;
   aside = record { submission = refl; closed = refl; accepted = refl; reaped = refl; stored = refl };
 }
-issue_made g w n files left true false false false cancel can = absurd cc
-issue_made g w n files left true true doomed ready cancel can = absurd cc
-issue_made g w n files left false running doomed ready cancel can = absurd cc
+issue_made g w n files left _ _ _ _ _ can = absurd cc
 
 -- All moves.
 

@@ -1,33 +1,35 @@
 -- The law `prompt_moves_lead`: moves are followed by prompt ones, which start each request that no cancel names only where the others finish it.
 -- What runs stays ready and is never doomed, so that it may start as late. Which requests were started is read of a cancel alone, of those that it names.
-use Rattle.std.proofs.Common.{◌≡◌, ℕ, zero, suc, ◌+◌, ◌-◌, ◌<◌, ℤ, pos, Bool, true, false, not, ◌&&◌, ◌||◌, ◌==◌, nat_lt, List, [], ◌∷◌, ◌++◌, length, get_or, Option, Some, None, if◌then◌else◌, refl, sym, subst, ap, ap₂, ◌∙◌, ◌⊎◌, inl, inr, arith}
+use Rattle.std.proofs.Common.{◌≡◌, ℕ, ◌+◌, ◌-◌, ◌<◌, ℤ, pos, Bool, true, false, not, ◌&&◌, ◌||◌, ◌==◌, nat_lt, List, [], ◌∷◌, ◌++◌, length, get_or, Option, Some, None, if◌then◌else◌, refl, sym, subst, ap, ap₂, ◌∙◌, ◌⊎◌, inl, inr, arith}
 use Rattle.std.specs.Prelude.{All, unwrap_or}
 use Rattle.std.specs.List.{list_any}
 use Rattle.std.specs.Prelude.{neg_ℤ}
 use Rattle.std.specs.Option.{option_and_then, option_to_list}
-use Rattle.std.proofs.lemmas.Bool.{and_parts, both_ways, cases_Bool, cases_lt, eqb-true, eq-eqb, false_from_ne_true}
+use Rattle.std.proofs.lemmas.Bool.{and_from, and_parts, or_parts, both_ways, cases_Bool, cases_lt, eqb-true, eq-eqb, not-true, true_from_ne_false, false_from_ne_true}
 use Rattle.std.proofs.lemmas.List.{get_or_append_left, get_or-append-add}
 use Rattle.std.proofs.Math.ListN.{get_or-eq_default}
 use Rattle.std.proofs.lemmas.List.Elements.{All-head, All-tail}
 use Rattle.uring_entry.specs.Setup.{Setup}
 use Rattle.uring_entry.specs.Layout.{Sqe, zero_entry, addr_of, user_data_of}
 use Rattle.uring_entry.specs.Preparation.{is_cancel, is_cancel_all, operation_of}
-use Rattle.uring_entry.specs.Below.{all_below}
 use Rattle.uring_entry.specs.declared.errno.TheConstants.{EALREADY}
 use Rattle.uring_entry.specs.Success.{is_success}
-use Rattle.uring_entry.specs.Requests.{Requests, entry_of, has_started, has_ended, is_outstanding, is_running, is_doomed, is_behind_failure, some_member, is_joined, is_draining, is_drain, is_ready, is_issuable, waits_for, holds_back, is_candidate, target_of, is_target, targets_of, result_for, count_result, cancel_result, chosen_by, choices_of, doomed_result, no_bytes, with_call, with_started, with_ended}
-use Rattle.uring_entry.proofs.BelowLemmas.{some_below_none, least_below_same, least_below_tells}
-use Rattle.uring_entry.proofs.RequestLemmas.{is_ready_inside, list_any_push}
+use Rattle.uring_entry.specs.Requests.{Requests, entry_of, has_started, has_ended, is_outstanding, is_running, is_doomed, is_behind_failure, some_member, is_joined, is_ready, is_issuable, is_candidate, target_of, is_target, targets_of, result_for, count_result, cancel_result, chosen_by, choices_of, doomed_result, no_bytes, with_call, with_started, with_ended}
+use Rattle.uring_entry.proofs.BelowLemmas.{least_below_same, least_below_tells}
+use Rattle.uring_entry.proofs.RequestLemmas.{list_any_push}
 use Rattle.uring_files.specs.Operations.{result_of}
 use Rattle.uring_core.proofs.ListCounts.{any_new, any_kept}
-use Rattle.uring_core.proofs.Groups.{join_kept, member_kept}
+use Rattle.uring_laws.proofs.AlikeRequests.{all_below_same}
+use Rattle.uring_laws.proofs.StartedRequests.{ready_started}
+use Rattle.uring_laws.proofs.EndedRequests.{ready_end}
+use Rattle.uring_laws.proofs.CalledRequests.{ready_kept}
 use Rattle.uring_moves.specs.Moments.{Moment, starting, started, ended_at_once, issued, finished, is_finishable, accepted, moved, after_moves}
 use Rattle.uring_moves.specs.Outcomes.{IsOver}
 use Rattle.uring_moves.specs.Prompt.{is_named, IsPrompt, ArePrompt, NamesAll, AreNamed, PromptMovesLead}
 use Rattle.uring_moves.specs.declared.move_of_calls.Move.{Move}
 use Rattle.uring_moves.specs.declared.move_of_calls.Move.TheVariants as move
-use Rattle.uring_moves.proofs.MovesLead.{one_move_more, can_then, issuable_so, or_second, if_so, if_not}
-use Rattle.uring_moves.proofs.SoundMoments.{IsSoundMoment, one_sound, first_moment}
+use Rattle.uring_moves.proofs.MovesLead.{one_move_more, can_then, can_of, issuable_so, or_second, if_so, if_not}
+use Rattle.uring_moves.proofs.SoundMoments.{IsSoundMoment, one_sound, first_moment, kept_on}
 
 -- Moments that differ in which requests were started.
 
@@ -79,16 +81,11 @@ target_can : (r : Requests) (n k : ℕ) → target_of r n ≡ Some k → is_cand
 unfolding target_of
 target_can r n k is = (least_below_tells (is_candidate r n) (length r.accepted) k is).holds
 
-all_below_same : (p q : ℕ → Bool) (n : ℕ) → ((k : ℕ) → p k ≡ q k) → all_below p n ≡ all_below q n
-all_below_same p q zero same = refl
-all_below_same p q (suc n) same =
-    ap₂ (λ xs b. xs ++ (if b then n ∷ [] else [])) (all_below_same p q n same) (same n)
-
 targets_as_if : (named : ℕ → Bool) (r : Requests) (s : List ℕ) (n : ℕ) → RunSame named r s
     → named (addr_of (entry_of r n)) ≡ true → targets_of (with_starts r s) n ≡ targets_of r n
 unfolding targets_of
 targets_as_if named r s n same names =
-    all_below_same (is_target (with_starts r s) n) (is_target r n) (length r.accepted) (λ k. by_candidate k (is_candidate r n k) refl) where
+    all_below_same (is_target (with_starts r s) n) (is_target r n) (length r.accepted) (λ k lt. by_candidate k (is_candidate r n k) refl) where
       by_candidate : (k : ℕ) → (can : Bool) → is_candidate r n k ≡ can → is_target (with_starts r s) n k ≡ is_target r n k
       by_candidate k true can =
           ap₂ (λ b c. b && not c) (candidate_as_if r s n k) (run_chosen named r s n k same names can)
@@ -127,37 +124,6 @@ ended_as_if m s n res same =
       posted = (ended_at_once m n res).posted;
     })
     same
-
-ready_ended : (r q : Requests) (n : ℕ)
-    → ((k : ℕ) → has_ended r k ≡ true → has_ended q k ≡ true)
-    → ((k : ℕ) → k < n → waits_for q n k ≡ waits_for r n k)
-    → is_ready r n ≡ true → is_ready q n ≡ true
-unfolding is_ready
-ready_ended r q n more same ready =
-    ap not (some_below_none (holds_back q n) n (λ k low. free k low (has_ended q k) refl)) where
-      free : (k : ℕ) → k < n → (ended : Bool) → has_ended q k ≡ ended → (not ended && waits_for q n k) ≡ false
-      free k low true is = refl
-      free k low false is =
-          same k low ∙ free_before (has_ended r k) refl (is_ready_inside r n k ready low) where
-            free_before : (ended : Bool) → has_ended r k ≡ ended → (not ended && waits_for r n k) ≡ false → waits_for r n k ≡ false
-            free_before true was free_then = absurd (both_ways (has_ended q k) is (more k was))
-            free_before false was free_then = free_then
-
-pub waits_called : (r : Requests) (entries : List Sqe) (n k : ℕ)
-    → (length r.accepted ≡ 0) ⊎ (list_any (λ c. c == length r.accepted) r.cuts ≡ true)
-    → n < length r.accepted → k < n → waits_for (with_call r entries) n k ≡ waits_for r n k
-waits_called r entries n k cut within low =
-    ap₂ (λ x y. (is_joined (with_call r entries) k n || x) || y) (member_kept r entries cut is_drain k (omega (arith, within, low))) (member_kept r entries cut is_drain n within)
-    ∙ ap (λ x. (x || is_draining r k) || is_draining r n) (join_kept r entries cut k n within)
-
-waits_ended : (r : Requests) (n : ℕ) (res : ℤ) (bytes chosen : List ℕ) (j k : ℕ)
-    → waits_for (with_ended (record r { cancelled = chosen }) n res bytes) j k ≡ waits_for r j k
-unfolding some_member is_joined
-waits_ended r n res bytes chosen j k = refl
-
-ready_started : (r : Requests) (n k : ℕ) → is_ready (with_started r n) k ≡ is_ready r k
-unfolding is_ready some_member is_joined
-ready_started r n k = refl
 
 -- What is so of the moments that are followed.
 
@@ -221,21 +187,13 @@ follow_by named g calls m next there x f made idle s is fewer named_too = record
   named_too = named_too;
 }
 
-both : (x y : Bool) → x ≡ true → y ≡ true → (x && y) ≡ true
-both true y e f = f
-both false y e f = e
-
-not_so : (b : Bool) → not b ≡ true → b ≡ false
-not_so true e = sym e
-not_so false e = refl
-
 -- who runs where fewer started runs
 idle_there : (r : Requests) (s : List ℕ) (n : ℕ) → (has_started r n ≡ true → IsAmong s n)
     → is_running (with_starts r s) n ≡ false → is_running r n ≡ false
 idle_there r s n fewer idle =
     false_from_ne_true (is_running r n) (λ running.
     (let q = and_parts (has_started r n) (not (has_ended r n)) running in
-    both_ways (is_running (with_starts r s) n) idle (both (has_started (with_starts r s) n) (not (has_ended r n)) (fewer q.0) q.1)))
+    both_ways (is_running (with_starts r s) n) idle (and_from (has_started (with_starts r s) n) (not (has_ended r n)) (fewer q.0) q.1)))
 
 run_same : (named : ℕ → Bool) (g : Setup) (calls : List (List Sqe)) (m : Moment) (f : IsFollowed named g calls m)
     → RunSame named f.there.requests f.starts
@@ -249,13 +207,9 @@ run_same named g calls m f k names =
 idle_ended : (r : Requests) (n : ℕ) (res : ℤ) (bytes chosen : List ℕ) (k : ℕ)
     → is_running r k ≡ false
     → is_running (with_ended (record r { cancelled = chosen }) n res bytes) k ≡ false
-idle_ended r n res bytes chosen k idle = by_start (has_started r k) refl idle where
-  by_start : (begun : Bool) → has_started r k ≡ begun → (begun && not (has_ended r k)) ≡ false → (begun && not (list_any (λ e. e.number == k) (r.ended ++ record { number = n; res = res; bytes = bytes } ∷ []))) ≡ false
-  by_start false is rests = refl
-  by_start true is rests = ap not (any_kept (λ e. e.number == k) r.ended _ (ended (has_ended r k) refl rests)) where
-    ended : (over : Bool) → has_ended r k ≡ over → not over ≡ false → has_ended r k ≡ true
-    ended true was rests = was
-    ended false was rests = absurd cc
+idle_ended r n res bytes chosen k idle = false_from_ne_true _ (λ running.
+    let q = and_parts (has_started r k) _ running in
+    both_ways (is_running r k) idle (and_from (has_started r k) _ q.0 (ap not (or_parts (has_ended r k) (n == k) (sym (list_any_push (λ e. e.number == k) r.ended _) ∙ not-true _ q.1)).0)))
 
 -- Each move is followed.
 
@@ -306,8 +260,8 @@ issue_followed named g calls m next n f calm can is = by_doom (is_doomed rs n) r
   can_there =
       let p = and_parts (is_outstanding r n && not (is_running rs n)) (is_doomed rs n || is_ready rs n) can in
       let o = and_parts (is_outstanding r n) (not (is_running rs n)) p.0 in
-      both (is_outstanding r n && not (is_running r n)) (is_doomed r n || is_ready r n)
-      (both (is_outstanding r n) (not (is_running r n)) o.0 (ap not (idle_there r f.starts n (f.fewer n) (not_so (is_running rs n) o.1))))
+      and_from (is_outstanding r n && not (is_running r n)) (is_doomed r n || is_ready r n)
+      (and_from (is_outstanding r n) (not (is_running r n)) o.0 (ap not (idle_there r f.starts n (f.fewer n) (not-true (is_running rs n) o.1))))
       (sym (ap₂ (λ x y. x || y) (doomed_as_if r f.starts n) (ready_as_if r f.starts n)) ∙ p.1)
 
   -- it ends at once
@@ -328,7 +282,7 @@ issue_followed named g calls m next n f calm can is = by_doom (is_doomed rs n) r
       (λ k named_k begun. too k named_k (any_new (λ j. j == k) f.starts n begun)) where
         runs : (k : ℕ) → is_named named r k ≡ false → (has_started (with_started r n) k ≡ true) × (not (has_ended r k) ≡ true) → ⊥
         runs k quiet q = elim (any_new (λ j. j == k) r.started n q.0) [
-          | inl old ↦ both_ways (is_running r k) (f.idle k quiet) (both (has_started r k) (not (has_ended r k)) old q.1)
+          | inl old ↦ both_ways (is_running r k) (f.idle k quiet) (and_from (has_started r k) (not (has_ended r k)) old q.1)
           | inr new ↦ both_ways (is_named named r k) quiet (sym (ap (is_named named r) (eqb-true n k new)) ∙ names)
         ]
 
@@ -385,25 +339,25 @@ finish_followed named g calls m next n f calm can is = by_name (is_named named r
 
   only : (k : ℕ) → is_named named r k ≡ false → (has_started (started t n).requests k ≡ true) × (not (has_ended r k) ≡ true) → move.Finish n ≡ move.Finish k
   only k quiet e = elim (any_new (λ j. j == k) r.started n e.0) [
-    | inl old ↦ absurd (both_ways (is_running r k) (f.idle k quiet) (both (has_started r k) (not (has_ended r k)) old e.1))
+    | inl old ↦ absurd (both_ways (is_running r k) (f.idle k quiet) (and_from (has_started r k) (not (has_ended r k)) old e.1))
     | inr new ↦ ap (λ j. move.Finish j) (eqb-true n k new)
   ]
 
-  over : (k : ℕ) → is_named named r k ≡ false → has_started r k ≡ true → (ended : Bool) → has_ended r k ≡ ended → has_ended r k ≡ true
-  over k quiet old true is = is
-  over k quiet old false is = absurd (both_ways (is_running r k) (f.idle k quiet) (both (has_started r k) (not (has_ended r k)) old (ap not is)))
+  over : (k : ℕ) → is_named named r k ≡ false → has_started r k ≡ true → has_ended r k ≡ true
+  over k quiet old =
+      true_from_ne_false _ (λ going. both_ways (is_running r k) (f.idle k quiet) (and_from (has_started r k) (not (has_ended r k)) old (ap not going)))
 
   still : (k : ℕ) → is_named named r k ≡ false → (has_started (started t n).requests k ≡ true) × (not (has_ended (finished (started t n) n).requests k) ≡ true) → ⊥
   still k quiet e = elim (any_new (λ j. j == k) r.started n e.0) [
-    | inl old ↦ both_ways (has_ended (finished (started t n) n).requests k) (not_so _ e.1) (any_kept (λ x. x.number == k) r.ended _ (over k quiet old (has_ended r k) refl))
-    | inr new ↦ both_ways (has_ended (finished (started t n) n).requests k) (not_so _ e.1) (list_any_push (λ x. x.number == k) r.ended _ ∙ or_second (has_ended r k) (n == k) new)
+    | inl old ↦ both_ways (has_ended (finished (started t n) n).requests k) (not-true _ e.1) (any_kept (λ x. x.number == k) r.ended _ (over k quiet old))
+    | inr new ↦ both_ways (has_ended (finished (started t n) n).requests k) (not-true _ e.1) (list_any_push (λ x. x.number == k) r.ended _ ∙ or_second (has_ended r k) (n == k) new)
   ]
 
   by_name : (names : Bool) → is_named named r n ≡ names → IsFollowed named g calls next
   by_name true names =
       let o = result_of t.files (operation_of (entry_of r n)) in
       follow_by named g calls m next (finished t n) (move.Finish n) f
-      (can_then (is_finishable r n) (finished t n) (finished t n) (both (nat_lt n (length r.accepted)) (is_running r n) p.0 (sym (run_same named g calls m f n names) ∙ p.1)) refl)
+      (can_then (is_finishable r n) (finished t n) (finished t n) (and_from (nat_lt n (length r.accepted)) (is_running r n) p.0 (sym (run_same named g calls m f n names) ∙ p.1)) refl)
       (λ k quiet. idle_ended r n o.res o.bytes r.cancelled k (f.idle k quiet)) f.starts (sym is) f.fewer f.named_too
   by_name false quiet =
       let t1 : Moment = started t n in
@@ -411,10 +365,10 @@ finish_followed named g calls m next n f calm can is = by_name (is_named named r
       let spared : is_doomed r n ≡ false = sym (doomed_as_if r f.starts n) ∙ (calm.sound.manual.started_free n q.0).spared in
       let other : is_cancel (entry_of r n) ≡ false = calm.sound.no_cancel n q.0 in
       let ready : is_ready r n ≡ true = sym (ready_as_if r f.starts n) ∙ calm.ready n p.1 in
-      let starts : moved t (move.Issue n) ≡ Some t1 = can_then (is_issuable r n) (issued t n) t1 (issuable_so (is_outstanding r n) (is_running r n) (is_doomed r n) (is_ready r n) (both (nat_lt n (length r.accepted)) (not (has_ended r n)) p.0 q.1) (f.idle n quiet) (or_second (is_doomed r n) (is_ready r n) ready))
+      let starts : moved t (move.Issue n) ≡ Some t1 = can_then (is_issuable r n) (issued t n) t1 (issuable_so (is_outstanding r n) (is_running r n) (is_doomed r n) (is_ready r n) (and_from (nat_lt n (length r.accepted)) (not (has_ended r n)) p.0 q.1) (f.idle n quiet) (or_second (is_doomed r n) (is_ready r n) ready))
       (if_not (is_doomed r n) _ _ spared ∙ if_not (is_cancel (entry_of r n)) _ _ other) in
       let begun : has_started t1.requests n ≡ true = list_any_push (λ k. k == n) r.started n ∙ or_second (has_started r n) (n == n) (eq-eqb n n refl) in
-      let ends : moved t1 (move.Finish n) ≡ Some t2 = can_then (is_finishable t1.requests n) (finished t1 n) t2 (both (nat_lt n (length r.accepted)) (is_running t1.requests n) p.0 (both (has_started t1.requests n) (not (has_ended r n)) begun q.1)) refl in
+      let ends : moved t1 (move.Finish n) ≡ Some t2 = can_then (is_finishable t1.requests n) (finished t1 n) t2 (and_from (nat_lt n (length r.accepted)) (is_running t1.requests n) p.0 (and_from (has_started t1.requests n) (not (has_ended r n)) begun q.1)) refl in
       let there : after_moves (starting g calls) (f.moves ++ move.Issue n ∷ []) ≡ Some t1 = leads_more g calls f.moves t t1 (move.Issue n) f.leads starts in
       record {
         moves = (f.moves ++ move.Issue n ∷ []) ++ move.Finish n ∷ [];
@@ -452,17 +406,18 @@ ran_before : (r : Requests) (n : ℕ) (res : ℤ) (bytes chosen : List ℕ) (k :
     → is_running (with_ended (record r { cancelled = chosen }) n res bytes) k ≡ true
     → is_running r k ≡ true
 ran_before r n res bytes chosen k running =
-    elim (cases_Bool (is_running r k)) [
-      | inl ran ↦ ran
-      | inr idle ↦ absurd (both_ways (is_running (with_ended (record r { cancelled = chosen }) n res bytes) k) (idle_ended r n res bytes chosen k idle) running)
-    ]
+    true_from_ne_false _ (λ idle. both_ways _ (idle_ended r n res bytes chosen k idle) running)
+
+ready_chosen : (r : Requests) (chosen : List ℕ) (k : ℕ) → is_ready (record r { cancelled = chosen }) k ≡ is_ready r k
+unfolding is_ready some_member is_joined
+ready_chosen r chosen k = refl
 
 ready_behind : (r : Requests) (n : ℕ) (res : ℤ) (bytes chosen : List ℕ)
     → ((k : ℕ) → is_running r k ≡ true → is_ready r k ≡ true) → (k : ℕ)
     → is_running (with_ended (record r { cancelled = chosen }) n res bytes) k ≡ true
     → is_ready (with_ended (record r { cancelled = chosen }) n res bytes) k ≡ true
 ready_behind r n res bytes chosen ready k running =
-    ready_ended r (with_ended (record r { cancelled = chosen }) n res bytes) k (λ j e. any_kept (λ x. x.number == j) r.ended _ e) (λ j low. waits_ended r n res bytes chosen k j) (ready k (ran_before r n res bytes chosen k running))
+    ready_end (record r { cancelled = chosen }) n res bytes k (ready_chosen r chosen k ∙ ready k (ran_before r n res bytes chosen k running))
 
 accept_calm : (named : ℕ → Bool) (m next : Moment) → IsCalm named m → moved m move.Accept ≡ Some next → IsCalm named next
 accept_calm named m next calm e = by_left m.left refl e where
@@ -476,7 +431,7 @@ accept_calm named m next calm e = by_left m.left refl e where
         sound = one_sound m move.Accept (record m { requests = with_call r call; left = later }) (ap (accepted m) is) calm.sound;
         ready = λ n running.
             (let within : n < length r.accepted = calm.sound.sound.started_accepted n (and_parts (has_started r n) (not (has_ended r n)) running).0 in
-            ready_ended r (with_call r call) n (λ k ended. ended) (λ k low. waits_called r call n k calm.sound.sound.cut_at_end within low) (calm.ready n running));
+            ready_kept r call calm.sound.sound.cut_at_end n within ∙ calm.ready n running);
         are_named = named_there (λ e. is_cancel e ≡ true → named (addr_of e) ≡ true) r.accepted call (λ no. absurd cc) calm.are_named (All-head (NamesAll named) call later will);
         will_be = All-tail (NamesAll named) call later will;
       })
@@ -489,7 +444,7 @@ issue_calm named m next n calm can is = subst (IsCalm named) is (by_doom (is_doo
 
   runs : is_ready m.requests n ≡ true → (k : ℕ) → (has_started (with_started m.requests n) k ≡ true) × (not (has_ended m.requests k) ≡ true) → is_ready m.requests k ≡ true
   runs now k e = elim (any_new (λ j. j == k) m.requests.started n e.0) [
-    | inl old ↦ calm.ready k (both (has_started m.requests k) (not (has_ended m.requests k)) old e.1)
+    | inl old ↦ calm.ready k (and_from (has_started m.requests k) (not (has_ended m.requests k)) old e.1)
     | inr new ↦ subst (λ j. is_ready m.requests j ≡ true) (eqb-true n k new) now
   ]
 
@@ -531,11 +486,6 @@ finish_calm named m next n calm can is =
       are_named = calm.are_named;
       will_be = calm.will_be;
     })
-
-pub can_of : (can : Bool) (m next : Moment) → (if can then Some m else None) ≡ Some next
-    → (can ≡ true) × (m ≡ next)
-can_of true m next e = (refl, ap (λ o. unwrap_or o next) e)
-can_of false m next e = absurd cc
 
 pub one_calm : (named : ℕ → Bool) (m next : Moment) (x : Move) → IsCalm named m → moved m x ≡ Some next
     → IsCalm named next
@@ -579,23 +529,13 @@ one_followed named g calls m next (move.Finish n) f e =
       followed = finish_followed named g calls m next n f.followed (subst (IsCalm named) f.followed.is f.calm) (subst (λ (y : Moment). is_finishable y.requests n ≡ true) f.followed.is p.0) (subst (λ y. finished y n ≡ next) f.followed.is p.1);
     }
 
-all_followed : (named : ℕ → Bool) (g : Setup) (calls : List (List Sqe)) (moves : List Move) (m last : Moment)
-    → IsFollowedCalmly named g calls m → after_moves m moves ≡ Some last → IsFollowedCalmly named g calls last
-all_followed named g calls [] m last f e =
-    subst (IsFollowedCalmly named g calls) (ap (λ o. unwrap_or o last) e) f
-all_followed named g calls (first ∷ later) m last f e =
-    by_first (moved m first) refl e (λ next. all_followed named g calls later next last) where
-      by_first : (next : Option Moment) → moved m first ≡ next → option_and_then (λ n. after_moves n later) next ≡ Some last → ((n : Moment) → IsFollowedCalmly named g calls n → after_moves n later ≡ Some last → IsFollowedCalmly named g calls last) → IsFollowedCalmly named g calls last
-      by_first None is none go_on = absurd cc
-      by_first (Some next) is some go_on = go_on next (one_followed named g calls m next first f is) some
-
 pub prompt_moves_lead : PromptMovesLead
 prompt_moves_lead g calls named posted files names to =
     let begun : IsFollowedCalmly named g calls (starting g calls) = record {
       calm = first_calm named g calls names;
       followed = record { moves = []; there = starting g calls; leads = refl; prompt = tt; idle = λ n quiet. refl; starts = []; is = refl; fewer = λ n no. no; named_too = λ n names no. no };
     } in
-    let f = (all_followed named g calls to.moves (starting g calls) to.last begun to.leads).followed in
+    let f = (kept_on (IsFollowedCalmly named g calls) (one_followed named g calls) to.moves (starting g calls) to.last begun to.leads).followed in
     let over : IsOver (as_if f.there f.starts) = subst IsOver f.is to.over in (
       record {
         moves = f.moves;

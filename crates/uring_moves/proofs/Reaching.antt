@@ -61,14 +61,7 @@ step_on {moves} g w files s a there other called unrefused =
 -- the same world, spelt otherwise
 pub as_well : {moves : List Move} (g : Setup) (w v : World) (files : List FileContents) → w ≡ v → Reaches g w files moves
     → Reaches g v files moves
-as_well g w v files same there = record {
-  history = there.history;
-  lawful = there.lawful;
-  refuses_none = there.refuses_none;
-  makes = there.makes ∙ same;
-  leaves = there.leaves;
-  are = there.are;
-}
+as_well {moves} g w v files same there = subst (λ x. Reaches g x files moves) same there
 
 -- A finish of a running request, as its operation calls for on these files.
 

@@ -18,6 +18,7 @@ use Rattle.uring_core.proofs.SoundRequests.{IsSoundRequests, IsSoundManual, firs
 use Rattle.uring_core.proofs.RequestEnds.{finish_sound, finish_manual, issued_end_sound, doom_manual, cancel_manual}
 use Rattle.uring_core.proofs.Groups.{call_sound, call_manual}
 use Rattle.uring_moves.specs.Moments.{Moment, starting, started, ended_at_once, issued, finished, is_finishable, accepted, moved, after_moves}
+use Rattle.uring_moves.proofs.MovesLead.{can_of}
 use Rattle.uring_moves.specs.declared.move_of_calls.Move.{Move}
 use Rattle.uring_moves.specs.declared.move_of_calls.Move.TheVariants as move
 
@@ -74,38 +75,35 @@ one_sound m move.Accept next e i = by_left m.left e where
   by_left : (left : List (List Sqe)) → accepted m left ≡ Some next → IsSoundMoment next.requests
   by_left [] e = absurd cc
   by_left (call ∷ later) e = subst (λ (x : Moment). IsSoundMoment x.requests) (ap (λ o. unwrap_or o next) e) (call_stays_sound m.requests call i)
-one_sound m (move.Issue n) next e i = by_test (is_issuable m.requests n) refl e where
-  by_test : (can : Bool) → is_issuable m.requests n ≡ can → (if can then Some (issued m n) else None) ≡ Some next → IsSoundMoment next.requests
-  by_test false is e = absurd cc
-  by_test true is e =
-      let r : Requests = m.requests in
-      let p = and_parts (is_outstanding r n && not (is_running r n)) (is_doomed r n || is_ready r n) is in
-      let q = and_parts (is_outstanding r n) (not (is_running r n)) p.0 in
-      subst (λ (x : Moment). IsSoundMoment x.requests) (ap (λ o. unwrap_or o next) e)
-      (issued_sound m n (is_running r n) (is_doomed r n) (is_ready r n) (is_cancel (entry_of r n)) q.0 refl refl refl refl (and_from (not (is_running r n)) (is_doomed r n || is_ready r n) q.1 p.1) i)
-one_sound m (move.Finish n) next e i = by_test (is_finishable m.requests n) refl e where
-  by_test : (can : Bool) → is_finishable m.requests n ≡ can → (if can then Some (finished m n) else None) ≡ Some next → IsSoundMoment next.requests
-  by_test false is e = absurd cc
-  by_test true is e =
-      let r : Requests = m.requests in
-      let running : is_running r n ≡ true = (and_parts (nat_lt n (length r.accepted)) (is_running r n) is).1 in
-      let o = result_of m.files (operation_of (entry_of r n)) in
-      subst (λ (x : Moment). IsSoundMoment x.requests) (ap (λ o. unwrap_or o next) e)
-      (record { sound = finish_sound r n o.res o.bytes running i.sound; manual = finish_manual r n o.res o.bytes running i.sound i.manual; no_cancel = i.no_cancel })
+one_sound m (move.Issue n) next e i =
+    let r : Requests = m.requests in
+    let c = can_of (is_issuable r n) (issued m n) next e in
+    let p = and_parts (is_outstanding r n && not (is_running r n)) (is_doomed r n || is_ready r n) c.0 in
+    let q = and_parts (is_outstanding r n) (not (is_running r n)) p.0 in
+    subst (λ (x : Moment). IsSoundMoment x.requests) c.1
+    (issued_sound m n (is_running r n) (is_doomed r n) (is_ready r n) (is_cancel (entry_of r n)) q.0 refl refl refl refl (and_from (not (is_running r n)) (is_doomed r n || is_ready r n) q.1 p.1) i)
+one_sound m (move.Finish n) next e i =
+    let r : Requests = m.requests in
+    let c = can_of (is_finishable r n) (finished m n) next e in
+    let running : is_running r n ≡ true = (and_parts (nat_lt n (length r.accepted)) (is_running r n) c.0).1 in
+    let o = result_of m.files (operation_of (entry_of r n)) in
+    subst (λ (x : Moment). IsSoundMoment x.requests) c.1
+    (record { sound = finish_sound r n o.res o.bytes running i.sound; manual = finish_manual r n o.res o.bytes running i.sound i.manual; no_cancel = i.no_cancel })
 
-sound_on : (moves : List Move) (m last : Moment) → after_moves m moves ≡ Some last
-    → IsSoundMoment m.requests → IsSoundMoment last.requests
-sound_on [] m last e i =
-    subst (λ (x : Moment). IsSoundMoment x.requests) (ap (λ o. unwrap_or o last) e) i
-sound_on (first ∷ later) m last e i =
-    by_first (moved m first) refl e (λ next. sound_on later next last) where
-      by_first : (next : Option Moment) → moved m first ≡ next → option_and_then (λ n. after_moves n later) next ≡ Some last → ((n : Moment) → after_moves n later ≡ Some last → IsSoundMoment n.requests → IsSoundMoment last.requests) → IsSoundMoment last.requests
-      by_first None is e go_on = absurd cc
-      by_first (Some next) is e go_on = go_on next e (one_sound m first next is i)
+-- what each move keeps holds behind all of them
+pub kept_on : (P : Moment → Type 0) → ((m next : Moment) (x : Move) → P m → moved m x ≡ Some next → P next)
+    → (moves : List Move) (m last : Moment) → P m → after_moves m moves ≡ Some last → P last
+kept_on P keeps [] m last holds e = subst P (ap (λ o. unwrap_or o last) e) holds
+kept_on P keeps (first ∷ later) m last holds e =
+    by_first (moved m first) refl e (λ next. kept_on P keeps later next last) where
+      by_first : (next : Option Moment) → moved m first ≡ next → option_and_then (λ n. after_moves n later) next ≡ Some last → ((n : Moment) → P n → after_moves n later ≡ Some last → P last) → P last
+      by_first None is none go_on = absurd cc
+      by_first (Some next) is some go_on = go_on next (keeps m next first holds is) some
 
 pub moment_sound : (g : Setup) (calls : List (List Sqe)) (moves : List Move) (m : Moment)
     → after_moves (starting g calls) moves ≡ Some m → IsSoundMoment m.requests
-moment_sound g calls moves m e = sound_on moves (starting g calls) m e first_moment
+moment_sound g calls moves m e =
+    kept_on (λ (x : Moment). IsSoundMoment x.requests) (λ m next x i is. one_sound m x next is i) moves (starting g calls) m first_moment e
 
 -- what runs can be asked of files
 pub asks_files : (r : Requests) (n : ℕ) → IsSoundMoment r → is_running r n ≡ true

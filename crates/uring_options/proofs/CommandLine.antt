@@ -1,5 +1,5 @@
 -- What the words ask for, as clap's matches say.
-use Rattle.std.proofs.Common.{◌≡◌, ◌∙◌, ◌||◌, ℕ, Bool, true, false, List, Option, Some, None, refl, sym, ap, ap₂, subst}
+use Rattle.std.proofs.Common.{◌≡◌, ◌∙◌, ◌||◌, ℕ, Bool, true, false, List, Option, Some, None, refl, ap, ap₂, subst}
 use Rattle.std.specs.Prelude.{codes, option_map, if◌then◌else◌}
 use Rattle.clap.specs.Walk.{Row, Text}
 use Rattle.clap.specs.Matches.{subcommand_name_of}
@@ -52,21 +52,12 @@ pub traced_over : (rows : List Row) (n : Numbers) (s t : Setup) → IsSetupOver 
     → t ≡ record s { stops = stops; linux = linux }
     → IsTracedOver rows n t
 traced_over rows n s t over stops linux stop given is =
-    let base : s ≡ with_asked t false false = ap₂ (with_asked s) over.goes_on over.manual ∙ ap (λ (u : Setup). with_asked u false false) (sym is) in (
-      subst (IsSetupOver n) base over,
-      (
-        subst (IsGiven rows (codes "stop")) (ap (λ (u : Setup). u.stops) (sym is)) stop,
-        subst (IsGiven rows (codes "linux")) (ap (λ (u : Setup). u.linux) (sym is)) given,
-      ),
-    )
+    rw is (subst (IsSetupOver n) (ap₂ (with_asked s) over.goes_on over.manual) over, (stop, given))
 
 pub played_setup : (rows : List Row) (n : Numbers) (s t : Setup) → IsSetupOver n s → (linux : Bool)
     → IsGiven rows (codes "linux") linux → t ≡ record s { linux = linux } → IsPlayedOver rows n t
 played_setup rows n s t over linux given is =
-    let base : s ≡ record t { linux = false } = ap (λ b. record s { linux = b }) over.manual ∙ ap (λ (u : Setup). record u { linux = false }) (sym is) in (
-      subst (IsSetupOver n) base over,
-      subst (IsGiven rows (codes "linux")) (ap (λ (u : Setup). u.linux) (sym is)) given,
-    )
+    rw is (subst (IsSetupOver n) (ap (λ b. record s { linux = b }) over.manual) over, given)
 
 -- what is explained over it, as the options of the pictures say
 pub explained_over : (rows : List Row) (n : Numbers) (s : Setup) (o : Options) (draws times pages tells : Bool) (at : Option ℕ)
@@ -75,37 +66,17 @@ pub explained_over : (rows : List Row) (n : Numbers) (s : Setup) (o : Options) (
     → IsGiven rows (codes "json") tells
     → o ≡ (if draws then Graph s at else if times then Timeline s else if pages then Page s else if tells then Json s else Explain s)
     → IsRunOver Explains rows n o
-explained_over rows n s o true times pages tells at over graph moment timeline page json is =
-    subst (IsRunOver Explains rows n) (sym is) (refl, over, graph, moment)
-explained_over rows n s o false true pages tells at over graph moment timeline page json is =
-    subst (IsRunOver Explains rows n) (sym is) (refl, over, graph, timeline)
-explained_over rows n s o false false true tells at over graph moment timeline page json is =
-    subst (IsRunOver Explains rows n) (sym is) (refl, over, graph, timeline, page)
+explained_over rows n s o true _ _ _ at over graph moment _ _ _ is = rw is (refl, over, graph, moment)
+explained_over rows n s o false true _ _ at over graph moment timeline _ _ is =
+    rw is (refl, over, graph, timeline)
+explained_over rows n s o false false true _ at over graph moment timeline page _ is =
+    rw is (refl, over, graph, timeline, page)
 explained_over rows n s o false false false true at over graph moment timeline page json is =
-    subst (IsRunOver Explains rows n) (sym is) (refl, over, graph, timeline, page, json)
+    rw is (refl, over, graph, timeline, page, json)
 explained_over rows n s o false false false false at over graph moment timeline page json is =
-    subst (IsRunOver Explains rows n) (sym is) (refl, over, graph, timeline, page, json)
+    rw is (refl, over, graph, timeline, page, json)
 
 -- what is checked over it, as the options of a check say
-checked_by : (rows : List Row) (n : Numbers) (s : Setup) (o : Options) (all apart results pages tells : Bool)
-    → IsCheckedOver rows n s → IsGiven rows (codes "all") all → IsGiven rows (codes "apart") apart
-    → IsGiven rows (codes "results") results
-    → IsGiven rows (codes "page") pages → IsGiven rows (codes "json") tells
-    → o ≡ (if all || apart || results then Check s all apart results else if pages then CheckPage s else if tells then CheckJson s else Check s all apart results)
-    → IsRunOver Checks rows n o
-checked_by rows n s o true apart results pages tells over whole ends gives page json is =
-    subst (IsRunOver Checks rows n) (sym is) (refl, over, whole, ends, gives, tt)
-checked_by rows n s o false true results pages tells over whole ends gives page json is =
-    subst (IsRunOver Checks rows n) (sym is) (refl, over, whole, ends, gives, tt)
-checked_by rows n s o false false true pages tells over whole ends gives page json is =
-    subst (IsRunOver Checks rows n) (sym is) (refl, over, whole, ends, gives, tt)
-checked_by rows n s o false false false true tells over whole ends gives page json is =
-    subst (IsRunOver Checks rows n) (sym is) (refl, over, (whole, ends, gives), page)
-checked_by rows n s o false false false false true over whole ends gives page json is =
-    subst (IsRunOver Checks rows n) (sym is) (refl, over, (whole, ends, gives), page, json)
-checked_by rows n s o false false false false false over whole ends gives page json is =
-    subst (IsRunOver Checks rows n) (sym is) (refl, over, whole, ends, gives, (page, json))
-
 pub checked_over : (rows : List Row) (n : Numbers) (s : Setup) (o : Options) (all apart results verdict pages tells : Bool)
     → IsCheckedOver rows n s → IsGiven rows (codes "all") all → IsGiven rows (codes "apart") apart
     → IsGiven rows (codes "results") results
@@ -113,25 +84,26 @@ pub checked_over : (rows : List Row) (n : Numbers) (s : Setup) (o : Options) (al
     → verdict ≡ (all || apart || results)
     → o ≡ (if verdict then Check s all apart results else if pages then CheckPage s else if tells then CheckJson s else Check s all apart results)
     → IsRunOver Checks rows n o
-checked_over rows n s o all apart results verdict pages tells over whole ends gives page json same is =
-    checked_by rows n s o all apart results pages tells over whole ends gives page json
-    (is ∙ ap (λ (b : Bool). if b then Check s all apart results else if pages then CheckPage s else if tells then CheckJson s else Check s all apart results) same)
+checked_over rows n s o false false false _ true _ over whole ends gives page _ same is =
+    rw (is, same) (refl, over, (whole, ends, gives), page)
+checked_over rows n s o false false false _ false true over whole ends gives page json same is =
+    rw (is, same) (refl, over, (whole, ends, gives), page, json)
+checked_over rows n s o false false false _ false false over whole ends gives page json same is =
+    rw (is, same) (refl, over, whole, ends, gives, (page, json))
+checked_over rows n s o _ _ _ _ _ _ over whole ends gives _ _ same is =
+    rw (is, same) (refl, over, whole, ends, gives, tt)
 
 -- what a check is asked for, with effects at any moment or without
 pub early_over : (rows : List Row) (n : Numbers) (s : Setup) (o plain : Options) (early : Bool) (most : Option ℕ)
     → IsTracedOver rows n s → IsGiven rows (codes "early-effects") early → Gives rows (codes "most") most
     → (IsCheckedOver rows n s → IsRunOver Checks rows n plain)
     → o ≡ (if early then CheckEarly s most else plain) → IsRunOver Checks rows n o
-early_over rows n s o plain true most over given gives others is =
-    subst (IsRunOver Checks rows n) (sym is) (refl, over, given, gives)
-early_over rows n s o plain false most over given gives others is =
-    subst (IsRunOver Checks rows n) (sym is) (others (over, given))
+early_over rows n s o plain true most over given gives others is = rw is (refl, over, given, gives)
+early_over rows n s o plain false most over given gives others is = rw is (others (over, given))
 
 -- what is played over it, as the option for shared words says
 pub played_over : (rows : List Row) (n : Numbers) (s : Setup) (workers : ℕ) (o : Options) (shared : Bool)
     → IsPlayedOver rows n s → AreWorkers rows workers → IsGiven rows (codes "shared") shared
     → o ≡ (if shared then Shared s workers else Play s workers) → IsRunOver Plays rows n o
-played_over rows n s workers o true over count given is =
-    subst (IsRunOver Plays rows n) (sym is) (refl, over, count, given)
-played_over rows n s workers o false over count given is =
-    subst (IsRunOver Plays rows n) (sym is) (refl, over, count, given)
+played_over rows n s workers o true over count given is = rw is (refl, over, count, given)
+played_over rows n s workers o false over count given is = rw is (refl, over, count, given)

@@ -36,12 +36,7 @@ record Fits (s : Shape) (run : Run) : Type 0 where
 
 fits : (run : Run) → Fits (shape_for run) run
 fits Traces = assumption
-fits Explains = assumption
-fits Checks = assumption
-fits Plays = assumption
-fits Crashes = assumption
-fits Lists = assumption
-fits Fills = assumption
+fits _ = assumption
 
 -- ---- the command that the words name
 
@@ -50,11 +45,13 @@ pub nothing_taken : TakesFor Traces []
 nothing_taken =
     ((inl refl, (inl refl, (inl refl, (inl refl, tt)))), (inl refl, (inl refl, (inl refl, (inl refl, tt)))))
 
-taken_for : (run : Run) (s : Shape) → Fits s run → (words : List Text)
-    → level_fault s [] nothing_held words false [] ≡ [] → TakesFor run (rows_after s.rules [] words)
-taken_for run s fit words passes =
-    let rows = rows_of_rules s fit.plain fit.once words passes in
-    (options_taken s.rules (rows_after s.rules [] words) setup_options fit.setup rows, options_taken s.rules (rows_after s.rules [] words) (own_options run) fit.own rows)
+taken_for : (words : List Text) (run : Run)
+    → level_fault (shape_for run) [] nothing_held words false [] ≡ []
+    → TakesFor run (rows_after (shape_for run).rules [] words)
+taken_for words run passes =
+    let fit = fits run in
+    let rows = rows_of_rules (shape_for run) fit.plain fit.once words passes in
+    (options_taken _ _ setup_options fit.setup rows, options_taken _ _ (own_options run) fit.own rows)
 
 -- what the words behind a command give, if they are without a fault
 abbrev TakesAt : List Text → Shape → Type 0
@@ -62,28 +59,9 @@ TakesAt words s =
     level_fault s [] nothing_held words false [] ≡ [] → TakesNamed (Some (rows_at s words))
 
 each_taken : (words : List Text) → Each (TakesAt words) (built uring).subs
-each_taken words = (
-  taken_for Traces (shape_for Traces) (fits Traces) words,
-  (
-    taken_for Explains (shape_for Explains) (fits Explains) words,
-    (
-      taken_for Checks (shape_for Checks) (fits Checks) words,
-      (
-        taken_for Plays (shape_for Plays) (fits Plays) words,
-        (
-          taken_for Crashes (shape_for Crashes) (fits Crashes) words,
-          (
-            taken_for Lists (shape_for Lists) (fits Lists) words,
-            (
-              taken_for Fills (shape_for Fills) (fits Fills) words,
-              ((λ passes. nothing_taken), tt),
-            ),
-          ),
-        ),
-      ),
-    ),
-  ),
-)
+each_taken words =
+    let at = taken_for words in
+    (at Traces, (at Explains, (at Checks, (at Plays, (at Crashes, (at Lists, (at Fills, ((λ passes. nothing_taken), tt))))))))
 
 stop_taken : (stop : Option (Text × List Text)) → entered_fault (built uring) stop ≡ []
     → TakesNamed (entered (built uring) stop)

@@ -1,5 +1,5 @@
 -- When numbers are refused, and what else a command line can end with.
-use Rattle.std.proofs.Common.{◌≡◌, ◌∙◌, ◌*◌, ◌<◌, ◌≤◌, ◌^◌, ◌↔◌, ℕ, zero, suc, false, List, [], Option, Some, None, Result, Ok, Err, refl, sym, ap, subst, inl, inr, arith}
+use Rattle.std.proofs.Common.{◌≡◌, ◌∙◌, ◌*◌, ◌<◌, ◌≤◌, ◌^◌, ◌↔◌, ℕ, zero, suc, List, [], Option, Some, None, Result, Ok, Err, refl, sym, ap, subst, inl, inr, arith}
 use Rattle.std.specs.Prelude.{codes, unwrap_or, IfOk, IfErr, IsErrOf, IsErrAnd}
 use Rattle.std.specs.Int.{IsNextPowerOfTwo}
 use Rattle.std.specs.Str.Parse.{digits_value, without_leading_plus}
@@ -15,10 +15,10 @@ use Rattle.clap.specs.declared.error.Error.{Error}
 use Rattle.clap.specs.declared.error.kind.ErrorKind.TheVariants.{OutOfMemory}
 use Rattle.uring_entry.specs.Setup.{Setup, IsBadCq}
 use Rattle.uring_entry.proofs.Powers.{rounded_once}
-use Rattle.uring_options.specs.CommandLine.{uring, command_rows, Gives, Numbers, AreInRange, IsWithin, IsSetupOver, plain_of, Writes, IsTooSmall, AskFor, AskForTooSmall, IsMemory, IsFaultOf}
+use Rattle.uring_options.specs.CommandLine.{uring, command_rows, Gives, Numbers, AreInRange, IsWithin, IsSetupOver, Writes, IsTooSmall, AskFor, AskForTooSmall, IsMemory, IsFaultOf}
 use Rattle.uring_options.specs.OptionRows.{AnswersNamed}
 use Rattle.uring_options.specs.declared.answers.Options.{Options}
-use Rattle.uring_options.specs.declared.answers.Options.TheVariants.{Trace, Explain, Graph, Timeline, Page, Json, Check, CheckEarly, CheckPage, CheckJson, Play, Shared, Crash, Outcomes, Fill}
+use Rattle.uring_options.specs.declared.answers.Options.TheVariants.{Check, CheckPage, CheckJson, Outcomes}
 use Rattle.uring_options.specs.declared.answers.OptionsFault.{OptionsFault}
 use Rattle.uring_options.specs.declared.answers.OptionsFault.TheVariants.{Small, Words}
 
@@ -36,15 +36,11 @@ rounding (suc k) n some within = elim (cases_lt (2 ^ k) n) [
 pub too_small : (n : Numbers) → AreInRange n
     → ((p : ℕ) → IsNextPowerOfTwo (unwrap_or n.sq 4) p → IsBadCq p n.cq) → IsTooSmall n
 too_small n ranges bad =
-    sizes (rounding 12 (unwrap_or n.sq 4) (some_sq n.sq ranges.sq) (most_sq n.sq ranges.sq))
+    let sq = asked n.sq ranges.sq in sizes (rounding 12 (unwrap_or n.sq 4) sq.0 sq.1)
   where
-    some_sq : (sq : Option ℕ) → IsWithin 1 4096 sq → 1 ≤ unwrap_or sq 4
-    some_sq None within = omega arith
-    some_sq (Some sq) within = within.0
-
-    most_sq : (sq : Option ℕ) → IsWithin 1 4096 sq → unwrap_or sq 4 ≤ 2 ^ 12
-    most_sq None within = omega arith
-    most_sq (Some sq) within = within.1
+    asked : (sq : Option ℕ) → IsWithin 1 4096 sq → (1 ≤ unwrap_or sq 4) × (unwrap_or sq 4 ≤ 2 ^ 12)
+    asked None within = (omega arith, omega arith)
+    asked (Some sq) within = within
 
     given : (p : ℕ) → IsNextPowerOfTwo (unwrap_or n.sq 4) p → (cq : Option ℕ) → n.cq ≡ cq → IsWithin 1 8192 cq → IsBadCq p cq → IsTooSmall n
     given p rounded None is within none = absurd none
@@ -84,36 +80,12 @@ not_over words n s writes set_up (m, small_writes, small) =
     omega arith
 
 not_both : (words : List Text) (o : Options) → AskFor words o → AskForTooSmall words → ⊥
-not_both words (Trace s echo strict) (n, writes, over) small =
-    not_over words n (plain_of s) writes over.1.0 small
-not_both words (Explain s) (n, writes, over) small =
-    not_over words n (plain_of s) writes over.1.0 small
-not_both words (Graph s at) (n, writes, over) small =
-    not_over words n (plain_of s) writes over.1.0 small
-not_both words (Timeline s) (n, writes, over) small =
-    not_over words n (plain_of s) writes over.1.0 small
-not_both words (Page s) (n, writes, over) small =
-    not_over words n (plain_of s) writes over.1.0 small
-not_both words (Json s) (n, writes, over) small =
-    not_over words n (plain_of s) writes over.1.0 small
-not_both words (Check s all apart results) (n, writes, over) small =
-    not_over words n (plain_of s) writes over.1.0.0 small
-not_both words (CheckEarly s most) (n, writes, over) small =
-    not_over words n (plain_of s) writes over.1.0 small
-not_both words (CheckPage s) (n, writes, over) small =
-    not_over words n (plain_of s) writes over.1.0.0 small
-not_both words (CheckJson s) (n, writes, over) small =
-    not_over words n (plain_of s) writes over.1.0.0 small
-not_both words (Play s workers) (n, writes, over) small =
-    not_over words n (record s { linux = false }) writes over.1.0 small
-not_both words (Shared s workers) (n, writes, over) small =
-    not_over words n (record s { linux = false }) writes over.1.0 small
-not_both words (Crash s file unit at seed is_count is_all most is_holds is_each) (n, writes, over) small =
-    not_over words n (plain_of s) writes over.1.0 small
-not_both words (Outcomes s sorted contents crash unit most line never always) (n, writes, over) small =
-    not_over words n s writes over.1 small
-not_both words (Fill s most) (n, writes, over) small =
-    not_over words n (plain_of s) writes over.1.0 small
+not_both words (Outcomes _ _ _ _ _ _ _ _ _) (n, writes, over) small =
+    not_over words n _ writes over.1 small
+not_both words (Check _ _ _ _) (n, writes, over) small = not_over words n _ writes over.1.0.0 small
+not_both words (CheckPage _) (n, writes, over) small = not_over words n _ writes over.1.0.0 small
+not_both words (CheckJson _) (n, writes, over) small = not_over words n _ writes over.1.0.0 small
+not_both words _ (n, writes, over) small = not_over words n _ writes over.1.0 small
 
 -- words without a fault fail by memory alone
 memory_alone : (kinds : Kinds) (e : Error) → kinds ≡ [] → HasKind kinds e → kind_of e ≡ OutOfMemory

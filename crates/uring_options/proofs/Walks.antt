@@ -6,7 +6,7 @@ use Rattle.std.specs.Option.{option_map_or}
 use Rattle.std.specs.Str.{bytes_eq, chars}
 use Rattle.std.proofs.lemmas.Bool.{and_parts, ne_eqb}
 use Rattle.clap.specs.Lexer.{long_of, short_of}
-use Rattle.clap.specs.Walk.{Row, Rule, Text, Held, Walk, Waiting, Outcome, Step, Names, action_of, reading_by, has_row, at_row, with_values, without, used, used_as, values_or_missing, more_values, is_empty, used_by_id, settled_rows, option_word, short_or_plain, has_long, has_short, takes_values, attached_value, arg_by_id, arg_by_long, arg_by_short, arg_by_index, settled, reacted, option_met, flag_met, long_met, short_met, bundle_met, bundle_step, bundle, after_flag, plain_word, long_or_other, subcommand_met, subcommand_or_other, word_met, positional_held, is_pending, takes_several, to_positional, after_step, walked, walked_from, default_rows, walk, walk_from, with_default, nothing_held, rows_after, done, waits, plain, refused, option, idle, positional, next, trailing, subcommand, value}
+use Rattle.clap.specs.Walk.{Row, Rule, Text, Held, Walk, Waiting, Outcome, Step, Names, action_of, reading_by, has_row, at_row, with_values, without, used, used_as, values_or_missing, more_values, is_empty, used_by_id, settled_rows, option_word, short_or_plain, has_long, has_short, takes_values, attached_value, arg_by_id, arg_by_long, arg_by_short, arg_by_index, settled, reacted, option_met, flag_met, long_met, short_met, bundle_met, bundle_step, bundle, after_flag, plain_word, long_or_other, subcommand_met, subcommand_or_other, word_met, positional_held, is_pending, takes_several, to_positional, after_step, walked, walked_from, default_rows, walk, walk_from, with_default, nothing_held, rows_after, done, waits, plain, option, trailing, value}
 use Rattle.clap.specs.Simple.{Shape}
 use Rattle.clap.specs.Kinds.{Kinds, or_else, request_kinds}
 use Rattle.clap.specs.Faults.{values_fault, set_fault, default_fault, defaults_fault, given_default_fault, action_fault, use_fault, settle_fault, react_fault, option_fault, long_fault, short_fault, bundle_step_fault, flags_fault, bundle_fault, flag_word_fault, other_fault, word_fault, positional_fault, step_fault, turn_fault, walk_fault, level_fault, stray_fault}
@@ -209,19 +209,17 @@ module _ (s : Shape) (plain_rules : list_all is_plain s.rules ≡ true) (once : 
   -- ---- a word
 
   plain_row : (waiting : Waiting) (word : Text) (h : Held) → (plain_word s.rules waiting word h).0.rows ≡ h.rows
-  plain_row idle word h = refl
-  plain_row positional word h = refl
   plain_row (option id) word h = go (arg_by_id s.rules id)
     where
       go : (o : Option Rule) → (option_word o id word h).0.rows ≡ h.rows
       go None = refl
       go (Some a) = refl
+  plain_row _ word h = refl
 
   after_row : (waiting : Waiting) (word : Text) (h : Held) (x : Outcome) → (after_flag s.rules waiting word h x).0.rows ≡ h.rows
   after_row waiting word h done = refl
   after_row waiting word h (waits id) = refl
-  after_row waiting word h plain = plain_row waiting word h
-  after_row waiting word h refused = plain_row waiting word h
+  after_row waiting word h _ = plain_row waiting word h
 
   flag_word_row : (waiting : Waiting) (word : Text) (o : Option (Text × Option Text)) (h : Held)
       → Keeps h.rows (flag_word_fault s.rules s.args_override_self o word h) (long_or_other s.rules waiting word o h).0.rows
@@ -255,14 +253,12 @@ module _ (s : Shape) (plain_rules : list_all is_plain s.rules ≡ true) (once : 
       either (λ (g : Held). g.rows) h.rows (is_pending a h.pending && takes_several a) _ _ h (settled s.rules h) (λ each passes. each) (settled_row h)
 
   step_taken_row : (word : Text) (w : Walk) (h : Held) (step : Step) → Keeps h.rows (step_fault s w.position h step) (after_step s.rules word w h step).held.rows
-  step_taken_row word w h (next waiting) = λ each passes. each
-  step_taken_row word w h (trailing position) = λ each passes. each
-  step_taken_row word w h (subcommand name) = λ each passes. each
   step_taken_row word w h value = go (arg_by_index s.rules w.position)
     where
       go : (o : Option Rule) → Keeps h.rows (option_map_or (λ a. positional_fault s.rules s.args_override_self a h) o (stray_fault s)) (to_positional s.rules o word w h).held.rows
       go None = λ each passes. each
       go (Some a) = positional_row a word h
+  step_taken_row word w h _ = λ each passes. each
 
   turn_row : (names : Names) (w : Walk) (word : Text) → Keeps w.held.rows (turn_fault s names w word) (walked s.rules names w word).held.rows
   unfolding walked

@@ -4,5 +4,7 @@ mod growth;
 mod playing;
 mod ports;
 mod reading;
+mod sink;
+mod source;
 mod streams;
 mod writing;

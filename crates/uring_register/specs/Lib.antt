@@ -17,5 +17,7 @@ pub mod Bytes
 pub mod Provided
 pub mod ProvidedLaws
 pub mod Stepping
+pub mod Listing
+pub mod Placing
 pub mod Structures
 pub mod Numbering

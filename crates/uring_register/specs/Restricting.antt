@@ -15,6 +15,11 @@ is_row r =
 abbrev pub row_fault : Restriction → ℤ
 row_fault r = if is_row r then pos 0 else error 22
 
+-- the fault of a list: that of the first row that has one
+abbrev pub list_fault : List Restriction → ℤ
+list_fault [] = pos 0
+list_fault (r ∷ rest) = if is_row r then list_fault rest else row_fault r
+
 -- whether a row of this kind names the number: of a call 0 (IORING_RESTRICTION_REGISTER_OP), of an operation 1 (SQE_OP)
 abbrev pub is_named : ℕ → ℕ → List Restriction → Bool
 is_named kind number [] = false
@@ -41,12 +46,12 @@ abbrev pub allows_call : Option (List Restriction) → ℕ → Bool → Bool
 allows_call None code disabled = true
 allows_call (Some rows) code disabled = disabled || is_named 0 code rows
 
--- -77 (EBADFD) of a ring that isn't disabled, -16 (EBUSY) of a second list, -22 (EINVAL) of no list or of more than 128 rows
+-- -77 (EBADFD) of a ring that isn't disabled, -16 (EBUSY) of a second list, -22 (EINVAL) of no list or of more than 103 rows, as Linux 6.18 has it
 abbrev pub restricting_fault : Bool → Bool → Bool → ℕ → ℤ
 restricting_fault disabled registered has_list count =
     if not disabled then error 77 else
     if registered then error 16 else
-    if not has_list || not (nat_le count 128) then error 22 else pos 0
+    if not has_list || not (nat_le count 103) then error 22 else pos 0
 
 abbrev pub enabling_fault : Bool → Bool → ℤ
 enabling_fault disabled has_argument =

@@ -1,5 +1,6 @@
 -- Which fields are reserved of the structures that calls of io_uring_register(2) and io_uring_setup(2) read, and which are judged: all that is told of their fields here are those of <linux/io_uring.h>. io_uring_register(2), DESCRIPTION.
-use Rattle.std.specs.Prelude.{ℕ, Bool, false, not, ◌||◌, ◌==◌}
+use Rattle.std.specs.Prelude.{ℕ, Bool, false, not, ◌||◌, ◌==◌, List}
+use Rattle.std.specs.List.{list_any}
 use Rattle.uring_register.specs.declared.call.Content.{Content}
 use Rattle.uring_register.specs.declared.structures.TableForm.{TableForm}
 use Rattle.uring_register.specs.declared.structures.UpdateForm.{UpdateForm}
@@ -32,6 +33,10 @@ content_of_cancel f = record {
   has_reserved = is_set f.pad || is_set f.second_pad || is_set f.third_pad || is_set f.fourth_pad;
   has_data = false;
 }
+
+-- each byte of a probe, of what stands in front of its rows and of these: the kernel fills them
+abbrev pub content_of_probe : List ℕ → Content
+content_of_probe bytes = record { nr = 0; flags = 0; has_reserved = list_any is_set bytes; has_data = false }
 
 -- `pad` and the three words of `resv` of a ring of provided buffers
 abbrev pub ring_has_reserved : RingForm → Bool

@@ -13,8 +13,10 @@ mod group_rows;
 mod holding;
 mod issuer;
 mod issuer_laws;
+mod listing;
 mod numbering;
 mod pinning;
+mod placing;
 mod registering;
 mod restrictions;
 mod stepping;
@@ -43,14 +45,20 @@ pub use group_rows::group_argument_fault;
 pub use holding::{Telling, behind_telling, holding_fault, telling_fault};
 pub use issuer::Issuer;
 pub use issuer_laws::{disabled_has_none, keeps_its_issuer, knows_its_issuer};
+pub use listing::{
+    Listing, each_slot_goes_once, listing_of, next_to_go, puts_whole_lists, takes_next,
+};
 pub use numbering::{RowOnto, RowStage, next_of_row};
 pub use pinning::{Memory, is_written_back, pinning_fault};
+pub use placing::{PlacingOnto, PlacingStage, next_of_placing};
 pub use registering::{Row, buffer_row, file_row, row_steps, updated};
 pub use restrictions::{Restriction, Restrictions, enabling_fault, restricting_fault};
-pub use stepping::{closing_steps, making_steps, reading_steps, restrictions_hold, ring_steps};
+pub use stepping::{
+    buffer_steps, closing_steps, making_steps, reading_steps, restricting_steps, ring_steps,
+};
 pub use structures::{
     CancelForm, FilesForm, ParametersForm, RangeForm, RingForm, TableForm, UpdateForm,
-    content_of_cancel, content_of_files, content_of_table, content_of_update,
+    content_of_cancel, content_of_files, content_of_probe, content_of_table, content_of_update,
     parameters_have_reserved, range_has_reserved, ring_has_reserved,
 };
 pub use table::Table;

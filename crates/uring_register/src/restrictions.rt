@@ -1,11 +1,11 @@
 //! What the application of a ring may do that was made disabled, once it is enabled. io_uring_register(2), IORING_REGISTER_RESTRICTIONS.
 
-ghost use Rattle.std.specs.Prelude.{◌≡◌, ◌≢◌, ◌<◌, ◌&&◌, ◌==◌, nat_lt, ℕ, true, false, pos, negsuc, List, [], ◌∷◌, Option, None, Some};
+ghost use Rattle.std.specs.Prelude.{◌≡◌, ◌≢◌, ◌<◌, ◌&&◌, ◌==◌, nat_lt, ℕ, true, false, pos, negsuc, List, [], ◌∷◌, reverse, Option, None, Some};
 ghost use Rattle.std.specs.Int.{bit_at};
 ghost use Rattle.uring_register.specs.declared.restrictions.Restriction.{Restriction};
 ghost use Rattle.uring_register.specs.Restricting as spec;
 
-/// What one row of a list of restrictions allows, or requires.
+/// What one row of a list of restrictions allows, or requires: `struct io_uring_restriction`. What is reserved isn't looked at.
 #[repr(C)]
 #[derive(Clone, Copy, Drop)]
 pub struct Restriction {
@@ -14,6 +14,11 @@ pub struct Restriction {
 
     /// The call of io_uring_register(2), the operation, or flags of entries.
     pub number: u8,
+
+    pub resv: u8,
+    pub second_resv: u32,
+    pub third_resv: u32,
+    pub fourth_resv: u32,
 }
 
 /// What a ring's restrictions are.
@@ -81,6 +86,23 @@ impl Restrictions {
         0
     }
 
+    /// Registers a list of these rows, which are taken in turn. Returns 0, or the fault of the first that has one: then nothing changes.
+    pub fn register(&mut self, rows: &[Restriction]) -> i32
+        ensures fault { result ≡ spec.list_fault rows.now }
+        ensures after { result ≡ pos 0 → spec.KeepsRestrictions (Some (reverse rows.now)) self.new }
+        ensures kept { (result ≡ pos 0 → ⊥) → self.new ≡ self.old }
+    {
+        let mut made = Restrictions::begin();
+        for row in rows {
+            let fault = made.takes(*row);
+            if fault < 0 {
+                return fault;
+            }
+        }
+        *self = made;
+        0
+    }
+
     /// Whether an entry of this operation may have these flags.
     pub fn allows_entry(&self, code: u8, flags: u8) -> bool
         ensures { (rows : Option (List Restriction)) → spec.KeepsRestrictions rows self.now
@@ -145,7 +167,7 @@ pub fn restricting_fault(is_disabled: bool, are_registered: bool, has_list: bool
         -77
     } else if are_registered {
         -16
-    } else if !has_list || count > 128 {
+    } else if !has_list || count > 103 {
         -22
     } else {
         0

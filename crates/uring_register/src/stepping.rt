@@ -3,11 +3,11 @@
 ghost use Rattle.std.specs.Prelude.{◌≡◌, if◌then◌else◌};
 ghost use Rattle.uring_register.specs.Stepping as spec;
 
-/// How a row of lists of files or buffers is read, where there is a list of tags, and of descriptors or vectors: its tag (1), then the other (2).
-pub fn reading_steps(has_tags: bool, has_list: bool) -> u32
-    ensures { result ≡ spec.reading_steps has_tags has_list }
+/// How a row of lists of files or buffers is read, where there is a list of tags, and of descriptors or vectors: its tag (1), then the other (2), which an update or a placing reads also where there is no list.
+pub fn reading_steps(has_tags: bool, has_list: bool, is_update: bool) -> u32
+    ensures { result ≡ spec.reading_steps has_tags has_list is_update }
 {
-    bit(1, has_tags) | bit(2, has_list)
+    bit(1, has_tags) | bit(2, has_list || is_update)
 }
 
 /// How the file of a descriptor is made, which is to be registered, with a tag or without, or is held for a request: one that is to be registered is open (1), there is memory for its tag (2); it is no ring's (4), and it is copied (8).
@@ -24,18 +24,25 @@ pub fn ring_steps() -> u32
     bit(1, true) | bit(2, true) | bit(4, true)
 }
 
+/// How the buffer of a row is made that names one: its pages are looked at (1), and there is memory for it and for its tag (2).
+pub fn buffer_steps() -> u32
+    ensures { result ≡ spec.buffer_steps }
+{
+    bit(1, true) | bit(2, true)
+}
+
+/// How a list of so many restrictions is registered: the ring and the length of the list are looked at (1), the list is read, if it has rows (2), and its rows are taken, one behind the other (4).
+pub fn restricting_steps(count: u32) -> u32
+    ensures { result ≡ spec.restricting_steps count }
+{
+    bit(1, true) | bit(2, count > 0) | bit(4, true)
+}
+
 /// What a request does that closes a descriptor with this fault, or 0: those before it keep their files (1), and it is closed (2).
 pub fn closing_steps(fault: i32) -> u32
     ensures { result ≡ spec.closing_steps fault }
 {
     bit(1, fault >= 0) | bit(2, fault >= 0)
-}
-
-/// Whether a list of restrictions holds whose rows have come to this, 0 or the fault of one.
-pub fn restrictions_hold(fault: i32) -> bool
-    ensures { result ≡ spec.restrictions_hold fault }
-{
-    fault >= 0
 }
 
 fn bit(weight: u32, is_done: bool) -> u32

@@ -1,6 +1,7 @@
 //! The structures that calls of io_uring_register(2) and io_uring_setup(2) read, as they stand in memory, and which of their fields are reserved and must be 0. io_uring_register(2), DESCRIPTION; <linux/io_uring.h>.
 
 ghost use Rattle.std.specs.Prelude.{◌≡◌};
+ghost use Rattle.std.specs.List.{list_any};
 ghost use Rattle.uring_register.specs.Structures as spec;
 
 use crate::call::Content;
@@ -137,6 +138,25 @@ pub fn content_of_cancel(form: &CancelForm) -> Content
         has_reserved: is_padded || form.third_pad != 0 || form.fourth_pad != 0,
         has_data: false,
     }
+}
+
+/// What is judged of a probe, which is all of its bytes. `struct io_uring_probe`, with its rows.
+pub fn content_of_probe(bytes: &[u8]) -> Content
+    ensures { result ≡ spec.content_of_probe bytes.now }
+{
+    Content {
+        nr: 0,
+        flags: 0,
+        has_reserved: are_set(bytes),
+        has_data: false,
+    }
+}
+
+/// Whether any byte isn't 0.
+fn are_set(bytes: &[u8]) -> bool
+    ensures { result ≡ list_any spec.is_set bytes.now }
+{
+    bytes.iter().any(|byte| *byte != 0)
 }
 
 /// Whether a reserved field of a ring of provided buffers isn't 0.

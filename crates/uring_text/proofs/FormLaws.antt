@@ -1,9 +1,10 @@
 -- The form that is read of tokens is the one that they spell.
-use Rattle.std.proofs.Common.{◌≡◌, ℕ, ◌^◌, cond, List, [], ◌∷◌, Option, Some, refl, sym, ap, subst, ◌∙◌, arith, inl, inr}
+use Rattle.std.proofs.Common.{◌≡◌, ℕ, ◌^◌, ◌≤◌, cond, List, [], ◌∷◌, Option, Some, refl, sym, ap, subst, ◌∙◌, arith, inl, inr}
 use Rattle.std.specs.Prelude.{find}
 use Rattle.std.specs.Option.{option_map}
 use Rattle.std.specs.Str.{bytes_eq}
 use Rattle.std.proofs.lemmas.Slice.Eq.{bytes_eq-Decides}
+use Rattle.uring_text.specs.Spelling.{SpellsNumber}
 use Rattle.uring_text.specs.Forms.{Form, Parts, names, name_text, kinds_of, SaysPart, SayParts, SpellsForm}
 use Rattle.uring_text.specs.declared.forms.Name.{Name}
 use Rattle.uring_text.specs.declared.forms.Name.TheVariants as name
@@ -27,15 +28,17 @@ named name text P a other y e here there =
 
 -- One part: what is read is said, and the other way round.
 
+number_said : (limit : ℕ) (token : List ℕ) (f : ℕ → Parts) (q : Parts) → limit ≤ 2 ^ 64
+    → option_map f (number_of limit token) ≡ Some q → (n : ℕ) × SpellsNumber limit token n × (q ≡ f n)
+number_said limit token f q small e =
+    let m = mapped f (number_of limit token) q e in
+    (m.0, number_found limit token m.0 small m.1, sym m.2)
+
 pub part_found : (k : Kind) (token : List ℕ) (p q : Parts) → part_of k token p ≡ Some q
     → SaysPart k token p q
 unfolding part_of
-part_found kind.Code token p q e =
-    let m = mapped (λ n. record p { code = n }) (number_of 256 token) q e in
-    (m.0, number_found 256 token m.0 (omega arith) m.1, sym m.2)
-part_found kind.UserData token p q e =
-    let m = mapped (λ n. record p { user_data = n }) (number_of (2 ^ 64) token) q e in
-    (m.0, number_found (2 ^ 64) token m.0 (omega arith) m.1, sym m.2)
+part_found kind.Code token p q e = number_said 256 token _ q (omega arith) e
+part_found kind.UserData token p q e = number_said (2 ^ 64) token _ q (omega arith) e
 part_found kind.Flags token p q e =
     let m = mapped (λ flags. record p { flags = flags }) (flags_of token) q e in
     (m.0, flags_found token m.0 m.1, sym m.2)
@@ -43,15 +46,9 @@ part_found kind.File token p q e =
     let m = mapped (λ fd. record p { fd = fd }) (file_of token) q e in
     let is = file_found token m.0 m.1 in
     (m.0, is.0, is.1, sym m.2)
-part_found kind.Offset token p q e =
-    let m = mapped (λ n. record p { off = n }) (number_of (2 ^ 64) token) q e in
-    (m.0, number_found (2 ^ 64) token m.0 (omega arith) m.1, sym m.2)
-part_found kind.Length token p q e =
-    let m = mapped (λ n. record p { len = n }) (number_of (2 ^ 32) token) q e in
-    (m.0, number_found (2 ^ 32) token m.0 (omega arith) m.1, sym m.2)
-part_found kind.Target token p q e =
-    let m = mapped (λ n. record p { target = n }) (number_of (2 ^ 64) token) q e in
-    (m.0, number_found (2 ^ 64) token m.0 (omega arith) m.1, sym m.2)
+part_found kind.Offset token p q e = number_said (2 ^ 64) token _ q (omega arith) e
+part_found kind.Length token p q e = number_said (2 ^ 32) token _ q (omega arith) e
+part_found kind.Target token p q e = number_said (2 ^ 64) token _ q (omega arith) e
 part_found kind.Data token p q e =
     let m = mapped (λ bytes. record p { bytes = bytes }) (data_of token) q e in
     let is = data_found token m.0 m.1 in
@@ -88,16 +85,14 @@ parts_found [] [] q e = cc
 parts_found (k ∷ kinds) (token ∷ tokens) q e =
     let s = bind_some (parts_of kinds tokens) (part_of k token) q e in
     (s.0, parts_found kinds tokens s.0 s.1, part_found k token s.0 q s.2)
-parts_found [] (token ∷ tokens) q e = absurd cc
-parts_found (k ∷ kinds) [] q e = absurd cc
+parts_found _ _ q e = absurd cc
 
 pub parts_again : (kinds : List Kind) (tokens : List (List ℕ)) (q : Parts)
     → SayParts kinds tokens q → parts_of kinds tokens ≡ Some q
 parts_again [] [] q h = ap (λ (p : Parts). Some p) (sym h)
 parts_again (k ∷ kinds) (token ∷ tokens) q h =
     ap (λ o. o >>= part_of k token) (parts_again kinds tokens h.0 h.1) ∙ part_again k token h.0 q h.2
-parts_again [] (token ∷ tokens) q h = absurd h
-parts_again (k ∷ kinds) [] q h = absurd h
+parts_again _ _ q h = absurd h
 
 -- The name.
 

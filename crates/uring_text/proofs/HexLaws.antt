@@ -4,7 +4,7 @@ use Rattle.std.specs.Prelude.{codes, slice_index, nat_le}
 use Rattle.std.specs.List.{AllByRecursion, list_any}
 use Rattle.std.specs.Result.{result_ok}
 use Rattle.std.specs.Str.{bytes_eq}
-use Rattle.std.proofs.lemmas.Bool.{ltb-false, le-ltb, eqb-false, ne_eqb, cases_Bool, leb-true, le-leb, and_parts, and_from, both_ways, or_parts}
+use Rattle.std.proofs.lemmas.Bool.{ltb-false, le-ltb, eqb-false, ne_eqb, cases_eq, leb-true, le-leb, and_parts, and_from, both_ways, or_parts}
 use Rattle.std.proofs.lemmas.Slice.Eq.{bytes_eq-Decides}
 use Rattle.std.proofs.lemmas.Option.{same_Some}
 use Rattle.hex.specs.declared.error.FromHexError.{FromHexError}
@@ -13,53 +13,27 @@ use Rattle.hex.proofs.HexLemmas.{decode_sized-encode_lower, decode_sized-ok, dec
 use Rattle.uring_text.specs.Tokens.{hex_or_dash}
 use Rattle.uring_text.specs.Spelling.{AreBytes}
 use Rattle.uring_text.specs.Reading.{is_capital, hex_of, data_of}
-use Rattle.uring_text.proofs.Options.{test_some, chosen}
+use Rattle.uring_text.proofs.Options.{test_some, chosen, no_dash, unless_some}
+
+-- what holds of each number below one
+abbrev Below : (ℕ → Type 0) → ℕ → Type 0
+Below P zero = Unit {0}
+Below P (suc n) = P n × Below P n
+
+at_below : (P : ℕ → Type 0) (n v : ℕ) → Below P n → v < n → P v
+at_below P zero v all lt = absurd (omega arith)
+at_below P (suc n) v all lt =
+    elim (cases_eq v n) [ inl same ↦ subst P (sym same) all.0 | inr other ↦ at_below P n v all.1 (omega arith) ]
 
 -- the digits, by their values
 letter_at : (w : ℕ) → w < 6 → slice_index lower_digits (10 + w) ≡ 97 + w
-letter_at zero lt = refl
-letter_at (suc zero) lt = refl
-letter_at (suc (suc zero)) lt = refl
-letter_at (suc (suc (suc zero))) lt = refl
-letter_at (suc (suc (suc (suc zero)))) lt = refl
-letter_at (suc (suc (suc (suc (suc zero))))) lt = refl
-letter_at (suc (suc (suc (suc (suc (suc w)))))) lt = absurd (omega arith)
+letter_at w lt = at_below (λ w. slice_index lower_digits (10 + w) ≡ 97 + w) 6 w (assumption) lt
 
 figure_at : (w : ℕ) → w < 10 → slice_index lower_digits w ≡ 48 + w
-figure_at zero lt = refl
-figure_at (suc zero) lt = refl
-figure_at (suc (suc zero)) lt = refl
-figure_at (suc (suc (suc zero))) lt = refl
-figure_at (suc (suc (suc (suc zero)))) lt = refl
-figure_at (suc (suc (suc (suc (suc zero))))) lt = refl
-figure_at (suc (suc (suc (suc (suc (suc zero)))))) lt = refl
-figure_at (suc (suc (suc (suc (suc (suc (suc zero))))))) lt = refl
-figure_at (suc (suc (suc (suc (suc (suc (suc (suc zero)))))))) lt = refl
-figure_at (suc (suc (suc (suc (suc (suc (suc (suc (suc zero))))))))) lt = refl
-figure_at (suc (suc (suc (suc (suc (suc (suc (suc (suc (suc w)))))))))) lt = absurd (omega arith)
+figure_at w lt = at_below (λ w. slice_index lower_digits w ≡ 48 + w) 10 w (assumption) lt
 
 no_capital : (v : ℕ) → v < 16 → is_capital (slice_index lower_digits v) ≡ false
-no_capital zero lt = refl
-no_capital (suc zero) lt = refl
-no_capital (suc (suc zero)) lt = refl
-no_capital (suc (suc (suc zero))) lt = refl
-no_capital (suc (suc (suc (suc zero)))) lt = refl
-no_capital (suc (suc (suc (suc (suc zero))))) lt = refl
-no_capital (suc (suc (suc (suc (suc (suc zero)))))) lt = refl
-no_capital (suc (suc (suc (suc (suc (suc (suc zero))))))) lt = refl
-no_capital (suc (suc (suc (suc (suc (suc (suc (suc zero)))))))) lt = refl
-no_capital (suc (suc (suc (suc (suc (suc (suc (suc (suc zero))))))))) lt = refl
-no_capital (suc (suc (suc (suc (suc (suc (suc (suc (suc (suc zero)))))))))) lt = refl
-no_capital (suc (suc (suc (suc (suc (suc (suc (suc (suc (suc (suc zero))))))))))) lt = refl
-no_capital (suc (suc (suc (suc (suc (suc (suc (suc (suc (suc (suc (suc zero)))))))))))) lt = refl
-no_capital (suc (suc (suc (suc (suc (suc (suc (suc (suc (suc (suc (suc (suc zero))))))))))))) lt =
-    refl
-no_capital (suc (suc (suc (suc (suc (suc (suc (suc (suc (suc (suc (suc (suc (suc zero)))))))))))))) lt =
-    refl
-no_capital (suc (suc (suc (suc (suc (suc (suc (suc (suc (suc (suc (suc (suc (suc (suc zero))))))))))))))) lt =
-    refl
-no_capital (suc (suc (suc (suc (suc (suc (suc (suc (suc (suc (suc (suc (suc (suc (suc (suc v)))))))))))))))) lt =
-    absurd (omega arith)
+no_capital v lt = at_below (λ v. is_capital (slice_index lower_digits v) ≡ false) 16 v (assumption) lt
 
 bytes_from : (bytes : List ℕ) → AllByRecursion (λ b. b < 256) bytes → IsBytes bytes
 bytes_from [] h i = omega arith
@@ -149,17 +123,14 @@ pub hex_found : (count : ℕ) (token bytes : List ℕ) → hex_of count token �
     → (token ≡ encode_lower bytes) × AreBytes bytes count count
 unfolding hex_of
 hex_found count token bytes e =
-    elim (chosen (list_any is_capital token) None (result_ok (decode_sized token count)) (Some bytes) e) [
-      | inl p ↦ absurd (let no : None ≡ Some bytes = p.1 in cc)
-      | inr p ↦
-          let decoded : decode_sized token count ≡ Ok bytes = ok_from (decode_sized token count) bytes p.1 in
-          let size : length token ≡ 2 * count = decode_sized-ok token count bytes decoded in
-          let whole : decode_of token ≡ Ok bytes = sym (decode_sized-twice token count size) ∙ decoded in
-          let facts = decode_of-ok token bytes whole in
-          let pairs : decode_pairs 0 token ≡ Ok bytes = sym (decode_of-even token facts.0) ∙ whole in
-          let both : length token ≡ 2 * length bytes = facts.2 in
-          (pairs_lower 0 token bytes pairs p.0, record { few = omega arith; enough = omega arith; each = bytes_to bytes facts.3 })
-    ]
+    let p = unless_some (list_any is_capital token) (result_ok (decode_sized token count)) bytes e in
+    let decoded : decode_sized token count ≡ Ok bytes = ok_from (decode_sized token count) bytes p.1 in
+    let size : length token ≡ 2 * count = decode_sized-ok token count bytes decoded in
+    let whole : decode_of token ≡ Ok bytes = sym (decode_sized-twice token count size) ∙ decoded in
+    let facts = decode_of-ok token bytes whole in
+    let pairs : decode_pairs 0 token ≡ Ok bytes = sym (decode_of-even token facts.0) ∙ whole in
+    let both : length token ≡ 2 * length bytes = facts.2 in
+    (pairs_lower 0 token bytes pairs p.0, record { few = omega arith; enough = omega arith; each = bytes_to bytes facts.3 })
 
 encoded_small : (bytes : List ℕ) → AllByRecursion (λ b. b < 256) bytes
     → list_any is_capital (encode_lower bytes) ≡ false
@@ -189,26 +160,15 @@ data_found token bytes e =
       | inl p ↦
           let none : [] ≡ bytes = same_Some [] bytes p.1 in
           subst (λ (l : List ℕ). (token ≡ hex_or_dash l) × AreBytes l 0 64) none ((bytes_eq-Decides token (codes "-")).0 p.0, record { few = omega arith; enough = omega arith; each = tt })
-      | inr p ↦ elim (chosen (eqb (length token / 2) 0) None (cond (ltb 64 (length token / 2)) None (hex_of (length token / 2) token)) (Some bytes) p.1) [
-        | inl q ↦ absurd (let no : None ≡ Some bytes = q.1 in cc)
-        | inr q ↦ elim (chosen (ltb 64 (length token / 2)) None (hex_of (length token / 2) token) (Some bytes) q.1) [
-          | inl s ↦ absurd (let no : None ≡ Some bytes = s.1 in cc)
-          | inr s ↦
-              let found = hex_found (length token / 2) token bytes s.1 in
-              let few : length token / 2 ≤ length bytes = found.1.few in
-              let enough : length bytes ≤ length token / 2 = found.1.enough in
-              let most : length token / 2 ≤ 64 = ltb-false 64 (length token / 2) s.0 in
-              let some : length token / 2 ≡ 0 → ⊥ = eqb-false (length token / 2) 0 q.0 in
-              (found.0 ∙ sym (shown bytes (omega arith)), record { few = omega arith; enough = omega arith; each = found.1.each })
-        ]
-      ]
-    ]
-
-no_dash : (token : List ℕ) → (length token ≡ 1 → ⊥) → bytes_eq token (codes "-") ≡ false
-no_dash token h =
-    elim (cases_Bool (bytes_eq token (codes "-"))) [
-      | inr f ↦ f
-      | inl t ↦ absurd (h (ap length ((bytes_eq-Decides token (codes "-")).0 t)))
+      | inr p ↦
+          let q = unless_some (eqb (length token / 2) 0) (cond (ltb 64 (length token / 2)) None (hex_of (length token / 2) token)) bytes p.1 in
+          let s = unless_some (ltb 64 (length token / 2)) (hex_of (length token / 2) token) bytes q.1 in
+          let found = hex_found (length token / 2) token bytes s.1 in
+          let few : length token / 2 ≤ length bytes = found.1.few in
+          let enough : length bytes ≤ length token / 2 = found.1.enough in
+          let most : length token / 2 ≤ 64 = ltb-false 64 (length token / 2) s.0 in
+          let some : length token / 2 ≡ 0 → ⊥ = eqb-false (length token / 2) 0 q.0 in
+          (found.0 ∙ sym (shown bytes (omega arith)), record { few = omega arith; enough = omega arith; each = found.1.each })
     ]
 
 data_again_of : (bytes token : List ℕ) → 0 < length bytes → token ≡ encode_lower bytes
@@ -219,7 +179,7 @@ data_again_of bytes token lt is h =
     let most : length bytes ≤ 64 = h.enough in
     let half : length token / 2 ≡ length bytes = omega arith in
     let all : hex_of (length bytes) token ≡ Some bytes = ap (hex_of (length bytes)) is ∙ hex_again (length bytes) bytes (record { few = omega arith; enough = omega arith; each = h.each }) in
-    rw (no_dash token (λ one. absurd (omega arith)), half, ne_eqb (length bytes) 0 (λ none. absurd (omega arith)), le-ltb 64 (length bytes) most) all
+    rw (no_dash token (λ dash. omega (arith, ap length dash)), half, ne_eqb (length bytes) 0 (λ none. absurd (omega arith)), le-ltb 64 (length bytes) most) all
 
 pub data_again : (bytes : List ℕ) → AreBytes bytes 0 64 → data_of (hex_or_dash bytes) ≡ Some bytes
 unfolding data_of

@@ -1,7 +1,11 @@
 -- Steps that may give nothing.
-use Rattle.std.proofs.Common.{◌≡◌, Bool, true, false, cond, Option, Some, None, refl, ◌⊎◌, inl, inr}
+use Rattle.std.proofs.Common.{◌≡◌, ℕ, Bool, true, false, cond, List, Option, Some, None, refl, ◌⊎◌, inl, inr}
+use Rattle.std.specs.Prelude.{codes}
 use Rattle.std.specs.Option.{option_map}
+use Rattle.std.specs.Str.{bytes_eq}
+use Rattle.std.proofs.lemmas.Bool.{cases_Bool}
 use Rattle.std.proofs.lemmas.Option.{same_Some}
+use Rattle.std.proofs.lemmas.Slice.Eq.{bytes_eq-Decides}
 use Rattle.uring_text.specs.Reading.{◌>>=◌}
 
 -- the value of a step that gave something
@@ -22,6 +26,12 @@ pub test_some : {A : Type 0} (b : Bool) (o : Option A) (y : A) → cond b o None
 test_some true o y e = (refl, e)
 test_some false o y e = absurd cc
 
+-- or wasn't
+pub unless_some : {A : Type 0} (b : Bool) (o : Option A) (y : A) → cond b None o ≡ Some y
+    → (b ≡ false) × (o ≡ Some y)
+unless_some true o y e = absurd cc
+unless_some false o y e = (refl, e)
+
 -- one of two ways
 pub chosen : {A : Type 0} (b : Bool) (x y z : A) → cond b x y ≡ z
     → ((b ≡ true) × (x ≡ z)) ⊎ ((b ≡ false) × (y ≡ z))
@@ -30,3 +40,11 @@ chosen false x y z e = inr (refl, e)
 
 abbrev pub some : {A : Type 0} → A → Option A
 some x = Some x
+
+-- a token other than `-`
+pub no_dash : (token : List ℕ) → (token ≡ codes "-" → ⊥) → bytes_eq token (codes "-") ≡ false
+no_dash token other =
+    elim (cases_Bool (bytes_eq token (codes "-"))) [
+      | inl dash ↦ absurd (other ((bytes_eq-Decides token (codes "-")).0 dash))
+      | inr f ↦ f
+    ]

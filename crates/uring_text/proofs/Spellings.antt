@@ -10,9 +10,6 @@ use Rattle.uring_text.proofs.NumberLaws.{number_found, number_again}
 use Rattle.uring_text.proofs.FormLaws.{form_found, form_again}
 use Rattle.uring_text.proofs.EntryLaws.{entry_once}
 
-some_entry : (entry : Sqe) (f : Form) → ReadsEntry (Some entry) (Some f) → IsEntryOf f entry
-some_entry entry f h = h
-
 -- what a reader of an entry's tokens tells
 entry_read : (tokens : List (List ℕ)) (f : Option Form) (read : Option Sqe) → form_of tokens ≡ f
     → ReadsEntry read f → MatchOption read (IsNoEntry tokens) (SpellsEntry tokens)
@@ -22,7 +19,7 @@ entry_read tokens (Some f) None e h = absurd h
 entry_read tokens (Some f) (Some entry) e h = record {
   form = f;
   spells = form_found tokens f e;
-  is_entry = some_entry entry f h;
+  is_entry = h;
 }
 
 pub read_entry_tells : (tokens : List (List ℕ)) (read : Option Sqe)

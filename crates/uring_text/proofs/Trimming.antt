@@ -9,8 +9,7 @@ trimmed_zero [] = refl
 trimmed_zero (b ∷ bytes) = ap (before_others b) (trimmed_zero bytes)
 
 kept_before : (b : ℕ) (bytes : List ℕ) → 0 < length bytes → before_others b bytes ≡ b ∷ bytes
-kept_before zero [] h = absurd (omega arith)
-kept_before (suc b) [] h = absurd (omega arith)
+kept_before b [] h = absurd (omega arith)
 kept_before zero (c ∷ bytes) h = refl
 kept_before (suc b) (c ∷ bytes) h = refl
 

@@ -98,23 +98,14 @@ unfolding after_calls
 calls_after g w [] = sym (append-nil w.submission.calls)
 calls_after g w (first ∷ later) = calls_after g (after_call g w first) later ∙ append_assoc w.submission.calls (first ∷ []) later
 
-pub published_after : (g : Setup) (w : World) (done : List ℕ)
-    → (after_calls g w done).submission.published ≡ w.submission.published
+-- what no call changes stays
+pub kept_after : {A : Type 0} (g : Setup) (f : World → A)
+    → ((w : World) (n : ℕ) → f (after_call g w n) ≡ f w) → (w : World) (done : List ℕ)
+    → f (after_calls g w done) ≡ f w
 unfolding after_calls
-published_after g w [] = refl
-published_after g w (first ∷ later) = published_after g (after_call g w first) later
-
-pub closed_after : (g : Setup) (w : World) (done : List ℕ)
-    → (after_calls g w done).is_closed ≡ w.is_closed
-unfolding after_calls
-closed_after g w [] = refl
-closed_after g w (first ∷ later) = closed_after g (after_call g w first) later
-
-pub completions_after : (g : Setup) (w : World) (done : List ℕ)
-    → (after_calls g w done).completions ≡ w.completions
-unfolding after_calls
-completions_after g w [] = refl
-completions_after g w (first ∷ later) = completions_after g (after_call g w first) later
+kept_after g f stays w [] = refl
+kept_after g f stays w (first ∷ later) =
+    kept_after g f stays (after_call g w first) later ∙ stays w first
 
 -- Calls one after the other.
 

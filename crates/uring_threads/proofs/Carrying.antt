@@ -1,8 +1,7 @@
 -- What the lanes of the workers have carried, as the trace goes on.
-use Rattle.std.proofs.Common.{◌≡◌, ◌≢◌, ℕ, ◌<◌, ◌==◌, Bool, cond, List, [], ◌∷◌, ◌++◌, length, get_or, count_by, Option, Some, None, ℤ, refl, sym, subst, ap, ap₂, ◌∙◌, inl, inr, arith, append-nil}
+use Rattle.std.proofs.Common.{◌≡◌, ◌≢◌, ℕ, ◌<◌, ◌==◌, cond, List, [], ◌∷◌, ◌++◌, length, get_or, count_by, Option, Some, None, ℤ, refl, sym, subst, ap, ap₂, ◌∙◌, inl, inr, arith}
 use Rattle.std.specs.List.{filter}
-use Rattle.std.proofs.lemmas.Bool.{eq-eqb, ne_eqb, cases_eq}
-use Rattle.std.proofs.lemmas.List.Elements.{filter-append}
+use Rattle.std.proofs.lemmas.Bool.{cases_eq}
 use Rattle.std.proofs.lemmas.List.Sums.{sum_by-append}
 use Rattle.uring_entry.specs.Setup.{Setup}
 use Rattle.uring_entry.specs.Requests.{no_bytes}
@@ -15,7 +14,7 @@ use Rattle.uring_laws.specs.Direct.{with_told}
 use Rattle.uring_core.specs.declared.step.Step.TheVariants as step
 use Rattle.uring_core.specs.declared.answer.Answer.{Answer}
 use Rattle.uring_core.specs.declared.answer.Answer.TheVariants as answer
-use Rattle.uring_core.proofs.Following.{history_of_cons, history_of_append}
+use Rattle.uring_core.proofs.Following.{history_of_cons}
 use Rattle.uring_workers.specs.declared.job.Job.{Job}
 use Rattle.uring_workers.specs.declared.work_lanes.WorkLanes.{WorkLanes}
 use Rattle.uring_threads.specs.Collected.{Collects}
@@ -32,16 +31,8 @@ use Rattle.uring_threads.specs.Tallies.{Tally, Appends, issues_request, takes_re
 use Rattle.uring_workers.specs.Work.{place_of, results_of}
 use Rattle.uring_threads.specs.Dealt.{job_by, jobs_in, jobs_at, jobs_to, done_by_worker}
 use Rattle.uring_threads.proofs.Collecting.{grown_history}
-
--- A job that was sent is the last of its worker's, and of no other.
-
-jobs_own : (place : Op → ℕ) (k : ℕ) (jobs : List Job) (j : Job) → place j.op ≡ k
-    → jobs_at place k (jobs ++ j ∷ []) ≡ jobs_at place k jobs ++ j ∷ []
-jobs_own place k jobs j own = filter-append (λ i. place i.op == k) jobs (j ∷ []) ∙ ap (λ (b : Bool). jobs_at place k jobs ++ cond b (j ∷ []) []) (eq-eqb (place j.op) k own)
-
-jobs_other : (place : Op → ℕ) (k : ℕ) (jobs : List Job) (j : Job) → place j.op ≢ k
-    → jobs_at place k (jobs ++ j ∷ []) ≡ jobs_at place k jobs
-jobs_other place k jobs j other = filter-append (λ i. place i.op == k) jobs (j ∷ []) ∙ ap (λ (b : Bool). jobs_at place k jobs ++ cond b (j ∷ []) []) (ne_eqb (place j.op) k other) ∙ append-nil (jobs_at place k jobs)
+use Rattle.uring_threads.proofs.LeftAt.{one_more_at, none_more_at}
+use Rattle.uring_threads.proofs.SettledWork.{longer_history}
 
 -- Nothing is sent by events that issue no request, and nothing taken in by those that finish none.
 
@@ -67,20 +58,16 @@ no_results g (e ∷ later) h none =
     let both = sum_by-append (λ x. cond (takes_result x) 1 0) (e ∷ []) later in
     ap (done_in g) (history_of_cons e later h) ∙ no_results g later (e ∷ h) (omega (arith, none, both)) ∙ ap (with_told (done_in g h)) (no_result (world g h) e (omega (arith, none, both)))
 
--- the history with the events that were appended
-appended_history : (a b : Kept) (t : Tally) (p : Appends a b t) → history b ≡ history_of p.events ++ history a
-appended_history a b t p = ap history_of p.trace ∙ sym (append-nil (history_of (a.trace ++ p.events))) ∙ history_of_append a.trace p.events [] ∙ ap (λ h. history_of p.events ++ h) (append-nil (history a))
-
 pub jobs_stay : (a b : Kept) (t : Tally) → Appends a b t → t.issues ≡ 0 → (workers k : ℕ)
     → jobs_to b.setup workers k (history b) ≡ jobs_to a.setup workers k (history a)
 jobs_stay a b t p none workers k =
-    ap₂ (λ (s : Setup) h. jobs_to s workers k h) p.setup (appended_history a b t p)
+    ap₂ (λ (s : Setup) h. jobs_to s workers k h) p.setup (longer_history a b p.events p.trace)
     ∙ ap (jobs_at (place_of workers a.setup.files) k) (no_jobs a.setup p.events (history a) (ap (λ (u : Tally). u.issues) p.tally ∙ none))
 
 pub done_stays : (a b : Kept) (t : Tally) → Appends a b t → t.finishes ≡ 0 → (workers k : ℕ)
     → done_by_worker b.setup workers k (history b) ≡ done_by_worker a.setup workers k (history a)
 done_stays a b t p none workers k =
-    ap₂ (λ (s : Setup) h. done_by_worker s workers k h) p.setup (appended_history a b t p)
+    ap₂ (λ (s : Setup) h. done_by_worker s workers k h) p.setup (longer_history a b p.events p.trace)
     ∙ ap (filter (λ d. place_of workers a.setup.files d.op == k)) (no_results a.setup p.events (history a) (ap (λ (u : Tally). u.finishes) p.tally ∙ none))
 
 -- the jobs sent and the operations done stay
@@ -156,13 +143,13 @@ carried_run a b n place op old new issued carried at low many was_sent others = 
       | inl here ↦
           let s : IsSent j (get_or old k d) (get_or new k d) = subst (λ i. IsSent j (get_or old i d) (get_or new i d)) (sym here) (was_sent d) in
           record {
-            jobs = s.jobs ∙ ap (λ js. js ++ j ∷ []) before.jobs ∙ sym (jobs_own (place_of (length old) g.files) k (jobs_in g (history a)) j (sym at ∙ sym here)) ∙ sym jobs;
+            jobs = s.jobs ∙ ap (λ js. js ++ j ∷ []) before.jobs ∙ sym (one_more_at (λ (i : Job). place_of (length old) g.files i.op) k (jobs_in g (history a)) j (sym at ∙ sym here)) ∙ sym jobs;
             results = ap (λ r. results_received (record (get_or old k d) { results = r })) s.results ∙ before.results ∙ ap results_of (sym done);
           }
       | inr other ↦
           let same : get_or new k d ≡ get_or old k d = others k d within' other in
           record {
-            jobs = ap (λ (l : WorkLanes). jobs_sent l) same ∙ before.jobs ∙ sym (jobs_other (place_of (length old) g.files) k (jobs_in g (history a)) j (λ e. other (sym e ∙ sym at))) ∙ sym jobs;
+            jobs = ap (λ (l : WorkLanes). jobs_sent l) same ∙ before.jobs ∙ sym (none_more_at (λ (i : Job). place_of (length old) g.files i.op) k (jobs_in g (history a)) j (λ e. other (sym e ∙ sym at))) ∙ sym jobs;
             results = ap (λ (l : WorkLanes). results_received l) same ∙ before.results ∙ ap results_of (sym done);
           }
     ]

@@ -30,8 +30,7 @@ once_stays a b t i p none once =
 -- calls were begun
 not_shut : (a : Kept) (b : Begun) → ClosesOnce a intake.Ready → ClosesOnce a (intake_after b)
 not_shut a begun.Taken once = once
-not_shut a (begun.Again count) once = once
-not_shut a (begun.Spent count) once = once
+not_shut a _ once = once
 
 pub once_begun : (a b : Kept) (t : Tally) (i : Intake) (x : Begun) → Appends a b t
     → t.closes ≡ 0 → (ClosesOnce a i → ClosesOnce a intake.Ready) → ClosesOnce a i

@@ -26,7 +26,7 @@ use Rattle.uring_threads.specs.Settled.{IsWork, IsTakenIn, finish_of}
 use Rattle.uring_workers.specs.Work.{place_of}
 use Rattle.uring_threads.specs.Dealt.{jobs_to, done_by_worker}
 use Rattle.uring_threads.specs.Tallies.{finishes_counted, results_taken_in}
-use Rattle.uring_threads.proofs.LeftAt.{done_by_own, done_other}
+use Rattle.uring_threads.proofs.LeftAt.{one_more_at, none_more_at}
 use Rattle.uring_threads.proofs.Posting.{end_posts}
 use Rattle.uring_threads.proofs.Recording.{records_one}
 use Rattle.uring_threads.proofs.Repeating.{repeats_none, repeats_then}
@@ -58,7 +58,7 @@ module _ (a b : Kept) (workers place : ℕ) (r : JobResult) (can : CanBeTaken a 
   pub one_taken_in : results_taken_in workers place b ≡ results_taken_in workers place a + 1
   unfolding end
   one_taken_in =
-      ap length (ap₂ (λ g h. done_by_worker g workers place h) grows.setup (grown_history a b (finish_of r) grows) ∙ done_by_own (place_of workers a.setup.files) place (done_in a.setup (history a)) end can.own)
+      ap length (ap₂ (λ g h. done_by_worker g workers place h) grows.setup (grown_history a b (finish_of r) grows) ∙ one_more_at (λ (d : Done). place_of workers a.setup.files d.op) place (done_in a.setup (history a)) end can.own)
       ∙ length_push (done_by_worker a.setup workers place (history a)) end
 
   pub others_stay : OthersStay a b workers place
@@ -67,7 +67,7 @@ module _ (a b : Kept) (workers place : ℕ) (r : JobResult) (can : CanBeTaken a 
       record {
         jobs = λ k. ap₂ (λ g h. jobs_to g workers k h) grows.setup (grown_history a b (finish_of r) grows);
         results = λ k other. ap₂ (λ g h. done_by_worker g workers k h) grows.setup (grown_history a b (finish_of r) grows)
-            ∙ done_other (place_of workers a.setup.files) k (done_in a.setup (history a)) end (λ same. other (sym same ∙ can.own));
+            ∙ none_more_at (λ (d : Done). place_of workers a.setup.files d.op) k (done_in a.setup (history a)) end (λ same. other (sym same ∙ can.own));
       }
 
 -- what was seen first is what is popped

@@ -6,6 +6,22 @@ use Rattle.uring_threads.specs.Collected.{TakesAll, Wait}
 use Rattle.uring_threads.specs.Kept.{Kept, Grows}
 use Rattle.uring_threads.specs.Settled.{finish_of}
 
+-- Results taken in one after the other.
+
+pub takes_none : (a : Kept) → TakesAll a a []
+takes_none a = record { trace = sym (append-nil a.trace); setup = refl; room = omega arith }
+
+pub takes_then : (a b c : Kept) (first second : List JobResult) → TakesAll a b first
+    → TakesAll b c second → TakesAll a c (first ++ second)
+takes_then a b c first second p q =
+    record {
+      trace = q.trace ∙ ap (λ es. es ++ map finish_of second) p.trace ∙ append_assoc a.trace (map finish_of first) (map finish_of second) ∙ ap (λ es. a.trace ++ es) (sym (map-append finish_of first second));
+      setup = q.setup ∙ p.setup;
+      room = omega (arith, p.room, q.room);
+    }
+
+-- The loop.
+
 pub record Drains (first now : Kept) (seen known before received : List JobResult) (count : ℕ) : Type 0 where
   pub taken : List JobResult
   pub all : seen ≡ taken ++ known
@@ -17,7 +33,7 @@ pub record Drains (first now : Kept) (seen known before received : List JobResul
 pub drains_none : (first : Kept) (seen before : List JobResult) → Wait first seen
     → Drains first first seen seen before before 0
 drains_none first seen before left =
-    record { taken = []; all = refl; came = sym (append-nil before); recorded = record { trace = sym (append-nil first.trace); setup = refl; room = omega arith }; counted = refl; left = left }
+    record { taken = []; all = refl; came = sym (append-nil before); recorded = takes_none first; counted = refl; left = left }
 
 -- the next one
 abbrev pub OneMore : Kept → Kept → List JobResult → List JobResult → List JobResult → List JobResult
@@ -34,14 +50,7 @@ drains_one first a b seen known later before received now count d (r, next, came
       taken = d.taken ++ r ∷ [];
       all = d.all ∙ ap (λ rs. d.taken ++ rs) next ∙ sym (append_assoc d.taken (r ∷ []) later);
       came = came ∙ ap (λ rs. rs ++ r ∷ []) d.came ∙ append_assoc before d.taken (r ∷ []);
-      recorded =
-          record {
-            trace =
-                grows.trace ∙ ap (λ es. es ++ finish_of r ∷ []) d.recorded.trace ∙ append_assoc first.trace (map finish_of d.taken) (finish_of r ∷ [])
-                ∙ ap (λ es. first.trace ++ es) (sym (map-append finish_of d.taken (r ∷ [])));
-            setup = grows.setup ∙ d.recorded.setup;
-            room = omega (arith, d.recorded.room, grows.room);
-          };
+      recorded = takes_then first a b d.taken (r ∷ []) d.recorded (record { trace = grows.trace; setup = grows.setup; room = omega (arith, grows.room) });
       counted = omega (arith, d.counted, length-append d.taken (r ∷ []));
       left = left;
     }

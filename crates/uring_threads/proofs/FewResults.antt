@@ -2,7 +2,6 @@
 use Rattle.std.proofs.Common.{◌≡◌, ℕ, ◌+◌, ◌*◌, ◌<◌, ◌≤◌, arith, List, [], ◌∷◌, length, get_or, refl, sym, subst, ap, ◌∙◌, inl, inr}
 use Rattle.std.proofs.Math.ListN.{set}
 use Rattle.std.proofs.lemmas.Bool.{cases_eq, cases_lt}
-use Rattle.std.proofs.lemmas.List.{get_or-set_same, get_or-set_other}
 use Rattle.uring_core.specs.declared.step.Step.TheVariants as step
 use Rattle.uring_workers.specs.WorkLanes.{AreSameLanes, OnlyReceives, results_received, results_seen}
 use Rattle.uring_threads.specs.Collected.{Collects, CollectsSeen, NextStays, NoneComes, TakesSeen}
@@ -14,7 +13,7 @@ use Rattle.uring_workers.specs.declared.job.JobResult.{JobResult}
 use Rattle.uring_workers.specs.declared.work_lanes.WorkLanes.{WorkLanes}
 use Rattle.uring_threads.proofs.Carrying.{carried_set, done_stays}
 use Rattle.uring_threads.proofs.Repeating.{repeats_none, repeats_then}
-use Rattle.uring_threads.proofs.SameLanes.{lanes_none, lanes_then, lanes_set}
+use Rattle.uring_threads.proofs.SameLanes.{lanes_none, lanes_then, lanes_set, set_cases}
 use Rattle.uring_threads.proofs.TraceSteps.{still}
 
 -- by events none of which takes a result in
@@ -97,18 +96,14 @@ pub seen_at : {first : List WorkLanes} {a : Kept} {place count n : ℕ} {b c : K
     → SeenBefore (length first) (place + 1) a c (set lanes place y)
 seen_at {first} {a} {place} {count} {n} {b} {c} {lanes} y p within q seen = λ k low fewer d.
     let workers : ℕ = length first in
-    elim (cases_eq k place) [
-      | inl here ↦
-          let fewer' : results_taken_in workers place c < results_taken_in workers place a + most_results = subst (λ i. results_taken_in workers i c < results_taken_in workers i a + most_results) here fewer in
-          let none : results_taken_in workers place b ≡ results_taken_in workers place a = p.others place (omega arith) in
-          let own : results_taken_in workers place c ≡ results_taken_in workers place b + n = q.collected.own in
-          subst (λ i. NextStays c workers i (results_seen (get_or (set lanes place y) i d))) (sym here)
-          (subst (λ (l : WorkLanes). NextStays c workers place (results_seen l)) (sym (get_or-set_same lanes place y d within)) (q.rest (omega (arith, fewer', none, own))))
-      | inr other ↦
-          let same : results_taken_in workers k c ≡ results_taken_in workers k b = ap length (q.collected.others.results k other) in
-          subst (λ (l : WorkLanes). NextStays c workers k (results_seen l)) (sym (get_or-set_other lanes place k y d other))
-          (next_stays b c workers k (results_seen (get_or lanes k d)) q.collected.none_comes (seen k (omega (arith, low, other)) (omega (arith, fewer, same)) d))
-    ]
+    set_cases (λ j (l : WorkLanes). results_taken_in workers j c < results_taken_in workers j a + most_results → NextStays c workers j (results_seen l)) lanes place y k d within
+    (λ few.
+    let none = p.others place (omega arith) in
+    q.rest (omega (arith, few, none, q.collected.own)))
+    (λ other few.
+    let same = ap length (q.collected.others.results k other) in
+    next_stays b c workers k (results_seen (get_or lanes k d)) q.collected.none_comes (seen k (omega (arith, low, other)) (omega (arith, few, same)) d))
+    fewer
 
 -- of all
 pub seen_in_all : {first lanes : List WorkLanes} {place : ℕ} (a b : Kept) → AreSameLanes first lanes

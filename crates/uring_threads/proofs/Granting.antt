@@ -8,6 +8,4 @@ use Rattle.uring_threads.specs.declared.intake.Intake.TheVariants as intake
 pub waits_not : (i : Intake) → ((count : ℕ) → i ≡ intake.Waiting count → ⊥)
     → awaits_memory i ≡ false
 waits_not (intake.Waiting count) never = absurd (never count refl)
-waits_not intake.Ready never = refl
-waits_not (intake.Spent count) never = refl
-waits_not intake.Closed never = refl
+waits_not _ never = refl

@@ -2,6 +2,7 @@
 -- By counting how often a number stands among what was sent, carried out and started.
 use Rattle.std.proofs.Common.{◌≡◌, ◌≢◌, ℕ, ◌+◌, ◌≤◌, ◌==◌, List, [], ◌∷◌, ◌++◌, map, Bool, true, false, not, ◌&&◌, cond, refl, sym, ◌∙◌, ap, arith, inl, inr, append-nil}
 use Rattle.std.specs.Prelude.{slice_index_or}
+use Rattle.std.specs.List.{filter}
 use Rattle.std.proofs.lemmas.Bool.{both_ways, eqb-true, eq-eqb, cases_Bool, false_from_ne_true, and_parts, not-true}
 use Rattle.std.proofs.lemmas.List.Elements.{filter-append}
 use Rattle.uring_entry.specs.Setup.{Setup}
@@ -122,15 +123,15 @@ module _ (g : Setup) (h : History) (lawful : IsLawfulApart g h) (place : Op → 
         none_ended : (r : Requests) (n : ℕ) → has_ended r n ≡ false → times (λ e. e.number == n) r.ended ≡ 0
         none_ended r n open_end = none_passes (λ (e : Ending). e.number == n) r.ended open_end
 
--- Operations of a place, with one more carried out.
+-- What is of a place, with one element more: of that place, or of another.
 
-pub done_by_own : (place : Op → ℕ) (k : ℕ) (ds : List Done) (d : Done) → place d.op ≡ k
-    → done_at place k (ds ++ d ∷ []) ≡ done_at place k ds ++ d ∷ []
-done_by_own place k ds d own = filter-append (λ (x : Done). place x.op == k) ds (d ∷ []) ∙ ap (λ b. done_at place k ds ++ cond b (d ∷ []) []) (eq-eqb _ _ own)
+pub one_more_at : {X : Type 0} (at : X → ℕ) (k : ℕ) (xs : List X) (x : X) → at x ≡ k
+    → filter (λ y. at y == k) (xs ++ x ∷ []) ≡ filter (λ y. at y == k) xs ++ x ∷ []
+one_more_at {X} at k xs x own = filter-append (λ (y : X). at y == k) xs (x ∷ []) ∙ ap (λ b. filter (λ (y : X). at y == k) xs ++ cond b (x ∷ []) []) (eq-eqb _ _ own)
 
-pub done_other : (place : Op → ℕ) (k : ℕ) (ds : List Done) (d : Done) → place d.op ≢ k
-    → done_at place k (ds ++ d ∷ []) ≡ done_at place k ds
-done_other place k ds d other =
-    filter-append (λ (x : Done). place x.op == k) ds (d ∷ [])
-    ∙ ap (λ b. done_at place k ds ++ cond b (d ∷ []) []) (false_from_ne_true _ (λ same. other (eqb-true _ _ same)))
-    ∙ append-nil (done_at place k ds)
+pub none_more_at : {X : Type 0} (at : X → ℕ) (k : ℕ) (xs : List X) (x : X) → at x ≢ k
+    → filter (λ y. at y == k) (xs ++ x ∷ []) ≡ filter (λ y. at y == k) xs
+none_more_at {X} at k xs x other =
+    filter-append (λ (y : X). at y == k) xs (x ∷ [])
+    ∙ ap (λ b. filter (λ (y : X). at y == k) xs ++ cond b (x ∷ []) []) (false_from_ne_true _ (λ same. other (eqb-true _ _ same)))
+    ∙ append-nil (filter (λ (y : X). at y == k) xs)

@@ -118,10 +118,8 @@ delivery_recorded a b c d e f (suc n) x y z some u g h p k =
 
 -- nothing was begun again, and nothing was pulled
 pub none_again : (g : Setup) (l : Submission) (i : Intake) → IsAgain g l i []
-none_again g l intake.Ready = refl
 none_again g l (intake.Waiting count) = inl refl
-none_again g l (intake.Spent count) = refl
-none_again g l intake.Closed = refl
+none_again g l _ = refl
 
 pub none_pulled : (g : Setup) (put : Put) → IsPulled g put put []
 none_pulled g put = (pulled.Nothing, [], (refl, refl), refl)

@@ -63,13 +63,12 @@ finish_steps : (events : List Event) (numbers : List ℕ)
     → map step_of events ≡ map step.Finish numbers
     → length numbers ≡ count_by takes_result events
 finish_steps [] [] e = refl
-finish_steps [] (n ∷ ns) e = absurd (cc)
-finish_steps (x ∷ es) [] e = absurd (cc)
 finish_steps ((s, a) ∷ es) (n ∷ ns) e =
     let first : s ≡ step.Finish n = cc in
     let rest : map step_of es ≡ map step.Finish ns = cc in
     let one : count_by takes_result ((step.Finish n, a) ∷ es) ≡ 1 + count_by takes_result es = sum_by-append (λ e. cond (takes_result e) 1 0) ((step.Finish n, a) ∷ []) es in
     subst (λ s. suc (length ns) ≡ count_by takes_result ((s, a) ∷ es)) (sym first) (omega (arith, one, finish_steps es ns rest))
+finish_steps _ _ e = absurd (cc)
 
 -- an Issue that wasn't refused
 issued_or : (b : Bool) → ◌≡◌ {A = ℕ} (cond (not b) 1 0) 0 → b ≡ true
@@ -80,8 +79,6 @@ issue_steps : (events : List Event) (numbers : List ℕ)
     → map step_of events ≡ map step.Issue numbers → count_by is_refused events ≡ 0
     → length numbers ≡ count_by issues_request events
 issue_steps [] [] e served = refl
-issue_steps [] (n ∷ ns) e served = absurd (cc)
-issue_steps (x ∷ es) [] e served = absurd (cc)
 issue_steps ((s, a) ∷ es) (n ∷ ns) e served =
     let first : s ≡ step.Issue n = cc in
     let rest : map step_of es ≡ map step.Issue ns = cc in
@@ -90,6 +87,7 @@ issue_steps ((s, a) ∷ es) (n ∷ ns) e served =
     let one : issues_request (step.Issue n, a) ≡ true = issued_or (issues_request (step.Issue n, a)) (omega (arith, fine, parts)) in
     let many : count_by issues_request ((step.Issue n, a) ∷ es) ≡ 1 + count_by issues_request es = sum_by-append (λ e. cond (issues_request e) 1 0) ((step.Issue n, a) ∷ []) es ∙ ap (λ (b : Bool). 0 + cond b 1 0 + count_by issues_request es) one in
     subst (λ s. suc (length ns) ≡ count_by issues_request ((s, a) ∷ es)) (sym first) (omega (arith, many, issue_steps es ns rest (omega (arith, fine, parts))))
+issue_steps _ _ e served = absurd (cc)
 
 pub finishes_many : {a b : Kept} {n : ℕ} (p : Repeats a b step.Finish (finishes_counted n))
     → length p.numbers ≡ n

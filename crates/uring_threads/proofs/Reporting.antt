@@ -1,11 +1,10 @@
 -- What is reported once all ends are settled, from what ties them to the trace.
 use Rattle.std.proofs.Common.{◌≡◌, ◌↔◌, ℕ, ℤ, zero, suc, ◌+◌, ◌<◌, ◌≤◌, ◌==◌, Bool, Some, true, false, List, [], ◌∷◌, ◌++◌, length, map, flat_map, take, drop, get_or, All, count_by, if◌then◌else◌, refl, sym, subst, ap, ap₂, ◌∙◌, arith, inl, inr, append_assoc, append-nil, length-drop}
-use Rattle.std.specs.List.{list_any}
+use Rattle.std.specs.List.{list_any, slice_get}
 use Rattle.std.proofs.Math.Seq.{drop-append_seam, take-append_seam}
 use Rattle.std.proofs.lemmas.Bool.{or_cases, or_left, or_right}
 use Rattle.std.proofs.lemmas.Grind.{flat_map-append}
 use Rattle.std.proofs.lemmas.List.{map-append, length-map, length-append, take_more, take_all}
-use Rattle.std.specs.List.{slice_get}
 use Rattle.std.proofs.lemmas.Option.{slice_get_within, get_or_from_slice_get}
 use Rattle.uring_entry.specs.Completions.{Completions, unreaped, with_posted, completion_for}
 use Rattle.uring_rules.specs.Rules.{posts}
@@ -105,10 +104,9 @@ module _ (g : Setup) (w : World) (put pulled : Put) (i : Intake) (r : Report) (s
         taken = ap taken posts.submission ∙ omega (arith, stands.waiting) ∙ ap (λ (l : Submission). length l.published) (sym posts.submission);
       } where
         none_behind : (i : Intake) → is_shut i ≡ true → waiting_in i ≡ 0
-        none_behind intake.Ready shut = refl
         none_behind (intake.Waiting count) shut = absurd (let f : false ≡ true = shut in cc)
         none_behind (intake.Spent count) shut = absurd (let f : false ≡ true = shut in cc)
-        none_behind intake.Closed shut = refl
+        none_behind _ shut = refl
 
 -- The ring is closed once, if at all.
 
@@ -143,24 +141,22 @@ any_of : (p : Job → Bool) (ls : List WorkLanes) (ws : List Worker) (d : WorkLa
     → length ws ≡ length ls → list_any p (all_untaken ls ws) ≡ true
     → (k : ℕ) × (k < length ws) × (list_any p (untaken_at (get_or ls k d) (get_or ws k e)) ≡ true)
 any_of p [] [] d e many some = absurd (let f : false ≡ true = some in cc)
-any_of p [] (w ∷ ws) d e many some = absurd (omega (arith, many))
-any_of p (l ∷ ls) [] d e many some = absurd (omega (arith, many))
 any_of p (l ∷ ls) (w ∷ ws) d e many some =
     elim (or_cases _ _ (sym (list_any-append p (untaken_at l w) (all_untaken ls ws)) ∙ some)) [
       | inl here ↦ (0, omega arith, here)
       | inr later ↦ let one = any_of p ls ws d e (omega (arith, many)) later in (suc one.0, omega (arith, one.1), one.2)
     ]
+any_of p _ _ d e many some = absurd (omega (arith, many))
 
 of_any : (p : Job → Bool) (ls : List WorkLanes) (ws : List Worker) (d : WorkLanes) (e : Worker) (k : ℕ)
     → length ws ≡ length ls → k < length ws
     → list_any p (untaken_at (get_or ls k d) (get_or ws k e)) ≡ true
     → list_any p (all_untaken ls ws) ≡ true
 of_any p [] [] d e k many low some = absurd (omega (arith, low))
-of_any p [] (w ∷ ws) d e k many low some = absurd (omega (arith, many))
-of_any p (l ∷ ls) [] d e k many low some = absurd (omega (arith, many))
 of_any p (l ∷ ls) (w ∷ ws) d e zero many low some =
     list_any-append p (untaken_at l w) (all_untaken ls ws) ∙ or_left _ _ some
 of_any p (l ∷ ls) (w ∷ ws) d e (suc k) many low some = list_any-append p (untaken_at l w) (all_untaken ls ws) ∙ or_right _ _ (of_any p ls ws d e k (omega (arith, many)) (omega (arith, low)) some)
+of_any p _ _ d e k many low some = absurd (omega (arith, many))
 
 module _ (k : Kept) (ls : List WorkLanes) (ws vs : List Worker) (settled : AreSettled k vs) (looked : HaveLooked ws vs) (seen : HaveSeenAll ls vs) (many : length ws ≡ length ls) where
   -- what a worker has seen and not taken is what was sent to it and not taken

@@ -1,8 +1,7 @@
 -- Lanes and workers by their numbers: whoever has the same numbers is the other end.
-use Rattle.std.proofs.Common.{◌≡◌, ℕ, suc, ◌<◌, List, [], ◌∷◌, length, map, get_or, refl, sym, subst, ap, ap₂, ◌∙◌, arith, inl, inr}
+use Rattle.std.proofs.Common.{◌≡◌, ℕ, suc, ◌<◌, List, [], ◌∷◌, length, map, get_or, refl, sym, subst, ap, ap₂, ◌∙◌, arith}
 use Rattle.std.specs.Prelude.{slice_set}
-use Rattle.std.proofs.lemmas.Bool.{cases_eq}
-use Rattle.std.proofs.lemmas.List.{get_or-map, length-map, length-set, get_or-set_same, get_or-set_other, get_or_default}
+use Rattle.std.proofs.lemmas.List.{get_or-map, length-map, length-set, get_or_default}
 use Rattle.uring_ports.specs.AppEnd.{AppEnd}
 use Rattle.uring_workers.specs.WorkLanes.{AreSameLanes, numbers_of_lanes}
 use Rattle.uring_threads.specs.Dispatched.{HaveCarried}
@@ -15,6 +14,7 @@ use Rattle.uring_workers.specs.Opened.{AreLanesOf}
 use Rattle.uring_workers.specs.Worker.{Worker}
 use Rattle.uring_workers.specs.declared.work_lanes.WorkLanes.{WorkLanes}
 use Rattle.uring_workers.proofs.Working.{same_ring}
+use Rattle.uring_threads.proofs.SameLanes.{set_cases}
 
 -- two lists are told the same if their elements are, place by place
 pub told_same : {X Y A : Type 0} (f : X → A) (g : Y → A) (xs : List X) (ys : List Y)
@@ -22,9 +22,8 @@ pub told_same : {X Y A : Type 0} (f : X → A) (g : Y → A) (xs : List X) (ys :
     → ((k : ℕ) (d : X) (e : Y) → k < length xs → f (get_or xs k d) ≡ g (get_or ys k e))
     → map f xs ≡ map g ys
 told_same f g [] [] many each = refl
-told_same f g [] (y ∷ ys) many each = absurd (omega (arith, many))
-told_same f g (x ∷ xs) [] many each = absurd (omega (arith, many))
 told_same f g (x ∷ xs) (y ∷ ys) many each = ap₂ (λ a more. a ∷ more) (each 0 x y (omega arith)) (told_same f g xs ys (omega (arith, many)) (λ k d e low. each (suc k) d e (omega (arith, low))))
+told_same f g _ _ many each = absurd (omega (arith, many))
 
 -- and the other way round
 pub same_told : {X Y A : Type 0} (f : X → A) (g : Y → A) (xs : List X) (ys : List Y) (k : ℕ) (d : X) (e : Y)
@@ -99,11 +98,7 @@ kernel_stays app old new workers pairing sizes numbers setup t =
 module _ (workers : List Worker) (k : ℕ) (d new : Worker) (low : k < length workers) where
   -- what of a worker stays where it does something
   stays_at : {A : Type 0} (f : Worker → A) → f new ≡ f (get_or workers k d) → (j : ℕ) (x y : Worker) → j < length (slice_set workers k new) → f (get_or (slice_set workers k new) j x) ≡ f (get_or workers j y)
-  stays_at f here j x y within =
-      elim (cases_eq j k) [
-        | inl same ↦ ap (λ i. f (get_or (slice_set workers k new) i x)) same ∙ ap f (get_or-set_same workers k new x low) ∙ here ∙ ap f (get_or_default workers k d y low) ∙ ap (λ i. f (get_or workers i y)) (sym same)
-        | inr other ↦ ap f (get_or-set_other workers k j new x other) ∙ ap f (get_or_default workers j x y (omega (arith, within, length-set workers k new)))
-      ]
+  stays_at f here j x y within = set_cases (λ i w. f w ≡ f (get_or workers i y)) workers k new j x low (here ∙ ap f (get_or_default workers k d y low)) (λ other. ap f (get_or_default workers j x y (omega (arith, within, length-set workers k new))))
 
   pub worker_stays : (app : AppEnd) (kernel : Kernel) → new.pairing ≡ (get_or workers k d).pairing
       → length new.files ≡ length (get_or workers k d).files → AreTogether app kernel workers

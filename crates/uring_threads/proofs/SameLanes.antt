@@ -1,10 +1,19 @@
 -- Lanes that stay the same, as they are looked at and as jobs and results go through them.
-use Rattle.std.proofs.Common.{ℕ, ◌<◌, ◌≤◌, List, length, get_or, refl, sym, subst, ◌∙◌, arith, inl, inr}
+use Rattle.std.proofs.Common.{◌≢◌, ℕ, ◌<◌, ◌≤◌, List, length, get_or, refl, sym, subst, ◌∙◌, arith, inl, inr}
 use Rattle.std.proofs.Math.ListN.{set}
 use Rattle.std.proofs.lemmas.Bool.{cases_eq}
 use Rattle.std.proofs.lemmas.List.{length-set, get_or-set_same, get_or-set_other, get_or_default}
 use Rattle.uring_workers.specs.WorkLanes.{AreSameLanes, HoldJobs, HoldResults, OnlyReceives}
 use Rattle.uring_workers.specs.declared.work_lanes.WorkLanes.{WorkLanes}
+
+-- what holds of one element that is set, and of each other as it was
+pub set_cases : {X : Type 0} (P : ℕ → X → Type 0) (xs : List X) (i : ℕ) (x : X) (k : ℕ) (d : X)
+    → i < length xs → P i x → (k ≢ i → P k (get_or xs k d)) → P k (get_or (set xs i x) k d)
+set_cases P xs i x k d low here others =
+    elim (cases_eq k i) [
+      | inl same ↦ subst (λ j. P j (get_or (set xs i x) j d)) (sym same) (subst (P i) (sym (get_or-set_same xs i x d low)) here)
+      | inr other ↦ subst (P k) (sym (get_or-set_other xs i k x d other)) (others other)
+    ]
 
 -- lanes that nothing went through
 pub lanes_none : (lanes : List WorkLanes) → AreSameLanes lanes lanes

@@ -61,11 +61,8 @@ jobs_then linux l q s a jobs (accepts accepted missed head entries) i same =
     same ∙ jobs_stay l.requests entries l.requests.started i.started_accepted
 jobs_then linux l q s a jobs (starts n outstanding idle spared ready no_cancel) i same =
     ap (λ js. js ++ job_in l.requests n ∷ []) same ∙ sym (map-append (job_in l.requests) l.requests.started (n ∷ []))
-jobs_then linux l q s a jobs (ends_doomed n outstanding) i same =
-    jobs_issued linux l.requests n _ jobs same
-jobs_then linux l q s a jobs (ends_cancel n outstanding spared ready cancel) i same =
-    jobs_issued linux l.requests n _ jobs same
 jobs_then linux l q s a jobs (ends_run n res bytes running) i same = same
+jobs_then linux l q s a jobs _ i same = jobs_issued linux l.requests _ _ jobs same
 
 pub jobs_are_starts : (g : Setup) (h : History) → IsLawfulApart g h
     → jobs_in g h ≡ map (job_in (world g h).requests) (world g h).requests.started
@@ -113,11 +110,9 @@ done_then linux w q s a done (stays _ _ no_start no_end) i all =
 done_then linux w q s a done (accepts accepted missed head entries) i all =
     of_call w.requests entries done all
 done_then linux w q s a done (starts n outstanding idle spared ready no_cancel) i all = all
-done_then linux w q s a done (ends_doomed n outstanding) i all = of_issued linux w.requests n _ done all
-done_then linux w q s a done (ends_cancel n outstanding spared ready cancel) i all =
-    of_issued linux w.requests n _ done all
 done_then linux w q s a done (ends_run n res bytes running) i all =
     of_snoc w.requests.accepted done _ all (i.started_accepted n (and_parts _ _ running).0) refl
+done_then linux w q s a done _ i all = of_issued linux w.requests _ _ done all
 
 pub done_is_of : (g : Setup) (h : History) → IsLawfulApart g h
     → AreOf (world g h).requests.accepted (done_in g h)
@@ -208,10 +203,6 @@ ended_then linux w q s a done (stays _ _ no_start no_end) all =
     subst (λ o. FewerDone w.requests (with_told done o)) (sym (silent_none w s a no_end)) all
 ended_then linux w q s a done (accepts accepted missed head entries) all = all
 ended_then linux w q s a done (starts m outstanding idle spared ready no_cancel) all = all
-ended_then linux w q s a done (ends_doomed m outstanding) all =
-    fewer_issued linux w.requests m _ done all
-ended_then linux w q s a done (ends_cancel m outstanding spared ready cancel) all =
-    fewer_issued linux w.requests m _ done all
 ended_then linux w q s a done (ends_run m res bytes running) all = λ n.
     omega (
       arith,
@@ -219,6 +210,7 @@ ended_then linux w q s a done (ends_run m res bytes running) all = λ n.
       times_append (λ (e : Ending). e.number == n) w.requests.ended (record { number = m; res = res; bytes = bytes } ∷ []),
       times_append (λ (d : Done). d.number == n) done (record { number = m; op = operation_of (entry_of w.requests m); outcome = record { res = res; bytes = bytes } } ∷ []),
     )
+ended_then linux w q s a done _ all = fewer_issued linux w.requests _ _ done all
 
 pub done_ended : (g : Setup) (h : History) → IsLawfulApart g h
     → FewerDone (world g h).requests (done_in g h)

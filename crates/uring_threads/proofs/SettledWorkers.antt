@@ -1,8 +1,7 @@
 -- Settling all workers, one after the other: the results of the first are taken in, and the others' wait.
-use Rattle.std.proofs.Common.{◌≡◌, ◌≢◌, ℕ, ◌+◌, ◌*◌, ◌<◌, ◌≤◌, List, [], ◌∷◌, ◌++◌, length, map, take, drop, get_or, refl, sym, subst, ap, ap₂, ◌∙◌, arith, inl, inr, append_assoc, append-nil}
+use Rattle.std.proofs.Common.{◌≡◌, ◌≢◌, ℕ, ◌+◌, ◌*◌, ◌<◌, ◌≤◌, List, [], ◌∷◌, ◌++◌, length, map, take, drop, get_or, refl, sym, subst, ap, ap₂, ◌∙◌, arith, append_assoc, append-nil}
 use Rattle.std.specs.Prelude.{slice_set}
-use Rattle.std.proofs.lemmas.Bool.{cases_eq}
-use Rattle.std.proofs.lemmas.List.{map-append, length-set, get_or-set_same, get_or-set_other, take_all, take_more, length-take-le, get_or_default}
+use Rattle.std.proofs.lemmas.List.{length-set, get_or-set_other, take_all, take_more, length-take-le, get_or_default}
 use Rattle.uring_workers.specs.WorkLanes.{results_held, results_received}
 use Rattle.uring_files.specs.Done.{AreDone}
 use Rattle.uring_core.specs.Histories.{IsLawfulApart}
@@ -11,7 +10,7 @@ use Rattle.uring_workers.specs.declared.work_lanes.WorkLanes.{WorkLanes}
 use Rattle.uring_threads.specs.Collected.{OthersStay, TakesAll}
 use Rattle.uring_threads.specs.Dispatched.{HasCarried, HaveCarried}
 use Rattle.uring_threads.specs.Kept.{Kept, history}
-use Rattle.uring_threads.specs.Settled.{Work, IsWork, IsSettled, finish_of}
+use Rattle.uring_threads.specs.Settled.{IsWork, IsSettled, finish_of}
 use Rattle.uring_threads.specs.SettledWorker.{HaveSeenAll, IsSettledAt, settled_work, works_of}
 use Rattle.uring_workers.specs.Opened.{AreLanesOf}
 use Rattle.uring_threads.specs.Report.{waiting_at, all_waiting}
@@ -21,21 +20,9 @@ use Rattle.uring_workers.specs.Work.{results_of}
 use Rattle.uring_workers.specs.Worker.{Worker, IsRight, Looks}
 use Rattle.uring_files.specs.Contents.{empty_files}
 use Rattle.uring_threads.proofs.SettledWork.{jobs_keep, longer_history}
-use Rattle.uring_threads.proofs.Settling.{none_waits}
-
--- Results taken in one after the other.
-
-takes_none : (a : Kept) → TakesAll a a []
-takes_none a = record { trace = sym (append-nil a.trace); setup = refl; room = omega arith }
-
-takes_then : (a b c : Kept) (first second : List JobResult) → TakesAll a b first
-    → TakesAll b c second → TakesAll a c (first ++ second)
-takes_then a b c first second p q =
-    record {
-      trace = q.trace ∙ ap (λ es. es ++ map finish_of second) p.trace ∙ append_assoc a.trace (map finish_of first) (map finish_of second) ∙ ap (λ es. a.trace ++ es) (sym (map-append finish_of first second));
-      setup = q.setup ∙ p.setup;
-      room = omega (arith, p.room, q.room);
-    }
+use Rattle.uring_threads.proofs.Draining.{takes_none, takes_then}
+use Rattle.uring_threads.proofs.SameLanes.{set_cases}
+use Rattle.uring_threads.proofs.Settling.{none_waits, same_work}
 
 -- what wasn't received waits
 waits_behind : (before waiting all : List JobResult) → all ≡ before ++ waiting
@@ -48,9 +35,8 @@ waits_behind before waiting all same = ap (drop (length before)) same ∙ behind
 waiting_append : (ls ms : List WorkLanes) (ws vs : List Worker) → length ls ≡ length ws
     → all_waiting (ls ++ ms) (ws ++ vs) ≡ all_waiting ls ws ++ all_waiting ms vs
 waiting_append [] ms [] vs same = refl
-waiting_append [] ms (w ∷ ws) vs same = absurd (omega (arith, same))
-waiting_append (l ∷ ls) ms [] vs same = absurd (omega (arith, same))
 waiting_append (l ∷ ls) ms (w ∷ ws) vs same = ap (λ rs. waiting_at l w ++ rs) (waiting_append ls ms ws vs (omega (arith, same))) ∙ sym (append_assoc (waiting_at l w) (all_waiting ls ws) (all_waiting ms vs))
+waiting_append _ ms _ vs same = absurd (omega (arith, same))
 
 -- one worker more
 waiting_more : (ls : List WorkLanes) (ws : List Worker) (d : WorkLanes) (e : Worker) (k : ℕ)
@@ -66,15 +52,7 @@ waiting_more ls ws d e k many lt =
 same_looks : (w : Worker) → Looks w w
 same_looks w = record { same = refl; seen = ([], append-nil w.seen); room = omega arith }
 
--- Others' work stays.
-
-work_stays : (b c : Kept) (workers k j : ℕ) (work : Work) → OthersStay b c workers k → j ≢ k
-    → IsWork b.setup workers (history b) j work → IsWork c.setup workers (history c) j work
-work_stays b c workers k j work others unlike is = record {
-  jobs = is.jobs ∙ sym (others.jobs j);
-  results = ap (λ ds. results_of ds ++ work.waiting) (others.results j unlike) ∙ is.results;
-}
-
+-- what was carried of another's stays
 carried_stays : (b c : Kept) (workers k j : ℕ) (lanes : WorkLanes) → OthersStay b c workers k
     → j ≢ k → HasCarried b workers j lanes → HasCarried c workers j lanes
 carried_stays b c workers k j lanes others unlike has = record {
@@ -141,17 +119,11 @@ module _ (a b c : Kept) (ls ms : List WorkLanes) (ws vs : List Worker) (count fi
   at_count : IsSettledAt b c (length ls) count now (get_or vs count e).done after.seen
   at_count = one.settled (length ls) count (s.carried count d lt)
 
-  lanes_at : (k : ℕ) (f : WorkLanes) → k ≢ count → get_or (slice_set ms count now) k f ≡ get_or ms k f
-  lanes_at k f other = get_or-set_other ms count k now f other
+  lane_there : count < length ms
+  lane_there = omega (arith, s.many, lt)
 
-  lanes_here : (f : WorkLanes) → get_or (slice_set ms count now) count f ≡ now
-  lanes_here f = get_or-set_same ms count now f (omega (arith, s.many, lt))
-
-  workers_at : (k : ℕ) (f : Worker) → k ≢ count → get_or (slice_set vs count after) k f ≡ get_or vs k f
-  workers_at k f other = get_or-set_other vs count k after f other
-
-  workers_here : (f : Worker) → get_or (slice_set vs count after) count f ≡ after
-  workers_here f = get_or-set_same vs count after f (omega (arith, s.many_workers, of.many, lt))
+  worker_there : count < length vs
+  worker_there = omega (arith, s.many_workers, of.many, lt)
 
   looks_here : (f : Worker) → Looks (get_or ws count f) after
   looks_here f =
@@ -173,24 +145,12 @@ module _ (a b c : Kept) (ls ms : List WorkLanes) (ws vs : List Worker) (count fi
       record {
         many = length-set ms count now ∙ s.many;
         many_workers = length-set vs count after ∙ s.many_workers;
-        lanes_stay = λ k f from. lanes_at k f (λ same. omega (arith, same, from)) ∙ s.lanes_stay k f (omega (arith, from));
-        workers_stay = λ k f from. workers_at k f (λ same. omega (arith, same, from)) ∙ s.workers_stay k f (omega (arith, from));
-        looked = λ k f. elim (cases_eq k count) [
-          | inl same ↦ subst (λ j. Looks (get_or ws j f) (get_or (slice_set vs count after) j f)) (sym same) (subst (Looks (get_or ws count f)) (sym (workers_here f)) (looks_here f))
-          | inr other ↦ subst (Looks (get_or ws k f)) (sym (workers_at k f other)) (s.looked k f)
-        ];
-        carried = λ k f within. elim (cases_eq k count) [
-          | inl same ↦ subst (λ j. HasCarried c (length ls) j (get_or (slice_set ms count now) j f)) (sym same) (subst (HasCarried c (length ls) count) (sym (lanes_here f)) at_count.carried)
-          | inr other ↦ subst (HasCarried c (length ls) k) (sym (lanes_at k f other)) (carried_stays b c (length ls) count k (get_or ms k f) at_count.others other (s.carried k f within))
-        ];
-        settled = λ k f below. elim (cases_eq k count) [
-          | inl same ↦ subst (λ j. IsWork c.setup (length ls) (history c) j (settled_work (get_or (slice_set vs count after) j f))) (sym same) (subst (λ w. IsWork c.setup (length ls) (history c) count (settled_work w)) (sym (workers_here f)) work_here)
-          | inr other ↦ subst (λ w. IsWork c.setup (length ls) (history c) k (settled_work w)) (sym (workers_at k f other)) (work_stays b c (length ls) count k (settled_work (get_or vs k f)) at_count.others other (s.settled k f (omega (arith, other, below))))
-        ];
-        right = λ k f below. elim (cases_eq k count) [
-          | inl same ↦ subst (λ j. IsRight (get_or (slice_set vs count after) j f)) (sym same) (subst IsRight (sym (workers_here f)) one.right)
-          | inr other ↦ subst IsRight (sym (workers_at k f other)) (s.right k f (omega (arith, other, below)))
-        ];
+        lanes_stay = λ k f from. get_or-set_other ms count k now f (λ same. omega (arith, same, from)) ∙ s.lanes_stay k f (omega (arith, from));
+        workers_stay = λ k f from. get_or-set_other vs count k after f (λ same. omega (arith, same, from)) ∙ s.workers_stay k f (omega (arith, from));
+        looked = λ k f. set_cases (λ j w. Looks (get_or ws j f) w) vs count after k f worker_there (looks_here f) (λ other. s.looked k f);
+        carried = λ k f within. set_cases (HasCarried c (length ls)) ms count now k f lane_there at_count.carried (λ other. carried_stays b c (length ls) count k (get_or ms k f) at_count.others other (s.carried k f within));
+        settled = λ k f below. set_cases (λ j w. IsWork c.setup (length ls) (history c) j (settled_work w)) vs count after k f worker_there work_here (λ other. same_work b.setup c.setup (length ls) (history b) (history c) k (settled_work (get_or vs k f)) (at_count.others.jobs k) (at_count.others.results k other) (s.settled k f (omega (arith, other, below))));
+        right = λ k f below. set_cases (λ _ w. IsRight w) vs count after k f worker_there one.right (λ other. s.right k f (omega (arith, other, below)));
         recorded = took;
         few = omega (arith, s.few, one.few, next_short a b ls ms ws vs count files d e s lt of);
       }

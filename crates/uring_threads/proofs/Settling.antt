@@ -22,7 +22,7 @@ use Rattle.uring_workers.specs.Work.{place_of_file, place_of, jobs_of, results_o
 use Rattle.uring_threads.specs.Dealt.{job_in, jobs_at, jobs_to, done_by_worker, IsDealtByFile}
 use Rattle.uring_threads.specs.Settled.{Work, IsWork, ResultsRun, NoneWaits, Settles, finish_of, with_taken_in, waiting_of}
 use Rattle.uring_threads.proofs.Dealing.{dealt_by_file, workers_join, files_by_worker, file_within}
-use Rattle.uring_threads.proofs.LeftAt.{op_at, left_own, left_runs, runs_left, done_by_own, done_other}
+use Rattle.uring_threads.proofs.LeftAt.{op_at, left_own, left_runs, runs_left, one_more_at, none_more_at}
 use Rattle.uring_threads.proofs.Sent.{jobs_are_starts, AreOf, done_is_of}
 use Rattle.uring_threads.proofs.Times.{times, times_append, times_some, times_any}
 
@@ -54,9 +54,7 @@ same_done accepted c d c_op d_op same =
     let number : c.number ≡ d.number = ap (λ r. r.number) same in
     let op : c.op ≡ d.op = c_op ∙ ap (op_at accepted) number ∙ sym d_op in
     let outcome : c.outcome ≡ d.outcome = ap (λ r. r.outcome) same in
-    let first : c ≡ record { number = d.number; op = c.op; outcome = c.outcome } = ap (λ n. record { number = n; op = c.op; outcome = c.outcome }) number in
-    let second : record { number = d.number; op = c.op; outcome = c.outcome } ≡ record { number = d.number; op = d.op; outcome = c.outcome } = ap (λ o. record { number = d.number; op = o; outcome = c.outcome }) op in
-    first ∙ second ∙ ap (λ o. record { number = d.number; op = d.op; outcome = o }) outcome
+    λ i. record { number = number i; op = op i; outcome = outcome i }
 
 -- one list begins another
 abbrev Begins : List Done → List Done → List JobResult → Type 0
@@ -137,12 +135,12 @@ results_run g workers h k done untaken r later lawful is =
           record {
             jobs = is.jobs;
             results =
-                ap (λ ds. results_of ds ++ later) (done_by_own place k (done_in g h) end own)
+                ap (λ ds. results_of ds ++ later) (one_more_at (λ (d : Done). place d.op) k (done_in g h) end own)
                 ∙ ap (λ rs. rs ++ later) (map-append result_of (done_by_worker g workers k h) (end ∷ []))
                 ∙ append_assoc (results_of (done_by_worker g workers k h)) (r ∷ []) later ∙ is.results;
           };
       sent = λ j. refl;
-      others = λ j unlike. done_other place j (done_in g h) end (λ same. unlike (sym same ∙ own));
+      others = λ j unlike. none_more_at (λ (d : Done). place d.op) j (done_in g h) end (λ same. unlike (sym same ∙ own));
     }
 
 -- None waits.
@@ -212,11 +210,11 @@ drain g workers h k done untaken (r ∷ later) lawful is =
     (record { lawful = rest.lawful; own = rest.own; sent = λ j. rest.sent j ∙ one.sent j; others = λ j unlike. rest.others j unlike ∙ one.others j unlike })
 
 -- the work of a worker of which nothing was taken in
-pub same_work : (g : Setup) (workers : ℕ) (h later : History) (k : ℕ) (work : Work)
-    → jobs_to g workers k later ≡ jobs_to g workers k h
-    → done_by_worker g workers k later ≡ done_by_worker g workers k h → IsWork g workers h k work
-    → IsWork g workers later k work
-same_work g workers h later k work sent taken is = record {
+pub same_work : (g f : Setup) (workers : ℕ) (h later : History) (k : ℕ) (work : Work)
+    → jobs_to f workers k later ≡ jobs_to g workers k h
+    → done_by_worker f workers k later ≡ done_by_worker g workers k h → IsWork g workers h k work
+    → IsWork f workers later k work
+same_work g f workers h later k work sent taken is = record {
   jobs = is.jobs ∙ sym sent;
   results = ap (λ ds. results_of ds ++ work.waiting) taken ∙ is.results;
 }
@@ -251,9 +249,9 @@ drain_first g workers h works lawful are (suc count) le =
       lawful = one.lawful;
       before = λ k lt. elim (cases_eq k count) [
         | inl same ↦ subst (λ j. IsWork g workers (with_taken_in work.waiting there) j (drained (works j))) (sym same) one.own
-        | inr other ↦ same_work g workers there (with_taken_in work.waiting there) k (drained (works k)) (one.sent k) (one.others k other) (so_far.before k (omega arith))
+        | inr other ↦ same_work g g workers there (with_taken_in work.waiting there) k (drained (works k)) (one.sent k) (one.others k other) (so_far.before k (omega arith))
       ];
-      behind = λ k from lt. same_work g workers there (with_taken_in work.waiting there) k (works k) (one.sent k) (one.others k (λ same. omega (arith, same))) (so_far.behind k (omega arith) lt);
+      behind = λ k from lt. same_work g g workers there (with_taken_in work.waiting there) k (works k) (one.sent k) (one.others k (λ same. omega (arith, same))) (so_far.behind k (omega arith) lt);
     })
 
 pub settles : (g : Setup) → Settles g

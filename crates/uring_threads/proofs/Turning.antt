@@ -65,11 +65,9 @@ has_taken old b pulled reaped i n t p row tied once same none =
 -- a call that was given up stays so where no request was accepted
 given_up_stays : (w v : World) (i : Intake) → v.requests.accepted ≡ w.requests.accepted
     → IsGivenUpAsSpent w i → IsGivenUpAsSpent v i
-given_up_stays w v intake.Ready same given = tt
-given_up_stays w v (intake.Waiting count) same given = tt
 given_up_stays w v (intake.Spent count) same given =
     ap (λ (es : List Sqe). nat_lt (2 ^ 63 - 1) (length es + count)) same ∙ given
-given_up_stays w v intake.Closed same given = tt
+given_up_stays w v _ same given = tt
 
 -- what waits and what was pulled stay tied where the submission ring stays, and no request is accepted
 tied_stays : (a b : Kept) (pulled : Put) (i : Intake) → b.setup ≡ a.setup

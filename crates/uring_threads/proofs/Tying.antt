@@ -1,35 +1,30 @@
 -- What was pulled stays tied to the submission ring.
 use Rattle.std.proofs.Common.{◌≡◌, ℕ, ◌+◌, ◌<◌, ◌≤◌, true, false, List, [], ◌∷◌, ◌++◌, length, map, flat_map, refl, sym, subst, ap, ap₂, ◌∙◌, arith, append_assoc, append-nil}
 use Rattle.std.proofs.lemmas.Grind.{flat_map-append}
-use Rattle.std.proofs.lemmas.List.{map-append}
+use Rattle.std.proofs.lemmas.List.{map-append, length-map, length-append, get_or_append_left}
 use Rattle.uring_entry.specs.Submission.{Submission, Place, Published, item_of, IsItem}
 use Rattle.uring_core.specs.World.{World, closing}
 use Rattle.uring_core.specs.StepAnswers.{close_answer, is_spent}
-use Rattle.uring_laws.specs.Standing.{Stands}
-use Rattle.uring_ports.specs.Items.{all_published_as}
-use Rattle.uring_ports.specs.Ports.{Put, items_of_calls}
-use Rattle.uring_ports.specs.Items.{published_as}
-use Rattle.uring_ports.specs.Ports.{Pulls, with_call, with_close}
+use Rattle.uring_laws.specs.Standing.{Stands, with_items}
+use Rattle.uring_ports.specs.Items.{all_published_as, published_as}
+use Rattle.uring_ports.specs.Ports.{Put, items_of_calls, Pulls, with_call, with_close}
 use Rattle.uring_ports.specs.declared.pulled.Pulled.{Pulled}
 use Rattle.uring_ports.specs.declared.item.Item.{Item}
 use Rattle.uring_threads.specs.Calls.{calls_of, calls_left}
-use Rattle.uring_threads.specs.Taking.{intake_after, HaveMade, HasBegun}
+use Rattle.uring_threads.specs.Taking.{intake_after, HaveMade, HasBegun, TakesIn}
 use Rattle.uring_threads.specs.Turns.{Tied, IsGivenUpAsSpent, is_shut}
-use Rattle.uring_threads.proofs.CallsMade.{items_keep_calls, none_left, published_left, calls_after, published_after, closed_after, completions_after}
+use Rattle.uring_threads.proofs.CallsMade.{items_keep_calls, none_left, published_left, calls_after, kept_after}
 use Rattle.uring_entry.specs.Setup.{Setup}
 use Rattle.uring_core.specs.declared.step.Step.TheVariants as step
 use Rattle.uring_core.specs.declared.answer.Answer.{Answer}
 use Rattle.uring_core.specs.declared.answer.Answer.TheVariants as answer
 use Rattle.uring_threads.specs.Kept.{Kept, IsUnmoved, Grows, now}
 use Rattle.uring_threads.specs.Rows.{with_items_published}
-use Rattle.uring_threads.specs.Taking.{TakesIn}
 use Rattle.uring_threads.specs.Tallies.{Appends, items_counted, close_counted}
 use Rattle.uring_threads.proofs.ItemSteps.{items_stand}
 use Rattle.uring_threads.proofs.TraceSteps.{grown, unmoved_now, appends_none, appends_one, appends_then}
-use Rattle.uring_laws.specs.Standing.{with_items}
 use Rattle.uring_laws.proofs.Standing.{items_published, tail_publishes}
 use Rattle.std.specs.Prelude.{All, Result, Ok, Err, IfOk, OnErr, None, is_some, if◌then◌else◌}
-use Rattle.std.proofs.lemmas.List.{length-map, length-append, get_or_append_left}
 use Rattle.std.proofs.lemmas.List.Elements.{All-tail}
 use Rattle.uring_threads.specs.declared.calls.Begun.{Begun}
 use Rattle.uring_threads.specs.declared.calls.Begun.TheVariants as begun
@@ -39,14 +34,12 @@ use Rattle.uring_threads.specs.declared.intake.Intake.TheVariants as intake
 -- calls were begun that take what waited
 shut_after : (i : Intake) (b : Begun) (count : ℕ) → i ≡ intake.Waiting count → is_shut i ≡ is_shut (intake_after b)
 shut_after i begun.Taken count is = ap is_shut is
-shut_after i (begun.Again rest) count is = ap is_shut is
-shut_after i (begun.Spent rest) count is = ap is_shut is
+shut_after i _ count is = ap is_shut is
 
 given_up : (w : World) (b : Begun) → ((count : ℕ) → b ≡ begun.Spent count → is_spent w count ≡ true)
     → IsGivenUpAsSpent w (intake_after b)
-given_up w begun.Taken spent = tt
-given_up w (begun.Again count) spent = tt
 given_up w (begun.Spent count) spent = spent count refl
+given_up w _ spent = tt
 
 pub tied_begun : (a b : Kept) (put : Put) (count : ℕ) (x : Begun)
     → Tied a.setup (now a) put (intake.Waiting count) → HasBegun a b x
@@ -55,14 +48,14 @@ tied_begun a b put count x t h =
     let w : World = now a in
     let m : List ℕ = h.made in
     record {
-      published = λ good. ap (λ ps. map (λ (p : Place). item_of p.word p.entry) ps) (ap (λ (v : World). v.submission.published) h.have.world ∙ published_after a.setup w m) ∙ t.published good;
+      published = λ good. ap (λ ps. map (λ (p : Place). item_of p.word p.entry) ps) (ap (λ (v : World). v.submission.published) h.have.world ∙ kept_after a.setup (λ (v : World). v.submission.published) (λ v n. refl) w m) ∙ t.published good;
       calls = ap (λ ns. ns ++ calls_left a.setup (now b).submission) (ap (λ (v : World). v.submission.calls) h.have.world ∙ calls_after a.setup w m)
           ∙ append_assoc w.submission.calls m (calls_left a.setup (now b).submission)
           ∙ ap (λ ns. w.submission.calls ++ ns) h.have.calls
           ∙ t.calls;
       stands = h.have.stands;
       spent = given_up (now b) x h.spent;
-      closed = ap (λ (v : World). v.is_closed) h.have.world ∙ closed_after a.setup w m ∙ t.closed;
+      closed = ap (λ (v : World). v.is_closed) h.have.world ∙ kept_after a.setup (λ (v : World). v.is_closed) (λ v n. refl) w m ∙ t.closed;
       shut = sym (shut_after (intake.Waiting count) x count refl) ∙ t.shut;
     }
 
@@ -180,7 +173,7 @@ tied_again a r b put count i x u waits h t =
 
 pub begun_completions : (a b : Kept) (x : Begun) → HasBegun a b x
     → (now b).completions ≡ (now a).completions
-begun_completions a b x h = ap (λ (w : World). w.completions) h.have.world ∙ completions_after a.setup (now a) h.made
+begun_completions a b x h = ap (λ (w : World). w.completions) h.have.world ∙ kept_after a.setup (λ (w : World). w.completions) (λ w n. refl) (now a) h.made
 
 -- what was pulled
 pub pulled_at : (a r : Kept) (before after : Put) (size : ℕ) (x : Pulled) (items taken : List Item) (i : Intake)

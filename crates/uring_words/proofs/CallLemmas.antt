@@ -19,9 +19,8 @@ more_append (x ∷ xs) ys = ap (λ ps. position.More x ∷ ps) (more_append xs y
 close_mark_append : (xs ys : List Position) → has_close_mark xs ≡ false
     → has_close_mark (xs ++ ys) ≡ has_close_mark ys
 close_mark_append [] ys none = refl
-close_mark_append (position.More x ∷ ps) ys none = close_mark_append ps ys none
-close_mark_append (position.Last x ∷ ps) ys none = close_mark_append ps ys none
 close_mark_append (position.Close ∷ ps) ys none = absurd (false≢true (sym none))
+close_mark_append (_ ∷ ps) ys none = close_mark_append ps ys none
 
 -- whole calls behind whole calls are whole
 whole_append : (b : Bool) (xs ys : List Position) → AreWholeFrom b xs

@@ -113,15 +113,13 @@ module _ {S : Type 0} (start size : ℕ) (power : IsPowerOfTwo size) (fits : siz
         → StandFrom start size homes other xs → StandFrom start size (after homes all []) other xs
     all_others other xs clear h = stand_after homes all [] other xs (stands_given start size power fits homes count other held xs clear h)
 
--- two lists whose last parts are as long have the same parts
-pub same_parts : {A : Type 0} (xs ys us vs : List A) → length ys ≡ length vs → xs ++ ys ≡ us ++ vs
+-- two lists whose first parts are as long have the same parts
+pub same_parts : {A : Type 0} (xs ys us vs : List A) → length xs ≡ length us → xs ++ ys ≡ us ++ vs
     → (xs ≡ us) × (ys ≡ vs)
-same_parts xs ys us vs many e =
-    let all : length xs + length ys ≡ length us + length vs = sym (length-append xs ys) ∙ ap length e ∙ length-append us vs in
-    let front : length xs ≡ length us = omega arith in (
-      sym (take-append_seam xs ys) ∙ ap₂ (λ (n : ℕ) l. take n l) front e ∙ take-append_seam us vs,
-      sym (drop-append_seam xs ys) ∙ ap₂ (λ (n : ℕ) l. drop n l) front e ∙ drop-append_seam us vs,
-    )
+same_parts xs ys us vs many e = (
+  sym (take-append_seam xs ys) ∙ ap₂ (λ (n : ℕ) l. take n l) many e ∙ take-append_seam us vs,
+  sym (drop-append_seam xs ys) ∙ ap₂ (λ (n : ℕ) l. drop n l) many e ∙ drop-append_seam us vs,
+)
 
 module _ {S : Type 0} where
   held_values : (start size count : ℕ) (xs : List S)
@@ -142,5 +140,5 @@ module _ {S : Type 0} where
       let values : List (ℕ × S) → List S = λ cs. map (λ x. x.1) cs in
       let left = map-append (λ (x : ℕ × S). x.1) (held_from start size i xs) (held_from start size j ys) in
       let right = map-append (λ (x : ℕ × S). x.1) (held_from start size k us) (held_from start size l vs) in
-      same_parts xs ys us vs many
-      (ap₂ (λ (m n : List S). m ++ n) (sym (held_values start size i xs)) (sym (held_values start size j ys)) ∙ sym left ∙ ap values e ∙ right ∙ ap₂ (λ (m n : List S). m ++ n) (held_values start size k us) (held_values start size l vs))
+      let same : xs ++ ys ≡ us ++ vs = ap₂ (λ (m n : List S). m ++ n) (sym (held_values start size i xs)) (sym (held_values start size j ys)) ∙ sym left ∙ ap values e ∙ right ∙ ap₂ (λ (m n : List S). m ++ n) (held_values start size k us) (held_values start size l vs) in
+      same_parts xs ys us vs (omega (arith, many, ap length same, length-append xs ys, length-append us vs)) same

@@ -162,6 +162,6 @@ module _ (slots id : ℕ) (v : View AppSide KernelSide) (held : List (ℕ × Pos
         λ others' read' same known' found.
             let parts' : length d.known ≡ length read' + length others' = ap length known' ∙ length-append read' others' in
             let count : length read ≡ length read' = same_count d.start n (length read) (length read') (omega arith) (omega arith) (sym is_word ∙ found) in
-            let halves = same_parts read others read' others' (omega arith) (sym known ∙ known') in
+            let halves = same_parts read others read' others' count (sym known ∙ known') in
             λ i. kernel_has (v, held) (head_stored d (halves.0 i) (halves.1 i)) (held_from (sym s.start i) (sym s.size i) (n + length (halves.0 i)) (halves.1 i)),
       ))

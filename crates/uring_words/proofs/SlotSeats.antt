@@ -11,6 +11,16 @@ use Rattle.uring_words.specs.declared.sides.View.{View}
 use Rattle.uring_words.proofs.Seats.{at_longer, only_seat, app_seats, kernel_seats}
 use Rattle.uring_words.proofs.SlotActs.{changes, changes-carried}
 
+-- A side hands slots over at word i, which becomes f of what it was, so that the words become others: what it knows fits the words and the slots at home.
+hands : {S X : Type 0} (i : ℕ) (f : ℕ → ℕ) (after_words : List ℕ → List ℕ) (same : (words : List ℕ) → after_words words ≡ set words i (f (get_or words i 0))) (held : List (ℕ × S)) (Fits : X → List ℕ → List (Option S) → Type 0) (Told : X → List (ℕ × S) → Type 0) (words : List ℕ) (homes : List (Option S))
+    → (old new : List (ℕ × S)) × (x : X) × (held ≡ old) × Valid homes old (changes old new) × Fits x (after_words words) (homes_after homes old (changes old new)) × Told x new
+    → (x : X) × (act : Act S) × Valid homes held act × Fits x (set words i (f (get_or words i 0))) (homes_after homes held act) × Told x (carried_after held act)
+hands {S} i f after_words same held Fits Told words homes r =
+    let act : Act S = changes r.0 r.1 in
+    let P : List (ℕ × S) → List ℕ → List (ℕ × S) → Type 0 = λ old ws new. Valid homes old act × Fits r.2 ws (homes_after homes old act) × Told r.2 new in
+    let p = subst (λ c. P c (set words i (f (get_or words i 0))) (carried_after c act)) (sym r.3) (subst (λ ws. P r.0 ws (carried_after r.0 act)) (same words) (subst (P r.0 (after_words words)) (sym (changes-carried r.0 r.1)) (r.4, r.5, r.6))) in
+    (r.2, act, p.0, p.1, p.2)
+
 module _ {S A D : Type 0} {Agree : List ℕ → List (Option S) → A → D → Type 0} where
   -- A step of the application's seat, if the agreement is kept whatever the words, the slots at home and what the dispatcher knows are.
   pub app_step : (slots id i : ℕ) (f : ℕ → ℕ) (v : View A D) (held : List (ℕ × S)) (then : ℕ → Me S (View A D) → Type 0)
@@ -67,24 +77,14 @@ module _ {S A D : Type 0} {Agree : List ℕ → List (Option S) → A → D → 
         → ((words : List ℕ) (homes : List (Option S)) (d : D) → Agree words homes v.app d → (v.is_kernel ≡ true → v.kernel ≡ d) → (old new : List (ℕ × S)) × (b : A) × (held ≡ old) × Valid homes old (changes old new) × Agree (after_words words) (homes_after homes old (changes old new)) b d × then (get_or words i 0) (app_has (v, held) b new))
         → Allows (SidesAgree Agree) slots id (v, held) i f then
     app_hands is_app asked =
-        app_step slots id i f v held then is_app (λ words homes d h both.
-        let r = asked words homes d h both in
-        let act : Act S = changes r.0 r.1 in
-        let P : List (ℕ × S) → List ℕ → List (ℕ × S) → Type 0 = λ old ws new. Valid homes old act × Agree ws (homes_after homes old act) r.2 d × then (get_or words i 0) (app_has (v, held) r.2 new) in
-        let p = subst (λ c. P c (set words i (f (get_or words i 0))) (carried_after c act)) (sym r.3) (subst (λ ws. P r.0 ws (carried_after r.0 act)) (same words) (subst (P r.0 (after_words words)) (sym (changes-carried r.0 r.1)) (r.4, r.5, r.6))) in
-        (r.2, act, p.0, p.1, p.2))
+        app_step slots id i f v held then is_app (λ words homes d h both. hands i f after_words same held (λ b ws hs. Agree ws hs b d) (λ b new. then (get_or words i 0) (app_has (v, held) b new)) words homes (asked words homes d h both))
 
     -- of the dispatcher's
     pub kernel_hands : v.is_kernel ≡ true
         → ((words : List ℕ) (homes : List (Option S)) (a : A) → Agree words homes a v.kernel → (v.is_app ≡ true → v.app ≡ a) → (old new : List (ℕ × S)) × (e : D) × (held ≡ old) × Valid homes old (changes old new) × Agree (after_words words) (homes_after homes old (changes old new)) a e × then (get_or words i 0) (kernel_has (v, held) e new))
         → Allows (SidesAgree Agree) slots id (v, held) i f then
     kernel_hands is_kernel asked =
-        kernel_step slots id i f v held then is_kernel (λ words homes a h both.
-        let r = asked words homes a h both in
-        let act : Act S = changes r.0 r.1 in
-        let P : List (ℕ × S) → List ℕ → List (ℕ × S) → Type 0 = λ old ws new. Valid homes old act × Agree ws (homes_after homes old act) a r.2 × then (get_or words i 0) (kernel_has (v, held) r.2 new) in
-        let p = subst (λ c. P c (set words i (f (get_or words i 0))) (carried_after c act)) (sym r.3) (subst (λ ws. P r.0 ws (carried_after r.0 act)) (same words) (subst (P r.0 (after_words words)) (sym (changes-carried r.0 r.1)) (r.4, r.5, r.6))) in
-        (r.2, act, p.0, p.1, p.2))
+        kernel_step slots id i f v held then is_kernel (λ words homes a h both. hands i f after_words same held (λ e ws hs. Agree ws hs a e) (λ e new. then (get_or words i 0) (kernel_has (v, held) e new)) words homes (asked words homes a h both))
 
   -- a new table keeps the rule, if what its first seat knows agrees
   pub opens_with : (words : List ℕ) (slots : List S) (a : A) (d : D) → Agree words (map some slots) a d

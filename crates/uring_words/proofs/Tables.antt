@@ -1,8 +1,8 @@
 -- Numbers tell tables apart.
-use Rattle.std.proofs.Common.{◌≡◌, ℕ, List, ◌++◌, length, take, drop, sym, ◌∙◌, ap₂, arith}
-use Rattle.std.proofs.Math.Seq.{take-append_seam, drop-append_seam}
+use Rattle.std.proofs.Common.{◌≡◌, ◌++◌, length, arith}
 use Rattle.atomic_table.specs.Seated.{TableId}
 use Rattle.uring_words.specs.PortViews.{numbers_of_table, numbers_of_tables}
+use Rattle.uring_words.proofs.Handing.{same_parts}
 
 same_table : (z y : TableId) → numbers_of_table z ≡ numbers_of_table y → z ≡ y
 same_table z y e =
@@ -14,13 +14,6 @@ same_table z y e =
     let offset : z.offset ≡ y.offset = cc in
     let slot_names : z.slot_names ≡ y.slot_names = cc in
     λ i. record { words = words i; slots = slots i; views_name = views_name i; atom = atom i; block = block i; offset = offset i; slot_names = slot_names i }
-
-same_parts : (xs ys us vs : List ℕ) → length xs ≡ length us → xs ++ ys ≡ us ++ vs
-    → (xs ≡ us) × (ys ≡ vs)
-same_parts xs ys us vs many e = (
-  sym (take-append_seam xs ys) ∙ ap₂ (λ (n : ℕ) (l : List ℕ). take n l) many e ∙ take-append_seam us vs,
-  sym (drop-append_seam xs ys) ∙ ap₂ (λ (n : ℕ) (l : List ℕ). drop n l) many e ∙ drop-append_seam us vs,
-)
 
 -- the numbers of a pair of tables are those of no other
 pub same_tables : (z y u v : TableId) → numbers_of_tables z y ≡ numbers_of_tables u v

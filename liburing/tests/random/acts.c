@@ -32,11 +32,17 @@ static bool was_found_before(const struct model *model, const struct request *ca
     return false;
 }
 
-/* What a cancel is to find by Linux's rules: what has started, which all does that can; no cancel, and nothing that is doomed. */
-static bool is_to_be_found(const struct model *model, const struct request *target)
+/* Whether any cancel finds it, but those of the core's by the manual pages' rules: it is no cancel, and no linked timeout. */
+static bool is_ever_found(const struct request *request)
 {
-    bool is_cancel = target->action->code == IORING_OP_ASYNC_CANCEL;
-    return can_start(model, target) && !is_cancel && !target->is_doomed && !target->may_be_doomed && !target->is_cancelled && !may_have_been_cancelled(model, target);
+    return request->action->code != IORING_OP_ASYNC_CANCEL && request->action->code != IORING_OP_LINK_TIMEOUT;
+}
+
+/* What a cancel is to find by Linux's rules, of what it may: what has started, which all does before it that can; nothing that is doomed. One behind
+ * it may have started. */
+static bool is_to_be_found(const struct model *model, const struct request *cancel, const struct request *target)
+{
+    return target < cancel && can_start(model, target) && !target->is_doomed && !target->is_cancelled && !target->may_be_cancelled && !may_have_been_cancelled(model, target);
 }
 
 /* A cancel of one by Linux's rules. */
@@ -44,10 +50,10 @@ static void cancel_by_linux(struct model *model, const struct request *cancel, i
 {
     struct request *target = NULL;
     for (struct request *request = model->requests; request < model->requests + model->count; request++)
-        if (request != cancel && request->index == cancel->action->target && !request->is_ended && !request->is_faulty)
+        if (request != cancel && request->index == cancel->action->target && !request->is_ended && !request->is_faulty && is_ever_found(request))
             target = request;
     if (res == -ENOENT) {
-        if (target && is_to_be_found(model, target))
+        if (target && is_to_be_found(model, cancel, target))
             force(model, target, "isn't found by a cancel");
         return;
     }
@@ -57,8 +63,7 @@ static void cancel_by_linux(struct model *model, const struct request *cancel, i
     if (target->is_doomed)
         return;
     bool is_waiting_kind = can_wait(model, target);
-    bool is_impossible = res == -EALREADY ? is_waiting_kind || is_in_order(model) : is_in_order(model) && target < cancel && !is_waiting_kind;
-    if (is_impossible && !target->may_be_doomed)
+    if (res == -EALREADY ? is_waiting_kind || is_in_order(model) : is_in_order(model) && target < cancel && !is_waiting_kind)
         wrong(model, "cancel %u ends with %" PRId32 ", and entry %u %s", cancel->index, res, target->index, is_waiting_kind ? "waits" : "has ended in order");
     target->is_cancelled |= res == 0;
 }
@@ -73,14 +78,12 @@ void cancel(struct model *model, const struct request *cancel, int32_t res)
     if (!target && res == 0 && was_found_before(model, cancel))
         return;
     if (res == -ENOENT) {
-        if (target && !target->may_be_doomed)
+        if (target)
             force(model, target, "isn't found by a cancel");
         return;
     }
     if ((res != 0 && res != -EALREADY) || !target)
         wrong(model, "cancel %u ends with %" PRId32 ", and %s", cancel->index, res, target ? "has a target" : "has no target");
-    /* (the core finds none that is doomed) */
-    note_whole(model, target);
     bool is_waiting_kind = can_wait(model, target);
     /* In order, all that comes before and may start has been started. */
     bool has_started = is_in_order(model) && target < cancel && can_start(model, target);
@@ -108,7 +111,7 @@ static bool is_found_by(const struct request *seeker, const struct request *requ
     if (request == seeker || request->index != seeker->action->target || request->is_ended || request->is_faulty)
         return false;
     if (code == IORING_OP_ASYNC_CANCEL)
-        return request->action->code != IORING_OP_ASYNC_CANCEL || request->action->flags & LINKS;
+        return is_ever_found(request);
     return request->action->code == (code == IORING_OP_POLL_REMOVE ? IORING_OP_POLL_ADD : IORING_OP_TIMEOUT);
 }
 
@@ -120,7 +123,7 @@ void remove_one(struct model *model, const struct request *removal, int32_t res)
             target = request;
     bool is_waiting_kind = target && can_wait(model, target);
     if (res == -ENOENT) {
-        if (is_waiting_kind && can_start(model, target) && !target->is_doomed && !target->may_be_doomed && !target->is_cancelled && !may_have_been_cancelled(model, target))
+        if (is_waiting_kind && target < removal && can_start(model, target) && !target->is_doomed && !target->is_cancelled && !target->may_be_cancelled && !may_have_been_cancelled(model, target))
             wrong(model, "removal %u doesn't find entry %u", removal->index, target->index);
         return;
     }
@@ -129,8 +132,7 @@ void remove_one(struct model *model, const struct request *removal, int32_t res)
     /* One that is doomed waits for nobody. */
     if (target->is_doomed)
         return;
-    if (!target->may_be_doomed)
-        force_before(model, target);
+    force_before(model, target);
     target->is_cancelled = true;
 }
 
@@ -148,7 +150,7 @@ static bool has_file(const struct action *action)
 static bool is_sought(const struct request *cancel, const struct request *request)
 {
     const struct action *sought = cancel->action, *action = request->action;
-    if (request == cancel || request->is_ended || request->is_faulty || action->code == IORING_OP_ASYNC_CANCEL)
+    if (request == cancel || request->is_ended || request->is_faulty || !is_ever_found(request))
         return false;
     if (sought->scope & IORING_ASYNC_CANCEL_ANY)
         return true;
@@ -159,11 +161,11 @@ static bool is_sought(const struct request *cancel, const struct request *reques
 
 enum finding { NOT_FOUND, MAY_BE_FOUND, FOUND };
 
-/* Whether a cancel finds what it looks for: what waits, or could start now. One that doesn't wait may run just now, and isn't found then; one
+/* Whether a cancel finds what it looks for: what waits, or could start now, but one behind it only if it has started. One that doesn't wait may run just now, and isn't found then; one
  * that isn't loose has its file only when it runs. */
 static enum finding finding_of(const struct model *model, const struct request *cancel, const struct request *request)
 {
-    bool is_in_turn = request->is_doomed ? can_end(model, request) : can_start(model, request) || (request->may_be_doomed && !model->is_linux);
+    bool is_in_turn = request->is_doomed ? can_end(model, request) : can_start(model, request);
     if (!is_sought(cancel, request) || request->is_cancelled || !is_in_turn)
         return NOT_FOUND;
     bool has_waited = can_wait(model, request), is_one_choice = is_in_order(model) || model->program->is_ends;
@@ -171,7 +173,7 @@ static enum finding finding_of(const struct model *model, const struct request *
     bool is_certain = (has_waited || is_one_choice || request->is_doomed) && has_its_file && !request->may_be_cancelled && !may_have_been_cancelled(model, request);
     /* A cancel that is seen late may have ended before this one was submitted. */
     bool was_there = !model->is_late || request->call <= cancel->call;
-    return is_certain && was_there && !request->may_be_doomed ? FOUND : MAY_BE_FOUND;
+    return is_certain && was_there && request < cancel ? FOUND : MAY_BE_FOUND;
 }
 
 static bool is_of_all(const struct request *cancel)
@@ -271,7 +273,6 @@ void see_message(struct model *model, unsigned index, int32_t res)
             continue;
         if (request->is_doomed || (request->is_ended && !message->is_sent))
             wrong(model, "message %u is shown, and wasn't sent", index);
-        note_whole(sender, request);
         if (!sender->has_overflowed)
             force_before(sender, request);
         message->is_seen = true;

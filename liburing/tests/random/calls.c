@@ -182,21 +182,17 @@ static bool is_vain_peek(const struct call *call)
     return call->is_getting && call->min_complete == 0 && call->accepted == call->to_submit && call->ready == 0;
 }
 
-void note_unseen_fire(struct model *model, struct request *timeout)
-{
-    int64_t end = timeout->action->code == IORING_OP_LINK_TIMEOUT ? end_of_timeout(timeout) : -1;
-    timeout->may_have_fired |= end >= 0;
-    if (end > model->now)
-        model->slack = add_times(model->slack, end - model->now);
-}
-
 /* In a peek that finds nothing a linked timeout may have cancelled its request, which ends in a later call. */
 static void note_unseen_fires(struct model *model)
 {
     if (!is_vain_peek(model->call))
         return;
-    for (struct request *request = model->requests; request < model->requests + model->count; request++)
-        note_unseen_fire(model, request);
+    for (struct request *request = model->requests; request < model->requests + model->count; request++) {
+        int64_t end = request->action->code == IORING_OP_LINK_TIMEOUT ? end_of_timeout(request) : -1;
+        request->may_have_fired |= end >= 0;
+        if (end > model->now)
+            model->slack = add_times(model->slack, end - model->now);
+    }
 }
 
 /* How far the policy has things go on. */

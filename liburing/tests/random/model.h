@@ -40,7 +40,6 @@ struct request {
     bool is_cancelled;                  /* a cancel found it running, or its timeout did */
     bool may_be_found_again;            /* by another cancel */
     bool may_be_cancelled;              /* a cancel may have found it, or another in its place */
-    bool may_be_doomed;                 /* it may have found the linked timeout before it, whose chain is broken then */
     bool is_faulty;
     bool is_refused;                    /* a drain in a ring that has skipped success */
     bool is_silent;                     /* doomed, and posts nothing: by Linux's rules */
@@ -141,6 +140,10 @@ bool is_pipe_read(const struct model *model, const struct request *request);
 
 /* Whether a timeout runs, or one that is linked behind a request that runs. */
 bool has_timeouts(const struct model *model);
+bool has_linked_timeouts(const struct model *model);
+
+/* When a timeout, or a linked one, ends that runs; negative: it doesn't run. */
+int64_t end_of_timeout(const struct request *timeout);
 
 /* Whether a request waits for its pipe, or may wait for it; whether it is on what may have to wait, and whether it waits for no other request. */
 bool is_blocked(const struct model *model, const struct request *request);
@@ -165,27 +168,6 @@ void force_before(struct model *model, const struct request *request);
 void note_feed(struct model *model);
 void note_sip(struct model *model);
 void note_heard(struct model *model);
-
-/* ---- linked.c: timeouts that are linked behind a request, and what is behind these ---- */
-
-/* When a timeout, or a linked one, ends that runs; negative: it doesn't run. And whether a linked one runs. */
-int64_t end_of_timeout(const struct request *timeout);
-bool has_linked_timeouts(const struct model *model);
-
-/* A success posts nothing. */
-bool is_skipping(const struct request *request);
-
-/* A timeout that is linked behind it may have cancelled it, unseen; and whether it has, or in a chain in doubt may have, now that it ends with -125. */
-bool may_have_been_cancelled(const struct model *model, const struct request *request);
-bool is_cut_off(struct model *model, struct request *request);
-
-/* Whether -125 of a request that a cancel may have found doesn't tell if it breaks its chain; and the members behind it are in doubt then. */
-bool has_unsure_end(const struct request *request);
-void doubt_behind(struct model *model, const struct request *timeout);
-
-/* What a member in doubt ends with, or that it isn't doomed, tells of its chain. */
-void settle(struct model *model, struct request *request, int32_t res);
-void note_whole(struct model *model, const struct request *request);
 
 /* ---- tallies.c: timeouts that end once so many completions were posted ---- */
 
@@ -224,6 +206,9 @@ void doom_behind(struct model *model, const struct request *failed);
 
 /* Whether the failure of a request is told to the core behind a hard link: a linked timeout ends its chain behind it. */
 bool is_before_last_timeout(const struct model *model, const struct request *request);
+
+/* A timeout that is linked behind it may have cancelled it, unseen. */
+bool may_have_been_cancelled(const struct model *model, const struct request *request);
 
 /* The policy is one that goes by the order of submission. */
 bool is_in_order(const struct model *model);
@@ -272,8 +257,7 @@ void judge_call(struct model *model);
 /* A sum of times; one past the largest is the largest. */
 int64_t add_times(int64_t one, int64_t other);
 
-/* Moves virtual time on to a timeout's end; or a linked one may have fired, which nothing shows. */
+/* Moves virtual time on to a timeout's end. */
 void fire(struct model *model, const struct request *timeout);
-void note_unseen_fire(struct model *model, struct request *timeout);
 
 #endif

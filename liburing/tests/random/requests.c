@@ -157,6 +157,11 @@ bool is_timeout(const struct request *request)
     return request->action->code == IORING_OP_TIMEOUT && !request->is_doomed && !request->is_cancelled;
 }
 
+static bool is_skipping(const struct request *request)
+{
+    return request->action->flags & IOSQE_CQE_SKIP_SUCCESS;
+}
+
 uint32_t count_awaited(const struct model *model)
 {
     uint32_t count = 0;
@@ -171,6 +176,34 @@ bool has_timeouts(const struct model *model)
         if (!model->requests[i].is_ended && is_timeout(&model->requests[i]) && can_start(model, &model->requests[i]))
             return true;
     return has_linked_timeouts(model);
+}
+
+bool has_linked_timeouts(const struct model *model)
+{
+    for (uint32_t i = 0; i < model->count; i++)
+        if (model->requests[i].action->code == IORING_OP_LINK_TIMEOUT && end_of_timeout(&model->requests[i]) >= 0)
+            return true;
+    return false;
+}
+
+/* The timeout that is linked behind a request, while neither has ended; or NULL. */
+static struct request *timeout_behind(struct model *model, const struct request *request)
+{
+    struct request *next = &model->requests[request - model->requests + 1];
+    bool is_behind = next < model->requests + model->count && next->group == request->group && next->action->code == IORING_OP_LINK_TIMEOUT;
+    return is_behind && !next->is_ended && !next->is_doomed ? next : NULL;
+}
+
+/* A linked timeout runs while the request before it does. */
+int64_t end_of_timeout(const struct request *timeout)
+{
+    const struct request *limited = timeout->action->code == IORING_OP_LINK_TIMEOUT ? timeout - 1 : timeout;
+    bool is_kind = limited != timeout || timeout->action->code == IORING_OP_TIMEOUT;
+    if (!is_kind || timeout->is_ended || timeout->is_doomed || timeout->has_fired || timeout->is_faulty)
+        return -1;
+    if (limited->is_ended || limited->is_doomed || limited->is_cancelled || limited->since < 0)
+        return -1;
+    return add_times(limited->since, timeout->action->time);
 }
 
 /* ---- ends ---- */
@@ -220,8 +253,14 @@ void force(struct model *model, struct request *request, const char *why)
     }
     if (!is_skipping(request) || request->is_doomed)
         wrong(model, "entry %u %s, and hasn't ended", request->index, why);
-    note_whole(model, request);
     end(model, request, carry_out(model, request, unseen_result(model, request)));
+}
+
+/* A timeout that is linked behind it may have cancelled it, unseen. */
+bool may_have_been_cancelled(const struct model *model, const struct request *request)
+{
+    const struct request *next = request + 1;
+    return next < model->requests + model->count && next->group == request->group && next->may_have_fired;
 }
 
 bool can_end(const struct model *model, const struct request *request)
@@ -284,6 +323,19 @@ static void end_doomed(struct model *model, struct request *request, int32_t res
     end(model, request, false);
 }
 
+/* Whether the timeout that is linked behind a request has cancelled it. */
+static bool is_cut_off(struct model *model, struct request *request)
+{
+    struct request *timeout = timeout_behind(model, request);
+    bool is_waiting_kind = is_stream(model, request) || request->action->code == IORING_OP_TIMEOUT;
+    if (!timeout || !is_waiting_kind)
+        return false;
+    if (!timeout->may_have_fired)
+        fire(model, timeout);
+    timeout->has_fired = true;
+    return true;
+}
+
 static bool has_acted(struct model *model, const struct request *request, int32_t res)
 {
     switch (request->action->code) {
@@ -311,21 +363,16 @@ static void see_end(struct model *model, uint64_t user_data, int32_t res)
     if (is_in_order(model) && request->action->code != IORING_OP_TIMEOUT && !is_pipe_read(model, request))
         expect_order(model, request);
     model->tally += has_sent;
-    settle(model, request, res);
     if (request->is_doomed) {
         end_doomed(model, request, res);
         return;
     }
-    if (!request->may_be_doomed)
-        force_before(model, request);
+    force_before(model, request);
     bool may_be_cancelled = request->is_cancelled || request->may_be_cancelled;
     bool is_cut = !may_be_cancelled && res == -ECANCELED && is_cut_off(model, request);
     if (is_cut || (may_be_cancelled && res == -ECANCELED)) {
-        bool is_unsure = !is_cut && has_unsure_end(request);
         count_end(model, request, false);
-        end(model, request, is_unsure);
-        if (is_unsure)
-            doubt_behind(model, request);
+        end(model, request, false);
         return;
     }
     if (request->is_cancelled)

@@ -242,10 +242,17 @@ fn first_wrong_of_new(alloc: Global, case: Case) -> Result<Option<usize>, Fail> 
     first_wrong(&mut dispatch, case)
 }
 
+/// The cases, with their names.
+static CASES: [(&str, Case); 3] = [
+    ("each call", Case::EachCall),
+    ("refused reserves", Case::RefusedReserves),
+    ("thousands", Case::Thousands),
+];
+
 #[test]
 fn dispatchers_do_as_they_should(rt: HostRuntime) -> Result<(), Fail> {
-    for case in [Case::EachCall, Case::RefusedReserves, Case::Thousands] {
-        check_done(&rt, first_wrong_of_new(rt.alloc(), case))?;
+    for (name, case) in &CASES {
+        check_done(&rt, first_wrong_of_new(rt.alloc(), *case), name)?;
     }
     Ok(())
 }

@@ -2,7 +2,7 @@
 
 ghost use Rattle.std.specs.Prelude.{◌≤◌, length};
 
-use super::first_false;
+use super::{check_done, first_false};
 use std::alloc::Global;
 use std::test::Fail;
 use uring_entry::{Op, Outcome};
@@ -335,8 +335,7 @@ static CASES: [(&str, u32, Case); 6] = [
 #[test]
 fn operations_do_as_they_should(rt: HostRuntime) -> Result<(), Fail> {
     for (name, count, case) in &CASES {
-        let wrong = first_wrong_of_new(rt.alloc(), *count, *case)?;
-        assert_eq!(rt; wrong, None, "{name}");
+        check_done(&rt, first_wrong_of_new(rt.alloc(), *count, *case), name)?;
     }
     Ok(())
 }

@@ -1,20 +1,64 @@
 //! Submissions as lines, and the calls that they spell.
 
+use super::source::Source;
 use std::alloc::Global;
-use std::cmp::min;
-use std::io;
-use std::io::{ErrorKind, Read};
+use std::io::Read;
 use uring_entry::Sqe;
 use uring_play::{Item, PlayFault, Setup, read_calls};
 
-/// A ring of four entries.
-fn ring() -> Option<Setup> {
-    Setup::new(4, Some(4), 2, 0).ok()
+/// An item of a call.
+#[derive(Clone, Copy)]
+enum Put {
+    /// A no-op with this user data and these flags.
+    Nop(u64, u8),
+
+    /// A write of `hello` with a hard link, to the front of file 0.
+    HardWrite(u64),
+
+    /// A read of so many bytes from the front of file 0.
+    Read(u64, u32),
+
+    /// A soft link to the cancel of all that have that user data.
+    SoftCancelAll(u64, u64),
+
+    /// A word that names no slot.
+    Bad(u32),
 }
 
-/// Whether these bytes spell these calls.
-fn spells(alloc: Global, input: &[u8], wanted: &[&[Item]]) -> bool {
-    let Some(setup) = ring() else {
+use Put::{Bad, HardWrite, Nop, SoftCancelAll};
+
+/// The item that is wanted.
+fn item(put: Put) -> Item {
+    match put {
+        Nop(user_data, flags) => Item::Entry(Sqe::nop(user_data, flags)),
+        HardWrite(user_data) => Item::Entry(Sqe::write(user_data, 8, 0, 0, b"hello")),
+        Put::Read(user_data, len) => Item::Entry(Sqe::read(user_data, 0, 0, 0, len)),
+        SoftCancelAll(user_data, target) => Item::Entry(Sqe::cancel_all(user_data, 4, target)),
+        Bad(word) => Item::Bad(word),
+    }
+}
+
+/// Whether a call has these items.
+fn is_same(call: &[Item], wanted: &[Put]) -> bool {
+    call.len() == wanted.len()
+        && call
+            .iter()
+            .zip(wanted)
+            .all(|(found, put)| *found == item(*put))
+}
+
+/// Whether calls have these items.
+fn are_same(calls: &[Vec<Item>], wanted: &[&[Put]]) -> bool {
+    calls.len() == wanted.len()
+        && calls
+            .iter()
+            .zip(wanted)
+            .all(|(call, puts)| is_same(call.as_slice(), puts))
+}
+
+/// Whether these bytes spell these calls for a ring of four.
+fn spells(alloc: Global, input: &[u8], wanted: &[&[Put]]) -> bool {
+    let Ok(setup) = Setup::new(4, Some(4), 2, 0) else {
         return false;
     };
     let mut rest = input;
@@ -24,20 +68,55 @@ fn spells(alloc: Global, input: &[u8], wanted: &[&[Item]]) -> bool {
     }
 }
 
-/// Whether calls have these items.
-fn are_same(calls: &[Vec<Item>], wanted: &[&[Item]]) -> bool {
-    calls.len() == wanted.len()
-        && calls
-            .iter()
-            .zip(wanted)
-            .all(|(call, items)| call.as_slice() == *items)
-}
-
 /// The fault for which a reader's bytes are refused, if they are.
 fn fault_of<R: Read>(alloc: Global, reader: &mut R) -> Option<PlayFault> {
-    let setup = ring()?;
+    let setup = Setup::new(4, Some(4), 2, 0).ok()?;
     read_calls(alloc, reader, &setup).err()
 }
+
+/// Texts, and the calls that they spell.
+static CALLS: [(&str, &[&[Put]]); 7] = [
+    (
+        "write 1 H 0 0 68656c6c6f\nread 2 - 0 0 5\nnop 3 -\n\n",
+        &[&[HardWrite(1), Put::Read(2, 5), Nop(3, 0)]],
+    ),
+    (
+        "bad 9\nnop 5 S\n\nread 6 - 0 0 1\n",
+        &[&[Bad(9), Nop(5, 64)], &[Put::Read(6, 1)]],
+    ),
+    ("cancelall 8 L 5\n", &[&[SoftCancelAll(8, 5)]]),
+    // Calls without items are passed over.
+    ("", &[]),
+    ("\n\n\n", &[]),
+    ("\n\nnop 1 -\n\n\nbad 4", &[&[Nop(1, 0)], &[Bad(4)]]),
+    (
+        "nop 1 -\nnop 1 -\nnop 1 -\nnop 1 -\n",
+        &[&[Nop(1, 0), Nop(1, 0), Nop(1, 0), Nop(1, 0)]],
+    ),
+];
+
+#[test]
+fn a_call_ends_at_an_empty_line(rt: HostRuntime) {
+    for (text, wanted) in &CALLS {
+        assert!(rt; spells(rt.alloc(), text.as_bytes(), wanted), "{text}");
+    }
+}
+
+/// Texts whose first faulty line decides, and the fault.
+static FAULTS: [(&str, PlayFault); 6] = [
+    ("nop 1 -\nnop 1\n", PlayFault::Line(2)),
+    ("bad 3\n", PlayFault::Line(1)),
+    ("bad 4\nbad 04\n", PlayFault::Line(2)),
+    ("fill 0 nop 1 -", PlayFault::Line(1)),
+    (
+        "nop 1 -\nnop 1 -\nnop 1 -\nnop 1 -\nnop 1 -\nnop\n",
+        PlayFault::Long(5),
+    ),
+    (
+        "nop 1 -\nnop 1 -\nnop 1 -\nnop 1 -\nnop\nnop 1 -\n",
+        PlayFault::Line(5),
+    ),
+];
 
 /// Whether these bytes are refused so.
 fn is_refused(alloc: Global, input: &[u8], fault: PlayFault) -> bool {
@@ -45,87 +124,16 @@ fn is_refused(alloc: Global, input: &[u8], fault: PlayFault) -> bool {
     fault_of(alloc, &mut rest) == Some(fault)
 }
 
-/// An item that is a no-op.
-fn nop(user_data: u64, flags: u8) -> Item {
-    Item::Entry(Sqe::nop(user_data, flags))
-}
-
-#[test]
-fn a_call_ends_at_an_empty_line(rt: HostRuntime) {
-    let alloc = rt.alloc();
-    let chain = [
-        Item::Entry(Sqe::write(1, 8, 0, 0, b"hello")),
-        Item::Entry(Sqe::read(2, 0, 0, 0, 5)),
-        nop(3, 0),
-    ];
-    let text = b"write 1 H 0 0 68656c6c6f\nread 2 - 0 0 5\nnop 3 -\n\n";
-    assert!(rt; spells(alloc, text, &[&chain]));
-    let first = [Item::Bad(9), nop(5, 64)];
-    let second = [Item::Entry(Sqe::read(6, 0, 0, 0, 1))];
-    let text = b"bad 9\nnop 5 S\n\nread 6 - 0 0 1\n";
-    assert!(rt; spells(alloc, text, &[&first, &second]));
-    let cancel = [Item::Entry(Sqe::cancel_all(8, 4, 5))];
-    assert!(rt; spells(alloc, b"cancelall 8 L 5\n", &[&cancel]));
-}
-
-#[test]
-fn calls_without_items_are_passed_over(rt: HostRuntime) {
-    let alloc = rt.alloc();
-    assert!(rt; spells(alloc, b"", &[]));
-    assert!(rt; spells(alloc, b"\n\n\n", &[]));
-    assert!(rt;
-        spells(
-            alloc,
-            b"\n\nnop 1 -\n\n\nbad 4",
-            &[&[nop(1, 0)], &[Item::Bad(4)]]
-        )
-    );
-}
-
 #[test]
 fn the_first_faulty_line_decides(rt: HostRuntime) {
-    let alloc = rt.alloc();
-    let four = b"nop 1 -\nnop 1 -\nnop 1 -\nnop 1 -\n";
-    assert!(rt;
-        spells(
-            alloc,
-            four,
-            &[&[nop(1, 0), nop(1, 0), nop(1, 0), nop(1, 0)]]
-        )
-    );
-    assert!(rt; is_refused(alloc, b"nop 1 -\nnop 1\n", PlayFault::Line(2)));
-    assert!(rt; is_refused(alloc, b"bad 3\n", PlayFault::Line(1)));
-    assert!(rt; is_refused(alloc, b"bad 4\nbad 04\n", PlayFault::Line(2)));
-    assert!(rt; is_refused(alloc, b"fill 0 nop 1 -", PlayFault::Line(1)));
-    let five = b"nop 1 -\nnop 1 -\nnop 1 -\nnop 1 -\nnop 1 -\nnop\n";
-    assert!(rt; is_refused(alloc, five, PlayFault::Long(5)));
-    let five = b"nop 1 -\nnop 1 -\nnop 1 -\nnop 1 -\nnop\nnop 1 -\n";
-    assert!(rt; is_refused(alloc, five, PlayFault::Line(5)));
-    assert!(rt; is_refused(alloc, &[b'0'; 301], PlayFault::Line(1)));
-}
-
-/// A reader of some bytes, a few at a time, that fails behind them.
-#[derive(Drop)]
-struct FailingReader<'a> {
-    rest: &'a [u8],
-}
-
-impl Read for FailingReader<'_> {
-    fn read(&mut self, buf: &mut [u8]) -> io::Result<usize> {
-        if self.rest.is_empty() {
-            return Err(io::Error::from(ErrorKind::Other));
-        }
-        let count = min(min(self.rest.len(), buf.len()), 3);
-        buf[..count].copy_from_slice(&self.rest[..count]);
-        self.rest = &self.rest[count..];
-        Ok(count)
+    for (text, fault) in &FAULTS {
+        assert!(rt; is_refused(rt.alloc(), text.as_bytes(), *fault), "{text}");
     }
+    assert!(rt; is_refused(rt.alloc(), &[b'0'; 301], PlayFault::Line(1)));
 }
 
 #[test]
 fn a_failing_read_comes_before_a_faulty_line(rt: HostRuntime) {
-    let mut reader = FailingReader {
-        rest: b"nop 1 -\nnop\n",
-    };
+    let mut reader = Source::failing(0, b"nop 1 -\nnop\n", 3);
     assert!(rt; fault_of(rt.alloc(), &mut reader) == Some(PlayFault::Read));
 }

@@ -85,7 +85,7 @@ fn first_wrong_from(
     Ok(first_wrong(&mut ring, events))
 }
 
-static TWO_ACROSS_THE_WRAP: [Event; 8] = [
+const TWO_ACROSS_THE_WRAP: &[Event] = &[
     Post(1),
     LoadTail(0),
     Post(2),
@@ -96,15 +96,7 @@ static TWO_ACROSS_THE_WRAP: [Event; 8] = [
     StoreHead(1),
 ];
 
-#[test]
-fn two_completions_across_the_wrap(rt: HostRuntime) -> Result<(), Fail> {
-    check_done(
-        &rt,
-        first_wrong_from(rt.alloc(), 2, u32::MAX, &TWO_ACROSS_THE_WRAP),
-    )
-}
-
-static POST_BEHIND_OTHERS: [Event; 17] = [
+const POST_BEHIND_OTHERS: &[Event] = &[
     Post(1),
     Post(2),
     Post(3),
@@ -124,9 +116,24 @@ static POST_BEHIND_OTHERS: [Event; 17] = [
     Counts(5, 3),
 ];
 
+/// The histories: of each its name, its ring's size and the word at which that begins, and its events.
+static HISTORIES: [(&str, u32, u32, &[Event]); 2] = [
+    ("two across the wrap", 2, u32::MAX, TWO_ACROSS_THE_WRAP),
+    (
+        "a post stays behind those that wait",
+        2,
+        0,
+        POST_BEHIND_OTHERS,
+    ),
+];
+
 #[test]
-fn a_post_stays_behind_those_that_wait(rt: HostRuntime) -> Result<(), Fail> {
-    check_done(&rt, first_wrong_from(rt.alloc(), 2, 0, &POST_BEHIND_OTHERS))
+fn completions_go_as_wanted(rt: HostRuntime) -> Result<(), Fail> {
+    for (name, size, start, events) in &HISTORIES {
+        let wrong = first_wrong_from(rt.alloc(), *size, *start, events);
+        check_done(&rt, wrong, name)?;
+    }
+    Ok(())
 }
 
 /// A round: six are posted to an empty ring of four, of which two wait.
@@ -186,7 +193,7 @@ fn first_wrong_rounds(alloc: Global) -> Result<Option<usize>, Fail> {
 
 #[test]
 fn rounds_across_every_wrap(rt: HostRuntime) -> Result<(), Fail> {
-    check_done(&rt, first_wrong_rounds(rt.alloc()))
+    check_done(&rt, first_wrong_rounds(rt.alloc()), "rounds")
 }
 
 /// Three posts are promised, and more than memory holds is asked for behind the first of them. Whether that was refused.
@@ -215,5 +222,5 @@ fn refused_promise(alloc: Global) -> Result<Option<usize>, Fail> {
 
 #[test]
 fn a_refused_promise_leaves_the_last(rt: HostRuntime) -> Result<(), Fail> {
-    check_done(&rt, refused_promise(rt.alloc()))
+    check_done(&rt, refused_promise(rt.alloc()), "a promise")
 }

@@ -207,8 +207,7 @@ static HISTORIES: [(&str, u32, &[Event]); 6] = [
 #[test]
 fn submissions_go_as_wanted(rt: HostRuntime) -> Result<(), Fail> {
     for (name, start, events) in &HISTORIES {
-        let wrong = first_wrong_from(rt.alloc(), *start, events)?;
-        assert_eq!(rt; wrong, None, "{name}");
+        check_done(&rt, first_wrong_from(rt.alloc(), *start, events), name)?;
     }
     Ok(())
 }
@@ -286,5 +285,5 @@ fn first_wrong_rounds(alloc: Global) -> Result<Option<usize>, Fail> {
 
 #[test]
 fn rounds_across_every_wrap(rt: HostRuntime) -> Result<(), Fail> {
-    check_done(&rt, first_wrong_rounds(rt.alloc()))
+    check_done(&rt, first_wrong_rounds(rt.alloc()), "rounds")
 }

@@ -1,10 +1,11 @@
-use Rattle.std.proofs.Common.{◌≡◌, ◌++◌, ℕ, List, drop, map, ap, ap₂, sym, ◌∙◌, append_assoc, rules}
+use Rattle.std.proofs.Common.{◌≡◌, ◌++◌, ℕ, List, drop, ap, ap₂, sym, ◌∙◌, append_assoc, rules}
 use Rattle.std.specs.Prelude.{codes, string_bytes}
 use Rattle.std.specs.Borrow.{Bor}
 use Rattle.std.proofs.lemmas.List.{drop-map}
 use Rattle.std.proofs.lemmas.Result.{on_ok_weaker}
 use Rattle.uring_text.specs.Flaws.{stop_text, column_behind}
 use Rattle.uring_text.specs.Places.{place_text}
+use Rattle.uring_text.proofs.Cutting.{words}
 use Rattle.uring_text.proofs.flaw.push_flaw_in.Goals as goal
 
 -- what is appended in two parts
@@ -13,12 +14,7 @@ two_parts : (old middle new part stop wanted : List ℕ) → part ≡ stop → m
 two_parts old middle new part stop wanted same first second =
     second ∙ ap (λ (t : List ℕ). t ++ wanted) (first ∙ ap (λ (t : List ℕ). old ++ t) same) ∙ append_assoc old stop wanted
 
--- the tokens of a line
-words : List (Bor (List ℕ)) → List (List ℕ)
-words tokens = map (λ (token : Bor (List ℕ)). token.now) tokens
-
 pub returns-clause-bytes : goal.returns-clause-bytes
-unfolding words
 returns-clause-bytes g c =
     let tokens = c.args.tokens.now in
     let place = c.args.reach.tokens in

@@ -7,16 +7,10 @@ use Rattle.uring_threads.proofs.collect.take_waiting.Goals as goal
 pub loop-taken-init : goal.loop-taken-init
 loop-taken-init c = (search rules, drains_none c.args.kept.now (results_seen c.args.lanes.now) (results_received c.args.lanes.now) c.requires.work)
 
-pub take_known-requires-clause-room : goal.take_known-requires-clause-room
-take_known-requires-clause-room c =
-    (room_left c.args.kept.now c.loop-taken.kept (results_seen c.args.lanes.now) (results_seen c.loop-taken.lanes) (results_received c.args.lanes.now) (results_received c.loop-taken.lanes) c.loop-taken._taken c.loop-taken.invariant.1 c.requires.room (search (rules, arith))).0
-
-pub take_known-requires-clause-some : goal.take_known-requires-clause-some
-take_known-requires-clause-some c =
-    (room_left c.args.kept.now c.loop-taken.kept (results_seen c.args.lanes.now) (results_seen c.loop-taken.lanes) (results_received c.args.lanes.now) (results_received c.loop-taken.lanes) c.loop-taken._taken c.loop-taken.invariant.1 c.requires.room (search (rules, arith))).1
-
-pub take_known-requires-clause-work : goal.take_known-requires-clause-work
-take_known-requires-clause-work c = c.loop-taken.invariant.1.left
+pub take_known-requires : goal.take_known-requires
+take_known-requires c =
+    let left = room_left c.args.kept.now c.loop-taken.kept (results_seen c.args.lanes.now) (results_seen c.loop-taken.lanes) (results_received c.args.lanes.now) (results_received c.loop-taken.lanes) c.loop-taken._taken c.loop-taken.invariant.1 c.requires.room (search (rules, arith)) in
+    record { room = left.0; some = left.1; work = c.loop-taken.invariant.1.left }
 
 pub loop-taken-preserved : goal.loop-taken-preserved
 loop-taken-preserved c = (

@@ -17,56 +17,38 @@ begin_calls-requires-clause-not_closed g c = (call_waits c.args.kept.now c.reser
 pub begin_calls-requires-clause-stands : goal.begin_calls-requires-clause-stands
 begin_calls-requires-clause-stands g c = (call_waits c.args.kept.now c.reserve.new.self c.requires.tied.0 c.in-Waiting.count c.args.intake.now c.reserve.ensures.unmoved c.in-Waiting.is c.requires.tied.1).1
 
-pub returns-in_err-reserve-clause-tied : goal.returns-in_err-reserve-clause-tied
-returns-in_err-reserve-clause-tied g c = λ put. tied_still c.args.kept.now c.reserve.new.self put c.args.intake.now c.reserve.ensures.unmoved
+pub returns-in_err-reserve : goal.returns-in_err-reserve
+returns-in_err-reserve g c =
+    record {
+      tied = λ put. tied_still c.args.kept.now c.reserve.new.self put c.args.intake.now c.reserve.ensures.unmoved;
+      completions = completions_behind c.args.kept.now c.reserve.new.self c.reserve.new.self c.reserve.ensures.unmoved refl;
+      taken = takes_nothing c.args.kept.now c.reserve.new.self c.reserve.ensures.unmoved;
+      row = ([], subst (λ i. IsAgain c.args.kept.now.setup (now c.args.kept.now).submission i []) (sym c.in-Waiting.is) (inl refl), records_none c.args.kept.now c.reserve.new.self c.reserve.ensures.unmoved);
+      once = once_unmoved c.args.kept.now c.reserve.new.self c.args.intake.now c.reserve.ensures.unmoved;
+      granted = λ all. absurd (false≢true (c.in_err-reserve.ensures.granted (length c.args.kept.now.trace + 4 * c.in-Waiting.count) (all (length c.args.kept.now.trace + 4 * c.in-Waiting.count)) (omega arith)));
+      begun = λ all. absurd (false≢true (c.in_err-reserve.ensures.granted (length c.args.kept.now.trace + 4 * c.in-Waiting.count) (all (length c.args.kept.now.trace + 4 * c.in-Waiting.count)) (omega arith)));
+    }
 
-pub returns-in_err-reserve-clause-completions : goal.returns-in_err-reserve-clause-completions
-returns-in_err-reserve-clause-completions g c = completions_behind c.args.kept.now c.reserve.new.self c.reserve.new.self c.reserve.ensures.unmoved refl
-
-pub returns-in_err-reserve-clause-taken : goal.returns-in_err-reserve-clause-taken
-returns-in_err-reserve-clause-taken g c =
-    takes_nothing c.args.kept.now c.reserve.new.self c.reserve.ensures.unmoved
-
-pub returns-in_err-reserve-clause-once : goal.returns-in_err-reserve-clause-once
-returns-in_err-reserve-clause-once g c =
-    once_unmoved c.args.kept.now c.reserve.new.self c.args.intake.now c.reserve.ensures.unmoved
-
-pub returns-in_ok-reserve-clause-tied : goal.returns-in_ok-reserve-clause-tied
-returns-in_ok-reserve-clause-tied g c = λ put tied.
-    subst (Tied c.args.kept.now.setup (now c.begin_calls.new.kept) put) (sym c.after.ensures)
-    (tied_again c.args.kept.now c.reserve.new.self c.begin_calls.new.kept put c.in-Waiting.count c.args.intake.now c.begin_calls.result c.reserve.ensures.unmoved c.in-Waiting.is c.begin_calls.ensures.begun tied)
-
-pub returns-in_ok-reserve-clause-completions : goal.returns-in_ok-reserve-clause-completions
-returns-in_ok-reserve-clause-completions g c = completions_behind c.args.kept.now c.reserve.new.self c.begin_calls.new.kept c.reserve.ensures.unmoved (begun_completions c.reserve.new.self c.begin_calls.new.kept c.begin_calls.result c.begin_calls.ensures.begun)
-
-pub returns-in_ok-reserve-clause-taken : goal.returns-in_ok-reserve-clause-taken
-returns-in_ok-reserve-clause-taken g c = takes_behind c.args.kept.now c.reserve.new.self c.begin_calls.new.kept 0 c.reserve.ensures.unmoved (takes_calls c.reserve.new.self c.begin_calls.new.kept c.begin_calls.ensures.begun.made _ c.begin_calls.ensures.begun.have)
-
-pub returns-in_ok-reserve-clause-once : goal.returns-in_ok-reserve-clause-once
-returns-in_ok-reserve-clause-once g c = λ once.
-    subst (ClosesOnce c.begin_calls.new.kept) (sym c.after.ensures)
-    (once_begun c.args.kept.now c.begin_calls.new.kept _ c.args.intake.now c.begin_calls.result
-    (appends_behind c.args.kept.now c.reserve.new.self c.begin_calls.new.kept _ c.reserve.ensures.unmoved c.begin_calls.ensures.begun.have.appends) refl (λ o. subst (ClosesOnce c.args.kept.now) c.in-Waiting.is o) once)
-
-pub returns-in_err-reserve-clause-row : goal.returns-in_err-reserve-clause-row
-returns-in_err-reserve-clause-row g c =
-    ([], subst (λ i. IsAgain c.args.kept.now.setup (now c.args.kept.now).submission i []) (sym c.in-Waiting.is) (inl refl), records_none c.args.kept.now c.reserve.new.self c.reserve.ensures.unmoved)
-
-pub returns-in_ok-reserve-clause-row : goal.returns-in_ok-reserve-clause-row
-returns-in_ok-reserve-clause-row g c =
-    let row = row_begun c.args.kept.now c.reserve.new.self c.begin_calls.new.kept c.begin_calls.result c.reserve.ensures.unmoved c.begin_calls.ensures.begun in
-    (row.0, subst (λ i. IsAgain c.args.kept.now.setup (now c.args.kept.now).submission i row.0) (sym c.in-Waiting.is) (inr row.1), row.2)
+pub returns-in_ok-reserve : goal.returns-in_ok-reserve
+returns-in_ok-reserve g c =
+    record {
+      tied = λ put tied.
+          subst (Tied c.args.kept.now.setup (now c.begin_calls.new.kept) put) (sym c.after.ensures)
+          (tied_again c.args.kept.now c.reserve.new.self c.begin_calls.new.kept put c.in-Waiting.count c.args.intake.now c.begin_calls.result c.reserve.ensures.unmoved c.in-Waiting.is c.begin_calls.ensures.begun tied);
+      completions = completions_behind c.args.kept.now c.reserve.new.self c.begin_calls.new.kept c.reserve.ensures.unmoved (begun_completions c.reserve.new.self c.begin_calls.new.kept c.begin_calls.result c.begin_calls.ensures.begun);
+      taken = takes_behind c.args.kept.now c.reserve.new.self c.begin_calls.new.kept 0 c.reserve.ensures.unmoved (takes_calls c.reserve.new.self c.begin_calls.new.kept c.begin_calls.ensures.begun.made _ c.begin_calls.ensures.begun.have);
+      row =
+          let row = row_begun c.args.kept.now c.reserve.new.self c.begin_calls.new.kept c.begin_calls.result c.reserve.ensures.unmoved c.begin_calls.ensures.begun in
+          (row.0, subst (λ i. IsAgain c.args.kept.now.setup (now c.args.kept.now).submission i row.0) (sym c.in-Waiting.is) (inr row.1), row.2);
+      once = λ once.
+          subst (ClosesOnce c.begin_calls.new.kept) (sym c.after.ensures)
+          (once_begun c.args.kept.now c.begin_calls.new.kept _ c.args.intake.now c.begin_calls.result
+          (appends_behind c.args.kept.now c.reserve.new.self c.begin_calls.new.kept _ c.reserve.ensures.unmoved c.begin_calls.ensures.begun.have.appends) refl (λ o. subst (ClosesOnce c.args.kept.now) c.in-Waiting.is o) once);
+      granted = λ all. refl;
+      begun = λ all. ap awaits_memory c.after.ensures ∙ c.begin_calls.ensures.granted all;
+    }
 
 pub returns-in_default : goal.returns-in_default
 returns-in_default g c =
     let still : IsUnmoved c.args.kept.now c.args.kept.now = record { trace = refl; room = omega arith; setup = refl } in
     record { tied = λ put t. t; completions = refl; taken = takes_nothing c.args.kept.now c.args.kept.now still; row = ([], none_again c.args.kept.now.setup (now c.args.kept.now).submission c.args.intake.now, records_none c.args.kept.now c.args.kept.now still); once = λ same. same; granted = λ all. refl; begun = λ all. waits_not c.args.intake.now c.in_default.not-Waiting }
-
-pub returns-in_err-reserve-clause-granted : goal.returns-in_err-reserve-clause-granted
-returns-in_err-reserve-clause-granted g c = λ all. absurd (false≢true (c.in_err-reserve.ensures.granted (length c.args.kept.now.trace + 4 * c.in-Waiting.count) (all (length c.args.kept.now.trace + 4 * c.in-Waiting.count)) (omega arith)))
-
-pub returns-in_err-reserve-clause-begun : goal.returns-in_err-reserve-clause-begun
-returns-in_err-reserve-clause-begun g c = λ all. absurd (false≢true (c.in_err-reserve.ensures.granted (length c.args.kept.now.trace + 4 * c.in-Waiting.count) (all (length c.args.kept.now.trace + 4 * c.in-Waiting.count)) (omega arith)))
-
-pub returns-in_ok-reserve-clause-begun : goal.returns-in_ok-reserve-clause-begun
-returns-in_ok-reserve-clause-begun g c = λ all. ap awaits_memory c.after.ensures ∙ c.begin_calls.ensures.granted all

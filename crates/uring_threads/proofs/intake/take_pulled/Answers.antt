@@ -25,75 +25,54 @@ begin_calls-requires-clause-not_closed g c =
     let pulled = subst (λ v. Pulls c.args.kept.now.setup.sq c.requires.tied.0 v c.args.items.now c.requires.tied.1) c.in-Call.is c.requires.tied.3 in
     ap (λ (w : World). w.is_closed) c.publish_items.ensures.world ∙ c.requires.tied.2.closed ∙ pulled.2
 
-pub returns-in-Call-clause-tied : goal.returns-in-Call-clause-tied
-returns-in-Call-clause-tied g c = λ before after tied pulled.
-    subst (Tied c.args.kept.now.setup (now c.begin_calls.new.kept) after) (sym c.after.ensures)
-    (tied_taken c.args.kept.now c.publish_items.new.kept c.begin_calls.new.kept before after c.args.items.now c.args.intake.now c.begin_calls.result c.requires.ready c.publish_items.ensures.tally.setup c.publish_items.ensures.world c.begin_calls.ensures.begun tied
-    (subst (λ v. Pulls c.args.kept.now.setup.sq before v c.args.items.now after) c.in-Call.is pulled))
-
-pub returns-in-Call-clause-completions : goal.returns-in-Call-clause-completions
-returns-in-Call-clause-completions g c =
-    begun_completions c.publish_items.new.kept c.begin_calls.new.kept c.begin_calls.result c.begin_calls.ensures.begun ∙ ap (λ (w : World). w.completions) c.publish_items.ensures.world
-
-pub returns-in-Call-clause-taken : goal.returns-in-Call-clause-taken
-returns-in-Call-clause-taken g c =
+pub returns-in-Call : goal.returns-in-Call
+returns-in-Call g c =
     let pulled = subst (λ v. Pulls c.args.kept.now.setup.sq c.requires.tied.0 v c.args.items.now c.requires.tied.1) c.in-Call.is c.requires.tied.3 in
-    let n = length c.args.items.now in
-    takes_then c.args.kept.now c.publish_items.new.kept c.begin_calls.new.kept n 0 n (takes_items c.args.kept.now c.publish_items.new.kept n pulled.0 c.publish_items.ensures.tally)
-    (takes_calls c.publish_items.new.kept c.begin_calls.new.kept c.begin_calls.ensures.begun.made _ c.begin_calls.ensures.begun.have) (omega arith)
+    record {
+      tied = λ before after tied pulled.
+          subst (Tied c.args.kept.now.setup (now c.begin_calls.new.kept) after) (sym c.after.ensures)
+          (tied_taken c.args.kept.now c.publish_items.new.kept c.begin_calls.new.kept before after c.args.items.now c.args.intake.now c.begin_calls.result c.requires.ready c.publish_items.ensures.tally.setup c.publish_items.ensures.world c.begin_calls.ensures.begun tied
+          (subst (λ v. Pulls c.args.kept.now.setup.sq before v c.args.items.now after) c.in-Call.is pulled));
+      completions = begun_completions c.publish_items.new.kept c.begin_calls.new.kept c.begin_calls.result c.begin_calls.ensures.begun ∙ ap (λ (w : World). w.completions) c.publish_items.ensures.world;
+      taken =
+          let n = length c.args.items.now in
+          takes_then c.args.kept.now c.publish_items.new.kept c.begin_calls.new.kept n 0 n (takes_items c.args.kept.now c.publish_items.new.kept n pulled.0 c.publish_items.ensures.tally)
+          (takes_calls c.publish_items.new.kept c.begin_calls.new.kept c.begin_calls.ensures.begun.made _ c.begin_calls.ensures.begun.have) (omega arith);
+      row =
+          let stands : Stands (now c.args.kept.now).submission [] 0 = subst (λ i. Stands (now c.args.kept.now).submission [] (waiting_in i)) c.requires.ready c.requires.tied.2.stands in
+          let row = row_taken c.args.kept.now c.publish_items.new.kept c.begin_calls.new.kept c.args.items.now c.begin_calls.result stands pulled.1 c.publish_items.ensures.tally.setup c.publish_items.ensures.world c.publish_items.ensures.row c.begin_calls.ensures.begun in
+          (row.0, subst (λ p. IsTaken c.args.kept.now.setup p c.args.items.now row.0) (sym c.in-Call.is) row.1, row.2);
+      once = λ once.
+          let published = once_stays c.args.kept.now c.publish_items.new.kept _ c.args.intake.now c.publish_items.ensures.tally refl once in
+          subst (ClosesOnce c.begin_calls.new.kept) (sym c.after.ensures)
+          (once_begun c.publish_items.new.kept c.begin_calls.new.kept _ c.args.intake.now c.begin_calls.result c.begin_calls.ensures.begun.have.appends refl (λ o. subst (ClosesOnce c.publish_items.new.kept) c.requires.ready o) published);
+      none = λ none ready. absurd (omega (arith, none, pulled.0));
+      begun = λ all. ap awaits_memory c.after.ensures ∙ c.begin_calls.ensures.granted all;
+    }
 
-pub returns-in-Call-clause-once : goal.returns-in-Call-clause-once
-returns-in-Call-clause-once g c = λ once.
-    let published = once_stays c.args.kept.now c.publish_items.new.kept _ c.args.intake.now c.publish_items.ensures.tally refl once in
-    subst (ClosesOnce c.begin_calls.new.kept) (sym c.after.ensures)
-    (once_begun c.publish_items.new.kept c.begin_calls.new.kept _ c.args.intake.now c.begin_calls.result c.begin_calls.ensures.begun.have.appends refl (λ o. subst (ClosesOnce c.publish_items.new.kept) c.requires.ready o) published)
+pub returns-in-Close : goal.returns-in-Close
+returns-in-Close g c =
+    record {
+      tied = λ before after tied pulled.
+          tied_shut c.args.kept.now c.step_reserved.new.self c.step_reserved.result before after c.args.intake.now c.requires.ready c.step_reserved.ensures.grows c.step_reserved.ensures.called tied
+          (subst (λ v. Pulls c.args.kept.now.setup.sq before v c.args.items.now after) c.in-Close.is pulled).2;
+      completions = ap (λ (w : World). w.completions) (closed_world c.args.kept.now c.step_reserved.new.self c.step_reserved.result c.step_reserved.ensures.grows c.step_reserved.ensures.called c.requires.tied.2.stands.call);
+      taken = takes_shut c.args.kept.now c.step_reserved.new.self c.step_reserved.result c.step_reserved.ensures.grows;
+      row = (step.Close ∷ [], subst (λ p. IsTaken c.args.kept.now.setup p c.args.items.now (step.Close ∷ [])) (sym c.in-Close.is) refl, records_one c.args.kept.now c.step_reserved.new.self step.Close c.step_reserved.result c.step_reserved.ensures.grows);
+      once = λ once. once_shut c.args.kept.now c.step_reserved.new.self c.step_reserved.result c.step_reserved.ensures.grows (subst (ClosesOnce c.args.kept.now) c.requires.ready once);
+      none = λ none ready. absurd cc;
+      begun = λ all. refl;
+    }
 
-pub returns-in-Close-clause-tied : goal.returns-in-Close-clause-tied
-returns-in-Close-clause-tied g c = λ before after tied pulled.
-    tied_shut c.args.kept.now c.step_reserved.new.self c.step_reserved.result before after c.args.intake.now c.requires.ready c.step_reserved.ensures.grows c.step_reserved.ensures.called tied
-    (subst (λ v. Pulls c.args.kept.now.setup.sq before v c.args.items.now after) c.in-Close.is pulled).2
-
-pub returns-in-Close-clause-completions : goal.returns-in-Close-clause-completions
-returns-in-Close-clause-completions g c = ap (λ (w : World). w.completions) (closed_world c.args.kept.now c.step_reserved.new.self c.step_reserved.result c.step_reserved.ensures.grows c.step_reserved.ensures.called c.requires.tied.2.stands.call)
-
-pub returns-in-Close-clause-taken : goal.returns-in-Close-clause-taken
-returns-in-Close-clause-taken g c = takes_shut c.args.kept.now c.step_reserved.new.self c.step_reserved.result c.step_reserved.ensures.grows
-
-pub returns-in-Close-clause-once : goal.returns-in-Close-clause-once
-returns-in-Close-clause-once g c = λ once. once_shut c.args.kept.now c.step_reserved.new.self c.step_reserved.result c.step_reserved.ensures.grows (subst (ClosesOnce c.args.kept.now) c.requires.ready once)
-
-pub returns-in-Nothing-clause-tied : goal.returns-in-Nothing-clause-tied
-returns-in-Nothing-clause-tied g c = λ before after tied pulled.
-    subst (λ put. Tied c.args.kept.now.setup (now c.args.kept.now) put c.args.intake.now) (sym (subst (λ v. Pulls c.args.kept.now.setup.sq before v c.args.items.now after) c.in-Nothing.is pulled).1) tied
-
-pub returns-in-Nothing-clause-completions : goal.returns-in-Nothing-clause-completions
-returns-in-Nothing-clause-completions g c = refl
-
-pub returns-in-Nothing-clause-taken : goal.returns-in-Nothing-clause-taken
-returns-in-Nothing-clause-taken g c = takes_nothing c.args.kept.now c.args.kept.now (record { trace = refl; room = omega arith; setup = refl })
-
-pub returns-in-Call-clause-row : goal.returns-in-Call-clause-row
-returns-in-Call-clause-row g c =
-    let pulled = subst (λ v. Pulls c.args.kept.now.setup.sq c.requires.tied.0 v c.args.items.now c.requires.tied.1) c.in-Call.is c.requires.tied.3 in
-    let stands : Stands (now c.args.kept.now).submission [] 0 = subst (λ i. Stands (now c.args.kept.now).submission [] (waiting_in i)) c.requires.ready c.requires.tied.2.stands in
-    let row = row_taken c.args.kept.now c.publish_items.new.kept c.begin_calls.new.kept c.args.items.now c.begin_calls.result stands pulled.1 c.publish_items.ensures.tally.setup c.publish_items.ensures.world c.publish_items.ensures.row c.begin_calls.ensures.begun in
-    (row.0, subst (λ p. IsTaken c.args.kept.now.setup p c.args.items.now row.0) (sym c.in-Call.is) row.1, row.2)
-
-pub returns-in-Close-clause-row : goal.returns-in-Close-clause-row
-returns-in-Close-clause-row g c =
-    (step.Close ∷ [], subst (λ p. IsTaken c.args.kept.now.setup p c.args.items.now (step.Close ∷ [])) (sym c.in-Close.is) refl, records_one c.args.kept.now c.step_reserved.new.self step.Close c.step_reserved.result c.step_reserved.ensures.grows)
-
-pub returns-in-Nothing-clause-row : goal.returns-in-Nothing-clause-row
-returns-in-Nothing-clause-row g c =
-    ([], subst (λ p. IsTaken c.args.kept.now.setup p c.args.items.now []) (sym c.in-Nothing.is) refl, records_none c.args.kept.now c.args.kept.now (record { trace = refl; room = omega arith; setup = refl }))
-
-pub returns-in-Nothing-clause-once : goal.returns-in-Nothing-clause-once
-returns-in-Nothing-clause-once g c = λ once. once
-
-pub returns-in-Call-clause-none : goal.returns-in-Call-clause-none
-returns-in-Call-clause-none g c = λ none ready.
-    let pulled = subst (λ v. Pulls c.args.kept.now.setup.sq c.requires.tied.0 v c.args.items.now c.requires.tied.1) c.in-Call.is c.requires.tied.3 in
-    absurd (omega (arith, none, pulled.0))
-
-pub returns-in-Call-clause-begun : goal.returns-in-Call-clause-begun
-returns-in-Call-clause-begun g c = λ all. ap awaits_memory c.after.ensures ∙ c.begin_calls.ensures.granted all
+pub returns-in-Nothing : goal.returns-in-Nothing
+returns-in-Nothing g c =
+    record {
+      tied = λ before after tied pulled.
+          subst (λ put. Tied c.args.kept.now.setup (now c.args.kept.now) put c.args.intake.now) (sym (subst (λ v. Pulls c.args.kept.now.setup.sq before v c.args.items.now after) c.in-Nothing.is pulled).1) tied;
+      completions = refl;
+      taken = takes_nothing c.args.kept.now c.args.kept.now (record { trace = refl; room = omega arith; setup = refl });
+      row = ([], subst (λ p. IsTaken c.args.kept.now.setup p c.args.items.now []) (sym c.in-Nothing.is) refl, records_none c.args.kept.now c.args.kept.now (record { trace = refl; room = omega arith; setup = refl }));
+      once = λ once. once;
+      none = λ none ready. c.in-Nothing.is;
+      begun = λ all. ap awaits_memory c.requires.ready;
+    }

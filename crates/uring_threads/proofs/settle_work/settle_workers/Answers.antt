@@ -5,16 +5,13 @@ use Rattle.uring_threads.proofs.settle_work.settle_workers.Goals as goal
 pub loop-k-init : goal.loop-k-init
 loop-k-init g c = none_so_far c.args.kept.now c.args.lanes.now c.args.workers.now c.requires.carried
 
-pub settle_worker-requires-clause-pairing : goal.settle_worker-requires-clause-pairing
-settle_worker-requires-clause-pairing g c =
-    next_paired c.args.kept.now c.loop-k.kept c.args.lanes.now c.loop-k.lanes c.args.workers.now c.loop-k.workers c.loop-k.k c.args.kept.now.setup.files c.index-lanes-k.result c.index-workers-k.result c.loop-k.invariant c.loop-k-test.true c.requires.lanes
-
-pub settle_worker-requires-clause-room : goal.settle_worker-requires-clause-room
-settle_worker-requires-clause-room g c =
-    next_fits c.args.kept.now c.loop-k.kept c.args.lanes.now c.loop-k.lanes c.args.workers.now c.loop-k.workers c.loop-k.k c.args.kept.now.setup.files c.index-lanes-k.result c.index-workers-k.result c.loop-k.invariant c.loop-k-test.true c.requires.lanes c.requires.room
-
-pub settle_worker-requires-clause-carried : goal.settle_worker-requires-clause-carried
-settle_worker-requires-clause-carried g c = (length c.args.lanes.now, c.loop-k.k, c.loop-k.invariant.carried c.loop-k.k c.index-lanes-k.result c.loop-k-test.true)
+pub settle_worker-requires : goal.settle_worker-requires
+settle_worker-requires g c =
+    record {
+      pairing = next_paired c.args.kept.now c.loop-k.kept c.args.lanes.now c.loop-k.lanes c.args.workers.now c.loop-k.workers c.loop-k.k c.args.kept.now.setup.files c.index-lanes-k.result c.index-workers-k.result c.loop-k.invariant c.loop-k-test.true c.requires.lanes;
+      room = next_fits c.args.kept.now c.loop-k.kept c.args.lanes.now c.loop-k.lanes c.args.workers.now c.loop-k.workers c.loop-k.k c.args.kept.now.setup.files c.index-lanes-k.result c.index-workers-k.result c.loop-k.invariant c.loop-k-test.true c.requires.lanes c.requires.room;
+      carried = (length c.args.lanes.now, c.loop-k.k, c.loop-k.invariant.carried c.loop-k.k c.index-lanes-k.result c.loop-k-test.true);
+    }
 
 pub loop-k-preserved : goal.loop-k-preserved
 loop-k-preserved g c =
@@ -25,26 +22,14 @@ loop-k-preserved g c =
     one_more c.args.kept.now c.loop-k.kept c.settle_worker.new.kept c.args.lanes.now c.loop-k.lanes c.args.workers.now c.loop-k.workers c.loop-k.k c.args.kept.now.setup.files m v c.settle_worker.new.lanes c.settle_worker.new.worker
     c.loop-k.invariant c.loop-k-test.true c.requires.lanes one
 
-pub returns-clause-trace : goal.returns-clause-trace
-returns-clause-trace g c =
+pub returns : goal.returns
+returns g c =
     let end : c.loop-k.k ≡ length c.args.lanes.now = search (rules, arith) in
-    all_recorded c.args.kept.now c.loop-k.kept c.args.lanes.now c.loop-k.lanes c.args.workers.now c.loop-k.workers
-    (subst (SoFar c.args.kept.now c.loop-k.kept c.args.lanes.now c.loop-k.lanes c.args.workers.now c.loop-k.workers) end c.loop-k.invariant) c.requires.lanes.many
-
-pub returns-clause-settled : goal.returns-clause-settled
-returns-clause-settled g c = λ e.
-    let end : c.loop-k.k ≡ length c.args.lanes.now = search (rules, arith) in
-    all_settled c.args.kept.now c.loop-k.kept c.args.lanes.now c.loop-k.lanes c.args.workers.now c.loop-k.workers e
-    (subst (SoFar c.args.kept.now c.loop-k.kept c.args.lanes.now c.loop-k.lanes c.args.workers.now c.loop-k.workers) end c.loop-k.invariant) c.requires.some c.requires.lanes c.is_lawful.ensures.lawful
-
-pub returns-clause-workers : goal.returns-clause-workers
-returns-clause-workers g c = record {
-  many = c.loop-k.invariant.many_workers;
-  looked = λ k e lt. c.loop-k.invariant.looked k e;
-}
-
-pub returns-clause-seen : goal.returns-clause-seen
-returns-clause-seen g c =
-    let end : c.loop-k.k ≡ length c.args.lanes.now = search (rules, arith) in
-    all_seen c.args.kept.now c.loop-k.kept c.args.lanes.now c.loop-k.lanes c.args.workers.now c.loop-k.workers
-    (subst (SoFar c.args.kept.now c.loop-k.kept c.args.lanes.now c.loop-k.lanes c.args.workers.now c.loop-k.workers) end c.loop-k.invariant) c.requires.carried
+    let all = subst (SoFar c.args.kept.now c.loop-k.kept c.args.lanes.now c.loop-k.lanes c.args.workers.now c.loop-k.workers) end c.loop-k.invariant in
+    record {
+      trace = all_recorded c.args.kept.now c.loop-k.kept c.args.lanes.now c.loop-k.lanes c.args.workers.now c.loop-k.workers all c.requires.lanes.many;
+      few = all.few;
+      settled = λ e. all_settled c.args.kept.now c.loop-k.kept c.args.lanes.now c.loop-k.lanes c.args.workers.now c.loop-k.workers e all c.requires.some c.requires.lanes c.is_lawful.ensures.lawful;
+      workers = record { many = all.many_workers; looked = λ k e lt. all.looked k e };
+      seen = all_seen c.args.kept.now c.loop-k.kept c.args.lanes.now c.loop-k.lanes c.args.workers.now c.loop-k.workers all c.requires.carried;
+    }

@@ -15,16 +15,14 @@ invariant_of-self g c =
       ap (λ (g : Setup). g.stops) c.step_in-answer.ensures.setup ∙ c.self.invariant.2,
     )
 
-pub returns-clause-grows : goal.returns-clause-grows
-returns-clause-grows g c =
-    rw (← c.self.view_is) (record { trace = cc; room = omega arith; setup = cc })
-
-pub returns-clause-called : goal.returns-clause-called
-returns-clause-called g c =
-    let h = history_of c.self.inside.trace.items in
-    rw (← c.self.view_is) (subst (λ (g : Setup). CalledForApart g (world g h) c.args.step c.step_in-answer.result) c.step_in-answer.ensures.setup (c.step_in-answer.ensures.fits h c.self.invariant.1).lawful.0)
-
-pub returns-clause-granted : goal.returns-clause-granted
-returns-clause-granted g c = λ all.
-    let h = history_of c.self.inside.trace.items in
-    c.step_in-answer.ensures.granted h _ c.self.invariant.1 (all (elements_for c.self.inside.core (world c.self.inside.core.setup h) c.args.step)) (omega arith)
+pub returns : goal.returns
+returns g c =
+    record {
+      grows = rw (← c.self.view_is) (record { trace = cc; room = omega arith; setup = cc });
+      called =
+          let h = history_of c.self.inside.trace.items in
+          rw (← c.self.view_is) (subst (λ (g : Setup). CalledForApart g (world g h) c.args.step c.step_in-answer.result) c.step_in-answer.ensures.setup (c.step_in-answer.ensures.fits h c.self.invariant.1).lawful.0);
+      granted = λ all.
+          let h = history_of c.self.inside.trace.items in
+          c.step_in-answer.ensures.granted h _ c.self.invariant.1 (all (elements_for c.self.inside.core (world c.self.inside.core.setup h) c.args.step)) (omega arith);
+    }

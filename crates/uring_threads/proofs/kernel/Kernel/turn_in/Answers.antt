@@ -8,11 +8,8 @@ use Rattle.uring_threads.proofs.SameEnds.{same_numbers}
 use Rattle.uring_threads.proofs.kernel.Kernel.turn_in.Given.{Over}
 use Rattle.uring_threads.proofs.kernel.Kernel.turn_in.Goals as goal
 
-pub make_turn-requires-clause-is : goal.make_turn-requires-clause-is
-make_turn-requires-clause-is g c = rw c.deref_mut.ensures.value c.self.invariant.1
-
-pub make_turn-requires-clause-items : goal.make_turn-requires-clause-items
-make_turn-requires-clause-items g c = c.self.invariant.0
+pub make_turn-requires : goal.make_turn-requires
+make_turn-requires g c = record { is = rw c.deref_mut.ensures.value c.self.invariant.1; items = c.self.invariant.0 }
 
 -- the end whose lanes were lent to the turn
 lent : (g : Over) (c : goal.After-self-1 g)
@@ -25,28 +22,19 @@ back : (g : Over) (c : goal.After-self-1 g)
 back g c =
     lanes_back c.self.inside.lanes.len c.self.inside.lanes.items c.deref_mut.result.now c.make_turn.new.lanes c.deref_mut.ensures.value c.make_turn.ensures.turned.lanes (omega (arith, c.self.inside.lanes.ok.0))
 
-pub returns-clause-turned : goal.returns-clause-turned
-returns-clause-turned g c =
-    let new : Kernel = record { kept = c.make_turn.new.kept; intake = c.make_turn.new.intake; lanes = c.make_turn.new.lanes; pairing = g.P.KernelPort.pairing c.make_turn.new.port; sizes = g.P.KernelPort.sizes c.make_turn.new.port; pulled = g.P.KernelPort.pulled c.make_turn.new.port; saw_calls = g.P.KernelPort.saw_calls c.make_turn.new.port; reaped = g.P.KernelPort.delivered c.make_turn.new.port; free = g.P.KernelPort.free c.make_turn.new.port; room_looks = g.P.KernelPort.room_looks c.make_turn.new.port; dropped = g.P.KernelPort.dropped c.make_turn.new.port } in
-    rw (back g c) (subst (λ (k : Kernel). HasTurned k new c.make_turn.result) (lent g c) c.make_turn.ensures.turned.turned)
-
-pub returns-clause-setup : goal.returns-clause-setup
-returns-clause-setup g c = c.make_turn.ensures.turned.setup ∙ ap (λ (k : Kernel). k.kept.setup) (lent g c)
-
-pub returns-clause-lanes : goal.returns-clause-lanes
-returns-clause-lanes g c = rw (back g c) (subst (λ (k : Kernel). AreSameLanes k.lanes c.make_turn.new.lanes) (lent g c) c.make_turn.ensures.turned.lanes)
-
-pub returns-clause-numbers : goal.returns-clause-numbers
-returns-clause-numbers g c = ap numbers_of_lanes (back g c) ∙ same_numbers _ _ c.make_turn.ensures.turned.lanes ∙ ap (λ (k : Kernel). numbers_of_lanes k.lanes) (lent g c)
-
-pub returns-clause-pairing : goal.returns-clause-pairing
-returns-clause-pairing g c = c.make_turn.ensures.turned.pairing ∙ ap (λ (k : Kernel). k.pairing) (lent g c)
-
-pub returns-clause-sizes : goal.returns-clause-sizes
-returns-clause-sizes g c = c.make_turn.ensures.turned.sizes ∙ ap (λ (k : Kernel). k.sizes) (lent g c)
-
-pub returns-clause-granted : goal.returns-clause-granted
-returns-clause-granted g c = c.make_turn.ensures.turned.ok
+pub returns : goal.returns
+returns g c =
+    record {
+      turned =
+          let new : Kernel = record { kept = c.make_turn.new.kept; intake = c.make_turn.new.intake; lanes = c.make_turn.new.lanes; pairing = g.P.KernelPort.pairing c.make_turn.new.port; sizes = g.P.KernelPort.sizes c.make_turn.new.port; pulled = g.P.KernelPort.pulled c.make_turn.new.port; saw_calls = g.P.KernelPort.saw_calls c.make_turn.new.port; reaped = g.P.KernelPort.delivered c.make_turn.new.port; free = g.P.KernelPort.free c.make_turn.new.port; room_looks = g.P.KernelPort.room_looks c.make_turn.new.port; dropped = g.P.KernelPort.dropped c.make_turn.new.port } in
+          rw (back g c) (subst (λ (k : Kernel). HasTurned k new c.make_turn.result) (lent g c) c.make_turn.ensures.turned.turned);
+      setup = c.make_turn.ensures.turned.setup ∙ ap (λ (k : Kernel). k.kept.setup) (lent g c);
+      lanes = rw (back g c) (subst (λ (k : Kernel). AreSameLanes k.lanes c.make_turn.new.lanes) (lent g c) c.make_turn.ensures.turned.lanes);
+      numbers = ap numbers_of_lanes (back g c) ∙ same_numbers _ _ c.make_turn.ensures.turned.lanes ∙ ap (λ (k : Kernel). numbers_of_lanes k.lanes) (lent g c);
+      pairing = c.make_turn.ensures.turned.pairing ∙ ap (λ (k : Kernel). k.pairing) (lent g c);
+      sizes = c.make_turn.ensures.turned.sizes ∙ ap (λ (k : Kernel). k.sizes) (lent g c);
+      granted = c.make_turn.ensures.turned.ok;
+    }
 
 pub invariant_of-self : goal.invariant_of-self
 invariant_of-self g c =

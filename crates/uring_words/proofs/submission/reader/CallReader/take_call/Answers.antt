@@ -3,7 +3,7 @@ use Rattle.uring_entry.specs.IndexWords.{word_of}
 use Rattle.uring_ports.specs.Ports.{Pulls}
 use Rattle.uring_words.specs.Slots.{held_from}
 use Rattle.uring_words.specs.Submission.Calls.{AreWhole, has_close_mark, put_of}
-use Rattle.uring_words.specs.Submission.Ends.{End, ReaderRests, kernel_knows, taken_of}
+use Rattle.uring_words.specs.Submission.Ends.{AreRead, End, ReaderRests, kernel_knows, taken_of}
 use Rattle.uring_words.specs.Submission.Steps.{Holder}
 use Rattle.uring_words.proofs.CallLemmas.{whole_rest}
 use Rattle.uring_words.proofs.Copying.{head_allowed, head_taken, pulls}
@@ -43,36 +43,23 @@ invariant_of-self c =
       few = omega (arith, i.few);
     })
 
-pub returns-clause-is : goal.returns-clause-is
-returns-clause-is c =
+pub returns : goal.returns
+returns c =
+    let i = c.self.invariant in
+    let d = c.self.inside.seat.me.0.kernel in
     let r = c.read_call-pulled.ensures.read in
     let is = head_taken c.deref.result.now.shared.table_id.slots c.self.inside.seat.me _ _ _ _ _ r c.store.ensures.2 in
-    let table = c.store.ensures.0 ∙ c.read_call-pulled.ensures.table in
     let same = sym is in
-    (λ j. record { table = table j; knows = (is j).0 })
-    ∙ (λ j. kernel_knows (c.self.view_is j) (record (c.self.view_is j).knows.kernel { taken = (same j).0.kernel.taken; known = (same j).0.kernel.known }))
-
-pub returns-clause-rests : goal.returns-clause-rests
-returns-clause-rests c =
-    let i = c.self.invariant in
-    let v = c.self.inside.seat.me.0 in
-    let d = v.kernel in
-    let r = c.read_call-pulled.ensures.read in
-    let is = head_taken c.deref.result.now.shared.table_id.slots c.self.inside.seat.me _ _ _ _ _ r c.store.ensures.2 in
+    let table = c.store.ensures.0 ∙ c.read_call-pulled.ensures.table in
     let rests = subst (λ (x : End). ReaderRests x.knows.kernel) (sym c.self.view_is) c.requires.rests in
     let open' = subst (λ (x : End). has_close_mark x.knows.kernel.taken ≡ false) (sym c.self.view_is) c.requires.open in
     let p = pulls d _ _ r.read r.others rests open' (omega (arith, i.few, i.fits.sized)) r.known r.holds in
-    subst (λ (m : Holder). ReaderRests m.0.kernel) (sym is) (record { known = subst AreWhole (ap (λ l. d.taken ++ l) r.known ∙ sym (append_assoc d.taken r.read r.others)) rests.known; whole = p.1 })
-
-pub returns-clause-pulled : goal.returns-clause-pulled
-returns-clause-pulled c =
-    let i = c.self.invariant in
-    let v = c.self.inside.seat.me.0 in
-    let d = v.kernel in
-    let r = c.read_call-pulled.ensures.read in
-    let is = head_taken c.deref.result.now.shared.table_id.slots c.self.inside.seat.me _ _ _ _ _ r c.store.ensures.2 in
-    let rests = subst (λ (x : End). ReaderRests x.knows.kernel) (sym c.self.view_is) c.requires.rests in
-    let open' = subst (λ (x : End). has_close_mark x.knows.kernel.taken ≡ false) (sym c.self.view_is) c.requires.open in
-    let p = pulls d _ _ r.read r.others rests open' (omega (arith, i.few, i.fits.sized)) r.known r.holds in
-    subst (λ (e : End). Pulls e.knows.kernel.size (put_of e.knows.kernel.taken) c.read_call-pulled.result.0 c.read_call-pulled.new.items.items (put_of (taken_of c.store.new.seat.me))) c.self.view_is
-    (subst (λ (m : Holder). Pulls d.size (put_of d.taken) c.read_call-pulled.result.0 c.read_call-pulled.new.items.items (put_of (taken_of m))) (sym is) p.0)
+    record {
+      is = (λ j. record { table = table j; knows = (is j).0 }) ∙ (λ j. kernel_knows (c.self.view_is j) (record (c.self.view_is j).knows.kernel { taken = (same j).0.kernel.taken; known = (same j).0.kernel.known }));
+      rests = subst (λ (m : Holder). ReaderRests m.0.kernel) same (record { known = subst AreWhole (ap (λ l. d.taken ++ l) r.known ∙ sym (append_assoc d.taken r.read r.others)) rests.known; whole = p.1 });
+      room = c.read_call-pulled.ensures.room;
+      pulled =
+          subst (λ (e : End). Pulls e.knows.kernel.size (put_of e.knows.kernel.taken) c.read_call-pulled.result.0 c.read_call-pulled.new.items.items (put_of (taken_of c.store.new.seat.me))) c.self.view_is
+          (subst (λ (m : Holder). Pulls d.size (put_of d.taken) c.read_call-pulled.result.0 c.read_call-pulled.new.items.items (put_of (taken_of m))) same p.0);
+      some = λ none. subst (λ w. AreRead w c.read_call-pulled.new.items.items r.read) none r.holds;
+    }
