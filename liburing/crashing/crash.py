@@ -1,6 +1,6 @@
 """The power fails in runs of a program, and a check looks at what is left: until one fails, which is then made short and told."""
 
-import multiprocessing
+import contextlib
 import os
 import random
 import shlex
@@ -15,6 +15,7 @@ from crashing.pictures import NAMES, draw
 from crashing.rooms import Room
 from crashing.runs import PRELOADED, Run
 from crashing.volumes import LIBRARY
+from crashing.workers import answers
 from exploring.runs import list_of, priorities, stop
 from exploring.serving import ROOM
 
@@ -159,16 +160,14 @@ def crash_in_place(options):
     failures, crashes, images, passed = [], 0, 0, 0
     for remark in ([f"the run in order ends with status {run.status}"] if run.status != 0 else []) + run.remarks:
         print(f"explore: {remark}", file=sys.stderr)
-    with multiprocessing.get_context("fork").Pool(options.jobs, begin_worker, (options,)) as pool:
-        for found, count, different, remarks, left in pool.imap(work, tasks(options, run)):
+    with contextlib.closing(answers(tasks(options, run), options.jobs, lambda: begin_worker(options), work)) as answered:
+        for found, count, different, remarks, left in answered:
             crashes, images, passed = crashes + count, images + different, passed + left
             failures += found
             if failures and not options.keep_going:
                 break
             if options.time and time.monotonic() - begun > options.time:
                 break
-        pool.terminate()
-        pool.join()
     seconds = time.monotonic() - begun
     print(f"{crashes} crashes, {images} checked: {len(failures)} fail; {crashes / seconds:.0f} a second{f'; {passed} moments have more than {options.most} images' if passed else ''}", flush=True)
     if not failures:
@@ -233,12 +232,11 @@ def tell(options, failure):
     crasher = Crasher(options)
     crasher.deadline = time.monotonic() + options.shorten
     try:
-        items = shortest(options, crasher, failure.items) if failure.items else []
+        items, found = shortest(options, crasher, failure)
         if failure.items:
             print(f"the run made {failure.choices} choices; {len(items)} {'is' if len(items) == 1 else 'are'} enough", flush=True)
         run = shared if failure.policy == shared.policy else Run(options, list_of(items))
-        found = (failure.moment, failure.losses) if items == failure.items else search(crasher, run)
-        if not found or not crasher.fails(run, found[0], Chosen("lose", found[1])):
+        if not crasher.fails(run, found[0], Chosen("lose", found[1])):
             print("that isn't told by what is lost: two writes that ran at once are left in another order, or the program doesn't do the same in each run", flush=True)
             sys.stdout.buffer.write(failure.said)
             return 1
@@ -290,21 +288,24 @@ def lost_by(disk, kind, at, numbers):
     return [(it,) for it in numbers if dice.random() < 0.5]
 
 
-def shortest(options, crasher, items):
-    """Leaves choices out as long as some crash of the run still fails."""
-    size = max(1, len(items) // 2)
-    while True:
+def shortest(options, crasher, failure):
+    """Leaves choices out as long as some crash of the run still fails, and there is time; with that crash's moment and losses."""
+    items, found = failure.items, (failure.moment, failure.losses)
+    size = len(items) // 2 or 1
+    while items and not crasher.is_over():
         at = 0
-        while at < len(items):
+        while at < len(items) and not crasher.is_over():
             fewer = items[:at] + items[at + size :]
             run = Run(options, list_of(fewer))
-            if search(crasher, run):
-                items = [it for it in run.items() if it in fewer]
+            less = search(crasher, run)
+            if less:
+                items, found = [it for it in run.items() if it in fewer], less
             else:
                 at += size
         if size == 1:
-            return items
+            break
         size //= 2
+    return items, found
 
 
 def fewest(fails, lost):
