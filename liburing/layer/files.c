@@ -78,13 +78,19 @@ bool release_file(struct file *file)
     return true;
 }
 
-bool is_file_of(const struct file *file, int fd)
+int are_on_one_file(int one, int other)
 {
     pid_t process = this_process();
-    int result = fcntl(file->fd, F_DUPFD_QUERY, fd);
-    if (result < 0)
-        result = syscall(SYS_kcmp, process, process, KCMP_FILE, file->fd, fd) == 0;
-    return result == 1;
+    int result = one == other ? 1 : fcntl(one, F_DUPFD_QUERY, other);
+    if (result >= 0)
+        return result;
+    long order = syscall(SYS_kcmp, process, process, KCMP_FILE, one, other);
+    return order < 0 ? -1 : order == 0;
+}
+
+bool is_file_of(const struct file *file, int fd)
+{
+    return are_on_one_file(file->fd, fd) == 1;
 }
 
 struct file *use_file(struct ring *ring, uint32_t index)

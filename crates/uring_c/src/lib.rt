@@ -19,6 +19,7 @@ mod entry_exports;
 mod following_exports;
 mod form_exports;
 mod keeping_exports;
+mod jump_exports;
 mod leaving_exports;
 mod listing_exports;
 mod lookout_exports;
