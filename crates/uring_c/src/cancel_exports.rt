@@ -8,8 +8,8 @@ ghost use Rattle.uring_enter.specs.Seeking as seeking;
 ghost use Rattle.uring_enter.specs.Cancels.{result_of, is_cancelled, is_asked, HasSeen, HasSought, oldest, is_stopped, has_cancelled, found_by_core};
 
 use uring_enter::{
-    Cancel, Outstanding, Search, Sought, Submission, asks_file, goes_by_user_data,
-    is_taken_behind, is_waiting, seeking_fault, sought_by_call, sought_of,
+    Cancel, Outstanding, Search, Sought, Submission, asks_file, goes_by_user_data, is_taken_behind,
+    is_waiting, seeking_fault, sought_by_call, sought_of,
 };
 use uring_register::CancelForm;
 

@@ -9,8 +9,7 @@ ghost use Rattle.uring_c.specs.PassageForm.{word_of_glance, word_of_answered, wo
 ghost use Rattle.uring_c.specs.RingForm.{known_if};
 
 use uring_enter::{
-    Answered, Glance, Gone, Lookout, Waiter, answer_of, dormant_events, glance_of,
-    takes_descriptor,
+    Answered, Glance, Gone, Lookout, Waiter, answer_of, dormant_events, glance_of, takes_descriptor,
 };
 
 /// Returns what a poll(2), of one descriptor or of many, says of a request.

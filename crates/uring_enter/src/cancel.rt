@@ -175,7 +175,11 @@ fn fits_fd(sought: Sought, request: &Outstanding) -> bool
 fn is_named(sought: Sought, request: &Outstanding) -> bool
     ensures { result ≡ is_named sought request.now }
 {
-    let is_alike = if sought.is_fixed { request.is_registered } else { !request.is_registered };
+    let is_alike = if sought.is_fixed {
+        request.is_registered
+    } else {
+        !request.is_registered
+    };
     is_alike && request.fd == sought.fd
 }
 
