@@ -57,6 +57,9 @@ bool wulgach_group_provide(struct wulgach_group *group, struct wulgach_buffer *r
 int32_t wulgach_group_removing_fault(const struct wulgach_group *group);
 uint32_t wulgach_group_remove(struct wulgach_group *group, uint32_t count);
 
+/* Whether a group is a ring, and no list. */
+bool wulgach_group_is_ring(const struct wulgach_group *group);
+
 /* Writes the next buffer of a list, the one that was provided first of those that are left. False: there is none. */
 bool wulgach_group_next(const struct wulgach_group *group, const struct wulgach_buffer *rows, size_t room, struct wulgach_buffer *next);
 

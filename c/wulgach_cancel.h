@@ -14,7 +14,6 @@ extern "C" {
 /* What a cancel looks for. */
 struct wulgach_sought {
     uint64_t user_data;
-    uint64_t file;      /* a registered file, by a number that no other has */
     uint32_t fd;        /* a descriptor, or a slot */
     uint8_t code;       /* an operation, */
     bool is_of_operation;   /* and it looks for requests of that alone, as a removal does */
@@ -27,13 +26,14 @@ struct wulgach_sought {
 /* A request that hasn't ended, as a cancel sees it. */
 struct wulgach_outstanding {
     uint64_t user_data;
-    uint64_t file;      /* the registered file that it is carried out on, or a number that none has */
-    uint32_t fd;        /* the descriptor that its entry names */
+    uint32_t fd;        /* the descriptor that its entry names, or the slot */
     uint8_t code;       /* its operation */
     bool is_token;      /* it is carried out outside of the core: WULGACH_FORM_TOKEN */
     bool needs_file;    /* it is carried out on a file, */
     bool is_registered; /* which its entry names by the slot of a table */
-    bool is_assigned;   /* on what it is carried out is known */
+    bool is_assigned;   /* on what it is carried out is known, */
+    bool is_compared;   /* and whether that is the file that is looked for, */
+    bool is_same;       /* which it is */
     bool is_cancelled;  /* a cancel has chosen it before */
     bool runs;          /* it has started */
     bool is_stream;     /* it may have to wait for its descriptor */
@@ -43,8 +43,7 @@ struct wulgach_outstanding {
 /* An entry of the submission ring: see wulgach_form.h. */
 struct wulgach_submission;
 
-/* Writes what is looked for by the entry of a cancel, or of a removal. If that is a registered file, `fd` is its slot, and `file` is 0: the
- * caller's to write. */
+/* Writes what is looked for by the entry of a cancel, or of a removal. If that is a registered file, `fd` is its slot. */
 void wulgach_sought_of(const struct wulgach_submission *entry, struct wulgach_sought *sought);
 
 /* Writes what is looked for by a call of io_uring_register(2) that cancels (wulgach_register.h): what the entry of a cancel looks for that has
@@ -54,6 +53,11 @@ void wulgach_sought_by_call(const struct wulgach_cancel_form *form, struct wulga
 
 /* Whether user data is looked for. Then a cancel passes over each request that has other, so that it need be shown those alone that have its own. */
 bool wulgach_goes_by_user_data(const struct wulgach_sought *sought);
+
+/* Whether it matters to a cancel if a request is carried out on the file that is looked for: the cancel goes by a descriptor or a slot, and the
+ * request is carried out on a file, which is known. If not, is_compared and is_same may be anything. A request fits that is carried out on that
+ * file, however both name it; where it can't be told, one that names the same descriptor, or the same slot. */
+bool wulgach_asks_file(const struct wulgach_sought *sought, const struct wulgach_outstanding *request);
 
 /* Why nothing is looked for, or 0: -9 (EBADF) exactly if it would be looked for by a descriptor that isn't open, or by a slot that has no
  * file. */

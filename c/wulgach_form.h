@@ -89,10 +89,10 @@ void wulgach_link_of(const struct wulgach_submission *entry, struct wulgach_link
 /* Whether an operation is served. */
 bool wulgach_is_served(uint8_t code);
 
-/* Whether the request of an entry, which has moved so many bytes (`done`), goes on behind this result, which then has a completion of its
- * own; else it ends with it: it isn't one that goes on, or it ends with an error, with nothing more to come, or since its completion finds
- * the ring of so many entries full. */
-bool wulgach_goes_on(const struct wulgach_shown *shown, const struct wulgach_submission *entry, uint64_t done, int32_t res, uint32_t entries);
+/* Whether the request of an entry, which has started as one that goes on or hasn't (wulgach_needs, and behind a poll's start wulgach_poll_start), and
+ * has moved so many bytes (`done`), goes on behind this result, which then has a completion of its own; else it ends with it: it isn't one that goes on,
+ * or it ends with an error, with nothing more to come, or since its completion finds the ring of so many entries full. */
+bool wulgach_goes_on(const struct wulgach_shown *shown, bool started, const struct wulgach_submission *entry, uint64_t done, int32_t res, uint32_t entries);
 
 /* Whether an eventfd is told of a completion, where it is registered for all, or only for what ends behind the call that submitted
  * it: in another call on the ring. A message comes behind them all. */

@@ -174,6 +174,25 @@ enum wulgach_glance {
  * wulgach_counts_as_ready has it. */
 uint32_t wulgach_glance_of(bool is_impatient, bool is_of_many, int32_t came, uint16_t events);
 
+/* ---- sleeps that were left ---- */
+
+/* What a thread that calls sees of a sleep of its own, which a signal's handler may have left by a jump. */
+struct wulgach_seen_sleep {
+    uint64_t place;             /* where the sleep has its mark */
+    uint64_t from;              /* where its call was made: there too, or on another stack */
+    uint64_t here;              /* where the thread calls now */
+    uint64_t own_lowest, own_size;              /* the stack that the thread was made with; 0 where that isn't known */
+    uint64_t handlers_lowest, handlers_size;    /* the one that its handlers had as the sleep began, or 0 */
+    bool is_marked;             /* its mark stands there still, or it can't be read */
+    bool is_on_handlers;        /* the thread runs on its handlers' stack now */
+};
+
+/* Whether the sleep was left: its mark is gone; or its thread calls from above it, or from another stack than a sleep that has a stack of its own, where both
+ * calls were made on the stack that the thread was made with and this one is on no stack of a handler's. And whether it matters which stacks
+ * the thread has: else they may be anything. Our own rule. */
+bool wulgach_was_left(const struct wulgach_seen_sleep *seen);
+bool wulgach_asks_stacks(const struct wulgach_seen_sleep *seen);
+
 /* ---- what an instance tells of those that are dormant ---- */
 
 /* The instance has told that its descriptor is ready, by which it is dormant no more: it counts as seen ready, and threads that sleep are woken. */
@@ -181,6 +200,9 @@ void wulgach_waiter_is_told_ready(struct wulgach_waiter *waiter, struct wulgach_
 
 /* Whether the instance takes the descriptor of a request that is to be dormant: its file is kept, or it is that of an instance of the request's own. */
 bool wulgach_instance_takes(bool keeps_file, bool has_own);
+
+/* For what it is asked that is to tell of these events: for the first of them (EPOLLONESHOT), by which the request is dormant no more. */
+uint32_t wulgach_dormant_events(uint16_t events);
 
 enum wulgach_instance_answer {
     WULGACH_INSTANCE_IS_DONE = 0,   /* it has told all */

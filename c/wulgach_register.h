@@ -120,6 +120,9 @@ struct wulgach_memory {
  * is shared with a file that the kernel writes back. What isn't known is no fault. */
 int32_t wulgach_pinning_fault(const struct wulgach_memory *memory);
 
+/* Whether one of so many bytes from an address on stands between a start and an end, as of memory that is shared with a file. */
+bool wulgach_has_byte_of(uint64_t from, uint64_t size, uint64_t start, uint64_t end);
+
 /* Whether the kernel writes back a file that is shared: if its device has a major number, or else if its file system keeps files elsewhere
  * than in memory. `kind` is statfs's, if that is known. */
 bool wulgach_is_written_back(uint32_t major, bool knows, uint64_t kind);

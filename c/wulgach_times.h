@@ -143,9 +143,10 @@ int32_t wulgach_times_reached(const struct wulgach_times *times, const struct wu
  * else the one that ends next, unless a descriptor is waited for. */
 int32_t wulgach_times_passing(const struct wulgach_times *times, const struct wulgach_timeout *rows, size_t room, const struct wulgach_wake_sources *sources, struct wulgach_timeout *timeout);
 
-/* Whether another thread of the process may make a call: unless the process is known to have exactly one. And whether that matters to a call that
+/* Whether another thread of the process may make a call: unless the process is known to have exactly one, whose folder /proc/self/task has three links,
+ * two of its own and one by each thread. And whether that matters to a call that
  * waits, while a request waits for a descriptor or none does: where it doesn't, it needn't be asked. */
-bool wulgach_may_have_others(bool knows, uint64_t threads);
+bool wulgach_may_have_others(bool knows, uint64_t links);
 bool wulgach_times_asks_threads(const struct wulgach_times *times, bool has_streams);
 
 /* Writes how a call waits that has this limit, where nothing can go on. It sleeps while a descriptor is waited for; while another

@@ -97,6 +97,7 @@ static void take_from_a_ring(void)
     wulgach_group_register(&group, 4);
     demand(register_fault(4096, 4) == -17 && wulgach_group_unregistering_fault(&group) == 0, "a ring");
     demand(wulgach_group_providing_fault(&group, 8, 8, 1, 0) == -22 && wulgach_group_removing_fault(&group) == -22, "a ring is no list");
+    demand(wulgach_group_is_ring(&group), "a ring");
     demand(!wulgach_group_cell(&group, true, 0, &cell) && cell == 999 && !wulgach_group_cell(&group, false, 1, &cell) && cell == 999, "an empty ring, and one whose tail can't be read");
     for (uint32_t i = 0; i < 200000; i++) {
         demand(wulgach_group_cell(&group, true, (uint16_t)(i + 1), &cell) && cell == i % 4, "the next cell");

@@ -20,7 +20,7 @@ static int32_t look(const struct wulgach_sought *sought, const bool *wanted)
     static const struct wulgach_outstanding requests[] = {
         {.user_data = 1, .fd = 4, .needs_file = true, .is_assigned = true, .is_token = true},
         {.user_data = 1, .fd = 5, .needs_file = true, .is_assigned = true, .is_token = true, .runs = true, .is_stream = true},
-        {.user_data = 2, .file = 9, .needs_file = true, .is_registered = true, .is_assigned = true, .is_token = true, .may_start = true},
+        {.user_data = 2, .fd = 9, .needs_file = true, .is_registered = true, .is_assigned = true, .is_token = true, .may_start = true},
     };
     struct wulgach_cancel cancel;
     wulgach_cancel_begin(&cancel, sought);
@@ -48,13 +48,30 @@ static void seek(void)
     wulgach_sought_of(&(struct wulgach_submission){.opcode = CANCEL, .op_flags = 4}, &sought);
     demand(wulgach_seeking_fault(&sought, false) == 0 && !wulgach_goes_by_user_data(&sought), "any needs no slot");
     wulgach_sought_by_call(&(struct wulgach_cancel_form){.addr = 5, .fd = 3, .flags = 11, .seconds = 4}, &sought);
-    demand(sought.fd == 3 && sought.is_by_fd && sought.is_fixed && sought.is_all && !sought.is_any && !sought.is_of_operation && sought.file == 0, "a call looks by a slot");
+    demand(sought.fd == 3 && sought.is_by_fd && sought.is_fixed && sought.is_all && !sought.is_any && !sought.is_of_operation, "a call looks by a slot");
     wulgach_sought_by_call(&(struct wulgach_cancel_form){.addr = 5, .fd = -1}, &sought);
     demand(sought.user_data == 5 && wulgach_goes_by_user_data(&sought) && !sought.is_fixed && !sought.is_all, "or by user data");
     wulgach_sought_of(&(struct wulgach_submission){.opcode = CANCEL, .op_flags = 4}, &sought);
     wulgach_cancel_begin(&cancel, &sought);
     demand(!wulgach_cancel_sees(&cancel, &other) && wulgach_cancel_sees(&cancel, &read) && wulgach_cancel_result(&cancel) == 1, "a cancel finds none");
     demand(wulgach_is_waiting(&read) && wulgach_is_waiting(&timeout) && !wulgach_is_waiting(&(struct wulgach_outstanding){0}), "what waits");
+}
+
+/* On which file a request is carried out. */
+static void compare(void)
+{
+    struct wulgach_sought fd = {.fd = 5, .is_by_fd = true}, any = {.fd = 5, .is_by_fd = true, .is_any = true}, by_user_data = {.user_data = 1};
+    struct wulgach_outstanding request = {.fd = 5, .needs_file = true, .is_assigned = true, .is_token = true, .runs = true, .is_stream = true};
+    struct wulgach_cancel cancel;
+    demand(wulgach_asks_file(&fd, &request) && !wulgach_asks_file(&any, &request) && !wulgach_asks_file(&by_user_data, &request), "to whom a file matters");
+    request.is_compared = true;
+    wulgach_cancel_begin(&cancel, &fd);
+    demand(!wulgach_cancel_sees(&cancel, &request), "a number that is another file's");
+    request.fd = 7;
+    request.is_same = true;
+    demand(wulgach_cancel_sees(&cancel, &request), "a duplicate");
+    request.is_assigned = false;
+    demand(!wulgach_asks_file(&fd, &request), "a file that isn't known");
 }
 
 /* What a cancel comes before. */
@@ -69,7 +86,7 @@ int main(void)
     struct wulgach_cancel cancel;
     struct wulgach_outstanding waits = {.user_data = 1, .is_token = true};
     struct wulgach_sought one = {.user_data = 1}, nobody = {.user_data = 3}, any = {.is_any = true}, all = {.user_data = 1, .is_all = true};
-    struct wulgach_sought fd = {.fd = 5, .is_by_fd = true}, file = {.file = 9, .is_by_fd = true, .is_fixed = true};
+    struct wulgach_sought fd = {.fd = 5, .is_by_fd = true}, file = {.fd = 9, .is_by_fd = true, .is_fixed = true};
     demand(look(&one, (bool[]){false, true, false}) == 0, "one by its user data");
     demand(look(&nobody, (bool[]){false, false, false}) == -2, "nobody");
     demand(look(&any, (bool[]){false, true, true}) == 2, "any");
@@ -81,6 +98,7 @@ int main(void)
     waits.may_start = true;
     demand(wulgach_cancel_sees(&cancel, &waits) && !wulgach_cancel_asks(&cancel, &waits), "once one is found, it doesn't");
     seek();
+    compare();
     printf("cancel: as called for\n");
     return 0;
 }

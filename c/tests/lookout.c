@@ -228,12 +228,28 @@ static void sleep_or_not(void)
     demand(waited((struct wulgach_waited){.is_never = true}) == WULGACH_ENDLESS && waited((struct wulgach_waited){.is_never = true, .has_messages = true}) == WULGACH_ENDLESS && waited((struct wulgach_waited){.is_never = true, .has_messages = true, .may_post = true}) == WULGACH_WOKEN, "nothing to wait for");
 }
 
+#define LEFT(...) wulgach_was_left(&(struct wulgach_seen_sleep){__VA_ARGS__})
+#define ASKS(...) wulgach_asks_stacks(&(struct wulgach_seen_sleep){__VA_ARGS__})
+
+/* The thread's stack has a hundred bytes from 1000 on, and its handlers' ten from 1040 on. */
+static void jump(void)
+{
+    demand(LEFT(.place = 1050, .from = 1050, .here = 1040) && !ASKS(.place = 1050, .from = 1050, .here = 1060), "a mark that is gone");
+    demand(!ASKS(.is_marked = true, .place = 1050, .from = 1050, .here = 1040) && !LEFT(.is_marked = true, .place = 1050, .from = 1050, .here = 1040, .own_lowest = 1000, .own_size = 100), "from below");
+    demand(ASKS(.is_marked = true, .place = 1050, .from = 1050, .here = 1060) && LEFT(.is_marked = true, .place = 1050, .from = 1050, .here = 1060, .own_lowest = 1000, .own_size = 100), "from above");
+    demand(LEFT(.is_marked = true, .place = 7, .from = 1050, .here = 1040, .own_lowest = 1000, .own_size = 100), "a sleep that has a stack of its own");
+    demand(!LEFT(.is_marked = true, .place = 1050, .from = 1050, .here = 1100, .own_lowest = 1000, .own_size = 100) && !LEFT(.is_marked = true, .place = 1050, .from = 1050, .here = 1060), "another stack");
+    demand(!LEFT(.is_marked = true, .place = 7, .from = 1050, .here = 1049, .own_lowest = 1000, .own_size = 100, .handlers_lowest = 1040, .handlers_size = 10), "the handlers' stack");
+    demand(!LEFT(.is_marked = true, .place = 1050, .from = 1050, .here = 1060, .own_lowest = 1000, .own_size = 100, .is_on_handlers = true), "a handler");
+}
+
 static void keep_files(void)
 {
     demand(wulgach_keeps_before_close(3, 5, 4, 5) && !wulgach_keeps_before_close(4, 5, 4, 5) && !wulgach_keeps_before_close(5, 5, 4, 5) && !wulgach_keeps_before_close(3, 6, 4, 5), "before a close");
     demand(wulgach_may_close_last(1, true, true, true, true) && wulgach_may_close_last(2, true, true, false, false) && !wulgach_may_close_last(2, true, true, false, true) && !wulgach_may_close_last(2, true, false, true, false), "the last descriptor of a file");
     demand(!wulgach_may_close_last(0, true, true, true, false) && !wulgach_may_close_last(2, false, true, true, false), "nobody else, and none that was closed");
     demand(wulgach_instance_takes(true, false) && wulgach_instance_takes(false, true) && !wulgach_instance_takes(false, false), "what an instance takes");
+    demand(wulgach_dormant_events(0x203b) == 0x4000203b, "it tells once");
     demand(wulgach_asks_locks(true) && !wulgach_asks_locks(false), "what has locks");
     demand(wulgach_stays_open(true, WULGACH_MOST_LEFT - 1) && !wulgach_stays_open(true, WULGACH_MOST_LEFT) && !wulgach_stays_open(false, 0), "a copy of what is locked");
 }
@@ -289,6 +305,7 @@ int main(void)
     tell_of_writes();
     hear_pipes();
     sleep_or_not();
+    jump();
     keep_files();
     tell_others();
     lie();

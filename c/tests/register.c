@@ -346,6 +346,7 @@ static void keep_pages(void)
     demand(PINNED(.from = UINT64_MAX - 4095, .size = 1, .is_asked = true) == -75 && PINNED(.from = UINT64_MAX - 4096, .size = 1, .is_asked = true) == -14 && PINNED(.from = 2, .size = UINT64_MAX) == -75, "memory without an end");
     demand(wulgach_is_written_back(254, false, 0) && wulgach_is_written_back(254, true, 0x01021994) && wulgach_is_written_back(0, true, 0x9123683e), "files that are written back");
     demand(!wulgach_is_written_back(0, false, 0x9123683e) && !wulgach_is_written_back(0, true, 0x01021994) && !wulgach_is_written_back(0, true, 0x858458f6) && !wulgach_is_written_back(0, true, 0x958458f6), "files in memory");
+    demand(wulgach_has_byte_of(10, 5, 14, 20) && !wulgach_has_byte_of(10, 5, 15, 20) && wulgach_has_byte_of(10, 5, 0, 11) && !wulgach_has_byte_of(10, 5, 0, 10) && wulgach_has_byte_of(10, UINT64_MAX, 11, 12), "memory that has a byte of other");
 }
 
 static void take_what_is_unknown(void)

@@ -106,7 +106,7 @@ static void check_waits(void)
     wulgach_times_wait(&times, rows, ROOM, &signal, &never, &wait);
     demand(wait.kind == WULGACH_WAIT_SLEEP && wait.until.is_set && wait.until.at == times.time, "a signal waits");
     demand(wulgach_times_asks_threads(&times, false) && !wulgach_times_asks_threads(&times, true), "then it matters whether one may");
-    demand(wulgach_may_have_others(false, 1) && wulgach_may_have_others(true, 2) && !wulgach_may_have_others(true, 1), "whether one may");
+    demand(wulgach_may_have_others(false, 3) && wulgach_may_have_others(true, 4) && !wulgach_may_have_others(true, 3), "whether one may");
     demand(start(3, 10, 0, true) == 0, "a linked timeout starts");
     demand(!wulgach_times_asks_threads(&times, false), "beside a timeout it doesn't matter");
     wulgach_times_wait(&times, rows, ROOM, &stream, &soon, &wait);

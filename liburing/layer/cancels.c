@@ -38,7 +38,6 @@ static struct wulgach_outstanding seen_of(const struct request *request)
 {
     return (struct wulgach_outstanding){
         .user_data = request->entry.user_data,
-        .file = (uintptr_t)request->file,
         .fd = (uint32_t)request->needs.fd,
         .is_registered = request->needs.is_registered,
         .needs_file = request->needs.needs_file,
@@ -57,24 +56,35 @@ bool is_cancellable(const struct request *request)
     return wulgach_is_waiting(&seen);
 }
 
-/* Has the cancel of a seeker, or of a call of io_uring_register(2), which comes behind all (NULL), look at a request. The core is asked whether that could start only where it matters. */
-static bool look_for(struct ring *ring, struct wulgach_cancel *cancel, const struct request *seeker, const struct request *request)
+/* Tells whether a request is carried out on the file of a descriptor, if the kernel says so. */
+static void compare(struct wulgach_outstanding *seen, const struct request *request, int on)
+{
+    int same = are_on_one_file(request->fd, on);
+    seen->is_compared = same >= 0;
+    seen->is_same = same > 0;
+}
+
+/* Has the cancel of a seeker, or of a call of io_uring_register(2), which comes behind all (NULL), look at a request. Whether that is carried out on the
+ * file of this descriptor, and whether the core lets it start, is asked only where it matters. */
+static bool look_for(struct ring *ring, struct wulgach_cancel *cancel, const struct request *seeker, const struct request *request, int on)
 {
     struct wulgach_outstanding seen = seen_of(request);
+    if (wulgach_asks_file(&cancel->sought, &seen))
+        compare(&seen, request, on);
     bool is_behind = seeker && wulgach_is_taken_behind(seeker->number, seeker->member.is_linked, seeker->is_draining, request->number);
     seen.may_start = wulgach_cancel_asks(cancel, &seen) && !is_behind && can_issue(ring, request->number);
     return wulgach_cancel_sees(cancel, &seen);
 }
 
-/* Cancels what is sought, and returns what the canceller ends with. */
-static int32_t cancel_all(struct ring *ring, const struct request *canceller, const struct wulgach_sought *sought)
+/* Cancels what is sought, where that is by a file on the one of this descriptor, and returns what the canceller ends with. */
+static int32_t cancel_all(struct ring *ring, const struct request *canceller, const struct wulgach_sought *sought, int on)
 {
     struct wulgach_cancel cancel;
     struct seeking seeking;
     wulgach_cancel_begin(&cancel, sought);
     begin_seeking(&seeking, ring, sought);
     for (struct request *request; (request = next_sought(&seeking));)
-        if (look_for(ring, &cancel, canceller, request))
+        if (look_for(ring, &cancel, canceller, request, on))
             cancel_request(ring, request);
     return wulgach_cancel_result(&cancel);
 }
@@ -94,13 +104,13 @@ bool cancel_running(struct ring *ring, uint64_t user_data, int32_t *found)
     return wulgach_search_has_cancelled(&search);
 }
 
-int32_t cancel_sought(struct ring *ring, const struct request *canceller, struct wulgach_sought *sought)
+int32_t cancel_sought(struct ring *ring, const struct request *canceller, const struct wulgach_sought *sought)
 {
     struct file *file = sought->is_by_fd && sought->is_fixed ? use_file(ring, sought->fd) : NULL;
     bool is_there = sought->is_fixed ? file != NULL : sought->is_by_fd && counts_as_open((int)sought->fd, false);
-    sought->file = (uintptr_t)file;
+    int on = file ? file->fd : (int)sought->fd;
     int32_t fault = wulgach_seeking_fault(sought, is_there);
-    int32_t res = fault < 0 ? fault : cancel_all(ring, canceller, sought);
+    int32_t res = fault < 0 ? fault : cancel_all(ring, canceller, sought, on);
     release_file(file);
     return res;
 }
@@ -121,7 +131,7 @@ struct request *find_request(struct ring *ring, const struct request *seeker)
     wulgach_cancel_begin(&cancel, &sought);
     begin_seeking(&seeking, ring, &sought);
     for (struct request *request; (request = next_sought(&seeking));)
-        if (look_for(ring, &cancel, seeker, request))
+        if (look_for(ring, &cancel, seeker, request, -1))
             return request;
     return NULL;
 }

@@ -22,7 +22,7 @@ struct request *find_request(struct ring *ring, const struct request *seeker);
 
 /* Cancels what is sought, whose registered file is looked for, and returns what the canceller ends with, or the call of io_uring_register(2), if there is none
  * (NULL). */
-int32_t cancel_sought(struct ring *ring, const struct request *canceller, struct wulgach_sought *sought);
+int32_t cancel_sought(struct ring *ring, const struct request *canceller, const struct wulgach_sought *sought);
 
 /* Carry out a cancel, the removal or the update of a poll, and of a timeout. */
 int32_t cancel_by(struct ring *ring, const struct request *canceller);

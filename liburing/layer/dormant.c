@@ -66,7 +66,7 @@ static bool has_instance(struct ring *ring)
 
 static bool change(const struct ring *ring, int how, const struct request *request, const struct pollfd *polled)
 {
-    struct epoll_event event = {.events = (uint16_t)polled->events | EPOLLONESHOT, .data.u64 = request->number};
+    struct epoll_event event = {.events = wulgach_dormant_events((uint16_t)polled->events), .data.u64 = request->number};
     int fd = request->duplicate ? request->duplicate->fd : polled->fd;
     return epoll_ctl(ring->dormant.instance, how, fd, &event) == 0;
 }

@@ -78,13 +78,19 @@ bool release_file(struct file *file)
     return true;
 }
 
-bool is_file_of(const struct file *file, int fd)
+int are_on_one_file(int one, int other)
 {
     pid_t process = this_process();
-    int result = fcntl(file->fd, F_DUPFD_QUERY, fd);
-    if (result < 0)
-        result = syscall(SYS_kcmp, process, process, KCMP_FILE, file->fd, fd) == 0;
-    return result == 1;
+    int result = one == other ? 1 : fcntl(one, F_DUPFD_QUERY, other);
+    if (result >= 0)
+        return result;
+    long order = syscall(SYS_kcmp, process, process, KCMP_FILE, one, other);
+    return order < 0 ? -1 : order == 0;
+}
+
+bool is_file_of(const struct file *file, int fd)
+{
+    return are_on_one_file(file->fd, fd) == 1;
 }
 
 struct file *use_file(struct ring *ring, uint32_t index)
@@ -161,8 +167,7 @@ static int make_file_of(struct file **made, int fd)
     return make_by_steps(made, (struct making){.fd = fd}, false);
 }
 
-/* The same of what the application names by its number, with a tag. */
-static int make_tagged_file(struct ring *ring, struct file **made, int fd, uint64_t tag)
+int make_tagged_file(struct ring *ring, struct file **made, int fd, uint64_t tag)
 {
     return make_by_steps(made, (struct making){.fd = fd, .told = &ring->inbox, .tag = tag}, true);
 }
@@ -221,8 +226,7 @@ static void put_slot(struct files *files, uint32_t slot, struct file *file)
     release_file(file_of(before));
 }
 
-/* Reads a descriptor, and its tag, of the application's lists, as the library says. A list that isn't read has no files, or no tags. */
-static int read_row(int *fd, uint64_t *tag, uint64_t fds, uint64_t tags, uint32_t index, bool is_update)
+int read_file_row(int *fd, uint64_t *tag, uint64_t fds, uint64_t tags, uint32_t index, bool is_update)
 {
     *fd = NO_FILE;
     *tag = 0;
@@ -242,7 +246,7 @@ static int make_row(struct ring *ring, uint64_t *word, uint64_t fds, uint64_t ta
     uint64_t tag;
     int32_t fault;
     struct file *file = NULL;
-    int result = read_row(&fd, &tag, fds, tags, index, false);
+    int result = read_file_row(&fd, &tag, fds, tags, index, false);
     if (result < 0)
         return result;
     if (wulgach_file_row(fd, tag, false, &fault) == WULGACH_ROW_FILLS)
@@ -300,7 +304,7 @@ int update_files(struct ring *ring, uint32_t offset, uint64_t fds, uint64_t tags
     while (wulgach_takes_next(done, count, result)) {
         int fd;
         uint64_t tag;
-        result = read_row(&fd, &tag, fds, tags, done, true);
+        result = read_file_row(&fd, &tag, fds, tags, done, true);
         if (result == 0)
             result = update_file(ring, offset + done, fd, tag);
         done += result == 0;
@@ -321,8 +325,7 @@ int register_range(struct ring *ring, uint64_t range)
     return result;
 }
 
-/* Takes a file over. If it can't be put, it is released. Returns what it ends with. */
-static int put_file(struct ring *ring, struct file *file, uint32_t file_index)
+int put_file(struct ring *ring, struct file *file, uint32_t file_index)
 {
     struct files *files = &ring->files;
     struct file *before = file;
@@ -362,58 +365,6 @@ int remove_file(struct ring *ring, uint32_t slot)
     pthread_mutex_unlock(&files->lock);
     release_file(file_of(before));
     return result;
-}
-
-/* A file that is put where there is room, by a row of a list. */
-struct placing {
-    uint64_t fds;
-    uint32_t index;
-    int fd;
-    uint64_t tag;
-    struct file *file;
-    int slot;
-};
-
-static int do_step_of_placing(struct ring *ring, struct placing *placing, uint32_t step)
-{
-    int *slot = &placing->slot;
-    switch (step) {
-    case WULGACH_PLACING_READS:
-        return read_row(&placing->fd, &placing->tag, placing->fds, 0, placing->index, true);
-    case WULGACH_PLACING_MAKES:
-        return make_tagged_file(ring, &placing->file, placing->fd, placing->tag);
-    case WULGACH_PLACING_PUTS:
-        *slot = put_file(ring, placing->file, IORING_FILE_INDEX_ALLOC);
-        return *slot;
-    default:
-        return wulgach_telling_fault(copy_out(placing->fds + placing->index * sizeof *slot, slot, sizeof *slot) == 0);
-    }
-}
-
-/* Does with a row what the library says. Returns its fault, or 0. */
-static int place_file(struct ring *ring, uint64_t fds, uint32_t index)
-{
-    struct placing placing = {.fds = fds, .index = index};
-    int result = 0;
-    uint32_t next = wulgach_placing_next(WULGACH_PLACING_BEGINS, 0);
-    while (next <= WULGACH_PLACING_TELLS) {
-        result = do_step_of_placing(ring, &placing, next);
-        next = wulgach_placing_next(next, result);
-    }
-    if (next == WULGACH_PLACING_TAKES_OUT)
-        remove_file(ring, (uint32_t)placing.slot);
-    return result;
-}
-
-int place_files(struct ring *ring, uint64_t fds, uint32_t count)
-{
-    int result = wulgach_table_updating_fault(&ring->files.table, 0, 0);
-    uint32_t done = 0;
-    while (wulgach_takes_next(done, count, result)) {
-        result = place_file(ring, fds, done);
-        done += result == 0;
-    }
-    return wulgach_updated(done, result);
 }
 
 void free_files(struct ring *ring)

@@ -39,9 +39,6 @@ int unregister_files(struct ring *ring, bool has_argument);
 int update_files(struct ring *ring, uint32_t offset, uint64_t fds, uint64_t tags, uint32_t count);
 int register_range(struct ring *ring, uint64_t range);
 
-/* Puts each of these descriptors into a slot that is free, and tells which ones in their place. */
-int place_files(struct ring *ring, uint64_t fds, uint32_t count);
-
 /* Takes a descriptor over as a registered file: slot + 1, or IORING_FILE_INDEX_ALLOC. Returns 0, or the slot if any was
  * asked for, or the negative of an error number: then the descriptor is closed. */
 int install_file(struct ring *ring, int fd, uint32_t file_index);
@@ -49,6 +46,15 @@ int remove_file(struct ring *ring, uint32_t slot);
 
 /* Puts a file of another ring into this one's table, likewise, also from another thread. The file stays the other's too. */
 int pass_file(struct ring *target, const struct file *file, uint32_t file_index);
+
+/* Reads a row of the application's lists of descriptors and of tags, as the library says. A list that isn't read has no files, or no tags. */
+int read_file_row(int *fd, uint64_t *tag, uint64_t fds, uint64_t tags, uint32_t index, bool is_update);
+
+/* Makes the file of a descriptor that the application names by its number, with a tag or 0. Returns 0, or its fault. */
+int make_tagged_file(struct ring *ring, struct file **made, int fd, uint64_t tag);
+
+/* Puts a file into a slot, as install_file does a descriptor. If it can't be put, it is released. */
+int put_file(struct ring *ring, struct file *file, uint32_t file_index);
 
 /* The file of an index, one use more; NULL if there is none. */
 struct file *use_file(struct ring *ring, uint32_t index);
@@ -59,6 +65,9 @@ struct file *share_file(struct file *file);
 
 /* One use less. Nothing, of NULL. Returns whether it was the last, and the file's descriptor is closed. */
 bool release_file(struct file *file);
+
+/* Whether two descriptors are open on one file: 1 or 0, or negative: the kernel doesn't say. */
+int are_on_one_file(int one, int other);
 
 /* Whether a request's file is that of a descriptor of the application's too, which keeps it open. False where the kernel doesn't say. */
 bool is_file_of(const struct file *file, int fd);

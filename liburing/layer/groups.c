@@ -187,7 +187,7 @@ bool find_provided(struct ring *ring, uint16_t id, struct wulgach_buffer *found)
     const struct group *group = find_group(ring, id);
     if (!group)
         return false;
-    return group->kept.entries ? find_in_ring(group, found) : wulgach_group_next(&group->kept, group->rows, group->room, found);
+    return wulgach_group_is_ring(&group->kept) ? find_in_ring(group, found) : wulgach_group_next(&group->kept, group->rows, group->room, found);
 }
 
 void take_provided(struct ring *ring, uint16_t id)

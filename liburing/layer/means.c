@@ -9,6 +9,7 @@
 #include "groups.h"
 #include "openings.h"
 #include "passing.h"
+#include "placings.h"
 #include "ring.h"
 #include "sockets.h"
 #include "streams.h"

@@ -107,9 +107,8 @@ static void look_up(struct known_memory *known)
 
 static bool is_shared(const struct known_memory *known, const struct iovec *bytes)
 {
-    uintptr_t at = (uintptr_t)bytes->iov_base;
     for (size_t i = 0; i < known->count; i++)
-        if (known->spans[i].start < at + bytes->iov_len && at < known->spans[i].end)
+        if (wulgach_has_byte_of((uintptr_t)bytes->iov_base, bytes->iov_len, known->spans[i].start, known->spans[i].end))
             return true;
     return false;
 }

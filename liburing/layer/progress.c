@@ -54,10 +54,10 @@ bool can_finish(struct ring *ring, struct request *request)
     return look == WULGACH_LOOK_FINISHES;
 }
 
-/* Whether a request goes on behind this result. (most can't, whatever that is) */
+/* Whether a request goes on behind this result. */
 static bool goes_on_behind(const struct ring *ring, const struct request *request, int32_t res)
 {
-    return request->needs.goes_on && wulgach_goes_on(&ring->completions.at, submission_of(&request->entry), request->done, res, ring->memory.cq_entries);
+    return wulgach_goes_on(&ring->completions.at, request->needs.goes_on, submission_of(&request->entry), request->done, res, ring->memory.cq_entries);
 }
 
 /* Posts a completion of a request before its end. It counts as of the call that submitted the request. False: it is put off. */

@@ -20,10 +20,9 @@
 
 bool has_threads(void)
 {
-    struct stat status;
+    struct stat status = {0};
     bool knows = stat("/proc/self/task", &status) == 0;
-    /* (two links are the folder's own) */
-    return wulgach_may_have_others(knows, knows ? status.st_nlink - 2 : 0);
+    return wulgach_may_have_others(knows, status.st_nlink);
 }
 
 /* Adds what has passed since `start` to the ring's time. */

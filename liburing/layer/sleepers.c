@@ -1,6 +1,6 @@
-/* Whether a sleep was left by a jump is seen on the stack. A mark stands there, in the frame of the sleep, while that lasts: if it has
- * changed, the sleep was left. And on the stack that the thread was made with, a handler that comes in a sleep has its frames
- * below: if the next call has its own above, the sleep was left. Of a call that runs on a stack of the layer's it is told where it was made.
+/* Whether a sleep was left by a jump is seen on the stack: a mark stands there, in the frame of the sleep, while that lasts, and a handler that comes
+ * in a sleep has its frames below. What that comes to is the library's decision. Of a call that runs on a stack of the layer's it is told where it was
+ * made.
  */
 #define _GNU_SOURCE
 #include "sleepers.h"
@@ -10,6 +10,7 @@
 #include "numbers.h"
 #include "process.h"
 #include "ring.h"
+#include "wulgach_lookout.h"
 
 #include <stdlib.h>
 #include <sys/eventfd.h>
@@ -126,45 +127,46 @@ static bool has_mark(const struct sleeper *sleeper)
     return copy_in(&mark, (uintptr_t)sleeper->place, sizeof mark) < 0 || mark == sleeper->mark;
 }
 
-/* Whether both stand on the stack that the thread was made with: a handler, or a program's own threads, may have others. */
-static bool are_on_own_stack(const volatile void *one, const volatile void *other)
+/* Finds out which stacks the thread has: the one that it was made with, and that of its handlers, as it is now and was as the sleep began. */
+static void find_stacks(struct wulgach_seen_sleep *seen, const struct sleeper *sleeper)
 {
     pthread_attr_t attributes;
     void *lowest = NULL;
     size_t size = 0;
-    if (pthread_getattr_np(pthread_self(), &attributes) != 0)
-        return false;
-    pthread_attr_getstack(&attributes, &lowest, &size);
-    pthread_attr_destroy(&attributes);
-    return (uintptr_t)one - (uintptr_t)lowest < size && (uintptr_t)other - (uintptr_t)lowest < size;
-}
-
-/* Whether a handler runs on a stack of its own, which may lie in the thread's: as it is told now, or was as the sleep began. */
-static bool is_on_handlers_stack(const struct sleeper *sleeper, const void *here)
-{
+    if (pthread_getattr_np(pthread_self(), &attributes) == 0) {
+        pthread_attr_getstack(&attributes, &lowest, &size);
+        pthread_attr_destroy(&attributes);
+    }
     stack_t now = {.ss_flags = SS_DISABLE};
-    const stack_t *then = &sleeper->for_handlers;
     sigaltstack(NULL, &now);
-    return now.ss_flags & SS_ONSTACK || (!(then->ss_flags & SS_DISABLE) && (uintptr_t)here - (uintptr_t)then->ss_sp < then->ss_size);
+    seen->own_lowest = (uintptr_t)lowest;
+    seen->own_size = size;
+    seen->is_on_handlers = now.ss_flags & SS_ONSTACK;
+    if (sleeper->for_handlers.ss_flags & SS_DISABLE)
+        return;
+    seen->handlers_lowest = (uintptr_t)sleeper->for_handlers.ss_sp;
+    seen->handlers_size = sleeper->for_handlers.ss_size;
 }
 
-/* (handlers of a call on a stack of the layer's run there too) */
-static bool is_above(const struct sleeper *sleeper, const void *here)
+/* Whether a sleep was left by a jump, of a thread that calls here. */
+static bool was_left(const struct sleeper *sleeper, const void *here)
 {
-    bool is_on_layers = sleeper->from != sleeper->place;
-    return (is_on_layers || (uintptr_t)here > (uintptr_t)sleeper->from) && are_on_own_stack(here, sleeper->from) && !is_on_handlers_stack(sleeper, here);
-}
-
-static bool is_left(const struct sleeper *sleeper, const void *here)
-{
-    return !has_mark(sleeper) || is_above(sleeper, here);
+    struct wulgach_seen_sleep seen = {
+        .place = (uintptr_t)sleeper->place,
+        .from = (uintptr_t)sleeper->from,
+        .here = (uintptr_t)here,
+        .is_marked = has_mark(sleeper),
+    };
+    if (wulgach_asks_stacks(&seen))
+        find_stacks(&seen, sleeper);
+    return wulgach_was_left(&seen);
 }
 
 int leave_jumped_sleeps(const void *here, int cancel_state)
 {
     sigset_t signals;
     block_signals(&signals);
-    while (own_sleeps.innermost && is_left(own_sleeps.innermost, here))
+    while (own_sleeps.innermost && was_left(own_sleeps.innermost, here))
         leave(own_sleeps.innermost);
     allow_signals(&signals);
     if (own_sleeps.innermost)

@@ -340,6 +340,47 @@ static void test_behind_a_cancel(void)
     close_ring(&ring);
 }
 
+/* Whether a cancel finds the poll of this descriptor or slot by that one. It is removed then, if it is still there. */
+static bool finds(struct ring *ring, uint32_t cancel_flags, int fd, uint8_t flags, int polled)
+{
+    int32_t results[3];
+    struct io_uring_sqe *poll = put_plain(ring, IORING_OP_POLL_ADD, 1, polled);
+    poll->poll32_events = POLLIN;
+    poll->flags = flags;
+    check(enter(ring, 1, 0, 0) == 1 && enter_for(ring, 1, 1000) == -ETIME);
+    put_plain(ring, IORING_OP_ASYNC_CANCEL, 0, fd)->cancel_flags = cancel_flags | IORING_ASYNC_CANCEL_FD;
+    check(enter(ring, 1, 1, IORING_ENTER_GETEVENTS) == 1);
+    put(ring, IORING_OP_POLL_REMOVE, 2, 0)->addr = 1;
+    check(enter(ring, 1, 0, 0) == 1);
+    reap_all(ring, 3, results);
+    check(results[1] == -ECANCELED && (results[0] == 0) == (results[2] == -ENOENT));
+    return results[0] == 0;
+}
+
+/* By a descriptor or a slot what is carried out on its file is found, however that is named, and nothing that is carried out on another. */
+static void test_cancel_by_file(void)
+{
+    struct ring ring;
+    int ends[2], others[2];
+    check(pipe(ends) == 0 && pipe(others) == 0);
+    int copy = dup(ends[0]);
+    make_ring(&ring, 8, 0, 0);
+    check(register_at(ring.fd, IORING_REGISTER_FILES, ends, 2) == 0);
+    check(finds(&ring, 0, ends[0], 0, ends[0]) && finds(&ring, 0, copy, 0, ends[0]) && !finds(&ring, 0, others[0], 0, ends[0]));
+    check(finds(&ring, 0, copy, IOSQE_FIXED_FILE, 0) && finds(&ring, IORING_ASYNC_CANCEL_FD_FIXED, 0, 0, copy));
+    check(!finds(&ring, IORING_ASYNC_CANCEL_FD_FIXED, 1, 0, copy) && !finds(&ring, 0, others[0], IOSQE_FIXED_FILE, 0));
+    put_plain(&ring, IORING_OP_POLL_ADD, 0, ends[0])->poll32_events = POLLIN;
+    check(enter(&ring, 1, 0, 0) == 1 && enter_for(&ring, 1, 1000) == -ETIME && dup2(others[0], ends[0]) == ends[0]);
+    put_plain(&ring, IORING_OP_ASYNC_CANCEL, 1, ends[0])->cancel_flags = IORING_ASYNC_CANCEL_FD;
+    check(enter(&ring, 1, 1, IORING_ENTER_GETEVENTS) == 1 && reap(&ring).res == -ENOENT);
+    close_ring(&ring);
+    for (int i = 0; i < 2; i++) {
+        close(ends[i]);
+        close(others[i]);
+    }
+    close(copy);
+}
+
 int main(int count, char **words)
 {
     static const struct named tests[] = {
@@ -350,6 +391,7 @@ int main(int count, char **words)
         {"cancels of any", test_cancels_of_any},
         {"behind a cancel", test_behind_a_cancel},
         {"cancel by an unused descriptor", test_cancel_by_unused_descriptor},
+        {"cancel by a file", test_cancel_by_file},
         {"cancelled middle", test_cancelled_middle},
         {"count of removed", test_count_of_removed},
         {"updated clock", test_updated_clock},

@@ -8,7 +8,7 @@ ghost use Rattle.uring_enter.specs.Seeking as seeking;
 ghost use Rattle.uring_enter.specs.Cancels.{result_of, is_cancelled, is_asked, HasSeen, HasSought, oldest, is_stopped, has_cancelled, found_by_core};
 
 use uring_enter::{
-    Cancel, Outstanding, Search, Sought, Submission, goes_by_user_data, is_taken_behind,
+    Cancel, Outstanding, Search, Sought, Submission, asks_file, goes_by_user_data, is_taken_behind,
     is_waiting, seeking_fault, sought_by_call, sought_of,
 };
 use uring_register::CancelForm;
@@ -43,6 +43,14 @@ pub extern "C" fn wulgach_goes_by_user_data(sought: &Sought) -> bool
     ensures { result ≡ cancels.goes_by_user_data sought.now }
 {
     goes_by_user_data(sought)
+}
+
+/// Whether it matters to a cancel if a request is carried out on the file that is looked for.
+#[unsafe(no_mangle)]
+pub extern "C" fn wulgach_asks_file(sought: &Sought, request: &Outstanding) -> bool
+    ensures { result ≡ cancels.asks_file sought.now request.now }
+{
+    asks_file(sought, request)
 }
 
 /// Whether a request that runs waits for something. A cancel ends no other.

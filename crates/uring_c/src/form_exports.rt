@@ -80,19 +80,20 @@ pub extern "C" fn wulgach_is_served(code: u8) -> bool
     rule_of(code).is_some()
 }
 
-/// Whether the request of an entry, which has moved so many bytes, goes on behind this result, in a ring of so many entries; else it ends with it.
+/// Whether the request of an entry, which has started as one that goes on or hasn't, and has moved so many bytes, goes on behind this result, in a ring of so many entries; else it ends with it.
 #[unsafe(no_mangle)]
 pub extern "C" fn wulgach_goes_on(
     shown: &Shown,
+    started: bool,
     entry: &Submission,
     done: u64,
     res: i32,
     entries: u32,
 ) -> bool
     ensures { (log : List Change) → KeepsShown log shown.now
-        → result ≡ goes_on (shot_of entry.now done) res (has_room log entries) }
+        → result ≡ goes_on (shot_of started entry.now done) res (has_room log entries) }
 {
-    shown.goes_on(entry, done, res, entries)
+    shown.goes_on(started, entry, done, res, entries)
 }
 
 /// Whether an eventfd is told of a completion.

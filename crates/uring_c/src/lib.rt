@@ -18,6 +18,7 @@ mod enter_exports;
 mod entry_exports;
 mod following_exports;
 mod form_exports;
+mod jump_exports;
 mod keeping_exports;
 mod leaving_exports;
 mod listing_exports;

@@ -9,7 +9,7 @@ ghost use Rattle.uring_c.specs.PassageForm.{word_of_glance, word_of_answered, wo
 ghost use Rattle.uring_c.specs.RingForm.{known_if};
 
 use uring_enter::{
-    Answered, Glance, Gone, Lookout, Waiter, answer_of, glance_of, takes_descriptor,
+    Answered, Glance, Gone, Lookout, Waiter, answer_of, dormant_events, glance_of, takes_descriptor,
 };
 
 /// Returns what a poll(2), of one descriptor or of many, says of a request.
@@ -46,6 +46,14 @@ pub extern "C" fn wulgach_instance_takes(keeps_file: bool, has_own: bool) -> boo
     ensures { result ≡ lying.takes_descriptor keeps_file has_own }
 {
     takes_descriptor(keeps_file, has_own)
+}
+
+/// For what an instance is asked that is to tell of these events of a dormant request.
+#[unsafe(no_mangle)]
+pub extern "C" fn wulgach_dormant_events(events: u16) -> u32
+    ensures { result ≡ lying.dormant_events events }
+{
+    dormant_events(events)
 }
 
 /// Returns what an instance's answer makes of who asks it.

@@ -3,7 +3,7 @@ ghost use Rattle.std.specs.Prelude.{◌≡◌};
 ghost use Rattle.uring_register.specs.Pinning as spec;
 ghost use Rattle.uring_c.specs.PinningForm.{known_of};
 
-use uring_register::{Memory, is_written_back, pinning_fault};
+use uring_register::{Memory, has_byte_of, is_written_back, pinning_fault};
 
 /// The fault of registering this memory, or 0.
 #[unsafe(no_mangle)]
@@ -11,6 +11,14 @@ pub extern "C" fn wulgach_pinning_fault(memory: &Memory) -> i32
     ensures { result ≡ spec.pinning_fault memory.now }
 {
     pinning_fault(memory)
+}
+
+/// Whether one of so many bytes from an address on stands between a start and an end.
+#[unsafe(no_mangle)]
+pub extern "C" fn wulgach_has_byte_of(from: u64, size: u64, start: u64, end: u64) -> bool
+    ensures { result ≡ spec.has_byte_of from size start end }
+{
+    has_byte_of(from, size, start, end)
 }
 
 /// Whether the kernel writes a file back that is shared.

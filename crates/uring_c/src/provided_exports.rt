@@ -88,6 +88,14 @@ pub extern "C" fn wulgach_group_next(group: &Group, rows: &[Buffer], buffer: &mu
     }
 }
 
+/// Whether a group is a ring, and no list.
+#[unsafe(no_mangle)]
+pub extern "C" fn wulgach_group_is_ring(group: &Group) -> bool
+    ensures { (log : List Change) (rows : List Buffer) → KeepsGroup log group.now rows → result ≡ spec.is_ring log }
+{
+    group.is_ring()
+}
+
 /// Writes the cell of the next buffer of a ring whose tail is this, if that could be read. `false`: there is none, and nothing is written.
 #[unsafe(no_mangle)]
 pub extern "C" fn wulgach_group_cell(

@@ -36,12 +36,12 @@ fn number(knows: bool, number: u64) -> Option<u64>
     if knows { Some(number) } else { None }
 }
 
-/// Whether another thread of the process may make a call, where it has so many, if that is known.
+/// Whether another thread of the process may make a call, where its folder of threads has so many links, if that is known.
 #[unsafe(no_mangle)]
-pub extern "C" fn wulgach_may_have_others(knows: bool, threads: u64) -> bool
-    ensures { result ≡ unknown.may_have_others (known_of knows threads) }
+pub extern "C" fn wulgach_may_have_others(knows: bool, links: u64) -> bool
+    ensures { result ≡ unknown.may_have_others (known_of knows links) }
 {
-    may_have_others(number(knows, threads))
+    may_have_others(number(knows, links))
 }
 
 /// Whether it matters to a call that waits whether another thread may make one.

@@ -3,8 +3,8 @@ use Rattle.std.proofs.Common.{◌≡◌, ◌==◌, ℕ, ◌≤◌, Bool, true, f
 use Rattle.std.proofs.lemmas.Bool.{false≢true, true≢false}
 use Rattle.uring_enter.specs.declared.cancel.Sought.{Sought}
 use Rattle.uring_enter.specs.declared.cancel.Outstanding.{Outstanding}
-use Rattle.uring_enter.specs.Cancels.{is_of_all, fits, fits_fd, is_ever_found, is_free, is_waiting, is_none, is_meant, can_be_found, finds_any, first_of, one_more, count_of, oldest}
-use Rattle.uring_enter.specs.CancelLaws.{CancelsWhatFits, CancelsAllThatFit, CancelsTheOldest, AsksWhatMatters, PassesOverLinked, PassesOverOthers, SearchPassesOverOthers}
+use Rattle.uring_enter.specs.Cancels.{is_of_all, fits, fits_fd, is_named, is_ever_found, is_free, is_waiting, is_none, is_meant, can_be_found, finds_any, first_of, one_more, count_of, oldest}
+use Rattle.uring_enter.specs.CancelLaws.{CancelsWhatFits, CancelsAllThatFit, CancelsTheOldest, AsksWhatMatters, AsksFileWhereItMatters, PassesOverLinked, PassesOverOthers, SearchPassesOverOthers}
 
 fits_by : (b f g : Bool) → (b && f && g) ≡ true → (f ≡ true) × (g ≡ true)
 fits_by true true true is = (refl, refl)
@@ -70,6 +70,22 @@ asks_by true true true false waiting is = absurd (true≢false is)
 pub asks_what_matters : AsksWhatMatters
 asks_what_matters s earlier r is =
     asks_by (is_of_all s || not (finds_any s earlier)) (fits s r) (is_free r) r.runs (is_waiting r) is
+
+-- what isn't asked on which file it is carried out fits alike, whatever that is
+file_by : (apart any fd needs assigned one other same : Bool) → (fd && not any && needs && assigned) ≡ false
+    → (if apart then false else if any then true else if fd then (if not needs || not assigned then false else one) else same)
+    ≡ (if apart then false else if any then true else if fd then (if not needs || not assigned then false else other) else same)
+file_by true any fd needs assigned one other same is = refl
+file_by false true fd needs assigned one other same is = refl
+file_by false false false needs assigned one other same is = refl
+file_by false false true false assigned one other same is = refl
+file_by false false true true false one other same is = refl
+file_by false false true true true one other same is = absurd (true≢false is)
+
+pub asks_file_where_it_matters : AsksFileWhereItMatters
+asks_file_where_it_matters s r compared same compared_else same_else is =
+    file_by (s.is_of_operation && not (r.code == s.code)) s.is_any s.is_by_fd r.needs_file r.is_assigned
+    (if compared then same else is_named s r) (if compared_else then same_else else is_named s r) (r.user_data == s.user_data) is
 
 -- what looks for user data fits none that has other
 other_by : (operation apart any fd by_fd same : Bool) → (not any && not fd) ≡ true → same ≡ false

@@ -1,8 +1,8 @@
 -- What holds of every cancel, whatever it looks at. io_uring_enter(2), IORING_OP_ASYNC_CANCEL.
-use Rattle.std.specs.Prelude.{◌≡◌, ◌==◌, ◌≤◌, ℕ, true, false, List, ◌∷◌}
+use Rattle.std.specs.Prelude.{◌≡◌, ◌==◌, ◌≤◌, ℕ, Bool, true, false, List, ◌∷◌}
 use Rattle.uring_enter.specs.declared.cancel.Sought.{Sought}
 use Rattle.uring_enter.specs.declared.cancel.Outstanding.{Outstanding}
-use Rattle.uring_enter.specs.Cancels.{is_of_all, goes_by_user_data, fits, can_be_found, finds_any, is_cancelled, count_of, is_asked, is_ever_found, oldest, is_stopped}
+use Rattle.uring_enter.specs.Cancels.{is_of_all, goes_by_user_data, fits, asks_file, can_be_found, finds_any, is_cancelled, count_of, is_asked, is_ever_found, oldest, is_stopped}
 
 -- what is cancelled fits, and can be found
 abbrev pub CancelsWhatFits : Type 0
@@ -30,6 +30,11 @@ PassesOverLinked = (s : Sought) (earlier : List Outstanding) (r : Outstanding) �
 abbrev pub AsksWhatMatters : Type 0
 AsksWhatMatters = (s : Sought) (earlier : List Outstanding) (r : Outstanding) → is_asked s earlier r ≡ false
     → is_cancelled s earlier (record r { may_start = true }) ≡ is_cancelled s earlier (record r { may_start = false })
+
+-- nor where it isn't asked on which file one is carried out
+abbrev pub AsksFileWhereItMatters : Type 0
+AsksFileWhereItMatters = (s : Sought) (r : Outstanding) (compared same compared_else same_else : Bool) → asks_file s r ≡ false
+    → fits s (record r { is_compared = compared; is_same = same }) ≡ fits s (record r { is_compared = compared_else; is_same = same_else })
 
 -- by user data a request with other user data is never cancelled, and changes nothing for those behind it: so a cancel need be shown those alone that have its own
 abbrev pub PassesOverOthers : Type 0

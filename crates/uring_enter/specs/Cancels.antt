@@ -15,12 +15,19 @@ is_of_all s = s.is_all || s.is_any
 abbrev pub goes_by_user_data : Sought → Bool
 goes_by_user_data s = not s.is_any && not s.is_by_fd
 
--- whether a request is carried out on the descriptor, or on the registered file, that a cancel looks for. One that is carried out on no file isn't, whatever descriptor its entry names: what Linux 6.18 does
+-- whether the entry of a request names what a cancel looks for: by the same descriptor, or by the same slot
+abbrev pub is_named : Sought → Outstanding → Bool
+is_named s r = (if s.is_fixed then r.is_registered else not r.is_registered) && r.fd == s.fd
+
+-- whether a request is carried out on the file that a cancel looks for by a descriptor, or by a slot: however it is named, as by a duplicate, or by a number that was another file's before. What Linux 6.18 does, and so is that one which is carried out on no file isn't, whatever its entry names. Where it can't be told whether it is the same file, it is taken to be what is named alike: our own rule
 abbrev pub fits_fd : Sought → Outstanding → Bool
 fits_fd s r =
-    if not r.needs_file then false else
-    if s.is_fixed then r.is_registered && r.file == s.file else
-    not r.is_registered && r.is_assigned && r.fd == s.fd
+    if not r.needs_file || not r.is_assigned then false else
+    if r.is_compared then r.is_same else is_named s r
+
+-- whether it matters if a request is carried out on the file that is looked for: to a cancel by a descriptor or a slot, of one that is carried out on a file, which is known
+abbrev pub asks_file : Sought → Outstanding → Bool
+asks_file s r = s.is_by_fd && not s.is_any && r.needs_file && r.is_assigned
 
 -- whether a request is what a cancel looks for: any, by what it is carried out on, or by its user data; and of one operation, where it looks for that alone
 abbrev pub fits : Sought → Outstanding → Bool

@@ -86,4 +86,5 @@ pub mod Missed
 pub mod Storing
 pub mod Named
 pub mod Leaving
+pub mod Jumps
 pub mod PuttingOff

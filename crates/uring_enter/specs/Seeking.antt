@@ -16,7 +16,6 @@ sought_of e =
     let is_cancel = e.opcode == 14 in
     record {
       user_data = e.addr;
-      file = 0;
       fd = cast_unsigned w32 e.fd;
       code = code_removed e.opcode;
       is_of_operation = not is_cancel;
@@ -30,7 +29,6 @@ sought_of e =
 abbrev pub sought_by_call : ℕ → ℤ → ℕ → Sought
 sought_by_call user_data fd flags = record {
   user_data = user_data;
-  file = 0;
   fd = cast_unsigned w32 fd;
   code = 0;
   is_of_operation = false;

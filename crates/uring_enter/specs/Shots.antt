@@ -9,10 +9,10 @@ use Rattle.std.specs.Int.RustNames.{bit_or}
 use Rattle.uring_enter.specs.declared.posted.Posted.{Posted}
 use Rattle.uring_enter.specs.Showing.{Change, posted, reaped}
 
--- what the request of an entry is that has moved so many bytes: the results of an ACCEPT (13) are descriptors; those of a RECVMSG (10) that goes on count what stands in front of the bytes, and not these alone. IORING_ACCEPT_MULTISHOT and IORING_RECV_MULTISHOT
-abbrev pub shot_of : Submission → ℕ → Shot
-shot_of e done = record {
-  is_multishot = needs.goes_on e;
+-- what the request of an entry is that has moved so many bytes. It goes on if its entry says so, and it has started as one that does: a poll of what can't be polled ends with its first event. The results of an ACCEPT (13) are descriptors; those of a RECVMSG (10) that goes on count what stands in front of the bytes, and not these alone. IORING_ACCEPT_MULTISHOT and IORING_RECV_MULTISHOT
+abbrev pub shot_of : (started : Bool) → Submission → ℕ → Shot
+shot_of started e done = record {
+  is_multishot = started && needs.goes_on e;
   is_accept = e.opcode == 13;
   is_of_messages = e.opcode == 10;
   has_bytes = nat_lt 0 done;

@@ -14,9 +14,9 @@ abbrev pub is_taken_so : Matter → Option Bool → Bool
 is_taken_so matter (Some is_so) = is_so
 is_taken_so matter None = unless_known matter
 
--- another thread may make a call, unless the process is known to have exactly one
+-- another thread may make a call, unless the process is known to have exactly one. Its folder of threads (/proc/self/task, proc(5)) has two links of its own, and one by each of them
 abbrev pub may_have_others : Option ℕ → Bool
-may_have_others (Some threads) = not (threads == 1)
+may_have_others (Some links) = not (links == 3)
 may_have_others None = true
 
 -- a call reads its mask before it sleeps for the first time, and sleeps with that until it returns, whatever becomes of the memory: what Linux 6.18 was seen to do

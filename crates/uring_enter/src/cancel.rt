@@ -4,7 +4,7 @@ ghost use Rattle.std.specs.Prelude.{◌≡◌, List, [], ◌∷◌};
 ghost use Rattle.uring_enter.specs.declared.cancel.Outstanding.{Outstanding};
 ghost use Rattle.uring_enter.specs.declared.cancel.Sought.{Sought};
 ghost use Rattle.uring_enter.specs.Cancels as spec;
-ghost use Rattle.uring_enter.specs.Cancels.{is_of_all, fits, fits_fd, is_ever_found, is_free, is_waiting, can_be_found, one_more, result_of, is_cancelled, is_asked, HasSeen};
+ghost use Rattle.uring_enter.specs.Cancels.{is_of_all, fits, fits_fd, is_named, is_ever_found, is_free, is_waiting, can_be_found, one_more, result_of, is_cancelled, is_asked, HasSeen};
 
 /// What a cancel looks for, and whether it is content with one.
 #[repr(C)]
@@ -13,10 +13,7 @@ pub struct Sought {
     /// The user data, if it looks by that.
     pub user_data: u64,
 
-    /// The registered file, by a number that no other has, if it looks by one.
-    pub file: u64,
-
-    /// The descriptor, if it looks by one.
+    /// The descriptor, or the slot of a registered file, if it looks by one.
     pub fd: u32,
 
     /// The operation, if it looks for those of one alone.
@@ -44,10 +41,7 @@ pub struct Sought {
 pub struct Outstanding {
     pub user_data: u64,
 
-    /// The registered file that it is carried out on, by a number that no other has.
-    pub file: u64,
-
-    /// The descriptor that its entry names.
+    /// The descriptor that its entry names, or the slot.
     pub fd: u32,
 
     /// Its operation.
@@ -64,6 +58,12 @@ pub struct Outstanding {
 
     /// On what it is carried out is known.
     pub is_assigned: bool,
+
+    /// It is known whether that is the file that is looked for: the kernel says it of two descriptors.
+    pub is_compared: bool,
+
+    /// And it is.
+    pub is_same: bool,
 
     /// A cancel has chosen it before.
     pub is_cancelled: bool,
@@ -162,13 +162,32 @@ fn fits(sought: Sought, request: &Outstanding) -> bool
 fn fits_fd(sought: Sought, request: &Outstanding) -> bool
     ensures { result ≡ fits_fd sought request.now }
 {
-    if !request.needs_file {
+    if !request.needs_file || !request.is_assigned {
         false
-    } else if sought.is_fixed {
-        request.is_registered && request.file == sought.file
+    } else if request.is_compared {
+        request.is_same
     } else {
-        !request.is_registered && request.is_assigned && request.fd == sought.fd
+        is_named(sought, request)
     }
+}
+
+/// Whether the entry of a request names what a cancel looks for by its number.
+fn is_named(sought: Sought, request: &Outstanding) -> bool
+    ensures { result ≡ is_named sought request.now }
+{
+    let is_alike = if sought.is_fixed {
+        request.is_registered
+    } else {
+        !request.is_registered
+    };
+    is_alike && request.fd == sought.fd
+}
+
+/// Whether it matters to a cancel if a request is carried out on the file that is looked for.
+pub fn asks_file(sought: &Sought, request: &Outstanding) -> bool
+    ensures { result ≡ spec.asks_file sought.now request.now }
+{
+    sought.is_by_fd && !sought.is_any && request.needs_file && request.is_assigned
 }
 
 /// Whether any cancel finds a request of this operation: none finds another, nor a timeout that is linked behind a request.

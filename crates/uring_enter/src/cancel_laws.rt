@@ -1,6 +1,6 @@
 //! What holds of every cancel, whatever it looks at. Each law is the contract of a function that does nothing.
 
-ghost use Rattle.uring_enter.specs.CancelLaws.{CancelsWhatFits, CancelsAllThatFit, CancelsTheOldest, AsksWhatMatters, PassesOverLinked, PassesOverOthers, SearchPassesOverOthers};
+ghost use Rattle.uring_enter.specs.CancelLaws.{CancelsWhatFits, CancelsAllThatFit, CancelsTheOldest, AsksWhatMatters, AsksFileWhereItMatters, PassesOverLinked, PassesOverOthers, SearchPassesOverOthers};
 
 /// What is cancelled fits, and can be found.
 pub fn cancels_what_fits()
@@ -20,6 +20,11 @@ pub fn cancels_the_oldest()
 /// Where it isn't asked whether a request could start, it doesn't matter.
 pub fn asks_what_matters()
     ensures { AsksWhatMatters }
+{}
+
+/// Nor does it where it isn't asked on which file one is carried out.
+pub fn asks_file_where_it_matters()
+    ensures { AsksFileWhereItMatters }
 {}
 
 /// Another cancel, and a timeout that is linked behind a request, are passed over, whatever is looked for.

@@ -41,6 +41,13 @@ pub fn takes_descriptor(keeps_file: bool, has_own: bool) -> bool
     keeps_file || has_own
 }
 
+/// For what an instance is asked that is to tell of these events of a dormant request: for the first of them.
+pub fn dormant_events(events: u16) -> u32
+    ensures { result ≡ spec.dormant_events events }
+{
+    events as u32 | 0x4000_0000
+}
+
 /// What an instance's answer makes of who asks it, where it tells of so many at most at once. `came`: of how many it has told, or below 0.
 pub fn answer_of(came: i32, most: i32) -> Answered
     ensures { result ≡ spec.answer_of came most }

@@ -6,14 +6,13 @@ ghost use Rattle.uring_enter.specs.Seeking as spec;
 use crate::cancel::Sought;
 use crate::submission::Submission;
 
-/// What is looked for by the entry of a cancel, or of a removal. If that is a registered file, its slot stands in `fd`, and `file` is for who knows what that slot has.
+/// What is looked for by the entry of a cancel, or of a removal. If that is a registered file, its slot stands in `fd`.
 pub fn sought_of(entry: &Submission) -> Sought
     ensures { result ≡ spec.sought_of entry.now }
 {
     let is_cancel = entry.opcode == 14;
     Sought {
         user_data: entry.addr,
-        file: 0,
         fd: entry.fd.cast_unsigned(),
         code: code_removed(entry.opcode),
         is_of_operation: !is_cancel,
@@ -30,7 +29,6 @@ pub fn sought_by_call(user_data: u64, fd: i32, flags: u32) -> Sought
 {
     Sought {
         user_data,
-        file: 0,
         fd: fd.cast_unsigned(),
         code: 0,
         is_of_operation: false,

@@ -26,12 +26,19 @@ pub struct Shot {
 }
 
 impl Shown {
-    /// Whether the request of an entry, which has moved so many bytes, goes on behind this result, which then has a completion of its own; else the request ends with it. The ring has so many entries.
-    pub fn goes_on(&self, entry: &Submission, done: u64, res: i32, entries: u32) -> bool
+    /// Whether the request of an entry, which has started as one that goes on or hasn't, and has moved so many bytes, goes on behind this result, which then has a completion of its own; else the request ends with it. The ring has so many entries.
+    pub fn goes_on(
+        &self,
+        started: bool,
+        entry: &Submission,
+        done: u64,
+        res: i32,
+        entries: u32,
+    ) -> bool
         ensures { (log : List Change) → KeepsShown log self.now
-            → result ≡ goes_on (shot_of entry.now done) res (has_room log entries) }
+            → result ≡ goes_on (shot_of started entry.now done) res (has_room log entries) }
     {
-        self.goes_on_as(shot_of(entry, done), res, entries)
+        self.goes_on_as(shot_of(started, entry, done), res, entries)
     }
 
     /// The same of a request that is this.
@@ -43,12 +50,12 @@ impl Shown {
     }
 }
 
-/// What the request of an entry is that has moved so many bytes.
-fn shot_of(entry: &Submission, done: u64) -> Shot
-    ensures { result ≡ shot_of entry.now done }
+/// What the request of an entry is that has started so, and has moved so many bytes.
+fn shot_of(started: bool, entry: &Submission, done: u64) -> Shot
+    ensures { result ≡ shot_of started entry.now done }
 {
     Shot {
-        is_multishot: goes_on(entry),
+        is_multishot: started && goes_on(entry),
         is_accept: entry.opcode == 13,
         is_of_messages: entry.opcode == 10,
         has_bytes: done > 0,

@@ -36,12 +36,12 @@ pub fn is_taken_so(matter: Matter, known: Option<bool>) -> bool
     }
 }
 
-/// Whether another thread of the process may make a call, where it has so many, if that is known.
-pub fn may_have_others(threads: Option<u64>) -> bool
-    ensures { result ≡ spec.may_have_others threads }
+/// Whether another thread of the process may make a call, where its folder of threads has so many links, if that is known.
+pub fn may_have_others(links: Option<u64>) -> bool
+    ensures { result ≡ spec.may_have_others links }
 {
-    match threads {
-        Some(count) => count != 1,
+    match links {
+        Some(count) => count != 3,
         None => true,
     }
 }

@@ -7,6 +7,10 @@ pub use Rattle.uring_entry.specs.Errors.{error}
 abbrev pub has_end : Memory → Bool
 has_end m = nat_lt (m.from + m.size + (m.page - 1)) (2 ^ 64)
 
+-- whether one of so many bytes from an address on stands between a start and an end
+abbrev pub has_byte_of : (from size start end : ℕ) → Bool
+has_byte_of from size start end = nat_lt from end && nat_lt start (from + size)
+
 -- its pages were asked for, to be written, and a page isn't there, or may not be written. Where the kernel can't be asked they are taken to be there, which is our own rule
 abbrev pub is_missing : Memory → Bool
 is_missing m = m.is_asked && not m.is_there

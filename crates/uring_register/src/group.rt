@@ -160,6 +160,13 @@ impl Group {
         rows.get(self.first as usize).copied()
     }
 
+    /// Whether it is a ring, and no list.
+    pub fn is_ring(&self) -> bool
+        ensures { (log : List Change) (rows : List Buffer) → KeepsGroup log self.now rows → result ≡ spec.is_ring log }
+    {
+        self.entries > 0
+    }
+
     /// The cell of the next buffer of a ring whose tail is this, if that could be read.
     pub fn cell(&self, is_read: bool, tail: u16) -> Option<u16>
         ensures told { (log : List Change) (rows : List Buffer) (n : ℕ) → KeepsGroup log self.now rows

@@ -49,7 +49,7 @@ pub use listing::{
     Listing, each_slot_goes_once, listing_of, next_to_go, puts_whole_lists, takes_next,
 };
 pub use numbering::{RowOnto, RowStage, next_of_row};
-pub use pinning::{Memory, is_written_back, pinning_fault};
+pub use pinning::{Memory, has_byte_of, is_written_back, pinning_fault};
 pub use placing::{PlacingOnto, PlacingStage, next_of_placing};
 pub use registering::{Row, buffer_row, file_row, row_steps, updated};
 pub use restrictions::{Restriction, Restrictions, enabling_fault, restricting_fault};

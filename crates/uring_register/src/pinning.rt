@@ -54,6 +54,22 @@ fn has_end(from: u64, size: u64, page: u64) -> bool
     }
 }
 
+/// Whether one of so many bytes from an address on stands between a start and an end, as of memory that is mapped.
+pub fn has_byte_of(from: u64, size: u64, start: u64, end: u64) -> bool
+    ensures { result ≡ spec.has_byte_of from size start end }
+{
+    from < end && is_before_end(from, size, start)
+}
+
+fn is_before_end(from: u64, size: u64, start: u64) -> bool
+    ensures { result ≡ nat_lt start (from + size) }
+{
+    match from.checked_add(size) {
+        None => true,
+        Some(end) => start < end,
+    }
+}
+
 /// Whether the kernel writes a file back that is shared: the major number of its device, and the kind of its file system, if that is known.
 pub fn is_written_back(major: u32, kind: Option<u64>) -> bool
     ensures { result ≡ spec.is_written_back major kind }

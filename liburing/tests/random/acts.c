@@ -146,6 +146,12 @@ static bool has_file(const struct action *action)
     return is_transfer || code == IORING_OP_POLL_ADD || code == IORING_OP_FSYNC || code == IORING_OP_FALLOCATE || code == IORING_OP_FADVISE || code == IORING_OP_SYNC_FILE_RANGE;
 }
 
+/* The object whose file this one is a duplicate of. */
+static enum object original_of(enum object object)
+{
+    return object == OTHER_LOG ? LOG : object;
+}
+
 /* Whether a request is what a cancel looks for. */
 static bool is_sought(const struct request *cancel, const struct request *request)
 {
@@ -155,14 +161,14 @@ static bool is_sought(const struct request *cancel, const struct request *reques
     if (sought->scope & IORING_ASYNC_CANCEL_ANY)
         return true;
     if (sought->scope & IORING_ASYNC_CANCEL_FD)
-        return has_file(action) && action->object == sought->object && action->is_registered == sought->is_registered;
+        return has_file(action) && original_of(action->object) == original_of(sought->object);
     return request->index == sought->target;
 }
 
 enum finding { NOT_FOUND, MAY_BE_FOUND, FOUND };
 
 /* Whether a cancel finds what it looks for: what waits, or could start now, but one behind it only if it has started. One that doesn't wait may run just now, and isn't found then; one
- * that isn't loose has its file only when it runs. */
+ * that isn't loose has its file only when it runs; and whether one has the file that is taken out and put in again isn't known. */
 static enum finding finding_of(const struct model *model, const struct request *cancel, const struct request *request)
 {
     bool is_in_turn = request->is_doomed ? can_end(model, request) : can_start(model, request);
@@ -170,7 +176,8 @@ static enum finding finding_of(const struct model *model, const struct request *
         return NOT_FOUND;
     bool has_waited = can_wait(model, request), is_one_choice = is_in_order(model) || model->program->is_ends;
     bool has_its_file = request->is_loose || !(cancel->action->scope & IORING_ASYNC_CANCEL_FD) || (is_in_order(model) && request < cancel);
-    bool is_certain = (has_waited || is_one_choice || request->is_doomed) && has_its_file && !request->may_be_cancelled && !may_have_been_cancelled(model, request);
+    bool is_known = !request->action->is_registered || request->action->object != OTHER_LOG;
+    bool is_certain = (has_waited || is_one_choice || request->is_doomed) && has_its_file && (is_known || !(cancel->action->scope & IORING_ASYNC_CANCEL_FD)) && !request->may_be_cancelled && !may_have_been_cancelled(model, request);
     /* A cancel that is seen late may have ended before this one was submitted. */
     bool was_there = !model->is_late || request->call <= cancel->call;
     return is_certain && was_there && request < cancel ? FOUND : MAY_BE_FOUND;
