@@ -233,6 +233,9 @@ bool wulgach_polls(const struct wulgach_standing *standing);
  * that is kept for it (`has_file`) needs no other. Our own rule: a kernel's request has its file from the moment in which it finds that. */
 bool wulgach_keeps_open(const struct wulgach_standing *standing, const struct wulgach_needs *needs, bool is_sought, int32_t fault, bool has_file);
 
+/* Whether the same is so of its second descriptor, where a splice reads, for which a file is kept already, or isn't. */
+bool wulgach_keeps_second_open(const struct wulgach_standing *standing, const struct wulgach_needs *needs, bool is_sought, int32_t fault, bool has_file);
+
 /* For what a splice or a tee is polled. */
 struct wulgach_splice_poll {
     bool is_of_source;          /* what it reads from is polled, else what it writes to, */

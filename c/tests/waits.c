@@ -87,6 +87,8 @@ static void find_files(void)
     demand(wulgach_drains_find_file(&drains, &first, true, false, true, true) == WULGACH_FOUND_BY_CALL && wulgach_drains_find_file(&drains, &first, true, false, true, false) == WULGACH_FOUND_AT_START, "as the core lets it start");
     demand(wulgach_polls(&(struct wulgach_standing){.is_stream = true}) && !wulgach_polls(&(struct wulgach_standing){.has_found_buffer = true}), "whom a sleep polls for");
     static const struct wulgach_standing stream = {.is_stream = true}, plain = {0};
+    static const struct wulgach_needs splice = {.needs_file = true, .needs_second = true};
+    demand(wulgach_keeps_second_open(&stream, &splice, true, 0, false) && !wulgach_keeps_second_open(&stream, &splice, true, 0, true) && !wulgach_keeps_second_open(&stream, &(struct wulgach_needs){.needs_file = true}, true, 0, false) && !wulgach_keeps_second_open(&plain, &splice, true, -9, false), "where a splice reads");
     static const struct wulgach_needs file = {.needs_file = true}, slot = {.needs_file = true, .is_registered = true}, none = {0};
     demand(wulgach_keeps_open(&stream, &file, false, 0, false) && wulgach_keeps_open(&stream, &slot, true, -9, false) && !wulgach_keeps_open(&stream, &file, true, 0, true), "who waits keeps its file open");
     demand(wulgach_keeps_open(&plain, &file, true, 0, false) && !wulgach_keeps_open(&plain, &file, true, 0, true) && !wulgach_keeps_open(&plain, &file, false, 0, false), "and who has found it");

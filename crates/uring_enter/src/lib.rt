@@ -365,6 +365,7 @@ pub use ready::finishes_what_can;
 pub use ready::is_impatient;
 pub use ready::is_tried_first;
 pub use ready::keeps_open;
+pub use ready::keeps_second_open;
 pub use ready::lies_down;
 pub use ready::looks_once;
 pub use ready::needs_no_look;
