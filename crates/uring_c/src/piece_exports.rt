@@ -1,5 +1,5 @@
 //! What is copied of an entry, and the faults of that, for C: functions of `c/wulgach_form.h`.
-ghost use Rattle.std.specs.Prelude.{◌≡◌, ◌×◌, pos, true, false, MatchOption, Option, Some};
+ghost use Rattle.std.specs.Prelude.{◌≡◌, pos, true, false, MatchOption, Option, Some};
 ghost use Rattle.uring_enter.specs.Pieces as spec;
 ghost use Rattle.uring_enter.specs.Buffers as buffers;
 ghost use Rattle.uring_enter.specs.Copies as copies;
