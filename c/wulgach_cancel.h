@@ -138,7 +138,7 @@ struct wulgach_linked {
  * update ends with -2 (ENOENT). */
 bool wulgach_updates_linked(uint64_t user_data, const struct wulgach_linked *seen);
 
-/* Changes a poll's entry as this one updates it: its user data, its events or both. Whether it goes on stays as it is. */
+/* Changes a poll's entry as this one updates it: its user data, its events, of which 16 bits count, or both. Whether it goes on stays as it is. */
 void wulgach_updated_poll(struct wulgach_submission *poll, const struct wulgach_submission *update);
 
 /* Changes a timeout's entry as this one updates it: whether the new time is absolute is the update's, and its clock stays; it has no count any

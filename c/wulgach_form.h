@@ -43,10 +43,16 @@ struct wulgach_passed {
     uint32_t to;            /* and that it gets in the other's, plus 1, or any */
 };
 
+/* Where a splice reads and writes (IORING_OP_SPLICE), of which its call is given copies: `addr`, in whose place `splice_off_in` stands, and `off`. */
+struct wulgach_offsets {
+    uint64_t from, to;
+};
+
 /* What the fields of an entry mean: these; how many buffers it removes at most (IORING_OP_REMOVE_BUFFERS), `fd`; and the user data of the request that a
  * cancel, a removal or an update is aimed at, `addr`. */
 void wulgach_provided_of(const struct wulgach_submission *entry, struct wulgach_provided *provided);
 void wulgach_passed_of(const struct wulgach_submission *entry, struct wulgach_passed *passed);
+void wulgach_offsets_of(const struct wulgach_submission *entry, struct wulgach_offsets *offsets);
 uint32_t wulgach_removed_of(const struct wulgach_submission *entry);
 uint64_t wulgach_target_of(const struct wulgach_submission *entry);
 
@@ -134,9 +140,9 @@ struct wulgach_copied {
  * and is none itself. */
 int32_t wulgach_next_piece(const struct wulgach_submission *entry, const struct wulgach_copied *copied, struct wulgach_piece *piece);
 
-/* Whether an entry is one of READ, WRITE, READ_FIXED and WRITE_FIXED, and no other. True: whatever stands before it, the piece that is told first is its
- * one buffer, and then, where that has no fault, nothing more, and 0. */
-bool wulgach_has_one_buffer(const struct wulgach_submission *entry);
+/* Writes the one buffer of a READ, a WRITE, a READ_FIXED or a WRITE_FIXED, `addr` and `len`, and returns true: whatever stands before the entry, that is the
+ * piece that is told first, and then, where it has no fault, nothing more, and 0. False, and nothing is written: it is another entry. */
+bool wulgach_one_buffer(const struct wulgach_submission *entry, struct wulgach_piece *buffer);
 
 /* How many bytes of a provided buffer the request of an entry takes at most, which asks for so many: these; or 0, if it takes none. */
 uint64_t wulgach_wanted_of(const struct wulgach_submission *entry, uint64_t length);

@@ -165,8 +165,8 @@ uint32_t wulgach_find_kind(const struct wulgach_submission *entry, const struct 
 int32_t wulgach_no_buffer_fault(const struct wulgach_submission *entry, const struct wulgach_nature *nature);
 
 /* With what the request of an entry ends that had this fault as it started, where its group has a buffer, or that doesn't matter, or its
- * descriptor is this: with the fault, but one that finds no provided buffer ends as wulgach_no_buffer_fault says where that is -9, as of a
- * descriptor that is open in the wrong direction. And whether it matters. */
+ * descriptor is this: with the fault, but one that finds no provided buffer ends as wulgach_no_buffer_fault says, whatever
+ * that is, as -9 of a descriptor that is open in the wrong direction. And whether it matters. */
 int32_t wulgach_ends_at_start(const struct wulgach_submission *entry, int32_t fault, bool has_buffer, const struct wulgach_nature *nature);
 bool wulgach_fault_asks_buffer(const struct wulgach_submission *entry, int32_t fault);
 
@@ -181,8 +181,17 @@ bool wulgach_asks_counter(const struct wulgach_submission *entry, uint64_t lengt
 /* With what the request of an entry ends whose buffer has this fault (`why`), where its descriptor is this: -9 and -88 as above, else with that. */
 int32_t wulgach_buffer_fault(const struct wulgach_submission *entry, const struct wulgach_nature *nature, int32_t why);
 
-/* With what the transfer of an entry, of so many bytes, fails as it starts, where its descriptor is this: -22 (EINVAL) of fewer than 8 bytes of
- * what counts; or 0. */
+/* For which directions a descriptor is open. */
+struct wulgach_directions {
+    bool can_read, can_write;
+};
+
+/* Writes for which one is open that has these flags (fcntl(2), F_GETFL): by O_ACCMODE. */
+void wulgach_directions_of(uint32_t flags, struct wulgach_directions *directions);
+
+/* With what the transfer of an entry, of so many bytes, fails as it starts, where its descriptor is this; or 0. First -22 (EINVAL) of fewer than 8 bytes of
+ * what counts. Then, of what has no offsets and is no device, though one counts for nothing there, at another offset than 2^64 - 1: -22 of one from which the
+ * bytes would go past the last that 63 bits have, and -29 (ESPIPE) of a socket's but 0. */
 int32_t wulgach_start_fault(const struct wulgach_submission *entry, uint64_t length, const struct wulgach_nature *nature);
 
 /* ---- whether it can be finished ---- */
@@ -223,6 +232,9 @@ bool wulgach_polls(const struct wulgach_standing *standing);
  * may have to wait; or its file was looked for (`is_sought`), with no fault (0), and is named by a number and not by a slot. Who has a file
  * that is kept for it (`has_file`) needs no other. Our own rule: a kernel's request has its file from the moment in which it finds that. */
 bool wulgach_keeps_open(const struct wulgach_standing *standing, const struct wulgach_needs *needs, bool is_sought, int32_t fault, bool has_file);
+
+/* Whether the same is so of its second descriptor, where a splice reads, for which a file is kept already, or isn't. */
+bool wulgach_keeps_second_open(const struct wulgach_standing *standing, const struct wulgach_needs *needs, bool is_sought, int32_t fault, bool has_file);
 
 /* For what a splice or a tee is polled. */
 struct wulgach_splice_poll {
@@ -348,7 +360,8 @@ struct wulgach_call {
     uint64_t length;            /* how many bytes a message is asked to move, */
     uint64_t done;              /* and has moved so far */
     uint64_t control;           /* how many bytes of control data its entry has, or has room for: one that is received with such has one part alone */
-    bool is_stream;             /* it may have to wait for its descriptor */
+    bool is_stream;             /* it may have to wait for its descriptor, */
+    bool is_impatient;          /* or doesn't, whatever that is */
     bool has_begun;             /* a connect was begun, */
     bool was_repeated;          /* or its call was made once more */
 };

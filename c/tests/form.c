@@ -93,7 +93,8 @@ static void look_at_buffers(void)
     demand(wulgach_vector_fault(&entry, -14, 0, 1ull << 63, false) == -22 && wulgach_vector_fault(&entry, -22, end, 1, false) == -22 && wulgach_vector_fault(&entry, -14, 0, 1, false) == -14 && wulgach_vector_fault(&selects, 0, end, UINT64_MAX, true) == 0, "vectors");
     demand(wulgach_vector_fault(&entry, 0, 0, end + 1, true) == 0 && wulgach_vector_fault(&entry, 0, 0, end + 1, false) == -14, "a lone one");
     demand(wulgach_length_with(0, 5) == 5 && wulgach_length_with(5, 6) == 11 && wulgach_length_with(0, UINT32_MAX) == 0x7ffff000 && wulgach_length_with(0x7ffff000, UINT64_MAX) == 0x7ffff000, "how much is moved");
-    demand(wulgach_has_one_buffer(&(struct wulgach_submission){.opcode = WRITE}) && !wulgach_has_one_buffer(&(struct wulgach_submission){.opcode = SEND}) && !wulgach_has_one_buffer(&entry), "whose buffer is told first");
+    struct wulgach_piece piece;
+    demand(wulgach_one_buffer(&(struct wulgach_submission){.opcode = WRITE}, &piece) && !wulgach_one_buffer(&(struct wulgach_submission){.opcode = SEND}, &piece) && !wulgach_one_buffer(&entry, &piece), "whose buffer is told first");
 }
 
 static void look_at_order(void)
@@ -214,10 +215,13 @@ static void name_fields(void)
     const struct wulgach_submission entry = {.fd = 3, .off = 4, .addr = 5, .len = 6, .user_data = 7, .file_index = 8, .addr3 = 9 + (1ull << 32)}, none = {.fd = -1};
     struct wulgach_provided provided;
     struct wulgach_passed passed;
+    struct wulgach_offsets offsets;
     wulgach_provided_of(&entry, &provided);
     demand(provided.address == 5 && provided.first == 4 && provided.length == 6 && provided.count == 3, "buffers that are provided");
     wulgach_passed_of(&entry, &passed);
     demand(passed.slot == 9 && passed.to == 8, "a file that is passed");
+    wulgach_offsets_of(&entry, &offsets);
+    demand(offsets.from == 5 && offsets.to == 4, "where a splice reads and writes");
     demand(wulgach_removed_of(&entry) == 3 && wulgach_removed_of(&none) == 0 && wulgach_target_of(&entry) == 5, "buffers that are removed, and what is looked for");
 }
 

@@ -102,6 +102,9 @@ static void search_and_update(void)
     demand(changed.user_data == 6 && changed.op_flags == 1, "user data");
     wulgach_updated_poll(&changed, &(struct wulgach_submission){.len = 2, .off = 8, .op_flags = 4});
     demand(changed.user_data == 6 && changed.op_flags == 4 && changed.len == 1 && changed.off == 9 && changed.opcode == 6, "events, and nothing else");
+    changed.op_flags = 1u << 30 | 1;
+    wulgach_updated_poll(&changed, &(struct wulgach_submission){.len = 2, .op_flags = 1u << 31 | 4});
+    demand(changed.op_flags == (1u << 30 | 4), "16 bits of events");
     demand(wulgach_poll_removal(&(struct wulgach_submission){.len = 1}) == WULGACH_REMOVAL_CANCELS && wulgach_poll_removal(&(struct wulgach_submission){.len = 2}) == WULGACH_REMOVAL_UPDATES, "a poll's removal");
     demand(wulgach_timeout_removal(&(struct wulgach_submission){0}) == WULGACH_REMOVAL_CANCELS && wulgach_timeout_removal(&(struct wulgach_submission){.op_flags = 3}) == WULGACH_REMOVAL_UPDATES && wulgach_timeout_removal(&(struct wulgach_submission){.op_flags = 19}) == WULGACH_REMOVAL_UPDATES_LINKED && wulgach_timeout_removal(&(struct wulgach_submission){.op_flags = 17}) == WULGACH_REMOVAL_CANCELS, "a timeout's");
     demand(wulgach_removal_result(true) == 0 && wulgach_removal_result(false) == -2, "what a removal ends with");
@@ -165,9 +168,11 @@ static void copy_pieces(void)
     for (int code = 0; code < 256; code++) {
         struct wulgach_submission entry = {.opcode = (uint8_t)code, .flags = 32, .addr = 8, .len = 3};
         bool is_buffer = next(entry, 0, &piece) == 1 && piece.what == WULGACH_BUFFER, ends = next(entry, 1, &piece) == 0;
-        demand(!wulgach_has_one_buffer(&entry) || (is_buffer && ends), "one buffer is told, and then nothing");
+        struct wulgach_piece one = {.from = 1};
+        bool has_one = wulgach_one_buffer(&entry, &one);
+        demand(has_one ? is_buffer && ends && one.what == WULGACH_BUFFER && one.from == 8 && one.size == 3 : one.from == 1, "one buffer is told, and then nothing");
     }
-    demand(wulgach_has_one_buffer(&(struct wulgach_submission){.opcode = READ}) && !wulgach_has_one_buffer(&set), "a read has one buffer");
+    demand(wulgach_one_buffer(&(struct wulgach_submission){.opcode = READ}, &piece) && !wulgach_one_buffer(&set, &piece), "a read has one buffer");
 }
 
 /* As a real ring of Linux 6.18 ends entries with such a path or name. */

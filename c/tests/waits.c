@@ -35,7 +35,7 @@ static void look_at_needs(void)
     demand(NEEDS(.opcode = READ_FIXED, .buf_index = 65535).buffer == 65535 && NEEDS(.opcode = NOP, .buf_index = 2).buffer == 2 && NEEDS(.opcode = SEND_ZC, .buf_index = 3).buffer == 3, "which buffer");
     demand(NEEDS(.opcode = READ_FIXED).uses_buffer && NEEDS(.opcode = SEND_ZC, .ioprio = 4).uses_buffer && !NEEDS(.opcode = SEND_ZC, .ioprio = 1).uses_buffer && !NEEDS(.opcode = READ).uses_buffer, "a buffer");
     demand(NEEDS(.opcode = READ, .flags = 32).selects && NEEDS(.opcode = TIMEOUT).is_timeout && !NEEDS(.opcode = 15).is_timeout, "a provided buffer, a timeout");
-    demand(NEEDS(.opcode = POLL_ADD, .len = 1).goes_on && NEEDS(.opcode = ACCEPT, .ioprio = 1).goes_on && NEEDS(.opcode = RECV, .ioprio = 2).goes_on && !NEEDS(.opcode = RECV, .ioprio = 1).goes_on && !NEEDS(.opcode = READ, .len = 1).goes_on, "one that goes on");
+    demand(NEEDS(.opcode = POLL_ADD, .len = 1, .op_flags = 1).goes_on && !NEEDS(.opcode = POLL_ADD, .len = 1, .op_flags = 1u << 30 | 1).goes_on && NEEDS(.opcode = ACCEPT, .ioprio = 1).goes_on && NEEDS(.opcode = RECV, .ioprio = 2).goes_on && !NEEDS(.opcode = RECV, .ioprio = 1).goes_on && !NEEDS(.opcode = READ, .len = 1).goes_on, "one that goes on");
     demand(!NEEDS(.opcode = NOP).can_make_ready && NEEDS(.opcode = WRITE).can_make_ready && !NEEDS(.opcode = POLL_ADD).can_make_ready, "what makes ready");
     demand(NEEDS(.opcode = READV).is_read && NEEDS(.opcode = WRITE).is_write && !NEEDS(.opcode = WRITE).is_read && !NEEDS(.opcode = FSYNC).is_write && NEEDS(.opcode = READ).is_read, "reads and writes");
     demand(NEEDS(.opcode = POLL_ADD).is_poll && NEEDS(.opcode = CONNECT).is_of_sockets && !NEEDS(.opcode = SPLICE).is_of_sockets && NEEDS(.opcode = SEND_ZC).is_zero_copy && !NEEDS(.opcode = SEND).is_zero_copy, "other kinds");
@@ -87,6 +87,8 @@ static void find_files(void)
     demand(wulgach_drains_find_file(&drains, &first, true, false, true, true) == WULGACH_FOUND_BY_CALL && wulgach_drains_find_file(&drains, &first, true, false, true, false) == WULGACH_FOUND_AT_START, "as the core lets it start");
     demand(wulgach_polls(&(struct wulgach_standing){.is_stream = true}) && !wulgach_polls(&(struct wulgach_standing){.has_found_buffer = true}), "whom a sleep polls for");
     static const struct wulgach_standing stream = {.is_stream = true}, plain = {0};
+    static const struct wulgach_needs splice = {.needs_file = true, .needs_second = true};
+    demand(wulgach_keeps_second_open(&stream, &splice, true, 0, false) && !wulgach_keeps_second_open(&stream, &splice, true, 0, true) && !wulgach_keeps_second_open(&stream, &(struct wulgach_needs){.needs_file = true}, true, 0, false) && !wulgach_keeps_second_open(&plain, &splice, true, -9, false), "where a splice reads");
     static const struct wulgach_needs file = {.needs_file = true}, slot = {.needs_file = true, .is_registered = true}, none = {0};
     demand(wulgach_keeps_open(&stream, &file, false, 0, false) && wulgach_keeps_open(&stream, &slot, true, -9, false) && !wulgach_keeps_open(&stream, &file, true, 0, true), "who waits keeps its file open");
     demand(wulgach_keeps_open(&plain, &file, true, 0, false) && !wulgach_keeps_open(&plain, &file, true, 0, true) && !wulgach_keeps_open(&plain, &file, false, 0, false), "and who has found it");
@@ -116,8 +118,18 @@ static void look_at_descriptors(void)
     demand(wulgach_buffer_fault(&fixed, &none, -14) == -9 && wulgach_buffer_fault(&fixed, &file, -14) == -14 && wulgach_buffer_fault(&fixed, &file, -105) == -105 && wulgach_buffer_fault(&receive, &pipe, -14) == -88, "what is wrong with a buffer");
     struct wulgach_nature counter = {.is_open = true, .is_counter = true, .can_read = true};
     demand(wulgach_start_fault(&entry, 7, &counter) == -22 && wulgach_start_fault(&entry, 8, &counter) == 0 && wulgach_start_fault(&entry, 7, &pipe) == 0 && wulgach_start_fault(&selecting, 7, &counter) == 0, "what counts");
-    demand(wulgach_ends_at_start(&selecting, -9, true, &pipe) == -9 && wulgach_ends_at_start(&selecting, -9, false, &pipe) == -105 && wulgach_ends_at_start(&selecting, -9, false, &none) == -9 && wulgach_ends_at_start(&receive, -9, false, &pipe) == -88 && wulgach_ends_at_start(&selecting, -14, false, &pipe) == -14 && wulgach_ends_at_start(&entry, -9, false, &pipe) == -9, "a fault as it started");
-    demand(wulgach_fault_asks_buffer(&selecting, -9) && !wulgach_fault_asks_buffer(&selecting, -14) && !wulgach_fault_asks_buffer(&entry, -9), "whether a buffer matters");
+    struct wulgach_submission at = {.opcode = READ, .off = 7}, past = {.opcode = READ, .off = (1ull << 63) - 4}, negative = {.opcode = READ, .off = UINT64_MAX - 1}, anywhere = {.opcode = READ, .off = UINT64_MAX}, received = {.opcode = RECV, .off = 7};
+    demand(wulgach_start_fault(&at, 4, &socket) == -29 && wulgach_start_fault(&at, 4, &pipe) == 0 && wulgach_start_fault(&at, 4, &file) == 0 && wulgach_start_fault(&at, 4, &none) == 0 && wulgach_start_fault(&received, 4, &socket) == 0, "an offset");
+    demand(wulgach_start_fault(&past, 3, &pipe) == 0 && wulgach_start_fault(&past, 4, &pipe) == -22 && wulgach_start_fault(&past, 3, &socket) == -29 && wulgach_start_fault(&past, 4, &socket) == -22 && wulgach_start_fault(&past, 4, &tty) == 0, "one that bytes would pass");
+    demand(wulgach_start_fault(&negative, 0, &pipe) == -22 && wulgach_start_fault(&negative, 4, &socket) == -22 && wulgach_start_fault(&negative, 8, &counter) == -22 && wulgach_start_fault(&anywhere, 4, &socket) == 0 && wulgach_start_fault(&anywhere, 4, &pipe) == 0 && wulgach_start_fault(&entry, 4, &socket) == 0, "a negative one, and none");
+    struct wulgach_directions one, other, both, neither;
+    wulgach_directions_of(0100000, &one);
+    wulgach_directions_of(04001, &other);
+    wulgach_directions_of(2, &both);
+    wulgach_directions_of(UINT32_MAX, &neither);
+    demand(one.can_read && !one.can_write && !other.can_read && other.can_write && both.can_read && both.can_write && !neither.can_read && !neither.can_write, "directions");
+    demand(wulgach_ends_at_start(&selecting, -9, true, &pipe) == -9 && wulgach_ends_at_start(&selecting, -9, false, &pipe) == -105 && wulgach_ends_at_start(&selecting, -9, false, &none) == -9 && wulgach_ends_at_start(&receive, -9, false, &pipe) == -88 && wulgach_ends_at_start(&selecting, -29, false, &socket) == -105 && wulgach_ends_at_start(&selecting, -29, true, &socket) == -29 && wulgach_ends_at_start(&entry, -9, false, &pipe) == -9, "a fault as it started");
+    demand(wulgach_fault_asks_buffer(&selecting, -9) && !wulgach_fault_asks_buffer(&selecting, 0) && !wulgach_fault_asks_buffer(&entry, -9), "whether a buffer matters");
     demand(wulgach_asks_counter(&entry, 7, &none) && !wulgach_asks_counter(&entry, 8, &none) && !wulgach_asks_counter(&selecting, 7, &none) && !wulgach_asks_counter(&entry, 7, &(struct wulgach_nature){.has_type = true}), "whether a name matters");
     demand(wulgach_find_kind(&entry, &plain, &nothing) == WULGACH_ASK_STATUS && wulgach_find_kind(&entry, &plain, &status) == WULGACH_ASK_OFFSETS && wulgach_find_kind(&entry, &plain, &offsets) == WULGACH_ASK_ACCESS, "what is asked");
 }
@@ -204,6 +216,7 @@ static void call(void)
 {
     struct wulgach_call fresh = {.length = 8, .is_stream = true}, part = {.length = 8, .done = 3, .is_stream = true}, begun = {.is_stream = true, .has_begun = true, .done = 1};
     demand(turn(ACCEPT, 0, fresh, 0, 0) == 1000 + WULGACH_TURN_POLLS && turn(ACCEPT, 0, fresh, WULGACH_TURN_POLLS, 1) == 1000 + WULGACH_TURN_CALLS && turn(ACCEPT, 0, fresh, WULGACH_TURN_POLLS, 0) == 1000 + WULGACH_TURN_ASKS_WILL, "an accept");
+    demand(turn(ACCEPT, 0, (struct wulgach_call){.is_stream = true, .is_impatient = true}, 0, 0) == 1000 + WULGACH_TURN_CALLS, "one that doesn't wait");
     demand(turn(ACCEPT, 0, fresh, WULGACH_TURN_ASKS_WILL, 1) == -11 && turn(ACCEPT, 0, fresh, WULGACH_TURN_ASKS_WILL, 0) == 1000 + WULGACH_TURN_WAITS && turn(ACCEPT, 0, fresh, WULGACH_TURN_CALLS, 0) == 0, "what its socket says");
     demand(turn(CONNECT, 0, fresh, 0, 0) == 1000 + WULGACH_TURN_CALLS && turn(CONNECT, 0, fresh, WULGACH_TURN_CALLS, -115) == 1000 + WULGACH_TURN_WAITS && turn(CONNECT, 0, begun, 0, 0) == 1000 + WULGACH_TURN_POLLS && turn(CONNECT, 0, begun, WULGACH_TURN_POLLS, 1) == 1000 + WULGACH_TURN_ASKS_ERROR && turn(CONNECT, 0, begun, WULGACH_TURN_ASKS_ERROR, -111) == -111 && turn(CONNECT, 0, begun, WULGACH_TURN_ASKS_ERROR, 0) == 1000 + WULGACH_TURN_CALLS && turn(CONNECT, 0, begun, WULGACH_TURN_CALLS, -106) == 0 && turn(CONNECT, 0, fresh, WULGACH_TURN_CALLS, -106) == -106 && turn(CONNECT, 0, fresh, WULGACH_TURN_CALLS, -11) == 1000 + WULGACH_TURN_ASKS_WILL && turn(CONNECT, 0, fresh, WULGACH_TURN_ASKS_WILL, 1) == -11 && turn(CONNECT, 0, begun, WULGACH_TURN_CALLS, -114) == 1000 + WULGACH_TURN_WAITS, "a connect");
     struct wulgach_call repeated = {.is_stream = true, .was_repeated = true};

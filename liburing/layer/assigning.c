@@ -71,9 +71,10 @@ static void ask_status(const struct request *request, struct wulgach_nature *nat
 
 static void ask_access(const struct request *request, struct wulgach_nature *nature)
 {
-    int mode = fcntl(request->fd, F_GETFL) & O_ACCMODE;
-    nature->can_read = mode == O_RDWR || mode == O_RDONLY;
-    nature->can_write = mode == O_RDWR || mode == O_WRONLY;
+    struct wulgach_directions directions;
+    wulgach_directions_of((uint32_t)fcntl(request->fd, F_GETFL), &directions);
+    nature->can_read = directions.can_read;
+    nature->can_write = directions.can_write;
 }
 
 static void ask_status_once(const struct request *request, struct wulgach_nature *nature)

@@ -43,11 +43,11 @@ int copy_vectors(struct request *request, const struct wulgach_piece *piece)
 }
 
 /* A transfer of one buffer becomes one of a single vector. */
-static int make_vector(struct request *request)
+static int make_vector(struct request *request, const struct wulgach_piece *buffer)
 {
-    request->one = (struct iovec){(void *)(uintptr_t)request->entry.addr, request->entry.len};
+    request->one = (struct iovec){(void *)(uintptr_t)buffer->from, buffer->size};
     request->vectors = &request->one;
-    request->length = wulgach_length_with(0, request->entry.len);
+    request->length = wulgach_length_with(0, buffer->size);
     request->vector_count = 1;
     return 0;
 }
@@ -96,7 +96,7 @@ static int copy_piece(struct request *request, const struct wulgach_piece *piece
 {
     switch (piece->what) {
     case WULGACH_BUFFER:
-        return request->needs.is_of_sockets ? make_message(request) : make_vector(request);
+        return request->needs.is_of_sockets ? make_message(request, piece) : make_vector(request, piece);
     case WULGACH_VECTORS:
         return copy_vectors(request, piece);
     case WULGACH_PATH:
@@ -135,9 +135,10 @@ static int32_t copy_pieces(struct request *request, const struct request *before
 int copy_behind(struct request *request, const struct request *before)
 {
     const struct wulgach_submission *entry = submission_of(&request->entry);
+    struct wulgach_piece buffer;
     wulgach_needs_as(entry, request->mapping, &request->needs);
     /* (nothing is copied of one buffer, and it has no fault) */
-    int32_t next = wulgach_has_one_buffer(entry) ? make_vector(request) : copy_pieces(request, before);
+    int32_t next = wulgach_one_buffer(entry, &buffer) ? make_vector(request, &buffer) : copy_pieces(request, before);
     if (next < 0 && !wulgach_is_own_fault(next))
         return next;
     request->fault = next;

@@ -136,11 +136,12 @@ static int32_t carry_out_by(struct ring *ring, struct request *request, const st
 
 int32_t carry_out_by_means(struct ring *ring, struct request *request)
 {
-    int64_t in = (int64_t)request->entry.splice_off_in, out = (int64_t)request->entry.off;
     struct wulgach_held held = held_of(request);
+    struct wulgach_offsets offsets;
     struct wulgach_means means;
-    held.offset_in = (uintptr_t)&in;
-    held.offset_out = (uintptr_t)&out;
+    wulgach_offsets_of(submission_of(&request->entry), &offsets);
+    held.offset_in = (uintptr_t)&offsets.from;
+    held.offset_out = (uintptr_t)&offsets.to;
     wulgach_means_of(submission_of(&request->entry), &held, &means);
     return carry_out_by(ring, request, &means);
 }

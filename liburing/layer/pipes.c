@@ -47,7 +47,9 @@ static struct wulgach_pipe_poll seen_of(const struct request *request)
 static bool reads_pipe(int fd)
 {
     struct stat status;
-    return fstat(fd, &status) == 0 && S_ISFIFO(status.st_mode) && (fcntl(fd, F_GETFL) & O_ACCMODE) != O_WRONLY;
+    struct wulgach_directions directions;
+    wulgach_directions_of((uint32_t)fcntl(fd, F_GETFL), &directions);
+    return fstat(fd, &status) == 0 && S_ISFIFO(status.st_mode) && directions.can_read;
 }
 
 bool is_poll_of_pipe(const struct request *request)

@@ -22,15 +22,15 @@ struct addressed {
     struct sockaddr_storage address;
 };
 
-int make_message(struct request *request)
+int make_message(struct request *request, const struct wulgach_piece *buffer)
 {
     struct addressed *addressed = request->value = calloc(1, sizeof *addressed);
     struct msghdr *message = &addressed->message;
     request->vectors = malloc(sizeof *request->vectors);
     if (!addressed || !request->vectors)
         return wulgach_missing_fault(WULGACH_NO_MEMORY_OWN);
-    *request->vectors = (struct iovec){(void *)(uintptr_t)request->entry.addr, request->entry.len};
-    request->length = wulgach_length_with(0, request->entry.len);
+    *request->vectors = (struct iovec){(void *)(uintptr_t)buffer->from, buffer->size};
+    request->length = wulgach_length_with(0, buffer->size);
     message->msg_iov = request->vectors;
     message->msg_iovlen = request->vector_count = 1;
     return 0;
@@ -217,7 +217,8 @@ static struct wulgach_call call_of(const struct request *request)
         .length = request->length,
         .done = request->done,
         .control = request->control,
-        .is_stream = request->standing.is_stream && !is_impatient(request),
+        .is_stream = request->standing.is_stream,
+        .is_impatient = is_impatient(request),
         .has_begun = request->done > 0,
         .was_repeated = request->was_repeated,
     };

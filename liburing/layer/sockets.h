@@ -6,8 +6,8 @@
 
 struct ring;
 
-/* One buffer becomes a message of a single vector. Returns 0 or -ENOMEM. */
-int make_message(struct request *request);
+/* The one buffer of an entry becomes a message of a single vector. Returns 0 or -ENOMEM. */
+int make_message(struct request *request, const struct wulgach_piece *buffer);
 
 /* Copies a message with its vectors, or the address that a connect or a message goes to. Each returns 0, a fault or -ENOMEM. */
 int copy_message(struct request *request, uint64_t from);

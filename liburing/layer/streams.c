@@ -89,11 +89,15 @@ bool is_found_ready(struct ring *ring, struct request *request)
     return sighting == WULGACH_SIGHTING_READY;
 }
 
-/* Whether a request is to have a file of its own. (an epoll instance keeps none open) */
-static bool is_to_hold(const struct request *request)
+/* Whether a request is to have a file of its own, and a second one. (an epoll instance keeps none open) */
+static bool is_to_hold_first(const struct request *request)
 {
-    bool has_files = request->file && (request->second_file || !request->needs.needs_second);
-    return wulgach_keeps_open(&request->standing, &request->needs, request->is_assigned, request->started, has_files);
+    return wulgach_keeps_open(&request->standing, &request->needs, request->is_assigned, request->started, request->file);
+}
+
+static bool is_to_hold_second(const struct request *request)
+{
+    return wulgach_keeps_second_open(&request->standing, &request->needs, request->is_assigned, request->started, request->second_file);
 }
 
 /* The last one for which that was done, of those that were kept one right after the other: a number is one file's meanwhile. */
@@ -124,11 +128,9 @@ static void hold_first(struct request *request, struct holder *last)
 /* What waits has numbers of its own. */
 static void hold_beside(struct request *request, struct holder *last)
 {
-    if (!is_to_hold(request))
-        return;
-    if (!request->file)
+    if (is_to_hold_first(request))
         hold_first(request, last);
-    if (request->needs.needs_second && !request->second_file)
+    if (is_to_hold_second(request))
         hold_second(request);
 }
 

@@ -7,6 +7,7 @@
 #include <fcntl.h>
 #include <netinet/in.h>
 #include <poll.h>
+#include <sys/epoll.h>
 #include <sys/eventfd.h>
 #include <sys/socket.h>
 #include <sys/timerfd.h>
@@ -163,6 +164,70 @@ static void test_short_reads(void)
     stop();
 }
 
+static void expect_at(uint8_t code, uint8_t flags, int fd, uint64_t offset, int32_t res)
+{
+    static char bytes[4];
+    put_transfer(&ring, code, 0, flags, fd, bytes, sizeof bytes, offset)->buf_group = 9;
+    submit(1);
+    EXPECT({0, res});
+}
+
+/* What has no offsets passes one over, but one from which the bytes would go past the last, and a socket any but 0: what is at such a one doesn't wait. */
+static void test_offsets_of_streams(void)
+{
+    static const uint64_t bad[] = {(uint64_t)-2, (uint64_t)1 << 63, ((uint64_t)1 << 63) - 4}, odd[] = {1, ((uint64_t)1 << 63) - 5}, none[] = {0, (uint64_t)-1};
+    int pair[2];
+    begin(0);
+    check(socketpair(AF_UNIX, SOCK_STREAM, 0, pair) == 0);
+    for (int i = 0; i < 3; i++) {
+        expect_at(IORING_OP_READ, 0, ends[0], bad[i], -EINVAL);
+        expect_at(IORING_OP_WRITE, 0, ends[1], bad[i], -EINVAL);
+        expect_at(IORING_OP_READ, 0, pair[0], bad[i], -EINVAL);
+        expect_at(IORING_OP_WRITE, 0, pair[0], bad[i], -EINVAL);
+        expect_at(IORING_OP_READ, IOSQE_BUFFER_SELECT, pair[0], bad[i], -ENOBUFS);
+    }
+    for (int i = 0; i < 2; i++) {
+        expect_at(IORING_OP_READ, 0, pair[0], odd[i], -ESPIPE);
+        expect_at(IORING_OP_WRITE, 0, pair[0], odd[i], -ESPIPE);
+        expect_at(IORING_OP_READ, IOSQE_BUFFER_SELECT, pair[0], odd[i], -ENOBUFS);
+        expect_at(IORING_OP_WRITE, 0, ends[1], odd[i], 4);
+        expect_at(IORING_OP_READ, 0, ends[0], odd[i], 4);
+        expect_at(IORING_OP_WRITE, 0, pair[1], none[i], 4);
+        expect_at(IORING_OP_READ, 0, pair[0], none[i], 4);
+    }
+    close(pair[0]);
+    close(pair[1]);
+    stop();
+}
+
+/* A poll that is to go on, and has EPOLLONESHOT among its events, ends with the first, also if its events were updated since. */
+static void test_one_shot_polls(void)
+{
+    for (int is_updated = 0; is_updated < 2; is_updated++) {
+        begin(0);
+        struct io_uring_sqe *entry = put_plain(&ring, IORING_OP_POLL_ADD, 0, ends[0]);
+        entry->poll32_events = POLLIN | EPOLLONESHOT;
+        entry->len = IORING_POLL_ADD_MULTI;
+        submit(1);
+        expect(0, NULL);
+        if (is_updated) {
+            entry = put(&ring, IORING_OP_POLL_REMOVE, 1, 0);
+            entry->len = IORING_POLL_UPDATE_EVENTS | IORING_POLL_ADD_MULTI;
+            entry->poll32_events = POLLIN | POLLPRI;
+            submit(1);
+            EXPECT({1, 0});
+        }
+        feed();
+        EXPECT({0, POLLIN});
+        feed();
+        expect(0, NULL);
+        put(&ring, IORING_OP_POLL_REMOVE, 2, 0);
+        submit(1);
+        EXPECT({2, -ENOENT});
+        stop();
+    }
+}
+
 static int32_t connect_to(int fd, const struct sockaddr_in *address)
 {
     struct io_uring_sqe *entry = put_plain(&ring, IORING_OP_CONNECT, 0, fd);
@@ -291,6 +356,8 @@ int main(int count, char **words)
         {"unpolled", test_unpolled},
         {"unbuffered", test_unbuffered},
         {"short reads", test_short_reads},
+        {"offsets of streams", test_offsets_of_streams},
+        {"one-shot polls", test_one_shot_polls},
         {"refused connects", test_refused_connects},
         {"own eventfd", test_own_eventfd},
         {"splices that wait", test_splices_that_wait},

@@ -9,10 +9,10 @@ ghost use Rattle.uring_enter.specs.Syncing as syncing;
 ghost use Rattle.uring_c.specs.UnknownForm.{known_of};
 
 use uring_enter::{
-    Nature, Openness, SpliceEnds, SplicePoll, Submission, SyncedKind, asks_counter, asks_openness,
-    counts_as_open, counts_as_synced, ends_at_start, fault_asks_buffer, is_counter_name,
-    is_eventfd_name, is_limited, is_missing, is_signal_of_call, isnt_to_wait, may_break,
-    may_signal, splice_poll,
+    Directions, Nature, Openness, SpliceEnds, SplicePoll, Submission, SyncedKind, asks_counter,
+    asks_openness, counts_as_open, counts_as_synced, directions_of, ends_at_start,
+    fault_asks_buffer, is_counter_name, is_eventfd_name, is_limited, is_missing, is_signal_of_call,
+    isnt_to_wait, may_break, may_signal, splice_poll,
 };
 
 /// Whether a descriptor counts as open that is this, and is named by its number, or by the slot that holds its file.
@@ -87,6 +87,14 @@ pub extern "C" fn wulgach_asks_counter(entry: &Submission, length: u64, nature: 
     ensures { result ≡ found.asks_counter entry.now length nature.now }
 {
     asks_counter(entry, length, nature)
+}
+
+/// Writes for which directions a descriptor is open that has these flags.
+#[unsafe(no_mangle)]
+pub extern "C" fn wulgach_directions_of(flags: u32, directions: &mut Directions)
+    ensures { directions.new ≡ found.directions_of flags }
+{
+    *directions = directions_of(flags);
 }
 
 /// Whether an fsync(2) of a descriptor that is this is taken for done by whoever needn't wait for the disk.

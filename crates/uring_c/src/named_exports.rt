@@ -2,7 +2,10 @@
 ghost use Rattle.std.specs.Prelude.{◌≡◌};
 ghost use Rattle.uring_enter.specs.Named as spec;
 
-use uring_enter::{Passed, Provided, Submission, passed_of, provided_of, removed_of, target_of};
+use uring_enter::{
+    Offsets, Passed, Provided, Submission, offsets_of, passed_of, provided_of, removed_of,
+    target_of,
+};
 
 /// Writes the buffers that an entry provides.
 #[unsafe(no_mangle)]
@@ -26,6 +29,14 @@ pub extern "C" fn wulgach_passed_of(entry: &Submission, passed: &mut Passed)
     ensures { passed.new ≡ spec.passed_of entry.now }
 {
     *passed = passed_of(entry);
+}
+
+/// Writes where a splice reads and writes.
+#[unsafe(no_mangle)]
+pub extern "C" fn wulgach_offsets_of(entry: &Submission, offsets: &mut Offsets)
+    ensures { offsets.new ≡ spec.offsets_of entry.now }
+{
+    *offsets = offsets_of(entry);
 }
 
 /// Returns the user data of the request that an entry is aimed at.

@@ -1,21 +1,21 @@
 //! What is copied of an entry, and the faults of that, for C: functions of `c/wulgach_form.h`.
-ghost use Rattle.std.specs.Prelude.{◌≡◌, pos, true, Option};
+ghost use Rattle.std.specs.Prelude.{◌≡◌, pos, true, false, MatchOption, Option, Some};
 ghost use Rattle.uring_enter.specs.Pieces as spec;
 ghost use Rattle.uring_enter.specs.Buffers as buffers;
 ghost use Rattle.uring_enter.specs.Copies as copies;
 ghost use Rattle.uring_enter.specs.Copies.{next_of};
 ghost use Rattle.uring_enter.specs.MessageCopies.{next_of_message};
 ghost use Rattle.uring_enter.specs.Names as names;
-ghost use Rattle.uring_enter.specs.Pieces.{buffer_of};
 ghost use Rattle.uring_enter.specs.declared.copying.Copying.TheVariants.{Copies, Ends};
 ghost use Rattle.uring_enter.specs.declared.member.Entry.{Entry as Before};
+ghost use Rattle.uring_enter.specs.declared.piece.Piece.{Piece as Told};
 ghost use Rattle.uring_c.specs.TakingForm.{word_of_what, words_of_piece, word_of_copying, words_of_copying};
 ghost use Rattle.uring_crossing.specs.CourseForm.{entry_of};
 
 use uring_crossing::course_words::entry_if;
 use uring_enter::{
-    Copying, Entry, Header, Piece, Submission, What, has_one_buffer, how_fault, is_own_fault,
-    length_with, message_vectors, name_fault, next_message_piece, next_piece, open_fault,
+    Copying, Entry, Header, Piece, Submission, What, how_fault, is_own_fault, length_with,
+    message_vectors, name_fault, next_message_piece, next_piece, one_buffer, open_fault,
     time_fault, vector_fault, wanted_of,
 };
 
@@ -69,16 +69,21 @@ pub extern "C" fn wulgach_next_piece(
     }
 }
 
-/// Whether an entry names one buffer, of which nothing is copied, and has no fault then, wherever it stands.
+/// Writes the one buffer that an entry names, of which nothing is copied, and returns true: it has no fault then, wherever it stands. False, and nothing is written: it is another entry.
 #[unsafe(no_mangle)]
-pub extern "C" fn wulgach_has_one_buffer(entry: &Submission) -> bool
-    ensures one { result ≡ copies.has_one_buffer entry.now }
-    ensures first { (before : Option Before) → result ≡ true
-        → next_of entry.now 0 (pos 0) 0 before ≡ Copies (buffer_of entry.now) }
-    ensures rest { (before : Option Before) → result ≡ true
+pub extern "C" fn wulgach_one_buffer(entry: &Submission, buffer: &mut PieceWords) -> bool
+    ensures one { MatchOption (copies.one_buffer entry.now) ((result ≡ false) × (buffer.new ≡ buffer.old))
+        (λ piece. (result ≡ true) × (buffer.new ≡ words_of_piece piece)) }
+    ensures first { (piece : Told) (before : Option Before) → copies.one_buffer entry.now ≡ Some piece
+        → next_of entry.now 0 (pos 0) 0 before ≡ Copies piece }
+    ensures rest { (piece : Told) (before : Option Before) → copies.one_buffer entry.now ≡ Some piece
         → next_of entry.now 1 (pos 0) 1 before ≡ Ends (pos 0) }
 {
-    has_one_buffer(entry)
+    let Some(piece) = one_buffer(entry) else {
+        return false;
+    };
+    *buffer = piece_words(&piece);
+    true
 }
 
 fn piece_words(piece: &Piece) -> PieceWords

@@ -9,7 +9,7 @@ ghost use Rattle.uring_enter.specs.Sleeps.{behind_sleep};
 ghost use Rattle.uring_crossing.specs.TimeForm.{limit_of};
 
 use uring_crossing::time_words::LimitWords;
-use uring_enter::{Needs, Standing, Times, keeps_open, looks_ahead, polls};
+use uring_enter::{Needs, Standing, Times, keeps_open, keeps_second_open, looks_ahead, polls};
 
 /// Whether a call that sleeps polls the descriptor of a request that runs.
 #[unsafe(no_mangle)]
@@ -31,6 +31,20 @@ pub extern "C" fn wulgach_keeps_open(
     ensures { result ≡ ready.keeps_open standing.now needs.now is_sought fault has_file }
 {
     keeps_open(standing, needs, is_sought, fault, has_file)
+}
+
+/// Whether a request is to be given a second descriptor of its own.
+#[unsafe(no_mangle)]
+pub extern "C" fn wulgach_keeps_second_open(
+    standing: &Standing,
+    needs: &Needs,
+    is_sought: bool,
+    fault: i32,
+    has_file: bool,
+) -> bool
+    ensures { result ≡ ready.keeps_second_open standing.now needs.now is_sought fault has_file }
+{
+    keeps_second_open(standing, needs, is_sought, fault, has_file)
 }
 
 /// A sleep that was to come to this has come to its end, or hasn't: `came` is what ppoll returned.

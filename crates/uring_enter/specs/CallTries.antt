@@ -14,9 +14,9 @@ use Rattle.uring_enter.specs.Parts.{is_alone}
 use Rattle.uring_enter.specs.Readiness.{has_message_flags}
 use Rattle.uring_entry.specs.Errors.{error}
 
--- an ACCEPT (13) might sleep, and a CONNECT (16) that was begun goes on by itself: their descriptors are polled first. Every other call is made so that it doesn't wait
+-- an ACCEPT (13) that may have to wait might sleep, and a CONNECT (16) that was begun goes on by itself: their descriptors are polled first. Every other call is made so that it doesn't wait
 abbrev pub polls_first : Submission → Call → Bool
-polls_first e c = e.opcode == 13 && c.is_stream || e.opcode == 16 && c.has_begun
+polls_first e c = e.opcode == 13 && c.is_stream && not c.is_impatient || e.opcode == 16 && c.has_begun
 
 abbrev pub begins : Submission → Call → Turn
 begins e c = if polls_first e c then Does Polls else Does Calls

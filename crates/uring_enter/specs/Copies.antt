@@ -9,7 +9,7 @@ use Rattle.uring_enter.specs.declared.copying.Copying.TheVariants.{Copies, Ends}
 use Rattle.uring_enter.specs.Chains.{has_its_place}
 use Rattle.uring_enter.specs.Clocks.{has_some}
 use Rattle.uring_entry.specs.Errors.{error, is_below}
-use Rattle.uring_enter.specs.Pieces.{piece_of, fault_of, selection_fault}
+use Rattle.uring_enter.specs.Pieces.{buffer_of, piece_of, fault_of, selection_fault}
 
 -- IOSQE_IO_LINK is 4 and IO_HARDLINK 8; IORING_OP_LINK_TIMEOUT is 15
 abbrev pub link_of : Submission → Entry
@@ -38,9 +38,10 @@ next_of e copied fault vectors before =
 abbrev pub is_own_fault : ℤ → Bool
 is_own_fault fault = is_below fault && not (int_eq fault (error 12))
 
--- READ_FIXED, WRITE_FIXED, READ and WRITE
-abbrev pub has_one_buffer : Submission → Bool
-has_one_buffer e = e.opcode == 4 || e.opcode == 5 || e.opcode == 22 || e.opcode == 23
+-- READ_FIXED, WRITE_FIXED, READ and WRITE have the buffer that they name, and nothing else
+abbrev pub one_buffer : Submission → Option Piece
+one_buffer e =
+    if e.opcode == 4 || e.opcode == 5 || e.opcode == 22 || e.opcode == 23 then Some (buffer_of e) else None
 
 -- how many bytes of a provided buffer a request takes at most: as many as it asks for, if it takes one (IOSQE_BUFFER_SELECT, 32). 0 is all of it. read(2)
 abbrev pub wanted_of : Submission → ℕ → ℕ

@@ -1,9 +1,10 @@
 -- Whether an operation may have to wait for its descriptor, by what that is. io_uring_enter(2), at each operation; open(2), O_NONBLOCK; what the kernel does, but where our own rule is named.
-use Rattle.std.specs.Prelude.{◌≡◌, ◌-◌, ◌^◌, ℕ, ℤ, Bool, true, false, not, ◌&&◌, ◌||◌, ◌==◌, nat_lt, pos, codes, List, if◌then◌else◌}
-use Rattle.std.specs.Ordering.{int_eq}
+use Rattle.std.specs.Prelude.{◌≡◌, ◌+◌, ◌-◌, ◌^◌, ℕ, ℤ, Bool, true, false, not, ◌&&◌, ◌||◌, ◌==◌, nat_lt, nat_le, pos, codes, List, if◌then◌else◌}
 use Rattle.std.specs.Str.{bytes_eq}
+use Rattle.std.specs.Int.RustNames.{bit_and}
 use Rattle.uring_enter.specs.declared.submission.Submission.{Submission}
 use Rattle.uring_enter.specs.declared.descriptor.Nature.{Nature}
+use Rattle.uring_enter.specs.declared.descriptor.Directions.{Directions}
 use Rattle.uring_enter.specs.declared.descriptor.Known.{Known}
 use Rattle.uring_enter.specs.declared.descriptor.Trial.{Trial}
 use Rattle.uring_enter.specs.declared.descriptor.Kind.{Kind}
@@ -14,7 +15,7 @@ use Rattle.uring_enter.specs.declared.descriptor.Finding.{Finding}
 use Rattle.uring_enter.specs.declared.descriptor.Finding.TheVariants.{Asks, Is}
 use Rattle.uring_enter.specs.Clocks.{has_some}
 use Rattle.uring_enter.specs.Needs.{is_read, is_transfer, is_of_sockets, is_splice, is_poll, needs_file}
-use Rattle.uring_entry.specs.Errors.{error}
+use Rattle.uring_entry.specs.Errors.{error, is_below}
 
 -- whether a transfer may be made before its descriptor is asked whether it may have to wait: it moves something, at an offset, with no flags and no provided buffer; it wasn't tried before, and no choice rests on the answer. Our own rule
 abbrev pub may_be_tried : Submission → Trial → Bool
@@ -25,6 +26,13 @@ may_be_tried e t =
 -- whether nothing at all is asked before: it is a read by the number of what was a file, which is asked not to wait
 abbrev pub is_tried_at_once : Submission → Trial → Bool
 is_tried_at_once e t = is_read e.opcode && t.was_file && may_be_tried e t
+
+-- of the access mode (O_ACCMODE, 3) O_RDONLY is 0, O_WRONLY 1 and O_RDWR 2; 3 is open for neither. open(2)
+abbrev pub directions_of : (flags : ℕ) → Directions
+directions_of flags = record {
+  can_read = bit_and flags 3 == 0 || bit_and flags 3 == 2;
+  can_write = bit_and flags 3 == 1 || bit_and flags 3 == 2;
+}
 
 -- whether a descriptor is open for a transfer's direction
 abbrev pub is_open_for : ℕ → Nature → Bool
@@ -110,9 +118,9 @@ buffer_fault e d why =
 abbrev pub no_buffer_fault : Submission → Nature → ℤ
 no_buffer_fault e d = buffer_fault e d (if has_some e.flags 32 then error 105 else error 14)
 
--- whether it matters to what it ends with that had this fault as it started, whether its group has a buffer: of one that takes a provided buffer, where that is -9 (EBADF), as of a descriptor that is open in the wrong direction
+-- whether it matters to what it ends with that had this fault as it started, whether its group has a buffer: of one that takes a provided buffer, whatever the fault, as -9 (EBADF) of a descriptor that is open in the wrong direction
 abbrev pub fault_asks_buffer : Submission → ℤ → Bool
-fault_asks_buffer e fault = has_some e.flags 32 && int_eq fault (error 9)
+fault_asks_buffer e fault = has_some e.flags 32 && is_below fault
 
 -- what it ends with that had this fault as it started: that it finds no buffer counts before that. What Linux 6.18 was seen to do
 abbrev pub ends_at_start : Submission → ℤ → (has_buffer : Bool) → Nature → ℤ
@@ -131,7 +139,19 @@ abbrev pub asks_counter : Submission → ℕ → Nature → Bool
 asks_counter e length d =
     is_transfer e.opcode && not d.has_type && nat_lt length 8 && not (has_some e.flags 32)
 
--- with what a transfer fails as it starts, though its descriptor might have to be waited for: -22 (EINVAL) of fewer than 8 bytes of what counts. 0: it doesn't. eventfd(2), timerfd_create(2)
+-- what has no offsets, as a pipe, a socket or an eventfd: bytes are moved there at none. (of a device it isn't asked)
+abbrev pub passes_offset_over : Nature → Bool
+passes_offset_over d = d.is_open && not (d.is_file || d.is_device || d.has_offsets)
+
+-- the fault of an offset all the same: -22 (EINVAL) of one from which the bytes would go past the last that 63 bits have; and -29 (ESPIPE) of a socket's, but 0. What Linux 6.18 was seen to do; of a named pipe, and a negative offset, it first waits until it is ready
+abbrev pub offset_fault : (offset length : ℕ) → (is_socket : Bool) → ℤ
+offset_fault offset length is_socket =
+    if nat_le (2 ^ 63) (offset + length) then error 22 else
+    if is_socket && not (offset == 0) then error 29 else pos 0
+
+-- with what a transfer fails as it starts, though its descriptor might have to be waited for: -22 (EINVAL) of fewer than 8 bytes of what counts (eventfd(2), timerfd_create(2)), and else by its offset, which is none where it is 2^64 - 1. 0: it doesn't
 abbrev pub start_fault : Submission → ℕ → Nature → ℤ
 start_fault e length d =
-    if is_transfer e.opcode && d.is_counter && nat_lt length 8 && not (has_some e.flags 32) then error 22 else pos 0
+    if not (is_transfer e.opcode) then pos 0 else
+    if d.is_counter && nat_lt length 8 && not (has_some e.flags 32) then error 22 else
+    if passes_offset_over d && not (e.off == 2 ^ 64 - 1) then offset_fault e.off length d.is_socket else pos 0

@@ -4,6 +4,7 @@ use Rattle.std.specs.Int.RustNames.{bit_and}
 use Rattle.uring_enter.specs.declared.submission.Submission.{Submission}
 use Rattle.uring_enter.specs.declared.named.Provided.{Provided}
 use Rattle.uring_enter.specs.declared.named.Passed.{Passed}
+use Rattle.uring_enter.specs.declared.named.Offsets.{Offsets}
 use Rattle.uring_enter.specs.Provisions.{count_of}
 
 -- IORING_OP_PROVIDE_BUFFERS: `addr` is where the first begins, `len` the bytes of each, `fd` how many there are, and `off` the number of the first
@@ -17,6 +18,10 @@ removed_of e = count_of e.fd
 -- IORING_OP_MSG_RING, IORING_MSG_SEND_FD: `addr3` is the slot of the file, whose lower 32 bits count, as Linux 6.18 has it, and `file_index` where it goes
 abbrev pub passed_of : Submission → Passed
 passed_of e = record { slot = bit_and e.addr3 4294967295; to = e.file_index }
+
+-- IORING_OP_SPLICE: `splice_off_in`, which stands in the place of `addr`, is where it reads, and `off` where it writes
+abbrev pub offsets_of : Submission → Offsets
+offsets_of e = record { from = e.addr; to = e.off }
 
 -- what a cancel, a removal and an update look for stands in `addr`
 abbrev pub target_of : Submission → ℕ

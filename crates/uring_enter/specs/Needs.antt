@@ -69,10 +69,10 @@ uses_buffer e =
 abbrev pub asks_file : Submission → Bool
 asks_file e = is_poll e.opcode || wants_file e
 
--- it has more than one completion: IORING_POLL_ADD_MULTI is 1, IORING_ACCEPT_MULTISHOT 1 and IORING_RECV_MULTISHOT 2
+-- it has more than one completion: IORING_POLL_ADD_MULTI is 1, IORING_ACCEPT_MULTISHOT 1 and IORING_RECV_MULTISHOT 2. A poll hasn't that has EPOLLONESHOT (2^30) among its events: what Linux 6.18 was seen to do
 abbrev pub goes_on : Submission → Bool
 goes_on e =
-    is_poll e.opcode && has_some e.len 1 || e.opcode == 13 && has_some e.ioprio 1
+    is_poll e.opcode && has_some e.len 1 && not (has_some e.op_flags 1073741824) || e.opcode == 13 && has_some e.ioprio 1
     || is_receive e.opcode && has_some e.ioprio 2
 
 -- a RECVMSG that goes on puts sizes, flags, the address and control data into its buffer, in front of the bytes. io_uring_prep_recvmsg_multishot(3)

@@ -44,6 +44,10 @@ has_found n is_sought fault = n.needs_file && not n.is_registered && is_sought &
 abbrev pub keeps_open : Standing → Needs → (is_sought : Bool) → (fault : ℤ) → (has_file : Bool) → Bool
 keeps_open s n is_sought fault has_file = not has_file && (s.is_stream || has_found n is_sought fault)
 
+-- the same of its second descriptor, if it has one, as a splice has: the end that it waits for is either. `has_file`: a file is kept for that one
+abbrev pub keeps_second_open : Standing → Needs → (is_sought : Bool) → (fault : ℤ) → (has_file : Bool) → Bool
+keeps_second_open s n is_sought fault has_file = n.needs_second && keeps_open s n is_sought fault has_file
+
 -- the same moment, where its descriptor is ready or isn't
 abbrev pub with_descriptor : Moment → Bool → Moment
 with_descriptor m is_ready = record {

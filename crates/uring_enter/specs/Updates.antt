@@ -26,11 +26,11 @@ timeout_removal e =
 abbrev pub updates_linked : ℕ → Linked → Bool
 updates_linked user_data seen = seen.is_linked && seen.runs && seen.user_data == user_data
 
--- a poll keeps what isn't updated, and goes on, or doesn't, as before, whether or not the update has IORING_POLL_ADD_MULTI: what Linux 6.18 was seen to do. Its events are those of `poll32_events`, and so are the new ones; its new user data is `off`
+-- a poll keeps what isn't updated, and goes on, or doesn't, as before, whether or not the update has IORING_POLL_ADD_MULTI: what Linux 6.18 was seen to do. Its events are those of `poll32_events`, and so are the new ones, of which 16 bits count; its new user data is `off`
 abbrev pub updated_poll : Submission → Submission → Submission
 updated_poll p e = record p {
   user_data = if has_some e.len 4 then e.off else p.user_data;
-  op_flags = if has_some e.len 2 then e.op_flags else p.op_flags;
+  op_flags = if has_some e.len 2 then bit_or (bit_and e.op_flags 65535) (bit_and p.op_flags 4294901760) else p.op_flags;
 }
 
 -- whether the new time is absolute the update says: IORING_TIMEOUT_ABS is 1. Its clock is that of the timeout, which keeps all other flags of 32 bits: what Linux 6.18 was seen to do

@@ -1,13 +1,13 @@
 //! What is copied next of what an entry points to, and which fault the whole of it has. io_uring_enter(2), CQE ERRORS.
 
-ghost use Rattle.std.specs.Prelude.{◌≡◌, pos, true, Option};
+ghost use Rattle.std.specs.Prelude.{◌≡◌, pos, Option, Some};
 ghost use Rattle.uring_enter.specs.Copies as spec;
 ghost use Rattle.uring_enter.specs.declared.copying.Copying.TheVariants.{Copies, Ends};
 ghost use Rattle.uring_enter.specs.declared.member.Entry.{Entry as Before};
-ghost use Rattle.uring_enter.specs.Pieces.{buffer_of};
+ghost use Rattle.uring_enter.specs.declared.piece.Piece.{Piece as Told};
 
 use crate::member::{Entry, has_its_place};
-use crate::piece::{Piece, piece_of, selection_fault};
+use crate::piece::{Piece, What, piece_of, selection_fault};
 use crate::submission::Submission;
 
 /// How the copying of an entry goes on.
@@ -46,15 +46,22 @@ pub fn is_own_fault(fault: i32) -> bool
     fault < 0 && fault != -12
 }
 
-/// Whether an entry is one of READ, WRITE, READ_FIXED and WRITE_FIXED: of these one buffer is told, wherever they stand, and then that nothing has a fault.
-pub fn has_one_buffer(entry: &Submission) -> bool
-    ensures one { result ≡ spec.has_one_buffer entry.now }
-    ensures first { (before : Option Before) → result ≡ true
-        → spec.next_of entry.now 0 (pos 0) 0 before ≡ Copies (buffer_of entry.now) }
-    ensures rest { (before : Option Before) → result ≡ true
+/// The one buffer of a READ, a WRITE, a READ_FIXED and a WRITE_FIXED: wherever these stand, it is what is told of them first, and then that nothing has a fault. `None`: it is another entry.
+pub fn one_buffer(entry: &Submission) -> Option<Piece>
+    ensures one { result ≡ spec.one_buffer entry.now }
+    ensures first { (piece : Told) (before : Option Before) → result ≡ Some piece
+        → spec.next_of entry.now 0 (pos 0) 0 before ≡ Copies piece }
+    ensures rest { (piece : Told) (before : Option Before) → result ≡ Some piece
         → spec.next_of entry.now 1 (pos 0) 1 before ≡ Ends (pos 0) }
 {
-    matches!(entry.opcode, 4 | 5 | 22 | 23)
+    match entry.opcode {
+        4 | 5 | 22 | 23 => Some(Piece {
+            what: What::Buffer,
+            from: entry.addr,
+            size: entry.len as u64,
+        }),
+        _ => None,
+    }
 }
 
 fn unless_too_long(piece: Piece) -> Copying

@@ -38,6 +38,17 @@ pub struct Nature {
     pub has_type: bool,
 }
 
+/// The directions of a descriptor.
+#[repr(C)]
+#[derive(Clone, Copy, Drop)]
+pub struct Directions {
+    /// It is open for reading.
+    pub can_read: bool,
+
+    /// It is open for writing.
+    pub can_write: bool,
+}
+
 /// What is known of a descriptor, as far as it was asked.
 #[repr(C)]
 #[derive(Clone, Copy, Drop)]
@@ -192,6 +203,17 @@ fn is_open_for(code: u8, nature: &Nature) -> bool
     }
 }
 
+/// For which directions a descriptor is open that has these flags (F_GETFL). open(2), O_ACCMODE.
+pub fn directions_of(flags: u32) -> Directions
+    ensures { result ≡ spec.directions_of flags }
+{
+    let access = flags & 3;
+    Directions {
+        can_read: access == 0 || access == 2,
+        can_write: access == 1 || access == 2,
+    }
+}
+
 /// With what the request of an entry ends whose buffer has this fault, where its descriptor is this: what isn't open, or is no socket, counts first.
 pub fn buffer_fault(entry: &Submission, nature: &Nature, why: i32) -> i32
     ensures { result ≡ spec.buffer_fault entry.now nature.now why }
@@ -209,7 +231,7 @@ pub fn buffer_fault(entry: &Submission, nature: &Nature, why: i32) -> i32
 pub fn fault_asks_buffer(entry: &Submission, fault: i32) -> bool
     ensures { result ≡ spec.fault_asks_buffer entry.now fault }
 {
-    entry.flags & 32 != 0 && fault == -9
+    entry.flags & 32 != 0 && fault < 0
 }
 
 /// With what the request of an entry ends that had this fault as it started, where its group has a buffer, or that doesn't matter, or its descriptor is this.
@@ -261,10 +283,39 @@ pub fn start_fault(entry: &Submission, length: u64, nature: &Nature) -> i32
     ensures { result ≡ spec.start_fault entry.now length nature.now }
 {
     let is_short = length < 8 && entry.flags & 32 == 0;
-    if is_transfer(entry.opcode) && nature.is_counter && is_short {
+    if !is_transfer(entry.opcode) {
+        0
+    } else if nature.is_counter && is_short {
         -22
+    } else if passes_offset_over(nature) && entry.off != u64::MAX {
+        offset_fault(entry.off, length, nature.is_socket)
     } else {
         0
+    }
+}
+
+/// Whether what is open is moved at no offset, whatever its entry says.
+fn passes_offset_over(nature: &Nature) -> bool
+    ensures { result ≡ spec.passes_offset_over nature.now }
+{
+    nature.is_open && !(nature.is_file || nature.is_device || nature.has_offsets)
+}
+
+/// The fault of an offset that counts for nothing, of so many bytes that are moved; or 0.
+fn offset_fault(offset: u64, length: u64, is_socket: bool) -> i32
+    ensures { result ≡ spec.offset_fault offset length is_socket }
+{
+    match offset.checked_add(length) {
+        None => -22,
+        Some(end) => {
+            if end > 0x7fff_ffff_ffff_ffff {
+                -22
+            } else if is_socket && offset != 0 {
+                -29
+            } else {
+                0
+            }
+        }
     }
 }
 

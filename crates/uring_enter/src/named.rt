@@ -33,6 +33,17 @@ pub struct Passed {
     pub to: u32,
 }
 
+/// The offsets of a splice, or 2^64 - 1.
+#[repr(C)]
+#[derive(Clone, Copy, Drop)]
+pub struct Offsets {
+    /// Where it reads,
+    pub from: u64,
+
+    /// and where it writes.
+    pub to: u64,
+}
+
 /// The buffers that an entry provides. IORING_OP_PROVIDE_BUFFERS.
 pub fn provided_of(entry: &Submission) -> Provided
     ensures { result ≡ spec.provided_of entry.now }
@@ -59,6 +70,16 @@ pub fn passed_of(entry: &Submission) -> Passed
     Passed {
         slot: (entry.addr3 & 0xffff_ffff) as u32,
         to: entry.file_index,
+    }
+}
+
+/// Where a splice reads and writes, of whose offsets the call is given copies. IORING_OP_SPLICE.
+pub fn offsets_of(entry: &Submission) -> Offsets
+    ensures { result ≡ spec.offsets_of entry.now }
+{
+    Offsets {
+        from: entry.addr,
+        to: entry.off,
     }
 }
 

@@ -333,12 +333,15 @@ fn asks_file(entry: &Submission) -> bool
     entry.opcode == 6 || wants_file(entry)
 }
 
+/// Among the events of a poll: it ends with the first, though it is to go on. EPOLLONESHOT.
+const ONE_SHOT: u32 = 0x4000_0000;
+
 /// Whether the request of an entry can have more than one completion.
 pub(crate) fn goes_on(entry: &Submission) -> bool
     ensures { result ≡ spec.goes_on entry.now }
 {
     match entry.opcode {
-        6 => entry.len & 1 != 0,
+        6 => entry.len & 1 != 0 && entry.op_flags & ONE_SHOT == 0,
         13 => entry.ioprio & 1 != 0,
         10 | 27 => entry.ioprio & 2 != 0,
         _ => false,

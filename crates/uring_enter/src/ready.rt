@@ -143,6 +143,19 @@ pub fn keeps_open(
     !has_file && (standing.is_stream || has_found(needs, is_sought, fault))
 }
 
+/// Whether the same is so of its second descriptor, where a splice reads.
+pub fn keeps_second_open(
+    standing: &Standing,
+    needs: &Needs,
+    is_sought: bool,
+    fault: i32,
+    has_file: bool,
+) -> bool
+    ensures { result ≡ spec.keeps_second_open standing.now needs.now is_sought fault has_file }
+{
+    needs.needs_second && keeps_open(standing, needs, is_sought, fault, has_file)
+}
+
 /// Whether a request has found a file by a descriptor's number.
 fn has_found(needs: &Needs, is_sought: bool, fault: i32) -> bool
     ensures { result ≡ spec.has_found needs.now is_sought fault }

@@ -87,7 +87,7 @@ pub fn updated_poll(poll: &Submission, update: &Submission) -> Submission
             poll.user_data
         },
         op_flags: if update.len & 2 != 0 {
-            update.op_flags
+            update.op_flags & 0xffff | poll.op_flags & 0xffff_0000
         } else {
             poll.op_flags
         },

@@ -25,6 +25,9 @@ pub struct Call {
     /// It may have to wait for its descriptor.
     pub is_stream: bool,
 
+    /// It doesn't wait, whatever its descriptor is.
+    pub is_impatient: bool,
+
     /// A connect was begun.
     pub has_begun: bool,
 
@@ -95,7 +98,7 @@ pub fn next_turn(entry: &Submission, call: &Call, last: Option<Doing>, res: i32)
 fn begins(entry: &Submission, call: &Call) -> Turn
     ensures { result ≡ spec.begins entry.now call.now }
 {
-    let is_accept = entry.opcode == 13 && call.is_stream;
+    let is_accept = entry.opcode == 13 && call.is_stream && !call.is_impatient;
     if is_accept || entry.opcode == 16 && call.has_begun {
         Turn::Does(Doing::Polls)
     } else {
