@@ -87,3 +87,5 @@ pub mod Storing
 pub mod Named
 pub mod Leaving
 pub mod PuttingOff
+pub mod Receipts
+pub mod Advances
