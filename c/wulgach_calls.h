@@ -97,21 +97,43 @@ bool wulgach_asks_end(bool is_pipe, bool is_regular);
  * written: it is asked itself, by O_NONBLOCK. Our own rule. */
 bool wulgach_asks_anew(bool is_pipe, uint32_t access, uint32_t *flags);
 
-/* Whether an operation of this code, which opens a path with these flags, is asked not to wait (O_NONBLOCK), which is taken back from the file: of
- * OPENAT and OPENAT2, but of a path alone and of a folder, and where the flags say so themselves. */
-bool wulgach_asks_opening(uint8_t code, uint64_t flags);
+/* ---- how a path is opened ---- */
 
-/* Whether it is looked before, whether its path names a pipe: if an open of one waits for its other end. It does of an entry that is asynchronous
- * (IOSQE_ASYNC), or whose flags may make or cut a file. */
-bool wulgach_looks_at_path(uint8_t code, uint64_t flags, bool is_async);
+/* Whether the path of an entry is looked up as its request starts, whether it names a pipe; `how`: the flags of its struct open_how, where OPENAT2 has its
+ * own, or 0. If an open of one waits for its other end, as it does of an entry that is asynchronous (IOSQE_ASYNC), or whose flags may make or cut a
+ * file; and if it is opened to read or to write, and not for both. */
+bool wulgach_looks_at_path(const struct wulgach_submission *entry, uint64_t how);
+
+/* Returns with which flags it is looked up: for itself alone (O_PATH), and followed as its open follows it (O_NOFOLLOW). And those with which the pipe is
+ * opened that was found so, through its link in /proc: its open's but O_NOFOLLOW, and O_NONBLOCK. */
+uint64_t wulgach_looking_flags(const struct wulgach_submission *entry, uint64_t how);
+uint64_t wulgach_found_flags(const struct wulgach_submission *entry, uint64_t how);
+
+/* A request stands so whose path was looked up as it starts, and names a pipe or doesn't: if it does, it may have to wait for its descriptor, though
+ * it has none. Our own rule. */
+void wulgach_standing_behind_path(struct wulgach_standing *standing, bool names_pipe);
+
+/* How the call of an operation is made that may open a path. */
+enum wulgach_opening {
+    WULGACH_OPENS_PLAINLY = 0,  /* as it stands */
+    WULGACH_OPENS_AT_ONCE = 1,  /* asked not to wait (O_NONBLOCK), which is taken back from the file */
+    WULGACH_OPENS_PIPE = 2      /* the pipe that was found is opened so, and its other end is waited for */
+};
+
+/* Returns how the call of an entry is made (enum wulgach_opening), whose path was found to name a pipe, or wasn't: a pipe that was looked up is opened so.
+ * Else OPENAT and OPENAT2 are asked not to wait, but of a path alone and of a folder, and where the flags say so themselves. */
+uint32_t wulgach_opening_of(const struct wulgach_submission *entry, uint64_t how, bool names_pipe);
 
 /* Whether an open that was asked not to wait, and came to this, is made once more without that: behind -11 (EWOULDBLOCK), which a lease is waited
  * for (open(2)). */
 bool wulgach_opens_again(int32_t res);
 
-/* Whether the open of a named pipe waits that was asked with these flags, and came to this with O_NONBLOCK: to -6 (ENXIO), if it is to write; and
- * if it is to read, until a writer was found, or to have been. */
-bool wulgach_opening_waits(uint64_t flags, int32_t res, bool has_writer);
+/* Whether it is asked if someone has the named pipe open to write, or has had, that an entry opens, whose open came to this: of what was opened to read. And
+ * whether that open waits, with O_NONBLOCK: if it came to -6 (ENXIO), and is to write; and if it is to read, until a writer was found. */
+bool wulgach_asks_writer(const struct wulgach_submission *entry, uint64_t how, int32_t res);
+bool wulgach_opening_waits(const struct wulgach_submission *entry, uint64_t how, int32_t res, bool has_writer);
+
+/* ---- what a call came to ---- */
 
 /* Whether a connect that came to this goes on without its call until its socket is ready: to -115 (EINPROGRESS). */
 bool wulgach_has_begun(int32_t came_to);
@@ -120,6 +142,54 @@ bool wulgach_has_begun(int32_t came_to);
  * what that ends with, where they could be told, or had not to be; or couldn't: -14 (EFAULT), though the message is gone. */
 bool wulgach_tells_message(const struct wulgach_submission *entry, int32_t came_to);
 int32_t wulgach_told_result(int32_t came_to, bool is_told);
+
+/* What came with a message. */
+struct wulgach_received {
+    uint64_t control_size;  /* how many bytes of control data */
+    uint32_t name_size;     /* how many bytes its address has, */
+    uint32_t flags;         /* and its flags: MSG_TRUNC and the like */
+    bool has_name;          /* the entry's message names a place for the address */
+};
+
+/* A field of the entry's message that is told: struct msghdr of x86-64. */
+struct wulgach_field {
+    uint64_t value;
+    uint32_t offset;    /* in bytes from the beginning of the message, */
+    uint32_t size;      /* of which it has so many: the first ones of the value */
+};
+
+/* Writes the field of a message that is told next, behind so many. False, and nothing is written: all were told. How many bytes its address has comes first,
+ * if there is a place for one; then its flags, and how many control data. The first that can't be told is the last: the message couldn't be. */
+bool wulgach_next_told(const struct wulgach_received *received, uint32_t told, struct wulgach_field *field);
+
+/* What stands in front of a message in the buffer of a receive that goes on: struct io_uring_recvmsg_out. */
+struct wulgach_front {
+    uint32_t name_size;
+    uint32_t control_size;
+    uint32_t size;          /* how many bytes the message has */
+    uint32_t flags;
+};
+
+/* Writes what stands in front of a message of so many bytes. */
+void wulgach_front_of(const struct wulgach_received *received, uint32_t size, struct wulgach_front *front);
+
+/* A vector: struct iovec. */
+struct wulgach_vector {
+    uint64_t from;      /* where its bytes stand, */
+    uint64_t size;      /* and how many there are */
+};
+
+/* What is left behind a part of a message. */
+struct wulgach_rest {
+    struct wulgach_vector vector;   /* of a vector, */
+    uint64_t moved;                 /* and of the bytes that were moved, for the vectors behind it */
+};
+
+/* How many bytes a call of a message has moved that came to this: none, if that is an error. And what is left of a vector, of which and of those behind
+ * it so many were moved: each in its turn is moved on by what the one before has left, and then the bytes that are left are those behind the ones that
+ * were moved, in their order. */
+uint64_t wulgach_moved_by(int32_t came_to);
+void wulgach_rest_of(const struct wulgach_vector *vector, uint64_t moved, struct wulgach_rest *rest);
 
 /* Whether it matters behind a call of this entry, which was asked not to wait and came to this, whether its socket was shut down for reading
  * (shutdown(2)): behind -11 (EAGAIN) of a read or a receive that may wait, and doesn't go on. And what that counts as where it was: 0, since no

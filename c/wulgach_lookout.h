@@ -110,13 +110,15 @@ enum wulgach_step_of_start {
     WULGACH_FINDS_EARLIER = 0,  /* those that were accepted before it find their files whose turn to do so hasn't come */
     WULGACH_FINDS_OWN = 1,      /* it finds its own files */
     WULGACH_BEGINS_TIME = 2,    /* the time of a timeout begins that runs from this start on (wulgach_timing_behind_start) */
-    WULGACH_ASKS_EVENTS = 3,    /* a poll asks for its events */
-    WULGACH_LOOKS = 4,          /* its descriptor is looked at */
-    WULGACH_SEEKS_BUFFER = 5    /* a provided buffer is looked for */
+    WULGACH_LOOKS_UP = 3,       /* the path that it opens is looked up, whether that names a pipe (wulgach_standing_behind_path) */
+    WULGACH_ASKS_EVENTS = 4,    /* a poll asks for its events */
+    WULGACH_LOOKS = 5,          /* its descriptor is looked at */
+    WULGACH_SEEKS_BUFFER = 6    /* a provided buffer is looked for */
 };
 
-/* As the core has let a request start, whose files were looked for before or weren't: those before it find theirs, it finds its own, and time begins. */
-uint32_t wulgach_steps_at_start(bool is_sought);
+/* As the core has let the request of an entry start, whose files were looked for before or weren't: those before it find theirs, it finds its own, time
+ * begins, and its path is looked up where wulgach_looks_at_path says so; `how` as there. */
+uint32_t wulgach_steps_at_start(const struct wulgach_submission *entry, uint64_t how, bool is_sought);
 
 /* Behind that, where its files were found without a fault, 0, or with this one: a poll asks for its events, unless it has failed; the descriptor of one
  * that may have to wait is looked at; and so is its group, if it is to take a provided buffer. Another looks for one as it is carried out. */
@@ -251,6 +253,11 @@ uint32_t wulgach_duties_behind_end(bool has_file, bool has_instance, bool is_str
 
 /* Whether a request keeps its file before a close is carried out: it was accepted before the close, and is on the descriptor that this closes. */
 bool wulgach_keeps_before_close(uint64_t number, int32_t fd, uint64_t closing, int32_t closed);
+
+/* Whether a request on this descriptor is given the copy of a file that was made just before it for another, on that one (`copied`), if any was
+ * (`has_copy`): by the same number, which is one file's meanwhile; but not if it may have to wait, since an epoll instance tells of who waits by a
+ * copy of his own. */
+bool wulgach_shares_copy(const struct wulgach_standing *standing, int32_t fd, bool has_copy, int32_t copied);
 
 /* Whether others are looked at again behind the end of a request, of which so many run: the end has closed a descriptor, and that may have been the last
  * one of a file that the request has kept, if it has kept one. It was a slot's, or the number that the entry names isn't open on the same file: `is_same`

@@ -271,6 +271,10 @@ struct wulgach_patience {
  * listens; and what would accept by one that doesn't. */
 bool wulgach_is_impatient(const struct wulgach_submission *entry, const struct wulgach_patience *patience);
 
+/* Whether the socket of a request is asked as it starts whether it listens, where its descriptor was found ready then, or wasn't: of what would have to wait,
+ * but of polls and splices. Our own rule. */
+bool wulgach_asks_listening(const struct wulgach_needs *needs, bool is_ready);
+
 /* Whether a request that wasn't found ready as it starts is carried out once all the same, and waits only then: a write, if its descriptor is a
  * pipe, which may have room in its last page where poll(2) finds none. */
 bool wulgach_is_tried_first(const struct wulgach_submission *entry, bool is_pipe);
@@ -286,6 +290,12 @@ enum wulgach_beginning {
 /* What a sleep came to, where its ppoll(2) came to this (0 or more, or an error number's negative): that; but -4 (EINTR) in a child that was forked
  * meanwhile, as by a signal's handler, and leaves its parent's ring as it is. Our own rule. */
 int32_t wulgach_sleep_came_to(int32_t res, bool is_child);
+
+/* Whether more requests become dormant behind a sleep that came to this: to -22 (EINVAL), since it polls more descriptors than the process may have
+ * (ppoll(2)). And what that sleep counts as, before which so many were dormant, and behind which so many are: where more are, as one that a descriptor
+ * has ended (1), so that the call looks and sleeps again; else what it came to. Our own rule. */
+bool wulgach_lets_more_lie(int32_t came);
+int32_t wulgach_sleep_counted_as(int32_t came, uint64_t before, uint64_t behind);
 
 /* What is left undone with a ring, as a set of bits. */
 enum wulgach_left {
@@ -316,9 +326,9 @@ struct wulgach_waited {
 /* Returns what came of a wait, as the reply to a call that wants to sleep (enum wulgach_reply_kind). */
 uint32_t wulgach_waited(const struct wulgach_waited *waited);
 
-/* Whether a sleep naps for a request, and doesn't poll its descriptor: it was carried out so often in vain, once right behind the other though
- * its descriptor showed ready, and shows ready still. */
-bool wulgach_naps_for(uint32_t vain, bool is_ready);
+/* Whether a sleep naps for a request that may have to wait, and doesn't poll its descriptor: it has none, as the open of a named pipe; or it was carried out
+ * so often in vain, once right behind the other though its descriptor showed ready, and shows ready still. */
+bool wulgach_naps_for(const struct wulgach_needs *needs, uint32_t vain, bool is_ready);
 
 /* Whether a timeout fires behind a wait, if its time is over: not behind a sleep that a signal or an error ended. */
 bool wulgach_fires_behind(const struct wulgach_waited *waited);

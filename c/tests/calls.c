@@ -3,9 +3,11 @@
 #include "wulgach_calls.h"
 
 #include <fcntl.h>
+#include <stddef.h>
 #include <stdio.h>
 #include <stdlib.h>
 #include <string.h>
+#include <sys/socket.h>
 #include <sys/syscall.h>
 
 static void demand(bool holds, const char *what)
@@ -165,17 +167,87 @@ static void look_at_faults(void)
     demand(!wulgach_given_result(WULGACH_GIVES_SHORT, &res) && !wulgach_given_result(0, &res) && !wulgach_given_result(4, &res) && res == -28, "what is made");
 }
 
+/* OPENAT has its flags in the entry, and OPENAT2 has others, `how`; each says IOSQE_ASYNC or doesn't. */
+static struct wulgach_submission opening(uint8_t code, uint32_t flags, bool is_async)
+{
+    return (struct wulgach_submission){.opcode = code, .op_flags = flags, .flags = is_async ? 16 : 0};
+}
+
+static uint32_t opens(uint8_t code, uint32_t flags, uint64_t how, bool names_pipe)
+{
+    struct wulgach_submission entry = opening(code, flags, false);
+    return wulgach_opening_of(&entry, how, names_pipe);
+}
+
+static bool looks(uint8_t code, uint32_t flags, uint64_t how, bool is_async)
+{
+    struct wulgach_submission entry = opening(code, flags, is_async);
+    return wulgach_looks_at_path(&entry, how);
+}
+
+static void look_at_opens(void)
+{
+    demand(opens(OPENAT, 0, 0, false) == WULGACH_OPENS_AT_ONCE && opens(OPENAT2, O_NONBLOCK, O_RDWR, false) == WULGACH_OPENS_AT_ONCE, "which open is asked not to wait");
+    demand(opens(OPENAT, O_NONBLOCK, 0, false) == WULGACH_OPENS_PLAINLY && opens(OPENAT, O_DIRECTORY, 0, false) == WULGACH_OPENS_PLAINLY && opens(OPENAT2, 0, O_PATH, false) == WULGACH_OPENS_PLAINLY && opens(CLOSE, 0, 0, false) == WULGACH_OPENS_PLAINLY, "and which isn't");
+    demand(opens(OPENAT, O_CREAT, 0, true) == WULGACH_OPENS_PIPE && opens(OPENAT2, 0, O_TRUNC | O_WRONLY, true) == WULGACH_OPENS_PIPE && opens(OPENAT, O_CREAT, 0, false) == WULGACH_OPENS_AT_ONCE && opens(OPENAT, 0, O_CREAT, true) == WULGACH_OPENS_AT_ONCE, "a pipe that was looked up");
+    demand(looks(OPENAT, O_CREAT, 0, false) && looks(OPENAT2, 0, O_TRUNC | O_WRONLY, false) && looks(OPENAT2, O_RDWR, O_WRONLY, true), "which path is looked at");
+    demand(!looks(OPENAT, 0, O_CREAT, false) && !looks(OPENAT, O_CREAT | O_RDWR, 0, true) && !looks(OPENAT, O_NONBLOCK, 0, true) && !looks(OPENAT2, 0, O_PATH, true) && !looks(CLOSE, 0, 0, true), "and which isn't");
+    struct wulgach_submission reads = opening(OPENAT, O_NOFOLLOW | O_CLOEXEC, false), writes = opening(OPENAT, O_WRONLY | O_APPEND, false);
+    demand(wulgach_looking_flags(&reads, 0) == (O_PATH | O_CLOEXEC | O_NOFOLLOW) && wulgach_looking_flags(&writes, O_NOFOLLOW) == (O_PATH | O_CLOEXEC), "how it is looked up");
+    demand(wulgach_found_flags(&reads, 0) == (O_NONBLOCK | O_CLOEXEC) && wulgach_found_flags(&writes, O_RDWR) == (O_WRONLY | O_APPEND | O_NONBLOCK), "how what was found is opened");
+    struct wulgach_standing file = {.has_found_buffer = true}, stream = {.is_stream = true};
+    wulgach_standing_behind_path(&file, false);
+    wulgach_standing_behind_path(&stream, false);
+    demand(!file.is_stream && stream.is_stream, "a path that names no pipe");
+    wulgach_standing_behind_path(&file, true);
+    demand(file.is_stream && file.has_found_buffer, "one that names a pipe");
+    demand(wulgach_asks_writer(&reads, 0, 3) && !wulgach_asks_writer(&reads, 0, -2) && !wulgach_asks_writer(&writes, 0, 3), "whose writer is asked for");
+    demand(wulgach_opening_waits(&writes, 0, -6, false) && !wulgach_opening_waits(&writes, 0, 3, false) && wulgach_opening_waits(&reads, 1, 3, false) && !wulgach_opening_waits(&reads, 0, 3, true) && !wulgach_opening_waits(&reads, 0, -2, false), "which open waits");
+}
+
+static bool is_told(const struct wulgach_received *received, uint32_t behind, uint64_t value, size_t offset, size_t size)
+{
+    struct wulgach_field field;
+    return wulgach_next_told(received, behind, &field) && field.value == value && field.offset == offset && field.size == size;
+}
+
+static void look_at_messages(void)
+{
+    struct wulgach_received named = {.control_size = 24, .name_size = 16, .flags = MSG_TRUNC, .has_name = true}, plain = {.control_size = 1ull << 32, .name_size = 16, .flags = 8};
+    struct msghdr *at = NULL;
+    struct wulgach_field field = {.value = 7};
+    demand(is_told(&named, 0, 16, offsetof(struct msghdr, msg_namelen), sizeof at->msg_namelen) && is_told(&named, 1, MSG_TRUNC, offsetof(struct msghdr, msg_flags), sizeof at->msg_flags) && is_told(&named, 2, 24, offsetof(struct msghdr, msg_controllen), sizeof at->msg_controllen), "a message with an address");
+    demand(is_told(&plain, 0, 8, offsetof(struct msghdr, msg_flags), sizeof at->msg_flags) && is_told(&plain, 1, 1ull << 32, offsetof(struct msghdr, msg_controllen), sizeof at->msg_controllen), "and one without");
+    demand(!wulgach_next_told(&named, 3, &field) && !wulgach_next_told(&plain, 2, &field) && field.value == 7, "nothing more");
+    struct wulgach_front front;
+    _Static_assert(sizeof front == 16, "four words stand in front of a message");
+    wulgach_front_of(&named, 5, &front);
+    demand(front.name_size == 16 && front.control_size == 24 && front.size == 5 && front.flags == MSG_TRUNC, "what stands in front of a message");
+    wulgach_front_of(&plain, 0, &front);
+    demand(front.control_size == UINT32_MAX && front.size == 0, "of as much as 32 bits say");
+}
+
+static void look_at_parts(void)
+{
+    struct wulgach_vector vector = {1000, 10};
+    struct wulgach_rest rest;
+    demand(wulgach_moved_by(5) == 5 && wulgach_moved_by(0) == 0 && wulgach_moved_by(-11) == 0, "what a call has moved");
+    wulgach_rest_of(&vector, 4, &rest);
+    demand(rest.vector.from == 1004 && rest.vector.size == 6 && rest.moved == 0, "a part of a vector");
+    wulgach_rest_of(&vector, 13, &rest);
+    demand(rest.vector.from == 1010 && rest.vector.size == 0 && rest.moved == 3, "and all of it");
+    wulgach_rest_of(&vector, 0, &rest);
+    demand(rest.vector.from == 1000 && rest.vector.size == 10 && rest.moved == 0, "and nothing");
+}
+
 static void look_at_results(void)
 {
     for (unsigned code = 0; code < 64; code++)
         demand(wulgach_asks_descriptors((uint8_t)code) == (code == 13 || code == 16 || code == 30 || code == 33), "whose descriptors are asked not to wait");
-    demand(wulgach_asks_opening(18, 0) && wulgach_asks_opening(28, 2) && !wulgach_asks_opening(18, 2048) && !wulgach_asks_opening(18, 65536) && !wulgach_asks_opening(19, 0), "which open is asked not to wait");
-    demand(wulgach_looks_at_path(18, 64, false) && wulgach_looks_at_path(28, 513, false) && wulgach_looks_at_path(28, 1, true) && !wulgach_looks_at_path(18, 0, false) && !wulgach_looks_at_path(18, 66, true) && !wulgach_looks_at_path(18, 2048, true) && !wulgach_looks_at_path(19, 0, true), "which path is looked at");
     demand(wulgach_opens_again(-11) && !wulgach_opens_again(-6) && !wulgach_opens_again(3), "a lease");
     uint32_t flags = 7;
     demand(!wulgach_asks_anew(true, O_WRONLY, &flags) && !wulgach_asks_anew(false, O_RDONLY, &flags) && flags == 7 && wulgach_asks_anew(true, O_RDONLY, &flags) && flags == (O_NONBLOCK | O_CLOEXEC), "a pipe's end that is opened once more");
     demand(wulgach_asks_end(false, false) && !wulgach_asks_end(true, false) && !wulgach_asks_end(false, true), "an end of a splice");
-    demand(wulgach_opening_waits(1, -6, false) && !wulgach_opening_waits(1, 3, false) && wulgach_opening_waits(0, 3, false) && !wulgach_opening_waits(0, 3, true) && !wulgach_opening_waits(0, -2, false), "which open waits");
     demand(wulgach_has_begun(-115) && !wulgach_has_begun(-11) && !wulgach_has_begun(0), "a connect that goes on");
     struct wulgach_submission receive = {.opcode = 10}, send = {.opcode = 9};
     demand(wulgach_tells_message(&receive, 0) && !wulgach_tells_message(&receive, -11) && !wulgach_tells_message(&send, 5), "what is told of a message");
@@ -203,6 +275,9 @@ static void look_at_results(void)
 int main(void)
 {
     look_at_results();
+    look_at_opens();
+    look_at_messages();
+    look_at_parts();
     compare_rows();
     look_at_slots();
     look_at_variants();

@@ -103,8 +103,10 @@ static void ask_again(void)
     demand(wulgach_can_finish(&waiter, &lookout, &none, &no_needs, &is_cancelled, &unknown) == WULGACH_LOOK_FINISHES, "one that a cancel has found");
     demand(wulgach_lies_down(&stream, &no_needs, &runs, true, false) && !wulgach_lies_down(&none, &no_needs, &runs, true, false) && !wulgach_lies_down(&stream, &no_needs, &is_cancelled, true, false), "one that waits for its descriptor alone");
     demand(!wulgach_lies_down(&stream, &no_needs, &runs, false, false) && !wulgach_lies_down(&stream, &no_needs, &runs, true, true), "whose descriptor is unready, and which an instance takes");
-    enum { EARLIER = 1 << WULGACH_FINDS_EARLIER, OWN = 1 << WULGACH_FINDS_OWN, TIME = 1 << WULGACH_BEGINS_TIME, EVENTS = 1 << WULGACH_ASKS_EVENTS, LOOKS = 1 << WULGACH_LOOKS, BUFFER = 1 << WULGACH_SEEKS_BUFFER };
-    demand(wulgach_steps_at_start(true) == (EARLIER | TIME) && wulgach_steps_at_start(false) == (EARLIER | OWN | TIME) && EARLIER < OWN && OWN < TIME && TIME < EVENTS && EVENTS < LOOKS && LOOKS < BUFFER, "what is done as one starts");
+    enum { EARLIER = 1 << WULGACH_FINDS_EARLIER, OWN = 1 << WULGACH_FINDS_OWN, TIME = 1 << WULGACH_BEGINS_TIME, UP = 1 << WULGACH_LOOKS_UP, EVENTS = 1 << WULGACH_ASKS_EVENTS, LOOKS = 1 << WULGACH_LOOKS, BUFFER = 1 << WULGACH_SEEKS_BUFFER };
+    struct wulgach_submission receive = {.opcode = 27}, open = {.opcode = 28, .op_flags = 2};
+    demand(wulgach_steps_at_start(&receive, 64, true) == (EARLIER | TIME) && wulgach_steps_at_start(&receive, 64, false) == (EARLIER | OWN | TIME) && EARLIER < OWN && OWN < TIME && TIME < UP && UP < EVENTS && EVENTS < LOOKS && LOOKS < BUFFER, "what is done as one starts");
+    demand(wulgach_steps_at_start(&open, 64, true) == (EARLIER | TIME | UP) && wulgach_steps_at_start(&open, 0, true) == (EARLIER | TIME), "a path is looked up");
     demand(wulgach_steps_behind_files(&none, &(struct wulgach_needs){.is_poll = true}, 0) == EVENTS && wulgach_steps_behind_files(&stream, &(struct wulgach_needs){.is_poll = true}, -9) == LOOKS && wulgach_steps_behind_files(&none, &no_needs, 0) == 0, "a poll that hasn't failed asks for its events");
     demand(wulgach_steps_behind_files(&stream, &(struct wulgach_needs){.selects = true}, 0) == (LOOKS | BUFFER) && wulgach_steps_behind_files(&none, &(struct wulgach_needs){.selects = true}, 0) == 0, "and what may wait looks for its buffer");
     demand(!wulgach_lies_down(&stream, &(struct wulgach_needs){.selects = true}, &runs, true, false) && !wulgach_lies_down(&stream, &(struct wulgach_needs){.is_timeout = true}, &runs, true, false) && !wulgach_lies_down(&stream, &(struct wulgach_needs){.needs_second = true}, &runs, true, false), "and one that doesn't");
@@ -218,10 +220,13 @@ static uint32_t waited(struct wulgach_waited waited)
 
 static void sleep_or_not(void)
 {
-    demand(!wulgach_naps_for(1, true) && wulgach_naps_for(2, true) && !wulgach_naps_for(2, false), "for which request a sleep naps");
+    struct wulgach_needs file = {.needs_file = true}, none = {0};
+    demand(!wulgach_naps_for(&file, 1, true) && wulgach_naps_for(&file, 2, true) && !wulgach_naps_for(&file, 2, false) && wulgach_naps_for(&none, 1, true), "for which request a sleep naps");
     demand(wulgach_fires_behind(&(struct wulgach_waited){0}) && !wulgach_fires_behind(&(struct wulgach_waited){.result = -4}) && !wulgach_fires_behind(&(struct wulgach_waited){.is_never = true}), "behind which sleep a timeout fires");
     demand(wulgach_sleep_begins(-14, true) == WULGACH_SLEEP_FAILS && wulgach_sleep_begins(0, true) == WULGACH_SLEEP_WAKES && wulgach_sleep_begins(0, false) == WULGACH_SLEEPS, "whether a sleep begins");
     demand(wulgach_sleep_came_to(2, false) == 2 && wulgach_sleep_came_to(-12, false) == -12 && wulgach_sleep_came_to(2, true) == -4, "a child leaves a sleep");
+    demand(wulgach_lets_more_lie(-22) && !wulgach_lets_more_lie(-4) && !wulgach_lets_more_lie(1), "behind which sleep more become dormant");
+    demand(wulgach_sleep_counted_as(-22, 3, 4) == 1 && wulgach_sleep_counted_as(-22, 3, 3) == -22 && wulgach_sleep_counted_as(-12, 3, 4) == -12 && wulgach_sleep_counted_as(0, 3, 4) == 0, "what that counts as");
     demand(wulgach_left_of(7, 7) == 0 && wulgach_left_of(7, 8) == 63, "a child leaves its parent's ring");
     demand(waited((struct wulgach_waited){0}) == WULGACH_WOKEN && waited((struct wulgach_waited){.is_over = true}) == WULGACH_TIMED_OUT, "a sleep that ends");
     demand(waited((struct wulgach_waited){.result = -4, .is_over = true}) == WULGACH_INTERRUPTED && waited((struct wulgach_waited){.result = -12}) == WULGACH_FAILED, "a sleep that fails");
@@ -246,6 +251,8 @@ static void jump(void)
 static void keep_files(void)
 {
     demand(wulgach_keeps_before_close(3, 5, 4, 5) && !wulgach_keeps_before_close(4, 5, 4, 5) && !wulgach_keeps_before_close(5, 5, 4, 5) && !wulgach_keeps_before_close(3, 6, 4, 5), "before a close");
+    struct wulgach_standing still = {0}, waits = {.is_stream = true};
+    demand(wulgach_shares_copy(&still, 5, true, 5) && !wulgach_shares_copy(&still, 5, true, 6) && !wulgach_shares_copy(&still, 5, false, 5) && !wulgach_shares_copy(&waits, 5, true, 5), "a copy that was just made");
     demand(wulgach_may_close_last(1, true, true, true, true) && wulgach_may_close_last(2, true, true, false, false) && !wulgach_may_close_last(2, true, true, false, true) && !wulgach_may_close_last(2, true, false, true, false), "the last descriptor of a file");
     demand(!wulgach_may_close_last(0, true, true, true, false) && !wulgach_may_close_last(2, false, true, true, false), "nobody else, and none that was closed");
     demand(wulgach_instance_takes(true, false) && wulgach_instance_takes(false, true) && !wulgach_instance_takes(false, false), "what an instance takes");

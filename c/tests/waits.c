@@ -174,6 +174,8 @@ static void be_impatient(void)
     demand(impatient(RECV, 0, listening) && impatient(26, 0, listening) && !impatient(ACCEPT, 0, listening) && !impatient(POLL_ADD, 0, listening), "by a socket that listens");
     demand(impatient(ACCEPT, 0, deaf) && !impatient(ACCEPT, 0, fresh) && !impatient(RECV, 0, deaf) && !impatient(26, 0, deaf), "by one that doesn't");
     demand(impatient(RECV, 1, fresh) && !impatient(RECV, 1, begun) && !impatient(26, 1, fresh), "urgent data");
+    struct wulgach_needs plain = {0}, poll = {.is_poll = true}, splice = {.needs_second = true};
+    demand(wulgach_asks_listening(&plain, false) && !wulgach_asks_listening(&plain, true) && !wulgach_asks_listening(&poll, false) && !wulgach_asks_listening(&splice, false), "whose socket is asked whether it listens");
     struct wulgach_submission write = {.opcode = WRITE}, read = {.opcode = READ}, send = {.opcode = SEND};
     demand(wulgach_is_tried_first(&write, true) && !wulgach_is_tried_first(&write, false) && !wulgach_is_tried_first(&read, true) && !wulgach_is_tried_first(&send, true), "what is tried first");
     demand(!impatient(READ, 0, fresh) && impatient(READ, 8, fresh) && impatient(READ, 0, empty) && impatient(READ, 0, failed), "a read");

@@ -38,10 +38,9 @@ static int asked_for_splice(int fd)
 /* Makes the call of an operation, with its descriptors asked not to wait if the library says so. */
 static int32_t make_call_of(struct request *request, const struct wulgach_system_call *call)
 {
-    if (request->standing.is_stream && !request->needs.needs_file)
-        return open_pipe(request, call);
-    if (asks_opening(request))
-        return open_at_once(request, call);
+    uint32_t opening = wulgach_opening_of(submission_of(&request->entry), how_flags(request), request->has_found_pipe);
+    if (opening != WULGACH_OPENS_PLAINLY)
+        return open_by(request, call, opening);
     if (!wulgach_asks_descriptors(request->entry.opcode))
         return make_call(call);
     if (request->needs.needs_second)

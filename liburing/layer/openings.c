@@ -1,5 +1,5 @@
-/* Whether an open is asked not to wait, and that of a named pipe waits all the same, is the library's decision. No descriptor tells that the other end was opened: so such a request is napped
- * for. */
+/* Whether an open is asked not to wait, and that of a named pipe waits all the same, is the library's decision. No descriptor tells that the other end was
+ * opened: so a sleep naps for such a request. */
 #define _GNU_SOURCE
 #include "openings.h"
 #include "means.h"
@@ -15,17 +15,9 @@
 #include <sys/syscall.h>
 #include <unistd.h>
 
-/* From so many tries in vain on one is napped for. */
-enum { NAPPED_FOR = 2 };
-
-static uint64_t flags_of(const struct request *request)
+uint64_t how_flags(const struct request *request)
 {
-    return request->how ? request->how->flags : request->entry.open_flags;
-}
-
-bool asks_opening(const struct request *request)
-{
-    return request->path && wulgach_asks_opening(request->entry.opcode, flags_of(request));
+    return request->how ? request->how->flags : 0;
 }
 
 /* The call, asked not to wait. */
@@ -45,18 +37,16 @@ static int32_t open_unwilling(const struct request *request, struct wulgach_syst
 /* Looks a path up, as its open does: a descriptor of what it names, for that alone, or -1. */
 static int look_up(const struct request *request)
 {
-    int flags = O_PATH | O_CLOEXEC | (int)(flags_of(request) & O_NOFOLLOW);
+    uint64_t flags = wulgach_looking_flags(submission_of(&request->entry), how_flags(request));
     if (!request->how)
-        return openat(request->entry.fd, request->path, flags);
-    struct open_how how = {.flags = (uint64_t)flags, .resolve = request->how->resolve};
+        return openat(request->entry.fd, request->path, (int)flags);
+    struct open_how how = {.flags = flags, .resolve = request->how->resolve};
     return (int)syscall(SYS_openat2, request->entry.fd, request->path, &how, sizeof how);
 }
 
-bool opens_pipe(struct request *request)
+void look_for_pipe(struct request *request)
 {
     struct stat status;
-    if (!request->path || !wulgach_looks_at_path(request->entry.opcode, flags_of(request), request->entry.flags & IOSQE_ASYNC))
-        return false;
     int fd = look_up(request);
     request->has_found_pipe = fd >= 0 && fstat(fd, &status) == 0 && S_ISFIFO(status.st_mode);
     if (request->has_found_pipe) {
@@ -67,15 +57,21 @@ bool opens_pipe(struct request *request)
     } else if (fd >= 0) {
         close(fd);
     }
-    return request->has_found_pipe;
+    wulgach_standing_behind_path(&request->standing, request->has_found_pipe);
+}
+
+static uint64_t found_flags_of(const struct request *request)
+{
+    return wulgach_found_flags(submission_of(&request->entry), how_flags(request));
 }
 
 /* Opens the pipe that was found, by its name in /proc, or by its path where there is no /proc. */
 static int32_t open_found(const struct request *request, const struct wulgach_system_call *call)
 {
     char name[40];
+    struct open_how how = {.flags = found_flags_of(request), .mode = request->how ? request->how->mode : 0};
     snprintf(name, sizeof name, "/proc/thread-self/fd/%d", request->found_pipe);
-    int fd = openat(AT_FDCWD, name, (int)(flags_of(request) & ~(uint64_t)O_NOFOLLOW) | O_NONBLOCK, 0);
+    int fd = request->how ? (int)syscall(SYS_openat2, AT_FDCWD, name, &how, sizeof how) : openat(AT_FDCWD, name, (int)how.flags, 0);
     if (fd >= 0)
         return fd;
     return errno == ENOENT ? open_unwilling(request, *call) : -errno;
@@ -106,7 +102,8 @@ static void let_wait(int fd)
     fcntl(fd, F_SETFL, fcntl(fd, F_GETFL) & ~O_NONBLOCK);
 }
 
-int32_t open_at_once(const struct request *request, const struct wulgach_system_call *call)
+/* Opens a path by this call, which is asked not to wait. Returns its descriptor, or the negative of an error number. */
+static int32_t open_at_once(const struct request *request, const struct wulgach_system_call *call)
 {
     int32_t fd = open_unwilling(request, *call);
     if (wulgach_opens_again(fd))
@@ -116,23 +113,35 @@ int32_t open_at_once(const struct request *request, const struct wulgach_system_
     return fd;
 }
 
-int32_t open_pipe(struct request *request, const struct wulgach_system_call *call)
+/* Whether the open of a pipe waits that came to this. */
+static bool waits_for_other(const struct request *request, int32_t fd)
 {
-    uint64_t flags = flags_of(request);
+    const struct wulgach_submission *entry = submission_of(&request->entry);
+    bool has_other = wulgach_asks_writer(entry, how_flags(request), fd) && has_writer(fd);
+    return wulgach_opening_waits(entry, how_flags(request), fd, has_other);
+}
+
+/* Opens the pipe that was found. Returns the same, or WOULD_WAIT. */
+static int32_t open_pipe(struct request *request, const struct wulgach_system_call *call)
+{
     bool was_opened = request->is_opened;
     int32_t fd = was_opened ? request->opened : open_found(request, call);
     request->is_opened = fd >= 0;
     request->opened = fd;
-    if (wulgach_opening_waits(flags, fd, fd >= 0 && (flags & O_ACCMODE) == O_RDONLY && has_writer(fd))) {
+    if (waits_for_other(request, fd)) {
         if (fd >= 0 && !was_opened)
             keep_for_later(fd);
-        request->vain = NAPPED_FOR;
         return WOULD_WAIT;
     }
     request->is_opened = false;
     if (was_opened)
-        give_to_application(fd, flags & O_CLOEXEC);
+        give_to_application(fd, found_flags_of(request) & O_CLOEXEC);
     if (fd >= 0)
         let_wait(fd);
     return fd;
+}
+
+int32_t open_by(struct request *request, const struct wulgach_system_call *call, uint32_t way)
+{
+    return way == WULGACH_OPENS_PIPE ? open_pipe(request, call) : open_at_once(request, call);
 }

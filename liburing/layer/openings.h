@@ -4,16 +4,14 @@
 
 #include "requests.h"
 
-/* Whether a request opens a path in a way that is asked not to wait. */
-bool asks_opening(const struct request *request);
+/* The flags of the struct open_how that a request has, or 0. */
+uint64_t how_flags(const struct request *request);
 
-/* Opens it so, by this call. Returns its descriptor, or the negative of an error number. */
-int32_t open_at_once(const struct request *request, const struct wulgach_system_call *call);
+/* Looks the path of a request up, and notes whether that names a pipe: then the request may have to wait until its other end is open. */
+void look_for_pipe(struct request *request);
 
-/* Whether a request opens a named pipe, and may have to wait until its other end is open. Then its path is looked up here, and no more. */
-bool opens_pipe(struct request *request);
-
-/* Opens it, by this call. Returns its descriptor, the negative of an error number, or WOULD_WAIT. */
-int32_t open_pipe(struct request *request, const struct wulgach_system_call *call);
+/* Opens its path by this call, in the way that the library said, but a plain one (enum wulgach_opening). Returns its descriptor, the negative of an error
+ * number, or WOULD_WAIT. */
+int32_t open_by(struct request *request, const struct wulgach_system_call *call, uint32_t way);
 
 #endif

@@ -143,6 +143,9 @@ static void do_step_of_start(struct ring *ring, struct request *request, enum wu
     case WULGACH_BEGINS_TIME:
         note_started(ring, request);
         return;
+    case WULGACH_LOOKS_UP:
+        look_for_pipe(request);
+        return;
     case WULGACH_ASKS_EVENTS:
         request->started = start_poll(request);
         return;
@@ -169,8 +172,7 @@ static void start(struct ring *ring, struct request *request)
     demand(wulgach_course_start(&request->course), "a request starts twice");
     request->begun = ++ring->begun;
     wulgach_lookout_starts(&ring->lookout, insert_request(&ring->running, request));
-    do_steps(ring, request, wulgach_steps_at_start(request->is_assigned));
-    request->standing.is_stream |= opens_pipe(request);
+    do_steps(ring, request, wulgach_steps_at_start(submission_of(&request->entry), how_flags(request), request->is_assigned));
     log_start(ring, request);
     do_steps(ring, request, wulgach_steps_behind_files(&request->standing, &request->needs, request->started));
     note_running(ring, request);

@@ -57,9 +57,9 @@ static nfds_t join_streams(struct pollfd *streams, nfds_t count)
 /* Whether a request is napped for: what its descriptor shows is asked where that matters. */
 static bool is_napped_for(struct request *request)
 {
-    if (!wulgach_naps_for(request->vain, true))
+    if (!wulgach_naps_for(&request->needs, request->vain, true))
         return false;
-    bool naps = wulgach_naps_for(request->vain, is_ready(request));
+    bool naps = wulgach_naps_for(&request->needs, request->vain, is_ready(request));
     if (!naps)
         request->vain = 0;
     return naps;
@@ -104,12 +104,13 @@ static int poll_unlocked(struct ring *ring, struct sleeper *self, nfds_t count, 
     return wulgach_sleep_came_to(came, ring->process != this_process());
 }
 
-/* The process may have fewer descriptors than are polled (ppoll(2)): those that can become dormant, and the call sleeps again. */
-static bool let_more_lie(struct ring *ring)
+/* What a sleep counts as that came to this: where the process may have fewer descriptors than are polled, more requests become dormant. */
+static int let_more_lie(struct ring *ring, int came)
 {
-    size_t count = ring->dormant.count;
-    let_lie(ring);
-    return ring->dormant.count > count;
+    size_t before = ring->dormant.count;
+    if (wulgach_lets_more_lie(came))
+        let_lie(ring);
+    return wulgach_sleep_counted_as(came, before, ring->dormant.count);
 }
 
 /* (it has a frame of its own, below that of the call: by this a sleep that was left is known) */
@@ -132,8 +133,7 @@ __attribute__((noinline)) int sleep_until(struct ring *ring, const struct wulgac
     int result = poll_unlocked(ring, self, count, &limit, signals);
     end_sleep(self);
     place = 0;
-    if (result == -EINVAL && let_more_lie(ring))
-        result = 1;
+    result = let_more_lie(ring, result);
     add_slept(ring, start);
     wulgach_times_wake(&ring->times, &end, result);
     return result < 0 ? result : 0;

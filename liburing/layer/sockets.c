@@ -90,30 +90,40 @@ int copy_address(struct request *request, uint64_t from, size_t size)
     return copy_in(&addressed->address, from, size);
 }
 
-/* Moves the vectors on by what was moved. */
-static void advance(struct request *request, uint64_t moved)
+/* Moves the vectors on behind a call that came to this. */
+static void advance(struct request *request, int32_t came_to)
 {
+    uint64_t moved = wulgach_moved_by(came_to);
     request->done += moved;
     for (uint32_t i = 0; i < request->vector_count && moved > 0; i++) {
         struct iovec *vector = &request->vectors[i];
-        size_t part = moved < vector->iov_len ? moved : vector->iov_len;
-        vector->iov_base = (char *)vector->iov_base + part;
-        vector->iov_len -= part;
-        moved -= part;
+        struct wulgach_rest rest;
+        wulgach_rest_of(&(struct wulgach_vector){(uintptr_t)vector->iov_base, vector->iov_len}, moved, &rest);
+        *vector = (struct iovec){(void *)(uintptr_t)rest.vector.from, rest.vector.size};
+        moved = rest.moved;
     }
 }
 
-/* What the kernel tells of a message that was received: sizes and flags, where the application's stands. False if it can't be written. */
+/* What the kernel says of a message that it has received. */
+static struct wulgach_received received_by(const struct msghdr *message)
+{
+    return (struct wulgach_received){
+        .control_size = message->msg_controllen,
+        .name_size = message->msg_namelen,
+        .flags = (uint32_t)message->msg_flags,
+        .has_name = message->msg_name != NULL,
+    };
+}
+
+/* Tells what the library says of a message, where the application's stands. False if it can't be written. */
 static bool tell_message(const struct request *request)
 {
-    const struct msghdr *message = request->value;
-    uint64_t at = request->entry.addr;
-    int result = copy_out(at + offsetof(struct msghdr, msg_namelen), &message->msg_namelen, sizeof message->msg_namelen);
-    if (result == 0)
-        result = copy_out(at + offsetof(struct msghdr, msg_controllen), &message->msg_controllen, sizeof message->msg_controllen);
-    if (result == 0)
-        result = copy_out(at + offsetof(struct msghdr, msg_flags), &message->msg_flags, sizeof message->msg_flags);
-    return result == 0;
+    struct wulgach_received received = received_by(request->value);
+    struct wulgach_field field;
+    for (uint32_t told = 0; wulgach_next_told(&received, told, &field); told++)
+        if (copy_out(request->entry.addr + field.offset, &field.value, field.size) < 0)
+            return false;
+    return true;
 }
 
 int32_t move_message(struct request *request, const struct wulgach_means *means)
@@ -123,8 +133,7 @@ int32_t move_message(struct request *request, const struct wulgach_means *means)
     int32_t came_to = make_call(&means->call);
     bool is_told = !wulgach_tells_message(submission_of(&request->entry), came_to) || tell_message(request);
     int32_t res = wulgach_told_result(came_to, is_told);
-    if (res > 0)
-        advance(request, (uint64_t)res);
+    advance(request, res);
     return res;
 }
 
@@ -150,7 +159,9 @@ static int32_t receive_into_buffer(struct request *request, uint64_t *filled)
     struct wulgach_means means;
     wulgach_means_of(submission_of(&request->entry), &held, &means);
     int32_t came_to = make_call(&means.call);
-    struct io_uring_recvmsg_out told = {message.msg_namelen, (uint32_t)message.msg_controllen, (uint32_t)came_to, (uint32_t)message.msg_flags};
+    struct wulgach_received received = received_by(&message);
+    struct wulgach_front told;
+    wulgach_front_of(&received, (uint32_t)came_to, &told);
     bool is_told = !wulgach_tells_message(submission_of(&request->entry), came_to) || copy_out((uintptr_t)at, &told, sizeof told) == 0;
     int32_t res = wulgach_told_result(came_to, is_told);
     if (res < 0)

@@ -3,7 +3,6 @@
 #include "files.h"
 #include "operations.h"
 #include "pipes.h"
-#include "polls.h"
 #include "unwilling.h"
 
 #include <poll.h>
@@ -26,7 +25,7 @@ static void ask_listening(struct request *request)
 void look_first(const struct ring *ring, struct request *request)
 {
     bool is_found = is_ready(request);
-    if (!is_found && !is_poll(request) && !request->needs.needs_second) {
+    if (wulgach_asks_listening(&request->needs, is_found)) {
         ask_listening(request);
         is_found = is_impatient(request) || wulgach_is_tried_first(submission_of(&request->entry), is_pipe(request->fd));
     }
@@ -116,10 +115,8 @@ static void hold_second(struct request *request)
 static void hold_first(struct request *request, struct holder *last)
 {
     int fd = request->fd;
-    if (last->file && last->fd == fd && !request->standing.is_stream)
-        request->file = share_file(last->file);
-    else
-        request->file = hold_file(fd);
+    struct file *shared = wulgach_shares_copy(&request->standing, fd, last->file, last->fd) ? last->file : NULL;
+    request->file = shared ? share_file(shared) : hold_file(fd);
     *last = (struct holder){fd, request->file};
     if (request->file)
         request->fd = request->file->fd;

@@ -167,6 +167,26 @@ static void test_found_once(void)
     close_ring(&ring);
 }
 
+/* What is wrong with the flags or the mode of one that would wait ends it as it does any other. Seen at a ring of Linux 6.18. */
+static void test_refused_opens(void)
+{
+    struct ring ring;
+    struct open_how hows[] = {{.flags = O_RDONLY, .mode = 0600}, {.flags = O_RDONLY | 1ull << 40}};
+    char name[] = "/tmp/unwilling-XXXXXX";
+    check(mkdtemp(name) && chdir(name) == 0 && mkfifo("fifo", 0600) == 0);
+    make_ring(&ring, 8, 0, 0);
+    for (int i = 0; i < 2; i++) {
+        struct io_uring_sqe *entry = put_plain(&ring, IORING_OP_OPENAT2, 0, AT_FDCWD);
+        entry->addr = (uintptr_t)"fifo";
+        entry->off = (uintptr_t)&hows[i];
+        entry->len = sizeof *hows;
+        entry->flags |= IOSQE_ASYNC;
+        check(enter(&ring, 1, 0, 0) == 1 && ends_with(&ring, -EINVAL));
+    }
+    check(unlink("fifo") == 0 && rmdir(name) == 0);
+    close_ring(&ring);
+}
+
 /* One that a kernel asks not to wait: to read it is open at once, and to write it finds nobody who reads. */
 static void test_opened_at_once(void)
 {
@@ -255,6 +275,7 @@ int main(int count, char **words)
         {"opened", test_opened},
         {"opened meanwhile", test_opened_meanwhile},
         {"found once", test_found_once},
+        {"refused opens", test_refused_opens},
         {"opened at once", test_opened_at_once},
         {"not ordinary", test_not_ordinary},
         {"connected", test_connected},

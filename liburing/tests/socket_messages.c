@@ -1,11 +1,12 @@
 /* Tests of messages through sockets, by direct calls: a receive of them that goes on, those that are refused as they are submitted,
- * and what of one is copied then. All hold under every policy, which the environment says.
+ * what of one is copied then, and what is told of it. All hold under every policy, which the environment says.
  *
  *   socket_messages [NAME]   with a name: that test alone
  */
 #define _GNU_SOURCE
 #include "engines.h"
 
+#include <stddef.h>
 #include <sys/socket.h>
 #include <sys/uio.h>
 
@@ -132,12 +133,43 @@ static void test_addresses_are_copied(void)
     close_ring(&ring);
 }
 
+/* What is told of a message: how many bytes its address has, where there is a place for one; then its flags; and then how many control data. What stands behind
+ * a field that can't be written stays as it was. Seen at a ring of Linux 6.18. */
+static void test_told_in_order(void)
+{
+    struct ring ring;
+    char bytes[8], name[128], control[64];
+    struct iovec vector = {bytes, sizeof bytes};
+    int ends[2];
+    if (is_under_valgrind())
+        return;
+    size_t page = (size_t)sysconf(_SC_PAGESIZE);
+    char *memory = mmap(NULL, 3 * page, PROT_READ | PROT_WRITE, MAP_PRIVATE | MAP_ANONYMOUS, -1, 0);
+    check(memory != MAP_FAILED && socketpair(AF_UNIX, SOCK_DGRAM, 0, ends) == 0);
+    /* (of the second page nothing can be written: there are the flags of the one, and of the other how long its address is) */
+    struct msghdr *ending = (void *)(memory + page - offsetof(struct msghdr, msg_flags)), *beginning = (void *)(memory + 2 * page - offsetof(struct msghdr, msg_iov));
+    *ending = (struct msghdr){.msg_name = name, .msg_namelen = sizeof name, .msg_iov = &vector, .msg_iovlen = 1, .msg_control = control, .msg_controllen = sizeof control};
+    *beginning = (struct msghdr){.msg_namelen = 7, .msg_iov = &vector, .msg_iovlen = 1, .msg_control = control, .msg_controllen = sizeof control, .msg_flags = -1};
+    check(mprotect(memory + page, page, PROT_READ) == 0);
+    make_ring(&ring, 8, 0, 0);
+    check(send(ends[1], "one", 3, 0) == 3 && send(ends[1], "two", 3, 0) == 3);
+    put_transfer(&ring, IORING_OP_RECVMSG, 0, 0, ends[0], ending, 1, 0);
+    check(result_of_one(&ring, 1) == -EFAULT && ending->msg_namelen == 0 && ending->msg_controllen == sizeof control);
+    put_transfer(&ring, IORING_OP_RECVMSG, 0, 0, ends[0], beginning, 1, 0);
+    check(result_of_one(&ring, 1) == 3 && beginning->msg_namelen == 7 && beginning->msg_controllen == 0 && beginning->msg_flags == 0);
+    check(munmap(memory, 3 * page) == 0);
+    close(ends[0]);
+    close(ends[1]);
+    close_ring(&ring);
+}
+
 int main(int count, char **words)
 {
     static const struct named tests[] = {
         {"multishot messages", test_multishot_messages},
         {"refused messages", test_refused_messages},
         {"addresses are copied", test_addresses_are_copied},
+        {"told in order", test_told_in_order},
     };
     return run_tests(tests, sizeof tests / sizeof *tests, count > 1 ? words[1] : NULL);
 }

@@ -83,3 +83,6 @@ abbrev pub word_of_gone : Gone → ℕ
 word_of_gone gone.No = 0
 word_of_gone gone.Asks = 1
 word_of_gone gone.Yes = 2
+
+abbrev pub copied_if : (has_copy : Bool) → (copied : ℤ) → Option ℤ
+copied_if has_copy copied = if has_copy then Some copied else None

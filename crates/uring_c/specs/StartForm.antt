@@ -2,7 +2,7 @@
 use Rattle.std.specs.Prelude.{ℕ, ◌^◌, if◌then◌else◌}
 use Rattle.std.specs.Int.RustNames.{bit_or}
 use Rattle.uring_enter.specs.declared.starting.Starting.{Starting}
-use Rattle.uring_enter.specs.Starts.{Step, FindsEarlier, FindsOwn, BeginsTime, AsksEvents, Looks, SeeksBuffer, place, is_due}
+use Rattle.uring_enter.specs.Starts.{Step, FindsEarlier, FindsOwn, BeginsTime, LooksUp, AsksEvents, Looks, SeeksBuffer, place, is_due}
 
 -- the bit of a step, where it is due, is 2 to the power of its place: so steps are done by rising bits. Our own rule
 abbrev pub bit : Starting → Step → ℕ
@@ -10,6 +10,6 @@ bit s step = if is_due s step then 2 ^ place step else 0
 
 abbrev pub word_of_starting : Starting → ℕ
 word_of_starting s =
-    bit_or (bit_or (bit_or (bit_or (bit_or
-    (bit s FindsEarlier) (bit s FindsOwn)) (bit s BeginsTime)) (bit s AsksEvents))
+    bit_or (bit_or (bit_or (bit_or (bit_or (bit_or
+    (bit s FindsEarlier) (bit s FindsOwn)) (bit s BeginsTime)) (bit s LooksUp)) (bit s AsksEvents))
     (bit s Looks)) (bit s SeeksBuffer)

@@ -3,7 +3,6 @@ ghost use Rattle.std.specs.Prelude.{◌≡◌, true, false, MatchOption};
 ghost use Rattle.uring_enter.specs.CallResults as results;
 ghost use Rattle.uring_enter.specs.Means as spec;
 ghost use Rattle.uring_enter.specs.Parts as parts;
-ghost use Rattle.uring_enter.specs.PipeOpens as opens;
 ghost use Rattle.uring_enter.specs.TransferCalls.{call_of};
 ghost use Rattle.uring_c.specs.MeansForm.{words, by_list, words_of_means, fault_of_word, can_have_one, given_one};
 ghost use Rattle.uring_crossing.specs.WaitForm.{task_of};
@@ -11,9 +10,9 @@ ghost use Rattle.uring_crossing.specs.WaitForm.{task_of};
 use uring_crossing::wait_words::task;
 use uring_enter::{
     Fault, Held, Listed, Means, Submission, SystemCall, Transfer, Vectors, asks_anew,
-    asks_descriptors, asks_end, asks_opening, asks_shut, can_have, control_of, done_result,
-    given_result, has_begun, is_stream_type, looks_at_path, means_of, moved_so_far, opening_waits,
-    opens_again, placed_result, shut_result, tells_message, told_result, transfer_call,
+    asks_descriptors, asks_end, asks_shut, can_have, control_of, done_result, given_result,
+    has_begun, is_stream_type, means_of, moved_so_far, placed_result, shut_result, tells_message,
+    told_result, transfer_call,
 };
 
 /// By what an operation is carried out: `struct wulgach_means` of the header.
@@ -180,38 +179,6 @@ pub extern "C" fn wulgach_asks_anew(is_pipe: bool, access: u32, flags: &mut u32)
     };
     *flags = anew;
     true
-}
-
-/// Whether an operation of this code, which opens a path with these flags, is asked not to wait.
-#[unsafe(no_mangle)]
-pub extern "C" fn wulgach_asks_opening(code: u8, flags: u64) -> bool
-    ensures { result ≡ opens.asks_opening code flags }
-{
-    asks_opening(code, flags)
-}
-
-/// Whether it is looked before, whether its path names a pipe.
-#[unsafe(no_mangle)]
-pub extern "C" fn wulgach_looks_at_path(code: u8, flags: u64, is_async: bool) -> bool
-    ensures { result ≡ opens.looks_at_path code flags is_async }
-{
-    looks_at_path(code, flags, is_async)
-}
-
-/// Whether an open that was asked not to wait, and came to this, is made once more without that.
-#[unsafe(no_mangle)]
-pub extern "C" fn wulgach_opens_again(res: i32) -> bool
-    ensures { result ≡ opens.opens_again res }
-{
-    opens_again(res)
-}
-
-/// Whether the open of a named pipe waits that was asked with these flags, and came to this without waiting.
-#[unsafe(no_mangle)]
-pub extern "C" fn wulgach_opening_waits(flags: u64, res: i32, has_writer: bool) -> bool
-    ensures { result ≡ opens.opening_waits flags res has_writer }
-{
-    opening_waits(flags, res, has_writer)
 }
 
 /// Whether a connect that came to this goes on without its call.

@@ -1,9 +1,11 @@
 //! What a request's file is kept for, and what others hear of its end, for C: functions of `c/wulgach_lookout.h`.
 ghost use Rattle.std.specs.Prelude.{◌≡◌};
 ghost use Rattle.uring_enter.specs.Keeping as keeping;
+ghost use Rattle.uring_c.specs.PassageForm.{copied_if};
 
 use uring_enter::{
-    asks_locks, counts_as_written, keeps_before_close, may_close_last, stays_open, tells_anew,
+    Standing, asks_locks, counts_as_written, keeps_before_close, may_close_last, shares_copy,
+    stays_open, tells_anew,
 };
 
 /// Whether the request of this number, on this descriptor, keeps its file before a close of this number, of this descriptor.
@@ -17,6 +19,20 @@ pub extern "C" fn wulgach_keeps_before_close(
     ensures { result ≡ keeping.keeps_before_close number fd closing closed }
 {
     keeps_before_close(number, fd, closing, closed)
+}
+
+/// Whether a request on this descriptor is given the copy that was made just before for another, on that one (`copied`), if any was.
+#[unsafe(no_mangle)]
+pub extern "C" fn wulgach_shares_copy(
+    standing: &Standing,
+    fd: i32,
+    has_copy: bool,
+    copied: i32,
+) -> bool
+    ensures { result ≡ keeping.shares_copy standing.now fd (copied_if has_copy copied) }
+{
+    let copied = if has_copy { Some(copied) } else { None };
+    shares_copy(standing, fd, copied)
 }
 
 /// Whether the end of a request may have closed the last descriptor of a file that it has kept, if it has kept one, so that others are looked at again.

@@ -5,7 +5,8 @@ ghost use Rattle.uring_enter.specs.Sleeping as sleeping;
 ghost use Rattle.uring_c.specs.SleepForm.{word_of_beginning, word_of_outcome};
 
 use uring_enter::{
-    Beginning, Outcome, PipePoll, Waited, beginning_of, came_to, fires_behind, naps_for, outcome_of,
+    Beginning, Needs, Outcome, PipePoll, Waited, beginning_of, came_to, counted_as, fires_behind,
+    lets_more_lie, naps_for, outcome_of,
 };
 
 /// Whether a request is to be told of writes to its pipe.
@@ -30,6 +31,22 @@ pub extern "C" fn wulgach_sleep_came_to(res: i32, is_child: bool) -> i32
     ensures { result ≡ sleeping.came_to res is_child }
 {
     came_to(res, is_child)
+}
+
+/// Whether more requests become dormant behind a sleep that came to this.
+#[unsafe(no_mangle)]
+pub extern "C" fn wulgach_lets_more_lie(came: i32) -> bool
+    ensures { result ≡ sleeping.lets_more_lie came }
+{
+    lets_more_lie(came)
+}
+
+/// What a sleep counts as that came to this, before which so many requests were dormant, and behind which so many are.
+#[unsafe(no_mangle)]
+pub extern "C" fn wulgach_sleep_counted_as(came: i32, before: u64, behind: u64) -> i32
+    ensures { result ≡ sleeping.counted_as came before behind }
+{
+    counted_as(came, before, behind)
 }
 
 /// Returns whether a sleep begins whose arguments have this fault, or 0, and before which a poll was told, or none.
@@ -58,12 +75,12 @@ pub extern "C" fn wulgach_waited(waited: &Waited) -> u32
     }
 }
 
-/// Whether a sleep naps for a request that was carried out so often in vain, and whose descriptor shows ready or not.
+/// Whether a sleep naps for a request that may have to wait, was carried out so often in vain, and whose descriptor shows ready or not.
 #[unsafe(no_mangle)]
-pub extern "C" fn wulgach_naps_for(vain: u32, is_ready: bool) -> bool
-    ensures { result ≡ sleeping.naps_for vain is_ready }
+pub extern "C" fn wulgach_naps_for(needs: &Needs, vain: u32, is_ready: bool) -> bool
+    ensures { result ≡ sleeping.naps_for needs.now vain is_ready }
 {
-    naps_for(vain, is_ready)
+    naps_for(needs, vain, is_ready)
 }
 
 /// Whether a timeout fires behind a wait, if its time is over.

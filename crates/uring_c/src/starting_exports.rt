@@ -4,14 +4,14 @@ ghost use Rattle.uring_enter.specs.Starts as starts;
 ghost use Rattle.uring_c.specs.StartForm.{word_of_starting};
 
 use crate::duty_exports::bit;
-use uring_enter::{Needs, Standing, Starting, steps_at_start, steps_behind_files};
+use uring_enter::{Needs, Standing, Starting, Submission, steps_at_start, steps_behind_files};
 
-/// What is done as the core has let a request start, whose files were looked for before or weren't, as a set of steps.
+/// What is done as the core has let the request of an entry start, whose files were looked for before or weren't, as a set of steps.
 #[unsafe(no_mangle)]
-pub extern "C" fn wulgach_steps_at_start(is_sought: bool) -> u32
-    ensures { result ≡ word_of_starting (starts.at_start is_sought) }
+pub extern "C" fn wulgach_steps_at_start(entry: &Submission, how: u64, is_sought: bool) -> u32
+    ensures { result ≡ word_of_starting (starts.at_start entry.now how is_sought) }
 {
-    starting_word(steps_at_start(is_sought))
+    starting_word(steps_at_start(entry, how, is_sought))
 }
 
 /// What is done behind that, where its files were found without a fault, 0, or with this one.
@@ -28,7 +28,8 @@ fn starting_word(starting: Starting) -> u32
     bit(1, starting.finds_earlier)
         | bit(2, starting.finds_own)
         | bit(4, starting.begins_time)
-        | bit(8, starting.asks_events)
-        | bit(16, starting.looks)
-        | bit(32, starting.seeks_buffer)
+        | bit(8, starting.looks_up)
+        | bit(16, starting.asks_events)
+        | bit(32, starting.looks)
+        | bit(64, starting.seeks_buffer)
 }

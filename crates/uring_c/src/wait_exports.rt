@@ -15,9 +15,9 @@ use uring_crossing::wait_words::{
 };
 use uring_enter::{
     Call, Known, Nature, Needs, Patience, PollStart, Submission, Transfer, Trial, asks_instance,
-    buffer_fault, counts_as_ready, instance_events, is_impatient, is_tried_first, needs_as,
-    needs_of, next_finding, next_step, next_turn, no_buffer_fault, poll_result, poll_start,
-    present_of, start_fault,
+    asks_listening, buffer_fault, counts_as_ready, instance_events, is_impatient, is_tried_first,
+    needs_as, needs_of, next_finding, next_step, next_turn, no_buffer_fault, poll_result,
+    poll_start, present_of, start_fault,
 };
 
 /// Writes what the operation of an entry needs.
@@ -58,6 +58,14 @@ pub extern "C" fn wulgach_is_impatient(entry: &Submission, patience: &Patience) 
     ensures { result ≡ ready.is_impatient entry.now patience.now }
 {
     is_impatient(entry, patience)
+}
+
+/// Whether the socket of a request is asked as it starts whether it listens, where its descriptor was found ready then, or wasn't.
+#[unsafe(no_mangle)]
+pub extern "C" fn wulgach_asks_listening(needs: &Needs, is_ready: bool) -> bool
+    ensures { result ≡ ready.asks_listening needs.now is_ready }
+{
+    asks_listening(needs, is_ready)
 }
 
 /// Whether a request that wasn't found ready as it starts is carried out once all the same.

@@ -1,10 +1,16 @@
 -- What a request's file is kept for, and what others hear of its end. Our own rules, but where it is said what a kernel does: there a request has its file from the moment in which it begins, and each write and each end is told as it comes.
-use Rattle.std.specs.Prelude.{◌≡◌, ℕ, ℤ, Bool, true, false, not, ◌&&◌, ◌||◌, nat_lt}
+use Rattle.std.specs.Prelude.{◌≡◌, ℕ, ℤ, Bool, true, false, not, ◌&&◌, ◌||◌, nat_lt, Option, Some, None}
 use Rattle.std.specs.Ordering.{int_eq}
+use Rattle.uring_enter.specs.declared.ready.Standing.{Standing}
 
 -- whether a request keeps its file before a close is carried out: it was accepted before that, so that a kernel would have begun it, and is on the descriptor that is closed
 abbrev pub keeps_before_close : (number : ℕ) → (fd : ℤ) → (closing : ℕ) → (closed : ℤ) → Bool
 keeps_before_close number fd closing closed = nat_lt number closing && int_eq fd closed
+
+-- whether a request is given the copy of its file that was made for another right before: that one's was copied, and by the same number, which is one file's while copies are made one right behind the other; and it hasn't to wait for its descriptor. Who waits has a copy of his own, by which an epoll instance tells of him alone
+abbrev pub shares_copy : Standing → (fd : ℤ) → (copied : Option ℤ) → Bool
+shares_copy s fd None = false
+shares_copy s fd (Some other) = int_eq other fd && not s.is_stream
 
 -- whether the end of a request may have closed the last descriptor of a file that it has kept, by which others can go on, as who reads the other end of a pipe: others run, it has closed one, and no other of the application's is known to be open on the file. That of a slot may be gone, and the number that its entry names may be another file's by now
 abbrev pub may_close_last : (others : ℕ) → (was_closed has_file is_of_slot is_same : Bool) → Bool

@@ -88,3 +88,5 @@ pub mod Named
 pub mod Leaving
 pub mod Jumps
 pub mod PuttingOff
+pub mod Receipts
+pub mod Advances

@@ -159,6 +159,10 @@ is_impatient e p =
     || has_message_flags e.opcode && has_some e.op_flags 64
     || is_transfer e.opcode && is_impatient_transfer e p.length
 
+-- whether it is asked, as a request starts, if its socket listens: it would have to wait, and it is no poll, which may wait for who connects, and no splice, which waits for either end of its two. Our own rule
+abbrev pub asks_listening : Needs → (is_ready : Bool) → Bool
+asks_listening n is_ready = not is_ready && not n.is_poll && not n.needs_second
+
 -- whether one that wasn't found ready as it starts is carried out once all the same, and waits only then: a write to a pipe, which may have room in its last page where poll(2) finds none. pipe(7); Linux 6.18 carries each out before it polls
 abbrev pub is_tried_first : Submission → (is_pipe : Bool) → Bool
 is_tried_first e is_pipe = is_pipe && is_write e.opcode

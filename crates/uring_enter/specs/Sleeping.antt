@@ -1,7 +1,8 @@
 -- When a sleep of a call isn't begun after all, and what came of a wait. io_uring_enter(2), errors, but where our own rule is named.
-use Rattle.std.specs.Prelude.{ℕ, ℤ, pos, negsuc, Bool, true, false, not, ◌&&◌, nat_le, if◌then◌else◌}
+use Rattle.std.specs.Prelude.{ℕ, ℤ, pos, negsuc, Bool, true, false, not, ◌&&◌, ◌||◌, nat_lt, nat_le, if◌then◌else◌}
 use Rattle.std.specs.Ordering.{int_eq}
 use Rattle.uring_entry.specs.Errors.{error}
+use Rattle.uring_enter.specs.declared.needs.Needs.{Needs}
 use Rattle.uring_enter.specs.declared.sleeping.Beginning.{Beginning}
 use Rattle.uring_enter.specs.declared.sleeping.Beginning.TheVariants.{Fails, Wakes, Sleeps}
 use Rattle.uring_enter.specs.declared.sleeping.Waited.{Waited}
@@ -15,6 +16,14 @@ is_error (pos _) = false
 -- what a sleep came to, by its ppoll(2): a child that was forked in it, as by a signal's handler, and returns from it leaves its parent's ring as it is. To it a signal has ended the sleep, -4 (EINTR). Our own rule
 abbrev pub came_to : ℤ → (is_child : Bool) → ℤ
 came_to res is_child = if is_child then error 4 else res
+
+-- a sleep that polls more descriptors than the process may have open is refused, with -22 (EINVAL). ppoll(2). Then more requests become dormant, for whom the ring's epoll instance is polled alone: our own rule
+abbrev pub lets_more_lie : ℤ → Bool
+lets_more_lie came = int_eq came (error 22)
+
+-- where more have become so, it counts as one that a descriptor has ended (1): no time has passed, nothing has failed, and the call looks again and sleeps again. Else it has failed. Our own rule
+abbrev pub counted_as : ℤ → (before behind : ℕ) → ℤ
+counted_as came before behind = if lets_more_lie came && nat_lt before behind then pos 1 else came
 
 -- a call whose last argument is at fault doesn't sleep, and fails with that; nor does one before whose sleep a poll was told of what another has written to its pipe, since that goes on
 abbrev pub beginning_of : ℤ → Bool → Beginning
@@ -30,9 +39,9 @@ unless_message can_post = if can_post then Woken else Endless
 abbrev pub fires_behind : Waited → Bool
 fires_behind w = not w.is_never && int_eq w.result (pos 0)
 
--- a sleep naps for a request that was carried out in vain twice or more, though its descriptor showed ready, and shows so still: a poll of it would end each sleep at once. So it is of a local socket that connects where no more are taken, and of a counter that has no room for what is added. Our own rule
-abbrev pub naps_for : (vain : ℕ) (is_ready : Bool) → Bool
-naps_for vain is_ready = nat_le 2 vain && is_ready
+-- a sleep naps for a request that was carried out in vain twice or more, though its descriptor showed ready, and shows so still: a poll of it would end each sleep at once. So it is of a local socket that connects where no more are taken, and of a counter that has no room for what is added. And it naps for one that has no descriptor, as the open of a named pipe: nothing tells that the other end was opened. Our own rule
+abbrev pub naps_for : Needs → (vain : ℕ) (is_ready : Bool) → Bool
+naps_for n vain is_ready = not n.needs_file || nat_le 2 vain && is_ready
 
 -- a signal ends the sleep with -4 (EINTR), and another error with itself; else the caller's time is over, or something may go on
 abbrev pub outcome_of : Waited → Outcome

@@ -4,12 +4,15 @@ use Rattle.std.specs.Ordering.{int_eq}
 use Rattle.uring_enter.specs.declared.needs.Needs.{Needs}
 use Rattle.uring_enter.specs.declared.ready.Standing.{Standing}
 use Rattle.uring_enter.specs.declared.starting.Starting.{Starting}
+use Rattle.uring_enter.specs.declared.submission.Submission.{Submission}
+use Rattle.uring_enter.specs.PipeOpens.{looks_at_path}
 use Rattle.uring_enter.specs.Readiness.{polls}
 
 pub data Step : Type 0 where
   FindsEarlier : Step
   FindsOwn : Step
   BeginsTime : Step
+  LooksUp : Step
   AsksEvents : Step
   Looks : Step
   SeeksBuffer : Step
@@ -19,14 +22,16 @@ abbrev pub place : Step → ℕ
 place FindsEarlier = 0
 place FindsOwn = 1
 place BeginsTime = 2
-place AsksEvents = 3
-place Looks = 4
-place SeeksBuffer = 5
+place LooksUp = 3
+place AsksEvents = 4
+place Looks = 5
+place SeeksBuffer = 6
 
 abbrev pub is_due : Starting → Step → Bool
 is_due s FindsEarlier = s.finds_earlier
 is_due s FindsOwn = s.finds_own
 is_due s BeginsTime = s.begins_time
+is_due s LooksUp = s.looks_up
 is_due s AsksEvents = s.asks_events
 is_due s Looks = s.looks
 is_due s SeeksBuffer = s.seeks_buffer
@@ -37,14 +42,20 @@ nothing = record {
   finds_earlier = false;
   finds_own = false;
   begins_time = false;
+  looks_up = false;
   asks_events = false;
   looks = false;
   seeks_buffer = false;
 }
 
--- as the core has let it start: those accepted before it find their files, whose turn that is, since what it opens or closes comes behind them; then it finds its own, if these weren't looked for as it was accepted; and the time begins that is told by its start
-abbrev pub at_start : (is_sought : Bool) → Starting
-at_start is_sought = record nothing { finds_earlier = true; finds_own = not is_sought; begins_time = true }
+-- as the core has let it start: those accepted before it find their files, whose turn that is, since what it opens or closes comes behind them; then it finds its own, if these weren't looked for as it was accepted; the time begins that is told by its start; and the path that it opens is looked up, if that may name a pipe for which it waits
+abbrev pub at_start : Submission → (how : ℕ) → (is_sought : Bool) → Starting
+at_start e how is_sought = record nothing {
+  finds_earlier = true;
+  finds_own = not is_sought;
+  begins_time = true;
+  looks_up = looks_at_path e how;
+}
 
 -- whether a poll asks for its events: unless it has failed by then
 abbrev pub starts_poll : Needs → ℤ → Bool
@@ -64,6 +75,6 @@ behind_files s n fault = record nothing {
 
 -- what is done as it starts comes before what is asked then, which rests on its files
 abbrev pub AsksBehindItsFiles : Type 0
-AsksBehindItsFiles = (is_sought : Bool) (s : Standing) (n : Needs) (fault : ℤ) (first second : Step)
-    → is_due (at_start is_sought) first ≡ true → is_due (behind_files s n fault) second ≡ true
+AsksBehindItsFiles = (e : Submission) (how : ℕ) (is_sought : Bool) (s : Standing) (n : Needs) (fault : ℤ) (first second : Step)
+    → is_due (at_start e how is_sought) first ≡ true → is_due (behind_files s n fault) second ≡ true
     → nat_lt (place first) (place second) ≡ true

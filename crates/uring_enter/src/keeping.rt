@@ -4,11 +4,23 @@ ghost use Rattle.std.specs.Prelude.{◌≡◌};
 ghost use Rattle.uring_enter.specs.Keeping as spec;
 ghost use Rattle.uring_enter.specs.Keeping.{AsksWhereItMatters};
 
+use crate::ready::Standing;
+
 /// Whether the request of this number, on this descriptor, keeps its file before a close is carried out, which has a number too and closes another descriptor or the same.
 pub fn keeps_before_close(number: u64, fd: i32, closing: u64, closed: i32) -> bool
     ensures { result ≡ spec.keeps_before_close number fd closing closed }
 {
     number < closing && fd == closed
+}
+
+/// Whether a request on this descriptor is given the copy that was made just before it for another, on that one; or for nobody, where none was made. Our own rule.
+pub fn shares_copy(standing: &Standing, fd: i32, copied: Option<i32>) -> bool
+    ensures { result ≡ spec.shares_copy standing.now fd copied }
+{
+    match copied {
+        Some(other) => other == fd && !standing.is_stream,
+        None => false,
+    }
 }
 
 /// Whether the end of a request may have closed the last descriptor of a file that it has kept, if it has kept one: of a slot or not, and the one that its entry names is open on the same file or not; so that others are looked at again, of which so many run. `was_closed`: it has closed one.

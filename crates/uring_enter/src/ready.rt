@@ -254,6 +254,13 @@ fn is_in_vain(entry: &Submission, patience: &Patience) -> bool
     }
 }
 
+/// Whether the socket of a request is asked as it starts whether it listens, where its descriptor was found ready then, or wasn't. Our own rule.
+pub fn asks_listening(needs: &Needs, is_ready: bool) -> bool
+    ensures { result ≡ spec.asks_listening needs.now is_ready }
+{
+    !is_ready && !needs.is_poll && !needs.needs_second
+}
+
 /// Whether a request that wasn't found ready as it starts is carried out once all the same, where its descriptor is a pipe or isn't.
 pub fn is_tried_first(entry: &Submission, is_pipe: bool) -> bool
     ensures { result ≡ spec.is_tried_first entry.now is_pipe }

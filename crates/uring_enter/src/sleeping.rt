@@ -3,6 +3,8 @@
 ghost use Rattle.std.specs.Prelude.{◌≡◌};
 ghost use Rattle.uring_enter.specs.Sleeping as spec;
 
+use crate::needs::Needs;
+
 /// Whether a sleep begins.
 #[derive(Clone, Copy, Drop)]
 pub enum Beginning {
@@ -68,6 +70,24 @@ pub fn came_to(res: i32, is_child: bool) -> i32
     if is_child { -4 } else { res }
 }
 
+/// Whether more requests become dormant behind a sleep that came to this, so that it polls fewer descriptors. ppoll(2), EINVAL.
+pub fn lets_more_lie(came: i32) -> bool
+    ensures { result ≡ spec.lets_more_lie came }
+{
+    came == -22
+}
+
+/// What a sleep counts as that came to this, before which so many requests were dormant, and behind which so many are. Our own rule.
+pub fn counted_as(came: i32, before: u64, behind: u64) -> i32
+    ensures { result ≡ spec.counted_as came before behind }
+{
+    if lets_more_lie(came) && before < behind {
+        1
+    } else {
+        came
+    }
+}
+
 /// Whether a sleep begins whose arguments have this fault, or 0, and before which a poll was told, or none.
 pub fn beginning_of(fault: i32, is_told: bool) -> Beginning
     ensures { result ≡ spec.beginning_of fault is_told }
@@ -81,11 +101,11 @@ pub fn beginning_of(fault: i32, is_told: bool) -> Beginning
     }
 }
 
-/// Whether a sleep naps for a request, and polls its descriptor not: it was carried out so often in vain, once right behind the other though its descriptor showed ready each time, and shows ready still.
-pub fn naps_for(vain: u32, is_ready: bool) -> bool
-    ensures { result ≡ spec.naps_for vain is_ready }
+/// Whether a sleep naps for a request that may have to wait, and polls its descriptor not: it has none; or it was carried out so often in vain, once right behind the other though its descriptor showed ready each time, and shows ready still.
+pub fn naps_for(needs: &Needs, vain: u32, is_ready: bool) -> bool
+    ensures { result ≡ spec.naps_for needs.now vain is_ready }
 {
-    vain >= 2 && is_ready
+    !needs.needs_file || vain >= 2 && is_ready
 }
 
 /// What came of a wait.

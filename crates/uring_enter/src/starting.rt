@@ -5,7 +5,9 @@ ghost use Rattle.uring_enter.specs.Starts as spec;
 ghost use Rattle.uring_enter.specs.Starts.{AsksBehindItsFiles};
 
 use crate::needs::Needs;
+use crate::pipe_open::looks_at_path;
 use crate::ready::{Standing, polls};
+use crate::submission::Submission;
 
 /// What is to be done as a request starts, in the order in which it stands here.
 #[derive(Clone, Copy, Drop)]
@@ -18,6 +20,9 @@ pub struct Starting {
 
     /// The time of a timeout begins that runs from this start on.
     pub begins_time: bool,
+
+    /// The path that it opens is looked up, whether that names a pipe.
+    pub looks_up: bool,
 
     /// A poll asks for its events.
     pub asks_events: bool,
@@ -33,19 +38,21 @@ const NONE: Starting = Starting {
     finds_earlier: false,
     finds_own: false,
     begins_time: false,
+    looks_up: false,
     asks_events: false,
     looks: false,
     seeks_buffer: false,
 };
 
-/// As the core has let a request start, whose files were looked for before or weren't. Our own rule.
-pub fn steps_at_start(is_sought: bool) -> Starting
-    ensures { result ≡ spec.at_start is_sought }
+/// As the core has let the request of an entry start, whose files were looked for before or weren't. `how`: the flags of its `struct open_how`, if it has one. Our own rule.
+pub fn steps_at_start(entry: &Submission, how: u64, is_sought: bool) -> Starting
+    ensures { result ≡ spec.at_start entry.now how is_sought }
 {
     Starting {
         finds_earlier: true,
         finds_own: !is_sought,
         begins_time: true,
+        looks_up: looks_at_path(entry, how),
         ..NONE
     }
 }

@@ -1,0 +1,82 @@
+//! How paths are opened, for C: functions of `c/wulgach_calls.h`.
+ghost use Rattle.std.specs.Prelude.{◌≡◌};
+ghost use Rattle.uring_enter.specs.PipeOpens as opens;
+ghost use Rattle.uring_c.specs.MeansForm.{word_of_opening};
+
+use uring_enter::{
+    Opening, Standing, Submission, asks_writer, found_flags, looking_flags, looks_at_path,
+    opening_of, opening_waits, opens_again, standing_behind_path,
+};
+
+/// Whether the path of an entry is looked up as its request starts, whether it names a pipe.
+#[unsafe(no_mangle)]
+pub extern "C" fn wulgach_looks_at_path(entry: &Submission, how: u64) -> bool
+    ensures { result ≡ opens.looks_at_path entry.now how }
+{
+    looks_at_path(entry, how)
+}
+
+/// Returns with which flags it is looked up.
+#[unsafe(no_mangle)]
+pub extern "C" fn wulgach_looking_flags(entry: &Submission, how: u64) -> u64
+    ensures { result ≡ opens.looking_flags entry.now how }
+{
+    looking_flags(entry, how)
+}
+
+/// Returns with which flags the pipe is opened that was found by that.
+#[unsafe(no_mangle)]
+pub extern "C" fn wulgach_found_flags(entry: &Submission, how: u64) -> u64
+    ensures { result ≡ opens.found_flags entry.now how }
+{
+    found_flags(entry, how)
+}
+
+/// A request stands so whose path was looked up as it starts, and names a pipe or doesn't.
+#[unsafe(no_mangle)]
+pub extern "C" fn wulgach_standing_behind_path(standing: &mut Standing, names_pipe: bool)
+    ensures { standing.new ≡ opens.standing_behind_path standing.old names_pipe }
+{
+    *standing = standing_behind_path(standing, names_pipe);
+}
+
+/// Returns how the call of an entry is made whose path was found to name a pipe, or wasn't.
+#[unsafe(no_mangle)]
+pub extern "C" fn wulgach_opening_of(entry: &Submission, how: u64, names_pipe: bool) -> u32
+    ensures { result ≡ word_of_opening (opens.opening_of entry.now how names_pipe) }
+{
+    match opening_of(entry, how, names_pipe) {
+        Opening::Plain => 0,
+        Opening::AtOnce => 1,
+        Opening::Pipe => 2,
+    }
+}
+
+/// Whether an open that was asked not to wait, and came to this, is made once more without that.
+#[unsafe(no_mangle)]
+pub extern "C" fn wulgach_opens_again(res: i32) -> bool
+    ensures { result ≡ opens.opens_again res }
+{
+    opens_again(res)
+}
+
+/// Whether it is asked if someone has the named pipe open to write that an entry opens, whose open came to this.
+#[unsafe(no_mangle)]
+pub extern "C" fn wulgach_asks_writer(entry: &Submission, how: u64, res: i32) -> bool
+    ensures { result ≡ opens.asks_writer entry.now how res }
+{
+    asks_writer(entry, how, res)
+}
+
+/// Whether the open of a named pipe waits that came to this without waiting.
+#[unsafe(no_mangle)]
+pub extern "C" fn wulgach_opening_waits(
+    entry: &Submission,
+    how: u64,
+    res: i32,
+    has_writer: bool,
+) -> bool
+    ensures { result ≡ opens.opening_waits entry.now how res has_writer }
+{
+    opening_waits(entry, how, res, has_writer)
+}
