@@ -26,3 +26,4 @@ mod LeavingRuns
 mod PuttingOffRuns
 mod PassageRuns
 mod StepRuns
+mod AskingRuns

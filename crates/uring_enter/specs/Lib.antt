@@ -87,3 +87,6 @@ pub mod Storing
 pub mod Named
 pub mod Leaving
 pub mod PuttingOff
+pub mod Asking
+pub mod Carrying
+pub mod Hearing
