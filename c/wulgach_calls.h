@@ -85,9 +85,27 @@ struct wulgach_vectors {
  * pread64. */
 void wulgach_transfer_call(const struct wulgach_submission *entry, const struct wulgach_vectors *vectors, const struct wulgach_transfer *transfer, uint32_t step, struct wulgach_system_call *call);
 
-/* Whether the descriptors of the operation of this code are asked not to wait, by O_NONBLOCK, while its call is made, which has no flag for
- * that: of ACCEPT, CONNECT, SPLICE and TEE, but pipes, which a flag of a splice asks. The call of no other operation of sockets waits. */
-bool wulgach_asks_descriptors(uint8_t code);
+/* By which calls an operation is carried out. */
+enum wulgach_calls {
+    WULGACH_CALLS_OF_TRANSFER = 0,  /* those of a transfer, one after the other, as wulgach_transfer_next says */
+    WULGACH_CALLS_OF_POLL = 1,      /* a look at what its descriptor has, as wulgach_poll_result says */
+    WULGACH_CALLS_IN_TURN = 2,      /* calls that aren't to wait, and looks at its descriptor, as wulgach_call_next says */
+    WULGACH_CALLS_ONCE = 3          /* one, or what whoever keeps the ring does itself, as wulgach_means_of says */
+};
+
+/* Returns which (enum wulgach_calls), of the operation of this code: in turn what goes by sockets, and a splice or a tee. */
+uint32_t wulgach_calls_of(uint8_t code);
+
+/* Of how many descriptors of the operation of this code it is asked that they don't wait, by O_NONBLOCK, while its call is made, which has no
+ * flag for that: of the one of ACCEPT and CONNECT; of both of SPLICE and TEE, of each as wulgach_asks_end says. The call of no other operation of
+ * sockets waits. */
+uint32_t wulgach_asked_descriptors(uint8_t code);
+
+/* Writes which flags (F_SETFL) an open file gets that is asked so, where it has these, if they are known: O_NONBLOCK beside them. And once the call
+ * is over, where it was asked, and has these by then: the same without. False, and nothing is written: it stays as it is, since it isn't to wait
+ * anyway, or its flags aren't known, or it wasn't asked, or is to wait by then. Our own rule. */
+bool wulgach_asked_flags(bool is_known, uint32_t flags, uint32_t *asked);
+bool wulgach_flags_behind(bool was_asked, bool is_known, uint32_t flags, uint32_t *behind);
 
 /* Whether an end of a splice is asked so: no pipe, and no regular file, which never waits. Our own rule. */
 bool wulgach_asks_end(bool is_pipe, bool is_regular);
@@ -227,9 +245,31 @@ enum wulgach_given_fault {
  * descriptor or never has to. */
 bool wulgach_can_have(uint8_t code, bool is_stream, uint64_t length, uint32_t fault);
 
-/* Writes what an operation ends with that is given this fault: -5 (EIO) or -28 (ENOSPC). False, and nothing is written: it is made, of fewer
- * bytes, or there is no such fault. */
-bool wulgach_given_result(uint32_t fault, int32_t *res);
+/* Where the result of a request comes from that is carried out. */
+enum wulgach_source {
+    WULGACH_FROM_START = 0, /* what failed of it as it started */
+    WULGACH_FROM_ENTRY = 1, /* it is a no-op: wulgach_no_op_result */
+    WULGACH_FROM_FAULT = 2, /* the fault that it is given */
+    WULGACH_FROM_HALF = 3,  /* its calls, made of half of its bytes, since it is given WULGACH_GIVES_SHORT, */
+    WULGACH_FROM_CALLS = 4  /* or of all */
+};
+
+/* Returns which (enum wulgach_source): the first of these, where the start of the operation of this code has found this error, or 0, and it is given
+ * this fault (enum wulgach_given_fault), or 0. Of a fault that takes the place of its calls it writes the result, -5 (EIO) or -28 (ENOSPC), and
+ * else nothing. */
+uint32_t wulgach_source_of(uint8_t code, int32_t started, uint32_t fault, int32_t *res);
+
+/* What is done with the result of a request that was carried out, or that a cancel has found, in this order: a set has the bit 1 << STEP of
+ * each. */
+enum wulgach_finish_step {
+    WULGACH_FINISH_JUDGES = 0,      /* whether it is a success is judged (wulgach_has_succeeded), */
+    WULGACH_FINISH_NOTIFIES = 1,    /* before a completion of its own tells it, and the notice of wulgach_notice_of takes its place; */
+    WULGACH_FINISH_TELLS = 2,       /* the core is told of the end; */
+    WULGACH_FINISH_ENDS = 3         /* and that is shown, and makes of others what wulgach_duties_behind_end says */
+};
+
+/* What is done, of a send without copies (IORING_OP_SEND_ZC, SENDMSG_ZC) or of another, which has no notice. */
+uint32_t wulgach_finish_steps(bool is_zero_copy);
 
 /* Of what kind a file is. */
 struct wulgach_synced_kind {

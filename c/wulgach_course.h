@@ -62,9 +62,13 @@ bool wulgach_course_start(struct wulgach_course *course);
 bool wulgach_course_done(struct wulgach_course *course, int32_t res);
 bool wulgach_course_end(struct wulgach_course *course);
 
-/* Writes what the second completion of a send without copies shows, which says that its memory is free: 0, or with `reports` that it was
- * copied. False, and nothing is written: it has none, since no completion may be posted before its end. */
-bool wulgach_notice_of(bool reports, bool may_post, int32_t *res);
+/* An entry of the submission ring: see wulgach_form.h. */
+struct wulgach_submission;
+
+/* Writes what the second completion of a send without copies shows, which is of this entry, and says that its memory is free: 0, or with
+ * IORING_SEND_ZC_REPORT_USAGE that it was copied. False, and nothing is written: it has none, since no completion may be posted before its
+ * end. */
+bool wulgach_notice_of(const struct wulgach_submission *entry, bool may_post, int32_t *res);
 
 /* What the update of a poll does with it. */
 enum wulgach_changing {
@@ -128,9 +132,6 @@ struct wulgach_posted {
  * the result of the request's course, whatever `end` has for that, and returns 1; returns 0 if there is none. -22 (EINVAL) exactly if
  * the request hasn't ended, the core's completion isn't its (token and told are the same), or there is no row; then nothing changes. */
 int32_t wulgach_shown_end(struct wulgach_shown *shown, struct wulgach_posted *rows, size_t room, const struct wulgach_course *course, const struct wulgach_posted *end, const struct wulgach_completion *core, bool has_core);
-
-/* An entry of the submission ring: see wulgach_form.h. */
-struct wulgach_submission;
 
 /* How an operation was carried out. */
 struct wulgach_carried {
@@ -224,6 +225,11 @@ enum wulgach_timing {
     WULGACH_TIMING_BEGINS = 1,
     WULGACH_TIMING_STOPS = 2
 };
+
+/* Whether the operation of this code is a timeout (IORING_OP_TIMEOUT); and whether it is one that limits the request before it
+ * (IORING_OP_LINK_TIMEOUT). */
+bool wulgach_is_timeout(uint8_t code);
+bool wulgach_is_linked_timeout(uint8_t code);
 
 /* Returns what becomes of a timeout's time (enum wulgach_timing) when a request starts, when a cancel finds one, and when one has ended. The
  * time of a linked timeout runs while the request runs that it limits. That of another runs from its own start on, unless a cancel has found

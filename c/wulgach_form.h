@@ -92,8 +92,8 @@ uint32_t wulgach_form_copied(uint32_t was, int32_t fault);
 /* Writes what an entry says of its chain: IOSQE_IO_LINK or IO_HARDLINK links the next, and IORING_OP_LINK_TIMEOUT limits the one before. */
 void wulgach_link_of(const struct wulgach_submission *entry, struct wulgach_link *link);
 
-/* Whether an operation is served. */
-bool wulgach_is_served(uint8_t code);
+/* What a probe says of the operation of this code: IO_URING_OP_SUPPORTED of one that is served, else 0. */
+uint16_t wulgach_probed_flags(uint8_t code);
 
 /* Whether the request of an entry, which has started as one that goes on or hasn't (wulgach_needs, and behind a poll's start wulgach_poll_start), and
  * has moved so many bytes (`done`), goes on behind this result, which then has a completion of its own; else it ends with it: it isn't one that goes on,
@@ -170,6 +170,10 @@ struct wulgach_header {
  * vectors; -22 of more than one where it takes a provided buffer; that of the vectors; and -75 (EOVERFLOW) of a RECVMSG that goes on, if
  * what stands in front of the bytes has no length of 31 bits. */
 int32_t wulgach_next_message_piece(const struct wulgach_submission *entry, const struct wulgach_header *header, uint32_t copied, int32_t fault, struct wulgach_piece *piece);
+
+/* Whether the address that the operation of this code names is copied by itself, as of IORING_OP_CONNECT; else it stands in the message that is
+ * sent. */
+bool wulgach_is_address_alone(uint8_t code);
 
 /* How many vectors the message of an entry has that has so many: none count as an empty one, where it takes a provided buffer. */
 uint64_t wulgach_message_vectors(const struct wulgach_submission *entry, uint64_t vectors);

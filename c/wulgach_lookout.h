@@ -78,8 +78,32 @@ struct wulgach_pipe_poll {
 /* Whether a request is to be told of writes to its pipe: it is a poll for what that has to be read. */
 bool wulgach_awaits_writes(const struct wulgach_pipe_poll *poll);
 
-/* Whether it awaits the writes of this number. */
-bool wulgach_awaits_write(const struct wulgach_pipe_poll *poll, uint32_t watch);
+/* What is done so that writes to pipes are heard. Our own rule: a kernel tells each poll in the moment of a write. */
+enum wulgach_hearing {
+    WULGACH_HEARING_IS_DONE = 0,        /* nothing was done, or is left */
+    WULGACH_HEARING_ADDS = 1,           /* each poll that runs and awaits writes gets its watch, and any other loses it */
+    WULGACH_HEARING_DROPS = 2,          /* the watches are taken away by which no poll waits any more */
+    WULGACH_HEARING_TELLS_OF_GONE = 3,  /* polls are told of what is gone that was there when they heard of it (wulgach_waiter_gone) */
+    WULGACH_HEARING_SORTS = 4,          /* the writes are read that were noted since, and told, or dropped, as wulgach_lookout_drops_writes says */
+    WULGACH_HEARING_READS = 5,          /* they are read, and told */
+    WULGACH_HEARING_COUNTS = 6          /* they count as heard (wulgach_lookout_hears) */
+};
+
+/* Returns what is next (enum wulgach_hearing) behind this, where so many pipes are watched by then: as a call begins, or has slept, and as one returns,
+ * or is to sleep. Where none is watched nothing is read. */
+uint32_t wulgach_hearing_at_begin(uint32_t last, uint64_t watched);
+uint32_t wulgach_hearing_at_rest(uint32_t last, uint64_t watched);
+
+/* What is done with one of the polls that have the watch of a pipe which was written to. */
+enum wulgach_telling {
+    WULGACH_TELLING_PASSES_OVER = 0,    /* it isn't told */
+    WULGACH_TELLING_ASKS = 1,           /* its descriptor is asked whether what was written is there still */
+    WULGACH_TELLING_TELLS = 2           /* it is dormant no more, and hears of the write (wulgach_waiter_hears) */
+};
+
+/* Returns which (enum wulgach_telling), where it is known by now whether what was written is there still, or isn't: each that awaits the writes of
+ * this number is told, and one of all is asked. */
+uint32_t wulgach_telling_of(const struct wulgach_pipe_poll *poll, uint32_t watch, bool is_known);
 
 /* ---- what is known of a request that runs ---- */
 

@@ -34,6 +34,16 @@ int32_t wulgach_set_up(const struct wulgach_asked_ring *asked, struct wulgach_se
 /* Whether a ring with these flags has a thread that takes its entries, so that a call which wakes it submits by rounds: IORING_SETUP_SQPOLL. */
 bool wulgach_has_thread(uint32_t flags);
 
+/* Whether it is asked of a set-up with these flags whether the processor is online that it names: with IORING_SETUP_SQ_AFF, of a thread that isn't
+ * shared. And what the descriptor is by which it names a ring: with IORING_SETUP_ATTACH_WQ. To no other these matter. */
+bool wulgach_asks_processor(uint32_t flags);
+bool wulgach_asks_shared(uint32_t flags);
+
+/* In how many cells, of 64 bytes, an entry of a ring with these flags stands: in two with IORING_SETUP_SQE128. And in how many, of 16, a completion: in
+ * two with IORING_SETUP_CQE32. */
+uint32_t wulgach_entry_cells(uint32_t flags);
+uint32_t wulgach_completion_cells(uint32_t flags);
+
 /* What a ring can do (IORING_FEAT_..), whose rings stand in one mapping or in two. */
 uint32_t wulgach_features(bool is_one_mapping);
 
@@ -214,9 +224,14 @@ bool wulgach_parameters_have_reserved(const struct wulgach_parameters_form *form
  * with a list, and of a cancel by a descriptor and any. */
 int32_t wulgach_content_fault(uint32_t code, bool is_read, const struct wulgach_content *content);
 
-/* How many rows of a probe are looked at, and told, if so many are asked for: at most one for each operation that there is. Which are
- * supported wulgach_is_served says. */
-uint32_t wulgach_probed(uint32_t count);
+/* What a probe tells in front of its rows. */
+struct wulgach_probe {
+    uint8_t last;   /* the last operation that there is */
+    uint8_t rows;   /* how many rows are looked at, and told: at most one for each operation that there is */
+};
+
+/* Writes that, if so many rows are asked for. What each says wulgach_probed_flags (wulgach_form.h) tells. */
+void wulgach_probe_of(uint32_t count, struct wulgach_probe *probe);
 
 /* ---- the thread that may call ---- */
 

@@ -79,6 +79,22 @@ uint32_t wulgach_shown_ready(const struct wulgach_shown *shown, uint32_t head);
  * outstanding or the ring's descriptor is readable; and IORING_SQ_NEED_WAKEUP if a thread takes entries, which sleeps. */
 uint32_t wulgach_shown_flags(const struct wulgach_shown *shown, uint64_t outstanding, bool is_readable, bool has_thread);
 
+/* How many completions were posted so far, as a word of 32 bits; and whether any were since there were so many as this word says, to which fewer
+ * than 2^32 have come since. */
+uint32_t wulgach_shown_posted(const struct wulgach_shown *shown);
+bool wulgach_shown_has_posted(const struct wulgach_shown *shown, uint32_t since);
+
+/* Where it is heard what the application has reaped. */
+enum wulgach_occasion {
+    WULGACH_HEARS_FOR_CALL = 0,             /* a call says so, which doesn't ask for what has overflowed, */
+    WULGACH_HEARS_FOR_CALL_THAT_ASKS = 1,   /* or does: the flag of WULGACH_HEAR */
+    WULGACH_HEARS_BEHIND_STEP = 2,          /* something has gone on in a call */
+    WULGACH_HEARS_TO_POST = 3               /* a completion may be posted behind it: an operation is carried out, or what no operation ends with is told */
+};
+
+/* Whether what has overflowed is asked for there: by a call that asks for it alone. */
+bool wulgach_asks_overflow(uint32_t occasion);
+
 /* What is done where something was reaped, or what has overflowed is asked for. */
 enum wulgach_heard_step {
     WULGACH_HEARD_SHOWS = 0,    /* what has ended is shown, before room moves the tail on */

@@ -162,9 +162,16 @@ static void look_at_faults(void)
     demand(wulgach_can_have(READ, true, 0, WULGACH_GIVES_EIO) && wulgach_can_have(FSYNC, false, 0, WULGACH_GIVES_EIO) && !wulgach_can_have(NOP, false, 0, WULGACH_GIVES_EIO), "EIO");
     demand(wulgach_can_have(WRITEV, false, 0, WULGACH_GIVES_ENOSPC) && wulgach_can_have(FALLOCATE, false, 0, WULGACH_GIVES_ENOSPC) && !wulgach_can_have(READ, false, 8, WULGACH_GIVES_ENOSPC), "ENOSPC");
     demand(wulgach_can_have(READ, false, 2, WULGACH_GIVES_SHORT) && !wulgach_can_have(READ, false, 1, WULGACH_GIVES_SHORT) && !wulgach_can_have(READ, true, 2, WULGACH_GIVES_SHORT) && !wulgach_can_have(READ, false, 2, 4), "SHORT, and no fault");
+}
+
+static void look_at_sources(void)
+{
     int32_t res = 7;
-    demand(wulgach_given_result(WULGACH_GIVES_EIO, &res) && res == -5 && wulgach_given_result(WULGACH_GIVES_ENOSPC, &res) && res == -28, "what they end with");
-    demand(!wulgach_given_result(WULGACH_GIVES_SHORT, &res) && !wulgach_given_result(0, &res) && !wulgach_given_result(4, &res) && res == -28, "what is made");
+    demand(wulgach_source_of(WRITE, -14, WULGACH_GIVES_EIO, &res) == WULGACH_FROM_START && wulgach_source_of(NOP, -9, 0, &res) == WULGACH_FROM_START, "what failed as it started");
+    demand(wulgach_source_of(NOP, 0, WULGACH_GIVES_EIO, &res) == WULGACH_FROM_ENTRY, "a no-op");
+    demand(wulgach_source_of(WRITE, 0, WULGACH_GIVES_SHORT, &res) == WULGACH_FROM_HALF && wulgach_source_of(WRITE, 0, 0, &res) == WULGACH_FROM_CALLS && wulgach_source_of(WRITE, 0, 4, &res) == WULGACH_FROM_CALLS && res == 7, "what is made");
+    demand(wulgach_source_of(WRITE, 0, WULGACH_GIVES_EIO, &res) == WULGACH_FROM_FAULT && res == -5 && wulgach_source_of(WRITE, 0, WULGACH_GIVES_ENOSPC, &res) == WULGACH_FROM_FAULT && res == -28, "what it is given");
+    demand(wulgach_finish_steps(true) == 15 && wulgach_finish_steps(false) == 13, "what is done with a result");
 }
 
 /* OPENAT has its flags in the entry, and OPENAT2 has others, `how`; each says IOSQE_ASYNC or doesn't. */
@@ -240,10 +247,28 @@ static void look_at_parts(void)
     demand(rest.vector.from == 1000 && rest.vector.size == 10 && rest.moved == 0, "and nothing");
 }
 
+static void look_at_calls(void)
+{
+    for (unsigned code = 0; code < 64; code++) {
+        bool is_transfer = code == 1 || code == 2 || code == 4 || code == 5 || code == 22 || code == 23, is_sockets = code == 9 || code == 10 || code == 13 || code == 16 || code == 26 || code == 27 || code == 47 || code == 48;
+        uint32_t calls = is_transfer ? WULGACH_CALLS_OF_TRANSFER : code == 6 ? WULGACH_CALLS_OF_POLL : is_sockets || code == 30 || code == 33 ? WULGACH_CALLS_IN_TURN : WULGACH_CALLS_ONCE;
+        demand(wulgach_calls_of((uint8_t)code) == calls, "by which calls");
+    }
+}
+
+static void ask_descriptors(void)
+{
+    uint32_t flags = 7;
+    for (unsigned code = 0; code < 64; code++)
+        demand(wulgach_asked_descriptors((uint8_t)code) == (code == 13 || code == 16 ? 1u : code == 30 || code == 33 ? 2u : 0u), "of how many descriptors it is asked");
+    demand(!wulgach_asked_flags(false, 2, &flags) && !wulgach_asked_flags(true, O_NONBLOCK | 2, &flags) && flags == 7, "what isn't to wait anyway");
+    demand(wulgach_asked_flags(true, O_APPEND | 2, &flags) && flags == (O_APPEND | O_NONBLOCK | 2), "what is asked");
+    demand(!wulgach_flags_behind(false, true, O_NONBLOCK, &flags) && !wulgach_flags_behind(true, false, O_NONBLOCK, &flags) && !wulgach_flags_behind(true, true, 2, &flags) && flags == (O_APPEND | O_NONBLOCK | 2), "what isn't taken back");
+    demand(wulgach_flags_behind(true, true, flags, &flags) && flags == (O_APPEND | 2), "what is taken back");
+}
+
 static void look_at_results(void)
 {
-    for (unsigned code = 0; code < 64; code++)
-        demand(wulgach_asks_descriptors((uint8_t)code) == (code == 13 || code == 16 || code == 30 || code == 33), "whose descriptors are asked not to wait");
     demand(wulgach_opens_again(-11) && !wulgach_opens_again(-6) && !wulgach_opens_again(3), "a lease");
     uint32_t flags = 7;
     demand(!wulgach_asks_anew(true, O_WRONLY, &flags) && !wulgach_asks_anew(false, O_RDONLY, &flags) && flags == 7 && wulgach_asks_anew(true, O_RDONLY, &flags) && flags == (O_NONBLOCK | O_CLOEXEC), "a pipe's end that is opened once more");
@@ -283,6 +308,9 @@ int main(void)
     look_at_variants();
     look_at_transfers();
     look_at_faults();
+    look_at_sources();
+    look_at_calls();
+    ask_descriptors();
     puts("calls: as called for");
     return 0;
 }

@@ -108,7 +108,8 @@ static void look_at_order(void)
     demand(wulgach_form_of(&plain, 0, true, &fault) == WULGACH_FORM_REFUSED && fault == -22, "a personality");
     demand(FORM(.opcode = 22, .flags = 32) == 0 && FORM(.opcode = 27, .flags = 32) == 0, "one that may select");
     demand(wulgach_form_copied(WULGACH_FORM_TOKEN, 0) == WULGACH_FORM_TOKEN && wulgach_form_copied(WULGACH_FORM_CANCEL, 0) == WULGACH_FORM_CANCEL && wulgach_form_copied(WULGACH_FORM_TOKEN, -14) == WULGACH_FORM_REFUSED, "what can't be copied");
-    demand(wulgach_is_served(0) && !wulgach_is_served(46) && !wulgach_is_served(200), "what a probe tells");
+    demand(wulgach_probed_flags(0) == 1 && wulgach_probed_flags(46) == 0 && wulgach_probed_flags(200) == 0, "what a probe tells");
+    demand(wulgach_is_address_alone(16) && !wulgach_is_address_alone(9) && !wulgach_is_address_alone(26), "whose address is copied by itself");
 }
 
 static void look_at_links(void)

@@ -210,7 +210,20 @@ static void hear_pipes(void)
     other.is_of_pipe = false;
     unwatched.watch = 0;
     demand(wulgach_awaits_writes(&poll) && !wulgach_awaits_writes(&other) && !wulgach_awaits_writes(&cancelled) && !wulgach_awaits_writes(&writing), "who awaits writes");
-    demand(wulgach_awaits_write(&poll, 3) && !wulgach_awaits_write(&poll, 4) && !wulgach_awaits_write(&unwatched, 0), "the write of its pipe");
+    demand(wulgach_telling_of(&poll, 3, true) == WULGACH_TELLING_TELLS && wulgach_telling_of(&poll, 3, false) == WULGACH_TELLING_ASKS, "the write of its pipe");
+    demand(wulgach_telling_of(&poll, 4, true) == WULGACH_TELLING_PASSES_OVER && wulgach_telling_of(&unwatched, 0, true) == WULGACH_TELLING_PASSES_OVER && wulgach_telling_of(&cancelled, 3, false) == WULGACH_TELLING_PASSES_OVER, "and of another");
+}
+
+/* What comes one after the other, as a call begins or rests, where so many pipes are watched. */
+static void hear_in_order(void)
+{
+    static const uint32_t rest[] = {WULGACH_HEARING_ADDS, WULGACH_HEARING_DROPS, WULGACH_HEARING_TELLS_OF_GONE, WULGACH_HEARING_SORTS, WULGACH_HEARING_IS_DONE};
+    uint32_t at = WULGACH_HEARING_IS_DONE;
+    for (size_t i = 0; i < sizeof rest / sizeof *rest; i++)
+        demand((at = wulgach_hearing_at_rest(at, 1)) == rest[i], "how writes are heard as a call rests");
+    demand(wulgach_hearing_at_rest(WULGACH_HEARING_IS_DONE, 0) == WULGACH_HEARING_ADDS && wulgach_hearing_at_rest(WULGACH_HEARING_ADDS, 0) == WULGACH_HEARING_IS_DONE, "where no pipe is watched");
+    demand(wulgach_hearing_at_begin(WULGACH_HEARING_IS_DONE, 1) == WULGACH_HEARING_READS && wulgach_hearing_at_begin(WULGACH_HEARING_READS, 1) == WULGACH_HEARING_COUNTS && wulgach_hearing_at_begin(WULGACH_HEARING_COUNTS, 1) == WULGACH_HEARING_IS_DONE, "and as one begins");
+    demand(wulgach_hearing_at_begin(WULGACH_HEARING_IS_DONE, 0) == WULGACH_HEARING_COUNTS, "without a pipe");
 }
 
 static uint32_t waited(struct wulgach_waited waited)
@@ -311,6 +324,7 @@ int main(void)
     wake();
     tell_of_writes();
     hear_pipes();
+    hear_in_order();
     sleep_or_not();
     jump();
     keep_files();

@@ -191,6 +191,9 @@ static void take_lists(void)
     demand(wulgach_next_to_go(3, 0, &slot) && slot == 2 && wulgach_next_to_go(3, 2, &slot) && slot == 0, "which slot goes next");
     demand(!wulgach_next_to_go(3, 3, &slot) && !wulgach_next_to_go(0, 0, &slot) && slot == 0, "all have gone");
     demand(wulgach_has_thread(2) && wulgach_has_thread(6) && !wulgach_has_thread(0xfffffffd), "a ring with a thread");
+    demand(wulgach_asks_processor(6) && !wulgach_asks_processor(4) && !wulgach_asks_processor(2) && !wulgach_asks_processor(38), "a processor that matters");
+    demand(wulgach_asks_shared(32) && !wulgach_asks_shared(0xffffffdf), "a ring that is shared");
+    demand(wulgach_entry_cells(1024) == 2 && wulgach_entry_cells(2048) == 1 && wulgach_completion_cells(2048) == 2 && wulgach_completion_cells(1024) == 1, "cells of large entries and completions");
 }
 
 static void place_file(void)
@@ -247,7 +250,12 @@ static void make_calls(void)
     demand(wulgach_argument_fault(PROBE, false, 0) == -22 && wulgach_argument_fault(PROBE, true, 256) == 0 && wulgach_argument_fault(PROBE, true, 257) == -22, "a probe");
     demand(wulgach_argument_fault(ENROLL, true, 0) == -22 && wulgach_argument_fault(ENROLL, false, 16) == 0 && wulgach_argument_fault(DISMISS, true, 17) == -22, "rings by number");
     demand(wulgach_argument_fault(RESTRICT, false, 999) == 0 && wulgach_argument_fault(9, true, 1) == -22, "restrictions, and what isn't served");
-    demand(wulgach_probed(1) == 1 && wulgach_probed(49) == 49 && wulgach_probed(256) == 49, "rows of a probe");
+    static const struct { uint32_t count; uint8_t rows; } probes[] = {{0, 0}, {1, 1}, {49, 49}, {256, 49}};
+    for (size_t i = 0; i < sizeof probes / sizeof *probes; i++) {
+        struct wulgach_probe probe;
+        wulgach_probe_of(probes[i].count, &probe);
+        demand(probe.last == 48 && probe.rows == probes[i].rows, "rows of a probe");
+    }
 }
 
 static void read_contents(void)

@@ -73,8 +73,9 @@ static void post(void)
     demand(!wulgach_oldest_starts(&drains, true) && wulgach_oldest_starts(&drains, false), "a drain was there");
     demand(wulgach_is_one_choice(WULGACH_IN_ORDER, true) && wulgach_is_one_choice(WULGACH_LAZY, true) && wulgach_is_one_choice(WULGACH_BY_CHOICE, false) && !wulgach_is_one_choice(WULGACH_BY_CHOICE, true), "what is one choice");
     demand(wulgach_end_of_send(true) == WULGACH_PART_NOTICE && wulgach_end_of_send(false) == WULGACH_PART_SENT, "two completions of a send");
-    demand(!wulgach_notice_of(true, false, &res) && res == 7, "no notice behind a drain");
-    demand(wulgach_notice_of(true, true, &res) && res == INT32_MIN && wulgach_notice_of(false, true, &res) && res == 0, "a notice");
+    struct wulgach_submission reports = {.opcode = 47, .ioprio = 8}, plain = {.opcode = 47, .ioprio = 4};
+    demand(!wulgach_notice_of(&reports, false, &res) && res == 7, "no notice behind a drain");
+    demand(wulgach_notice_of(&reports, true, &res) && res == INT32_MIN && wulgach_notice_of(&plain, true, &res) && res == 0, "a notice");
 }
 
 static void put_off(void)

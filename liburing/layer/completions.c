@@ -141,9 +141,10 @@ __attribute__((noinline)) static void take_heard(struct ring *ring, uint32_t ste
         }
 }
 
-bool hear(struct ring *ring, bool is_flushing)
+bool hear(struct ring *ring, enum wulgach_occasion occasion)
 {
     uint32_t count;
+    bool is_flushing = wulgach_asks_overflow(occasion);
     if (wulgach_shown_heard(&ring->completions.at, load_word(&ring->memory.cq->head), &count) != 0)
         return false;
     uint32_t steps = wulgach_heard_steps(count, is_flushing);

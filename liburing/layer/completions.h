@@ -37,10 +37,10 @@ void show_flags(struct ring *ring);
 /* The same, if anything has ended since it was last done. */
 void show_ends(struct ring *ring);
 
-/* Tells the core what the application has reaped. With `is_flushing`, or if none has overflowed, the dispatcher loads
+/* Tells the core what the application has reaped. Where the library asks for what has overflowed, or if none has, the dispatcher loads
  * the head, so that completions that overflowed come into the ring. False, and nothing is reaped, if the application
  * has stored a head past the tail. */
-bool hear(struct ring *ring, bool is_flushing);
+bool hear(struct ring *ring, enum wulgach_occasion occasion);
 
 /* How many completions the application can reap, all that have ended being shown. */
 uint32_t count_ready(struct ring *ring);

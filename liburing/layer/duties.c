@@ -38,7 +38,7 @@ static void do_duty(struct ring *ring, enum wulgach_duty duty)
         show_readiness(ring);
         return;
     case WULGACH_HEARS_APPLICATION:
-        hear(ring, false);
+        hear(ring, WULGACH_HEARS_TO_POST);
         return;
     case WULGACH_SHOWS_FLAGS:
         show_flags(ring);

@@ -124,9 +124,9 @@ static enum wulgach_reply_kind submit_entries(struct ring *ring, struct waiting 
     return submitted < 0 ? WULGACH_NOT_TAKEN : WULGACH_WAS_TAKEN;
 }
 
-static enum wulgach_reply_kind hear_application(struct ring *ring, bool is_flushing)
+static enum wulgach_reply_kind hear_application(struct ring *ring, bool asks)
 {
-    return hear(ring, is_flushing) ? WULGACH_HEARD : WULGACH_WRONG_HEAD;
+    return hear(ring, asks ? WULGACH_HEARS_FOR_CALL_THAT_ASKS : WULGACH_HEARS_FOR_CALL) ? WULGACH_HEARD : WULGACH_WRONG_HEAD;
 }
 
 static enum wulgach_reply_kind go_on_once(struct ring *ring, bool may_end)
@@ -137,7 +137,7 @@ static enum wulgach_reply_kind go_on_once(struct ring *ring, bool may_end)
     case STUCK:
         return WULGACH_STUCK;
     default:
-        return hear(ring, false) ? WULGACH_WENT_ON : WULGACH_WRONG_HEAD;
+        return hear(ring, WULGACH_HEARS_BEHIND_STEP) ? WULGACH_WENT_ON : WULGACH_WRONG_HEAD;
     }
 }
 

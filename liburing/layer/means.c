@@ -35,17 +35,20 @@ static int asked_for_splice(int fd)
     return wulgach_asks_end(is_pipe(fd), is_regular) ? fd : -1;
 }
 
-/* Makes the call of an operation, with its descriptors asked not to wait if the library says so. */
+/* Makes the call of an operation, with as many of its descriptors asked not to wait as the library says. */
 static int32_t make_call_of(struct request *request, const struct wulgach_system_call *call)
 {
     uint32_t opening = wulgach_opening_of(submission_of(&request->entry), how_flags(request), request->has_found_pipe);
     if (opening != WULGACH_OPENS_PLAINLY)
         return open_by(request, call, opening);
-    if (!wulgach_asks_descriptors(request->entry.opcode))
+    switch (wulgach_asked_descriptors(request->entry.opcode)) {
+    case 0:
         return make_call(call);
-    if (request->needs.needs_second)
+    case 1:
+        return make_unwilling_call(call, request->fd, -1);
+    default:
         return make_unwilling_call(call, asked_for_splice(request->fd), asked_for_splice(request->second_fd));
-    return make_unwilling_call(call, request->fd, -1);
+    }
 }
 
 int32_t make_passing_call(const struct wulgach_system_call *call)

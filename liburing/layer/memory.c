@@ -100,8 +100,8 @@ int make_memory(struct memory *memory, int fd, uint32_t sq_entries, uint32_t cq_
     memory->cq_entries = cq_entries;
     memory->is_single = fd < 0;
     memory->sq_size = BEHIND_WORDS + round_to_line(sq_entries * sizeof(uint32_t));
-    memory->entry_cells = params->flags & IORING_SETUP_SQE128 ? 2 : 1;
-    memory->completion_cells = params->flags & IORING_SETUP_CQE32 ? 2 : 1;
+    memory->entry_cells = wulgach_entry_cells(params->flags);
+    memory->completion_cells = wulgach_completion_cells(params->flags);
     memory->cq_size = BEHIND_WORDS + cq_entries * memory->completion_cells * sizeof(struct io_uring_cqe);
     memory->entries_size = sq_entries * memory->entry_cells * sizeof(struct io_uring_sqe);
     int result = fd < 0 ? 0 : lengthen(fd, IORING_OFF_SQES + memory->entries_size);

@@ -21,7 +21,7 @@
 
 static bool is_transfer(const struct request *request)
 {
-    return request->needs.is_read || request->needs.is_write;
+    return wulgach_calls_of(request->entry.opcode) == WULGACH_CALLS_OF_TRANSFER;
 }
 
 /* (A transfer of no vectors says so, and does nothing else.) */
@@ -160,14 +160,19 @@ static int32_t carry_transfer_out(struct request *request)
     return step == WULGACH_TRY_WAITS ? WOULD_WAIT : res;
 }
 
-/* Operations that may have to wait, and others. */
+/* Makes the calls of an operation: the library says which they are. */
 static int32_t call_or_wait(struct ring *ring, struct request *request)
 {
-    if (is_transfer(request))
+    switch (wulgach_calls_of(request->entry.opcode)) {
+    case WULGACH_CALLS_OF_TRANSFER:
         return carry_transfer_out(request);
-    if (is_poll(request))
+    case WULGACH_CALLS_OF_POLL:
         return take_events(ring, request);
-    return request->needs.is_of_sockets || request->needs.needs_second ? call_socket(ring, request) : carry_out_by_means(ring, request);
+    case WULGACH_CALLS_IN_TURN:
+        return call_socket(ring, request);
+    default:
+        return carry_out_by_means(ring, request);
+    }
 }
 
 _Static_assert((int)FAULT_EIO == WULGACH_GIVES_EIO && (int)FAULT_ENOSPC == WULGACH_GIVES_ENOSPC && (int)FAULT_SHORT == WULGACH_GIVES_SHORT, "faults count as the library's do");
@@ -228,10 +233,10 @@ static bool begin_buffer(struct ring *ring, struct request *request)
 }
 
 /* Goes on there in its buffer. What a fault cuts is cut for good. */
-static int32_t call_into(struct ring *ring, struct request *request, struct wulgach_buffer at, enum injection fault)
+static int32_t call_into(struct ring *ring, struct request *request, struct wulgach_buffer at, bool is_half)
 {
     *request->vectors = (struct iovec){(void *)(uintptr_t)at.address, at.length};
-    if (fault == FAULT_SHORT) {
+    if (is_half) {
         shorten(request);
         request->provided.length -= at.length - (uint32_t)request->vectors->iov_len;
     }
@@ -239,38 +244,48 @@ static int32_t call_into(struct ring *ring, struct request *request, struct wulg
 }
 
 /* Carries out what takes a buffer. Whether it goes on in the one that it had, and has taken one, by its result, is the library's decision. */
-static int32_t call_with_buffer(struct ring *ring, struct request *request, enum injection fault)
+static int32_t call_with_buffer(struct ring *ring, struct request *request, bool is_half)
 {
     struct wulgach_buffer further;
     if (wulgach_buffer_further(&request->provided, (uint32_t)request->course.moved, &further))
-        return call_into(ring, request, further, fault);
+        return call_into(ring, request, further, is_half);
     if (!begin_buffer(ring, request))
         return fault_without_buffer(request);
     uint16_t id = request->provided.id;
-    int32_t res = call_into(ring, request, request->provided, fault);
+    int32_t res = call_into(ring, request, request->provided, is_half);
     request->flags = res == WOULD_WAIT ? wulgach_buffer_flags_so_far((uint32_t)moved_so_far(request), id) : wulgach_buffer_flags(res, is_transfer(request), id);
     if (request->flags)
         take_provided(ring, request->entry.buf_group);
     return res;
 }
 
-int32_t carry_out(struct ring *ring, struct request *request, enum injection fault)
+/* Makes its calls, of half of its bytes or of all, and takes back the signals that come of them. */
+static int32_t call_for(struct ring *ring, struct request *request, bool is_half)
 {
-    if (request->started < 0)
-        return fault_at_start(ring, request);
-    if (request->entry.opcode == IORING_OP_NOP)
-        return wulgach_no_op_result(submission_of(&request->entry));
-    int32_t res;
-    if (fault != NO_FAULT && wulgach_given_result(fault, &res))
-        return res;
-    if (fault == FAULT_SHORT && !request->needs.selects)
+    if (is_half && !request->needs.selects)
         shorten(request);
-    res = request->needs.selects ? call_with_buffer(ring, request, fault) : call_or_wait(ring, request);
+    int32_t res = request->needs.selects ? call_with_buffer(ring, request, is_half) : call_or_wait(ring, request);
     if (res < 0 && wulgach_may_signal(submission_of(&request->entry), res))
         take_back_signal();
     if (res < 0 && wulgach_may_break(submission_of(&request->entry), res))
         take_back_broken();
     return res;
+}
+
+int32_t carry_out(struct ring *ring, struct request *request, enum injection fault)
+{
+    int32_t res;
+    uint32_t source = wulgach_source_of(request->entry.opcode, request->started, fault, &res);
+    switch (source) {
+    case WULGACH_FROM_START:
+        return fault_at_start(ring, request);
+    case WULGACH_FROM_ENTRY:
+        return wulgach_no_op_result(submission_of(&request->entry));
+    case WULGACH_FROM_FAULT:
+        return res;
+    default:
+        return call_for(ring, request, source == WULGACH_FROM_HALF);
+    }
 }
 
 /* Whether a request has ended with an error because something that it needs isn't there. */

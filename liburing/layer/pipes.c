@@ -65,12 +65,6 @@ static bool is_watching(const struct request *request)
     return wulgach_awaits_writes(&seen);
 }
 
-static bool is_watching_by(const struct request *request, int watch)
-{
-    struct wulgach_pipe_poll seen = seen_of(request);
-    return wulgach_awaits_write(&seen, (uint32_t)watch);
-}
-
 /* Makes room for one more watch; false if memory was refused. */
 static bool reserve_watch(struct pipes *pipes)
 {
@@ -216,17 +210,19 @@ static void tell(struct ring *ring, struct request *request, bool is_there)
     wulgach_waiter_hears(&request->waiter, &ring->lookout, &seen, is_there);
 }
 
-/* Tells the polls that wait by a watch: the first says whether what was written is there still. Returns whether one has heard. */
+/* Tells the polls that wait by a watch, as the library says. Returns whether one has heard. */
 static bool tell_of_write(struct ring *ring, const struct watch *watch)
 {
     bool is_known = false, is_there = false;
     for (struct request *request = watch->polls; request; request = request->watched_behind) {
-        if (!is_watching_by(request, watch->number))
-            continue;
-        if (!is_known)
+        struct wulgach_pipe_poll seen = seen_of(request);
+        uint32_t telling;
+        while ((telling = wulgach_telling_of(&seen, (uint32_t)watch->number, is_known)) == WULGACH_TELLING_ASKS) {
             is_there = has_something(request);
-        is_known = true;
-        tell(ring, request, is_there);
+            is_known = true;
+        }
+        if (telling == WULGACH_TELLING_TELLS)
+            tell(ring, request, is_there);
     }
     return is_known;
 }
@@ -327,21 +323,41 @@ static bool tell_of_gone(struct ring *ring)
     return is_told;
 }
 
+/* Does what the library says is next so that writes are heard. Returns whether a poll has heard of one. */
+static bool do_hearing(struct ring *ring, uint32_t hearing)
+{
+    switch (hearing) {
+    case WULGACH_HEARING_ADDS:
+        add_watches(ring);
+        return false;
+    case WULGACH_HEARING_DROPS:
+        drop_watches(&ring->pipes);
+        return false;
+    case WULGACH_HEARING_TELLS_OF_GONE:
+        return tell_of_gone(ring);
+    case WULGACH_HEARING_SORTS:
+        return read_writes(ring, wulgach_lookout_drops_writes(&ring->lookout));
+    case WULGACH_HEARING_READS:
+        return read_writes(ring, false);
+    default:
+        wulgach_lookout_hears(&ring->lookout);
+        return false;
+    }
+}
+
 /* What the ring's own requests may have written and read since isn't told: in which order they go on is the policy's choice. */
 bool watch_pipes(struct ring *ring)
 {
-    add_watches(ring);
-    if (ring->pipes.count == 0)
-        return false;
-    drop_watches(&ring->pipes);
-    bool is_heard = tell_of_gone(ring);
-    is_heard |= read_writes(ring, wulgach_lookout_drops_writes(&ring->lookout));
+    bool is_heard = false;
+    uint32_t hearing = WULGACH_HEARING_IS_DONE;
+    while ((hearing = wulgach_hearing_at_rest(hearing, ring->pipes.count)) != WULGACH_HEARING_IS_DONE)
+        is_heard |= do_hearing(ring, hearing);
     return is_heard;
 }
 
 void hear_pipes(struct ring *ring)
 {
-    if (ring->pipes.count > 0)
-        read_writes(ring, false);
-    wulgach_lookout_hears(&ring->lookout);
+    uint32_t hearing = WULGACH_HEARING_IS_DONE;
+    while ((hearing = wulgach_hearing_at_begin(hearing, ring->pipes.count)) != WULGACH_HEARING_IS_DONE)
+        do_hearing(ring, hearing);
 }

@@ -97,8 +97,7 @@ static bool try_operation(struct ring *ring, struct request *request, int32_t *r
 static int32_t notify(struct ring *ring, struct request *request, int32_t res)
 {
     int32_t shown;
-    bool reports = request->entry.ioprio & IORING_SEND_ZC_REPORT_USAGE;
-    if (!wulgach_notice_of(reports, can_post_extra(ring), &shown))
+    if (!wulgach_notice_of(submission_of(&request->entry), can_post_extra(ring), &shown))
         return res;
     uint32_t end = wulgach_end_of_send(post_event(ring, request, res, WULGACH_PART_SENT));
     request->flags = wulgach_completion_flags(end, request->flags);
@@ -108,6 +107,33 @@ static int32_t notify(struct ring *ring, struct request *request, int32_t res)
     }
     note_fact(request, WULGACH_FACT_NOTIFIED, shown);
     return shown;
+}
+
+/* A request that ends, its result, and what the core is told of that. */
+struct finishing {
+    struct request *request;
+    int32_t res, told;
+};
+
+static void do_step_of_finish(struct ring *ring, struct finishing *at, enum wulgach_finish_step step)
+{
+    struct request *request = at->request;
+    switch (step) {
+    case WULGACH_FINISH_JUDGES:
+        at->told = is_success(ring, request, at->res) ? TOLD_SUCCESS : TOLD_FAILURE;
+        return;
+    case WULGACH_FINISH_NOTIFIES:
+        at->res = notify(ring, request, at->res);
+        return;
+    case WULGACH_FINISH_TELLS:
+        finish(ring, request->number, at->told);
+        return;
+    case WULGACH_FINISH_ENDS:
+        demand(wulgach_course_end(&request->course), "a request ends that isn't to end");
+        end_of(ring, request, at->res, at->told);
+        return;
+    }
+    __builtin_unreachable();
 }
 
 /* Goes on with a running request: whether its operation is carried out, or it ends at once, is the library's decision. */
@@ -123,12 +149,9 @@ static void finish_running(struct ring *ring, struct request *request)
         if (ring->unposted)
             comes_now(ring, WULGACH_END_COMES);
     }
-    int32_t told = is_success(ring, request, res) ? TOLD_SUCCESS : TOLD_FAILURE;
-    if (request->needs.is_zero_copy)
-        res = notify(ring, request, res);
-    finish(ring, request->number, told);
-    demand(wulgach_course_end(&request->course), "a request ends that isn't to end");
-    end_of(ring, request, res, told);
+    struct finishing at = {.request = request, .res = res};
+    for (uint32_t steps = wulgach_finish_steps(request->needs.is_zero_copy); steps; steps &= steps - 1)
+        do_step_of_finish(ring, &at, (enum wulgach_finish_step)__builtin_ctz(steps));
 }
 
 static void do_step_of_start(struct ring *ring, struct request *request, enum wulgach_step_of_start step)

@@ -33,8 +33,9 @@ static int probe(uint32_t code, uint64_t at, uint32_t count)
         struct io_uring_probe probe;
         unsigned char bytes[sizeof(struct io_uring_probe) + MOST_PROBED * sizeof(struct io_uring_probe_op)];
     } copy;
-    count = wulgach_probed(count);
-    size_t size = sizeof copy.probe + count * sizeof *copy.probe.ops;
+    struct wulgach_probe told;
+    wulgach_probe_of(count, &told);
+    size_t size = sizeof copy.probe + told.rows * sizeof *copy.probe.ops;
     memset(&copy, 0, size);
     bool is_read = copy_in(&copy, at, size) == 0;
     struct wulgach_content content;
@@ -42,11 +43,11 @@ static int probe(uint32_t code, uint64_t at, uint32_t count)
     int result = wulgach_content_fault(code, is_read, &content);
     if (result < 0)
         return result;
-    copy.probe.last_op = (uint8_t)(wulgach_probed(MOST_PROBED) - 1);
-    copy.probe.ops_len = (uint8_t)count;
-    for (uint32_t operation = 0; operation < count; operation++) {
-        copy.probe.ops[operation].op = (uint8_t)operation;
-        copy.probe.ops[operation].flags = wulgach_is_served((uint8_t)operation) ? IO_URING_OP_SUPPORTED : 0;
+    copy.probe.last_op = told.last;
+    copy.probe.ops_len = told.rows;
+    for (uint8_t operation = 0; operation < told.rows; operation++) {
+        copy.probe.ops[operation].op = operation;
+        copy.probe.ops[operation].flags = wulgach_probed_flags(operation);
     }
     return copy_out(at, &copy, size);
 }

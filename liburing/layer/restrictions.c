@@ -47,7 +47,7 @@ int enable_ring(struct ring *ring)
 
 bool allows_entry(const struct ring *ring, const struct io_uring_sqe *entry)
 {
-    return !ring->restrictions.are_registered || wulgach_restrictions_allow_entry(&ring->restrictions, entry->opcode, entry->flags);
+    return wulgach_restrictions_allow_entry(&ring->restrictions, entry->opcode, entry->flags);
 }
 
 bool allows_call(const struct ring *ring, uint32_t code)

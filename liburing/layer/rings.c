@@ -71,9 +71,9 @@ static struct wulgach_asked_ring asked_ring(uint32_t entries, const struct io_ur
 {
     struct wulgach_asked_ring asked = {.entries = entries, .cq_entries = params->cq_entries, .flags = params->flags, .linux_rules = is_profile_linux()};
     asked.has_reserved = wulgach_parameters_have_reserved((const void *)params);
-    if (params->flags & IORING_SETUP_SQ_AFF)
+    if (wulgach_asks_processor(params->flags))
         asked.is_online = is_online(params->sq_thread_cpu);
-    if (params->flags & IORING_SETUP_ATTACH_WQ) {
+    if (wulgach_asks_shared(params->flags)) {
         struct ring *shared = hold_ring((int)params->wq_fd);
         asked.is_open = counts_as_open((int)params->wq_fd, false);
         asked.is_ring = shared || is_ring((int)params->wq_fd);

@@ -80,7 +80,7 @@ int copy_message(struct request *request, uint64_t from)
 
 int copy_address(struct request *request, uint64_t from, size_t size)
 {
-    if (request->entry.opcode == IORING_OP_CONNECT) {
+    if (wulgach_is_address_alone(request->entry.opcode)) {
         request->value = calloc(1, sizeof(struct sockaddr_storage));
         return request->value ? copy_in(request->value, from, size) : wulgach_missing_fault(WULGACH_NO_MEMORY_OWN);
     }

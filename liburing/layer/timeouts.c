@@ -18,12 +18,12 @@
 
 bool is_timeout(const struct request *request)
 {
-    return request->entry.opcode == IORING_OP_TIMEOUT;
+    return wulgach_is_timeout(request->entry.opcode);
 }
 
 bool is_linked_timeout(const struct request *request)
 {
-    return request->entry.opcode == IORING_OP_LINK_TIMEOUT;
+    return wulgach_is_linked_timeout(request->entry.opcode);
 }
 
 static uint64_t time_of_clock(clockid_t clock)

@@ -82,16 +82,18 @@ static struct asked ask_not_to_wait(int fd)
         return asked;
     asked.is_locked = lock_file(fd);
     int flags = fcntl(fd, F_GETFL);
-    asked.is_changed = flags >= 0 && !(flags & O_NONBLOCK) && fcntl(fd, F_SETFL, flags | O_NONBLOCK) >= 0;
+    uint32_t unwilling;
+    asked.is_changed = wulgach_asked_flags(flags >= 0, (uint32_t)flags, &unwilling) && fcntl(fd, F_SETFL, (int)unwilling) >= 0;
     return asked;
 }
 
-/* Other flags stay as whoever has set them meanwhile. */
+/* (most were asked by the application, or aren't asked: those aren't looked at again) */
 static void take_back(struct asked asked)
 {
     int flags = asked.is_changed ? fcntl(asked.fd, F_GETFL) : -1;
-    if (flags >= 0 && flags & O_NONBLOCK)
-        fcntl(asked.fd, F_SETFL, flags & ~O_NONBLOCK);
+    uint32_t behind;
+    if (wulgach_flags_behind(asked.is_changed, flags >= 0, (uint32_t)flags, &behind))
+        fcntl(asked.fd, F_SETFL, (int)behind);
     if (asked.is_locked)
         set_lock(asked.fd, F_UNLCK);
 }

@@ -20,3 +20,5 @@ pub mod LeavingForm
 pub mod PuttingOffForm
 pub mod ListingForm
 pub mod ChangingForm
+pub mod CarryingForm
+pub mod HearingForm

@@ -1,5 +1,5 @@
 -- By what an operation is carried out, and the faults that it can be given, in words that C can read.
-use Rattle.std.specs.Prelude.{ℕ, ℤ, Bool, false, ◌==◌, Option, Some, None, if◌then◌else◌}
+use Rattle.std.specs.Prelude.{ℕ, Bool, false, ◌==◌, Option, Some, None, if◌then◌else◌}
 use Rattle.uring_enter.specs.declared.system_call.SystemCall.{SystemCall}
 use Rattle.uring_enter.specs.declared.fault.Fault.{Fault}
 use Rattle.uring_enter.specs.declared.fault.Fault.TheVariants as fault
@@ -8,7 +8,7 @@ use Rattle.uring_enter.specs.declared.means.Means.{Means}
 use Rattle.uring_enter.specs.declared.means.Means.TheVariants.{Nothing, Transfer, Poll, Call, Opening, Sync, Close, Connect, Splice, Send, Receive, ReceiveMessage, SlotRemoval, FilesPlacing, FilesUpdate, Timeout, LinkedTimeout, Provision, ProvisionRemoval, Message, Cancel, PollRemoval, TimeoutRemoval}
 use Rattle.uring_enter.specs.declared.pipe_open.Opening.{Opening}
 use Rattle.uring_enter.specs.declared.pipe_open.Opening.TheVariants.{Plain, AtOnce, Pipe}
-use Rattle.uring_enter.specs.Faults.{can_have, given_result}
+use Rattle.uring_enter.specs.Faults.{can_have}
 use Rattle.uring_enter.specs.SystemCalls.{of_three}
 use Rattle.uring_c.specs.declared.call_exports.MeansWords.{MeansWords}
 
@@ -76,7 +76,3 @@ fault_of_word word =
 abbrev pub can_have_one : ℕ → Bool → ℕ → Option Fault → Bool
 can_have_one code is_stream length (Some given) = can_have code is_stream length given
 can_have_one code is_stream length None = false
-
-abbrev pub given_one : Option Fault → Option ℤ
-given_one (Some given) = given_result given
-given_one None = None

@@ -4,15 +4,14 @@ ghost use Rattle.uring_enter.specs.CallResults as results;
 ghost use Rattle.uring_enter.specs.Means as spec;
 ghost use Rattle.uring_enter.specs.Parts as parts;
 ghost use Rattle.uring_enter.specs.TransferCalls.{call_of};
-ghost use Rattle.uring_c.specs.MeansForm.{words, by_list, words_of_means, fault_of_word, can_have_one, given_one};
+ghost use Rattle.uring_c.specs.MeansForm.{words, by_list, words_of_means, fault_of_word, can_have_one};
 ghost use Rattle.uring_crossing.specs.WaitForm.{task_of};
 
 use uring_crossing::wait_words::task;
 use uring_enter::{
-    Fault, Held, Listed, Means, Submission, SystemCall, Transfer, Vectors, asks_anew,
-    asks_descriptors, asks_end, asks_shut, can_have, control_of, done_result, given_result,
-    has_begun, is_stream_type, means_of, moved_so_far, placed_result, shut_result, tells_message,
-    told_result, transfer_call,
+    Fault, Held, Listed, Means, Submission, SystemCall, Transfer, Vectors, asks_anew, asks_end,
+    asks_shut, can_have, control_of, done_result, has_begun, is_stream_type, means_of, moved_so_far,
+    placed_result, shut_result, tells_message, told_result, transfer_call,
 };
 
 /// By what an operation is carried out: `struct wulgach_means` of the header.
@@ -125,23 +124,8 @@ pub extern "C" fn wulgach_can_have(code: u8, is_stream: bool, length: u64, fault
     }
 }
 
-/// Writes what an operation ends with that is given this fault. False, and nothing is written: it is made, of fewer bytes, or there is no such fault.
-#[unsafe(no_mangle)]
-pub extern "C" fn wulgach_given_result(fault: u32, res: &mut i32) -> bool
-    ensures { MatchOption (given_one (fault_of_word fault)) ((result ≡ false) × (res.new ≡ res.old))
-        (λ ends. (result ≡ true) × (res.new ≡ ends)) }
-{
-    let Some(given) = fault_of(fault) else {
-        return false;
-    };
-    let Some(ends) = given_result(given) else {
-        return false;
-    };
-    *res = ends;
-    true
-}
-
-fn fault_of(word: u32) -> Option<Fault>
+/// The fault of a word. `None`: none is given.
+pub fn fault_of(word: u32) -> Option<Fault>
     ensures { result ≡ fault_of_word word }
 {
     match word {
@@ -150,14 +134,6 @@ fn fault_of(word: u32) -> Option<Fault>
         3 => Some(Fault::Short),
         _ => None,
     }
-}
-
-/// Whether the descriptors of the operation of this code are asked not to wait while its call is made.
-#[unsafe(no_mangle)]
-pub extern "C" fn wulgach_asks_descriptors(code: u8) -> bool
-    ensures { result ≡ spec.asks_descriptors code }
-{
-    asks_descriptors(code)
 }
 
 /// Whether an end of a splice is asked so, which is a pipe or not, or a regular file.

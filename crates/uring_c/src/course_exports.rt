@@ -122,13 +122,13 @@ pub extern "C" fn wulgach_shown_end(
     }
 }
 
-/// Writes what the second completion of a send without copies shows. False, and nothing is written: it has none.
+/// Writes what the second completion of a send without copies shows, which is of this entry. False, and nothing is written: it has none.
 #[unsafe(no_mangle)]
-pub extern "C" fn wulgach_notice_of(reports: bool, may_post: bool, res: &mut i32) -> bool
-    ensures { MatchOption (noticed reports may_post) ((result ≡ false) × (res.new ≡ res.old))
+pub extern "C" fn wulgach_notice_of(entry: &Submission, may_post: bool, res: &mut i32) -> bool
+    ensures { MatchOption (noticed entry.now may_post) ((result ≡ false) × (res.new ≡ res.old))
         (λ shows. (result ≡ true) × (res.new ≡ shows)) }
 {
-    let Some(shows) = notice_of(reports, may_post) else {
+    let Some(shows) = notice_of(entry, may_post) else {
         return false;
     };
     *res = shows;

@@ -2,7 +2,7 @@
 ghost use Rattle.std.specs.Prelude.{◌≡◌, List};
 ghost use Rattle.uring_enter.specs.Copies as copies;
 ghost use Rattle.uring_enter.specs.Forms.{copies_pieces, form_copied, form_of};
-ghost use Rattle.uring_enter.specs.Rules.{rule_of, is_rule};
+ghost use Rattle.uring_enter.specs.Rules.{probed_flags as flags_of_probed};
 ghost use Rattle.uring_enter.specs.Showing.{Change, KeepsShown};
 ghost use Rattle.uring_enter.specs.Shots.{goes_on, has_room, shot_of, tells};
 ghost use Rattle.uring_c.specs.EntryForm.{word_of_form, fault_of_form};
@@ -10,7 +10,8 @@ ghost use Rattle.uring_c.specs.RingForm.{form_of_word};
 
 use crate::entry_exports::form_by_word;
 use uring_enter::{
-    Entry, Form, Posted, Shown, Submission, copies_pieces, form_copied, form_of, link_of, rule_of,
+    Entry, Form, Posted, Shown, Submission, copies_pieces, form_copied, form_of, link_of,
+    probed_flags,
 };
 
 /// Returns what an entry is to the core, and writes its fault, or 0. `refusal` is the error with which a strict ring refuses it, or 0.
@@ -72,12 +73,12 @@ fn form_fault(form: Form) -> i32
     }
 }
 
-/// Whether an operation is served.
+/// What a probe says of the operation of this code.
 #[unsafe(no_mangle)]
-pub extern "C" fn wulgach_is_served(code: u8) -> bool
-    ensures { result ≡ is_rule (rule_of code) }
+pub extern "C" fn wulgach_probed_flags(code: u8) -> u16
+    ensures { result ≡ flags_of_probed code }
 {
-    rule_of(code).is_some()
+    probed_flags(code)
 }
 
 /// Whether the request of an entry, which has started as one that goes on or hasn't, and has moved so many bytes, goes on behind this result, in a ring of so many entries; else it ends with it.

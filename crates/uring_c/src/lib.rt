@@ -4,6 +4,7 @@
 mod argument_exports;
 mod call_exports;
 mod cancel_exports;
+mod carrying_exports;
 mod chain_exports;
 mod core_exports;
 mod core_request_exports;
@@ -19,6 +20,7 @@ mod entry_exports;
 mod following_exports;
 mod form_exports;
 mod jump_exports;
+mod hearing_exports;
 mod keeping_exports;
 mod leaving_exports;
 mod listing_exports;

@@ -4,7 +4,7 @@ ghost use Rattle.uring_enter.specs.Pieces as spec;
 ghost use Rattle.uring_enter.specs.Buffers as buffers;
 ghost use Rattle.uring_enter.specs.Copies as copies;
 ghost use Rattle.uring_enter.specs.Copies.{next_of};
-ghost use Rattle.uring_enter.specs.MessageCopies.{next_of_message};
+ghost use Rattle.uring_enter.specs.MessageCopies.{is_address_alone as is_alone, next_of_message};
 ghost use Rattle.uring_enter.specs.Names as names;
 ghost use Rattle.uring_enter.specs.declared.copying.Copying.TheVariants.{Copies, Ends};
 ghost use Rattle.uring_enter.specs.declared.member.Entry.{Entry as Before};
@@ -14,9 +14,9 @@ ghost use Rattle.uring_crossing.specs.CourseForm.{entry_of};
 
 use uring_crossing::course_words::entry_if;
 use uring_enter::{
-    Copying, Entry, Header, Piece, Submission, What, how_fault, is_own_fault, length_with,
-    message_vectors, name_fault, next_message_piece, next_piece, one_buffer, open_fault,
-    time_fault, vector_fault, wanted_of,
+    Copying, Entry, Header, Piece, Submission, What, how_fault, is_address_alone, is_own_fault,
+    length_with, message_vectors, name_fault, next_message_piece, next_piece, one_buffer,
+    open_fault, time_fault, vector_fault, wanted_of,
 };
 
 /// A piece that is copied: `struct wulgach_piece` of the header.
@@ -206,4 +206,12 @@ pub extern "C" fn wulgach_length_with(length: u64, size: u64) -> u64
     ensures { result ≡ buffers.length_with length size }
 {
     length_with(length, size)
+}
+
+/// Whether the address that the operation of this code names is copied by itself; else it stands in the message that is sent.
+#[unsafe(no_mangle)]
+pub extern "C" fn wulgach_is_address_alone(code: u8) -> bool
+    ensures { result ≡ is_alone code }
+{
+    is_address_alone(code)
 }

@@ -8,7 +8,8 @@ ghost use Rattle.uring_register.specs.Calling as spec;
 ghost use Rattle.uring_c.specs.RegisterForm.{argument_fault_of, content_fault_of};
 
 use uring_register::{
-    Caller, Content, Eventfd, Issuer, argument_fault, call_of, calling_fault, content_fault, probed,
+    Caller, Content, Eventfd, Issuer, Probe, argument_fault, call_of, calling_fault, content_fault,
+    probe_of,
 };
 
 /// The fault of who makes the call of a number on what, or 0.
@@ -41,12 +42,12 @@ pub extern "C" fn wulgach_content_fault(code: u32, is_read: bool, content: &Cont
     }
 }
 
-/// How many rows of a probe are looked at, and told.
+/// Writes what a probe tells in front of its rows, which is asked for so many.
 #[unsafe(no_mangle)]
-pub extern "C" fn wulgach_probed(count: u32) -> u32
-    ensures { result ≡ spec.probed count }
+pub extern "C" fn wulgach_probe_of(count: u32, probe: &mut Probe)
+    ensures { probe.new ≡ spec.probe_of count }
 {
-    probed(count)
+    *probe = probe_of(count);
 }
 
 /// A thread sets a ring up, with these flags, under a strict layer or not.

@@ -4,10 +4,14 @@ ghost use Rattle.uring_entry.specs.Setup.{Setup};
 ghost use Rattle.uring_enter.specs.SettingUp.{IsMade, IsRefusedWith};
 ghost use Rattle.uring_enter.specs.SettingUp.{features as features_of};
 ghost use Rattle.uring_enter.specs.SettingUp.{has_thread as has_one};
+ghost use Rattle.uring_enter.specs.SettingUp as spec;
 ghost use Rattle.uring_crossing.specs.SetUps.{IsRefused, HasBadSq, HasBadCq, HasBadFiles, words_of_setup};
 
 use uring_crossing::set_up_words::SetupWords;
-use uring_enter::{AskedRing, features, has_thread, set_up};
+use uring_enter::{
+    AskedRing, asks_processor, asks_shared, completion_cells, entry_cells, features, has_thread,
+    set_up,
+};
 use uring_entry::BadSetup;
 
 /// Returns which field of a machine's set-up is out of its range: 1 for `sq`, else 2 for `cq`, else 3 for `files`, or 0 if none is. A core's `files` don't count.
@@ -55,4 +59,36 @@ pub extern "C" fn wulgach_has_thread(flags: u32) -> bool
     ensures { result ≡ has_one flags }
 {
     has_thread(flags)
+}
+
+/// Whether it is asked of a set-up with these flags whether the processor is online that it names.
+#[unsafe(no_mangle)]
+pub extern "C" fn wulgach_asks_processor(flags: u32) -> bool
+    ensures { result ≡ spec.asks_processor flags }
+{
+    asks_processor(flags)
+}
+
+/// Whether it is asked of one what its descriptor is.
+#[unsafe(no_mangle)]
+pub extern "C" fn wulgach_asks_shared(flags: u32) -> bool
+    ensures { result ≡ spec.asks_shared flags }
+{
+    asks_shared(flags)
+}
+
+/// In how many cells of a ring with these flags an entry stands.
+#[unsafe(no_mangle)]
+pub extern "C" fn wulgach_entry_cells(flags: u32) -> u32
+    ensures { result ≡ spec.entry_cells flags }
+{
+    entry_cells(flags)
+}
+
+/// And a completion.
+#[unsafe(no_mangle)]
+pub extern "C" fn wulgach_completion_cells(flags: u32) -> u32
+    ensures { result ≡ spec.completion_cells flags }
+{
+    completion_cells(flags)
 }

@@ -1,7 +1,7 @@
 //! What the application is shown, for C: the functions of `c/wulgach_shown.h`.
-ghost use Rattle.std.specs.Prelude.{◌≡◌, ◌+◌, ◌≤◌, ℕ, pos, negsuc, drop, MatchOption, List, [], ◌∷◌, nat_le};
+ghost use Rattle.std.specs.Prelude.{◌≡◌, ◌+◌, ◌%◌, ◌^◌, ◌≤◌, ℕ, pos, negsuc, drop, MatchOption, List, [], ◌∷◌, nat_le, nat_lt};
 ghost use Rattle.uring_enter.specs.Showing.{Change, Reaped, KeepsShown, IsTold, posted, written, reaped, store_of, behind_store, heard_of, overflows, loads_head, may_bring, ready, flags_of};
-ghost use Rattle.uring_enter.specs.Prospects.{readable_of};
+ghost use Rattle.uring_enter.specs.Prospects.{WereSoMany, readable_of};
 ghost use Rattle.uring_enter.specs.declared.posted.Posted.{Posted as Row};
 ghost use Rattle.uring_enter.specs.Postings.{Posting, Reaped as RowsReaped, KeepsPosted};
 ghost use Rattle.uring_c.specs.ShownForm.{word_of_readable, words_of_store};
@@ -145,4 +145,21 @@ pub extern "C" fn wulgach_shown_flags(
         → result ≡ flags_of (overflows log) (may_bring outstanding is_readable) has_thread }
 {
     shown.flags(outstanding, is_readable, has_thread)
+}
+
+/// How many completions were posted so far, as a word.
+#[unsafe(no_mangle)]
+pub extern "C" fn wulgach_shown_posted(shown: &Shown) -> u32
+    ensures { (log : List Change) → KeepsShown log shown.now → result ≡ posted log % 2 ^ 32 }
+{
+    shown.posted_word()
+}
+
+/// Whether any were posted since there were so many as this word says.
+#[unsafe(no_mangle)]
+pub extern "C" fn wulgach_shown_has_posted(shown: &Shown, since: u32) -> bool
+    ensures { (log : List Change) (n : ℕ) → KeepsShown log shown.now → WereSoMany log since n
+        → result ≡ nat_lt n (posted log) }
+{
+    shown.has_posted_since(since)
 }

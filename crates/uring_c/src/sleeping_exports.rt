@@ -17,14 +17,6 @@ pub extern "C" fn wulgach_awaits_writes(poll: &PipePoll) -> bool
     poll.awaits()
 }
 
-/// Whether it awaits the writes of this number.
-#[unsafe(no_mangle)]
-pub extern "C" fn wulgach_awaits_write(poll: &PipePoll, watch: u32) -> bool
-    ensures { result ≡ polls.is_of_write poll.now watch }
-{
-    poll.is_of_write(watch)
-}
-
 /// What a sleep came to, where its ppoll(2) came to this: in the process that began it, or in a child that was forked meanwhile.
 #[unsafe(no_mangle)]
 pub extern "C" fn wulgach_sleep_came_to(res: i32, is_child: bool) -> i32

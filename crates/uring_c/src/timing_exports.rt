@@ -4,6 +4,7 @@ ghost use Rattle.uring_enter.specs.declared.act.Fact.{Fact};
 ghost use Rattle.uring_enter.specs.declared.timing.Timing.{Timing};
 ghost use Rattle.uring_enter.specs.Courses.{KeepsCourse};
 ghost use Rattle.uring_enter.specs.Afresh as afresh;
+ghost use Rattle.uring_enter.specs.Clocks as clocks;
 ghost use Rattle.uring_enter.specs.Awaiting.{KeepsAwaiting, Look, HasSeen, HasEnded, may_see};
 ghost use Rattle.uring_enter.specs.Timings.{Happened, Starts, IsFound, Ends, was_found, runs, runs_behind};
 ghost use Rattle.uring_enter.specs.Visits as visits;
@@ -12,9 +13,25 @@ ghost use Rattle.uring_c.specs.RingForm.{word_of_timing, word_of_visit, word_of_
 
 use crate::duty_exports::bit;
 use uring_enter::{
-    Awaited, Awaiting, Changing, Course, Member, Receiver, Timing, Visit, posts_message, visit_of,
-    visits_again,
+    Awaited, Awaiting, Changing, Course, Member, Receiver, Timing, Visit, is_linked_timeout,
+    is_timeout, posts_message, visit_of, visits_again,
 };
+
+/// Whether the operation of this code is a timeout.
+#[unsafe(no_mangle)]
+pub extern "C" fn wulgach_is_timeout(code: u8) -> bool
+    ensures { result ≡ clocks.is_timeout code }
+{
+    is_timeout(code)
+}
+
+/// Whether it is one that limits the request before it.
+#[unsafe(no_mangle)]
+pub extern "C" fn wulgach_is_linked_timeout(code: u8) -> bool
+    ensures { result ≡ clocks.is_linked_timeout code }
+{
+    is_linked_timeout(code)
+}
 
 /// Returns what becomes of a timeout's time when a request starts.
 #[unsafe(no_mangle)]

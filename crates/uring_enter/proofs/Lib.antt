@@ -27,3 +27,4 @@ mod PuttingOffRuns
 mod PassageRuns
 mod StepRuns
 mod AdvanceRuns
+mod AskingRuns

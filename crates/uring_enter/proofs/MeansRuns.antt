@@ -1,11 +1,11 @@
 -- The law that no operation sleeps in its call.
-use Rattle.std.proofs.Common.{◌≡◌, Bool, true, false, not, ◌&&◌, ◌||◌, ◌==◌, refl}
+use Rattle.std.proofs.Common.{◌≡◌, Bool, true, false, not, ◌&&◌, ◌||◌, ◌==◌, nat_lt, if◌then◌else◌, refl}
 use Rattle.std.proofs.lemmas.Bool.{false≢true}
 use Rattle.uring_enter.specs.Needs.{is_of_sockets}
 use Rattle.uring_enter.specs.Means.{CallsNeverSleep}
 
 asked : (sockets accept connect splice tee : Bool) → sockets || (splice || tee) ≡ true
-    → (sockets && not accept && not connect) || (accept || connect || splice || tee) ≡ true
+    → (sockets && not accept && not connect) || nat_lt 0 (if accept || connect then 1 else if splice || tee then 2 else 0) ≡ true
 asked true true connect splice tee is = refl
 asked true false true splice tee is = refl
 asked true false false splice tee is = refl

@@ -8,6 +8,13 @@ use Rattle.uring_enter.specs.declared.timeout.Clock.TheVariants.{Monotonic, Boot
 abbrev pub has_some : ℕ → ℕ → Bool
 has_some flags bits = not (bit_and flags bits == 0)
 
+-- TIMEOUT is 11, which ends by its time or its count, and LINK_TIMEOUT 15, which limits the request before it. io_uring_enter(2)
+abbrev pub is_timeout : ℕ → Bool
+is_timeout code = code == 11
+
+abbrev pub is_linked_timeout : ℕ → Bool
+is_linked_timeout code = code == 15
+
 -- the clock of an absolute time: that of the flag, else CLOCK_MONOTONIC. A relative one has none: it lasts so long
 abbrev pub clock_of : Submission → Option Clock
 clock_of e =

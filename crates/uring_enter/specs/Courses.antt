@@ -5,6 +5,8 @@ use Rattle.uring_enter.specs.declared.act.Fact.TheVariants.{Started, Dropped, Ca
 use Rattle.uring_enter.specs.declared.act.Act.{Act}
 use Rattle.uring_enter.specs.declared.act.Act.TheVariants.{Nothing, CarryOut, End}
 use Rattle.uring_enter.specs.declared.course.Course.{Course}
+use Rattle.uring_enter.specs.declared.submission.Submission.{Submission}
+use Rattle.uring_enter.specs.Clocks.{has_some}
 use Rattle.uring_entry.specs.Errors.{error}
 
 -- the core let it start
@@ -123,11 +125,11 @@ is_run (fact ∷ earlier) = fits earlier fact && is_run earlier
 abbrev pub option_of : Bool → ℤ → Option ℤ
 option_of known res = if known then Some res else None
 
--- what the second completion of a send without copies shows, which says that its memory is free: 0, or -2^31 (IORING_NOTIF_USAGE_ZC_COPIED) where it is to say that it was copied. One that a cancel has found has both too. None, so that its first has no MORE, if no completion may be posted before its end. io_uring_enter(2), IORING_OP_SEND_ZC; when there is none is our own rule
-abbrev pub notice_of : Bool → Bool → Option ℤ
-notice_of reports may_post =
+-- what the second completion of a send without copies shows, which says that its memory is free: 0, or -2^31 (IORING_NOTIF_USAGE_ZC_COPIED) where its entry asks whether it was copied, by IORING_SEND_ZC_REPORT_USAGE (8). One that a cancel has found has both too. None, so that its first has no MORE, if no completion may be posted before its end. io_uring_enter(2), IORING_OP_SEND_ZC; when there is none is our own rule
+abbrev pub notice_of : Submission → (may_post : Bool) → Option ℤ
+notice_of e may_post =
     if not may_post then None else
-    Some (if reports then negsuc 2147483647 else pos 0)
+    Some (if has_some e.ioprio 8 then negsuc 2147483647 else pos 0)
 
 -- glue: what is kept is that of a request to which this has happened
 pub record KeepsCourse (log : List Fact) (c : Course) : Type 0 where

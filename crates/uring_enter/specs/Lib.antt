@@ -90,3 +90,6 @@ pub mod Jumps
 pub mod PuttingOff
 pub mod Receipts
 pub mod Advances
+pub mod Asking
+pub mod Carrying
+pub mod Hearing

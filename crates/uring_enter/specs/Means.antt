@@ -1,5 +1,5 @@
 -- By what the operation of an entry is carried out: which system call, and with which arguments; or what whoever keeps the ring does itself. io_uring_enter(2), at each operation, which names the call of section 2 that it is like: its fields are that call's arguments. The numbers of operations are those of <linux/io_uring.h>.
-use Rattle.std.specs.Prelude.{◌≡◌, ℕ, ◌-◌, Bool, true, not, ◌&&◌, ◌||◌, ◌==◌, nat_le, Option, Some, None, if◌then◌else◌}
+use Rattle.std.specs.Prelude.{◌≡◌, ℕ, ◌-◌, Bool, true, not, ◌&&◌, ◌||◌, ◌==◌, nat_lt, nat_le, Option, Some, None, if◌then◌else◌}
 use Rattle.std.specs.Int.RustNames.{bit_and, bit_or}
 use Rattle.uring_enter.specs.declared.submission.Submission.{Submission}
 use Rattle.uring_enter.specs.declared.system_call.SystemCall.{SystemCall}
@@ -7,6 +7,7 @@ use Rattle.uring_enter.specs.declared.means.Held.{Held}
 use Rattle.uring_enter.specs.declared.means.Listed.{Listed}
 use Rattle.uring_enter.specs.declared.means.Means.{Means}
 use Rattle.uring_enter.specs.declared.means.Means.TheVariants.{Nothing, Transfer, Poll, Call, Opening, Sync, Close, Connect, Splice, Send, Receive, ReceiveMessage, SlotRemoval, FilesPlacing, FilesUpdate, Timeout, LinkedTimeout, Provision, ProvisionRemoval, Message, Cancel, PollRemoval, TimeoutRemoval}
+use Rattle.uring_enter.specs.Asking.{asked_descriptors}
 use Rattle.uring_enter.specs.Clocks.{has_some}
 use Rattle.uring_enter.specs.Layouts.{call_flags}
 use Rattle.uring_enter.specs.Needs.{is_transfer, is_send, is_of_sockets, is_splice, advised_length}
@@ -151,10 +152,6 @@ of_ring e =
     -- NOP, and what isn't served
     Nothing
 
--- the descriptors of ACCEPT, CONNECT, SPLICE and TEE are asked not to wait while the call is made, by O_NONBLOCK: it has no flag for that. (SPLICE_F_NONBLOCK asks pipes, and these alone: so they needn't be.) accept(2), connect(2), splice(2)
-abbrev pub asks_descriptors : ℕ → Bool
-asks_descriptors code = code == 13 || code == 16 || code == 30 || code == 33
-
 -- of an end of a splice or a tee it is asked if that is no pipe, which the flag of the call asks (SPLICE_F_NONBLOCK), and no regular file, which never waits, and whose locks the application may have
 abbrev pub asks_end : (is_pipe is_regular : Bool) → Bool
 asks_end is_pipe is_regular = not is_pipe && not is_regular
@@ -166,7 +163,7 @@ asks_anew is_pipe access = if is_pipe && access == 0 then Some 526336 else None
 -- the call of an operation of sockets, of a splice or a tee is asked not to wait: it has the flags of a message, with MSG_DONTWAIT among them (`call_flags`), or its descriptors are asked while it is made. It says no more than that: of two processes that use one descriptor, each may take back what the other has asked of it
 abbrev pub CallsNeverSleep : Type 0
 CallsNeverSleep = (e : Submission) → is_of_sockets e.opcode || is_splice e.opcode ≡ true
-    → has_message_flags e.opcode || asks_descriptors e.opcode ≡ true
+    → has_message_flags e.opcode || nat_lt 0 (asked_descriptors e.opcode) ≡ true
 
 abbrev pub is_on_descriptor : ℕ → Bool
 is_on_descriptor code =

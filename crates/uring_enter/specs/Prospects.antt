@@ -1,9 +1,9 @@
 -- When a ring's descriptor is readable. io_uring(7), for completions that wait; else our own rules.
-use Rattle.std.specs.Prelude.{◌≡◌, ℕ, Bool, true, false, not, ◌||◌, List, if◌then◌else◌}
+use Rattle.std.specs.Prelude.{◌≡◌, ℕ, ◌+◌, ◌%◌, ◌^◌, ◌<◌, ◌≤◌, Bool, true, false, not, ◌||◌, List, if◌then◌else◌}
 use Rattle.uring_enter.specs.declared.readable.Prospect.{Prospect}
 use Rattle.uring_enter.specs.declared.readable.Readable.{Readable}
 use Rattle.uring_enter.specs.declared.readable.Readable.TheVariants.{IsNot, Is, AsksRequests, AsksTime}
-use Rattle.uring_enter.specs.Showing.{Change, waits}
+use Rattle.uring_enter.specs.Showing.{Change, posted, waits}
 
 -- whether a call would bring something: a request can go on, or time can pass so that a timeout ends. A kernel needs no call for either: the request ends by itself, and its completion makes the descriptor readable
 abbrev pub may_come : Prospect → Bool
@@ -23,6 +23,10 @@ told_by p =
 
 abbrev pub readable_of : List Change → ℕ → Prospect → Readable
 readable_of log n p = if waits log n then Is else told_by p
+
+-- so many completions were posted once, of which a word tells: fewer than 2^32 have come since
+abbrev pub WereSoMany : List Change → (word n : ℕ) → Type 0
+WereSoMany log word n = (n % 2 ^ 32 ≡ word) × (n ≤ posted log) × (posted log < n + 2 ^ 32)
 
 -- what was asked of a prospect is so
 pub record Fits (known p : Prospect) : Type 0 where

@@ -105,3 +105,7 @@ rule_of code =
 abbrev pub is_rule : Option Rule → Bool
 is_rule (Some _) = true
 is_rule None = false
+
+-- what a probe says of an operation: IO_URING_OP_SUPPORTED (1) of one that is served, and nothing of another. io_uring_register(2), IORING_REGISTER_PROBE
+abbrev pub probed_flags : ℕ → ℕ
+probed_flags code = if is_rule (rule_of code) then 1 else 0

@@ -49,6 +49,19 @@ place_fault a =
     if is_below (sharing_fault a) then sharing_fault a else
     if has_bad_processor a then error 22 else pos 0
 
+-- whether it is asked if a processor is online: one is named (IORING_SETUP_SQ_AFF, 4) for a thread (2) that isn't shared (32). And of what a descriptor names: a ring is (32). Our own rule
+abbrev pub asks_processor : ℕ → Bool
+asks_processor flags = has_some flags 4 && has_some flags 2 && not (has_some flags 32)
+
+abbrev pub asks_shared : ℕ → Bool
+asks_shared flags = has_some flags 32
+
+-- what isn't asked makes no difference to what a set-up names
+abbrev pub AsksWhatMatters : Type 0
+AsksWhatMatters = (a : AskedRing) (is_online is_open is_ring has_thread : Bool)
+    → (asks_processor a.flags ≡ false → place_fault (record a { is_online = is_online }) ≡ place_fault a)
+    × (asks_shared a.flags ≡ false → place_fault (record a { is_open = is_open; is_ring = is_ring; has_thread = has_thread }) ≡ place_fault a)
+
 -- this is a set-up of the sizes that are asked for, by the rules that are. Which rules is our own rule
 abbrev pub IsAsked : AskedRing → Setup → Type 0
 IsAsked a s =
@@ -68,6 +81,13 @@ IsRefusedWith a fault =
 -- IORING_SETUP_SQPOLL: the ring has a thread that takes its entries. Who wakes it takes what it would have taken, by rounds (`Rounds`); on another ring a call takes its own
 abbrev pub has_thread : ℕ → Bool
 has_thread flags = has_some flags 2
+
+-- an entry of 128 bytes (IORING_SETUP_SQE128, 1024) stands in two cells of 64, and a completion of 32 (IORING_SETUP_CQE32, 2048) in two of 16; else each stands in one
+abbrev pub entry_cells : ℕ → ℕ
+entry_cells flags = if has_some flags 1024 then 2 else 1
+
+abbrev pub completion_cells : ℕ → ℕ
+completion_cells flags = if has_some flags 2048 then 2 else 1
 
 -- what a ring can do: IORING_FEAT_NODROP (2), SUBMIT_STABLE (4), RW_CUR_POS (8), CUR_PERSONALITY (16), FAST_POLL (32), SQPOLL_NONFIXED (128), EXT_ARG (256), NATIVE_WORKERS (512), RSRC_TAGS (1024), CQE_SKIP (2048) and LINKED_FILE (4096); and SINGLE_MMAP (1)
 abbrev pub features : Bool → ℕ

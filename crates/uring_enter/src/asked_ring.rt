@@ -3,6 +3,7 @@
 ghost use Rattle.std.specs.Prelude.{◌≡◌, false, MatchOption, MatchResult};
 ghost use Rattle.uring_entry.specs.Setup.{IsSetupFor};
 ghost use Rattle.uring_enter.specs.SettingUp as spec;
+ghost use Rattle.uring_enter.specs.SettingUp.{AsksWhatMatters};
 
 use uring_entry::Setup;
 
@@ -162,6 +163,39 @@ pub fn has_thread(flags: u32) -> bool
     ensures { result ≡ spec.has_thread flags }
 {
     flags & 2 != 0
+}
+
+/// Whether it is asked of a set-up with these flags whether the processor is online that it names: it matters to no other. Our own rule.
+pub fn asks_processor(flags: u32) -> bool
+    ensures { result ≡ spec.asks_processor flags }
+{
+    flags & 4 != 0 && flags & 2 != 0 && flags & 32 == 0
+}
+
+/// Whether it is asked of one what its descriptor is, by which another ring is named. Our own rule.
+pub fn asks_shared(flags: u32) -> bool
+    ensures { result ≡ spec.asks_shared flags }
+{
+    flags & 32 != 0
+}
+
+/// What isn't asked of a set-up makes no difference.
+pub fn asks_of_set_up_what_matters()
+    ensures { AsksWhatMatters }
+{}
+
+/// In how many cells of a ring with these flags an entry stands. IORING_SETUP_SQE128.
+pub fn entry_cells(flags: u32) -> u32
+    ensures { result ≡ spec.entry_cells flags }
+{
+    if flags & 1024 != 0 { 2 } else { 1 }
+}
+
+/// And a completion. IORING_SETUP_CQE32.
+pub fn completion_cells(flags: u32) -> u32
+    ensures { result ≡ spec.completion_cells flags }
+{
+    if flags & 2048 != 0 { 2 } else { 1 }
 }
 
 /// What a ring can do, as its set-up tells it, whose rings stand in one mapping or in two.

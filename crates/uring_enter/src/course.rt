@@ -5,6 +5,7 @@ ghost use Rattle.uring_enter.specs.declared.act.Fact.{Fact};
 ghost use Rattle.uring_enter.specs.Courses.{KeepsCourse, act, act_by, behind_act, by_cancel, end_by, fits, is_ending, is_carrying_out, notice_of, option_of, shown};
 
 use crate::act::{Act, Fact};
+use crate::submission::Submission;
 
 /// What has become of a request so far. A value for each, from its acceptance to its end.
 #[repr(C)]
@@ -195,13 +196,13 @@ fn by_cancel(moved: i32) -> i32
     if moved > 0 { moved } else { -125 }
 }
 
-/// What the second completion of a send without copies shows, if it has one: that its memory is free. `reports`: it is to say that it was copied. `may_post`: a completion may be posted before its end.
-pub fn notice_of(reports: bool, may_post: bool) -> Option<i32>
-    ensures { result ≡ notice_of reports may_post }
+/// What the second completion of a send without copies shows, which is of this entry, if it has one: that its memory is free. `may_post`: a completion may be posted before its end.
+pub fn notice_of(entry: &Submission, may_post: bool) -> Option<i32>
+    ensures { result ≡ notice_of entry.now may_post }
 {
     if !may_post {
         None
-    } else if reports {
+    } else if entry.ioprio & 8 != 0 {
         Some(-0x8000_0000)
     } else {
         Some(0)

@@ -123,13 +123,6 @@ pub enum Means {
     TimeoutRemoval,
 }
 
-/// Whether the descriptors of an operation are asked not to wait while its call is made, which has no flag for that: of ACCEPT, CONNECT, SPLICE and TEE, but pipes, which SPLICE_F_NONBLOCK asks. O_NONBLOCK.
-pub fn asks_descriptors(code: u8) -> bool
-    ensures { result ≡ spec.asks_descriptors code }
-{
-    matches!(code, 13 | 16 | 30 | 33)
-}
-
 /// Whether an end of a splice is asked so: no pipe, which SPLICE_F_NONBLOCK asks, and no regular file, which never waits. Our own rule.
 pub fn asks_end(is_pipe: bool, is_regular: bool) -> bool
     ensures { result ≡ spec.asks_end is_pipe is_regular }

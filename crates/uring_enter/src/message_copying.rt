@@ -27,6 +27,13 @@ pub struct Header {
     pub name_size: u32,
 }
 
+/// Whether the address that the operation of this code names is copied by itself; else it stands in the message that is sent. IORING_OP_CONNECT.
+pub fn is_address_alone(code: u8) -> bool
+    ensures { result ≡ spec.is_address_alone code }
+{
+    code == 16
+}
+
 /// What goes on behind so many pieces of an entry's message, of which the last has this fault, or 0.
 pub fn next_message_piece(entry: &Submission, header: &Header, copied: u32, fault: i32) -> Copying
     ensures { result ≡ spec.next_of_message entry.now header.now copied fault }

@@ -1,8 +1,8 @@
 //! When a ring's descriptor is readable, and what is asked before that is told. io_uring(7); but where our own rule is named.
 
-ghost use Rattle.std.specs.Prelude.{◌≡◌, ℕ, List};
-ghost use Rattle.uring_enter.specs.Showing.{Change, KeepsShown, IsTold};
-ghost use Rattle.uring_enter.specs.Prospects.{AsksOnce, TellsWhatIsSo, readable_of, told_by};
+ghost use Rattle.std.specs.Prelude.{◌≡◌, ◌%◌, ◌^◌, nat_lt, ℕ, List};
+ghost use Rattle.uring_enter.specs.Showing.{Change, KeepsShown, IsTold, posted};
+ghost use Rattle.uring_enter.specs.Prospects.{AsksOnce, TellsWhatIsSo, WereSoMany, readable_of, told_by};
 
 use crate::showing::Shown;
 
@@ -46,6 +46,21 @@ impl Shown {
         } else {
             told_by(known)
         }
+    }
+
+    /// How many completions were posted so far, as a word.
+    pub fn posted_word(&self) -> u32
+        ensures { (log : List Change) → KeepsShown log self.now → result ≡ posted log % 2 ^ 32 }
+    {
+        self.head.wrapping_add((self.posted % 0x1_0000_0000) as u32)
+    }
+
+    /// Whether any were posted since there were so many as this word says, to which fewer than 2^32 have come since.
+    pub fn has_posted_since(&self, word: u32) -> bool
+        ensures { (log : List Change) (n : ℕ) → KeepsShown log self.now → WereSoMany log word n
+            → result ≡ nat_lt n (posted log) }
+    {
+        self.posted_word() != word
     }
 }
 

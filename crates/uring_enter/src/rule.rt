@@ -183,3 +183,10 @@ fn row(barred: u16, flags: u32, also: Also) -> Option<Rule>
         also,
     })
 }
+
+/// What a probe says of the operation of this code. IO_URING_OP_SUPPORTED.
+pub fn probed_flags(code: u8) -> u16
+    ensures { result ≡ spec.probed_flags code }
+{
+    if rule_of(code).is_some() { 1 } else { 0 }
+}

@@ -18,6 +18,29 @@ pub fn heard_steps(reaped: u32, is_asked: bool) -> u32
     bit(1, is_any) | bit(2, reaped > 0) | bit(4, is_any)
 }
 
+/// Where it is heard what the application has reaped.
+#[derive(Clone, Copy, Drop)]
+pub enum Occasion {
+    /// A call says so, and asks for what has overflowed, or doesn't.
+    Call(bool),
+
+    /// Something has gone on in a call.
+    Step,
+
+    /// A completion may be posted behind it: an operation is carried out, or what no operation ends with is told.
+    Posting,
+}
+
+/// Whether what has overflowed is asked for there.
+pub fn asks_overflow(occasion: Occasion) -> bool
+    ensures { result ≡ spec.asks_overflow occasion }
+{
+    match occasion {
+        Occasion::Call(asks) => asks,
+        Occasion::Step | Occasion::Posting => false,
+    }
+}
+
 /// Whether the ring is shown anew behind so many completions that have moved into it.
 pub fn shows_again(moved: u64) -> bool
     ensures { result ≡ spec.shows_again moved }

@@ -2,9 +2,23 @@
 
 ghost use Rattle.std.specs.Prelude.{◌≡◌, ◌-◌};
 ghost use Rattle.uring_enter.specs.Timeouts.{later, nanoseconds_of, ends_before, is_reached_by, with_expiry, cancelled_by, fires, linked_outcome};
-ghost use Rattle.uring_enter.specs.Clocks.{clock_of, count_of, lasts};
+ghost use Rattle.uring_enter.specs.Clocks.{clock_of, count_of, is_linked_timeout, is_timeout, lasts};
 
 use crate::submission::Submission;
+
+/// Whether the operation of this code is a timeout. IORING_OP_TIMEOUT.
+pub fn is_timeout(code: u8) -> bool
+    ensures { result ≡ is_timeout code }
+{
+    code == 11
+}
+
+/// Whether it is one that limits the request before it. IORING_OP_LINK_TIMEOUT.
+pub fn is_linked_timeout(code: u8) -> bool
+    ensures { result ≡ is_linked_timeout code }
+{
+    code == 15
+}
 
 /// A timeout that starts. io_uring_enter(2), IORING_OP_TIMEOUT and IORING_OP_LINK_TIMEOUT.
 #[repr(C)]

@@ -3,6 +3,7 @@ use Rattle.std.specs.Prelude.{ℕ, ℤ, pos, negsuc, Bool, true, false, not, ◌
 use Rattle.std.specs.Ordering.{int_eq}
 use Rattle.std.specs.Int.RustNames.{bit_and}
 use Rattle.uring_register.specs.declared.call.Call.{Call}
+use Rattle.uring_register.specs.declared.call.Probe.{Probe as Probed}
 use Rattle.uring_register.specs.declared.call.Call.TheVariants.{RegisterBuffers, UnregisterBuffers, RegisterFiles, UnregisterFiles, RegisterEventfd, UnregisterEventfd, UpdateFiles, RegisterEventfdAsync, Probe, RegisterRestrictions, EnableRing, RegisterFilesSized, UpdateFilesSized, RegisterBuffersSized, UpdateBuffersSized, EnrollRings, DismissRings, RegisterBufferRing, UnregisterBufferRing, Cancel, GiveOut}
 use Rattle.uring_register.specs.declared.call.Caller.{Caller}
 use Rattle.uring_register.specs.declared.call.Content.{Content}
@@ -125,9 +126,9 @@ is_content _ c = true
 abbrev pub content_fault : Call → Bool → Content → ℤ
 content_fault call is_read c = if is_read then unless (is_content call c) else error 14
 
--- how many rows of a probe are looked at, and told: those of operations that there are, up to SENDMSG_ZC (48)
-abbrev pub probed : ℕ → ℕ
-probed count = min count 49
+-- what a probe tells: the last operation that there is, SENDMSG_ZC (48), and how many rows are looked at, and told, which are those of operations that there are
+abbrev pub probe_of : ℕ → Probed
+probe_of count = record { last = 48; rows = min count 49 }
 
 -- whether a call ends requests, each of which then posts its completion: a cancel
 abbrev pub ends_requests : Call → Bool

@@ -201,11 +201,25 @@ fn is_cancel(content: &Content) -> bool
     !content.has_reserved && content.flags & !15 == 0 && content.flags & 6 != 6
 }
 
-/// How many rows of a probe are looked at, and told.
-pub fn probed(count: u32) -> u32
-    ensures { result ≡ spec.probed count }
+/// What a probe tells in front of its rows. `struct io_uring_probe`.
+#[repr(C)]
+#[derive(Clone, Copy, Drop)]
+pub struct Probe {
+    /// The last operation that there is.
+    pub last: u8,
+
+    /// How many rows are looked at, and told.
+    pub rows: u8,
+}
+
+/// What a probe tells that is asked for so many rows. Of each `probed_flags` says whether it is served.
+pub fn probe_of(count: u32) -> Probe
+    ensures { result ≡ spec.probe_of count }
 {
-    count.min(49)
+    Probe {
+        last: 48,
+        rows: count.min(49) as u8,
+    }
 }
 
 /// Whether the call of a number may post completions: it ends requests, or takes files or buffers out of their table, whose tags are told. One that isn't served posts none.

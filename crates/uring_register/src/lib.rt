@@ -28,7 +28,8 @@ mod uses;
 
 pub use bytes::{bytes_fault, flags_of, flags_so_far, further_in, part_of};
 pub use call::{
-    Call, Caller, Content, argument_fault, call_of, calling_fault, content_fault, may_post, probed,
+    Call, Caller, Content, Probe, argument_fault, call_of, calling_fault, content_fault, may_post,
+    probe_of,
 };
 pub use call_laws::{can_be_allowed, is_made_by_right};
 pub use enrolled::{
