@@ -174,6 +174,11 @@ enum wulgach_glance {
  * wulgach_counts_as_ready has it. */
 uint32_t wulgach_glance_of(bool is_impatient, bool is_of_many, int32_t came, uint16_t events);
 
+/* Whether a request whose socket was found unready, of this family and type (socket(2)), is ready all the same if that was shut down for writing, or its
+ * peer for reading: a write or a send by a local socket of streams (AF_UNIX, SOCK_STREAM), of which no poll(2) tells that. It is asked by a send of no
+ * bytes, which comes to -32 (EPIPE) then; and who sleeps naps meanwhile. */
+bool wulgach_asks_broken(const struct wulgach_submission *entry, uint32_t family, uint32_t kind);
+
 /* ---- what an instance tells of those that are dormant ---- */
 
 /* The instance has told that its descriptor is ready, by which it is dormant no more: it counts as seen ready, and threads that sleep are woken. */

@@ -4,6 +4,7 @@
 #define _GNU_SOURCE
 #include "eventfds.h"
 #include "copying.h"
+#include "files.h"
 #include "numbers.h"
 #include "openness.h"
 #include "ring.h"
@@ -58,6 +59,13 @@ void tell_eventfd(struct ring *ring, uint64_t told)
     uint32_t flags = load_word(&ring->memory.cq->flags);
     bool takes = wulgach_eventfd_tells(&ring->telling, flags) && has_room(ring);
     uint64_t added = wulgach_eventfd_added(&ring->telling, flags, told, takes);
-    if (added > 0 && write(ring->eventfd, &added, sizeof added) > 0)
+    if (added > 0 && write(ring->eventfd, &added, sizeof added) > 0) {
+        ring->tellings++;
         wulgach_lookout_moves(&ring->lookout);
+    }
+}
+
+bool has_told(const struct ring *ring, uint64_t before, int fd)
+{
+    return ring->tellings != before && ring->telling.is_registered && is_same_file(ring->eventfd, fd);
 }

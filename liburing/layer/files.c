@@ -78,13 +78,18 @@ bool release_file(struct file *file)
     return true;
 }
 
-bool is_file_of(const struct file *file, int fd)
+bool is_same_file(int fd, int other)
 {
     pid_t process = this_process();
-    int result = fcntl(file->fd, F_DUPFD_QUERY, fd);
+    int result = fcntl(fd, F_DUPFD_QUERY, other);
     if (result < 0)
-        result = syscall(SYS_kcmp, process, process, KCMP_FILE, file->fd, fd) == 0;
+        result = syscall(SYS_kcmp, process, process, KCMP_FILE, fd, other) == 0;
     return result == 1;
+}
+
+bool is_file_of(const struct file *file, int fd)
+{
+    return is_same_file(file->fd, fd);
 }
 
 struct file *use_file(struct ring *ring, uint32_t index)

@@ -4,7 +4,7 @@
 #include "operations.h"
 #include "pipes.h"
 #include "polls.h"
-#include "unwilling.h"
+#include "sockets.h"
 
 #include <poll.h>
 #include <sys/socket.h>
@@ -28,7 +28,7 @@ void look_first(const struct ring *ring, struct request *request)
     bool is_found = is_ready(request);
     if (!is_found && !is_poll(request) && !request->needs.needs_second) {
         ask_listening(request);
-        is_found = is_impatient(request) || wulgach_is_tried_first(submission_of(&request->entry), is_pipe(request->fd));
+        is_found = is_impatient(request) || wulgach_is_tried_first(submission_of(&request->entry), (uint32_t)option_of(request->fd, SO_RCVLOWAT));
     }
     note_look(ring, request, is_found);
 }
@@ -55,7 +55,7 @@ static void look_at_some(const struct ring *ring, struct request **requests, str
     int came = poll(polled, count, 0);
     for (nfds_t i = 0; i < count; i++) {
         uint32_t glance = wulgach_glance_of(is_impatient(requests[i]), true, came, (uint16_t)polled[i].revents);
-        note_look(ring, requests[i], glance == WULGACH_GLANCE_ASKS_ALONE ? is_ready(requests[i]) : glance == WULGACH_GLANCE_READY);
+        note_look(ring, requests[i], glance == WULGACH_GLANCE_ASKS_ALONE ? is_ready(requests[i]) : is_glanced_ready(requests[i], glance));
     }
 }
 

@@ -13,7 +13,7 @@ use Rattle.uring_enter.specs.declared.descriptor.Question.TheVariants.{Status, O
 use Rattle.uring_enter.specs.declared.descriptor.Finding.{Finding}
 use Rattle.uring_enter.specs.declared.descriptor.Finding.TheVariants.{Asks, Is}
 use Rattle.uring_enter.specs.Clocks.{has_some}
-use Rattle.uring_enter.specs.Needs.{is_read, is_transfer, is_of_sockets, is_splice, is_poll, needs_file}
+use Rattle.uring_enter.specs.Needs.{is_read, is_write, is_transfer, is_of_sockets, is_splice, is_poll, needs_file}
 use Rattle.uring_entry.specs.Errors.{error}
 
 -- whether a transfer may be made before its descriptor is asked whether it may have to wait: it moves something, at an offset, with no flags and no provided buffer; it wasn't tried before, and no choice rests on the answer. Our own rule
@@ -126,12 +126,15 @@ is_eventfd_name name = bytes_eq name (codes "anon_inode:[eventfd]")
 abbrev pub is_counter_name : List ℕ → Bool
 is_counter_name name = is_eventfd_name name || bytes_eq name (codes "anon_inode:[timerfd]")
 
--- whether it is asked for its name: only fewer than 8 bytes matter to it, and only what is no file of any type counts
-abbrev pub asks_counter : Submission → ℕ → Nature → Bool
-asks_counter e length d =
-    is_transfer e.opcode && not d.has_type && nat_lt length 8 && not (has_some e.flags 32)
+-- a transfer that moves fewer than 8 bytes; but a write of none is carried out, and writes none. What Linux 6.18 was seen to do
+abbrev pub is_too_short : Submission → ℕ → Bool
+is_too_short e length = nat_lt length 8 && not (length == 0 && is_write e.opcode) && not (has_some e.flags 32)
 
--- with what a transfer fails as it starts, though its descriptor might have to be waited for: -22 (EINVAL) of fewer than 8 bytes of what counts. 0: it doesn't. eventfd(2), timerfd_create(2)
+-- whether it is asked for its name: only one that is too short matters to it, and only what is no file of any type counts
+abbrev pub asks_counter : Submission → ℕ → Nature → Bool
+asks_counter e length d = is_transfer e.opcode && not d.has_type && is_too_short e length
+
+-- with what a transfer fails as it starts, though its descriptor might have to be waited for: -22 (EINVAL) of one that is too short for what counts. 0: it doesn't. eventfd(2), timerfd_create(2)
 abbrev pub start_fault : Submission → ℕ → Nature → ℤ
 start_fault e length d =
-    if is_transfer e.opcode && d.is_counter && nat_lt length 8 && not (has_some e.flags 32) then error 22 else pos 0
+    if is_transfer e.opcode && d.is_counter && is_too_short e length then error 22 else pos 0
