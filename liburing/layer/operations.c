@@ -67,7 +67,7 @@ bool is_polled(const struct request *request)
 
 bool is_glanced_ready(const struct request *request, uint32_t glance)
 {
-    return glance == WULGACH_GLANCE_READY || is_broken(request);
+    return glance == WULGACH_GLANCE_READY || (request->is_tried_first && !request->has_called) || is_broken(request);
 }
 
 bool is_ready(const struct request *request)

@@ -28,7 +28,8 @@ void look_first(const struct ring *ring, struct request *request)
     bool is_found = is_ready(request);
     if (!is_found && !is_poll(request) && !request->needs.needs_second) {
         ask_listening(request);
-        is_found = is_impatient(request) || wulgach_is_tried_first(submission_of(&request->entry), (uint32_t)option_of(request->fd, SO_RCVLOWAT));
+        request->is_tried_first = wulgach_is_tried_first(submission_of(&request->entry), (uint32_t)option_of(request->fd, SO_RCVLOWAT));
+        is_found = is_impatient(request) || request->is_tried_first;
     }
     note_look(ring, request, is_found);
 }

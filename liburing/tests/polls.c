@@ -300,7 +300,8 @@ static void test_by_another(void)
             check(first.res == POLLIN && first.flags == IORING_CQE_F_MORE);
         }
         check(enter_for(&ring, 1, 1000) == -ETIME);
-        submit_nop(&other, 2);
+        put(&other, IORING_OP_NOP, 2, 0);
+        check(enter(&other, 1, (unsigned)is_there + 1, IORING_ENTER_GETEVENTS) == 1);
         struct seen last = next_of(&ring);
         check(last.user_data == 1 && last.res == POLLIN && last.flags == 0);
     }

@@ -193,7 +193,8 @@ static void test_low_mark(void)
         check(result_of_one(&ring, 1) == 4);
     }
     put_transfer(&ring, IORING_OP_RECV, 0, 0, ends[0], text, 16, 0);
-    check(enter(&ring, 1, 0, 0) == 1 && send(ends[1], "four", 4, 0) == 4 && enter_for(&ring, 1, 1000) == -ETIME);
+    check(enter(&ring, 1, 0, 0) == 1 && enter_for(&ring, 1, 1000) == -ETIME);
+    check(send(ends[1], "four", 4, 0) == 4 && enter_for(&ring, 1, 1000) == -ETIME);
     check(send(ends[1], "more", 4, 0) == 4 && wait_for_one(&ring) == 8);
     close(ends[0]);
     close(ends[1]);
