@@ -4,7 +4,6 @@
 #define _GNU_SOURCE
 #include "eventfds.h"
 #include "copying.h"
-#include "files.h"
 #include "numbers.h"
 #include "openness.h"
 #include "ring.h"

@@ -13,20 +13,12 @@
 #include "descriptors.h"
 #include "numbers.h"
 #include "openness.h"
-#include "process.h"
 #include "ring.h"
 
 #include <fcntl.h>
-#include <linux/kcmp.h>
 #include <stdlib.h>
 #include <sys/stat.h>
-#include <sys/syscall.h>
 #include <unistd.h>
-
-/* Linux 6.10 says by it whether two descriptors are of one file, and others by a slower call. */
-#ifndef F_DUPFD_QUERY
-#define F_DUPFD_QUERY 1027
-#endif
 
 enum { NO_FILE = -1 };
 
@@ -76,15 +68,6 @@ bool release_file(struct file *file)
         free(file->tag);
     free(file);
     return true;
-}
-
-bool is_same_file(int fd, int other)
-{
-    pid_t process = this_process();
-    int result = fcntl(fd, F_DUPFD_QUERY, other);
-    if (result < 0)
-        result = syscall(SYS_kcmp, process, process, KCMP_FILE, fd, other) == 0;
-    return result == 1;
 }
 
 bool is_file_of(const struct file *file, int fd)

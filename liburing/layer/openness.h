@@ -17,4 +17,7 @@ bool counts_as_open(int fd, bool is_of_slot);
 enum { MOST_OF_NAME = 64 };
 size_t name_of_descriptor(int fd, char name[MOST_OF_NAME]);
 
+/* Whether two descriptors are open on one file. */
+bool is_same_file(int fd, int other);
+
 #endif
