@@ -82,7 +82,7 @@ struct wulgach_vectors {
 
 /* Writes the call of a transfer's entry that is next, where that is a call (enum wulgach_try): at the entry's offset, or at none on a stream
  * that has none; with the entry's flags, and with RWF_NOWAIT if it is asked not to wait. One buffer of which nothing is asked is read by
- * pread64. */
+ * pread64; and a write of no bytes to a socket is a sendto of none, since pwritev2 sends nothing then. */
 void wulgach_transfer_call(const struct wulgach_submission *entry, const struct wulgach_vectors *vectors, const struct wulgach_transfer *transfer, uint32_t step, struct wulgach_system_call *call);
 
 /* By which calls an operation is carried out. */
@@ -211,9 +211,9 @@ void wulgach_rest_of(const struct wulgach_vector *vector, uint64_t moved, struct
 
 /* Whether it matters behind a call of this entry, which was asked not to wait and came to this, whether its socket was shut down for reading
  * (shutdown(2)): behind -11 (EAGAIN) of a read or a receive that may wait, and doesn't go on. And what that counts as where it was: 0, since no
- * datagram comes any more. A stream's call comes to 0 by itself. */
+ * datagram comes any more; but -11 where its descriptor isn't to wait (O_NONBLOCK), unless it is a RECV. A stream's call comes to 0 by itself. */
 bool wulgach_asks_shut(const struct wulgach_submission *entry, int32_t came_to);
-int32_t wulgach_shut_result(int32_t came_to, bool is_shut);
+int32_t wulgach_shut_result(const struct wulgach_submission *entry, int32_t came_to, bool is_shut, bool isnt_to_wait);
 
 /* Returns what a file ends with that was put into this slot, where its entry asked for that one or, by 2^32 - 1
  * (IORING_FILE_INDEX_ALLOC), for any: the slot of one that asked for any, else 0. */

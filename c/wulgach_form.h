@@ -95,10 +95,14 @@ void wulgach_link_of(const struct wulgach_submission *entry, struct wulgach_link
 /* What a probe says of the operation of this code: IO_URING_OP_SUPPORTED of one that is served, else 0. */
 uint16_t wulgach_probed_flags(uint8_t code);
 
+/* Whether what a poll finds comes of a ring: it has waited for a ring's descriptor; or its own ring has told the eventfd that it polls since the poll
+ * began, or since its last event. */
+bool wulgach_comes_of_ring(bool is_ring, bool has_waited, bool was_told);
+
 /* Whether the request of an entry, which has started as one that goes on or hasn't (wulgach_needs, and behind a poll's start wulgach_poll_start), and
  * has moved so many bytes (`done`), goes on behind this result, which then has a completion of its own; else it ends with it: it isn't one that goes on,
- * or it ends with an error, with nothing more to come, or since its completion finds the ring of so many entries full. */
-bool wulgach_goes_on(const struct wulgach_shown *shown, bool started, const struct wulgach_submission *entry, uint64_t done, int32_t res, uint32_t entries);
+ * or it ends with an error, with nothing more to come, since its completion finds the ring of so many entries full, or since what a poll has found comes of a ring (`is_of_ring`). */
+bool wulgach_goes_on(const struct wulgach_shown *shown, bool started, const struct wulgach_submission *entry, uint64_t done, bool is_of_ring, int32_t res, uint32_t entries);
 
 /* Whether an eventfd is told of a completion, where it is registered for all, or only for what ends behind the call that submitted
  * it: in another call on the ring. A message comes behind them all. */

@@ -201,6 +201,10 @@ enum wulgach_glance {
 uint32_t wulgach_glance_of(bool is_impatient, bool is_of_many, int32_t came, uint16_t events);
 
 /* ---- sleeps that were left ---- */
+/* Whether a request whose socket was found unready, of this family and type (socket(2)), is ready all the same if that was shut down for writing, or its
+ * peer for reading: a write or a send by a local socket of streams (AF_UNIX, SOCK_STREAM), of which no poll(2) tells that. It is asked by a send of no
+ * bytes, which comes to -32 (EPIPE) then; and who sleeps naps meanwhile. */
+bool wulgach_asks_broken(const struct wulgach_submission *entry, uint32_t family, uint32_t kind);
 
 /* What a thread that calls sees of a sleep of its own, which a signal's handler may have left by a jump. */
 struct wulgach_seen_sleep {
@@ -218,6 +222,7 @@ struct wulgach_seen_sleep {
  * the thread has: else they may be anything. Our own rule. */
 bool wulgach_was_left(const struct wulgach_seen_sleep *seen);
 bool wulgach_asks_stacks(const struct wulgach_seen_sleep *seen);
+
 
 /* ---- what an instance tells of those that are dormant ---- */
 

@@ -187,7 +187,7 @@ struct wulgach_cancel_form {    /* `struct io_uring_sync_cancel_reg` */
     int32_t fd;
     uint32_t flags;
     int64_t seconds, nanoseconds;
-    uint64_t pad, second_pad, third_pad, fourth_pad;
+    uint64_t pad, second_pad, third_pad, fourth_pad;    /* the lowest byte of the first is an operation's code, and isn't reserved */
 };
 
 struct wulgach_ring_form {      /* `struct io_uring_buf_reg` */

@@ -175,7 +175,7 @@ bool wulgach_is_eventfd_name(const uint8_t *name, size_t length);
 bool wulgach_is_counter_name(const uint8_t *name, size_t length);
 
 /* Whether the descriptor of the transfer of an entry, of so many bytes, is asked for that name, where it is this but for what counts: of fewer
- * than 8 bytes, if it has no type of file. */
+ * than 8 bytes, but of a write of none, if it has no type of file. */
 bool wulgach_asks_counter(const struct wulgach_submission *entry, uint64_t length, const struct wulgach_nature *nature);
 
 /* With what the request of an entry ends whose buffer has this fault (`why`), where its descriptor is this: -9 and -88 as above, else with that. */
@@ -190,7 +190,7 @@ struct wulgach_directions {
 void wulgach_directions_of(uint32_t flags, struct wulgach_directions *directions);
 
 /* With what the transfer of an entry, of so many bytes, fails as it starts, where its descriptor is this; or 0. First -22 (EINVAL) of fewer than 8 bytes of
- * what counts. Then, of what has no offsets and is no device, though one counts for nothing there, at another offset than 2^64 - 1: -22 of one from which the
+ * what counts, but of a write of none. Then, of what has no offsets and is no device, though one counts for nothing there, at another offset than 2^64 - 1: -22 of one from which the
  * bytes would go past the last that 63 bits have, and -29 (ESPIPE) of a socket's but 0. */
 int32_t wulgach_start_fault(const struct wulgach_submission *entry, uint64_t length, const struct wulgach_nature *nature);
 
@@ -264,9 +264,11 @@ struct wulgach_patience {
     bool has_begun;             /* of a connect or a splice, or of a receive of urgent data: it was begun */
     bool knows_listening;       /* its socket was asked whether it listens, */
     bool is_listening;          /* and does */
+    bool is_socket;             /* its descriptor is a socket's */
 };
 
-/* Whether a request doesn't wait, whatever its descriptor has: it has failed, or is asked not to wait, or for nothing; a connect, a splice
+/* Whether a request doesn't wait, whatever its descriptor has: it has failed, or is asked not to wait, or for nothing, but by a write of no bytes
+ * to a socket, which may send an empty datagram; a connect, a splice
  * and a receive of urgent data until they are begun, which finds their faults; what opens a path; what would send or receive by a socket that
  * listens; and what would accept by one that doesn't. */
 bool wulgach_is_impatient(const struct wulgach_submission *entry, const struct wulgach_patience *patience);
@@ -275,9 +277,11 @@ bool wulgach_is_impatient(const struct wulgach_submission *entry, const struct w
  * but of polls and splices. Our own rule. */
 bool wulgach_asks_listening(const struct wulgach_needs *needs, bool is_ready);
 
-/* Whether a request that wasn't found ready as it starts is carried out once all the same, and waits only then: a write, if its descriptor is a
- * pipe, which may have room in its last page where poll(2) finds none. */
-bool wulgach_is_tried_first(const struct wulgach_submission *entry, bool is_pipe);
+/* Whether a request that wasn't found ready as it starts is carried out once all the same, and waits only then: one that writes or sends, since
+ * there may be some room where poll(2) finds too little, as in a pipe's last page or a local socket's buffer; and one that reads or receives, if its
+ * socket counts as ready with so many bytes (SO_RCVLOWAT, 0 of what is none), which are more than one. None that asks to be polled first
+ * (IORING_RECVSEND_POLL_FIRST). */
+bool wulgach_is_tried_first(const struct wulgach_submission *entry, uint32_t least);
 
 /* ---- when a call sleeps, and what came of it ---- */
 
@@ -343,7 +347,9 @@ struct wulgach_transfer {
     bool is_tried;
     bool is_stream;
     bool is_impatient;          /* and if it may have to wait: it doesn't, */
-    bool has_offsets;           /* and its descriptor has offsets */
+    bool has_offsets;           /* and its descriptor has offsets, */
+    bool is_socket;             /* or is a socket's, */
+    bool is_shut;               /* which was found to be shut down for reading */
 };
 
 enum wulgach_try {

@@ -154,6 +154,11 @@ static void look_at_transfers(void)
     demand(IS_CALL(at_once, SYS_preadv2, ON, VALUE, 1, 5, 0, 8), "one that is asked not to wait");
     demand(IS_CALL(stream, SYS_preadv2, ON, VALUE, 1, UINT64_MAX), "one of a stream");
     demand(IS_CALL(two, SYS_preadv2, ON, VALUE, 2, 5, 0, 4) && IS_CALL(none, SYS_preadv2, ON, VALUE, 1, 5), "of two vectors, of no bytes");
+    struct wulgach_submission writes = {.opcode = WRITE, .off = 5};
+    struct wulgach_vectors vectors = {.fd = ON, .count = 1, .vectors = VALUE, .buffer = ADDR};
+    struct wulgach_system_call nothing;
+    wulgach_transfer_call(&writes, &vectors, &(struct wulgach_transfer){.is_stream = true, .is_socket = true}, WULGACH_CALL_PLAIN, &nothing);
+    demand(IS_CALL(nothing, SYS_sendto, ON, 0, 0, MSG_DONTWAIT), "a write of no bytes to a socket");
     demand(IS_CALL(write, SYS_pwritev2, ON, VALUE, 1, 5, 0, 2) && IS_CALL(asked, SYS_pwritev2, ON, VALUE, 1, UINT64_MAX, 0, 10), "writes");
 }
 
@@ -280,7 +285,8 @@ static void look_at_results(void)
     struct wulgach_submission going_on = {.opcode = 27, .ioprio = 2}, hasty = {.opcode = 27, .op_flags = 64}, read = {.opcode = 22}, unwilling = {.opcode = 22, .op_flags = 8};
     demand(wulgach_asks_shut(&receive, -11) && wulgach_asks_shut(&read, -11) && !wulgach_asks_shut(&receive, -107) && !wulgach_asks_shut(&send, -11), "whether a socket was shut down");
     demand(!wulgach_asks_shut(&going_on, -11) && !wulgach_asks_shut(&hasty, -11) && !wulgach_asks_shut(&unwilling, -11), "where that doesn't matter");
-    demand(wulgach_shut_result(-11, true) == 0 && wulgach_shut_result(-11, false) == -11 && wulgach_shut_result(5, true) == 5, "a socket that was shut down");
+    demand(wulgach_shut_result(&read, -11, true, false) == 0 && wulgach_shut_result(&read, -11, false, false) == -11 && wulgach_shut_result(&read, 5, true, false) == 5, "a socket that was shut down");
+    demand(wulgach_shut_result(&read, -11, true, true) == -11 && wulgach_shut_result(&receive, -11, true, true) == -11 && wulgach_shut_result(&hasty, -11, true, true) == 0, "one that isn't to wait");
     demand(wulgach_placed_result(UINT32_MAX, 7) == 7 && wulgach_placed_result(8, 7) == 0, "a file for any slot, and for one");
     struct wulgach_submission sends = {.opcode = 9}, receives = {.opcode = 10}, splice = {.opcode = 30};
     demand(wulgach_control_of(&sends, 24, 0) == 24 && wulgach_control_of(&sends, 24, 5) == 0 && wulgach_control_of(&receives, 24, 5) == 24, "control data");

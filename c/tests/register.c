@@ -172,6 +172,10 @@ static void read_structures(void)
     demand(content.nr == 5 && !content.has_reserved, "an update of files");
     wulgach_content_of_cancel(&(struct wulgach_cancel_form){.flags = 4, .fourth_pad = 1}, &content);
     demand(content.flags == 4 && content.has_reserved, "a cancel");
+    wulgach_content_of_cancel(&(struct wulgach_cancel_form){.pad = 255}, &content);
+    demand(!content.has_reserved, "an operation's code");
+    wulgach_content_of_cancel(&(struct wulgach_cancel_form){.pad = 256}, &content);
+    demand(content.has_reserved, "what stands behind it");
     static const uint8_t probe[32] = {[31] = 1};
     wulgach_content_of_probe(probe, 32, &content);
     demand(content.nr == 0 && content.flags == 0 && content.has_reserved && !content.has_data, "a probe");

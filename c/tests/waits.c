@@ -117,6 +117,8 @@ static void look_at_descriptors(void)
     demand(wulgach_no_buffer_fault(&selecting, &none) == -9 && wulgach_no_buffer_fault(&selecting, &pipe) == -105 && wulgach_no_buffer_fault(&receive, &pipe) == -88 && wulgach_no_buffer_fault(&receive, &socket) == -105 && wulgach_no_buffer_fault(&fixed, &none) == -9 && wulgach_no_buffer_fault(&fixed, &file) == -14, "no buffer");
     demand(wulgach_buffer_fault(&fixed, &none, -14) == -9 && wulgach_buffer_fault(&fixed, &file, -14) == -14 && wulgach_buffer_fault(&fixed, &file, -105) == -105 && wulgach_buffer_fault(&receive, &pipe, -14) == -88, "what is wrong with a buffer");
     struct wulgach_nature counter = {.is_open = true, .is_counter = true, .can_read = true};
+    struct wulgach_submission writing = {.opcode = WRITE};
+    demand(wulgach_start_fault(&writing, 0, &counter) == 0 && wulgach_start_fault(&writing, 1, &counter) == -22 && wulgach_start_fault(&entry, 0, &counter) == -22 && !wulgach_asks_counter(&writing, 0, &none), "a write of no bytes to what counts");
     demand(wulgach_start_fault(&entry, 7, &counter) == -22 && wulgach_start_fault(&entry, 8, &counter) == 0 && wulgach_start_fault(&entry, 7, &pipe) == 0 && wulgach_start_fault(&selecting, 7, &counter) == 0, "what counts");
     struct wulgach_submission at = {.opcode = READ, .off = 7}, past = {.opcode = READ, .off = (1ull << 63) - 4}, negative = {.opcode = READ, .off = UINT64_MAX - 1}, anywhere = {.opcode = READ, .off = UINT64_MAX}, received = {.opcode = RECV, .off = 7};
     demand(wulgach_start_fault(&at, 4, &socket) == -29 && wulgach_start_fault(&at, 4, &pipe) == 0 && wulgach_start_fault(&at, 4, &file) == 0 && wulgach_start_fault(&at, 4, &none) == 0 && wulgach_start_fault(&received, 4, &socket) == 0, "an offset");
@@ -169,15 +171,17 @@ static bool impatient(uint8_t code, uint32_t flags, struct wulgach_patience pati
 
 static void be_impatient(void)
 {
-    struct wulgach_patience fresh = {.length = 8}, empty = {0}, failed = {.length = 8, .has_failed = true}, begun = {.length = 8, .has_begun = true}, deaf = {.length = 8, .knows_listening = true}, listening = {.length = 8, .knows_listening = true, .is_listening = true};
+    struct wulgach_patience fresh = {.length = 8}, empty = {0}, failed = {.length = 8, .has_failed = true}, begun = {.length = 8, .has_begun = true}, deaf = {.length = 8, .knows_listening = true}, listening = {.length = 8, .knows_listening = true, .is_listening = true}, sends_nothing = {.is_socket = true};
     demand(impatient(READ, 0, listening) && impatient(18, 0, fresh) && impatient(28, 0, fresh), "what ends whatever its descriptor has");
     demand(impatient(RECV, 0, listening) && impatient(26, 0, listening) && !impatient(ACCEPT, 0, listening) && !impatient(POLL_ADD, 0, listening), "by a socket that listens");
     demand(impatient(ACCEPT, 0, deaf) && !impatient(ACCEPT, 0, fresh) && !impatient(RECV, 0, deaf) && !impatient(26, 0, deaf), "by one that doesn't");
     demand(impatient(RECV, 1, fresh) && !impatient(RECV, 1, begun) && !impatient(26, 1, fresh), "urgent data");
     struct wulgach_needs plain = {0}, poll = {.is_poll = true}, splice = {.needs_second = true};
     demand(wulgach_asks_listening(&plain, false) && !wulgach_asks_listening(&plain, true) && !wulgach_asks_listening(&poll, false) && !wulgach_asks_listening(&splice, false), "whose socket is asked whether it listens");
-    struct wulgach_submission write = {.opcode = WRITE}, read = {.opcode = READ}, send = {.opcode = SEND};
-    demand(wulgach_is_tried_first(&write, true) && !wulgach_is_tried_first(&write, false) && !wulgach_is_tried_first(&read, true) && !wulgach_is_tried_first(&send, true), "what is tried first");
+    struct wulgach_submission write = {.opcode = WRITE}, read = {.opcode = READ, .ioprio = 1}, send = {.opcode = SEND}, polled = {.opcode = SEND, .ioprio = 1}, receive = {.opcode = RECV}, accept = {.opcode = ACCEPT};
+    demand(wulgach_is_tried_first(&write, 0) && wulgach_is_tried_first(&send, 1) && !wulgach_is_tried_first(&polled, 1), "a write or a send is tried first");
+    demand(wulgach_is_tried_first(&read, 2) && wulgach_is_tried_first(&receive, 8) && !wulgach_is_tried_first(&receive, 1) && !wulgach_is_tried_first(&read, 0) && !wulgach_is_tried_first(&accept, 8), "a receive, where a byte isn't enough");
+    demand(impatient(WRITE, 0, empty) && !impatient(WRITE, 0, sends_nothing) && impatient(WRITE, 8, sends_nothing) && impatient(READ, 0, sends_nothing), "a write of no bytes");
     demand(!impatient(READ, 0, fresh) && impatient(READ, 8, fresh) && impatient(READ, 0, empty) && impatient(READ, 0, failed), "a read");
     demand(impatient(RECV, 64, fresh) && !impatient(RECV, 8, empty) && !impatient(ACCEPT, 64, fresh), "a receive");
     demand(impatient(CONNECT, 0, fresh) && !impatient(CONNECT, 0, begun) && impatient(SPLICE, 0, fresh) && !impatient(SPLICE, 0, begun) && !impatient(POLL_ADD, 0, fresh), "a connect, a splice");
@@ -199,6 +203,8 @@ static void transfer(void)
     demand(next(stream, WULGACH_TRY_FINDS, 5) == 5 && next(file, WULGACH_TRY_FINDS, 5) == 1000 + WULGACH_CALL_PLAIN && next(stream, WULGACH_TRY_FINDS, 0) == 1000 + WULGACH_CALL_NONBLOCKING && next(failed, WULGACH_TRY_FINDS, -11) == -9, "behind that");
     demand(next(tried, 0, 0) == 1000 + WULGACH_CALL_TRIED && next(tried, WULGACH_CALL_TRIED, 5) == 5 && next(tried, WULGACH_CALL_TRIED, -29) == 1000 + WULGACH_TRY_FINDS, "one that is tried");
     demand(next(stream, WULGACH_CALL_NONBLOCKING, -11) == 1000 + WULGACH_TRY_WAITS && next(stream, WULGACH_CALL_NONBLOCKING, -95) == 1000 + WULGACH_TRY_POLLS && next(stream, WULGACH_CALL_NONBLOCKING, -5) == -5, "asked not to wait");
+    struct wulgach_transfer shut = {.length = 8, .is_stream = true, .is_socket = true, .is_shut = true};
+    demand(next(shut, WULGACH_CALL_NONBLOCKING, -11) == -11 && next(shut, WULGACH_CALL_UNWILLING, -11) == -11 && next(shut, WULGACH_CALL_NONBLOCKING, -95) == 1000 + WULGACH_TRY_POLLS, "of a socket that was shut down");
     demand(next(stream, WULGACH_TRY_POLLS, 0) == 1000 + WULGACH_TRY_WAITS && next(stream, WULGACH_TRY_POLLS, 1) == 1000 + WULGACH_CALL_UNWILLING && next(stream, WULGACH_CALL_UNWILLING, -11) == 1000 + WULGACH_TRY_WAITS && next(stream, WULGACH_CALL_UNWILLING, -95) == -95, "polled");
     demand(next(hasty, 0, 0) == 1000 + WULGACH_CALL_PLAIN && next(hasty, WULGACH_CALL_PLAIN, -11) == -11, "what doesn't wait");
     demand(next(failed, 0, 0) == -9, "one that failed");

@@ -121,6 +121,7 @@ int find_kind(struct request *request)
     request->is_tried = kind == WULGACH_KIND_TRIED;
     request->is_tried_at_once = kind == WULGACH_KIND_AT_ONCE;
     request->standing.is_stream = kind == WULGACH_KIND_STREAM;
+    request->is_socket = known.nature.is_socket;
     if (kind == WULGACH_KIND_WRONG)
         return wulgach_missing_fault(WULGACH_NO_DIRECTION);
     /* (of what wasn't asked, or has a type, the name doesn't matter) */

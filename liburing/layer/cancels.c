@@ -170,7 +170,7 @@ static void do_step_of_update(struct ring *ring, struct request *poll, const str
         unwatch(ring, poll->epoll);
         return;
     case WULGACH_CHANGING_ASKS:
-        poll->started = start_poll(poll);
+        poll->started = start_poll(ring, poll);
         return;
     case WULGACH_CHANGING_LOOKS:
         look_at_changed(ring, poll);

@@ -58,6 +58,13 @@ void tell_eventfd(struct ring *ring, uint64_t told)
     uint32_t flags = load_word(&ring->memory.cq->flags);
     bool takes = wulgach_eventfd_tells(&ring->telling, flags) && has_room(ring);
     uint64_t added = wulgach_eventfd_added(&ring->telling, flags, told, takes);
-    if (added > 0 && write(ring->eventfd, &added, sizeof added) > 0)
+    if (added > 0 && write(ring->eventfd, &added, sizeof added) > 0) {
+        ring->tellings++;
         wulgach_lookout_moves(&ring->lookout);
+    }
+}
+
+bool has_told(const struct ring *ring, uint64_t before, int fd)
+{
+    return ring->tellings != before && ring->telling.is_registered && are_on_one_file(ring->eventfd, fd) == 1;
 }

@@ -13,20 +13,12 @@
 #include "descriptors.h"
 #include "numbers.h"
 #include "openness.h"
-#include "process.h"
 #include "ring.h"
 
 #include <fcntl.h>
-#include <linux/kcmp.h>
 #include <stdlib.h>
 #include <sys/stat.h>
-#include <sys/syscall.h>
 #include <unistd.h>
-
-/* Linux 6.10 says by it whether two descriptors are of one file, and others by a slower call. */
-#ifndef F_DUPFD_QUERY
-#define F_DUPFD_QUERY 1027
-#endif
 
 enum { NO_FILE = -1 };
 
@@ -76,16 +68,6 @@ bool release_file(struct file *file)
         free(file->tag);
     free(file);
     return true;
-}
-
-int are_on_one_file(int one, int other)
-{
-    pid_t process = this_process();
-    int result = one == other ? 1 : fcntl(one, F_DUPFD_QUERY, other);
-    if (result >= 0)
-        return result;
-    long order = syscall(SYS_kcmp, process, process, KCMP_FILE, one, other);
-    return order < 0 ? -1 : order == 0;
 }
 
 bool is_file_of(const struct file *file, int fd)

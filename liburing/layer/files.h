@@ -66,9 +66,6 @@ struct file *share_file(struct file *file);
 /* One use less. Nothing, of NULL. Returns whether it was the last, and the file's descriptor is closed. */
 bool release_file(struct file *file);
 
-/* Whether two descriptors are open on one file: 1 or 0, or negative: the kernel doesn't say. */
-int are_on_one_file(int one, int other);
-
 /* Whether a request's file is that of a descriptor of the application's too, which keeps it open. False where the kernel doesn't say. */
 bool is_file_of(const struct file *file, int fd);
 

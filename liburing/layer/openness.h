@@ -17,4 +17,7 @@ bool counts_as_open(int fd, bool is_of_slot);
 enum { MOST_OF_NAME = 64 };
 size_t name_of_descriptor(int fd, char name[MOST_OF_NAME]);
 
+/* Whether two descriptors are open on one file: 1 or 0, or negative: the kernel doesn't say. */
+int are_on_one_file(int one, int other);
+
 #endif

@@ -50,7 +50,7 @@ struct pollfd poll_of(const struct request *request)
 
 bool is_impatient(const struct request *request)
 {
-    struct wulgach_patience patience = {.length = request->length, .has_failed = request->started < 0, .has_begun = request->has_called, .knows_listening = request->knows_listening, .is_listening = request->is_listening};
+    struct wulgach_patience patience = {.length = request->length, .has_failed = request->started < 0, .has_begun = request->has_called, .knows_listening = request->knows_listening, .is_listening = request->is_listening, .is_socket = request->is_socket};
     return wulgach_is_impatient(submission_of(&request->entry), &patience);
 }
 
@@ -65,13 +65,18 @@ bool is_polled(const struct request *request)
     return shows_ready(poll_of(request));
 }
 
+bool is_glanced_ready(const struct request *request, uint32_t glance)
+{
+    return glance == WULGACH_GLANCE_READY || (request->is_tried_first && !request->has_called) || is_broken(request);
+}
+
 bool is_ready(const struct request *request)
 {
     bool is_hasty = is_impatient(request);
     struct pollfd at = poll_of(request);
     /* (what the descriptor of a hasty one shows makes no difference) */
     int came = is_hasty ? 0 : poll(&at, 1, 0);
-    return wulgach_glance_of(is_hasty, false, came, (uint16_t)at.revents) == WULGACH_GLANCE_READY;
+    return is_glanced_ready(request, wulgach_glance_of(is_hasty, false, came, (uint16_t)at.revents));
 }
 
 /* Cuts the vectors to half their bytes. */
@@ -100,6 +105,7 @@ static struct wulgach_transfer transfer_of(const struct request *request)
         .is_at_once = request->is_tried_at_once,
         .is_tried = request->is_tried,
         .is_stream = request->standing.is_stream,
+        .is_socket = request->is_socket,
     };
     if (!transfer.is_stream)
         return transfer;
@@ -121,8 +127,15 @@ static struct wulgach_vectors vectors_of(const struct request *request)
     };
 }
 
+/* Makes the call once more, of a socket that was shut down: a datagram may have come just before that. */
+static int32_t call_behind_shut(const struct request *request, const struct wulgach_system_call *call, struct wulgach_transfer *transfer)
+{
+    transfer->is_shut = true;
+    return wulgach_shut_result(submission_of(&request->entry), make_call(call), true, is_not_to_wait(request));
+}
+
 /* Makes the call in the way that the library said. A read is made by the kernel's call itself, which is quicker than the C library's. */
-static int32_t call_transfer(const struct request *request, const struct wulgach_transfer *transfer, uint32_t way)
+static int32_t call_transfer(const struct request *request, struct wulgach_transfer *transfer, uint32_t way)
 {
     struct wulgach_vectors vectors = vectors_of(request);
     struct wulgach_system_call call;
@@ -131,7 +144,7 @@ static int32_t call_transfer(const struct request *request, const struct wulgach
         return make_unwilling_transfer(&call, request->fd);
     int32_t res = request->needs.is_read ? make_passing_call(&call) : make_call(&call);
     if (wulgach_asks_shut(submission_of(&request->entry), res) && is_shut(request->fd))
-        res = wulgach_shut_result(make_call(&call), true);
+        res = call_behind_shut(request, &call, transfer);
     if (way == WULGACH_CALL_AT_ONCE && res == -EOPNOTSUPP)
         note_slow(request->fd);
     return res;

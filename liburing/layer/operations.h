@@ -54,6 +54,9 @@ bool is_polled(const struct request *request);
 /* Whether one that may have to wait wouldn't wait now. */
 bool is_ready(const struct request *request);
 
+/* Whether it is, where its descriptor was polled and shows that (enum wulgach_glance). */
+bool is_glanced_ready(const struct request *request, uint32_t glance);
+
 /* The descriptor to poll and the events to poll it for. */
 struct pollfd poll_of(const struct request *request);
 

@@ -3,6 +3,8 @@
  */
 #define _GNU_SOURCE
 #include "polls.h"
+#include "descriptors.h"
+#include "eventfds.h"
 #include "numbers.h"
 #include "operations.h"
 #include "pipes.h"
@@ -50,8 +52,11 @@ static int start_by_instance(struct request *request)
     return start.fault;
 }
 
-int start_poll(struct request *request)
+int start_poll(const struct ring *ring, struct request *request)
 {
+    request->is_of_ring = request->needs.goes_on && is_ring(request->fd);
+    request->has_waited = false;
+    request->told_before = ring->tellings;
     request->is_of_pipe = is_poll_of_pipe(request);
     drop_instance(request);
     return wulgach_asks_instance(submission_of(&request->entry)) ? start_by_instance(request) : 0;
@@ -81,4 +86,15 @@ int32_t take_events(const struct ring *ring, struct request *request)
     note_look(ring, request, present != 0);
     bool was_told = wulgach_waiter_takes(&request->waiter, &ring->lookout);
     return wulgach_poll_result(events_of(request), present, was_told, &res) ? res : WOULD_WAIT;
+}
+
+bool comes_of_ring(const struct ring *ring, const struct request *request)
+{
+    return is_poll(request) && wulgach_comes_of_ring(request->is_of_ring, request->has_waited, has_told(ring, request->told_before, request->fd));
+}
+
+void note_poll_event(const struct ring *ring, struct request *request)
+{
+    request->has_waited = true;
+    request->told_before = ring->tellings;
 }

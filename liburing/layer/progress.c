@@ -57,7 +57,7 @@ bool can_finish(struct ring *ring, struct request *request)
 /* Whether a request goes on behind this result. */
 static bool goes_on_behind(const struct ring *ring, const struct request *request, int32_t res)
 {
-    return wulgach_goes_on(&ring->completions.at, request->needs.goes_on, submission_of(&request->entry), request->done, res, ring->memory.cq_entries);
+    return wulgach_goes_on(&ring->completions.at, request->needs.goes_on, submission_of(&request->entry), request->done, comes_of_ring(ring, request), res, ring->memory.cq_entries);
 }
 
 /* Posts a completion of a request before its end. It counts as of the call that submitted the request. False: it is put off. */
@@ -84,6 +84,7 @@ static bool try_operation(struct ring *ring, struct request *request, int32_t *r
     }
     if (goes_on_behind(ring, request, *res)) {
         note_fact(request, WULGACH_FACT_WENT_ON, 0);
+        note_poll_event(ring, request);
         post_event(ring, request, *res, WULGACH_PART_EVENT);
         request->flags = 0;     /* (its buffer is told) */
         return false;
@@ -170,7 +171,7 @@ static void do_step_of_start(struct ring *ring, struct request *request, enum wu
         look_for_pipe(request);
         return;
     case WULGACH_ASKS_EVENTS:
-        request->started = start_poll(request);
+        request->started = start_poll(ring, request);
         return;
     case WULGACH_LOOKS:
         look_first(ring, request);

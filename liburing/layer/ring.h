@@ -82,6 +82,7 @@ struct ring {
     uint32_t head;                      /* the submission ring's, as the application was told it */
     uint32_t own_positions;             /* how many positions of the core's submission ring were the layer's own */
     struct wulgach_eventfd telling;     /* whether an eventfd is registered, and of what it is told; */
+    uint64_t tellings;                  /* how often one was; */
     bool has_shown;                     /* what has ended was shown since the call began, or last slept, as nothing could go on; */
     int eventfd;                        /* then one of the layer's own */
     uint64_t call_number;               /* how many calls were made on it */

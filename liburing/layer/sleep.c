@@ -10,6 +10,7 @@
 #include "operations.h"
 #include "process.h"
 #include "sleepers.h"
+#include "sockets.h"
 
 #include <errno.h>
 #include <poll.h>
@@ -73,6 +74,7 @@ static nfds_t list_streams(const struct ring *ring, struct pollfd *streams, bool
         struct request *request = ring->running.rows[i];
         if (!wulgach_polls(&request->standing))
             continue;
+        *naps |= asks_broken(request);
         if (is_napped_for(request))
             *naps = true;
         else

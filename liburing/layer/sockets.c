@@ -185,6 +185,25 @@ static int32_t error_of_socket(const struct request *request)
     return getsockopt(request->fd, SOL_SOCKET, SO_ERROR, &error, &size) < 0 ? -errno : -error;
 }
 
+int option_of(int fd, int name)
+{
+    int value = 0;
+    socklen_t size = sizeof value;
+    return getsockopt(fd, SOL_SOCKET, name, &value, &size) < 0 ? 0 : value;
+}
+
+bool asks_broken(const struct request *request)
+{
+    const struct wulgach_submission *entry = submission_of(&request->entry);
+    /* (of what only reads the socket needn't be asked) */
+    return wulgach_asks_broken(entry, AF_UNIX, SOCK_STREAM) && wulgach_asks_broken(entry, (uint32_t)option_of(request->fd, SO_DOMAIN), (uint32_t)option_of(request->fd, SO_TYPE));
+}
+
+bool is_broken(const struct request *request)
+{
+    return asks_broken(request) && send(request->fd, "", 0, MSG_DONTWAIT | MSG_NOSIGNAL) < 0 && errno == EPIPE;
+}
+
 bool is_shut(int fd)
 {
     struct pollfd at = {.fd = fd, .events = POLLRDHUP};
@@ -202,7 +221,7 @@ static int32_t call_unless_shut(struct ring *ring, struct request *request, uint
     int32_t res = call_once(ring, request, filled);
     if (!wulgach_asks_shut(submission_of(&request->entry), res) || !is_shut(request->fd))
         return res;
-    return wulgach_shut_result(call_once(ring, request, filled), true);
+    return wulgach_shut_result(submission_of(&request->entry), call_once(ring, request, filled), true, is_not_to_wait(request));
 }
 
 /* Does what the library said is next, and says what that came to. */

@@ -19,6 +19,15 @@ int32_t call_socket(struct ring *ring, struct request *request);
 /* Whether a descriptor is a socket that nothing more comes from: it was shut down for reading, or its peer for writing. */
 bool is_shut(int fd);
 
+/* What a socket says of itself (getsockopt(2), SOL_SOCKET), or 0 of what is none. */
+int option_of(int fd, int name);
+
+/* Whether a request that isn't ready is asked whether its socket was shut down for writing, of which no poll tells. */
+bool asks_broken(const struct request *request);
+
+/* Whether it was, for one of which that is asked. */
+bool is_broken(const struct request *request);
+
 /* The call of a message, which is moved on by what was moved. Returns its result. */
 int32_t move_message(struct request *request, const struct wulgach_means *means);
 

@@ -3,6 +3,7 @@
 #include "files.h"
 #include "operations.h"
 #include "pipes.h"
+#include "sockets.h"
 #include "unwilling.h"
 
 #include <poll.h>
@@ -27,7 +28,8 @@ void look_first(const struct ring *ring, struct request *request)
     bool is_found = is_ready(request);
     if (wulgach_asks_listening(&request->needs, is_found)) {
         ask_listening(request);
-        is_found = is_impatient(request) || wulgach_is_tried_first(submission_of(&request->entry), is_pipe(request->fd));
+        request->is_tried_first = wulgach_is_tried_first(submission_of(&request->entry), (uint32_t)option_of(request->fd, SO_RCVLOWAT));
+        is_found = is_impatient(request) || request->is_tried_first;
     }
     note_look(ring, request, is_found);
 }
@@ -54,7 +56,7 @@ static void look_at_some(const struct ring *ring, struct request **requests, str
     int came = poll(polled, count, 0);
     for (nfds_t i = 0; i < count; i++) {
         uint32_t glance = wulgach_glance_of(is_impatient(requests[i]), true, came, (uint16_t)polled[i].revents);
-        note_look(ring, requests[i], glance == WULGACH_GLANCE_ASKS_ALONE ? is_ready(requests[i]) : glance == WULGACH_GLANCE_READY);
+        note_look(ring, requests[i], glance == WULGACH_GLANCE_ASKS_ALONE ? is_ready(requests[i]) : is_glanced_ready(requests[i], glance));
     }
 }
 

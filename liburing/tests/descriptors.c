@@ -1,5 +1,5 @@
-/* Tests of descriptors that requests wait for, by direct calls: how many there may be, which numbers the layer's own have, and what a pipe had that
- * nothing tells of. All hold under every policy, which the environment says.
+/* Tests of descriptors that requests wait for, by direct calls: how many there may be, which numbers the layer's own have, what a pipe had that
+ * nothing tells of, and what can't be written to, and the ring's own eventfd. All hold under every policy, which the environment says.
  *
  *   descriptors [NAME]       with a name: that test alone
  */
@@ -8,7 +8,9 @@
 
 #include <poll.h>
 #include <pthread.h>
+#include <sys/eventfd.h>
 #include <sys/resource.h>
+#include <sys/timerfd.h>
 
 static void put_poll(struct ring *ring, uint64_t user_data, int fd, uint32_t events, uint32_t how)
 {
@@ -147,6 +149,63 @@ static void test_dropped_writes(void)
     close_ring(&ring);
 }
 
+/* A write of no bytes to an eventfd ends with 0, and one of fewer than 8 with an error; so does any to a timerfd or a ring, and none waits. */
+static void test_unwritable(void)
+{
+    struct ring ring, other;
+    uint64_t one = 1;
+    int counter = eventfd(0, 0), timer = timerfd_create(CLOCK_MONOTONIC, 0);
+    check(counter >= 0 && timer >= 0);
+    make_ring(&ring, 8, 0, 0);
+    make_ring(&other, 8, 0, 0);
+    for (unsigned length = 0; length <= 8; length += 4) {
+        put_transfer(&ring, IORING_OP_WRITE, 0, 0, counter, &one, length, 0);
+        check(result_of_one(&ring, 1) == (length == 4 ? -EINVAL : (int)length));
+        put_transfer(&ring, IORING_OP_WRITE, 0, 0, timer, &one, length, 0);
+        check(result_of_one(&ring, 1) == -EINVAL);
+        if (!getenv("WULGACH_TEST_POLLED"))     /* (another is a file in memory, which can be written) */
+            continue;
+        put_transfer(&ring, IORING_OP_WRITE, 0, 0, other.fd, &one, length, 0);
+        check(result_of_one(&ring, 1) == -EINVAL);
+    }
+    put_transfer(&ring, IORING_OP_READ, 0, 0, counter, &one, 0, 0);
+    check(result_of_one(&ring, 1) == -EINVAL);
+    close(counter);
+    close(timer);
+    close_ring(&other);
+    close_ring(&ring);
+}
+
+/* A poll that goes on, of the eventfd that is registered with its own ring, ends with the first event of which the ring has told it: a completion of the
+ * ring's, or of the poll's own event. */
+static void test_own_eventfd(void)
+{
+    struct ring ring;
+    int counter = eventfd(0, EFD_NONBLOCK);
+    uint64_t one = 1;
+    check(counter >= 0);
+    make_ring(&ring, 8, 0, 0);
+    check(register_at(ring.fd, IORING_REGISTER_EVENTFD, &counter, 1) == 0);
+    for (int is_written = 0; is_written < 2; is_written++) {
+        struct io_uring_sqe *entry = put_plain(&ring, IORING_OP_POLL_ADD, 1, counter);
+        entry->poll32_events = POLLIN;
+        entry->len = IORING_POLL_ADD_MULTI;
+        check(enter(&ring, 1, 0, 0) == 1 && enter_for(&ring, 1, 1000) == -ETIME);
+        if (is_written)
+            check(write(counter, &one, sizeof one) == sizeof one);
+        else
+            submit_nop(&ring, 0);
+        struct seen first = next_of(&ring), last = next_of(&ring);
+        check(is_written ? first.user_data == 1 && first.res == POLLIN && first.flags == IORING_CQE_F_MORE : first.user_data == 0 && first.res == 0);
+        check(last.user_data == 1 && last.res == POLLIN && last.flags == 0);
+        check(read(counter, &one, sizeof one) == sizeof one);
+        one = 1;
+        check(enter_for(&ring, 1, 1000) == -ETIME);
+    }
+    close(counter);
+    close_ring(&ring);
+}
+
 int main(int count, char **words)
 {
     static const struct named tests[] = {
@@ -154,6 +213,8 @@ int main(int count, char **words)
         {"closed twice", test_closed_twice},
         {"closed twice asleep", test_closed_twice_asleep},
         {"dropped writes", test_dropped_writes},
+        {"unwritable", test_unwritable},
+        {"own eventfd", test_own_eventfd},
     };
     alarm((unsigned)(PATIENCE * patience()));
     return run_tests(tests, sizeof tests / sizeof *tests, count > 1 ? words[1] : NULL);

@@ -284,6 +284,31 @@ static void test_file_limit(void)
     check(waitpid(child, &status, 0) == child && status == 0);
 }
 
+/* A poll of a ring by another that goes on ends with the first event for which it has waited, but not with what is there as it starts. */
+static void test_by_another(void)
+{
+    struct ring ring, other;
+    make_ring(&ring, 4, 0, 0);
+    make_ring(&other, 4, 0, 0);
+    for (int is_there = 0; is_there < 2; is_there++) {
+        struct io_uring_sqe *entry = put_plain(&ring, IORING_OP_POLL_ADD, 1, other.fd);
+        entry->poll32_events = POLLIN;
+        entry->len = IORING_POLL_ADD_MULTI;
+        check(enter(&ring, 1, 0, 0) == 1);
+        if (is_there) {
+            struct seen first = next_of(&ring);
+            check(first.res == POLLIN && first.flags == IORING_CQE_F_MORE);
+        }
+        check(enter_for(&ring, 1, 1000) == -ETIME);
+        put(&other, IORING_OP_NOP, 2, 0);
+        check(enter(&other, 1, (unsigned)is_there + 1, IORING_ENTER_GETEVENTS) == 1);
+        struct seen last = next_of(&ring);
+        check(last.user_data == 1 && last.res == POLLIN && last.flags == 0);
+    }
+    close_ring(&other);
+    close_ring(&ring);
+}
+
 int main(int count, char **words)
 {
     static const struct named tests[] = {
@@ -298,6 +323,7 @@ int main(int count, char **words)
         {"ended splice", test_ended_splice},
         {"threads", test_threads},
         {"file limit", test_file_limit},
+        {"by another", test_by_another},
     };
     alarm((unsigned)(PATIENCE * patience()));
     return run_tests(tests, sizeof tests / sizeof *tests, count > 1 ? words[1] : NULL);

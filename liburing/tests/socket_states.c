@@ -1,11 +1,15 @@
-/* Tests of what a socket's state makes of an operation, by direct calls: whether it listens, is shut down, or isn't to wait. All hold under every
- * policy, which the environment says.
+/* Tests of what a socket's state makes of an operation, by direct calls: whether it listens, is shut down, or isn't to wait, and how much room or how many
+ * bytes it has. All hold under every policy, which the environment says.
  *
  *   socket_states [NAME]     with a name: that test alone
  */
 #define _GNU_SOURCE
 #include "engines.h"
 
+#include <netinet/in.h>
+#include <poll.h>
+#include <pthread.h>
+#include <signal.h>
 #include <sys/socket.h>
 #include <sys/un.h>
 
@@ -99,12 +103,203 @@ static void test_full_backlog(void)
     close_ring(&ring);
 }
 
+/* By a descriptor that isn't to wait, a read and a receive of a message end so once the socket is shut down, where a receive of bytes ends with 0. */
+static void test_shut_unwilling(void)
+{
+    struct ring ring;
+    int ends[2];
+    char text[8];
+    int32_t results[4];
+    struct iovec vector = {text, 8};
+    struct msghdr message = {.msg_iov = &vector, .msg_iovlen = 1};
+    check(socketpair(AF_UNIX, SOCK_DGRAM | SOCK_NONBLOCK, 0, ends) == 0);
+    make_ring(&ring, 8, 0, 0);
+    put_transfer(&ring, IORING_OP_READ, 0, 0, ends[0], text, 8, 0);
+    put_transfer(&ring, IORING_OP_RECVMSG, 1, 0, ends[0], &message, 1, 0);
+    put_transfer(&ring, IORING_OP_RECV, 2, 0, ends[0], text, 8, 0);
+    check(enter(&ring, 3, 0, 0) == 3 && enter_for(&ring, 1, 1000) == -ETIME);
+    check(shutdown(ends[0], SHUT_RD) == 0);
+    reap_all(&ring, 3, results);
+    check(results[0] == -EAGAIN && results[1] == -EAGAIN && results[2] == 0);
+    put_transfer(&ring, IORING_OP_READV, 0, 0, ends[0], &vector, 1, 0);
+    check(result_of_one(&ring, 1) == -EAGAIN);
+    close(ends[0]);
+    close(ends[1]);
+    close_ring(&ring);
+}
+
+/* Fills a socket until poll(2) finds no room in it, where some is left. */
+static void fill(int fd)
+{
+    static char page[4096];
+    struct pollfd room = {.fd = fd, .events = POLLOUT};
+    while (poll(&room, 1, 0) > 0)
+        check(send(fd, page, sizeof page, MSG_DONTWAIT) == sizeof page);
+}
+
+/* What there is some room for is sent and written at once, though no poll finds enough; but not what asks to be polled for first. */
+static void test_some_room(void)
+{
+    static char page[4096];
+    struct ring ring;
+    int ends[2];
+    make_ring(&ring, 8, 0, 0);
+    for (int type = SOCK_STREAM; type <= SOCK_DGRAM; type++) {
+        check(socketpair(AF_UNIX, type, 0, ends) == 0);
+        fill(ends[0]);
+        put_transfer(&ring, IORING_OP_SEND, 0, 0, ends[0], page, sizeof page, 0);
+        check(result_of_one(&ring, 1) == sizeof page);
+        put_transfer(&ring, IORING_OP_WRITE, 0, 0, ends[0], page, sizeof page, 0);
+        check(result_of_one(&ring, 1) == sizeof page);
+        put_transfer(&ring, IORING_OP_SEND, 0, 0, ends[0], page, sizeof page, 0)->ioprio = IORING_RECVSEND_POLL_FIRST;
+        check(enter(&ring, 1, 0, 0) == 1 && enter_for(&ring, 1, 1000) == -ETIME);
+        while (recv(ends[1], page, sizeof page, MSG_DONTWAIT) > 0)
+            ;
+        check(wait_for_one(&ring) == sizeof page);
+        close(ends[0]);
+        close(ends[1]);
+    }
+    close_ring(&ring);
+}
+
+/* Two ends of a connection. */
+static void connect_both(int *ends)
+{
+    struct sockaddr_in address = {.sin_family = AF_INET, .sin_addr.s_addr = htonl(INADDR_LOOPBACK)};
+    socklen_t size = sizeof address;
+    int listener = socket(AF_INET, SOCK_STREAM, 0);
+    check(bind(listener, (void *)&address, size) == 0 && listen(listener, 1) == 0 && getsockname(listener, (void *)&address, &size) == 0);
+    ends[0] = socket(AF_INET, SOCK_STREAM, 0);
+    check(connect(ends[0], (void *)&address, size) == 0);
+    ends[1] = accept(listener, NULL, NULL);
+    check(ends[1] >= 0);
+    close(listener);
+}
+
+/* What a socket has is received and read as that starts, though it counts as ready with more; one that waits waits for so much. */
+static void test_low_mark(void)
+{
+    struct ring ring;
+    int ends[2], least = 8;
+    char text[16];
+    connect_both(ends);
+    check(setsockopt(ends[0], SOL_SOCKET, SO_RCVLOWAT, &least, sizeof least) == 0);
+    make_ring(&ring, 8, 0, 0);
+    for (int i = 0; i < 2; i++) {
+        check(send(ends[1], "four", 4, 0) == 4);
+        while (recv(ends[0], text, 16, MSG_PEEK | MSG_DONTWAIT) != 4)
+            ;
+        put_transfer(&ring, i == 0 ? IORING_OP_RECV : IORING_OP_READ, 0, 0, ends[0], text, 16, 0);
+        check(result_of_one(&ring, 1) == 4);
+    }
+    put_transfer(&ring, IORING_OP_RECV, 0, 0, ends[0], text, 16, 0);
+    check(enter(&ring, 1, 0, 0) == 1 && enter_for(&ring, 1, 1000) == -ETIME);
+    check(send(ends[1], "four", 4, 0) == 4 && enter_for(&ring, 1, 1000) == -ETIME);
+    check(send(ends[1], "more", 4, 0) == 4 && wait_for_one(&ring) == 8);
+    close(ends[0]);
+    close(ends[1]);
+    close_ring(&ring);
+}
+
+/* A write of no bytes sends an empty datagram, and waits for room; by a socket of streams it sends nothing, and finds who has gone. */
+static void test_empty_writes(void)
+{
+    struct ring ring;
+    int ends[2];
+    char text[8];
+    struct iovec none = {text, 0};
+    make_ring(&ring, 8, 0, 0);
+    check(socketpair(AF_UNIX, SOCK_DGRAM, 0, ends) == 0);
+    put_transfer(&ring, IORING_OP_WRITE, 0, 0, ends[0], text, 0, 0);
+    check(result_of_one(&ring, 1) == 0 && recv(ends[1], text, 8, MSG_DONTWAIT) == 0);
+    put_transfer(&ring, IORING_OP_WRITEV, 0, 0, ends[0], &none, 1, 0);
+    check(result_of_one(&ring, 1) == 0 && recv(ends[1], text, 8, MSG_DONTWAIT) == 0);
+    put_transfer(&ring, IORING_OP_READ, 0, 0, ends[0], text, 0, 0);
+    check(result_of_one(&ring, 1) == 0);
+    while (send(ends[0], "full", 4, MSG_DONTWAIT) == 4)
+        ;
+    put_transfer(&ring, IORING_OP_WRITE, 0, 0, ends[0], text, 0, 0);
+    check(enter(&ring, 1, 0, 0) == 1 && enter_for(&ring, 1, 1000) == -ETIME);
+    while (recv(ends[1], text, 8, MSG_DONTWAIT) == 4)
+        ;
+    check(wait_for_one(&ring) == 0);
+    close(ends[0]);
+    close(ends[1]);
+    check(socketpair(AF_UNIX, SOCK_STREAM, 0, ends) == 0);
+    put_transfer(&ring, IORING_OP_WRITE, 0, 0, ends[0], text, 0, 0);
+    check(result_of_one(&ring, 1) == 0 && recv(ends[1], text, 8, MSG_DONTWAIT) == -1);
+    close(ends[1]);
+    signal(SIGPIPE, SIG_IGN);
+    put_transfer(&ring, IORING_OP_WRITE, 0, 0, ends[0], text, 0, 0);
+    check(result_of_one(&ring, 1) == -EPIPE);
+    signal(SIGPIPE, SIG_DFL);
+    close(ends[0]);
+    close_ring(&ring);
+}
+
+/* A send and a write that wait for room in a local socket of streams end once that is shut down for writing, or its peer for reading. */
+static void test_shut_writing(void)
+{
+    struct ring ring;
+    int ends[2];
+    int32_t results[4];
+    make_ring(&ring, 8, 0, 0);
+    signal(SIGPIPE, SIG_IGN);
+    for (int is_peer = 0; is_peer < 2; is_peer++) {
+        check(socketpair(AF_UNIX, SOCK_STREAM, 0, ends) == 0);
+        while (send(ends[0], "full", 4, MSG_DONTWAIT) == 4)
+            ;
+        put_transfer(&ring, IORING_OP_SEND, 0, 0, ends[0], "four", 4, 0);
+        put_transfer(&ring, IORING_OP_WRITE, 1, 0, ends[0], "four", 4, 0);
+        check(enter(&ring, 2, 0, 0) == 2 && enter_for(&ring, 1, 1000) == -ETIME);
+        check(shutdown(ends[is_peer], is_peer ? SHUT_RD : SHUT_WR) == 0);
+        reap_all(&ring, 2, results);
+        check(results[0] == -EPIPE && results[1] == -EPIPE);
+        close(ends[0]);
+        close(ends[1]);
+    }
+    signal(SIGPIPE, SIG_DFL);
+    close_ring(&ring);
+}
+
+/* So do they where another thread shuts it down while the call sleeps. */
+static void *shut_later(void *fd)
+{
+    usleep(20000);
+    shutdown(*(int *)fd, SHUT_WR);
+    return NULL;
+}
+
+static void test_shut_asleep(void)
+{
+    struct ring ring;
+    pthread_t other;
+    int ends[2];
+    make_ring(&ring, 8, 0, 0);
+    check(socketpair(AF_UNIX, SOCK_STREAM, 0, ends) == 0);
+    while (send(ends[0], "full", 4, MSG_DONTWAIT) == 4)
+        ;
+    put_transfer(&ring, IORING_OP_SEND, 0, 0, ends[0], "four", 4, 0)->msg_flags = MSG_NOSIGNAL;
+    check(pthread_create(&other, NULL, shut_later, &ends[0]) == 0);
+    check(enter(&ring, 1, 1, IORING_ENTER_GETEVENTS) == 1 && reap(&ring).res == -EPIPE);
+    check(pthread_join(other, NULL) == 0);
+    close(ends[0]);
+    close(ends[1]);
+    close_ring(&ring);
+}
+
 int main(int count, char **words)
 {
     static const struct named tests[] = {
         {"of no use", test_of_no_use},
         {"shut datagrams", test_shut_datagrams},
         {"full backlog", test_full_backlog},
+        {"shut unwilling", test_shut_unwilling},
+        {"some room", test_some_room},
+        {"low mark", test_low_mark},
+        {"empty writes", test_empty_writes},
+        {"shut writing", test_shut_writing},
+        {"shut asleep", test_shut_asleep},
     };
     return run_tests(tests, sizeof tests / sizeof *tests, count > 1 ? words[1] : NULL);
 }

@@ -63,11 +63,32 @@ static void test_cancelled_among_many(void)
     close_ring(&ring);
 }
 
+/* An operation's code doesn't count without its flag; what stands behind it is reserved. */
+static void test_code(void)
+{
+    struct ring ring;
+    struct io_uring_sync_cancel_reg by_data = {.timeout = {-1, -1}, .pad = {IORING_OP_WRITE}};
+    int ends[2];
+    char byte;
+    check(pipe(ends) == 0);
+    make_ring(&ring, 4, 0, 0);
+    put_transfer(&ring, IORING_OP_READ, 0, 0, ends[0], &byte, 1, 0);
+    check(enter(&ring, 1, 0, 0) == 1 && enter_for(&ring, 1, 1000) == -ETIME);
+    check(register_at(ring.fd, IORING_REGISTER_SYNC_CANCEL, &by_data, 1) == 0 && reap(&ring).res == -ECANCELED);
+    check(register_at(ring.fd, IORING_REGISTER_SYNC_CANCEL, &by_data, 1) == -ENOENT);
+    by_data.pad[0] = 256;
+    check(register_at(ring.fd, IORING_REGISTER_SYNC_CANCEL, &by_data, 1) == -EINVAL);
+    close(ends[0]);
+    close(ends[1]);
+    close_ring(&ring);
+}
+
 int main(int count, char **words)
 {
     static const struct named tests[] = {
         {"come and gone", test_come_and_gone},
         {"cancelled among many", test_cancelled_among_many},
+        {"code", test_code},
     };
     return run_tests(tests, sizeof tests / sizeof *tests, count > 1 ? words[1] : NULL);
 }

@@ -215,10 +215,15 @@ pub extern "C" fn wulgach_asks_shut(entry: &Submission, came_to: i32) -> bool
 
 /// What a call counts as that came to this, where its socket was shut down for reading or wasn't.
 #[unsafe(no_mangle)]
-pub extern "C" fn wulgach_shut_result(came_to: i32, is_shut: bool) -> i32
-    ensures { result ≡ results.shut_result came_to is_shut }
+pub extern "C" fn wulgach_shut_result(
+    entry: &Submission,
+    came_to: i32,
+    is_shut: bool,
+    isnt_to_wait: bool,
+) -> i32
+    ensures { result ≡ results.shut_result entry.now came_to is_shut isnt_to_wait }
 {
-    shut_result(came_to, is_shut)
+    shut_result(entry, came_to, is_shut, isnt_to_wait)
 }
 
 /// What a file ends with that was put into this slot, where its entry asked for that one or for any.

@@ -4,13 +4,14 @@ ghost use Rattle.uring_enter.specs.Copies as copies;
 ghost use Rattle.uring_enter.specs.Forms.{copies_pieces, form_copied, form_of};
 ghost use Rattle.uring_enter.specs.Rules.{probed_flags as flags_of_probed};
 ghost use Rattle.uring_enter.specs.Showing.{Change, KeepsShown};
-ghost use Rattle.uring_enter.specs.Shots.{goes_on, has_room, shot_of, tells};
+ghost use Rattle.uring_enter.specs.Shots.{comes_of_ring, goes_on, has_room, shot_of, tells};
 ghost use Rattle.uring_c.specs.EntryForm.{word_of_form, fault_of_form};
 ghost use Rattle.uring_c.specs.RingForm.{form_of_word};
 
 use crate::entry_exports::form_by_word;
 use uring_enter::{
-    Entry, Form, Posted, Shown, Submission, copies_pieces, form_copied, form_of, link_of,
+    Entry, Form, Posted, Shown, Submission, comes_of_ring, copies_pieces, form_copied, form_of,
+    link_of,
     probed_flags,
 };
 
@@ -81,6 +82,14 @@ pub extern "C" fn wulgach_probed_flags(code: u8) -> u16
     probed_flags(code)
 }
 
+/// Whether what a poll finds comes of a ring.
+#[unsafe(no_mangle)]
+pub extern "C" fn wulgach_comes_of_ring(is_ring: bool, has_waited: bool, was_told: bool) -> bool
+    ensures { result ≡ comes_of_ring is_ring has_waited was_told }
+{
+    comes_of_ring(is_ring, has_waited, was_told)
+}
+
 /// Whether the request of an entry, which has started as one that goes on or hasn't, and has moved so many bytes, goes on behind this result, in a ring of so many entries; else it ends with it.
 #[unsafe(no_mangle)]
 pub extern "C" fn wulgach_goes_on(
@@ -88,13 +97,14 @@ pub extern "C" fn wulgach_goes_on(
     started: bool,
     entry: &Submission,
     done: u64,
+    is_of_ring: bool,
     res: i32,
     entries: u32,
 ) -> bool
     ensures { (log : List Change) → KeepsShown log shown.now
-        → result ≡ goes_on (shot_of started entry.now done) res (has_room log entries) }
+        → result ≡ goes_on (shot_of started entry.now done is_of_ring) res (has_room log entries) }
 {
-    shown.goes_on(started, entry, done, res, entries)
+    shown.goes_on(started, entry, done, is_of_ring, res, entries)
 }
 
 /// Whether an eventfd is told of a completion.

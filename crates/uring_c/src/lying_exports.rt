@@ -9,7 +9,8 @@ ghost use Rattle.uring_c.specs.PassageForm.{word_of_glance, word_of_answered, wo
 ghost use Rattle.uring_c.specs.RingForm.{known_if};
 
 use uring_enter::{
-    Answered, Glance, Gone, Lookout, Waiter, answer_of, dormant_events, glance_of, takes_descriptor,
+    Answered, Glance, Gone, Lookout, Submission, Waiter, answer_of, asks_broken, dormant_events,
+    glance_of, takes_descriptor,
 };
 
 /// Returns what a poll(2), of one descriptor or of many, says of a request.
@@ -27,6 +28,14 @@ pub extern "C" fn wulgach_glance_of(
         Glance::Ready => 1,
         Glance::AsksAlone => 2,
     }
+}
+
+/// Whether a request whose socket was found unready, of this family and type, is ready all the same if that was shut down for writing.
+#[unsafe(no_mangle)]
+pub extern "C" fn wulgach_asks_broken(entry: &Submission, family: u32, kind: u32) -> bool
+    ensures { result ≡ glances.asks_broken entry.now family kind }
+{
+    asks_broken(entry, family, kind)
 }
 
 /// The instance has told that its descriptor is ready, by which it is dormant no more.

@@ -70,10 +70,10 @@ pub extern "C" fn wulgach_asks_listening(needs: &Needs, is_ready: bool) -> bool
 
 /// Whether a request that wasn't found ready as it starts is carried out once all the same.
 #[unsafe(no_mangle)]
-pub extern "C" fn wulgach_is_tried_first(entry: &Submission, is_pipe: bool) -> bool
-    ensures { result ≡ ready.is_tried_first entry.now is_pipe }
+pub extern "C" fn wulgach_is_tried_first(entry: &Submission, least: u32) -> bool
+    ensures { result ≡ ready.is_tried_first entry.now least }
 {
-    is_tried_first(entry, is_pipe)
+    is_tried_first(entry, least)
 }
 
 /// Returns what is next of a transfer, behind what was done last, which came to `res`, and writes what it ends with, if it ends.

@@ -26,9 +26,10 @@ asks_shut e came_to =
     int_eq came_to (error 11) && not (goes_on e)
     && (is_receive e.opcode && not (is_asked e) || is_read e.opcode && not (has_some e.op_flags 8))
 
--- what a call came to counts as 0 that was asked not to wait, where the socket was shut down
-abbrev pub shut_result : ℤ → (is_shut : Bool) → ℤ
-shut_result came_to is_shut = if int_eq came_to (error 11) && is_shut then pos 0 else came_to
+-- what a call came to counts as 0 that was asked not to wait, where the socket was shut down; but where its descriptor isn't to wait (O_NONBLOCK), of a RECV (27) alone, which doesn't go by that. What Linux 6.18 was seen to do
+abbrev pub shut_result : Submission → ℤ → (is_shut isnt_to_wait : Bool) → ℤ
+shut_result e came_to is_shut isnt_to_wait =
+    if int_eq came_to (error 11) && is_shut && (not isnt_to_wait || e.opcode == 27) then pos 0 else came_to
 
 -- a file that is put into a slot ends with 0; with the slot, in 32 bits, if its entry asked for any, by 2^32 - 1 (IORING_FILE_INDEX_ALLOC). io_uring_enter(2), IORING_OP_OPENAT and IORING_OP_ACCEPT
 abbrev pub placed_result : (asked slot : ℕ) → ℤ

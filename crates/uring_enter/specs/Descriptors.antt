@@ -14,7 +14,7 @@ use Rattle.uring_enter.specs.declared.descriptor.Question.TheVariants.{Status, O
 use Rattle.uring_enter.specs.declared.descriptor.Finding.{Finding}
 use Rattle.uring_enter.specs.declared.descriptor.Finding.TheVariants.{Asks, Is}
 use Rattle.uring_enter.specs.Clocks.{has_some}
-use Rattle.uring_enter.specs.Needs.{is_read, is_transfer, is_of_sockets, is_splice, is_poll, needs_file}
+use Rattle.uring_enter.specs.Needs.{is_read, is_write, is_transfer, is_of_sockets, is_splice, is_poll, needs_file}
 use Rattle.uring_entry.specs.Errors.{error, is_below}
 
 -- whether a transfer may be made before its descriptor is asked whether it may have to wait: it moves something, at an offset, with no flags and no provided buffer; it wasn't tried before, and no choice rests on the answer. Our own rule
@@ -134,10 +134,13 @@ is_eventfd_name name = bytes_eq name (codes "anon_inode:[eventfd]")
 abbrev pub is_counter_name : List ℕ → Bool
 is_counter_name name = is_eventfd_name name || bytes_eq name (codes "anon_inode:[timerfd]")
 
--- whether it is asked for its name: only fewer than 8 bytes matter to it, and only what is no file of any type counts
+-- a transfer that moves fewer than 8 bytes; but a write of none is carried out, and writes none. What Linux 6.18 was seen to do
+abbrev pub is_too_short : Submission → ℕ → Bool
+is_too_short e length = nat_lt length 8 && not (length == 0 && is_write e.opcode) && not (has_some e.flags 32)
+
+-- whether it is asked for its name: only one that is too short matters to it, and only what is no file of any type counts
 abbrev pub asks_counter : Submission → ℕ → Nature → Bool
-asks_counter e length d =
-    is_transfer e.opcode && not d.has_type && nat_lt length 8 && not (has_some e.flags 32)
+asks_counter e length d = is_transfer e.opcode && not d.has_type && is_too_short e length
 
 -- what has no offsets, as a pipe, a socket or an eventfd: bytes are moved there at none. (of a device it isn't asked)
 abbrev pub passes_offset_over : Nature → Bool
@@ -149,9 +152,9 @@ offset_fault offset length is_socket =
     if nat_le (2 ^ 63) (offset + length) then error 22 else
     if is_socket && not (offset == 0) then error 29 else pos 0
 
--- with what a transfer fails as it starts, though its descriptor might have to be waited for: -22 (EINVAL) of fewer than 8 bytes of what counts (eventfd(2), timerfd_create(2)), and else by its offset, which is none where it is 2^64 - 1. 0: it doesn't
+-- with what a transfer fails as it starts, though its descriptor might have to be waited for: -22 (EINVAL) of one that is too short for what counts (eventfd(2), timerfd_create(2)), and else by its offset, which is none where it is 2^64 - 1. 0: it doesn't
 abbrev pub start_fault : Submission → ℕ → Nature → ℤ
 start_fault e length d =
     if not (is_transfer e.opcode) then pos 0 else
-    if d.is_counter && nat_lt length 8 && not (has_some e.flags 32) then error 22 else
+    if d.is_counter && is_too_short e length then error 22 else
     if passes_offset_over d && not (e.off == 2 ^ 64 - 1) then offset_fault e.off length d.is_socket else pos 0

@@ -1,7 +1,9 @@
 -- What a look at descriptors says of a request that waits. poll(2), but where our own rule is named.
-use Rattle.std.specs.Prelude.{ℕ, ℤ, Bool, ◌&&◌, if◌then◌else◌}
+use Rattle.std.specs.Prelude.{ℕ, ℤ, Bool, ◌&&◌, ◌||◌, ◌==◌, if◌then◌else◌}
 use Rattle.uring_enter.specs.declared.glance.Glance.{Glance}
 use Rattle.uring_enter.specs.declared.glance.Glance.TheVariants.{Unready, Ready, AsksAlone}
+use Rattle.uring_enter.specs.declared.submission.Submission.{Submission}
+use Rattle.uring_enter.specs.Needs.{is_write, is_send}
 use Rattle.uring_enter.specs.Readiness.{counts_as_ready}
 use Rattle.uring_entry.specs.Errors.{is_below}
 
@@ -11,3 +13,7 @@ glance_of is_impatient is_of_many came events =
     if is_impatient then Ready else
     if is_of_many && is_below came then AsksAlone else
     if counts_as_ready came events then Ready else Unready
+
+-- a socket of AF_UNIX (1) and SOCK_STREAM (1) that was shut down for writing alone, or whose peer was for reading, shows nothing in poll(2), and what writes to it ends with -32 (EPIPE): so a write or a send that waits for room is ready there. That is asked by a send of no bytes, which such a socket makes nothing of else. unix(7), shutdown(2); what Linux 6.18 was seen to do
+abbrev pub asks_broken : Submission → (family kind : ℕ) → Bool
+asks_broken e family kind = family == 1 && kind == 1 && (is_write e.opcode || is_send e.opcode)

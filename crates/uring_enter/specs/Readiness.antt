@@ -1,5 +1,5 @@
 -- When a request that runs can be finished without waiting. io_uring_enter(2), at each operation; but where our own rule is named.
-use Rattle.std.specs.Prelude.{◌≡◌, ℕ, ℤ, pos, Bool, true, false, not, ◌&&◌, ◌||◌, ◌==◌, if◌then◌else◌}
+use Rattle.std.specs.Prelude.{◌≡◌, ℕ, ℤ, pos, Bool, true, false, not, ◌&&◌, ◌||◌, ◌==◌, nat_lt, if◌then◌else◌}
 use Rattle.std.specs.Ordering.{int_eq}
 use Rattle.uring_enter.specs.declared.submission.Submission.{Submission}
 use Rattle.uring_enter.specs.declared.needs.Needs.{Needs}
@@ -13,7 +13,7 @@ use Rattle.uring_enter.specs.declared.ready.Look.{Look}
 use Rattle.uring_enter.specs.declared.ready.Look.TheVariants.{Asks, Waits, Finishes}
 use Rattle.uring_entry.specs.Errors.{is_below}
 use Rattle.uring_enter.specs.Clocks.{has_some}
-use Rattle.uring_enter.specs.Needs.{is_transfer, is_write, is_of_sockets, is_splice, takes_urgent}
+use Rattle.uring_enter.specs.Needs.{is_transfer, is_read, is_write, is_send, is_receive, is_of_sockets, is_splice, takes_urgent}
 
 -- one that is to take a provided buffer, and has found none since it started, ends so, whatever its descriptor has. One that has found one waits for its descriptor, whatever becomes of that buffer: it takes what its group has then. So Linux 6.18 was seen to do
 abbrev pub finds_what_it_wants : Standing → Needs → Moment → Bool
@@ -137,9 +137,13 @@ LooksOnce = (s : Standing) (n : Needs) (has_to_wait is_cancelled : Bool) (known 
 abbrev pub has_message_flags : ℕ → Bool
 has_message_flags code = is_of_sockets code && not (code == 13) && not (code == 16)
 
--- a transfer is asked not to wait by RWF_NOWAIT (8), or for nothing, unless it takes a provided buffer
-abbrev pub is_impatient_transfer : Submission → ℕ → Bool
-is_impatient_transfer e length = has_some e.op_flags 8 || length == 0 && not (has_some e.flags 32)
+-- a transfer of no bytes moves nothing, unless it takes a provided buffer, or writes to a socket: that sends a datagram which has none, for which there may be no room. sendmsg(2); what Linux 6.18 was seen to do
+abbrev pub is_for_nothing : Submission → Patience → Bool
+is_for_nothing e p = p.length == 0 && not (has_some e.flags 32) && not (is_write e.opcode && p.is_socket)
+
+-- a transfer is asked not to wait by RWF_NOWAIT (8), or for nothing
+abbrev pub is_impatient_transfer : Submission → Patience → Bool
+is_impatient_transfer e p = has_some e.op_flags 8 || is_for_nothing e p
 
 -- a connect, a splice and a receive of urgent data are begun before they wait, so that their faults are found at once: no readiness tells of these
 abbrev pub is_begun_at_once : Submission → Bool
@@ -157,15 +161,21 @@ is_impatient e p =
     p.has_failed || is_in_vain e p || e.opcode == 18 || e.opcode == 28
     || is_begun_at_once e && not p.has_begun
     || has_message_flags e.opcode && has_some e.op_flags 64
-    || is_transfer e.opcode && is_impatient_transfer e p.length
+    || is_transfer e.opcode && is_impatient_transfer e p
+
+-- an operation of messages asks that its descriptor is polled before it is carried out: IORING_RECVSEND_POLL_FIRST (1). io_uring_prep_send(3)
+abbrev pub polls_first : Submission → Bool
+polls_first e = has_message_flags e.opcode && has_some e.ioprio 1
 
 -- whether it is asked, as a request starts, if its socket listens: it would have to wait, and it is no poll, which may wait for who connects, and no splice, which waits for either end of its two. Our own rule
 abbrev pub asks_listening : Needs → (is_ready : Bool) → Bool
 asks_listening n is_ready = not is_ready && not n.is_poll && not n.needs_second
 
--- whether one that wasn't found ready as it starts is carried out once all the same, and waits only then: a write to a pipe, which may have room in its last page where poll(2) finds none. pipe(7); Linux 6.18 carries each out before it polls
-abbrev pub is_tried_first : Submission → (is_pipe : Bool) → Bool
-is_tried_first e is_pipe = is_pipe && is_write e.opcode
+-- whether one that wasn't found ready as it starts is carried out once all the same, and waits only then, where `least` is how many bytes a socket is to have to count as ready, SO_RCVLOWAT: 0 of what is none. Linux 6.18 carries each out before it polls, but where that is asked. It comes to something, or to an error, where poll(2) finds too little: a write or a send has some room though that isn't much, as in a pipe's last page or a local socket's buffer, or can't be written to at all; a read or a receive takes what a socket has, which is fewer. pipe(7), socket(7)
+abbrev pub is_tried_first : Submission → (least : ℕ) → Bool
+is_tried_first e least =
+    not (polls_first e)
+    && (is_write e.opcode || is_send e.opcode || nat_lt 1 least && (is_read e.opcode || is_receive e.opcode))
 
 -- a splice or a tee waits for what it reads from, by POLLIN (1), and once that is ready for what it writes to, by POLLOUT (4). poll(2); which comes first is our own rule
 abbrev pub splice_poll : (is_source_ready : Bool) → SplicePoll

@@ -9,14 +9,19 @@ use Rattle.std.specs.Int.RustNames.{bit_or}
 use Rattle.uring_enter.specs.declared.posted.Posted.{Posted}
 use Rattle.uring_enter.specs.Showing.{Change, posted, reaped}
 
--- what the request of an entry is that has moved so many bytes. It goes on if its entry says so, and it has started as one that does: a poll of what can't be polled ends with its first event. The results of an ACCEPT (13) are descriptors; those of a RECVMSG (10) that goes on count what stands in front of the bytes, and not these alone. IORING_ACCEPT_MULTISHOT and IORING_RECV_MULTISHOT
-abbrev pub shot_of : (started : Bool) → Submission → ℕ → Shot
-shot_of started e done = record {
+-- what the request of an entry is that has moved so many bytes, or whose event comes of a ring. It goes on if its entry says so, and it has started as one that does: a poll of what can't be polled ends with its first event. The results of an ACCEPT (13) are descriptors; those of a RECVMSG (10) that goes on count what stands in front of the bytes, and not these alone. IORING_ACCEPT_MULTISHOT and IORING_RECV_MULTISHOT
+abbrev pub shot_of : (started : Bool) → Submission → (done : ℕ) → (is_of_ring : Bool) → Shot
+shot_of started e done is_of_ring = record {
   is_multishot = started && needs.goes_on e;
   is_accept = e.opcode == 13;
   is_of_messages = e.opcode == 10;
   has_bytes = nat_lt 0 done;
+  is_of_ring = is_of_ring;
 }
+
+-- an event comes of a ring where the poll has waited for a ring's descriptor, or where its own ring has told the eventfd that it polls since the poll began, or since its last event. What Linux 6.18 was seen to do
+abbrev pub comes_of_ring : (is_ring has_waited was_told : Bool) → Bool
+comes_of_ring is_ring has_waited was_told = is_ring && has_waited || was_told
 
 -- a result says that something has come: no error, and not the end of what was to come, which a descriptor never is
 abbrev pub brings : Shot → ℤ → Bool
@@ -27,9 +32,9 @@ brings s (negsuc _) = false
 abbrev pub has_room : List Change → ℕ → Bool
 has_room log entries = nat_lt (posted log - reaped log) entries
 
--- it goes on while something comes. One whose completion finds the ring full ends with it; what the kernel does
+-- it goes on while something comes. One whose completion finds the ring full ends with it, and so does a poll with an event that comes of a ring: its completion could bring the next. What the kernel does
 abbrev pub goes_on : Shot → ℤ → Bool → Bool
-goes_on s res room = s.is_multishot && brings s res && room
+goes_on s res room = s.is_multishot && not s.is_of_ring && brings s res && room
 
 -- the flags of a completion: IORING_CQE_F_MORE is 2, where another of the same request follows; IORING_CQE_F_NOTIF is 8. A buffer is told of where the operation has taken one, also by one that a cancel has ended
 abbrev pub completion_flags : Part → ℕ → ℕ

@@ -18,6 +18,9 @@ socket = 41
 abbrev pub connect : ℕ
 connect = 42
 
+abbrev pub sendto : ℕ
+sendto = 44
+
 abbrev pub sendmsg : ℕ
 sendmsg = 46
 

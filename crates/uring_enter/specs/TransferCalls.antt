@@ -7,7 +7,7 @@ use Rattle.uring_enter.specs.declared.transfer.Transfer.{Transfer}
 use Rattle.uring_enter.specs.declared.transfer.Task.{Task}
 use Rattle.uring_enter.specs.declared.transfer.Task.TheVariants.{Calls}
 use Rattle.uring_enter.specs.declared.transfer_calls.Vectors.{Vectors}
-use Rattle.uring_enter.specs.Needs.{is_read}
+use Rattle.uring_enter.specs.Needs.{is_read, is_write}
 use Rattle.uring_enter.specs.SystemCalls as sys
 use Rattle.uring_enter.specs.SystemCalls.{of_four, of_six, word_of}
 use Rattle.uring_enter.specs.Tries.{offset_of, asks_not_to_wait}
@@ -35,7 +35,13 @@ read_of v offset flags =
     if flags == 0 && is_one v offset then of_four sys.pread64 (word_of v.fd) v.buffer v.length offset else
     by_vectors sys.preadv2 v offset flags
 
+-- a write of no bytes to a socket: the kernel's own call of vectors makes none of that, where the ring's sends a datagram which has none
+abbrev pub sends_nothing : Submission → Transfer → Bool
+sends_nothing e t = is_write e.opcode && t.is_socket && t.length == 0
+
+-- so that is sent, however the call is to be made, with MSG_DONTWAIT (64). sendto(2)
 abbrev pub call_of : Submission → Vectors → Transfer → Option Task → SystemCall
 call_of e v t task =
+    if sends_nothing e t then of_four sys.sendto (word_of v.fd) 0 0 64 else
     if is_read e.opcode then read_of v (offset_of t e.off) (flags_of e task) else
     by_vectors sys.pwritev2 v (offset_of t e.off) (flags_of e task)

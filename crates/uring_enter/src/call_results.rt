@@ -41,15 +41,12 @@ pub fn asks_shut(entry: &Submission, came_to: i32) -> bool
     }
 }
 
-/// What a call counts as that came to this, where its socket was shut down for reading or wasn't.
-pub fn shut_result(came_to: i32, is_shut: bool) -> i32
-    ensures { result ≡ spec.shut_result came_to is_shut }
+/// What a call of this entry counts as that came to this, where its socket was shut down for reading or wasn't, and its descriptor isn't to wait or is.
+pub fn shut_result(entry: &Submission, came_to: i32, is_shut: bool, isnt_to_wait: bool) -> i32
+    ensures { result ≡ spec.shut_result entry.now came_to is_shut isnt_to_wait }
 {
-    if came_to == -11 && is_shut {
-        0
-    } else {
-        came_to
-    }
+    let is_end = is_shut && (!isnt_to_wait || entry.opcode == 27);
+    if came_to == -11 && is_end { 0 } else { came_to }
 }
 
 /// What a file ends with that was put into this slot, where its entry asked for that one or for any.

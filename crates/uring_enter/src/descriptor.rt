@@ -4,7 +4,7 @@ ghost use Rattle.std.specs.Prelude.{◌≡◌};
 ghost use Rattle.uring_enter.specs.Descriptors as spec;
 ghost use Rattle.uring_enter.specs.Descriptors.{AsksOnce, FindsTheKind};
 
-use crate::needs::{is_of_sockets, is_read, is_splice, is_transfer, needs_file};
+use crate::needs::{is_of_sockets, is_read, is_splice, is_transfer, is_write, needs_file};
 use crate::submission::Submission;
 
 /// What a descriptor is.
@@ -263,8 +263,15 @@ pub fn is_counter_name(name: &[u8]) -> bool
 pub fn asks_counter(entry: &Submission, length: u64, nature: &Nature) -> bool
     ensures { result ≡ spec.asks_counter entry.now length nature.now }
 {
-    let is_asked = is_transfer(entry.opcode) && !nature.has_type;
-    is_asked && entry.flags & 32 == 0 && length < 8
+    is_transfer(entry.opcode) && !nature.has_type && is_too_short(entry, length)
+}
+
+/// Whether the transfer of an entry, of so many bytes, is too short for what counts: a write of none is none.
+fn is_too_short(entry: &Submission, length: u64) -> bool
+    ensures { result ≡ spec.is_too_short entry.now length }
+{
+    let is_none = length == 0 && is_write(entry.opcode);
+    length < 8 && !is_none && entry.flags & 32 == 0
 }
 
 /// With what the request of an entry ends that finds no buffer, provided or registered, where its descriptor is this: what isn't open, or is no socket, counts first.
@@ -282,10 +289,9 @@ pub fn no_buffer_fault(entry: &Submission, nature: &Nature) -> i32
 pub fn start_fault(entry: &Submission, length: u64, nature: &Nature) -> i32
     ensures { result ≡ spec.start_fault entry.now length nature.now }
 {
-    let is_short = length < 8 && entry.flags & 32 == 0;
     if !is_transfer(entry.opcode) {
         0
-    } else if nature.is_counter && is_short {
+    } else if nature.is_counter && is_too_short(entry, length) {
         -22
     } else if passes_offset_over(nature) && entry.off != u64::MAX {
         offset_fault(entry.off, length, nature.is_socket)

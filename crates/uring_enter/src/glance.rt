@@ -3,7 +3,9 @@
 ghost use Rattle.std.specs.Prelude.{◌≡◌};
 ghost use Rattle.uring_enter.specs.Glances as spec;
 
+use crate::needs::{is_send, is_write};
 use crate::ready::counts_as_ready;
+use crate::submission::Submission;
 
 /// What a look says of a request.
 #[derive(Clone, Copy, Drop)]
@@ -29,4 +31,11 @@ pub fn glance_of(is_impatient: bool, is_of_many: bool, came: i32, events: u16) -
     } else {
         Glance::Unready
     }
+}
+
+/// Whether a request whose socket was found unready, of this family and type, is ready all the same if that was shut down for writing, which is asked by a send of no bytes: where no poll(2) tells of it, it writes or sends by a local socket of streams. Who sleeps naps for it. unix(7), shutdown(2)
+pub fn asks_broken(entry: &Submission, family: u32, kind: u32) -> bool
+    ensures { result ≡ spec.asks_broken entry.now family kind }
+{
+    family == 1 && kind == 1 && (is_write(entry.opcode) || is_send(entry.opcode))
 }

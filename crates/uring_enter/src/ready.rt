@@ -7,7 +7,10 @@ ghost use Rattle.uring_enter.specs.Readiness as spec;
 ghost use Rattle.uring_enter.specs.Readiness.{FinishesWhatCan, LooksOnce, NeedsNoLook, PollsWhatMatters};
 
 use crate::course::Course;
-use crate::needs::{Needs, is_of_sockets, is_splice, is_transfer, is_write, takes_urgent};
+use crate::needs::{
+    Needs, is_of_sockets, is_read, is_receive, is_send, is_splice, is_transfer, is_write,
+    takes_urgent,
+};
 use crate::submission::Submission;
 
 /// What a request that runs is.
@@ -93,6 +96,9 @@ pub struct Patience {
 
     /// and does.
     pub is_listening: bool,
+
+    /// Its descriptor is a socket's.
+    pub is_socket: bool,
 }
 
 /// What is to be asked next of a request that runs, and has to wait or hasn't, or whether it can be finished.
@@ -235,10 +241,18 @@ pub fn is_impatient(entry: &Submission, patience: &Patience) -> bool
     } else if is_begun_at_once(entry) && !patience.has_begun {
         true
     } else if is_transfer(entry.opcode) {
-        entry.op_flags & 8 != 0 || patience.length == 0 && entry.flags & 32 == 0
+        entry.op_flags & 8 != 0 || is_for_nothing(entry, patience)
     } else {
         has_message_flags(entry.opcode) && entry.op_flags & 64 != 0
     }
+}
+
+/// Whether a transfer moves nothing: one that writes no bytes to a socket may send an empty datagram.
+fn is_for_nothing(entry: &Submission, patience: &Patience) -> bool
+    ensures { result ≡ spec.is_for_nothing entry.now patience.now }
+{
+    let is_sent = is_write(entry.opcode) && patience.is_socket;
+    patience.length == 0 && entry.flags & 32 == 0 && !is_sent
 }
 
 /// Whether its socket listens, and nothing is sent by it or received; or doesn't, and it is to accept.
@@ -261,11 +275,17 @@ pub fn asks_listening(needs: &Needs, is_ready: bool) -> bool
     !is_ready && !needs.is_poll && !needs.needs_second
 }
 
-/// Whether a request that wasn't found ready as it starts is carried out once all the same, where its descriptor is a pipe or isn't.
-pub fn is_tried_first(entry: &Submission, is_pipe: bool) -> bool
-    ensures { result ≡ spec.is_tried_first entry.now is_pipe }
+/// Whether a request that wasn't found ready as it starts is carried out once all the same: one that writes or sends; and one that reads or receives, whose socket counts as ready with so many bytes, 0 of what is none. io_uring_enter(2), IORING_RECVSEND_POLL_FIRST; socket(7), SO_RCVLOWAT
+pub fn is_tried_first(entry: &Submission, least: u32) -> bool
+    ensures { result ≡ spec.is_tried_first entry.now least }
 {
-    is_pipe && is_write(entry.opcode)
+    if has_message_flags(entry.opcode) && entry.ioprio & 1 != 0 {
+        false
+    } else if is_write(entry.opcode) || is_send(entry.opcode) {
+        true
+    } else {
+        least > 1 && (is_read(entry.opcode) || is_receive(entry.opcode))
+    }
 }
 
 /// A connect, a splice, and a receive of urgent data.

@@ -2,7 +2,7 @@
 
 ghost use Rattle.std.specs.Prelude.{◌≡◌, List};
 ghost use Rattle.uring_enter.specs.Showing.{Change, KeepsShown};
-ghost use Rattle.uring_enter.specs.Shots.{NotifiesAtLast, brings, completion_flags, end_of_send, goes_on, has_room, is_behind, shot_of, tells};
+ghost use Rattle.uring_enter.specs.Shots.{NotifiesAtLast, brings, comes_of_ring, completion_flags, end_of_send, goes_on, has_room, is_behind, shot_of, tells};
 
 use crate::needs::goes_on;
 use crate::posted::Posted;
@@ -23,22 +23,26 @@ pub struct Shot {
 
     /// Of one that receives messages: there were bytes.
     pub has_bytes: bool,
+
+    /// A poll's event comes of a ring: of an eventfd that it has told, or of what it has shown.
+    pub is_of_ring: bool,
 }
 
 impl Shown {
-    /// Whether the request of an entry, which has started as one that goes on or hasn't, and has moved so many bytes, goes on behind this result, which then has a completion of its own; else the request ends with it. The ring has so many entries.
+    /// Whether the request of an entry, which has started as one that goes on or hasn't, and has moved so many bytes, goes on behind this result, which then has a completion of its own; else the request ends with it. The event of a poll comes of a ring, or doesn't; the ring has so many entries.
     pub fn goes_on(
         &self,
         started: bool,
         entry: &Submission,
         done: u64,
+        is_of_ring: bool,
         res: i32,
         entries: u32,
     ) -> bool
         ensures { (log : List Change) → KeepsShown log self.now
-            → result ≡ goes_on (shot_of started entry.now done) res (has_room log entries) }
+            → result ≡ goes_on (shot_of started entry.now done is_of_ring) res (has_room log entries) }
     {
-        self.goes_on_as(shot_of(started, entry, done), res, entries)
+        self.goes_on_as(shot_of(started, entry, done, is_of_ring), res, entries)
     }
 
     /// The same of a request that is this.
@@ -46,20 +50,29 @@ impl Shown {
         ensures { (log : List Change) → KeepsShown log self.now
             → result ≡ goes_on shot res (has_room log entries) }
     {
-        shot.is_multishot && brings(shot, res) && self.posted < entries as u64
+        let may_go_on = shot.is_multishot && !shot.is_of_ring;
+        may_go_on && brings(shot, res) && self.posted < entries as u64
     }
 }
 
-/// What the request of an entry is that has started so, and has moved so many bytes.
-fn shot_of(started: bool, entry: &Submission, done: u64) -> Shot
-    ensures { result ≡ shot_of started entry.now done }
+/// What the request of an entry is that has started so, and has moved so many bytes, or whose event comes of a ring.
+fn shot_of(started: bool, entry: &Submission, done: u64, is_of_ring: bool) -> Shot
+    ensures { result ≡ shot_of started entry.now done is_of_ring }
 {
     Shot {
         is_multishot: started && goes_on(entry),
         is_accept: entry.opcode == 13,
         is_of_messages: entry.opcode == 10,
         has_bytes: done > 0,
+        is_of_ring,
     }
+}
+
+/// Whether what a poll finds comes of a ring: it has waited for a ring's descriptor; or it polls the eventfd of its own ring, which was told since the poll began, or since its last event.
+pub fn comes_of_ring(is_ring: bool, has_waited: bool, was_told: bool) -> bool
+    ensures { result ≡ comes_of_ring is_ring has_waited was_told }
+{
+    is_ring && has_waited || was_told
 }
 
 /// Whether a result says that something has come.

@@ -13,6 +13,8 @@ pub(crate) const SOCKET: u64 = 41;
 
 pub(crate) const CONNECT: u64 = 42;
 
+pub(crate) const SENDTO: u64 = 44;
+
 pub(crate) const SENDMSG: u64 = 46;
 
 pub(crate) const RECVMSG: u64 = 47;

@@ -26,8 +26,14 @@ pub struct Transfer {
     /// It is asked not to wait, or for nothing.
     pub is_impatient: bool,
 
-    /// Of one that may have to wait: its descriptor has offsets.
+    /// Of one that may have to wait: its descriptor has offsets,
     pub has_offsets: bool,
+
+    /// or is a socket's,
+    pub is_socket: bool,
+
+    /// which was found to be shut down for reading.
+    pub is_shut: bool,
 }
 
 /// How a call is made.
@@ -116,8 +122,8 @@ fn behind(transfer: &Transfer, task: Task, res: i32) -> Step
         Task::Calls(How::AtOnce) => unless(is_all(res, transfer.length), res),
         Task::Calls(How::Tried) => unless(res != -29, res),
         Task::Calls(How::Plain) => Step::Ends(res),
-        Task::Calls(How::Nonblocking) => behind_asking(res),
-        Task::Calls(How::Unwilling) => unless_waiting(res),
+        Task::Calls(How::Nonblocking) => behind_asking(transfer, res),
+        Task::Calls(How::Unwilling) => unless_waiting(transfer, res),
         Task::Finds => {
             if transfer.is_stream && res > 0 {
                 Step::Ends(res)
@@ -153,21 +159,21 @@ fn is_all(res: i32, length: u64) -> bool
 }
 
 /// Behind a call that is asked not to wait, on what may have to.
-fn behind_asking(res: i32) -> Step
-    ensures { result ≡ spec.behind_asking res }
+fn behind_asking(transfer: &Transfer, res: i32) -> Step
+    ensures { result ≡ spec.behind_asking transfer.now res }
 {
     if res == -95 {
         Step::Does(Task::Polls)
     } else {
-        unless_waiting(res)
+        unless_waiting(transfer, res)
     }
 }
 
-/// It waits if its call would have, else it ends.
-fn unless_waiting(res: i32) -> Step
-    ensures { result ≡ spec.unless_waiting res }
+/// It waits if its call would have, and more may come, else it ends.
+fn unless_waiting(transfer: &Transfer, res: i32) -> Step
+    ensures { result ≡ spec.unless_waiting transfer.now res }
 {
-    if res == -11 {
+    if res == -11 && !transfer.is_shut {
         Step::Waits
     } else {
         Step::Ends(res)

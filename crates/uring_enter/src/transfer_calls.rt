@@ -3,9 +3,9 @@
 ghost use Rattle.std.specs.Prelude.{◌≡◌};
 ghost use Rattle.uring_enter.specs.TransferCalls as spec;
 
-use crate::needs::is_read;
+use crate::needs::{is_read, is_write};
 use crate::submission::Submission;
-use crate::system_call::{PREAD64, PREADV2, PWRITEV2, SystemCall, word_of};
+use crate::system_call::{PREAD64, PREADV2, PWRITEV2, SENDTO, SystemCall, word_of};
 use crate::transfer::{How, Task, Transfer, offset_of};
 
 /// The vectors of a transfer, and the descriptor that they are moved from or to.
@@ -38,7 +38,9 @@ pub fn transfer_call(
 {
     let offset = offset_of(transfer, entry.off);
     let flags = entry.op_flags | if is_asked(task) { 8 } else { 0 };
-    if !is_read(entry.opcode) {
+    if sends_nothing(entry, transfer) {
+        SystemCall::of_four(SENDTO, word_of(vectors.fd), 0, 0, 64)
+    } else if !is_read(entry.opcode) {
         by_vectors(PWRITEV2, vectors, offset, flags)
     } else if flags == 0 && is_one(vectors, offset) {
         let fd = word_of(vectors.fd);
@@ -46,6 +48,13 @@ pub fn transfer_call(
     } else {
         by_vectors(PREADV2, vectors, offset, flags)
     }
+}
+
+/// Whether it writes no bytes to a socket.
+fn sends_nothing(entry: &Submission, transfer: &Transfer) -> bool
+    ensures { result ≡ spec.sends_nothing entry.now transfer.now }
+{
+    is_write(entry.opcode) && transfer.is_socket && transfer.length == 0
 }
 
 fn is_asked(task: Option<Task>) -> bool

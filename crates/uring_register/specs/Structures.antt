@@ -1,5 +1,5 @@
 -- Which fields are reserved of the structures that calls of io_uring_register(2) and io_uring_setup(2) read, and which are judged: all that is told of their fields here are those of <linux/io_uring.h>. io_uring_register(2), DESCRIPTION.
-use Rattle.std.specs.Prelude.{ℕ, Bool, false, not, ◌||◌, ◌==◌, List}
+use Rattle.std.specs.Prelude.{ℕ, Bool, false, not, ◌||◌, ◌==◌, nat_lt, List}
 use Rattle.std.specs.List.{list_any}
 use Rattle.uring_register.specs.declared.call.Content.{Content}
 use Rattle.uring_register.specs.declared.structures.TableForm.{TableForm}
@@ -25,12 +25,12 @@ content_of_update f = record { nr = f.nr; flags = 0; has_reserved = is_set f.res
 abbrev pub content_of_files : FilesForm → ℕ → Content
 content_of_files f count = record { nr = count; flags = 0; has_reserved = is_set f.resv; has_data = false }
 
--- the four words of `pad` of a cancel
+-- the four words of `pad` of a cancel, but the lowest byte of the first: `opcode`, the operation of the requests that are looked for, which counts with a flag alone that isn't served here. What Linux 6.18 was seen to do
 abbrev pub content_of_cancel : CancelForm → Content
 content_of_cancel f = record {
   nr = 0;
   flags = f.flags;
-  has_reserved = is_set f.pad || is_set f.second_pad || is_set f.third_pad || is_set f.fourth_pad;
+  has_reserved = nat_lt 255 f.pad || is_set f.second_pad || is_set f.third_pad || is_set f.fourth_pad;
   has_data = false;
 }
 

@@ -47,7 +47,10 @@ pub struct CancelForm {
     pub flags: u32,
     pub seconds: i64,
     pub nanoseconds: i64,
+
+    /// Its lowest byte is the code of an operation.
     pub pad: u64,
+
     pub second_pad: u64,
     pub third_pad: u64,
     pub fourth_pad: u64,
@@ -131,7 +134,7 @@ pub fn content_of_files(form: &FilesForm, count: u32) -> Content
 pub fn content_of_cancel(form: &CancelForm) -> Content
     ensures { result ≡ spec.content_of_cancel form.now }
 {
-    let is_padded = form.pad != 0 || form.second_pad != 0;
+    let is_padded = form.pad > 255 || form.second_pad != 0;
     Content {
         nr: 0,
         flags: form.flags,
