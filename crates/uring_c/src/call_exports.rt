@@ -10,8 +10,8 @@ ghost use Rattle.uring_crossing.specs.WaitForm.{task_of};
 use uring_crossing::wait_words::task;
 use uring_enter::{
     Fault, Held, Listed, Means, Submission, SystemCall, Transfer, Vectors, asks_anew, asks_end,
-    asks_shut, can_have, control_of, done_result, has_begun, is_stream_type, means_of, moved_so_far,
-    placed_result, shut_result, tells_message, told_result, transfer_call,
+    asks_shut, can_have, control_of, done_result, has_begun, is_stream_type, means_of,
+    moved_so_far, placed_result, shut_result, tells_message, told_result, transfer_call,
 };
 
 /// By what an operation is carried out: `struct wulgach_means` of the header.

@@ -11,8 +11,7 @@ ghost use Rattle.uring_c.specs.RingForm.{form_of_word};
 use crate::entry_exports::form_by_word;
 use uring_enter::{
     Entry, Form, Posted, Shown, Submission, comes_of_ring, copies_pieces, form_copied, form_of,
-    link_of,
-    probed_flags,
+    link_of, probed_flags,
 };
 
 /// Returns what an entry is to the core, and writes its fault, or 0. `refusal` is the error with which a strict ring refuses it, or 0.

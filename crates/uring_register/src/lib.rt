@@ -26,43 +26,104 @@ mod table_laws;
 mod use_laws;
 mod uses;
 
-pub use bytes::{bytes_fault, flags_of, flags_so_far, further_in, part_of};
-pub use call::{
-    Call, Caller, Content, Probe, argument_fault, call_of, calling_fault, content_fault, may_post,
-    probe_of,
-};
-pub use call_laws::{can_be_allowed, is_made_by_right};
-pub use enrolled::{
-    begin_rows, dismiss, dismissing_fault, enroll, enrolling_fault, named, row_for,
-};
-pub use enrolled_laws::{keeps_other_rows, names_the_last, takes_back, takes_no_others_row};
+pub use bytes::bytes_fault;
+pub use bytes::flags_of;
+pub use bytes::flags_so_far;
+pub use bytes::further_in;
+pub use bytes::part_of;
+pub use call::Call;
+pub use call::Caller;
+pub use call::Content;
+pub use call::Probe;
+pub use call::argument_fault;
+pub use call::call_of;
+pub use call::calling_fault;
+pub use call::content_fault;
+pub use call::may_post;
+pub use call::probe_of;
+pub use call_laws::can_be_allowed;
+pub use call_laws::is_made_by_right;
+pub use enrolled::begin_rows;
+pub use enrolled::dismiss;
+pub use enrolled::dismissing_fault;
+pub use enrolled::enroll;
+pub use enrolled::enrolling_fault;
+pub use enrolled::named;
+pub use enrolled::row_for;
+pub use enrolled_laws::keeps_other_rows;
+pub use enrolled_laws::names_the_last;
+pub use enrolled_laws::takes_back;
+pub use enrolled_laws::takes_no_others_row;
 pub use eventfd::Eventfd;
-pub use group::{Buffer, Buffers, Group};
-pub use group_laws::{
-    gives_what_was_provided, keeps_what_was_provided, takes_cells_in_turn, takes_in_order,
-    takes_no_more,
-};
+pub use group::Buffer;
+pub use group::Buffers;
+pub use group::Group;
+pub use group_laws::gives_what_was_provided;
+pub use group_laws::keeps_what_was_provided;
+pub use group_laws::takes_cells_in_turn;
+pub use group_laws::takes_in_order;
+pub use group_laws::takes_no_more;
 pub use group_rows::group_argument_fault;
-pub use holding::{Telling, behind_telling, holding_fault, telling_fault};
+pub use holding::Telling;
+pub use holding::behind_telling;
+pub use holding::holding_fault;
+pub use holding::telling_fault;
 pub use issuer::Issuer;
-pub use issuer_laws::{disabled_has_none, keeps_its_issuer, knows_its_issuer};
-pub use listing::{
-    Listing, each_slot_goes_once, listing_of, next_to_go, puts_whole_lists, takes_next,
-};
-pub use numbering::{RowOnto, RowStage, next_of_row};
-pub use pinning::{Memory, has_byte_of, is_written_back, pinning_fault};
-pub use placing::{PlacingOnto, PlacingStage, next_of_placing};
-pub use registering::{Row, buffer_row, file_row, row_steps, updated};
-pub use restrictions::{Restriction, Restrictions, enabling_fault, restricting_fault};
-pub use stepping::{
-    buffer_steps, closing_steps, making_steps, reading_steps, restricting_steps, ring_steps,
-};
-pub use structures::{
-    CancelForm, FilesForm, ParametersForm, RangeForm, RingForm, TableForm, UpdateForm,
-    content_of_cancel, content_of_files, content_of_probe, content_of_table, content_of_update,
-    parameters_have_reserved, range_has_reserved, ring_has_reserved,
-};
+pub use issuer_laws::disabled_has_none;
+pub use issuer_laws::keeps_its_issuer;
+pub use issuer_laws::knows_its_issuer;
+pub use listing::Listing;
+pub use listing::each_slot_goes_once;
+pub use listing::listing_of;
+pub use listing::next_to_go;
+pub use listing::puts_whole_lists;
+pub use listing::takes_next;
+pub use numbering::RowOnto;
+pub use numbering::RowStage;
+pub use numbering::next_of_row;
+pub use pinning::Memory;
+pub use pinning::has_byte_of;
+pub use pinning::is_written_back;
+pub use pinning::pinning_fault;
+pub use placing::PlacingOnto;
+pub use placing::PlacingStage;
+pub use placing::next_of_placing;
+pub use registering::Row;
+pub use registering::buffer_row;
+pub use registering::file_row;
+pub use registering::row_steps;
+pub use registering::updated;
+pub use restrictions::Restriction;
+pub use restrictions::Restrictions;
+pub use restrictions::enabling_fault;
+pub use restrictions::restricting_fault;
+pub use stepping::buffer_steps;
+pub use stepping::closing_steps;
+pub use stepping::making_steps;
+pub use stepping::reading_steps;
+pub use stepping::restricting_steps;
+pub use stepping::ring_steps;
+pub use structures::CancelForm;
+pub use structures::FilesForm;
+pub use structures::ParametersForm;
+pub use structures::RangeForm;
+pub use structures::RingForm;
+pub use structures::TableForm;
+pub use structures::UpdateForm;
+pub use structures::content_of_cancel;
+pub use structures::content_of_files;
+pub use structures::content_of_probe;
+pub use structures::content_of_table;
+pub use structures::content_of_update;
+pub use structures::parameters_have_reserved;
+pub use structures::range_has_reserved;
+pub use structures::ring_has_reserved;
 pub use table::Table;
-pub use table_laws::{gives_free_slots, gives_what_is_free, keeps_others};
-pub use use_laws::{ends_as_it_is, goes_when_free, is_gone_once};
-pub use uses::{Ending, Uses};
+pub use table_laws::gives_free_slots;
+pub use table_laws::gives_what_is_free;
+pub use table_laws::keeps_others;
+pub use use_laws::ends_as_it_is;
+pub use use_laws::goes_when_free;
+pub use use_laws::is_gone_once;
+pub use uses::Ending;
+pub use uses::Uses;
