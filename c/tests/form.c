@@ -49,6 +49,7 @@ static void look_at_more_fields(void)
     demand(FORM(.opcode = 32, .fd = 1) == 0 && FORM(.opcode = 32, .fd = 0) == -22 && FORM(.opcode = 32, .fd = 1, .len = 1) == -22, "their removal");
     demand(FORM(.opcode = 40, .op_flags = 3) == 0 && FORM(.opcode = 40, .op_flags = 4) == -22 && FORM(.opcode = 34, .len = 2) == 0 && FORM(.opcode = 34, .off = 1) == -22, "a message, a shutdown");
     demand(FORM(.opcode = 45, .off = 0x80000) == 0 && FORM(.opcode = 45, .off = 0x80000, .file_index = 1) == -22, "a socket");
+    demand(FORM(.opcode = 13, .ioprio = 1, .flags = 64) == 0 && FORM(.opcode = 13, .ioprio = 1, .file_index = 1) == -22 && FORM(.opcode = 27, .ioprio = 2, .flags = 32, .len = 4) == 0 && FORM(.opcode = 27, .ioprio = 2, .len = 4) == -22, "those that go on");
     demand(FORM(.opcode = 30, .off = 5, .op_flags = 0x8000000f) == 0 && FORM(.opcode = 30, .op_flags = 16) == -22 && FORM(.opcode = 33, .off = 5) == -22, "a splice, a tee");
 }
 

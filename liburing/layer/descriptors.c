@@ -1,6 +1,6 @@
-/* Finding the ring of a descriptor. Where the layer isn't told that a descriptor is closed, it keeps each ring until a set-up, or a close that it is told
- * of, finds that nobody can reach it any more and that no call is on it. What is left when the process ends isn't freed:
- * threads may use it to the last.
+/* Finding the ring of a descriptor. Where the layer isn't told that a descriptor is closed, it keeps each ring until somebody finds that nobody can reach
+ * it any more and that no call is on it: a set-up, a close that is heard, a call on another ring that sleeps, and once in a while any call. What is left
+ * when the process ends isn't freed: threads may use it to the last.
  *
  * A close that the layer is told of may stand in a signal's handler, amid whatever the thread does (signal-safety(7)): behind it nothing is asked of the C
  * library's memory, and no lock is waited for long.
@@ -12,23 +12,23 @@
 #include "numbers.h"
 #include "policy.h"
 #include "process.h"
-#include "readiness.h"
+#include "reached.h"
 #include "sleep.h"
 #include "unwilling.h"
 
-#include <dirent.h>
 #include <errno.h>
 #include <fcntl.h>
 #include <sched.h>
 #include <stdlib.h>
 #include <string.h>
 #include <sys/stat.h>
-#include <sys/syscall.h>
+#include <time.h>
 #include <unistd.h>
 
 static struct ring *rings;          /* those of this process and of its parents, the newest first */
 static struct ring **by_number;     /* the ring that was last found under each descriptor, or NULL */
 static size_t by_number_room;
+static struct ring *looked_at;      /* the one that was last looked at, or NULL */
 static struct ring *ending;         /* those that have let go what they had, and whose traces and memory are left */
 static uint32_t ring_count;
 static pthread_mutex_t rings_lock = PTHREAD_MUTEX_INITIALIZER;
@@ -78,48 +78,6 @@ uint32_t what_is_left(const struct ring *ring)
     return wulgach_left_of((uint32_t)ring->process, (uint32_t)this_process());
 }
 
-/* Whether a descriptor is open on this ring. Memory is known by its inode. */
-static bool is_reached_by(const struct ring *ring, int fd)
-{
-    struct stat status;
-    if (ring->ready_fd >= 0)
-        return is_polled_by(ring, fd);
-    return fstat(fd, &status) == 0 && status.st_dev == ring->device && status.st_ino == ring->inode;
-}
-
-/* Whether one that was open on this ring is so still. */
-static bool is_still_reached_by(const struct ring *ring, int fd)
-{
-    return ring->ready_fd >= 0 ? is_still_polled_by(ring, fd) : is_reached_by(ring, fd);
-}
-
-/* One of the descriptors in a part of the list of all that is open on a ring, or -1. */
-static int find_listed(const struct ring *ring, const char *entries, long length)
-{
-    for (long at = 0; at < length;) {
-        const struct dirent64 *entry = (const void *)(entries + at);
-        if (is_reached_by(ring, atoi(entry->d_name)))
-            return atoi(entry->d_name);
-        at += entry->d_reclen;
-    }
-    return -1;
-}
-
-/* A descriptor that is open on a ring in this process: its first one, or another; negative: there is none. Where that can't be found out, the
- * first. */
-static int find_descriptor(const struct ring *ring)
-{
-    if (is_reached_by(ring, ring->fd))
-        return ring->fd;
-    _Alignas(struct dirent64) char entries[1024];
-    int folder = open("/proc/thread-self/fd", O_RDONLY | O_DIRECTORY | O_CLOEXEC), found = -1;
-    for (long length; folder >= 0 && found < 0 && (length = syscall(SYS_getdents64, folder, entries, sizeof entries)) > 0;)
-        found = find_listed(ring, entries, length);
-    if (folder >= 0)
-        close(folder);
-    return found < 0 && wulgach_is_taken_so(WULGACH_IS_REACHED, folder >= 0, false) ? ring->fd : found;
-}
-
 /* The numbers under which rings were found. Those from MOST_NOTED on aren't noted. */
 enum { MOST_NOTED = 1 << 16, BITS = 64 };
 
@@ -137,16 +95,18 @@ bool may_be_ring(int fd)
 }
 
 /* Whether a descriptor is open on a ring: its close will be heard. */
-static bool is_reached(const struct ring *ring)
+static bool is_reached(struct ring *ring)
 {
     int fd = find_descriptor(ring);
-    if (fd >= 0)
-        note_number(fd);
-    return fd >= 0;
+    if (fd < 0)
+        return false;
+    note_number(fd);
+    __atomic_store_n(&ring->fd, fd, __ATOMIC_RELAXED);
+    return true;
 }
 
 /* Whether a ring is to be freed now. A call begins under the list's lock. It ends without: behind that it doesn't touch the ring. */
-static bool is_gone(const struct ring *ring)
+static bool is_gone(struct ring *ring)
 {
     bool is_of_process = is_own(ring);
     uint32_t calls = __atomic_load_n(&ring->calls, __ATOMIC_SEQ_CST);
@@ -160,7 +120,7 @@ static bool is_gone(const struct ring *ring)
 static bool is_left_in_call;
 
 /* The same. One that only a call keeps goes as that ends, which may have been just before that was noted. */
-static bool is_to_go(const struct ring *ring)
+static bool is_to_go(struct ring *ring)
 {
     if (is_gone(ring))
         return true;
@@ -175,6 +135,8 @@ static void forget(const struct ring *ring)
     for (size_t i = 0; i < by_number_room; i++)
         if (by_number[i] == ring)
             by_number[i] = NULL;
+    if (looked_at == ring)
+        looked_at = NULL;
 }
 
 /* Ends those that have let go what they had. (the numbers of the traces of a parent's may be its child's own by now) */
@@ -233,7 +195,7 @@ void add_ring(struct ring *ring)
 {
     pthread_mutex_lock(&rings_lock);
     free_closed_rings();
-    ring->index = ring_count++;
+    ring->index = __atomic_fetch_add(&ring_count, 1, __ATOMIC_RELAXED);
     ring->next = rings;
     rings = ring;
     remember(ring->fd, ring);
@@ -297,6 +259,27 @@ void free_closed(void)
     allow_signals(&own);
 }
 
+/* The one behind the last in the list, round and round. */
+static struct ring *next_to_look_at(void)
+{
+    looked_at = looked_at && looked_at->next ? looked_at->next : rings;
+    return looked_at;
+}
+
+bool let_others_go(void)
+{
+    enum { FEW = 8 };
+    pthread_mutex_lock(&rings_lock);
+    struct ring *first = next_to_look_at();
+    bool has_gone = first && is_gone(first);
+    for (int i = 1; i < FEW && !has_gone && next_to_look_at() != first; i++)
+        has_gone = is_gone(looked_at);
+    if (has_gone)
+        free_closed_rings();
+    pthread_mutex_unlock(&rings_lock);
+    return has_gone;
+}
+
 /* (who has the lock may wait for what the thread of the handler has: then whoever ends a call next looks) */
 static bool try_rings(void)
 {
@@ -333,11 +316,28 @@ struct ring *hold_ring(int fd)
     return ring;
 }
 
+/* Where there are other rings, once in ten milliseconds. */
+static bool is_time_to_look(void)
+{
+    enum { EVERY = 10000000 };
+    static uint64_t last;
+    struct timespec now;
+    if (__atomic_load_n(&ring_count, __ATOMIC_RELAXED) < 2 || clock_gettime(CLOCK_MONOTONIC_COARSE, &now) < 0)
+        return false;
+    uint64_t at = (uint64_t)now.tv_sec * 1000000000 + (uint64_t)now.tv_nsec;
+    if (at - __atomic_load_n(&last, __ATOMIC_RELAXED) < EVERY)
+        return false;
+    __atomic_store_n(&last, at, __ATOMIC_RELAXED);
+    return true;
+}
+
 void release_ring(struct ring *ring)
 {
     __atomic_sub_fetch(&ring->calls, 1, __ATOMIC_SEQ_CST);
     if (__atomic_load_n(&is_left_in_call, __ATOMIC_SEQ_CST))
         free_closed();
+    else if (is_time_to_look())
+        let_others_go();
 }
 
 struct ring *lock_ring(int fd)

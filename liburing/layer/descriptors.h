@@ -38,6 +38,10 @@ bool may_be_ring(int fd);
 /* Frees the rings that nobody can reach any more. */
 void free_closed(void);
 
+/* Looks at a few of the rings, in turn: a close that isn't heard may have left one of them, and what that keeps open be waited for. Returns whether
+ * any was. */
+bool let_others_go(void);
+
 /* Closes what they keep open, where a handler may call so. They are freed with the next call's end, or set-up. What is given to free meanwhile is to be
  * kept for later by whoever calls. */
 void let_go_in_handler(void);

@@ -152,6 +152,10 @@ static enum wulgach_reply_kind go_on_fully(struct ring *ring)
 
 static enum wulgach_reply_kind sleep_on(struct ring *ring, struct waiting *waiting, struct wulgach_reply *reply)
 {
+    if (let_others_go()) {
+        do_duties_at_begin(ring, true);
+        return WULGACH_WOKEN;
+    }
     int error, fault = sleep_fault(waiting);
     switch (wulgach_sleep_begins(fault, do_duties_before_sleep(ring, fault < 0))) {
     case WULGACH_SLEEP_FAILS:

@@ -38,7 +38,7 @@ struct ring {
     ino_t inode;
     pid_t process;                      /* who made it: a forked child has the memory, and not the core */
     uint32_t left;                      /* what is left undone with it, since a child that a handler has forked is back from its parent's sleep */
-    int fd;                             /* the first descriptor: it may be closed, or another file's by now */
+    int fd;                             /* the first descriptor, or the one that was found last: it may be closed, or another file's by now */
     int called_fd;                      /* the one of the call that has its lock, or of the last one */
     int ready_fd;                       /* an eventfd, if the descriptor polls; or negative: the descriptor is memory */
     uint64_t mark;                      /* and by what that descriptor is known, or 0: by the eventfd alone */

@@ -260,4 +260,5 @@ static void __attribute__((constructor)) begin(void)
         say("the calls can't be trapped here: the kernel refuses the filter", "");
         _exit(125);
     }
+    errno = 0;      /* as a program finds it that begins */
 }

@@ -228,6 +228,29 @@ static bool is_locked_for_others(int fd)
     return WEXITSTATUS(status) == 1;
 }
 
+/* What a ring kept open that was closed unheard is let go before a call on another sleeps. */
+static void test_closed_ring(void)
+{
+    struct ring ring, other;
+    int ends[2];
+    char byte;
+    check(pipe(ends) == 0);
+    make_ring(&ring, 8, 0, 0);
+    make_ring(&other, 8, 0, 0);
+    put_transfer(&other, IORING_OP_READ, 0, 0, ends[0], &byte, 1, 0);
+    check(enter(&other, 1, 0, 0) == 1);
+    settle(&other);
+    put_poll(&ring, 1, ends[1], 0, 0);
+    check(enter(&ring, 1, 0, 0) == 1);
+    settle(&ring);
+    check(close(ends[0]) == 0);
+    close_ring(&other);
+    struct seen found = next_of(&ring);
+    check(found.user_data == 1 && found.res == POLLERR);
+    close(ends[1]);
+    close_ring(&ring);
+}
+
 /* A child has a lock too, until its end of a pipe is closed. */
 static pid_t lock_in_child(int fd, int *until)
 {
@@ -295,6 +318,7 @@ int main(int count, char **words)
         {"closed in a sleep", test_closed_in_a_sleep},
         {"closed behind a submission", test_closed_behind_a_submission},
         {"closed by an entry", test_closed_by_an_entry},
+        {"closed ring", test_closed_ring},
         {"locks", test_locks},
         {"locks behind a splice", test_locks_behind_a_splice},
     };

@@ -156,6 +156,30 @@ static void test_multishot_receive(void)
     close_ring(&ring);
 }
 
+/* Its length, if it has one, says how much each takes at most. */
+static void test_multishot_length(void)
+{
+    struct ring ring;
+    static char memory[3][16];
+    int ends[2];
+    make_pair(ends);
+    make_ring(&ring, 8, 0, 0);
+    struct io_uring_sqe *provide = put_plain(&ring, IORING_OP_PROVIDE_BUFFERS, 0, 3);
+    provide->addr = (uintptr_t)memory;
+    provide->len = 16;
+    check(result_of_one(&ring, 1) == 0 && send(ends[1], "two pieces", 10, 0) == 10);
+    struct io_uring_sqe *entry = put(&ring, IORING_OP_RECV, 1, IOSQE_BUFFER_SELECT);
+    entry->fd = ends[0];
+    entry->len = 4;
+    entry->ioprio = IORING_RECV_MULTISHOT;
+    check(enter(&ring, 1, 0, 0) == 1);
+    for (int i = 0; i < 3; i++)
+        check(next_of(&ring).res == (i < 2 ? 4 : 2));
+    close(ends[0]);
+    close(ends[1]);
+    close_ring(&ring);
+}
+
 static void provide_one(struct ring *ring, char *at, uint64_t id)
 {
     struct io_uring_sqe *provide = put_plain(ring, IORING_OP_PROVIDE_BUFFERS, 0, 1);
@@ -237,7 +261,7 @@ static void test_cut_receives(void)
 }
 
 /* An accept that goes on puts each socket where there is room, and ends if there is none. */
-static void test_multishot_accept(void)
+static void want_accepts(uint8_t flags)
 {
     struct ring ring;
     struct sockaddr_un {
@@ -250,7 +274,8 @@ static void test_multishot_accept(void)
     check(bind(listener, (void *)&address, sizeof address) == 0 && listen(listener, 4) == 0);
     make_ring(&ring, 8, 0, 0);
     check(register_at(ring.fd, IORING_REGISTER_FILES2, &sparse, sizeof sparse) == 0);
-    struct io_uring_sqe *entry = put_plain(&ring, IORING_OP_ACCEPT, 1, listener);
+    struct io_uring_sqe *entry = put(&ring, IORING_OP_ACCEPT, 1, flags);
+    entry->fd = listener;
     entry->ioprio = IORING_ACCEPT_MULTISHOT;
     entry->file_index = IORING_FILE_INDEX_ALLOC;
     check(enter(&ring, 1, 0, 0) == 1);
@@ -264,6 +289,13 @@ static void test_multishot_accept(void)
         close(callers[i]);
     close(listener);
     close_ring(&ring);
+}
+
+/* It tells of each, though it is to skip its success. */
+static void test_multishot_accept(void)
+{
+    want_accepts(0);
+    want_accepts(IOSQE_CQE_SKIP_SUCCESS);
 }
 
 /* A send that needn't copy has two completions: what was sent, and that its memory is free. */
@@ -316,6 +348,7 @@ int main(int count, char **words)
         {"no waiting", test_no_waiting},
         {"all by looks", test_all_by_looks},
         {"multishot receive", test_multishot_receive},
+        {"multishot length", test_multishot_length},
         {"buffers that go", test_buffers_that_go},
         {"multishot accept", test_multishot_accept},
         {"cut receives", test_cut_receives},

@@ -1,7 +1,7 @@
 /* A program that is linked with nothing of ours and calls io_uring by the processor's own instruction. Run by uring-run
  * its rings are the layer's, which it sees by their descriptors: those are epoll instances.
  *
- *   trapped nop | shared | blocked | signals | registers | issuers | threads | fork | vfork | exec | list | spawn | shell | preload | sqpoll | filter | static PROGRAM
+ *   trapped begins | nop | shared | blocked | signals | registers | issuers | threads | fork | vfork | exec | list | spawn | shell | preload | sqpoll | filter | static PROGRAM
  *
  * Status 0: all was as it is to be. Else a line says what wasn't.
  */
@@ -43,6 +43,14 @@ static void no_op_on(const struct ring *ring)
     WANT(completion->user_data == 77 && completion->res == 0);
     WANT(memcmp(ring->sq + ring->params.cq_off.cqes, completion, sizeof *completion) == 0);
     want_readable(ring->fd, true);
+}
+
+/* A program begins as it does by itself: with no error, with the signals that Python ignores, and without what Python sets. */
+static void begins(int error)
+{
+    WANT(error == 0);
+    WANT(signal(SIGPIPE, SIG_DFL) == SIG_DFL && signal(SIGXFSZ, SIG_DFL) == SIG_DFL);
+    WANT(!getenv("LC_CTYPE"));
 }
 
 /* A no-op through a ring of its own. */
@@ -320,10 +328,13 @@ static void filtered(void)
 
 int main(int argc, char **argv)
 {
+    int error = errno;
     static char self[4096];
     const char *name = argc > 1 ? argv[1] : "";
     WANT(readlink("/proc/self/exe", self, sizeof self - 1) > 0);
-    if (strcmp(name, "nop") == 0)
+    if (strcmp(name, "begins") == 0)
+        begins(error);
+    else if (strcmp(name, "nop") == 0)
         no_op();
     else if (strcmp(name, "shared") == 0)
         shared();

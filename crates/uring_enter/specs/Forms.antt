@@ -5,12 +5,12 @@ use Rattle.std.specs.Int.RustNames.{bit_and}
 use Rattle.uring_enter.specs.declared.submission.Submission.{Submission}
 use Rattle.uring_enter.specs.declared.rule.Rule.{Rule}
 use Rattle.uring_enter.specs.declared.rule.Also.{Also}
-use Rattle.uring_enter.specs.declared.rule.Also.TheVariants.{Nothing, Transfer, Vectors, Sync, Poll, PollRemoval, Timeout, LinkedTimeout, TimeoutRemoval, Cancel, Open, OpenHow, Close, FilesUpdate, ProvisionRemoval, Socket, Accept, Send, SendMessage, Receive, ReceiveMessage, SendZeroCopy, SendMessageZeroCopy}
+use Rattle.uring_enter.specs.declared.rule.Also.TheVariants.{Nothing, Transfer, Vectors, Sync, Poll, PollRemoval, Timeout, LinkedTimeout, TimeoutRemoval, Cancel, Open, OpenHow, Close, FilesUpdate, ProvisionRemoval, Socket, Accept, Send, SendMessage, Receive, SendZeroCopy, SendMessageZeroCopy}
 use Rattle.uring_enter.specs.declared.form.Form.{Form}
 use Rattle.uring_enter.specs.declared.form.Form.TheVariants as form
 use Rattle.uring_enter.specs.Rules.{rule_of, is_rule, priority, offset, address, length, own_flags, buffer, slot, third, padding}
 use Rattle.uring_enter.specs.Clocks.{has_some}
-use Rattle.uring_enter.specs.SocketForms.{is_send, is_send_message, is_receive, is_receive_message, is_send_zero_copy, is_send_message_zero_copy, is_socket, is_accept}
+use Rattle.uring_enter.specs.SocketForms.{is_send, is_send_message, is_receive, is_send_zero_copy, is_send_message_zero_copy, is_socket, is_accept}
 use Rattle.uring_enter.specs.Buffers.{is_out_of_reach}
 use Rattle.uring_enter.specs.Provisions.{has_count, provision_fault}
 use Rattle.uring_entry.specs.Errors.{error, is_below}
@@ -68,7 +68,6 @@ meets Accept e = is_accept e
 meets Send e = is_send e
 meets SendMessage e = is_send_message e
 meets Receive e = is_receive e
-meets ReceiveMessage e = is_receive_message e
 meets SendZeroCopy e = is_send_zero_copy e
 meets SendMessageZeroCopy e = is_send_message_zero_copy e
 

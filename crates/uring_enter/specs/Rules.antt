@@ -2,7 +2,7 @@
 use Rattle.std.specs.Prelude.{ℕ, ◌+◌, Bool, true, false, ◌||◌, ◌==◌, Option, Some, None, if◌then◌else◌}
 use Rattle.uring_enter.specs.declared.rule.Rule.{Rule}
 use Rattle.uring_enter.specs.declared.rule.Also.{Also}
-use Rattle.uring_enter.specs.declared.rule.Also.TheVariants.{Nothing, Transfer, Vectors, Sync, Poll, PollRemoval, Timeout, LinkedTimeout, TimeoutRemoval, Cancel, Open, OpenHow, Close, FilesUpdate, ProvisionRemoval, Socket, Accept, Send, SendMessage, Receive, ReceiveMessage, SendZeroCopy, SendMessageZeroCopy}
+use Rattle.uring_enter.specs.declared.rule.Also.TheVariants.{Nothing, Transfer, Vectors, Sync, Poll, PollRemoval, Timeout, LinkedTimeout, TimeoutRemoval, Cancel, Open, OpenHow, Close, FilesUpdate, ProvisionRemoval, Socket, Accept, Send, SendMessage, Receive, SendZeroCopy, SendMessageZeroCopy}
 
 -- the fields of an entry, a bit each. `slot` is file_index, which also is splice_fd_in; `third` is addr3, and `padding` what stands behind it
 abbrev pub priority : ℕ
@@ -62,7 +62,7 @@ rule_of code =
     if code == 8 then bars (priority + address + buffer + slot) else
     -- SENDMSG, RECVMSG, ACCEPT with SOCK_NONBLOCK and SOCK_CLOEXEC, CONNECT, SEND, RECV, SHUTDOWN, SOCKET, SEND_ZC and SENDMSG_ZC
     if code == 9 then row (offset + slot) any SendMessage else
-    if code == 10 then row (offset + slot) any ReceiveMessage else
+    if code == 10 then row (offset + slot) any Receive else
     if code == 13 then row (length + buffer) 526336 Accept else
     if code == 16 then bars (priority + length + own_flags + buffer + slot) else
     if code == 26 then row offset any Send else

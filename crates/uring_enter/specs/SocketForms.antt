@@ -23,12 +23,8 @@ is_send e = is_send_message e && has_short_size e
 abbrev pub may_go_on : Submission → Bool
 may_go_on e = not (has_some e.ioprio 2) || has_some e.flags 32 && not (has_some e.op_flags 256)
 
-abbrev pub is_receive_message : Submission → Bool
-is_receive_message e = has_length e && bit_and e.ioprio 65532 == 0 && may_go_on e
-
--- and says no length
 abbrev pub is_receive : Submission → Bool
-is_receive e = is_receive_message e && (not (has_some e.ioprio 2) || e.len == 0)
+is_receive e = has_length e && bit_and e.ioprio 65532 == 0 && may_go_on e
 
 -- IORING_SEND_ZC_REPORT_USAGE is 8. Its success can't be skipped (64)
 abbrev pub is_send_message_zero_copy : Submission → Bool
@@ -42,10 +38,10 @@ is_send_zero_copy e = bit_and e.ioprio 65522 == 0 && not (has_some e.flags 64) &
 abbrev pub is_socket : Submission → Bool
 is_socket e = bit_and e.off 4294440944 == 0 && (e.file_index == 0 || not (has_some e.off 524288))
 
--- IORING_ACCEPT_MULTISHOT is 1. One that goes on can't skip its success, and each descriptor goes to a slot that is free, IORING_FILE_INDEX_ALLOC, or to none
+-- IORING_ACCEPT_MULTISHOT is 1. Each descriptor of one that goes on goes to a slot that is free, IORING_FILE_INDEX_ALLOC, or to none
 abbrev pub may_accept_more : Submission → Bool
 may_accept_more e =
-    not (has_some e.ioprio 1) || not (has_some e.flags 64) && (e.file_index == 0 || e.file_index == 4294967295)
+    not (has_some e.ioprio 1) || e.file_index == 0 || e.file_index == 4294967295
 
 -- what a slot has isn't closed by exec
 abbrev pub is_accept : Submission → Bool

@@ -9,8 +9,8 @@ use crate::rule::{
     ADDRESS, Also, BUFFER, FLAGS, LENGTH, OFFSET, PAD, PRIORITY, SLOT, THIRD, rule_of,
 };
 use crate::socket_form::{
-    is_accept, is_receive, is_receive_message, is_send, is_send_message, is_send_message_zero_copy,
-    is_send_zero_copy, is_socket,
+    is_accept, is_receive, is_send, is_send_message, is_send_message_zero_copy, is_send_zero_copy,
+    is_socket,
 };
 use crate::submission::Submission;
 
@@ -84,7 +84,6 @@ fn meets(also: Also, entry: &Submission) -> bool
         Also::Send => is_send(entry),
         Also::SendMessage => is_send_message(entry),
         Also::Receive => is_receive(entry),
-        Also::ReceiveMessage => is_receive_message(entry),
         Also::SendZeroCopy => is_send_zero_copy(entry),
         Also::SendMessageZeroCopy => is_send_message_zero_copy(entry),
     }

@@ -80,8 +80,6 @@ pub enum Also {
 
     Receive,
 
-    ReceiveMessage,
-
     /// A send without copies.
     SendZeroCopy,
 
@@ -113,7 +111,7 @@ pub fn rule_of(code: u8) -> Option<Rule>
         7 => row(PRIORITY | BUFFER | SLOT, ANY, Also::PollRemoval),
         8 => bars(PRIORITY | ADDRESS | BUFFER | SLOT),
         9 => row(OFFSET | SLOT, ANY, Also::SendMessage),
-        10 => row(OFFSET | SLOT, ANY, Also::ReceiveMessage),
+        10 => row(OFFSET | SLOT, ANY, Also::Receive),
         13 => row(LENGTH | BUFFER, OF_SOCKET, Also::Accept),
         16 => bars(PRIORITY | LENGTH | FLAGS | BUFFER | SLOT),
         26 => row(OFFSET, ANY, Also::Send),

@@ -31,23 +31,17 @@ pub(crate) fn is_send(entry: &Submission) -> bool
     is_send_message(entry) && has_short_size(entry)
 }
 
-/// One that goes on takes a provided buffer each time, and all that comes.
+/// One that goes on takes a provided buffer each time, and waits for no whole length.
 fn may_go_on(entry: &Submission) -> bool
     ensures { result ≡ spec.may_go_on entry.now }
 {
     entry.ioprio & 2 == 0 || (entry.flags & 32 != 0 && entry.op_flags & 256 == 0)
 }
 
-pub(crate) fn is_receive_message(entry: &Submission) -> bool
-    ensures { result ≡ spec.is_receive_message entry.now }
-{
-    has_length(entry) && entry.ioprio & !3 == 0 && may_go_on(entry)
-}
-
 pub(crate) fn is_receive(entry: &Submission) -> bool
     ensures { result ≡ spec.is_receive entry.now }
 {
-    is_receive_message(entry) && (entry.ioprio & 2 == 0 || entry.len == 0)
+    has_length(entry) && entry.ioprio & !3 == 0 && may_go_on(entry)
 }
 
 pub(crate) fn is_send_message_zero_copy(entry: &Submission) -> bool
@@ -68,12 +62,12 @@ pub(crate) fn is_socket(entry: &Submission) -> bool
     entry.off & 0xfff7_f7f0 == 0 && (entry.file_index == 0 || entry.off & 0x80000 == 0)
 }
 
-/// One that goes on can't skip its success, and each descriptor goes to a slot that is free, or to none.
+/// Each descriptor of one that goes on goes to a slot that is free, or to none.
 fn may_accept_more(entry: &Submission) -> bool
     ensures { result ≡ spec.may_accept_more entry.now }
 {
     let finds_slot = entry.file_index == 0 || entry.file_index == 0xffff_ffff;
-    entry.ioprio & 1 == 0 || (entry.flags & 64 == 0 && finds_slot)
+    entry.ioprio & 1 == 0 || finds_slot
 }
 
 pub(crate) fn is_accept(entry: &Submission) -> bool
