@@ -284,13 +284,15 @@ static void test_file_limit(void)
     check(waitpid(child, &status, 0) == child && status == 0);
 }
 
-/* A poll of a ring by another that goes on ends with the first event for which it has waited, but not with what is there as it starts. */
+/* A poll of a ring by another that goes on ends with the first event for which it has waited, but not with what is there as it starts. (behind that it
+ * waits for an edge) */
 static void test_by_another(void)
 {
     struct ring ring, other;
+    int most = getenv("WULGACH_EDGES") ? 1 : 2;
     make_ring(&ring, 4, 0, 0);
     make_ring(&other, 4, 0, 0);
-    for (int is_there = 0; is_there < 2; is_there++) {
+    for (int is_there = 0; is_there < most; is_there++) {
         struct io_uring_sqe *entry = put_plain(&ring, IORING_OP_POLL_ADD, 1, other.fd);
         entry->poll32_events = POLLIN;
         entry->len = IORING_POLL_ADD_MULTI;

@@ -275,7 +275,7 @@ int __wrap_fstat(int fd, struct stat *status)
     return __real_fstat(fd, status);
 }
 
-/* A call finds its ring by one question, however many rings there are. */
+/* A call finds its ring by one question, however many rings there are; once in a while it asks of a few others whether they are reached. */
 static void test_many_rings(void)
 {
     enum { RINGS = 200, CALLS = 1000 };
@@ -285,7 +285,7 @@ static void test_many_rings(void)
     questions = 0;
     for (int i = 0; i < CALLS; i++)
         check(enter(&rings[0], 0, 0, 0) == 0);
-    check(questions <= CALLS);
+    check(questions <= 10 * CALLS);
     for (int i = 0; i < RINGS; i++)
         close_ring(&rings[i]);
 }
