@@ -152,6 +152,7 @@ enum { DATA = WULGACH_HAS_MESSAGE | WULGACH_TELLS_RING };
 static void send(void)
 {
     struct wulgach_receiver closed = {0}, file = {.is_open = true}, ring = {true, true, false, false}, own = {true, true, true, false}, disabled = {true, true, false, true};
+    demand(wulgach_message_is_by_slot(&(struct wulgach_submission){.opcode = 40, .flags = 5}) && !wulgach_message_is_by_slot(&(struct wulgach_submission){.opcode = 40, .flags = 4}), "a ring by a slot");
     demand(wulgach_may_be_ring(&(struct wulgach_submission){.opcode = 40, .flags = 4}) && !wulgach_may_be_ring(&(struct wulgach_submission){.opcode = 40, .flags = 1}), "a registered file is no ring");
     demand(SENDING(closed, .addr = 9) == -9 && SENDING(file, .addr = 9) == -77 && SENDING(ring, .addr = 2) == -22, "to what it is sent");
     demand(SENDING(ring, .len = 7) == DATA && SENDING(own, .len = 7) == DATA && SENDING(disabled, .len = 7) == -77, "data");

@@ -95,11 +95,16 @@ static void put(uint32_t slot, uint64_t word)
     demand(wulgach_table_fill(&table, words, SLOTS, slot, word) + word > 0 && words[slot] == word, "a slot's word");
 }
 
+static int32_t give_out(uint32_t from, uint32_t len, bool has_reserved)
+{
+    return wulgach_table_give_out(&table, &(struct wulgach_range_form){.off = from, .len = len, .resv = has_reserved});
+}
+
 /* The answers of a real ring of Linux 6.18 to the same. */
 static void give_slots(void)
 {
     wulgach_table_begin(&table);
-    demand(any() == -23 && wulgach_table_give_out(&table, 0, 1, false) == -22 && wulgach_table_give_out(&table, 0, 0, false) == 0, "no table");
+    demand(any() == -23 && give_out(0, 1, false) == -22 && give_out(0, 0, false) == 0, "no table");
     wulgach_table_register(&table, words, SLOTS);
     demand(any() == 0 && any() == 1 && any() == 2, "one after another");
     put(0, 0);
@@ -111,15 +116,15 @@ static void give_slots(void)
     put(0, 0), put(1, 0), put(2, 0), put(3, 0), put(1, 5);
     demand(any() == 2 && any() == 3 && any() == 0 && any() == -23, "one that was filled");
     put(0, 0), put(1, 0), put(2, 0), put(3, 0);
-    demand(wulgach_table_give_out(&table, 1, 2, false) == 0 && any() == 1 && any() == 2 && any() == -23, "a range");
+    demand(give_out(1, 2, false) == 0 && any() == 1 && any() == 2 && any() == -23, "a range");
     put(3, 5), put(3, 0);
     demand(any() == -23, "not behind it");
     put(1, 0);
     demand(any() == 1, "in it");
     put(0, 5), put(0, 0);
     demand(any() == -23, "not before it");
-    demand(wulgach_table_give_out(&table, 1, 4, false) == -22 && wulgach_table_give_out(&table, 1, 1, true) == -22 && wulgach_table_give_out(&table, UINT32_MAX, 3, true) == -75, "ranges");
-    demand(wulgach_table_give_out(&table, 4, 0, false) == 0 && any() == -23, "an empty one");
+    demand(give_out(1, 4, false) == -22 && give_out(1, 1, true) == -22 && give_out(UINT32_MAX, 3, true) == -75, "ranges");
+    demand(give_out(4, 0, false) == 0 && any() == -23, "an empty one");
 }
 
 static void change_tables(void)
@@ -182,8 +187,33 @@ static void read_structures(void)
     wulgach_content_of_probe(probe, 31, &content);
     demand(!content.has_reserved, "a probe of zeros");
     demand(wulgach_ring_has_reserved(&(struct wulgach_ring_form){.pad = 1}) && !wulgach_ring_has_reserved(&(struct wulgach_ring_form){.bgid = 1}), "a ring of buffers");
-    demand(wulgach_range_has_reserved(&(struct wulgach_range_form){.resv = 1}) && !wulgach_range_has_reserved(&(struct wulgach_range_form){.len = 1}), "a range");
     demand(wulgach_parameters_have_reserved(&(struct wulgach_parameters_form){.third_resv = 1}) && !wulgach_parameters_have_reserved(&(struct wulgach_parameters_form){.wq_fd = 1}), "parameters");
+}
+
+static bool are_lists(const struct wulgach_lists *lists, uint64_t rows, uint64_t tags, uint32_t count, uint32_t from)
+{
+    return lists->rows == rows && lists->tags == tags && lists->count == count && lists->from == from;
+}
+
+static bool is_row(const struct wulgach_lists *lists, uint32_t index, bool is_of_descriptors, uint64_t at, uint64_t tag_at, uint32_t slot)
+{
+    struct wulgach_list_row row = {9, 9, 9};
+    wulgach_row_of(lists, index, is_of_descriptors, &row);
+    return row.at == at && row.tag_at == tag_at && row.slot == slot;
+}
+
+static void find_lists(void)
+{
+    struct wulgach_lists lists = {9, 9, 9, 9};
+    wulgach_lists_of_call(64, 3, &lists);
+    demand(are_lists(&lists, 64, 0, 3, 0), "the list of a call");
+    wulgach_lists_of_table(&(struct wulgach_table_form){.nr = 3, .flags = 1, .data = 64, .tags = 128}, &lists);
+    demand(are_lists(&lists, 64, 128, 3, 0), "those of a table");
+    wulgach_lists_of_files(&(struct wulgach_files_form){.offset = 7, .fds = 64}, 5, &lists);
+    demand(are_lists(&lists, 64, 0, 5, 7), "that of an update of files");
+    wulgach_lists_of_update(&(struct wulgach_update_form){.offset = 7, .nr = 2, .data = 64, .tags = 128}, &lists);
+    demand(are_lists(&lists, 64, 128, 2, 7), "those of an update");
+    demand(is_row(&lists, 0, true, 64, 128, 7) && is_row(&lists, 3, true, 76, 152, 10) && is_row(&lists, 3, false, 112, 152, 10), "their rows");
 }
 
 static void take_lists(void)
@@ -217,11 +247,13 @@ static void go_by_steps(void)
     demand(wulgach_closing_steps(0) == 3 && wulgach_closing_steps(-9) == 0, "what a close does");
     demand(wulgach_buffer_steps() == 3, "how a buffer is made");
     demand(wulgach_restricting_steps(0) == 5 && wulgach_restricting_steps(1) == 7, "how a list of restrictions is registered");
+    demand(wulgach_dismissing_steps() == 7, "how a ring loses its number");
 }
 
 static void look_at_rows(void)
 {
     read_structures();
+    find_lists();
     give_numbers();
     take_lists();
     place_file();
@@ -302,6 +334,7 @@ static void tell_eventfds(void)
     demand(wulgach_eventfd_registering_fault(&eventfd, false, false, false) == -16 && wulgach_eventfd_unregistering_fault(&eventfd) == 0, "a second one");
     wulgach_eventfd_unregister(&eventfd);
     demand(!eventfd.is_registered && !eventfd.is_async && wulgach_eventfd_added(&eventfd, 0, 1, true) == 0, "none again");
+    demand(wulgach_tells_async_alone(7) && !wulgach_tells_async_alone(4) && !wulgach_tells_async_alone(5) && !wulgach_tells_async_alone(99), "one of what ends asynchronously alone");
 }
 
 static void enroll_rings(void)
