@@ -162,6 +162,21 @@ enum wulgach_part {
  * 0: with IORING_CQE_F_MORE where another of the same request follows, and IORING_CQE_F_NOTIF. */
 uint32_t wulgach_completion_flags(uint32_t part, uint32_t of_buffer);
 
+/* The flags of a provided buffer of which no completion has told, behind one that tells of this: 0 behind an event and behind its own end, by
+ * which they are told. So no later completion tells of that buffer. */
+uint32_t wulgach_untold_behind(uint32_t part, uint32_t of_buffer);
+
+/* What is done behind an operation that was carried out: a set of these has the bit 1 << DUTY of each, and they are done by rising bits. */
+enum wulgach_tried_duty {
+    WULGACH_TRIED_LOOKS_AFRESH = 0,   /* those that run are looked at again, */
+    WULGACH_TRIED_WAITS = 1,          /* it is noted that it waits, and it goes on running, */
+    WULGACH_TRIED_ASKS_GOING_ON = 2   /* or it is asked whether it goes on (wulgach_goes_on), and else it ends */
+};
+
+/* That set: others are looked at again behind one that can make them ready, whatever it came to; and what would have to wait isn't asked whether
+ * it goes on. */
+uint32_t wulgach_behind_try(bool can_make_ready, bool would_wait);
+
 /* Returns what the end of a send without copies tells of (enum wulgach_part) that has two completions, where the other one was posted before
  * (WULGACH_PART_NOTICE), or is put off since memory was refused for it (WULGACH_PART_SENT): then the other is the notice. So the application
  * sees the notice behind what was sent, whatever is put off. */

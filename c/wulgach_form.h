@@ -254,6 +254,9 @@ struct wulgach_message {
     uint32_t flags;
 };
 
+/* Whether the entry of a message names its ring by a slot, with IOSQE_FIXED_FILE, or by a descriptor. */
+bool wulgach_message_is_by_slot(const struct wulgach_submission *entry);
+
 /* Whether the file that the entry of a message names may be a ring's: one that IOSQE_FIXED_FILE names never is, since a ring's can't be
  * registered (io_uring_register(2), IORING_REGISTER_FILES). */
 bool wulgach_may_be_ring(const struct wulgach_submission *entry);

@@ -263,16 +263,17 @@ uint32_t wulgach_waiter_gone(const struct wulgach_waiter *waiter, bool knows, bo
 
 /* What is done behind the end of a request: a set of these has the bit 1 << DUTY of each, and they are done by rising bits. */
 enum wulgach_end_duty {
-    WULGACH_END_COUNTS = 0,             /* it counts for the timeouts that wait for so many completions */
-    WULGACH_END_STOPS_TIMEOUT = 1,      /* the timeout stops that it was, or that limited it */
-    WULGACH_END_LOOKS_AT_COUNTS = 2,    /* it is looked which counts are reached */
-    WULGACH_END_UNWATCHES = 3,          /* the ring's own descriptor polls no more for its file, and for its epoll instance */
-    WULGACH_END_FORGETS = 4,            /* nothing tells of its descriptor any more */
-    WULGACH_END_LOOKS_BEHIND = 5,       /* those that run are looked at again, if it may let one be finished */
-    WULGACH_END_LETS_START = 6,         /* those are noted that it lets start */
-    WULGACH_END_ENDS_DRAIN = 7,         /* one that drains is outstanding no more */
-    WULGACH_END_LEAVES = 8,             /* it stands in no list any more, and lets its files go */
-    WULGACH_END_HAS_ENDS = 9            /* something has ended that isn't shown */
+    WULGACH_END_KEEPS = 0,              /* its completion is kept, if it has one, to be shown */
+    WULGACH_END_COUNTS = 1,             /* it counts for the timeouts that wait for so many completions */
+    WULGACH_END_STOPS_TIMEOUT = 2,      /* the timeout stops that it was, or that limited it */
+    WULGACH_END_LOOKS_AT_COUNTS = 3,    /* it is looked which counts are reached */
+    WULGACH_END_UNWATCHES = 4,          /* the ring's own descriptor polls no more for its file, and for its epoll instance */
+    WULGACH_END_FORGETS = 5,            /* nothing tells of its descriptor any more */
+    WULGACH_END_LOOKS_BEHIND = 6,       /* those that run are looked at again, if it may let one be finished */
+    WULGACH_END_LETS_START = 7,         /* those are noted that it lets start */
+    WULGACH_END_ENDS_DRAIN = 8,         /* one that drains is outstanding no more */
+    WULGACH_END_LEAVES = 9,             /* it stands in no list any more, and lets its files go */
+    WULGACH_END_HAS_ENDS = 10           /* something has ended that isn't shown */
 };
 
 /* That set, for a request which keeps a file or none, has an epoll instance or none, may have had to wait for its descriptor, and drains or doesn't. */

@@ -217,12 +217,35 @@ void wulgach_content_of_probe(const uint8_t *bytes, size_t count, struct wulgach
 
 /* Whether a reserved field of such a one isn't 0. */
 bool wulgach_ring_has_reserved(const struct wulgach_ring_form *form);
-bool wulgach_range_has_reserved(const struct wulgach_range_form *form);
 bool wulgach_parameters_have_reserved(const struct wulgach_parameters_form *form);
 
 /* The fault of that, or 0: -14 if it couldn't be read, -22 of none, of a reserved field, of a flag that isn't served, of a sparse table
  * with a list, and of a cancel by a descriptor and any. */
 int32_t wulgach_content_fault(uint32_t code, bool is_read, const struct wulgach_content *content);
+
+/* The lists of a call: one that isn't there stands at 0. */
+struct wulgach_lists {
+    uint64_t rows, tags;    /* where the descriptors or vectors stand, and where the tags */
+    uint32_t count;         /* how many rows each has */
+    uint32_t from;          /* the slot of the first */
+};
+
+/* Writes those of a call without a structure, whose argument is its list, without tags, and whose first row is of slot 0; of a table that is
+ * registered, `data` and `tags`, from slot 0 on; of an update, from `offset` on; and of one of files alone, `fds` without tags, of so many. */
+void wulgach_lists_of_call(uint64_t at, uint32_t count, struct wulgach_lists *lists);
+void wulgach_lists_of_table(const struct wulgach_table_form *form, struct wulgach_lists *lists);
+void wulgach_lists_of_update(const struct wulgach_update_form *form, struct wulgach_lists *lists);
+void wulgach_lists_of_files(const struct wulgach_files_form *form, uint32_t count, struct wulgach_lists *lists);
+
+/* A row of lists. */
+struct wulgach_list_row {
+    uint64_t at, tag_at;    /* where its descriptor or vector stands, and where its tag */
+    uint32_t slot;          /* its slot: they go one behind the other, from the first on */
+};
+
+/* Writes the row behind so many others: a descriptor takes 4 bytes, a tag 8; else it is a vector (`struct iovec`), or the row of a ring
+ * (`struct io_uring_rsrc_update`), of 16. */
+void wulgach_row_of(const struct wulgach_lists *lists, uint32_t index, bool is_of_descriptors, struct wulgach_list_row *row);
 
 /* What a probe tells in front of its rows. */
 struct wulgach_probe {
@@ -266,6 +289,9 @@ void wulgach_eventfd_begin(struct wulgach_eventfd *eventfd);
  * none. Each of the three is false behind one that is. And that is done. */
 int32_t wulgach_eventfd_registering_fault(const struct wulgach_eventfd *eventfd, bool is_read, bool is_open, bool is_eventfd);
 void wulgach_eventfd_register(struct wulgach_eventfd *eventfd, bool is_async);
+
+/* Whether the one that the call of this number registers is told of what ends asynchronously alone: IORING_REGISTER_EVENTFD_ASYNC's is. */
+bool wulgach_tells_async_alone(uint32_t code);
 
 /* The fault of unregistering it, or 0: -6 (ENXIO) if there is none; and that is done. */
 int32_t wulgach_eventfd_unregistering_fault(const struct wulgach_eventfd *eventfd);
@@ -376,9 +402,9 @@ void wulgach_table_register(struct wulgach_table *table, const uint64_t *words, 
 int32_t wulgach_table_unregistering_fault(const struct wulgach_table *table, bool has_argument);
 void wulgach_table_unregister(struct wulgach_table *table);
 
-/* The slots from one on, so many, are given out. Returns 0, or -75 (EOVERFLOW) if they end past 32 bits, -22 of a reserved field that
+/* The slots of a range are given out: from `off` on, `len` of them. Returns 0, or -75 (EOVERFLOW) if they end past 32 bits, -22 of a reserved field that
  * isn't 0, or if they end past the table: then nothing changes. */
-int32_t wulgach_table_give_out(struct wulgach_table *table, uint32_t from, uint32_t len, bool has_reserved);
+int32_t wulgach_table_give_out(struct wulgach_table *table, const struct wulgach_range_form *range);
 
 /* The fault of updating so many slots from one on, before any is looked at, or 0: -6, -75 and -22, as above. And of closing what a slot
  * holds: -6, -22, or -9 (EBADF) if it is free. */
@@ -423,7 +449,7 @@ enum wulgach_row_step {
 uint32_t wulgach_row_steps(uint32_t row, bool is_of_files);
 
 /* In which steps a row of lists is read, the file of a descriptor made, the buffer of a row made, a ring of provided buffers registered, a list of
- * restrictions registered, and a descriptor closed. */
+ * restrictions registered, the number of a ring taken back, and a descriptor closed. */
 enum wulgach_reading_step {
     WULGACH_READING_TAG = 0,    /* the tag */
     WULGACH_READING_ROW = 1     /* the descriptor, or the vector */
@@ -453,6 +479,12 @@ enum wulgach_restricting_step {
     WULGACH_RESTRICTING_ROWS = 2    /* and its rows are taken: wulgach_restrictions_register */
 };
 
+enum wulgach_dismissing_step {
+    WULGACH_DISMISSING_READS = 0,   /* a row of a ring that loses its number is read: -14, */
+    WULGACH_DISMISSING_JUDGES = 1,  /* and judged: wulgach_dismissing_fault; */
+    WULGACH_DISMISSING_EMPTIES = 2  /* and the ring loses it */
+};
+
 enum wulgach_closing_step {
     WULGACH_CLOSING_KEEPS = 0,  /* those that were accepted before it keep their files, */
     WULGACH_CLOSING_CLOSES = 1  /* and the descriptor is closed */
@@ -466,6 +498,7 @@ uint32_t wulgach_making_steps(bool is_registered, bool has_tag);
 uint32_t wulgach_buffer_steps(void);
 uint32_t wulgach_ring_steps(void);
 uint32_t wulgach_restricting_steps(uint32_t count);
+uint32_t wulgach_dismissing_steps(void);
 uint32_t wulgach_closing_steps(int32_t fault);
 
 /* The fault of a descriptor that a request is to close or to register, or 0: -9 (EBADF) of none and of a ring. */

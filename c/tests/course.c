@@ -141,6 +141,9 @@ static void judge_results(void)
     demand(wulgach_has_succeeded(&shutdown, &plainly, true, -107) && !wulgach_has_succeeded(&shutdown, &plainly, true, -88) && !wulgach_has_succeeded(&advice, &plainly, true, -22), "a socket, and an advice");
     demand(wulgach_completion_flags(WULGACH_PART_EVENT, 1) == 3 && wulgach_completion_flags(WULGACH_PART_SENT, 0) == 2 && wulgach_completion_flags(WULGACH_PART_NOTICE, 0) == 8, "more follow, or memory is free");
     demand(wulgach_completion_flags(WULGACH_PART_OWN, 1) == 1, "an end");
+    demand(wulgach_untold_behind(WULGACH_PART_EVENT, 65537) == 0 && wulgach_untold_behind(WULGACH_PART_OWN, 65537) == 0 && wulgach_untold_behind(WULGACH_PART_SENT, 65537) == 65537, "a buffer that was told");
+    demand(wulgach_behind_try(false, true) == 1 << WULGACH_TRIED_WAITS && wulgach_behind_try(false, false) == 1 << WULGACH_TRIED_ASKS_GOING_ON, "behind what would wait, and what came to a result");
+    demand(wulgach_behind_try(true, true) == (1 << WULGACH_TRIED_LOOKS_AFRESH | 1 << WULGACH_TRIED_WAITS), "behind what makes others ready");
     struct wulgach_ended_early faulty = {.is_faulty = true, .fault = -14}, cancel = {.is_cancel = true, .has_cancelled = true}, late = {.is_cancel = true};
     struct wulgach_ended_early fired = {.is_linked_timeout = true, .has_fired = true}, idle = {.is_linked_timeout = true};
     demand(wulgach_shown_of(&faulty, -22) == -14 && wulgach_shown_of(&faulty, -125) == -125, "an entry with a fault");

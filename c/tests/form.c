@@ -130,9 +130,9 @@ static void go_on(void)
     struct wulgach_posted late = {.call = 1, .ended = 2}, early = {.call = 2, .ended = 2}, told = {.is_message = true};
     demand(wulgach_goes_on(&shown, true, &poll, 0, false, 1, 4) && !wulgach_goes_on(&shown, true, &poll, 0, false, 0, 4) && !wulgach_goes_on(&shown, true, &poll, 0, false, -9, 4) && !wulgach_goes_on(&shown, true, &poll, 0, false, 1, 3), "a poll");
     demand(wulgach_goes_on(&shown, true, &accept, 0, false, 0, 4) && !wulgach_goes_on(&shown, true, &message, 0, false, 16, 4) && wulgach_goes_on(&shown, true, &message, 1, false, 17, 4), "an accept, a message");
-    demand(!wulgach_goes_on(&shown, false, &poll, 0, 1, 4), "one that has started otherwise");
+    demand(!wulgach_goes_on(&shown, false, &poll, 0, false, 1, 4), "one that has started otherwise");
     demand(!wulgach_goes_on(&shown, true, &once, 0, false, 5, 4) && !wulgach_goes_on(&shown, true, &read, 5, false, 5, 4), "one that doesn't go on");
-    demand(!wulgach_goes_on(&shown, &poll, 0, true, 1, 4) && wulgach_comes_of_ring(true, true, false) && wulgach_comes_of_ring(false, false, true) && !wulgach_comes_of_ring(true, false, false) && !wulgach_comes_of_ring(false, true, false), "what comes of a ring");
+    demand(!wulgach_goes_on(&shown, true, &poll, 0, true, 1, 4) && wulgach_comes_of_ring(true, true, false) && wulgach_comes_of_ring(false, false, true) && !wulgach_comes_of_ring(true, false, false) && !wulgach_comes_of_ring(false, true, false), "what comes of a ring");
     demand(wulgach_tells(&late, true) && wulgach_tells(&told, true) && wulgach_tells(&early, false) && !wulgach_tells(&early, true), "an eventfd");
 }
 
@@ -152,6 +152,7 @@ enum { DATA = WULGACH_HAS_MESSAGE | WULGACH_TELLS_RING };
 static void send(void)
 {
     struct wulgach_receiver closed = {0}, file = {.is_open = true}, ring = {true, true, false, false}, own = {true, true, true, false}, disabled = {true, true, false, true};
+    demand(wulgach_message_is_by_slot(&(struct wulgach_submission){.opcode = 40, .flags = 5}) && !wulgach_message_is_by_slot(&(struct wulgach_submission){.opcode = 40, .flags = 4}), "a ring by a slot");
     demand(wulgach_may_be_ring(&(struct wulgach_submission){.opcode = 40, .flags = 4}) && !wulgach_may_be_ring(&(struct wulgach_submission){.opcode = 40, .flags = 1}), "a registered file is no ring");
     demand(SENDING(closed, .addr = 9) == -9 && SENDING(file, .addr = 9) == -77 && SENDING(ring, .addr = 2) == -22, "to what it is sent");
     demand(SENDING(ring, .len = 7) == DATA && SENDING(own, .len = 7) == DATA && SENDING(disabled, .len = 7) == -77, "data");

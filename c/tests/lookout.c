@@ -312,7 +312,7 @@ static void miss(void)
 
 static void follow(void)
 {
-    const uint32_t always = BIT(WULGACH_END_COUNTS) | BIT(WULGACH_END_STOPS_TIMEOUT) | BIT(WULGACH_END_LOOKS_AT_COUNTS) | BIT(WULGACH_END_LOOKS_BEHIND) | BIT(WULGACH_END_LETS_START) | BIT(WULGACH_END_LEAVES) | BIT(WULGACH_END_HAS_ENDS);
+    const uint32_t always = BIT(WULGACH_END_KEEPS) | BIT(WULGACH_END_COUNTS) | BIT(WULGACH_END_STOPS_TIMEOUT) | BIT(WULGACH_END_LOOKS_AT_COUNTS) | BIT(WULGACH_END_LOOKS_BEHIND) | BIT(WULGACH_END_LETS_START) | BIT(WULGACH_END_LEAVES) | BIT(WULGACH_END_HAS_ENDS);
     demand(wulgach_duties_behind_end(false, false, false, false) == always, "behind each end");
     demand(wulgach_duties_behind_end(true, false, false, false) == (always | BIT(WULGACH_END_UNWATCHES)) && wulgach_duties_behind_end(false, true, false, false) == (always | BIT(WULGACH_END_UNWATCHES)), "behind that of one with a file");
     demand(wulgach_duties_behind_end(false, false, true, false) == (always | BIT(WULGACH_END_FORGETS)) && wulgach_duties_behind_end(false, false, false, true) == (always | BIT(WULGACH_END_ENDS_DRAIN)), "behind others");

@@ -95,11 +95,16 @@ static void put(uint32_t slot, uint64_t word)
     demand(wulgach_table_fill(&table, words, SLOTS, slot, word) + word > 0 && words[slot] == word, "a slot's word");
 }
 
+static int32_t give_out(uint32_t from, uint32_t len, bool has_reserved)
+{
+    return wulgach_table_give_out(&table, &(struct wulgach_range_form){.off = from, .len = len, .resv = has_reserved});
+}
+
 /* The answers of a real ring of Linux 6.18 to the same. */
 static void give_slots(void)
 {
     wulgach_table_begin(&table);
-    demand(any() == -23 && wulgach_table_give_out(&table, 0, 1, false) == -22 && wulgach_table_give_out(&table, 0, 0, false) == 0, "no table");
+    demand(any() == -23 && give_out(0, 1, false) == -22 && give_out(0, 0, false) == 0, "no table");
     wulgach_table_register(&table, words, SLOTS);
     demand(any() == 0 && any() == 1 && any() == 2, "one after another");
     put(0, 0);
@@ -111,15 +116,15 @@ static void give_slots(void)
     put(0, 0), put(1, 0), put(2, 0), put(3, 0), put(1, 5);
     demand(any() == 2 && any() == 3 && any() == 0 && any() == -23, "one that was filled");
     put(0, 0), put(1, 0), put(2, 0), put(3, 0);
-    demand(wulgach_table_give_out(&table, 1, 2, false) == 0 && any() == 1 && any() == 2 && any() == -23, "a range");
+    demand(give_out(1, 2, false) == 0 && any() == 1 && any() == 2 && any() == -23, "a range");
     put(3, 5), put(3, 0);
     demand(any() == -23, "not behind it");
     put(1, 0);
     demand(any() == 1, "in it");
     put(0, 5), put(0, 0);
     demand(any() == -23, "not before it");
-    demand(wulgach_table_give_out(&table, 1, 4, false) == -22 && wulgach_table_give_out(&table, 1, 1, true) == -22 && wulgach_table_give_out(&table, UINT32_MAX, 3, true) == -75, "ranges");
-    demand(wulgach_table_give_out(&table, 4, 0, false) == 0 && any() == -23, "an empty one");
+    demand(give_out(1, 4, false) == -22 && give_out(1, 1, true) == -22 && give_out(UINT32_MAX, 3, true) == -75, "ranges");
+    demand(give_out(4, 0, false) == 0 && any() == -23, "an empty one");
 }
 
 static void change_tables(void)
@@ -161,31 +166,6 @@ static void give_numbers(void)
     demand(wulgach_enrolling_next(WULGACH_ENROLLING_TELLS, 0) == WULGACH_ENROLLING_IS_DONE, "a number is given");
 }
 
-static void read_structures(void)
-{
-    struct wulgach_content content = {.nr = 99, .flags = 99, .has_reserved = true};
-    wulgach_content_of_table(&(struct wulgach_table_form){.nr = 3, .flags = 1, .data = 8}, &content);
-    demand(content.nr == 3 && content.flags == 1 && !content.has_reserved && content.has_data, "a table");
-    wulgach_content_of_update(&(struct wulgach_update_form){.nr = 2, .resv2 = 1}, &content);
-    demand(content.nr == 2 && content.flags == 0 && content.has_reserved && !content.has_data, "an update");
-    wulgach_content_of_files(&(struct wulgach_files_form){.offset = 7}, 5, &content);
-    demand(content.nr == 5 && !content.has_reserved, "an update of files");
-    wulgach_content_of_cancel(&(struct wulgach_cancel_form){.flags = 4, .fourth_pad = 1}, &content);
-    demand(content.flags == 4 && content.has_reserved, "a cancel");
-    wulgach_content_of_cancel(&(struct wulgach_cancel_form){.pad = 255}, &content);
-    demand(!content.has_reserved, "an operation's code");
-    wulgach_content_of_cancel(&(struct wulgach_cancel_form){.pad = 256}, &content);
-    demand(content.has_reserved, "what stands behind it");
-    static const uint8_t probe[32] = {[31] = 1};
-    wulgach_content_of_probe(probe, 32, &content);
-    demand(content.nr == 0 && content.flags == 0 && content.has_reserved && !content.has_data, "a probe");
-    wulgach_content_of_probe(probe, 31, &content);
-    demand(!content.has_reserved, "a probe of zeros");
-    demand(wulgach_ring_has_reserved(&(struct wulgach_ring_form){.pad = 1}) && !wulgach_ring_has_reserved(&(struct wulgach_ring_form){.bgid = 1}), "a ring of buffers");
-    demand(wulgach_range_has_reserved(&(struct wulgach_range_form){.resv = 1}) && !wulgach_range_has_reserved(&(struct wulgach_range_form){.len = 1}), "a range");
-    demand(wulgach_parameters_have_reserved(&(struct wulgach_parameters_form){.third_resv = 1}) && !wulgach_parameters_have_reserved(&(struct wulgach_parameters_form){.wq_fd = 1}), "parameters");
-}
-
 static void take_lists(void)
 {
     uint32_t slot = 9;
@@ -200,32 +180,10 @@ static void take_lists(void)
     demand(wulgach_entry_cells(1024) == 2 && wulgach_entry_cells(2048) == 1 && wulgach_completion_cells(2048) == 2 && wulgach_completion_cells(1024) == 1, "cells of large entries and completions");
 }
 
-static void place_file(void)
-{
-    uint32_t next = WULGACH_PLACING_BEGINS;
-    for (uint32_t stage = WULGACH_PLACING_READS; stage <= WULGACH_PLACING_TELLS; stage++)
-        demand((next = wulgach_placing_next(next, 0)) == stage && wulgach_placing_next(stage, -14) == (stage == WULGACH_PLACING_TELLS ? WULGACH_PLACING_TAKES_OUT : WULGACH_PLACING_FAILS), "a placing's stages");
-    demand(wulgach_placing_next(WULGACH_PLACING_TELLS, 0) == WULGACH_PLACING_IS_DONE && wulgach_placing_next(WULGACH_PLACING_PUTS, 5) == WULGACH_PLACING_TELLS, "a file is placed");
-}
-
-static void go_by_steps(void)
-{
-    demand(wulgach_reading_steps(true, true, false) == 3 && wulgach_reading_steps(true, false, false) == 1 << WULGACH_READING_TAG && wulgach_reading_steps(false, true, false) == 1 << WULGACH_READING_ROW && wulgach_reading_steps(false, false, false) == 0, "how a row is read");
-    demand(wulgach_reading_steps(true, false, true) == 3 && wulgach_reading_steps(false, false, true) == 1 << WULGACH_READING_ROW, "also without a list");
-    demand(wulgach_making_steps(true, true) == 15 && wulgach_making_steps(true, false) == 13 && wulgach_making_steps(false, false) == 12 && wulgach_making_steps(false, true) == 12, "how a file is made");
-    demand(wulgach_ring_steps() == 7, "how a ring of buffers is registered");
-    demand(wulgach_closing_steps(0) == 3 && wulgach_closing_steps(-9) == 0, "what a close does");
-    demand(wulgach_buffer_steps() == 3, "how a buffer is made");
-    demand(wulgach_restricting_steps(0) == 5 && wulgach_restricting_steps(1) == 7, "how a list of restrictions is registered");
-}
-
 static void look_at_rows(void)
 {
-    read_structures();
     give_numbers();
     take_lists();
-    place_file();
-    go_by_steps();
     demand(file_row(0, 1, false) == WULGACH_ROW_FILLS && file_row(-1, 0, false) == WULGACH_ROW_EMPTIES && file_row(-1, 1, true) == -22, "files");
     demand(wulgach_row_steps(WULGACH_ROW_FILLS, true) == 7 && wulgach_row_steps(WULGACH_ROW_FILLS, false) == 6 && wulgach_row_steps(WULGACH_ROW_EMPTIES, false) == 1 && wulgach_row_steps(WULGACH_ROW_KEEPS, true) == 0 && wulgach_row_steps(WULGACH_ROW_REFUSED, true) == 0, "what is done with a slot");
     demand(file_row(-2, 0, true) == WULGACH_ROW_KEEPS && file_row(-2, 1, true) == -22 && file_row(-2, 1, false) == WULGACH_ROW_FILLS && file_row(-3, 0, true) == WULGACH_ROW_FILLS, "those that stay");
@@ -302,6 +260,7 @@ static void tell_eventfds(void)
     demand(wulgach_eventfd_registering_fault(&eventfd, false, false, false) == -16 && wulgach_eventfd_unregistering_fault(&eventfd) == 0, "a second one");
     wulgach_eventfd_unregister(&eventfd);
     demand(!eventfd.is_registered && !eventfd.is_async && wulgach_eventfd_added(&eventfd, 0, 1, true) == 0, "none again");
+    demand(wulgach_tells_async_alone(7) && !wulgach_tells_async_alone(4) && !wulgach_tells_async_alone(5) && !wulgach_tells_async_alone(99), "one of what ends asynchronously alone");
 }
 
 static void enroll_rings(void)

@@ -27,17 +27,24 @@ static struct buffer *buffer_of(uint64_t word)
     return (struct buffer *)(uintptr_t)word;
 }
 
-/* Reads a row of the application's lists, as the library says. A list that isn't read has no buffers, or no tags. */
-static int read_row(struct iovec *bytes, uint64_t *tag, uint64_t vectors, uint64_t tags, uint32_t index, bool is_update)
+/* A row of the application's lists of buffers and of tags. */
+struct buffer_row {
+    struct wulgach_list_row place;
+    struct iovec bytes;
+    uint64_t tag;
+};
+
+/* Reads it as the library says. A list that isn't read has no buffers, or no tags. */
+static int read_row(struct buffer_row *row, const struct wulgach_lists *lists, uint32_t index, bool is_update)
 {
-    *bytes = (struct iovec){0};
-    *tag = 0;
+    *row = (struct buffer_row){0};
+    wulgach_row_of(lists, index, false, &row->place);
     int result = 0;
-    for (uint32_t steps = wulgach_reading_steps(tags, vectors, is_update); steps && result == 0; steps &= steps - 1)
+    for (uint32_t steps = wulgach_reading_steps(lists->tags, lists->rows, is_update); steps && result == 0; steps &= steps - 1)
         if (__builtin_ctz(steps) == WULGACH_READING_TAG)
-            result = copy_in(tag, tags + index * sizeof *tag, sizeof *tag);
+            result = copy_in(&row->tag, row->place.tag_at, sizeof row->tag);
         else
-            result = copy_in(bytes, vectors + index * sizeof *bytes, sizeof *bytes);
+            result = copy_in(&row->bytes, row->place.at, sizeof row->bytes);
     return result;
 }
 
@@ -68,18 +75,21 @@ static int make_there(struct ring *ring, struct known_memory *known, uint64_t *w
     return fault;
 }
 
-/* Writes what a slot, an empty one, gets by a row of a list, and does no more of what the library says that an update does by it. */
-static int make_row(struct ring *ring, struct known_memory *known, uint64_t *word, uint64_t vectors, uint64_t tags, uint32_t index)
+/* What a row does with its slot, as the library says, the bit of each step. */
+static uint32_t steps_of(const struct buffer_row *row, int32_t *fault)
 {
-    struct iovec bytes;
-    uint64_t tag;
+    return wulgach_row_steps(wulgach_buffer_row((uintptr_t)row->bytes.iov_base, row->bytes.iov_len, row->tag, fault), false);
+}
+
+/* Writes what a slot of a table, an empty one, gets by a row of a list, and does no more of what the library says that an update does by it. */
+static int make_row(struct ring *ring, struct known_memory *known, uint64_t *words, const struct wulgach_lists *lists, uint32_t index)
+{
+    struct buffer_row row;
     int32_t fault;
-    *word = 0;
-    int result = read_row(&bytes, &tag, vectors, tags, index, false);
+    int result = read_row(&row, lists, index, false);
     if (result < 0)
         return result;
-    uint32_t steps = wulgach_row_steps(wulgach_buffer_row((uintptr_t)bytes.iov_base, bytes.iov_len, tag, &fault), false);
-    return steps & 1U << WULGACH_STEP_MAKES ? make_there(ring, known, word, &bytes, tag) : fault;
+    return steps_of(&row, &fault) & 1U << WULGACH_STEP_MAKES ? make_there(ring, known, &words[row.place.slot], &row.bytes, row.tag) : fault;
 }
 
 /* Of a table that isn't registered after all, no tag is told. */
@@ -99,8 +109,9 @@ static void free_words(uint64_t *words, uint32_t count)
     free(words);
 }
 
-int register_buffers(struct ring *ring, uint64_t vectors, uint64_t tags, uint32_t count)
+int register_buffers(struct ring *ring, const struct wulgach_lists *lists)
 {
+    uint32_t count = lists->count;
     int result = wulgach_table_registering_fault(&ring->buffers.table, count, 0, false);
     if (result < 0)
         return result;
@@ -109,8 +120,8 @@ int register_buffers(struct ring *ring, uint64_t vectors, uint64_t tags, uint32_
         return wulgach_missing_fault(WULGACH_NO_MEMORY_OWN);
     struct known_memory known = {0};
     uint32_t taken = 0, listing;
-    while ((listing = wulgach_table_listing(taken, count, vectors || tags, result)) == WULGACH_LISTING_TAKES) {
-        result = make_row(ring, &known, &words[taken], vectors, tags, taken);
+    while ((listing = wulgach_table_listing(taken, count, lists->rows || lists->tags, result)) == WULGACH_LISTING_TAKES) {
+        result = make_row(ring, &known, words, lists, taken);
         taken++;
     }
     forget_memory(&known);
@@ -140,31 +151,29 @@ void free_buffers(struct ring *ring)
 }
 
 /* Does with a slot what the library says that a row does, step by step. It gets the buffer that was made, or none. */
-static int update_buffer(struct ring *ring, struct known_memory *known, uint32_t slot, const struct iovec *bytes, uint64_t tag)
+static int update_buffer(struct ring *ring, struct known_memory *known, const struct buffer_row *row)
 {
     struct buffers *buffers = &ring->buffers;
     int32_t fault;
     uint64_t word = 0;
-    uint32_t steps = wulgach_row_steps(wulgach_buffer_row((uintptr_t)bytes->iov_base, bytes->iov_len, tag, &fault), false);
-    for (; steps && fault == 0; steps &= steps - 1)
+    for (uint32_t steps = steps_of(row, &fault); steps && fault == 0; steps &= steps - 1)
         if (__builtin_ctz(steps) == WULGACH_STEP_MAKES)
-            fault = make_there(ring, known, &word, bytes, tag);
+            fault = make_there(ring, known, &word, &row->bytes, row->tag);
         else
-            release_buffer(buffer_of(wulgach_table_fill(&buffers->table, buffers->words, buffers->table.count, slot, word)));
+            release_buffer(buffer_of(wulgach_table_fill(&buffers->table, buffers->words, buffers->table.count, row->place.slot, word)));
     return fault;
 }
 
-int update_buffers(struct ring *ring, uint32_t offset, uint64_t vectors, uint64_t tags, uint32_t count)
+int update_buffers(struct ring *ring, const struct wulgach_lists *lists)
 {
-    int result = wulgach_table_updating_fault(&ring->buffers.table, offset, count);
+    int result = wulgach_table_updating_fault(&ring->buffers.table, lists->from, lists->count);
     uint32_t done = 0;
     struct known_memory known = {0};
-    while (wulgach_takes_next(done, count, result)) {
-        struct iovec bytes;
-        uint64_t tag;
-        result = read_row(&bytes, &tag, vectors, tags, done, true);
+    while (wulgach_takes_next(done, lists->count, result)) {
+        struct buffer_row row;
+        result = read_row(&row, lists, done, true);
         if (result == 0)
-            result = update_buffer(ring, &known, offset + done, &bytes, tag);
+            result = update_buffer(ring, &known, &row);
         done += result == 0;
     }
     forget_memory(&known);

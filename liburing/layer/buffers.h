@@ -27,12 +27,12 @@ struct buffers {
 
 struct ring;
 
-/* The calls of io_uring_register(2), with lists of buffers and of tags: one that isn't there is 0. Each returns 0 or the number
+/* The calls of io_uring_register(2), with the lists that the library says. Each returns 0 or the number
  * of buffers updated, or the negative of an error number. */
-int register_buffers(struct ring *ring, uint64_t vectors, uint64_t tags, uint32_t count);
+int register_buffers(struct ring *ring, const struct wulgach_lists *lists);
 int unregister_buffers(struct ring *ring, bool has_argument);
 void free_buffers(struct ring *ring);
-int update_buffers(struct ring *ring, uint32_t offset, uint64_t vectors, uint64_t tags, uint32_t count);
+int update_buffers(struct ring *ring, const struct wulgach_lists *lists);
 
 /* The buffer of an index, one use more, if these bytes lie in it: 0, or its fault. */
 int use_buffer(struct ring *ring, uint32_t index, const struct iovec *bytes, struct buffer **used);

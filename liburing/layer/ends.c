@@ -84,17 +84,27 @@ static void leave(struct ring *ring, struct request *request)
         end_request(&ring->requests, request);
 }
 
-/* A request that ends, what the core was told of it, and whether a completion is posted. */
+/* A request that ends, what the core was told of it, and whether a completion was posted. */
 struct end_of_request {
     struct request *request;
     int32_t told;
     bool is_posted;
 };
 
-static void do_duty(struct ring *ring, const struct end_of_request *end, enum wulgach_end_duty duty)
+static void keep_completion(struct ring *ring, struct end_of_request *end)
+{
+    end->is_posted = note_end(ring, end->request, end->told);
+    if (!end->is_posted)
+        record_silent_end(ring, end->request);
+}
+
+static void do_duty(struct ring *ring, struct end_of_request *end, enum wulgach_end_duty duty)
 {
     struct request *request = end->request;
     switch (duty) {
+    case WULGACH_END_KEEPS:
+        keep_completion(ring, end);
+        return;
     case WULGACH_END_COUNTS:
         wulgach_times_count_end(&ring->times, &request->course, is_timeout(request), end->is_posted);
         return;
@@ -133,10 +143,7 @@ void end_of(struct ring *ring, struct request *request, int32_t res, int32_t tol
 {
     trace_result(ring, request, res);
     note_outcome(request, told);
-    bool is_posted = note_end(ring, request, told);
-    if (!is_posted)
-        record_silent_end(ring, request);
-    struct end_of_request end = {request, told, is_posted};
+    struct end_of_request end = {.request = request, .told = told};
     uint32_t duties = wulgach_duties_behind_end(request->file || request->second_file, request->epoll >= 0, request->standing.is_stream, request->is_draining);
     for (; duties; duties &= duties - 1)
         do_duty(ring, &end, (enum wulgach_end_duty)__builtin_ctz(duties));

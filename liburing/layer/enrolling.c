@@ -165,24 +165,39 @@ static int enroll_row(uint64_t at)
     return result;
 }
 
+static int do_step_of_dismissal(struct io_uring_rsrc_update *asked, uint64_t at, uint32_t step)
+{
+    switch (step) {
+    case WULGACH_DISMISSING_READS:
+        return copy_in(asked, at, sizeof *asked);
+    case WULGACH_DISMISSING_JUDGES:
+        return wulgach_dismissing_fault(asked->offset, asked->resv, asked->data);
+    default:
+        dismiss(asked->offset);
+        return 0;
+    }
+}
+
 static int dismiss_row(uint64_t at)
 {
     struct io_uring_rsrc_update asked;
-    int result = copy_in(&asked, at, sizeof asked);
-    if (result == 0)
-        result = wulgach_dismissing_fault(asked.offset, asked.resv, asked.data);
-    if (result == 0)
-        dismiss(asked.offset);
+    int result = 0;
+    for (uint32_t steps = wulgach_dismissing_steps(); steps && result == 0; steps &= steps - 1)
+        result = do_step_of_dismissal(&asked, at, (uint32_t)__builtin_ctz(steps));
     return result;
 }
 
 /* Takes as many rows as the library says. */
 static int for_each_row(int (*change)(uint64_t at), uint64_t list, uint32_t count)
 {
+    struct wulgach_lists lists;
+    wulgach_lists_of_call(list, count, &lists);
     int result = make_table();
     uint32_t done = 0;
-    while (wulgach_takes_next(done, count, result)) {
-        result = change(list + done * sizeof(struct io_uring_rsrc_update));
+    while (wulgach_takes_next(done, lists.count, result)) {
+        struct wulgach_list_row row;
+        wulgach_row_of(&lists, done, false, &row);
+        result = change(row.at);
         done += result == 0;
     }
     return wulgach_updated(done, result);

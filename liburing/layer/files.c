@@ -208,37 +208,37 @@ static void put_slot(struct files *files, uint32_t slot, struct file *file)
     release_file(file_of(before));
 }
 
-int read_file_row(int *fd, uint64_t *tag, uint64_t fds, uint64_t tags, uint32_t index, bool is_update)
+int read_file_row(struct file_row *row, const struct wulgach_lists *lists, uint32_t index, bool is_update)
 {
-    *fd = NO_FILE;
-    *tag = 0;
+    *row = (struct file_row){.fd = NO_FILE};
+    wulgach_row_of(lists, index, true, &row->place);
     int result = 0;
-    for (uint32_t steps = wulgach_reading_steps(tags, fds, is_update); steps && result == 0; steps &= steps - 1)
+    for (uint32_t steps = wulgach_reading_steps(lists->tags, lists->rows, is_update); steps && result == 0; steps &= steps - 1)
         if (__builtin_ctz(steps) == WULGACH_READING_TAG)
-            result = copy_in(tag, tags + index * sizeof *tag, sizeof *tag);
+            result = copy_in(&row->tag, row->place.tag_at, sizeof row->tag);
         else
-            result = copy_in(fd, fds + index * sizeof *fd, sizeof *fd);
+            result = copy_in(&row->fd, row->place.at, sizeof row->fd);
     return result;
 }
 
-/* Makes the file of a row, if the row has one. */
-static int make_row(struct ring *ring, uint64_t *word, uint64_t fds, uint64_t tags, uint32_t index)
+/* Makes the file of a row, if the row has one, and puts it into its slot of a table. */
+static int make_row(struct ring *ring, uint64_t *words, const struct wulgach_lists *lists, uint32_t index)
 {
-    int fd;
-    uint64_t tag;
+    struct file_row row;
     int32_t fault;
     struct file *file = NULL;
-    int result = read_file_row(&fd, &tag, fds, tags, index, false);
+    int result = read_file_row(&row, lists, index, false);
     if (result < 0)
         return result;
-    if (wulgach_file_row(fd, tag, false, &fault) == WULGACH_ROW_FILLS)
-        fault = make_tagged_file(ring, &file, fd, tag);
-    *word = (uintptr_t)file;
+    if (wulgach_file_row(row.fd, row.tag, false, &fault) == WULGACH_ROW_FILLS)
+        fault = make_tagged_file(ring, &file, row.fd, row.tag);
+    words[row.place.slot] = (uintptr_t)file;
     return fault;
 }
 
-int register_files(struct ring *ring, uint64_t fds, uint64_t tags, uint32_t count)
+int register_files(struct ring *ring, const struct wulgach_lists *lists)
 {
+    uint32_t count = lists->count;
     int result = wulgach_table_registering_fault(&ring->files.table, count, limit_of_numbers(), true);
     if (result < 0)
         return result;
@@ -246,8 +246,8 @@ int register_files(struct ring *ring, uint64_t fds, uint64_t tags, uint32_t coun
     if (!words)
         return wulgach_missing_fault(WULGACH_NO_MEMORY_OWN);
     uint32_t taken = 0, listing;
-    while ((listing = wulgach_table_listing(taken, count, fds || tags, result)) == WULGACH_LISTING_TAKES) {
-        result = make_row(ring, &words[taken], fds, tags, taken);
+    while ((listing = wulgach_table_listing(taken, count, lists->rows || lists->tags, result)) == WULGACH_LISTING_TAKES) {
+        result = make_row(ring, words, lists, taken);
         taken++;
     }
     if (listing == WULGACH_LISTING_PUTS)
@@ -266,8 +266,10 @@ int unregister_files(struct ring *ring, bool has_argument)
 }
 
 /* Does with a slot what the library says that a row does, step by step. It gets the file that was made, or none. */
-static int update_file(struct ring *ring, uint32_t slot, int fd, uint64_t tag)
+static int update_file(struct ring *ring, const struct file_row *row)
 {
+    int fd = row->fd;
+    uint64_t tag = row->tag;
     int32_t fault;
     struct file *file = NULL;
     uint32_t steps = wulgach_row_steps(wulgach_file_row(fd, tag, true, &fault), true);
@@ -275,20 +277,19 @@ static int update_file(struct ring *ring, uint32_t slot, int fd, uint64_t tag)
         if (__builtin_ctz(steps) == WULGACH_STEP_MAKES)
             fault = make_tagged_file(ring, &file, fd, tag);
         else
-            put_slot(&ring->files, slot, file);
+            put_slot(&ring->files, row->place.slot, file);
     return fault;
 }
 
-int update_files(struct ring *ring, uint32_t offset, uint64_t fds, uint64_t tags, uint32_t count)
+int update_files(struct ring *ring, const struct wulgach_lists *lists)
 {
-    int result = wulgach_table_updating_fault(&ring->files.table, offset, count);
+    int result = wulgach_table_updating_fault(&ring->files.table, lists->from, lists->count);
     uint32_t done = 0;
-    while (wulgach_takes_next(done, count, result)) {
-        int fd;
-        uint64_t tag;
-        result = read_file_row(&fd, &tag, fds, tags, done, true);
+    while (wulgach_takes_next(done, lists->count, result)) {
+        struct file_row row;
+        result = read_file_row(&row, lists, done, true);
         if (result == 0)
-            result = update_file(ring, offset + done, fd, tag);
+            result = update_file(ring, &row);
         done += result == 0;
     }
     return wulgach_updated(done, result);
@@ -302,7 +303,7 @@ int register_range(struct ring *ring, uint64_t range)
     if (result < 0)
         return result;
     pthread_mutex_lock(&files->lock);
-    result = wulgach_table_give_out(&files->table, asked.off, asked.len, wulgach_range_has_reserved((const void *)&asked));
+    result = wulgach_table_give_out(&files->table, (const void *)&asked);
     pthread_mutex_unlock(&files->lock);
     return result;
 }

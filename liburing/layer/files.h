@@ -32,11 +32,11 @@ struct ring;
 void make_files(struct files *files);
 void free_files(struct ring *ring);
 
-/* The calls of io_uring_register(2), with lists of descriptors and of tags: one that isn't there is 0. Each returns 0 or the
+/* The calls of io_uring_register(2), with the lists that the library says. Each returns 0 or the
  * number of files updated, or the negative of an error number. */
-int register_files(struct ring *ring, uint64_t fds, uint64_t tags, uint32_t count);
+int register_files(struct ring *ring, const struct wulgach_lists *lists);
 int unregister_files(struct ring *ring, bool has_argument);
-int update_files(struct ring *ring, uint32_t offset, uint64_t fds, uint64_t tags, uint32_t count);
+int update_files(struct ring *ring, const struct wulgach_lists *lists);
 int register_range(struct ring *ring, uint64_t range);
 
 /* Takes a descriptor over as a registered file: slot + 1, or IORING_FILE_INDEX_ALLOC. Returns 0, or the slot if any was
@@ -47,8 +47,15 @@ int remove_file(struct ring *ring, uint32_t slot);
 /* Puts a file of another ring into this one's table, likewise, also from another thread. The file stays the other's too. */
 int pass_file(struct ring *target, const struct file *file, uint32_t file_index);
 
-/* Reads a row of the application's lists of descriptors and of tags, as the library says. A list that isn't read has no files, or no tags. */
-int read_file_row(int *fd, uint64_t *tag, uint64_t fds, uint64_t tags, uint32_t index, bool is_update);
+/* A row of the application's lists of descriptors and of tags. */
+struct file_row {
+    struct wulgach_list_row place;
+    int fd;
+    uint64_t tag;
+};
+
+/* Reads it as the library says. A list that isn't read has no files, or no tags. */
+int read_file_row(struct file_row *row, const struct wulgach_lists *lists, uint32_t index, bool is_update);
 
 /* Makes the file of a descriptor that the application names by its number, with a tag or 0. Returns 0, or its fault. */
 int make_tagged_file(struct ring *ring, struct file **made, int fd, uint64_t tag);

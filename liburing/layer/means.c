@@ -87,6 +87,13 @@ static int32_t close_file(struct ring *ring, const struct request *request, cons
     return result;
 }
 
+static int32_t update_listed(struct ring *ring, const struct wulgach_means *means)
+{
+    struct wulgach_lists lists;
+    wulgach_lists_of_files(&(struct wulgach_files_form){.offset = means->slot, .fds = means->listed.address}, means->listed.count, &lists);
+    return update_files(ring, &lists);
+}
+
 static int32_t carry_out_by(struct ring *ring, struct request *request, const struct wulgach_means *means)
 {
     const struct io_uring_sqe *entry = &request->entry;
@@ -114,7 +121,7 @@ static int32_t carry_out_by(struct ring *ring, struct request *request, const st
     case WULGACH_BY_FILES_PLACING:
         return place_files(ring, means->listed.address, means->listed.count);
     case WULGACH_BY_FILES_UPDATE:
-        return update_files(ring, means->slot, means->listed.address, 0, means->listed.count);
+        return update_listed(ring, means);
     case WULGACH_BY_TIMEOUT:
         return end_timeout(ring, request);
     case WULGACH_BY_LINKED_TIMEOUT:

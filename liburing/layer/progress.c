@@ -66,6 +66,42 @@ static bool post_event(struct ring *ring, const struct request *request, int32_t
     return post_extra(ring, request->call, request->entry.user_data, res, wulgach_completion_flags(part, request->flags));
 }
 
+static void note_vain(struct ring *ring, struct request *request)
+{
+    request->has_called = true;
+    request->vain++;
+    note_fact(request, WULGACH_FACT_WAITS, moved_so_far(request));
+    note_wait(ring, request);
+}
+
+/* Whether an operation has brought something and goes on: then that is told. */
+static bool brings_event(struct ring *ring, struct request *request, int32_t res)
+{
+    if (!goes_on_behind(ring, request, res))
+        return false;
+    note_fact(request, WULGACH_FACT_WENT_ON, 0);
+    note_poll_event(ring, request);
+    post_event(ring, request, res, WULGACH_PART_EVENT);
+    request->flags = wulgach_untold_behind(WULGACH_PART_EVENT, request->flags);
+    return true;
+}
+
+/* Does what is due behind an operation. True: it ends. */
+static bool do_try_duty(struct ring *ring, struct request *request, int32_t res, enum wulgach_tried_duty duty)
+{
+    switch (duty) {
+    case WULGACH_TRIED_LOOKS_AFRESH:
+        wulgach_lookout_moves(&ring->lookout);
+        return false;
+    case WULGACH_TRIED_WAITS:
+        note_vain(ring, request);
+        return false;
+    case WULGACH_TRIED_ASKS_GOING_ON:
+        return !brings_event(ring, request, res);
+    }
+    __builtin_unreachable();
+}
+
 /* Carries an operation out. False: it goes on running, since it would have to wait, or brought something and goes on. */
 static bool try_operation(struct ring *ring, struct request *request, int32_t *res)
 {
@@ -73,22 +109,11 @@ static bool try_operation(struct ring *ring, struct request *request, int32_t *r
     log_carrying(ring, request);
     *res = carry_out(ring, request, injected(ring, request));
     log_carried(ring, request, *res);
-    if (request->needs.can_make_ready)
-        wulgach_lookout_moves(&ring->lookout);
-    if (*res == WOULD_WAIT) {
-        request->has_called = true;
-        request->vain++;
-        note_fact(request, WULGACH_FACT_WAITS, moved_so_far(request));
-        note_wait(ring, request);
+    bool ends = false;
+    for (uint32_t duties = wulgach_behind_try(request->needs.can_make_ready, *res == WOULD_WAIT); duties; duties &= duties - 1)
+        ends = do_try_duty(ring, request, *res, (enum wulgach_tried_duty)__builtin_ctz(duties));
+    if (!ends)
         return false;
-    }
-    if (goes_on_behind(ring, request, *res)) {
-        note_fact(request, WULGACH_FACT_WENT_ON, 0);
-        note_poll_event(ring, request);
-        post_event(ring, request, *res, WULGACH_PART_EVENT);
-        request->flags = 0;     /* (its buffer is told) */
-        return false;
-    }
     demand(wulgach_course_done(&request->course, *res), "an operation is done that wasn't begun");
     return true;
 }

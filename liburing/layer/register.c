@@ -61,7 +61,17 @@ static int register_resources(struct ring *ring, uint32_t code, uint64_t at, boo
     int result = wulgach_content_fault(code, is_read, &content);
     if (result < 0)
         return result;
-    return is_of_files ? register_files(ring, asked.data, asked.tags, asked.nr) : register_buffers(ring, asked.data, asked.tags, asked.nr);
+    struct wulgach_lists lists;
+    wulgach_lists_of_table((const void *)&asked, &lists);
+    return is_of_files ? register_files(ring, &lists) : register_buffers(ring, &lists);
+}
+
+/* A call whose argument is its list. */
+static int register_list(struct ring *ring, uint64_t at, uint32_t count, bool is_of_files)
+{
+    struct wulgach_lists lists;
+    wulgach_lists_of_call(at, count, &lists);
+    return is_of_files ? register_files(ring, &lists) : register_buffers(ring, &lists);
 }
 
 static int update_resources(struct ring *ring, uint32_t code, uint64_t at, bool is_of_files)
@@ -73,7 +83,9 @@ static int update_resources(struct ring *ring, uint32_t code, uint64_t at, bool 
     int result = wulgach_content_fault(code, is_read, &content);
     if (result < 0)
         return result;
-    return is_of_files ? update_files(ring, asked.offset, asked.data, asked.tags, asked.nr) : update_buffers(ring, asked.offset, asked.data, asked.tags, asked.nr);
+    struct wulgach_lists lists;
+    wulgach_lists_of_update((const void *)&asked, &lists);
+    return is_of_files ? update_files(ring, &lists) : update_buffers(ring, &lists);
 }
 
 static int update_files_at(struct ring *ring, uint32_t code, uint64_t at, uint32_t count)
@@ -83,7 +95,11 @@ static int update_files_at(struct ring *ring, uint32_t code, uint64_t at, uint32
     struct wulgach_content content;
     wulgach_content_of_files((const void *)&asked, count, &content);
     int result = wulgach_content_fault(code, is_read, &content);
-    return result < 0 ? result : update_files(ring, asked.offset, asked.fds, 0, count);
+    if (result < 0)
+        return result;
+    struct wulgach_lists lists;
+    wulgach_lists_of_files((const void *)&asked, count, &lists);
+    return update_files(ring, &lists);
 }
 
 /* A cancel that returns once what it found has ended. */
@@ -111,7 +127,7 @@ static int make_call(struct ring *ring, uint32_t code, uint64_t at, uint32_t cou
     case IORING_REGISTER_PROBE:
         return probe(code, at, count);
     case IORING_REGISTER_FILES:
-        return register_files(ring, at, 0, count);
+        return register_list(ring, at, count, true);
     case IORING_REGISTER_FILES2:
         return register_resources(ring, code, at, true);
     case IORING_UNREGISTER_FILES:
@@ -123,7 +139,7 @@ static int make_call(struct ring *ring, uint32_t code, uint64_t at, uint32_t cou
     case IORING_REGISTER_FILE_ALLOC_RANGE:
         return register_range(ring, at);
     case IORING_REGISTER_BUFFERS:
-        return register_buffers(ring, at, 0, count);
+        return register_list(ring, at, count, false);
     case IORING_REGISTER_BUFFERS2:
         return register_resources(ring, code, at, false);
     case IORING_UNREGISTER_BUFFERS:
@@ -132,7 +148,7 @@ static int make_call(struct ring *ring, uint32_t code, uint64_t at, uint32_t cou
         return update_resources(ring, code, at, false);
     case IORING_REGISTER_EVENTFD:
     case IORING_REGISTER_EVENTFD_ASYNC:
-        return register_eventfd(ring, at, code == IORING_REGISTER_EVENTFD_ASYNC);
+        return register_eventfd(ring, at, wulgach_tells_async_alone(code));
     case IORING_UNREGISTER_EVENTFD:
         return unregister_eventfd(ring);
     case IORING_REGISTER_PBUF_RING:

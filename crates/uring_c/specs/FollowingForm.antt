@@ -2,7 +2,7 @@
 use Rattle.std.specs.Prelude.{ℕ, ◌^◌, if◌then◌else◌}
 use Rattle.std.specs.Int.RustNames.{bit_or}
 use Rattle.uring_enter.specs.declared.following.BehindEnd.{BehindEnd}
-use Rattle.uring_enter.specs.Following.{EndDuty, Counts, StopsTimeout, LooksAtCounts, Unwatches, ForgetsDescriptor, LooksBehind, LetsStart, EndsDrain, Leaves, HasEnds, end_place, is_end_due}
+use Rattle.uring_enter.specs.Following.{EndDuty, KeepsCompletion, Counts, StopsTimeout, LooksAtCounts, Unwatches, ForgetsDescriptor, LooksBehind, LetsStart, EndsDrain, Leaves, HasEnds, end_place, is_end_due}
 
 -- the bit of what is due is 2 to the power of its place: so it is done by rising bits. Our own rule
 abbrev pub end_bit : BehindEnd → EndDuty → ℕ
@@ -10,7 +10,7 @@ end_bit d duty = if is_end_due d duty then 2 ^ end_place duty else 0
 
 abbrev pub word_of_end : BehindEnd → ℕ
 word_of_end d =
-    bit_or (bit_or (bit_or (bit_or (bit_or (bit_or (bit_or (bit_or (bit_or
-    (end_bit d Counts) (end_bit d StopsTimeout)) (end_bit d LooksAtCounts)) (end_bit d Unwatches))
+    bit_or (bit_or (bit_or (bit_or (bit_or (bit_or (bit_or (bit_or (bit_or (bit_or
+    (end_bit d KeepsCompletion) (end_bit d Counts)) (end_bit d StopsTimeout)) (end_bit d LooksAtCounts)) (end_bit d Unwatches))
     (end_bit d ForgetsDescriptor)) (end_bit d LooksBehind)) (end_bit d LetsStart)) (end_bit d EndsDrain))
     (end_bit d Leaves)) (end_bit d HasEnds)

@@ -15,6 +15,7 @@ pub mod PinningForm
 pub mod UnknownForm
 pub mod StartForm
 pub mod FollowingForm
+pub mod TriedForm
 pub mod PassageForm
 pub mod LeavingForm
 pub mod PuttingOffForm

@@ -21,7 +21,7 @@ use uring_crossing::course_words::{act_res, act_word, fact, last, part};
 use uring_enter::{
     Carried, Course, EndedEarly, Entry, Fact, Member, Part, Posted, Shown, Submission,
     completion_flags, end_of_send, has_succeeded, looks_for_next, looks_for_running, notice_of,
-    shown_of,
+    shown_of, untold_behind,
 };
 
 /// A request that was accepted just now.
@@ -154,6 +154,14 @@ pub extern "C" fn wulgach_completion_flags(of: u32, of_buffer: u32) -> u32
     ensures { result ≡ shots.completion_flags (part_of of) of_buffer }
 {
     completion_flags(part(of), of_buffer)
+}
+
+/// The flags of a provided buffer of which no completion has told, behind one of this part, where they were `of_buffer`, or 0.
+#[unsafe(no_mangle)]
+pub extern "C" fn wulgach_untold_behind(of: u32, of_buffer: u32) -> u32
+    ensures { result ≡ shots.untold_behind (part_of of) of_buffer }
+{
+    untold_behind(part(of), of_buffer)
 }
 
 /// Returns what the end of a send without copies tells of that has two completions, where the other was posted before or is put off.

@@ -22,14 +22,15 @@ pub extern "C" fn wulgach_duties_behind_end(
 fn end_word(duties: BehindEnd) -> u32
     ensures { result ≡ word_of_end duties }
 {
-    bit(1, duties.counts)
-        | bit(2, duties.stops_timeout)
-        | bit(4, duties.looks_at_counts)
-        | bit(8, duties.unwatches)
-        | bit(16, duties.forgets_descriptor)
-        | bit(32, duties.looks_behind)
-        | bit(64, duties.lets_start)
-        | bit(128, duties.ends_drain)
-        | bit(256, duties.leaves)
-        | bit(512, duties.has_ends)
+    bit(1, duties.keeps_completion)
+        | bit(2, duties.counts)
+        | bit(4, duties.stops_timeout)
+        | bit(8, duties.looks_at_counts)
+        | bit(16, duties.unwatches)
+        | bit(32, duties.forgets_descriptor)
+        | bit(64, duties.looks_behind)
+        | bit(128, duties.lets_start)
+        | bit(256, duties.ends_drain)
+        | bit(512, duties.leaves)
+        | bit(1024, duties.has_ends)
 }

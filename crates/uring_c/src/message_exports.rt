@@ -5,9 +5,17 @@ ghost use Rattle.uring_c.specs.MessageForm.{word_of_message, fault_of_sending};
 
 use crate::duty_exports::bit;
 use uring_enter::{
-    Message, MessageSteps, Receiver, Sending, Submission, may_be_ring, message_steps, sending_of,
-    told_of,
+    Message, MessageSteps, Receiver, Sending, Submission, is_by_slot, may_be_ring, message_steps,
+    sending_of, told_of,
 };
+
+/// Whether the entry of a message names its ring by a slot.
+#[unsafe(no_mangle)]
+pub extern "C" fn wulgach_message_is_by_slot(entry: &Submission) -> bool
+    ensures { result ≡ spec.is_by_slot entry.now }
+{
+    is_by_slot(entry)
+}
 
 /// Whether the file that the entry of a message names may be a ring's.
 #[unsafe(no_mangle)]

@@ -9,7 +9,7 @@ ghost use Rattle.uring_c.specs.RegisterForm.{argument_fault_of, content_fault_of
 
 use uring_register::{
     Caller, Content, Eventfd, Issuer, Probe, argument_fault, call_of, calling_fault, content_fault,
-    probe_of,
+    probe_of, tells_async_alone,
 };
 
 /// The fault of who makes the call of a number on what, or 0.
@@ -91,6 +91,14 @@ pub extern "C" fn wulgach_entering_fault(
         → result ≡ issuing.entering_fault log thread to_submit gets }
 {
     issuer.entering_fault(thread, to_submit, gets)
+}
+
+/// Whether the eventfd that the call of a number registers is told of what ends asynchronously alone.
+#[unsafe(no_mangle)]
+pub extern "C" fn wulgach_tells_async_alone(code: u32) -> bool
+    ensures { result ≡ spec.tells_async_alone code }
+{
+    tells_async_alone(code)
 }
 
 /// A ring has no eventfd.

@@ -6,11 +6,12 @@ ghost use Rattle.uring_register.specs.Restricting.{restricting_fault as fault_of
 ghost use Rattle.uring_register.specs.Restricting.{enabling_fault as fault_of_enabling};
 ghost use Rattle.uring_register.specs.Tables.{Filing, Registered, Unregistered, Filled, KeepsTable, IsGiven, GivesNone, range_fault, behind_range, size, content};
 ghost use Rattle.uring_register.specs.Registering as spec;
+ghost use Rattle.uring_register.specs.Structures.{range_has_reserved};
 ghost use Rattle.uring_c.specs.RegisterForm.{row_of_word, word_of_row, fault_of_row};
 
 use uring_register::{
-    Restriction, Restrictions, Row, Table, buffer_row, enabling_fault, file_row, restricting_fault,
-    row_steps, updated,
+    RangeForm, Restriction, Restrictions, Row, Table, buffer_row, enabling_fault, file_row,
+    range_has_reserved, restricting_fault, row_steps, updated,
 };
 
 /// A ring has no restrictions.
@@ -129,20 +130,15 @@ pub extern "C" fn wulgach_table_unregister(table: &mut Table)
     table.unregister();
 }
 
-/// The slots that are given out are these. Returns 0, or the fault: then nothing changes.
+/// The slots that are given out are those of a range. Returns 0, or the fault: then nothing changes.
 #[unsafe(no_mangle)]
-pub extern "C" fn wulgach_table_give_out(
-    table: &mut Table,
-    from: u32,
-    len: u32,
-    has_reserved: bool,
-) -> i32
+pub extern "C" fn wulgach_table_give_out(table: &mut Table, range: &RangeForm) -> i32
     ensures fault { (log : List Filing) (rows : List ℕ) → KeepsTable log table.old rows
-        → result ≡ range_fault log from len has_reserved }
+        → result ≡ range_fault log range.now.off range.now.len (range_has_reserved range.now) }
     ensures after { (log : List Filing) (rows : List ℕ) → KeepsTable log table.old rows
-        → KeepsTable (behind_range log from len has_reserved) table.new rows }
+        → KeepsTable (behind_range log range.now.off range.now.len (range_has_reserved range.now)) table.new rows }
 {
-    table.give_out(from, len, has_reserved)
+    table.give_out(range.off, range.len, range_has_reserved(range))
 }
 
 /// The fault of updating so many slots from one on, before any is looked at, or 0.

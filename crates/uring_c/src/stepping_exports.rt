@@ -5,7 +5,8 @@ ghost use Rattle.uring_register.specs.Stepping as spec;
 
 use uring_enter::{heard_steps, shows_again, taken_steps};
 use uring_register::{
-    buffer_steps, closing_steps, making_steps, reading_steps, restricting_steps, ring_steps,
+    buffer_steps, closing_steps, dismissing_steps, making_steps, reading_steps, restricting_steps,
+    ring_steps,
 };
 
 /// What is done once the core has taken what a call has staged, the bit of each step.
@@ -70,6 +71,14 @@ pub extern "C" fn wulgach_restricting_steps(count: u32) -> u32
     ensures { result ≡ spec.restricting_steps count }
 {
     restricting_steps(count)
+}
+
+/// How a row of rings that lose their numbers is carried out, the bit of each step.
+#[unsafe(no_mangle)]
+pub extern "C" fn wulgach_dismissing_steps() -> u32
+    ensures { result ≡ spec.dismissing_steps }
+{
+    dismissing_steps()
 }
 
 /// What a request does that closes a descriptor with this fault, or 0, the bit of each step.

@@ -3,9 +3,9 @@ ghost use Rattle.std.specs.Prelude.{◌≡◌};
 ghost use Rattle.uring_register.specs.Structures as spec;
 
 use uring_register::{
-    CancelForm, Content, FilesForm, ParametersForm, RangeForm, RingForm, TableForm, UpdateForm,
+    CancelForm, Content, FilesForm, ParametersForm, RingForm, TableForm, UpdateForm,
     content_of_cancel, content_of_files, content_of_probe, content_of_table, content_of_update,
-    parameters_have_reserved, range_has_reserved, ring_has_reserved,
+    parameters_have_reserved, ring_has_reserved,
 };
 
 /// Writes what is judged of a table that is registered.
@@ -54,14 +54,6 @@ pub extern "C" fn wulgach_ring_has_reserved(form: &RingForm) -> bool
     ensures { result ≡ spec.ring_has_reserved form.now }
 {
     ring_has_reserved(form)
-}
-
-/// Whether a reserved field of a range of slots isn't 0.
-#[unsafe(no_mangle)]
-pub extern "C" fn wulgach_range_has_reserved(form: &RangeForm) -> bool
-    ensures { result ≡ spec.range_has_reserved form.now }
-{
-    range_has_reserved(form)
 }
 
 /// Whether a reserved field of a set-up's parameters isn't 0.

@@ -61,6 +61,7 @@ pub mod Afresh
 pub mod CoreEntries
 pub mod Ringing
 pub mod Mappings
+pub mod Tried
 pub mod Unknown
 pub mod SystemCalls
 pub mod Means

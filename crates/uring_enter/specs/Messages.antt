@@ -32,9 +32,13 @@ sending_file e to =
     if not (e.len == 0) || to.is_sender then Fails (error 22) else
     if to.is_disabled then Fails (error 77) else Passes
 
--- whether what a message's entry names may be a ring: with IOSQE_FIXED_FILE (1) it is a registered file, and a ring's can't be registered. io_uring_register(2), IORING_REGISTER_FILES; what Linux 6.18 does
+-- with IOSQE_FIXED_FILE (1) a message's entry names a slot, and else a descriptor
+abbrev pub is_by_slot : Submission → Bool
+is_by_slot e = has_some e.flags 1
+
+-- whether what it names may be a ring: a slot has a registered file, and a ring's can't be registered. io_uring_register(2), IORING_REGISTER_FILES; what Linux 6.18 does
 abbrev pub may_be_ring : Submission → Bool
-may_be_ring e = not (has_some e.flags 1)
+may_be_ring e = not (is_by_slot e)
 
 -- -9 (EBADF) to what isn't open, -77 to what is no ring. DATA is 0 and SEND_FD 1
 abbrev pub sending_of : Submission → Receiver → Sending

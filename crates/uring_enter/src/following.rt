@@ -6,6 +6,9 @@ ghost use Rattle.uring_enter.specs.Following as spec;
 /// What is done behind the end of a request, in the order in which it stands here.
 #[derive(Clone, Copy, Drop)]
 pub struct BehindEnd {
+    /// Its completion is kept, if it has one, to be shown.
+    pub keeps_completion: bool,
+
     /// It counts for the timeouts that wait for so many completions.
     pub counts: bool,
 
@@ -47,6 +50,7 @@ pub fn duties_behind_end(
     ensures { result ≡ spec.behind_end has_file has_instance is_stream is_draining }
 {
     BehindEnd {
+        keeps_completion: true,
         counts: true,
         stops_timeout: true,
         looks_at_counts: true,

@@ -65,11 +65,18 @@ pub struct Message {
     pub flags: u32,
 }
 
+/// Whether the entry of a message names its ring by a slot of registered files, or by a descriptor. io_uring_enter(2), IOSQE_FIXED_FILE.
+pub fn is_by_slot(entry: &Submission) -> bool
+    ensures { result ≡ spec.is_by_slot entry.now }
+{
+    entry.flags & 1 != 0
+}
+
 /// Whether the file that the entry of a message names may be a ring's: a registered one never is. io_uring_register(2), IORING_REGISTER_FILES.
 pub fn may_be_ring(entry: &Submission) -> bool
     ensures { result ≡ spec.may_be_ring entry.now }
 {
-    entry.flags & 1 == 0
+    !is_by_slot(entry)
 }
 
 /// What a message to this ring does. The first fault counts.

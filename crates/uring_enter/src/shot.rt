@@ -2,7 +2,7 @@
 
 ghost use Rattle.std.specs.Prelude.{◌≡◌, List};
 ghost use Rattle.uring_enter.specs.Showing.{Change, KeepsShown};
-ghost use Rattle.uring_enter.specs.Shots.{NotifiesAtLast, brings, comes_of_ring, completion_flags, end_of_send, goes_on, has_room, is_behind, shot_of, tells};
+ghost use Rattle.uring_enter.specs.Shots.{NotifiesAtLast, TellsABufferOnce, brings, comes_of_ring, completion_flags, end_of_send, goes_on, has_room, is_behind, shot_of, tells, untold_behind};
 
 use crate::needs::goes_on;
 use crate::posted::Posted;
@@ -113,6 +113,21 @@ pub fn completion_flags(part: Part, of_buffer: u32) -> u32
         Part::Own => of_buffer,
     }
 }
+
+/// The flags of a provided buffer of which no completion has told, behind one of this part, where they were `of_buffer`, or 0.
+pub fn untold_behind(part: Part, of_buffer: u32) -> u32
+    ensures { result ≡ untold_behind part of_buffer }
+{
+    match part {
+        Part::Event | Part::Own => 0,
+        Part::Sent | Part::Notice => of_buffer,
+    }
+}
+
+/// Behind an event that told of a buffer no completion of its request tells of it again.
+pub fn tells_a_buffer_once()
+    ensures { TellsABufferOnce }
+{}
 
 /// What the end of a send without copies tells of that has two completions, where the other was posted before, or is put off since memory was refused for it. io_uring_enter(2), IORING_OP_SEND_ZC; else our own rule.
 pub fn end_of_send(is_posted: bool) -> Part

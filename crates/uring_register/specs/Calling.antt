@@ -151,3 +151,15 @@ posts (Some call) = ends_requests call || takes_out call
 
 abbrev pub may_post : ℕ → Bool
 may_post code = posts (call_of code)
+
+-- of the two calls that register an eventfd this one's is told of what ends asynchronously alone: io_uring_register(2), IORING_REGISTER_EVENTFD_ASYNC
+abbrev pub is_async_call : Call → Bool
+is_async_call RegisterEventfdAsync = true
+is_async_call _ = false
+
+abbrev pub is_for_async : Option Call → Bool
+is_for_async None = false
+is_for_async (Some call) = is_async_call call
+
+abbrev pub tells_async_alone : ℕ → Bool
+tells_async_alone code = is_for_async (call_of code)

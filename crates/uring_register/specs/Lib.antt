@@ -18,6 +18,7 @@ pub mod Provided
 pub mod ProvidedLaws
 pub mod Stepping
 pub mod Listing
+pub mod Lists
 pub mod Placing
 pub mod Structures
 pub mod Numbering

@@ -29,6 +29,10 @@ abbrev pub restricting_steps : (count : ℕ) → ℕ
 restricting_steps count =
     bit_or (bit_or (step_bit 0 true) (step_bit 1 (nat_lt 0 count))) (step_bit 2 true)
 
+-- of a row of rings that lose their numbers each is read, -14, and judged, -22; then the ring loses its number. io_uring_register(2), IORING_UNREGISTER_RING_FDS
+abbrev pub dismissing_steps : ℕ
+dismissing_steps = bit_or (bit_or (step_bit 0 true) (step_bit 1 true)) (step_bit 2 true)
+
 -- a close with a fault changes nothing. Before another those that were accepted before it keep their files, as they have begun in the kernel; also where it fails then. Our own rule
 abbrev pub closing_steps : ℤ → ℕ
 closing_steps fault = bit_or (step_bit 0 (not (is_below fault))) (step_bit 1 (not (is_below fault)))

@@ -247,3 +247,19 @@ fn takes_out(call: Call) -> bool
         _ => false,
     }
 }
+
+/// Whether the eventfd that the call of a number registers is told of what ends asynchronously alone. io_uring_register(2), IORING_REGISTER_EVENTFD_ASYNC.
+pub fn tells_async_alone(code: u32) -> bool
+    ensures { result ≡ spec.tells_async_alone code }
+{
+    match call_of(code) {
+        Some(call) => is_async_call(call),
+        None => false,
+    }
+}
+
+fn is_async_call(call: Call) -> bool
+    ensures { result ≡ spec.is_async_call call }
+{
+    matches!(call, Call::RegisterEventfdAsync)
+}

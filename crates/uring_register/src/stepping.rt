@@ -38,6 +38,14 @@ pub fn restricting_steps(count: u32) -> u32
     bit(1, true) | bit(2, count > 0) | bit(4, true)
 }
 
+/// How a row of rings that lose their numbers is carried out: it is read (1), judged (2), and its ring loses its number (4).
+pub fn dismissing_steps() -> u32
+    ensures { result ≡ spec.dismissing_steps }
+{
+    let judged = bit(1, true) | bit(2, true);
+    judged | bit(4, true)
+}
+
 /// What a request does that closes a descriptor with this fault, or 0: those before it keep their files (1), and it is closed (2).
 pub fn closing_steps(fault: i32) -> u32
     ensures { result ≡ spec.closing_steps fault }
