@@ -94,6 +94,9 @@ uint32_t wulgach_buffer_flags(int32_t res, bool is_transfer, uint16_t id);
 /* The same of an operation that would have to wait, and has put so many bytes into its buffer so far: it has taken that if there are any. */
 uint32_t wulgach_buffer_flags_so_far(uint32_t moved, uint16_t id);
 
+/* Whether it has taken its buffer, by these flags: then that is taken out of its group (wulgach_group_take). */
+bool wulgach_buffer_is_taken(uint32_t flags);
+
 /* Writes where the next try of an operation begins that has put so many bytes into the buffer `had` so far, which end before 2^64: behind
  * them, in the same one. False, and nothing is written: it has put none there, and takes the next of its group. */
 bool wulgach_buffer_further(const struct wulgach_buffer *had, uint32_t moved, struct wulgach_buffer *further);

@@ -259,6 +259,10 @@ enum wulgach_source {
  * else nothing. */
 uint32_t wulgach_source_of(uint8_t code, int32_t started, uint32_t fault, int32_t *res);
 
+/* How many bytes a vector of this length has of those that WULGACH_FROM_HALF moves of `all`, where so many stand in the vectors before it: those of
+ * the first half, rounded down, that stand there. */
+uint64_t wulgach_half_in(uint64_t all, uint64_t before, uint64_t length);
+
 /* What is done with the result of a request that was carried out, or that a cancel has found, in this order: a set has the bit 1 << STEP of
  * each. */
 enum wulgach_finish_step {
@@ -281,13 +285,12 @@ struct wulgach_synced_kind {
  * file or a folder that counts as open by its number. Our own rule. */
 bool wulgach_counts_as_synced(const struct wulgach_openness *openness, const struct wulgach_synced_kind *kind);
 
-/* Whether SIGXFSZ may have come of an operation that ended with this: of a write, FALLOCATE or SPLICE, with -27 (EFBIG). In a kernel a worker of
- * its own has the signal, and the program gets none. Whether SIGPIPE may have come so: of a splice or a tee, or of a write that IOSQE_ASYNC gives to
- * a worker, with -32 (EPIPE). Whether SIGXFSZ may have come at all, where this is the greatest length that the process may give
+/* The number of the signal that is taken back behind an operation which ended with this, or 0: 25 (SIGXFSZ) of a write, FALLOCATE or SPLICE, with
+ * -27 (EFBIG), and 13 (SIGPIPE) of a splice or a tee, or of a write that IOSQE_ASYNC gives to a worker, with -32 (EPIPE). In a kernel a worker of
+ * its own has the signal, and the program gets none. Whether SIGXFSZ may have come at all, where this is the greatest length that the process may give
  * a file (getrlimit(2), RLIMIT_FSIZE), if that is known: unless it is 2^64 - 1 (RLIM_INFINITY), or isn't known. And whether a signal that was taken
  * is the call's, by its code (si_code), and by whether this process is told as its sender (si_pid): another is to be pending again. */
-bool wulgach_may_signal(const struct wulgach_submission *entry, int32_t res);
-bool wulgach_may_break(const struct wulgach_submission *entry, int32_t res);
+uint32_t wulgach_signal_behind(const struct wulgach_submission *entry, int32_t res);
 bool wulgach_is_limited(bool knows, uint64_t most);
 bool wulgach_is_signal_of_call(int32_t code, bool is_own);
 

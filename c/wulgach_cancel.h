@@ -63,6 +63,27 @@ bool wulgach_asks_file(const struct wulgach_sought *sought, const struct wulgach
  * file. */
 int32_t wulgach_seeking_fault(const struct wulgach_sought *sought, bool is_there);
 
+/* Where the file is looked for that a cancel names. */
+enum wulgach_sought_file {
+    WULGACH_SEEKS_NO_FILE = 0,  /* it names none: IORING_ASYNC_CANCEL_FD isn't set */
+    WULGACH_SEEKS_SLOT = 1,     /* in the slot `fd` of the table of registered files */
+    WULGACH_SEEKS_NUMBER = 2    /* by the descriptor `fd` */
+};
+
+uint32_t wulgach_sought_file(const struct wulgach_sought *sought);
+
+/* What is done with a request that a cancel has found, in this order. */
+enum wulgach_cancelling {
+    WULGACH_CANCELLING_ROUSES = 0,  /* it is dormant no more, */
+    WULGACH_CANCELLING_LOOKS = 1,   /* and is looked at again, whatever it was known to wait for; */
+    WULGACH_CANCELLING_STOPS = 2,   /* a time stops that runs no more behind that (wulgach_timing_behind_finding); */
+    WULGACH_CANCELLING_MARKS = 3    /* and it is marked: WULGACH_FACT_CANCELLED */
+};
+
+/* The bit 1 << STEP of each of these steps, which are done by rising bits: the last two, and the others if the request runs. */
+struct wulgach_course;
+uint32_t wulgach_course_steps_at_cancel(const struct wulgach_course *course);
+
 /* Whether a request that runs waits for something: for its descriptor, or as a timeout. A cancel ends no other. */
 bool wulgach_is_waiting(const struct wulgach_outstanding *request);
 
@@ -134,9 +155,20 @@ struct wulgach_linked {
     bool runs;          /* whose time runs */
 };
 
-/* Whether an update of the linked timeout with this user data changes this one: the first of which that is so. If it is so of none, the
- * update ends with -2 (ENOENT). */
-bool wulgach_updates_linked(uint64_t user_data, const struct wulgach_linked *seen);
+/* An update of a linked timeout, which looks at all requests, the oldest first. It is the caller's memory, and its fields are the library's. */
+struct wulgach_linked_update {
+    uint64_t user_data;
+    bool has_found;
+};
+
+/* An update of the linked timeout with this user data, which hasn't looked at any. */
+void wulgach_linked_update_begin(struct wulgach_linked_update *update, uint64_t user_data);
+
+/* Looks at the next request, and says whether it is changed: it is a linked timeout with this user data whose time runs, and the oldest that is. */
+bool wulgach_linked_update_sees(struct wulgach_linked_update *update, const struct wulgach_linked *request);
+
+/* What it ends with, once it has looked at all: 0, or -2 (ENOENT) if it has changed none. */
+int32_t wulgach_linked_update_result(const struct wulgach_linked_update *update);
 
 /* Changes a poll's entry as this one updates it: its user data, its events, of which 16 bits count, or both. Whether it goes on stays as it is. */
 void wulgach_updated_poll(struct wulgach_submission *poll, const struct wulgach_submission *update);

@@ -132,20 +132,22 @@ bool wulgach_looks_in_vain(bool gets, uint32_t min_complete, uint32_t ready);
 /* What is to be done at a moment of a call, in the order in which it is done: a set of these has the bit 1 << DUTY of each, and they are done
  * by rising bits. */
 enum wulgach_duty {
-    WULGACH_LOOKS_AFRESH = 0,       /* all that runs is looked at afresh, and what was written to pipes is heard */
-    WULGACH_PASSES_TIME = 1,        /* the timeouts end whose time is over */
-    WULGACH_FINDS_FILES = 2,        /* those find their files whose turn to do so hasn't come */
-    WULGACH_HOLDS_FILES = 3,        /* the files of what runs are kept open */
-    WULGACH_WATCHES_PIPES = 4,      /* writes to the pipes are watched that polls wait for */
-    WULGACH_LETS_LIE = 5,           /* of many that wait for descriptors those become dormant that wait for nothing else */
-    WULGACH_SHOWS_ENDS = 6,         /* what has ended is shown */
-    WULGACH_TELLS_READINESS = 7,    /* the ring's descriptor tells whether it is readable */
-    WULGACH_HEARS_APPLICATION = 8,  /* what the application has reaped is heard */
-    WULGACH_SHOWS_FLAGS = 9,        /* the word of flags says whether a call may bring something */
-    WULGACH_TELLS_EVENTFD = 10      /* the registered eventfd is told of what was shown */
+    WULGACH_LOOKS_AFRESH = 0,       /* all that runs is looked at afresh */
+    WULGACH_HEARS_PIPES = 1,        /* what was written to pipes is heard */
+    WULGACH_PASSES_TIME = 2,        /* the timeouts end whose time is over */
+    WULGACH_FINDS_FILES = 3,        /* those find their files whose turn to do so hasn't come */
+    WULGACH_KEEPS_NEW = 4,          /* the files of what was accepted are kept open, */
+    WULGACH_HOLDS_FILES = 5,        /* and those of what runs, which may have found others since */
+    WULGACH_WATCHES_PIPES = 6,      /* writes to the pipes are watched that polls wait for */
+    WULGACH_LETS_LIE = 7,           /* of many that wait for descriptors those become dormant that wait for nothing else */
+    WULGACH_SHOWS_ENDS = 8,         /* what has ended is shown */
+    WULGACH_TELLS_READINESS = 9,    /* the ring's descriptor tells whether it is readable */
+    WULGACH_HEARS_APPLICATION = 10, /* what the application has reaped is heard */
+    WULGACH_SHOWS_FLAGS = 11,       /* the word of flags says whether a call may bring something */
+    WULGACH_TELLS_EVENTFD = 12      /* the registered eventfd is told of what was shown */
 };
 
-/* What a call does as it begins, or has slept: it looks afresh; and where time is real, time passes as it begins. */
+/* What a call does as it begins, or has slept: it looks afresh, and hears pipes; and where time is real, time passes as it begins. */
 uint32_t wulgach_duties_at_begin(bool is_time_real, bool has_slept);
 
 /* A ring as a call on it falls asleep or returns. */
@@ -160,7 +162,7 @@ struct wulgach_resting {
     bool is_polled;             /* the ring's descriptor polls */
 };
 
-/* What it does before it is decided whether it sleeps: files are found, what runs, or was accepted, keeps them, and where requests run, or pipes are watched,
+/* What it does before it is decided whether it sleeps: files are found, what was accepted, and then what runs, keeps them, and where requests run, or pipes are watched,
  * pipes are, unless it is to fail with a fault. */
 uint32_t wulgach_duties_before_sleep(const struct wulgach_resting *resting, bool has_fault);
 

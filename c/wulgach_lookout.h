@@ -144,6 +144,10 @@ enum wulgach_step_of_start {
  * begins, and its path is looked up where wulgach_looks_at_path says so; `how` as there. */
 uint32_t wulgach_steps_at_start(const struct wulgach_submission *entry, uint64_t how, bool is_sought);
 
+/* Whether the core lets a request start, which stands as it does for this reason (enum wulgach_why_kind of wulgach.h): it may start, or it is doomed,
+ * so that its issue ends it. */
+bool wulgach_lets_start(uint32_t why);
+
 /* Behind that, where its files were found without a fault, 0, or with this one: a poll asks for its events, unless it has failed; the descriptor of one
  * that may have to wait is looked at; and so is its group, if it is to take a provided buffer. Another looks for one as it is carried out. */
 uint32_t wulgach_steps_behind_files(const struct wulgach_standing *standing, const struct wulgach_needs *needs, int32_t fault);

@@ -3,6 +3,7 @@
 #include "wulgach_calls.h"
 
 #include <fcntl.h>
+#include <signal.h>
 #include <stddef.h>
 #include <stdio.h>
 #include <stdlib.h>
@@ -176,6 +177,7 @@ static void look_at_sources(void)
     demand(wulgach_source_of(NOP, 0, WULGACH_GIVES_EIO, &res) == WULGACH_FROM_ENTRY, "a no-op");
     demand(wulgach_source_of(WRITE, 0, WULGACH_GIVES_SHORT, &res) == WULGACH_FROM_HALF && wulgach_source_of(WRITE, 0, 0, &res) == WULGACH_FROM_CALLS && wulgach_source_of(WRITE, 0, 4, &res) == WULGACH_FROM_CALLS && res == 7, "what is made");
     demand(wulgach_source_of(WRITE, 0, WULGACH_GIVES_EIO, &res) == WULGACH_FROM_FAULT && res == -5 && wulgach_source_of(WRITE, 0, WULGACH_GIVES_ENOSPC, &res) == WULGACH_FROM_FAULT && res == -28, "what it is given");
+    demand(wulgach_half_in(11, 0, 3) == 3 && wulgach_half_in(11, 3, 4) == 2 && wulgach_half_in(11, 7, 4) == 0 && wulgach_half_in(1, 0, 1) == 0, "half of what is moved");
     demand(wulgach_finish_steps(true) == 15 && wulgach_finish_steps(false) == 13, "what is done with a result");
 }
 
@@ -292,9 +294,9 @@ static void look_at_results(void)
     demand(wulgach_control_of(&sends, 24, 0) == 24 && wulgach_control_of(&sends, 24, 5) == 0 && wulgach_control_of(&receives, 24, 5) == 24, "control data");
     demand(wulgach_moved_so_far(&sends, 5) == 5 && wulgach_moved_so_far(&receives, 1ull << 40) == INT32_MAX && wulgach_moved_so_far(&splice, 1) == 0, "what was moved so far");
     demand(wulgach_done_result(&(struct wulgach_submission){.opcode = 10}, 7, 30) == 7 && wulgach_done_result(&(struct wulgach_submission){.opcode = 10, .ioprio = 2}, 7, 30) == 30 && wulgach_done_result(&(struct wulgach_submission){.opcode = 27, .ioprio = 2}, 7, 30) == 7 && wulgach_done_result(&(struct wulgach_submission){.opcode = 26}, 1ull << 40, 0) == INT32_MAX, "what was moved");
-    demand(wulgach_may_signal(&(struct wulgach_submission){.opcode = 23}, -27) && wulgach_may_signal(&(struct wulgach_submission){.opcode = 17}, -27) && wulgach_may_signal(&(struct wulgach_submission){.opcode = 30}, -27) && !wulgach_may_signal(&(struct wulgach_submission){.opcode = 22}, -27) && !wulgach_may_signal(&(struct wulgach_submission){.opcode = 23}, -28), "what may bring a signal");
+    demand(wulgach_signal_behind(&(struct wulgach_submission){.opcode = 23}, -27) == SIGXFSZ && wulgach_signal_behind(&(struct wulgach_submission){.opcode = 17}, -27) == SIGXFSZ && wulgach_signal_behind(&splice, -27) == SIGXFSZ && wulgach_signal_behind(&(struct wulgach_submission){.opcode = 22}, -27) == 0 && wulgach_signal_behind(&(struct wulgach_submission){.opcode = 23}, -28) == 0, "what may bring a signal");
     struct wulgach_submission put_off = {.opcode = 23, .flags = 16}, write = {.opcode = 23};
-    demand(wulgach_may_break(&splice, -32) && wulgach_may_break(&put_off, -32) && !wulgach_may_break(&write, -32) && !wulgach_may_break(&splice, -27), "what breaks a pipe unheard");
+    demand(wulgach_signal_behind(&splice, -32) == SIGPIPE && wulgach_signal_behind(&put_off, -32) == SIGPIPE && wulgach_signal_behind(&write, -32) == 0, "what breaks a pipe unheard");
     static const struct wulgach_openness open = {.is_open = true}, path = {true, true};
     static const struct wulgach_synced_kind regular = {.is_regular = true}, folder = {.is_folder = true}, pipe = {0};
     demand(wulgach_counts_as_synced(&open, &regular) && wulgach_counts_as_synced(&open, &folder) && !wulgach_counts_as_synced(&open, &pipe) && !wulgach_counts_as_synced(&path, &regular) && !wulgach_counts_as_synced(&(struct wulgach_openness){0}, &regular), "what is synced");

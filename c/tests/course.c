@@ -1,4 +1,5 @@
 /* The course of a request, what is shown of its end, and its chain: each call once, with what the manual page calls for, written by hand. */
+#include "wulgach_cancel.h"
 #include "wulgach_course.h"
 #include "wulgach_form.h"
 #include "wulgach_times.h"
@@ -46,6 +47,7 @@ static void cancel_one(void)
     int32_t res;
     wulgach_awaiting_begin(&awaiting);
     demand(wulgach_awaiting_sees(&awaiting, 3, &course, true) == WULGACH_NOT_AWAITED && !wulgach_course_asks_start(&course) && wulgach_course_steps_at_update(&course) == 63, "nobody waits for one that no cancel has found");
+    demand(wulgach_course_steps_at_cancel(&course) == 15 && WULGACH_CANCELLING_ROUSES < WULGACH_CANCELLING_STOPS && WULGACH_CANCELLING_STOPS < WULGACH_CANCELLING_MARKS, "one that runs is roused");
     demand(wulgach_course_note(&course, WULGACH_FACT_CANCELLED, 0), "a cancel");
     demand(wulgach_awaiting_sees(&awaiting, 3, &course, false) == WULGACH_WRONG_TURN && wulgach_awaiting_sees(&awaiting, 2, &course, false) == WULGACH_WRONG_TURN, "each is looked at in its turn");
     demand(wulgach_awaiting_sees(&awaiting, 4, &course, false) == WULGACH_AWAITED_RUNS, "but for one that it has");
@@ -54,6 +56,7 @@ static void cancel_one(void)
     demand(wulgach_course_act(&course, &res) == WULGACH_ACT_END && res == -125, "one that was cancelled");
     demand(wulgach_course_note(&course, WULGACH_FACT_NOTIFIED, 0) && wulgach_course_act(&course, &res) == WULGACH_ACT_END && res == 0, "a send without copies");
     wulgach_course_begin(&course);
+    demand(wulgach_course_steps_at_cancel(&course) == (1 << WULGACH_CANCELLING_STOPS | 1 << WULGACH_CANCELLING_MARKS), "another isn't");
     demand(wulgach_course_note(&course, WULGACH_FACT_CANCELLED, 0) && wulgach_course_asks_start(&course), "one that hasn't started");
     demand(wulgach_awaiting_sees(&awaiting, 5, &course, false) == WULGACH_NOT_AWAITED && wulgach_awaiting_sees(&awaiting, 8, &course, true) == WULGACH_AWAITED_WAITS, "if it may start");
 }

@@ -207,9 +207,10 @@ static void reach_rings(void)
 #define BIT(duty) (1u << (duty))
 
 enum {
-    FIRST = BIT(WULGACH_LOOKS_AFRESH),
+    FIRST = BIT(WULGACH_LOOKS_AFRESH) | BIT(WULGACH_HEARS_PIPES),
     TIME = BIT(WULGACH_PASSES_TIME),
     FOUND = BIT(WULGACH_FINDS_FILES),
+    NEW = BIT(WULGACH_KEEPS_NEW),
     FILES = BIT(WULGACH_HOLDS_FILES),
     PIPES = BIT(WULGACH_WATCHES_PIPES),
     DORMANT = BIT(WULGACH_LETS_LIE),
@@ -239,7 +240,7 @@ static void do_duties(void)
     check(wulgach_duties_before(0, true) == APPLICATION && wulgach_duties_before(22, true) == (ENDS | APPLICATION) && wulgach_duties_before(22, false) == APPLICATION, "before an operation");
     check(wulgach_duties_before_posting() == APPLICATION && wulgach_duties_behind_posting(false, false) == 0 && wulgach_duties_behind_posting(true, true) == (ENDS | READINESS), "where completions are posted");
     check(wulgach_duties_behind_storing(0) == LAST && wulgach_duties_behind_storing(3) == (LAST | BIT(WULGACH_TELLS_EVENTFD)) && LAST < BIT(WULGACH_TELLS_EVENTFD), "where completions were stored");
-    check(FIRST < TIME && FOUND < FILES && FILES < PIPES && PIPES < DORMANT && DORMANT < ENDS && ENDS < READINESS && ENDS < APPLICATION && READINESS < LAST, "their order");
+    check(FIRST < TIME && BIT(WULGACH_LOOKS_AFRESH) < BIT(WULGACH_HEARS_PIPES) && FOUND < NEW && NEW < FILES && FILES < PIPES && PIPES < DORMANT && DORMANT < ENDS && ENDS < READINESS && ENDS < APPLICATION && READINESS < LAST, "their order");
     check(wulgach_polls_writes(1) && !wulgach_polls_writes(0), "a sleep beside pipes");
     check(wulgach_polls_instance(1) && !wulgach_polls_instance(0), "a sleep beside those that are dormant");
 }
@@ -259,7 +260,7 @@ static void do_some_duties(void)
         {{.waiting = 1}, 0, DORMANT, DORMANT},
         {{.has_due = true}, FOUND, 0, FOUND},
         {{.runs = true}, FILES | PIPES, 0, FILES | PIPES},
-        {{.has_new = true}, FILES, 0, FILES},
+        {{.has_new = true}, NEW, 0, NEW},
         {{.has_watches = true}, PIPES, 0, PIPES},
         {{.has_ends = true}, 0, ENDS, ENDS},
         {{.is_polled = true}, 0, READINESS, READINESS},

@@ -1,4 +1,5 @@
 /* What a ring looks out for, which polls are told of writes, and what came of a wait: written by hand, of runs of a few happenings. */
+#include "wulgach.h"
 #include "wulgach_lookout.h"
 #include "wulgach_waits.h"
 
@@ -106,6 +107,7 @@ static void ask_again(void)
     enum { EARLIER = 1 << WULGACH_FINDS_EARLIER, OWN = 1 << WULGACH_FINDS_OWN, TIME = 1 << WULGACH_BEGINS_TIME, UP = 1 << WULGACH_LOOKS_UP, EVENTS = 1 << WULGACH_ASKS_EVENTS, LOOKS = 1 << WULGACH_LOOKS, BUFFER = 1 << WULGACH_SEEKS_BUFFER };
     struct wulgach_submission receive = {.opcode = 27}, open = {.opcode = 28, .op_flags = 2};
     demand(wulgach_steps_at_start(&receive, 64, true) == (EARLIER | TIME) && wulgach_steps_at_start(&receive, 64, false) == (EARLIER | OWN | TIME) && EARLIER < OWN && OWN < TIME && TIME < UP && UP < EVENTS && EVENTS < LOOKS && LOOKS < BUFFER, "what is done as one starts");
+    demand(wulgach_lets_start(WULGACH_MAY_START) && wulgach_lets_start(WULGACH_DOOMED) && !wulgach_lets_start(WULGACH_WAITS) && !wulgach_lets_start(WULGACH_RUNS) && !wulgach_lets_start(WULGACH_HAS_ENDED) && !wulgach_lets_start(WULGACH_NEVER_ACCEPTED), "whom the core lets start");
     demand(wulgach_steps_at_start(&open, 64, true) == (EARLIER | TIME | UP) && wulgach_steps_at_start(&open, 0, true) == (EARLIER | TIME), "a path is looked up");
     demand(wulgach_steps_behind_files(&none, &(struct wulgach_needs){.is_poll = true}, 0) == EVENTS && wulgach_steps_behind_files(&stream, &(struct wulgach_needs){.is_poll = true}, -9) == LOOKS && wulgach_steps_behind_files(&none, &no_needs, 0) == 0, "a poll that hasn't failed asks for its events");
     demand(wulgach_steps_behind_files(&stream, &(struct wulgach_needs){.selects = true}, 0) == (LOOKS | BUFFER) && wulgach_steps_behind_files(&none, &(struct wulgach_needs){.selects = true}, 0) == 0, "and what may wait looks for its buffer");

@@ -17,20 +17,31 @@
 #include "timeouts.h"
 #include "wulgach_cancel.h"
 
-/* One that runs is looked at again. */
-static void look_again_at(struct ring *ring, struct request *request)
+static void do_step_of_cancel(struct ring *ring, struct request *request, enum wulgach_cancelling step)
 {
-    rouse(ring, request);
-    wulgach_waiter_meets_cancel(&request->waiter);
-    wulgach_lookout_touches(&ring->lookout, place_of(&ring->running, request->number));
+    switch (step) {
+    case WULGACH_CANCELLING_ROUSES:
+        rouse(ring, request);
+        return;
+    case WULGACH_CANCELLING_LOOKS:
+        wulgach_waiter_meets_cancel(&request->waiter);
+        wulgach_lookout_touches(&ring->lookout, place_of(&ring->running, request->number));
+        return;
+    case WULGACH_CANCELLING_STOPS:
+        note_found(ring, request);
+        return;
+    case WULGACH_CANCELLING_MARKS:
+        note_fact(request, WULGACH_FACT_CANCELLED, 0);
+        return;
+    }
+    __builtin_unreachable();
 }
 
+/* Does with what was found what the library says, by rising bits. */
 void cancel_request(struct ring *ring, struct request *request)
 {
-    if (request->course.has_started)
-        look_again_at(ring, request);
-    note_found(ring, request);
-    note_fact(request, WULGACH_FACT_CANCELLED, 0);
+    for (uint32_t steps = wulgach_course_steps_at_cancel(&request->course); steps; steps &= steps - 1)
+        do_step_of_cancel(ring, request, (enum wulgach_cancelling)__builtin_ctz(steps));
 }
 
 /* A request as a cancel sees it, but for whether it could start now. */
@@ -106,8 +117,9 @@ bool cancel_running(struct ring *ring, uint64_t user_data, int32_t *found)
 
 int32_t cancel_sought(struct ring *ring, const struct request *canceller, const struct wulgach_sought *sought)
 {
-    struct file *file = sought->is_by_fd && sought->is_fixed ? use_file(ring, sought->fd) : NULL;
-    bool is_there = sought->is_fixed ? file != NULL : sought->is_by_fd && counts_as_open((int)sought->fd, false);
+    uint32_t where = wulgach_sought_file(sought);
+    struct file *file = where == WULGACH_SEEKS_SLOT ? use_file(ring, sought->fd) : NULL;
+    bool is_there = file || (where == WULGACH_SEEKS_NUMBER && counts_as_open((int)sought->fd, false));
     int on = file ? file->fd : (int)sought->fd;
     int32_t fault = wulgach_seeking_fault(sought, is_there);
     int32_t res = fault < 0 ? fault : cancel_all(ring, canceller, sought, on);

@@ -13,6 +13,8 @@ static void do_duty(struct ring *ring, enum wulgach_duty duty)
     switch (duty) {
     case WULGACH_LOOKS_AFRESH:
         wulgach_lookout_opens(&ring->lookout);
+        return;
+    case WULGACH_HEARS_PIPES:
         hear_pipes(ring);
         return;
     case WULGACH_PASSES_TIME:
@@ -21,8 +23,10 @@ static void do_duty(struct ring *ring, enum wulgach_duty duty)
     case WULGACH_FINDS_FILES:
         assign_before(ring, UINT64_MAX);
         return;
-    case WULGACH_HOLDS_FILES:
+    case WULGACH_KEEPS_NEW:
         hold_new_files(ring);
+        return;
+    case WULGACH_HOLDS_FILES:
         hold_files(ring);
         return;
     case WULGACH_WATCHES_PIPES:

@@ -36,7 +36,7 @@ static int lengthen(int fd, uint64_t length)
     pthread_sigmask(SIG_BLOCK, &signals, &own);
     int result = ftruncate(fd, (off_t)length) < 0 ? -errno : 0;
     if (result == -EFBIG)
-        take_back_signal();
+        take_back_signal(SIGXFSZ);
     pthread_sigmask(SIG_SETMASK, &own, NULL);
     return result;
 }

@@ -79,15 +79,15 @@ bool is_ready(const struct request *request)
     return is_glanced_ready(request, wulgach_glance_of(is_hasty, false, came, (uint16_t)at.revents));
 }
 
-/* Cuts the vectors to half their bytes. */
+/* Cuts the vectors to what the library says that each has of half their bytes. */
 static void shorten(struct request *request)
 {
-    uint64_t left = request->length / 2;
+    uint64_t before = 0;
     for (uint32_t i = 0; i < request->vector_count; i++) {
         struct iovec *vector = &request->vectors[i];
-        if (vector->iov_len > left)
-            vector->iov_len = left;
-        left -= vector->iov_len;
+        uint64_t length = vector->iov_len;
+        vector->iov_len = wulgach_half_in(request->length, before, length);
+        before += length;
     }
 }
 
@@ -267,21 +267,19 @@ static int32_t call_with_buffer(struct ring *ring, struct request *request, bool
     uint16_t id = request->provided.id;
     int32_t res = call_into(ring, request, request->provided, is_half);
     request->flags = res == WOULD_WAIT ? wulgach_buffer_flags_so_far((uint32_t)moved_so_far(request), id) : wulgach_buffer_flags(res, is_transfer(request), id);
-    if (request->flags)
+    if (wulgach_buffer_is_taken(request->flags))
         take_provided(ring, request->entry.buf_group);
     return res;
 }
 
-/* Makes its calls, of half of its bytes or of all, and takes back the signals that come of them. */
+/* Makes its calls, of half of its bytes or of all, and takes back the signal that comes of them. */
 static int32_t call_for(struct ring *ring, struct request *request, bool is_half)
 {
     if (is_half && !request->needs.selects)
         shorten(request);
     int32_t res = request->needs.selects ? call_with_buffer(ring, request, is_half) : call_or_wait(ring, request);
-    if (res < 0 && wulgach_may_signal(submission_of(&request->entry), res))
-        take_back_signal();
-    if (res < 0 && wulgach_may_break(submission_of(&request->entry), res))
-        take_back_broken();
+    if (res < 0)
+        take_back_signal(wulgach_signal_behind(submission_of(&request->entry), res));
     return res;
 }
 

@@ -33,13 +33,11 @@ static void take_back(int signal)
         syscall(SYS_rt_tgsigqueueinfo, this_process(), this_thread(), signal, &told);
 }
 
-void take_back_signal(void)
-{
-    if (has_limit())
-        take_back(SIGXFSZ);
-}
+_Static_assert(SIGXFSZ == 25 && SIGPIPE == 13, "signals count as the library's do");
 
-void take_back_broken(void)
+void take_back_signal(uint32_t signal)
 {
-    take_back(SIGPIPE);
+    if (signal == 0 || (signal == SIGXFSZ && !has_limit()))
+        return;
+    take_back((int)signal);
 }

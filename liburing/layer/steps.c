@@ -3,6 +3,7 @@
 #include "account.h"
 #include "fault.h"
 #include "trace.h"
+#include "wulgach_lookout.h"
 
 #include <string.h>
 
@@ -191,7 +192,7 @@ static bool may_go_on(struct ring *ring, uint64_t number)
 {
     struct wulgach_why why;
     demand(wulgach_core_why(&ring->core, number, &why) == 0, "the core doesn't say how a request stands");
-    return why.kind == WULGACH_MAY_START || why.kind == WULGACH_DOOMED;
+    return wulgach_lets_start(why.kind);
 }
 
 bool can_issue(struct ring *ring, uint64_t number)

@@ -153,14 +153,14 @@ void change_timeout(struct ring *ring, struct request *timeout, const struct req
 
 int32_t change_linked_timeout(struct ring *ring, const struct request *change)
 {
+    struct wulgach_linked_update update;
+    wulgach_linked_update_begin(&update, wulgach_target_of(submission_of(&change->entry)));
     for (size_t i = 0; i < ring->requests.count; i++) {
         struct request *timeout = ring->requests.rows[i];
         struct wulgach_linked seen = {.user_data = timeout->entry.user_data, .is_linked = is_linked_timeout(timeout)};
         seen.runs = seen.is_linked && wulgach_times_runs(&ring->times, ring->timeouts, ring->timeouts_room, timeout->number);
-        if (wulgach_updates_linked(wulgach_target_of(submission_of(&change->entry)), &seen)) {
+        if (wulgach_linked_update_sees(&update, &seen))
             change_timeout(ring, timeout, change);
-            return wulgach_removal_result(true);
-        }
     }
-    return wulgach_removal_result(false);
+    return wulgach_linked_update_result(&update);
 }

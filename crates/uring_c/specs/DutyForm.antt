@@ -2,7 +2,7 @@
 use Rattle.std.specs.Prelude.{ℕ, ◌^◌, if◌then◌else◌}
 use Rattle.std.specs.Int.RustNames.{bit_or}
 use Rattle.uring_enter.specs.declared.duties.Duties.{Duties}
-use Rattle.uring_enter.specs.Duties.{Duty, LooksAfresh, PassesTime, FindsFiles, HoldsFiles, WatchesPipes, LetsLie, ShowsEnds, TellsReadiness, HearsApplication, ShowsFlags, TellsEventfd, place, is_due}
+use Rattle.uring_enter.specs.Duties.{Duty, LooksAfresh, HearsPipes, PassesTime, FindsFiles, KeepsNew, HoldsFiles, WatchesPipes, LetsLie, ShowsEnds, TellsReadiness, HearsApplication, ShowsFlags, TellsEventfd, place, is_due}
 
 -- the bit of a duty, where it is due, is 2 to the power of its place: so duties are done by rising bits. Our own rule
 abbrev pub bit : Duties → Duty → ℕ
@@ -10,7 +10,7 @@ bit d duty = if is_due d duty then 2 ^ place duty else 0
 
 abbrev pub word_of_duties : Duties → ℕ
 word_of_duties d =
-    bit_or (bit_or (bit_or (bit_or (bit_or (bit_or (bit_or (bit_or (bit_or (bit_or
-    (bit d LooksAfresh) (bit d PassesTime)) (bit d FindsFiles)) (bit d HoldsFiles))
+    bit_or (bit_or (bit_or (bit_or (bit_or (bit_or (bit_or (bit_or (bit_or (bit_or (bit_or (bit_or
+    (bit d LooksAfresh) (bit d HearsPipes)) (bit d PassesTime)) (bit d FindsFiles)) (bit d KeepsNew)) (bit d HoldsFiles))
     (bit d WatchesPipes)) (bit d LetsLie)) (bit d ShowsEnds)) (bit d TellsReadiness))
     (bit d HearsApplication)) (bit d ShowsFlags)) (bit d TellsEventfd)

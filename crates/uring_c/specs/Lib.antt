@@ -8,6 +8,7 @@ pub mod RoundForm
 pub mod RingForm
 pub mod DecisionForm
 pub mod DutyForm
+pub mod CancellingForm
 pub mod MissingForm
 pub mod SleepForm
 pub mod MeansForm

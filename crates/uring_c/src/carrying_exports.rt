@@ -7,7 +7,8 @@ ghost use Rattle.uring_c.specs.MeansForm.{fault_of_word};
 
 use crate::call_exports::fault_of;
 use uring_enter::{
-    Calls, Source, asked_descriptors, asked_flags, calls_of, finish_steps, flags_behind, source_of,
+    Calls, Source, asked_descriptors, asked_flags, calls_of, finish_steps, flags_behind, half_in,
+    source_of,
 };
 
 /// Returns where the result of the operation of this code comes from, whose start has found this error, or 0, and which is given this fault, or none, and writes the result of a fault that it is given. Else nothing is written.
@@ -26,6 +27,14 @@ pub extern "C" fn wulgach_source_of(code: u8, started: i32, fault: u32, res: &mu
         Source::HalfOfCalls => 3,
         Source::Calls => 4,
     }
+}
+
+/// How many bytes a vector of this length has of the first half of `all`, where so many stand in the vectors before it.
+#[unsafe(no_mangle)]
+pub extern "C" fn wulgach_half_in(all: u64, before: u64, length: u64) -> u64
+    ensures { result ≡ spec.half_in all before length }
+{
+    half_in(all, before, length)
 }
 
 /// Returns by which calls the operation of this code is carried out.

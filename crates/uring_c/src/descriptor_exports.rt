@@ -12,7 +12,7 @@ use uring_enter::{
     Directions, Nature, Openness, SpliceEnds, SplicePoll, Submission, SyncedKind, asks_counter,
     asks_openness, counts_as_open, counts_as_synced, directions_of, ends_at_start,
     fault_asks_buffer, is_counter_name, is_eventfd_name, is_limited, is_missing, is_signal_of_call,
-    isnt_to_wait, may_break, may_signal, splice_poll,
+    isnt_to_wait, signal_behind, splice_poll,
 };
 
 /// Whether a descriptor counts as open that is this, and is named by its number, or by the slot that holds its file.
@@ -105,20 +105,12 @@ pub extern "C" fn wulgach_counts_as_synced(openness: &Openness, kind: &SyncedKin
     counts_as_synced(openness, kind)
 }
 
-/// Whether SIGXFSZ may have come of an operation that ended with this.
+/// The number of the signal that is taken back behind an operation which ended with this, or 0.
 #[unsafe(no_mangle)]
-pub extern "C" fn wulgach_may_signal(entry: &Submission, res: i32) -> bool
-    ensures { result ≡ signals.may_signal entry.now res }
+pub extern "C" fn wulgach_signal_behind(entry: &Submission, res: i32) -> u32
+    ensures { result ≡ signals.signal_behind entry.now res }
 {
-    may_signal(entry, res)
-}
-
-/// Whether SIGPIPE may have come of an operation that ended with this.
-#[unsafe(no_mangle)]
-pub extern "C" fn wulgach_may_break(entry: &Submission, res: i32) -> bool
-    ensures { result ≡ signals.may_break entry.now res }
-{
-    may_break(entry, res)
+    signal_behind(entry, res)
 }
 
 /// Whether the kernel may send a signal for a file that gets too long, where this is the greatest length that the process may give one, if that is known.

@@ -125,16 +125,18 @@ fn duties_word(duties: Duties) -> u32
     ensures { result ≡ word_of_duties duties }
 {
     bit(1, duties.looks_afresh)
-        | bit(2, duties.passes_time)
-        | bit(4, duties.finds_files)
-        | bit(8, duties.holds_files)
-        | bit(16, duties.watches_pipes)
-        | bit(32, duties.lets_lie)
-        | bit(64, duties.shows_ends)
-        | bit(128, duties.tells_readiness)
-        | bit(256, duties.hears_application)
-        | bit(512, duties.shows_flags)
-        | bit(1024, duties.tells_eventfd)
+        | bit(2, duties.hears_pipes)
+        | bit(4, duties.passes_time)
+        | bit(8, duties.finds_files)
+        | bit(16, duties.keeps_new)
+        | bit(32, duties.holds_files)
+        | bit(64, duties.watches_pipes)
+        | bit(128, duties.lets_lie)
+        | bit(256, duties.shows_ends)
+        | bit(512, duties.tells_readiness)
+        | bit(1024, duties.hears_application)
+        | bit(2048, duties.shows_flags)
+        | bit(4096, duties.tells_eventfd)
 }
 
 /// A bit of a set that is done by rising bits.

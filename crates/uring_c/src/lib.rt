@@ -4,6 +4,7 @@
 mod argument_exports;
 mod call_exports;
 mod cancel_exports;
+mod cancelling_exports;
 mod carrying_exports;
 mod chain_exports;
 mod core_exports;

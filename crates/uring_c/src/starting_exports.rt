@@ -4,7 +4,9 @@ ghost use Rattle.uring_enter.specs.Starts as starts;
 ghost use Rattle.uring_c.specs.StartForm.{word_of_starting};
 
 use crate::duty_exports::bit;
-use uring_enter::{Needs, Standing, Starting, Submission, steps_at_start, steps_behind_files};
+use uring_enter::{
+    Needs, Standing, Starting, Submission, lets_start, steps_at_start, steps_behind_files,
+};
 
 /// What is done as the core has let the request of an entry start, whose files were looked for before or weren't, as a set of steps.
 #[unsafe(no_mangle)]
@@ -20,6 +22,14 @@ pub extern "C" fn wulgach_steps_behind_files(standing: &Standing, needs: &Needs,
     ensures { result ≡ word_of_starting (starts.behind_files standing.now needs.now fault) }
 {
     starting_word(steps_behind_files(standing, needs, fault))
+}
+
+/// Whether the core lets a request start, which stands as it does for this reason.
+#[unsafe(no_mangle)]
+pub extern "C" fn wulgach_lets_start(why: u32) -> bool
+    ensures { result ≡ starts.lets_start why }
+{
+    lets_start(why)
 }
 
 fn starting_word(starting: Starting) -> u32

@@ -1,11 +1,13 @@
 //! What an update makes of a poll or of a timeout, for C: functions of `c/wulgach_cancel.h`.
-ghost use Rattle.std.specs.Prelude.{◌≡◌};
+ghost use Rattle.std.specs.Prelude.{◌≡◌, ℕ, List, [], ◌∷◌};
+ghost use Rattle.uring_enter.specs.declared.update.Linked.{Linked};
 ghost use Rattle.uring_enter.specs.Updates as spec;
+ghost use Rattle.uring_enter.specs.Updates.{HasLooked};
 ghost use Rattle.uring_c.specs.TakingForm.{word_of_removal};
 
 use uring_enter::{
-    Linked, Removal, Submission, poll_removal, removal_result, timeout_removal, updated_poll,
-    updated_timeout, updates_linked,
+    Linked, LinkedUpdate, Removal, Submission, poll_removal, removal_result, timeout_removal,
+    updated_poll, updated_timeout,
 };
 
 /// What the removal of a poll does.
@@ -42,12 +44,32 @@ fn removal_word(removal: Removal) -> u32
     }
 }
 
-/// Whether an update of the linked timeout with this user data changes this one.
+/// An update of the linked timeout with this user data, which hasn't looked at any request.
 #[unsafe(no_mangle)]
-pub extern "C" fn wulgach_updates_linked(user_data: u64, seen: &Linked) -> bool
-    ensures { result ≡ spec.updates_linked user_data seen.now }
+pub extern "C" fn wulgach_linked_update_begin(update: &mut LinkedUpdate, user_data: u64)
+    ensures { HasLooked user_data [] update.new }
 {
-    updates_linked(user_data, seen)
+    *update = LinkedUpdate::begin(user_data);
+}
+
+/// Looks at the next request, and says whether it is changed.
+#[unsafe(no_mangle)]
+pub extern "C" fn wulgach_linked_update_sees(update: &mut LinkedUpdate, request: &Linked) -> bool
+    ensures changed { (user_data : ℕ) (seen : List Linked) → HasLooked user_data seen update.old
+        → result ≡ spec.is_changed user_data seen request.now }
+    ensures after { (user_data : ℕ) (seen : List Linked) → HasLooked user_data seen update.old
+        → HasLooked user_data (request.now ∷ seen) update.new }
+{
+    update.sees(request)
+}
+
+/// What it ends with, once it has looked at all.
+#[unsafe(no_mangle)]
+pub extern "C" fn wulgach_linked_update_result(update: &LinkedUpdate) -> i32
+    ensures { (user_data : ℕ) (seen : List Linked) → HasLooked user_data seen update.now
+        → result ≡ spec.linked_result user_data seen }
+{
+    update.result()
 }
 
 /// Changes a poll's entry as this one updates it.

@@ -5,7 +5,7 @@ ghost use Rattle.uring_register.specs.Bytes as spec;
 ghost use Rattle.uring_c.specs.UsesForm.{word_of_ending};
 
 use uring_register::{
-    Buffer, Ending, Uses, bytes_fault, flags_of, flags_so_far, further_in, part_of,
+    Buffer, Ending, Uses, bytes_fault, flags_of, flags_so_far, further_in, is_taken, part_of,
 };
 
 /// One has a file or buffer, with a tag or without: a slot that is to get it, or a request.
@@ -87,6 +87,14 @@ pub extern "C" fn wulgach_buffer_flags_so_far(moved: u32, id: u16) -> u32
     ensures { result ≡ spec.flags_so_far moved id }
 {
     flags_so_far(moved, id)
+}
+
+/// Whether an operation has taken the provided buffer that it had, by the flags of its completion: then that is taken out of its group.
+#[unsafe(no_mangle)]
+pub extern "C" fn wulgach_buffer_is_taken(flags: u32) -> bool
+    ensures { result ≡ spec.is_taken flags }
+{
+    is_taken(flags)
 }
 
 /// Writes where the next try of an operation begins that has put so many bytes into the provided buffer `had` so far. False, and nothing is written: it takes the next of its group.

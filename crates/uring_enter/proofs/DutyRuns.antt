@@ -1,7 +1,7 @@
 -- The laws of what a call does besides, and in which order.
 use Rattle.std.proofs.Common.{◌≡◌, Bool, true, false, ◌&&◌, ◌||◌, refl}
 use Rattle.std.proofs.lemmas.Bool.{false≢true}
-use Rattle.uring_enter.specs.Duties.{LooksAfresh, PassesTime, FindsFiles, HoldsFiles, WatchesPipes, LetsLie, ShowsEnds, TellsReadiness, HearsApplication, ShowsFlags, TellsEventfd, are_many, ShowsAtLast, WatchesWhatIsHeld, LiesBehindPipes, RegistersAsItEnters}
+use Rattle.uring_enter.specs.Duties.{LooksAfresh, HearsPipes, PassesTime, FindsFiles, KeepsNew, HoldsFiles, WatchesPipes, LetsLie, ShowsEnds, TellsReadiness, HearsApplication, ShowsFlags, TellsEventfd, are_many, ShowsAtLast, WatchesWhatIsHeld, LiesBehindPipes, RegistersAsItEnters}
 
 due : (b : Bool) → b ≡ true → (b && true && true || false) ≡ true
 due true is = refl
@@ -9,9 +9,11 @@ due false is = is
 
 pub shows_at_last : ShowsAtLast
 shows_at_last r LooksAfresh is = is
+shows_at_last r HearsPipes is = is
 shows_at_last r PassesTime is = is
 shows_at_last r FindsFiles is = due r.has_due is
-shows_at_last r HoldsFiles is = due (r.runs || r.has_new) is
+shows_at_last r KeepsNew is = due r.has_new is
+shows_at_last r HoldsFiles is = due r.runs is
 shows_at_last r WatchesPipes is = due (r.runs || r.has_watches) is
 shows_at_last r LetsLie is = due (are_many r) is
 shows_at_last r ShowsEnds is = due r.has_ends is
@@ -20,17 +22,17 @@ shows_at_last r HearsApplication is = is
 shows_at_last r ShowsFlags is = refl
 shows_at_last r TellsEventfd is = is
 
-held : (runs has_new has_watches : Bool) → runs ≡ true → ((runs || has_new) && (runs || has_watches) && true) ≡ true
-held true has_new has_watches are = refl
-held false has_new has_watches are = absurd (false≢true are)
+held : (runs has_watches : Bool) → runs ≡ true → (runs && (runs || has_watches) && true) ≡ true
+held true has_watches are = refl
+held false has_watches are = absurd (false≢true are)
 
-both : (b runs has_new : Bool) → b ≡ true → runs ≡ true → (b && (runs || has_new) && true) ≡ true
-both true true has_new is are = refl
-both true false has_new is are = absurd (false≢true are)
-both false runs has_new is are = is
+both : (b runs : Bool) → b ≡ true → runs ≡ true → (b && runs && true) ≡ true
+both true true is are = refl
+both true false is are = absurd (false≢true are)
+both false runs is are = is
 
 pub watches_what_is_held : WatchesWhatIsHeld
-watches_what_is_held r are = (held r.runs r.has_new r.has_watches are, λ due. both r.has_due r.runs r.has_new due are)
+watches_what_is_held r are = (held r.runs r.has_watches are, λ due. both r.has_due r.runs due are, λ new. both r.has_new r.runs new are)
 
 lie : (runs has_watches many : Bool) → runs ≡ true → many ≡ true
     → ((runs || has_watches) && many && true) ≡ true
@@ -43,8 +45,10 @@ lies_behind_pipes r are many = lie r.runs r.has_watches (are_many r) are many
 
 pub registers_as_it_enters : RegistersAsItEnters
 registers_as_it_enters is_time_real r LooksAfresh = (λ is. is, λ is. is)
+registers_as_it_enters is_time_real r HearsPipes = (λ is. is, λ is. is)
 registers_as_it_enters is_time_real r PassesTime = (λ is. is, λ is. is)
 registers_as_it_enters is_time_real r FindsFiles = (λ is. is, λ is. is)
+registers_as_it_enters is_time_real r KeepsNew = (λ is. is, λ is. is)
 registers_as_it_enters is_time_real r HoldsFiles = (λ is. is, λ is. is)
 registers_as_it_enters is_time_real r WatchesPipes = (λ is. is, λ is. is)
 registers_as_it_enters is_time_real r LetsLie = (λ is. is, λ is. is)

@@ -20,6 +20,7 @@ mod WaiterRuns
 mod CallTryRuns
 mod MeansRuns
 mod DutyRuns
+mod CancellingRuns
 mod AfreshRuns
 mod AwaitingRuns
 mod LeavingRuns

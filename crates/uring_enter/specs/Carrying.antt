@@ -1,5 +1,5 @@
 -- How an operation is carried out: where its result comes from, by which calls, and what is done with it. io_uring_enter(2), at each operation; but where our own rule is named.
-use Rattle.std.specs.Prelude.{ℕ, ℤ, Bool, true, ◌||◌, ◌==◌, Option, Some, None, if◌then◌else◌}
+use Rattle.std.specs.Prelude.{ℕ, ℤ, Bool, true, ◌||◌, ◌==◌, ◌-◌, ◌/◌, min, Option, Some, None, if◌then◌else◌}
 use Rattle.std.specs.Int.RustNames.{bit_or}
 use Rattle.uring_enter.specs.declared.fault.Fault.{Fault}
 use Rattle.uring_enter.specs.declared.carrying.Source.{Source}
@@ -28,6 +28,10 @@ abbrev pub source_of : ℕ → ℤ → Option Fault → Source
 source_of code started given =
     if is_below started then source.Start else
     if code == 0 then source.Entry else unless_given given
+
+-- a short fault leaves the first half of the bytes, rounded down, in whichever vectors they stand: of one behind so many others, those that are left of the half there. Our own rule
+abbrev pub half_in : (all before length : ℕ) → ℕ
+half_in all before length = min length (all / 2 - before)
 
 -- a transfer is made by its calls, and a poll by a look; what goes by sockets and a splice or a tee by calls that aren't to wait and looks in turn, since it may have to wait for its descriptor; any other by one call, or what whoever keeps the ring does itself
 abbrev pub calls_of : ℕ → Calls

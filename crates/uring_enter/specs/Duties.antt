@@ -5,8 +5,10 @@ use Rattle.uring_enter.specs.declared.duties.Resting.{Resting}
 
 pub data Duty : Type 0 where
   LooksAfresh : Duty
+  HearsPipes : Duty
   PassesTime : Duty
   FindsFiles : Duty
+  KeepsNew : Duty
   HoldsFiles : Duty
   WatchesPipes : Duty
   LetsLie : Duty
@@ -19,21 +21,25 @@ pub data Duty : Type 0 where
 -- the place of a duty among those of one moment: they are done by rising places
 abbrev pub place : Duty → ℕ
 place LooksAfresh = 0
-place PassesTime = 1
-place FindsFiles = 2
-place HoldsFiles = 3
-place WatchesPipes = 4
-place LetsLie = 5
-place ShowsEnds = 6
-place TellsReadiness = 7
-place HearsApplication = 8
-place ShowsFlags = 9
-place TellsEventfd = 10
+place HearsPipes = 1
+place PassesTime = 2
+place FindsFiles = 3
+place KeepsNew = 4
+place HoldsFiles = 5
+place WatchesPipes = 6
+place LetsLie = 7
+place ShowsEnds = 8
+place TellsReadiness = 9
+place HearsApplication = 10
+place ShowsFlags = 11
+place TellsEventfd = 12
 
 abbrev pub is_due : Duties → Duty → Bool
 is_due d LooksAfresh = d.looks_afresh
+is_due d HearsPipes = d.hears_pipes
 is_due d PassesTime = d.passes_time
 is_due d FindsFiles = d.finds_files
+is_due d KeepsNew = d.keeps_new
 is_due d HoldsFiles = d.holds_files
 is_due d WatchesPipes = d.watches_pipes
 is_due d LetsLie = d.lets_lie
@@ -47,8 +53,10 @@ is_due d TellsEventfd = d.tells_eventfd
 abbrev pub nothing : Duties
 nothing = record {
   looks_afresh = false;
+  hears_pipes = false;
   passes_time = false;
   finds_files = false;
+  keeps_new = false;
   holds_files = false;
   watches_pipes = false;
   lets_lie = false;
@@ -59,18 +67,20 @@ nothing = record {
   tells_eventfd = false;
 }
 
--- as a call begins, or has slept: others may have made descriptors ready meanwhile, so all that runs is looked at again, and what they wrote to pipes is heard, in whichever order, before the ring writes anything itself, which isn't told. Where time is real, timeouts end that are over, before entries are submitted; behind a sleep one ends as the sleep says
+-- as a call begins, or has slept: others may have made descriptors ready meanwhile, so all that runs is looked at again, and then what they wrote to pipes is heard, before the ring writes anything itself, which isn't told. Where time is real, timeouts end that are over, before entries are submitted; behind a sleep one ends as the sleep says
 abbrev pub at_begin : (is_time_real has_slept : Bool) → Duties
 at_begin is_time_real has_slept = record nothing {
   looks_afresh = true;
+  hears_pipes = true;
   passes_time = is_time_real && not has_slept;
 }
 
--- before it is decided whether a call sleeps: those find their files whose turn to do so hasn't come, as in the kernel all do before it sleeps; and what runs, or was accepted, keeps its file, which another thread may close meanwhile. Then those pipes are watched that polls wait for, unless the call is to fail with a fault. A poll that is told by that goes on, so the call doesn't sleep
+-- before it is decided whether a call sleeps: those find their files whose turn to do so hasn't come, as in the kernel all do before it sleeps; and what was accepted, and then what runs, keeps its file, which another thread may close meanwhile. Then those pipes are watched that polls wait for, unless the call is to fail with a fault. A poll that is told by that goes on, so the call doesn't sleep
 abbrev pub before_sleep : Resting → (has_fault : Bool) → Duties
 before_sleep r has_fault = record nothing {
   finds_files = r.has_due;
-  holds_files = r.runs || r.has_new;
+  keeps_new = r.has_new;
+  holds_files = r.runs;
   watches_pipes = not has_fault && (r.runs || r.has_watches);
 }
 
@@ -95,11 +105,12 @@ behind_posting has_ends is_polled = record nothing {
 abbrev pub at_rest : Resting → Duties
 at_rest r = record (behind_posting r.has_ends r.is_polled) { lets_lie = are_many r }
 
--- as a call returns. Those find their files whose turn hasn't come, and what runs, or was accepted, keeps its file, as it does in the kernel, whatever the application closes. Then pipes are watched, those that polls wait for by the descriptors that were kept; those that none waits for any more are let go. Of many that wait those become dormant that wait for nothing else. What has ended is shown, io_uring_enter(2); by that the descriptor is readable or not; and by that the flags say whether a call may bring something
+-- as a call returns. Those find their files whose turn hasn't come, and what was accepted, and then what runs, keeps its file, as it does in the kernel, whatever the application closes. Then pipes are watched, those that polls wait for by the descriptors that were kept; those that none waits for any more are let go. Of many that wait those become dormant that wait for nothing else. What has ended is shown, io_uring_enter(2); by that the descriptor is readable or not; and by that the flags say whether a call may bring something
 abbrev pub at_return : Resting → Duties
 at_return r = record (at_rest r) {
   finds_files = r.has_due;
-  holds_files = r.runs || r.has_new;
+  keeps_new = r.has_new;
+  holds_files = r.runs;
   watches_pipes = r.runs || r.has_watches;
   shows_flags = true;
 }
@@ -147,11 +158,12 @@ abbrev pub TellsOfWhatIsShown : Type 0
 TellsOfWhatIsShown = (told : ℕ) → is_due (behind_storing told) TellsEventfd ≡ true
     → comes_before (behind_storing told) ShowsFlags TellsEventfd ≡ true
 
--- where requests run as a call returns, their files are kept behind those that are found then, and before pipes are watched for them
+-- where requests run as a call returns, their files are kept behind those that are found then and those of what was accepted, and before pipes are watched for them
 abbrev pub WatchesWhatIsHeld : Type 0
 WatchesWhatIsHeld = (r : Resting) → r.runs ≡ true
     → (comes_before (at_return r) HoldsFiles WatchesPipes ≡ true)
     × (r.has_due ≡ true → comes_before (at_return r) FindsFiles HoldsFiles ≡ true)
+    × (r.has_new ≡ true → comes_before (at_return r) KeepsNew HoldsFiles ≡ true)
 
 -- where many requests wait as a call returns, they become dormant behind the pipes that are watched: so none does that was told of a write
 abbrev pub LiesBehindPipes : Type 0

@@ -11,6 +11,7 @@ pub mod ShowingLaws
 pub mod Cancels
 pub mod CancelLaws
 pub mod Seeking
+pub mod Cancelling
 pub mod Courses
 pub mod CourseLaws
 pub mod Outcomes

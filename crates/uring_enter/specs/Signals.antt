@@ -1,5 +1,5 @@
 -- SIGXFSZ, which comes of a call that makes a file longer than a process may have one, and SIGPIPE, of one that writes to what nobody reads. setrlimit(2), RLIMIT_FSIZE; pipe(7). Where in a kernel a worker of its own makes the call, the program gets no signal: what Linux 6.18 was seen to do.
-use Rattle.std.specs.Prelude.{ℕ, ℤ, pos, ◌^◌, ◌-◌, Bool, false, not, ◌&&◌, ◌||◌, ◌==◌, Option, Some, None}
+use Rattle.std.specs.Prelude.{ℕ, ℤ, pos, ◌^◌, ◌-◌, Bool, false, not, ◌&&◌, ◌||◌, ◌==◌, Option, Some, None, if◌then◌else◌}
 use Rattle.std.specs.Ordering.{int_eq}
 use Rattle.uring_enter.specs.declared.submission.Submission.{Submission}
 use Rattle.uring_enter.specs.Clocks.{has_some}
@@ -15,6 +15,10 @@ may_signal e res =
 abbrev pub may_break : Submission → ℤ → Bool
 may_break e res =
     (is_splice e.opcode || is_write e.opcode && has_some e.flags 16) && int_eq res (error 32)
+
+-- the number of the signal that is taken back behind such an end, as signal(7) has it: SIGXFSZ is 25 and SIGPIPE 13. 0: none is
+abbrev pub signal_behind : Submission → ℤ → ℕ
+signal_behind e res = if may_signal e res then 25 else if may_break e res then 13 else 0
 
 -- whether the kernel may send a SIGXFSZ at all, by the greatest length that the process may give a file (getrlimit(2), RLIMIT_FSIZE), if that is known: 2^64 - 1 (RLIM_INFINITY) limits nothing, and -27 is the file system's own then. Where it isn't known nothing is taken back: our own rule
 abbrev pub is_limited : Option ℕ → Bool

@@ -1,5 +1,5 @@
 -- What is done as a request starts, and in which order. A kernel does all of it in the moment in which it begins the request; the order is our own rule.
-use Rattle.std.specs.Prelude.{◌≡◌, ℕ, ℤ, pos, Bool, true, false, not, ◌&&◌, nat_lt}
+use Rattle.std.specs.Prelude.{◌≡◌, ℕ, ℤ, pos, Bool, true, false, not, ◌&&◌, ◌||◌, ◌==◌, nat_lt}
 use Rattle.std.specs.Ordering.{int_eq}
 use Rattle.uring_enter.specs.declared.needs.Needs.{Needs}
 use Rattle.uring_enter.specs.declared.ready.Standing.{Standing}
@@ -78,3 +78,7 @@ abbrev pub AsksBehindItsFiles : Type 0
 AsksBehindItsFiles = (e : Submission) (how : ℕ) (is_sought : Bool) (s : Standing) (n : Needs) (fault : ℤ) (first second : Step)
     → is_due (at_start e how is_sought) first ≡ true → is_due (behind_files s n fault) second ≡ true
     → nat_lt (place first) (place second) ≡ true
+
+-- whether a core lets a request start, by the number of the reason why it stands as it does, as `c/wulgach.h` has them: it may start (6), or it is doomed (4), so that its issue ends it. One that was never accepted (1), has ended (2), runs (3) or waits for another (5) it doesn't
+abbrev pub lets_start : ℕ → Bool
+lets_start why = why == 6 || why == 4

@@ -1,8 +1,9 @@
 -- What an update makes of a poll, and of a timeout. io_uring_enter(2), IORING_OP_POLL_REMOVE and IORING_OP_TIMEOUT_REMOVE.
-use Rattle.std.specs.Prelude.{ℕ, ℤ, pos, Bool, ◌&&◌, ◌==◌, if◌then◌else◌}
+use Rattle.std.specs.Prelude.{◌≡◌, ℕ, ℤ, pos, Bool, false, not, ◌&&◌, ◌||◌, ◌==◌, List, [], ◌∷◌, if◌then◌else◌}
 use Rattle.std.specs.Int.RustNames.{bit_and, bit_or}
 use Rattle.uring_enter.specs.declared.submission.Submission.{Submission}
 use Rattle.uring_enter.specs.declared.update.Linked.{Linked}
+use Rattle.uring_enter.specs.declared.update.LinkedUpdate.{LinkedUpdate}
 use Rattle.uring_enter.specs.declared.update.Removal.{Removal}
 use Rattle.uring_enter.specs.declared.update.Removal.TheVariants.{Cancel, Update, UpdateLinked}
 use Rattle.uring_enter.specs.Clocks.{has_some}
@@ -22,9 +23,27 @@ abbrev pub timeout_removal : Submission → Removal
 timeout_removal e =
     if has_some e.op_flags 2 then (if has_some e.op_flags 16 then UpdateLinked else Update) else Cancel
 
--- an update of linked timeouts changes one that runs and has its user data, and looks at nothing else that has it. IORING_LINK_TIMEOUT_UPDATE; what the kernel does
+-- an update of linked timeouts may change one that runs and has its user data, and looks at nothing else that has it. IORING_LINK_TIMEOUT_UPDATE; what the kernel does
 abbrev pub updates_linked : ℕ → Linked → Bool
 updates_linked user_data seen = seen.is_linked && seen.runs && seen.user_data == user_data
+
+-- whether it may change any of these
+abbrev pub changes_any : ℕ → List Linked → Bool
+changes_any user_data [] = false
+changes_any user_data (seen ∷ earlier) = updates_linked user_data seen || changes_any user_data earlier
+
+-- it changes the oldest of which that is so, and no other: behind those that it has looked at before. What the kernel does
+abbrev pub is_changed : ℕ → List Linked → Linked → Bool
+is_changed user_data earlier seen = not (changes_any user_data earlier) && updates_linked user_data seen
+
+-- and ends as any removal does
+abbrev pub linked_result : ℕ → List Linked → ℤ
+linked_result user_data seen = removal_result (changes_any user_data seen)
+
+-- glue: an update that has looked at these, the newest first
+pub record HasLooked (user_data : ℕ) (seen : List Linked) (update : LinkedUpdate) : Type 0 where
+  pub named : update.user_data ≡ user_data
+  pub found : update.has_found ≡ changes_any user_data seen
 
 -- a poll keeps what isn't updated, and goes on, or doesn't, as before, whether or not the update has IORING_POLL_ADD_MULTI: what Linux 6.18 was seen to do. Its events are those of `poll32_events`, and so are the new ones, of which 16 bits count; its new user data is `off`
 abbrev pub updated_poll : Submission → Submission → Submission

@@ -66,6 +66,13 @@ fn of_fault(fault: Fault) -> Source
     }
 }
 
+/// How many bytes a vector of this length has of those that a short fault leaves of `all`, where so many stand in the vectors before it: of the first half. Our own rule.
+pub fn half_in(all: u64, before: u64, length: u64) -> u64
+    ensures { result ≡ spec.half_in all before length }
+{
+    length.min((all / 2).saturating_sub(before))
+}
+
 /// By which calls the operation of this code is carried out. Our own rule, by what the manual page says of each.
 pub fn calls_of(code: u8) -> Calls
     ensures { result ≡ spec.calls_of code }

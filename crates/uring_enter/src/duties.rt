@@ -7,8 +7,11 @@ ghost use Rattle.uring_enter.specs.Duties.{ShowsAtLast, TellsOfWhatIsShown, Watc
 /// What is to be done at a moment of a call, in the order in which it stands here.
 #[derive(Clone, Copy, Drop)]
 pub struct Duties {
-    /// All that runs is looked at afresh, and what was written to pipes is heard.
+    /// All that runs is looked at afresh.
     pub looks_afresh: bool,
+
+    /// What was written to pipes is heard.
+    pub hears_pipes: bool,
 
     /// The timeouts end whose time is over.
     pub passes_time: bool,
@@ -16,7 +19,10 @@ pub struct Duties {
     /// Those find their files whose turn to do so hasn't come.
     pub finds_files: bool,
 
-    /// The files of what runs are kept open.
+    /// The files of what was accepted are kept open.
+    pub keeps_new: bool,
+
+    /// And those of what runs, which may have found others since.
     pub holds_files: bool,
 
     /// Writes to the pipes are watched that polls wait for.
@@ -72,8 +78,10 @@ pub struct Resting {
 
 const NONE: Duties = Duties {
     looks_afresh: false,
+    hears_pipes: false,
     passes_time: false,
     finds_files: false,
+    keeps_new: false,
     holds_files: false,
     watches_pipes: false,
     lets_lie: false,
@@ -90,6 +98,7 @@ pub fn duties_at_begin(is_time_real: bool, has_slept: bool) -> Duties
 {
     Duties {
         looks_afresh: true,
+        hears_pipes: true,
         passes_time: is_time_real && !has_slept,
         ..NONE
     }
@@ -101,7 +110,8 @@ pub fn duties_before_sleep(resting: &Resting, has_fault: bool) -> Duties
 {
     Duties {
         finds_files: resting.has_due,
-        holds_files: resting.runs || resting.has_new,
+        keeps_new: resting.has_new,
+        holds_files: resting.runs,
         watches_pipes: !has_fault && (resting.runs || resting.has_watches),
         ..NONE
     }
@@ -133,7 +143,8 @@ pub fn duties_at_return(resting: &Resting) -> Duties
 {
     Duties {
         finds_files: resting.has_due,
-        holds_files: resting.runs || resting.has_new,
+        keeps_new: resting.has_new,
+        holds_files: resting.runs,
         watches_pipes: resting.runs || resting.has_watches,
         shows_flags: true,
         ..duties_at_rest(resting)
@@ -146,6 +157,7 @@ pub fn duties_at_register_begin(may_post: bool, is_time_real: bool) -> Duties
 {
     Duties {
         looks_afresh: may_post,
+        hears_pipes: may_post,
         passes_time: may_post && is_time_real,
         hears_application: may_post,
         ..NONE
@@ -224,7 +236,7 @@ pub fn shows_at_last()
     ensures { ShowsAtLast }
 {}
 
-/// Where a call watches pipes for what runs, it has kept their files before, and found them.
+/// Where a call watches pipes for what runs, it has kept their files before, behind those of what was accepted, and found them.
 pub fn watches_what_is_held()
     ensures { WatchesWhatIsHeld }
 {}

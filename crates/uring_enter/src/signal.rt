@@ -6,15 +6,28 @@ ghost use Rattle.uring_enter.specs.Signals as spec;
 use crate::needs::{is_splice, is_write};
 use crate::submission::Submission;
 
+/// The number of the signal that is taken back behind an operation which ended with this, SIGXFSZ (25) or SIGPIPE (13), or 0.
+pub fn signal_behind(entry: &Submission, res: i32) -> u32
+    ensures { result ≡ spec.signal_behind entry.now res }
+{
+    if may_signal(entry, res) {
+        25
+    } else if may_break(entry, res) {
+        13
+    } else {
+        0
+    }
+}
+
 /// Whether SIGXFSZ may have come of an operation that ended with this.
-pub fn may_signal(entry: &Submission, res: i32) -> bool
+fn may_signal(entry: &Submission, res: i32) -> bool
     ensures { result ≡ spec.may_signal entry.now res }
 {
     res == -27 && (is_write(entry.opcode) || matches!(entry.opcode, 17 | 30))
 }
 
 /// Whether SIGPIPE may have come of an operation that ended with this, and that a worker of a kernel's would have carried out.
-pub fn may_break(entry: &Submission, res: i32) -> bool
+fn may_break(entry: &Submission, res: i32) -> bool
     ensures { result ≡ spec.may_break entry.now res }
 {
     res == -32 && (is_splice(entry.opcode) || is_write(entry.opcode) && entry.flags & 16 != 0)

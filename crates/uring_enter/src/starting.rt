@@ -69,6 +69,13 @@ pub fn steps_behind_files(standing: &Standing, needs: &Needs, fault: i32) -> Sta
     }
 }
 
+/// Whether the core lets a request start, which stands as it does for the reason of this number: it may start (6), or it is doomed (4), and so ends as it is to start. PROTOCOL.md, Issue.
+pub fn lets_start(why: u32) -> bool
+    ensures { result ≡ spec.lets_start why }
+{
+    matches!(why, 4 | 6)
+}
+
 /// Nothing is asked of a request's descriptor or group before its files were looked for.
 pub fn asks_behind_its_files()
     ensures { AsksBehindItsFiles }

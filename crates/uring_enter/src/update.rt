@@ -1,7 +1,8 @@
 //! What an update makes of a poll, also of one that waits, and of a timeout. io_uring_enter(2), IORING_OP_POLL_REMOVE and IORING_OP_TIMEOUT_REMOVE.
 
-ghost use Rattle.std.specs.Prelude.{◌≡◌, List, ◌∷◌};
+ghost use Rattle.std.specs.Prelude.{◌≡◌, ℕ, List, [], ◌∷◌};
 ghost use Rattle.uring_enter.specs.Updates as spec;
+ghost use Rattle.uring_enter.specs.Updates.{HasLooked};
 ghost use Rattle.uring_enter.specs.Waiters.{Encounter, WasUpdated, KeepsWaiter};
 
 use crate::missing::{Missing, missing_fault};
@@ -69,8 +70,52 @@ pub fn timeout_removal(entry: &Submission) -> Removal
     }
 }
 
-/// Whether an update of the linked timeout with this user data changes this one. It changes the first of which that is so.
-pub fn updates_linked(user_data: u64, seen: &Linked) -> bool
+/// An update of a linked timeout, which looks for the one that it changes among all requests, the oldest first. IORING_LINK_TIMEOUT_UPDATE.
+#[repr(C)]
+#[derive(Clone, Copy, Drop)]
+pub struct LinkedUpdate {
+    /// The user data that it names.
+    pub user_data: u64,
+
+    /// It has found one.
+    pub has_found: bool,
+}
+
+impl LinkedUpdate {
+    /// An update of the linked timeout with this user data, which hasn't looked at any request.
+    pub fn begin(user_data: u64) -> LinkedUpdate
+        ensures { HasLooked user_data [] result }
+    {
+        LinkedUpdate {
+            user_data,
+            has_found: false,
+        }
+    }
+
+    /// Looks at the next request, and says whether it is changed.
+    pub fn sees(&mut self, request: &Linked) -> bool
+        ensures changed { (user_data : ℕ) (seen : List Linked) → HasLooked user_data seen self.old
+            → result ≡ spec.is_changed user_data seen request.now }
+        ensures after { (user_data : ℕ) (seen : List Linked) → HasLooked user_data seen self.old
+            → HasLooked user_data (request.now ∷ seen) self.new }
+    {
+        let fits = updates_linked(self.user_data, request);
+        let is_changed = !self.has_found && fits;
+        self.has_found = fits || self.has_found;
+        is_changed
+    }
+
+    /// What it ends with, once it has looked at all.
+    pub fn result(&self) -> i32
+        ensures { (user_data : ℕ) (seen : List Linked) → HasLooked user_data seen self.now
+            → result ≡ spec.linked_result user_data seen }
+    {
+        removal_result(self.has_found)
+    }
+}
+
+/// Whether an update of the linked timeout with this user data may change this one.
+fn updates_linked(user_data: u64, seen: &Linked) -> bool
     ensures { result ≡ spec.updates_linked user_data seen.now }
 {
     seen.is_linked && seen.runs && seen.user_data == user_data

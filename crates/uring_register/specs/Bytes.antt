@@ -1,5 +1,5 @@
 -- What an operation has of a registered buffer or of one that was provided, and what its completion says of it. io_uring_enter(2), IORING_OP_READ_FIXED, IOSQE_BUFFER_SELECT and IORING_CQE_F_BUFFER.
-use Rattle.std.specs.Prelude.{ℕ, ℤ, pos, false, Option, Some, None, ◌+◌, ◌-◌, ◌*◌, ◌^◌, Bool, ◌&&◌, ◌||◌, ◌==◌, nat_le, int_lt, min, if◌then◌else◌}
+use Rattle.std.specs.Prelude.{◌≡◌, ℕ, ℤ, pos, false, not, Option, Some, None, ◌+◌, ◌-◌, ◌*◌, ◌^◌, Bool, ◌&&◌, ◌||◌, ◌==◌, nat_le, int_lt, min, if◌then◌else◌}
 use Rattle.std.specs.Ordering.{int_eq}
 use Rattle.uring_entry.specs.Errors.{error}
 use Rattle.uring_register.specs.declared.group.Buffer.{Buffer}
@@ -33,3 +33,12 @@ abbrev pub further_in : Buffer → (moved : ℕ) → Option Buffer
 further_in had moved =
     if moved == 0 then None else
     Some (record { address = had.address + moved; length = had.length - moved; id = had.id })
+
+-- whether the flags name a buffer, so that it is taken out of its group
+abbrev pub is_taken : ℕ → Bool
+is_taken flags = not (flags == 0)
+
+-- it is exactly if the operation has taken it, by its result
+abbrev pub TakesWhatItTells : Type 0
+TakesWhatItTells = (res : ℤ) (is_transfer : Bool) (id : ℕ)
+    → is_taken (flags_of res is_transfer id) ≡ has_taken res is_transfer

@@ -2,6 +2,7 @@
 
 ghost use Rattle.std.specs.Prelude.{◌≡◌, ◌+◌, ◌<◌, ◌^◌};
 ghost use Rattle.uring_register.specs.Bytes as spec;
+ghost use Rattle.uring_register.specs.Bytes.{TakesWhatItTells};
 
 use crate::group::Buffer;
 
@@ -67,3 +68,15 @@ pub fn flags_so_far(moved: u32, id: u16) -> u32
         0
     }
 }
+
+/// Whether an operation has taken the provided buffer that it had, by the flags of its completion: then that is taken out of its group.
+pub fn is_taken(flags: u32) -> bool
+    ensures { result ≡ spec.is_taken flags }
+{
+    flags != 0
+}
+
+/// A buffer is taken out of its group exactly if the operation has taken it.
+pub fn takes_what_it_tells()
+    ensures { TakesWhatItTells }
+{}
