@@ -307,10 +307,14 @@ struct wulgach_core_entry {
 /* Writes what the core is given of an entry that is this to it (enum wulgach_form). */
 void wulgach_core_entry_of(const struct wulgach_submission *entry, uint32_t form, struct wulgach_core_entry *made);
 
-/* The flags that the core is told of an entry, where these were its flags and the next entry of its call is this one. By Linux's rules a
- * soft link before a linked timeout that ends the chain is told as a hard one, so that the timeout posts as its own flags say; by the manual
- * pages' all stay. */
-uint8_t wulgach_flags_before(uint8_t flags, const struct wulgach_submission *next, bool linux_rules);
+/* Writes what the core is given of it once the next entry of its call is known to be this one. By Linux's rules a soft link before a linked
+ * timeout that ends the chain is told as a hard one, so that the timeout posts as its own flags say; by the manual pages' all is as before. */
+void wulgach_core_entry_before(const struct wulgach_submission *entry, uint32_t form, const struct wulgach_submission *next, bool linux_rules, struct wulgach_core_entry *made);
+
+/* Writes the words of what the core is given, as calls of wulgach.h take them: each field stands where that of struct io_uring_sqe does, `target` as
+ * its address, and all others are 0. */
+struct wulgach_entry;
+void wulgach_core_words(const struct wulgach_core_entry *made, struct wulgach_entry *entry);
 
 /* Returns what an entry is to the core (enum wulgach_form) whose end a completion is that belongs to no end of a request, as an event or a
  * message, and writes its operation: by Linux's rules an unknown one, which is refused, and waits for no drain; else a no-op. */

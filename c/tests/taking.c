@@ -1,11 +1,13 @@
 /* Which positions a call takes, what goes on next, what waits behind drains, what an update changes and what is copied of an entry: with
  * what the manual page calls for, written by hand. */
+#include "wulgach.h"
 #include "wulgach_cancel.h"
 #include "wulgach_enter.h"
 #include "wulgach_form.h"
 
 #include <stdio.h>
 #include <stdlib.h>
+#include <string.h>
 
 static void demand(bool holds, const char *what)
 {
@@ -131,6 +133,13 @@ static int32_t next(struct wulgach_submission entry, uint32_t count, struct wulg
 
 #define NEXT(count, ...) next((struct wulgach_submission){__VA_ARGS__}, count, &piece)
 
+static uint8_t flags_before(uint8_t flags, const struct wulgach_submission *next, bool linux_rules)
+{
+    struct wulgach_core_entry made;
+    wulgach_core_entry_before(&(struct wulgach_submission){.flags = flags}, WULGACH_FORM_TOKEN, next, linux_rules, &made);
+    return made.flags;
+}
+
 static void copy_pieces(void)
 {
     enum { READV = 1, RECVMSG = 10, CONNECT = 16, READ = 22, OPENAT2 = 28, SETXATTR = 42, SEND_ZC = 47 };
@@ -166,8 +175,15 @@ static void copy_pieces(void)
     wulgach_core_entry_of(&cancel, WULGACH_FORM_REFUSED, &made);
     demand(made.code == 22 && made.len == 65 && made.flags == 94, "an entry with another");
     struct wulgach_submission timeout = {.opcode = 15}, linked = {.opcode = 15, .flags = 4}, other = {.opcode = 11};
-    demand(wulgach_flags_before(70, &timeout, true) == 78 && wulgach_flags_before(72, &timeout, true) == 72 && wulgach_flags_before(66, &timeout, true) == 66, "before a linked timeout");
-    demand(wulgach_flags_before(4, &linked, true) == 4 && wulgach_flags_before(4, &other, true) == 4 && wulgach_flags_before(70, &timeout, false) == 70, "before another, or by other rules");
+    demand(flags_before(70, &timeout, true) == 78 && flags_before(72, &timeout, true) == 72 && flags_before(66, &timeout, true) == 66, "before a linked timeout");
+    demand(flags_before(4, &linked, true) == 4 && flags_before(4, &other, true) == 4 && flags_before(70, &timeout, false) == 70, "before another, or by other rules");
+    struct wulgach_entry words, wanted;
+    wulgach_core_words(&(struct wulgach_core_entry){.code = 14, .flags = 94, .user_data = 5, .target = 6}, &words);
+    wulgach_cancel(wanted.words, 5, 94, 6);
+    demand(memcmp(&words, &wanted, sizeof words) == 0, "the words of a cancel");
+    wulgach_core_words(&(struct wulgach_core_entry){.code = 22, .len = 65, .user_data = UINT64_MAX}, &words);
+    wulgach_read(wanted.words, UINT64_MAX, 0, 0, 0, 65);
+    demand(memcmp(&words, &wanted, sizeof words) == 0, "and of one that is refused");
     uint8_t code = 5;
     demand(wulgach_extra_of(true, &code) == WULGACH_FORM_REFUSED && code == 255 && wulgach_extra_of(false, &code) == WULGACH_FORM_TOKEN && code == 0, "a completion that belongs to no end");
     demand(wulgach_names_slot(7, 8) && !wulgach_names_slot(8, 8), "a slot");

@@ -41,7 +41,7 @@ static int32_t end_own(struct ring *ring, struct request *request, int32_t res)
 static void stage_own(struct ring *ring, const struct request *request)
 {
     struct wulgach_entry entry;
-    write_token(&entry, request);
+    write_token(&entry, request, NULL, ring->is_linux);
     load_head(ring);
     fill_slot(ring, 0, &entry);
     index_word(ring, 0);

@@ -31,13 +31,14 @@ static uint32_t make_word(struct ring *ring, uint32_t kind, uint32_t expected)
     return answer.word;
 }
 
-void write_token(struct wulgach_entry *entry, const struct request *request)
+void write_token(struct wulgach_entry *entry, const struct request *request, const struct request *next, bool is_linux)
 {
     struct wulgach_core_entry made;
-    wulgach_core_entry_of(submission_of(&request->entry), request->mapping, &made);
-    wulgach_entry(entry->words, made.code, made.user_data, made.flags, 0);
-    entry->words[2] = made.target;
-    entry->words[3] = made.len;
+    if (next)
+        wulgach_core_entry_before(submission_of(&request->entry), request->mapping, submission_of(&next->entry), is_linux, &made);
+    else
+        wulgach_core_entry_of(submission_of(&request->entry), request->mapping, &made);
+    wulgach_core_words(&made, entry);
 }
 
 void fill_slot(struct ring *ring, uint32_t slot, const struct wulgach_entry *entry)

@@ -8,8 +8,8 @@
 #include "ring.h"
 #include "wulgach.h"
 
-/* What the core is given of a request. */
-void write_token(struct wulgach_entry *entry, const struct request *request);
+/* What the core is given of a request, by Linux's rules or the manual pages', once the next of its call is known, or as if there were none (NULL). */
+void write_token(struct wulgach_entry *entry, const struct request *request, const struct request *next, bool is_linux);
 
 /* The application's side. */
 void fill_slot(struct ring *ring, uint32_t slot, const struct wulgach_entry *entry);

@@ -21,20 +21,13 @@ void free_entries(struct ring *ring)
     free(ring->entries);
 }
 
-/* The entry before this one in its call, now that this one is known. */
-static void note_entry_before(const struct ring *ring, struct wulgach_entry *before, const struct request *request)
-{
-    uint8_t flags = (uint8_t)(before->words[0] >> 8);
-    uint8_t told = wulgach_flags_before(flags, submission_of(&request->entry), ring->is_linux);
-    before->words[0] ^= (uint64_t)(flags ^ told) << 8;
-}
-
 void note_entry(struct ring *ring, const struct request *request)
 {
     size_t place = ring->staged.count;
-    write_token(&ring->entries[place], request);
-    if (place > 0 && ring->staged.rows[place - 1])
-        note_entry_before(ring, &ring->entries[place - 1], request);
+    const struct request *before = place > 0 ? ring->staged.rows[place - 1] : NULL;
+    write_token(&ring->entries[place], request, NULL, ring->is_linux);
+    if (before)
+        write_token(&ring->entries[place - 1], before, request, ring->is_linux);
 }
 
 /* Traces a step of a whole call, with an answer that has one word at most. */

@@ -7,8 +7,9 @@ ghost use Rattle.uring_c.specs.EntryForm.{word_of_form};
 ghost use Rattle.uring_c.specs.RingForm.{form_of_word};
 
 use crate::form_exports::form_word;
+use uring_crossing::whole_call_memory::EntryWords;
 use uring_enter::{
-    CoreEntry, Form, Layout, Member, Submission, core_entry_of, extra_of, flags_before,
+    CoreEntry, Form, Layout, Member, Submission, core_entry_before, core_entry_of, extra_of,
     is_one_chain, layout_of, no_op_result, slot_of,
 };
 
@@ -36,12 +37,28 @@ pub extern "C" fn wulgach_core_entry_of(entry: &Submission, form: u32, made: &mu
     *made = core_entry_of(entry, form_by_word(form));
 }
 
-/// The flags that the core is told of an entry, by Linux's rules or the manual pages', where these were its flags and the next entry of its call is this one.
+/// Writes what the core is given of it, by Linux's rules or the manual pages', once the next entry of its call is known to be this one.
 #[unsafe(no_mangle)]
-pub extern "C" fn wulgach_flags_before(flags: u8, next: &Submission, linux_rules: bool) -> u8
-    ensures { result ≡ spec.flags_before flags next.now linux_rules }
+pub extern "C" fn wulgach_core_entry_before(
+    entry: &Submission,
+    form: u32,
+    next: &Submission,
+    linux_rules: bool,
+    made: &mut CoreEntry,
+)
+    ensures { made.new ≡ spec.core_entry_before entry.now (form_of_word form) next.now linux_rules }
 {
-    flags_before(flags, next, linux_rules)
+    *made = core_entry_before(entry, form_by_word(form), next, linux_rules);
+}
+
+/// Writes the words of what the core is given.
+#[unsafe(no_mangle)]
+pub extern "C" fn wulgach_core_words(made: &CoreEntry, entry: &mut EntryWords)
+    ensures { entry.new.words ≡ spec.words_of made.now }
+{
+    *entry = EntryWords {
+        words: made.words(),
+    };
 }
 
 /// Returns what an entry is to the core whose end a completion is that belongs to no end of a request, and writes its operation.

@@ -1,5 +1,5 @@
 -- What is read of the submission ring, and what the core is given of it. io_uring(7), Submitting I/O requests; that the core is told no more of an entry is our own rule.
-use Rattle.std.specs.Prelude.{ℕ, Bool, not, ◌&&◌, ◌==◌, nat_lt, Option, Some, None, if◌then◌else◌}
+use Rattle.std.specs.Prelude.{ℕ, pos, List, Bool, not, ◌&&◌, ◌==◌, nat_lt, Option, Some, None, if◌then◌else◌}
 use Rattle.uring_enter.specs.declared.core_entry.CoreEntry.{CoreEntry}
 use Rattle.uring_enter.specs.declared.core_entry.Extra.{Extra}
 use Rattle.uring_enter.specs.declared.form.Form.{Form}
@@ -9,6 +9,7 @@ use Rattle.uring_enter.specs.declared.submission.Submission.{Submission}
 use Rattle.uring_enter.specs.Clocks.{has_some}
 use Rattle.uring_enter.specs.Forms.{core_flags, first_fault}
 use Rattle.uring_entry.specs.Errors.{error, is_below}
+use Rattle.uring_entry.specs.Layout.{header, without_data}
 use Rattle.std.specs.Int.RustNames.{bit_or}
 
 -- the slot that an index word names in a table of so many entries: one past its end names none, and is dropped. io_uring_setup(2), struct io_sqring_offsets
@@ -58,3 +59,12 @@ core_entry_of e form = record {
   target = target_of form e;
   len = len_of form e;
 }
+
+-- and once the next entry of its call is known
+abbrev pub core_entry_before : Submission → Form → (next : Submission) → (linux : Bool) → CoreEntry
+core_entry_before e form next linux =
+    record (core_entry_of e form) { flags = flags_before (core_flags e.flags) next linux }
+
+-- the words of the core's entry, as it reads them: its fields stand where those of struct io_uring_sqe do, and all others are zero. io_uring_enter(2)
+abbrev pub words_of : CoreEntry → List ℕ
+words_of c = without_data (header c.code c.flags (pos 0) 0 c.target c.len c.user_data)

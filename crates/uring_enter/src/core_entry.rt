@@ -6,6 +6,7 @@ ghost use Rattle.uring_enter.specs.CoreEntries as spec;
 use crate::form::{Form, core_flags, first_fault};
 use crate::member::Member;
 use crate::submission::Submission;
+use uring_entry::Sqe;
 
 /// An entry of the core's.
 #[repr(C)]
@@ -22,6 +23,18 @@ pub struct CoreEntry {
     pub code: u8,
 
     pub flags: u8,
+}
+
+impl CoreEntry {
+    /// The words of the entry that the core is given. io_uring_enter(2), struct io_uring_sqe.
+    pub fn words(&self) -> [u64; 16]
+        ensures { result ≡ spec.words_of self.now }
+    {
+        let mut words = Sqe::with_opcode(self.code, self.user_data, self.flags).words();
+        words[2] = self.target;
+        words[3] = u64::from(self.len);
+        words
+    }
 }
 
 /// The slot that an index word names in a table of so many entries. `None`: it names none.
@@ -58,8 +71,23 @@ pub fn core_entry_of(entry: &Submission, form: Form) -> CoreEntry
     }
 }
 
+/// What the core is given of an entry, once the next of its call is known to be this one.
+pub fn core_entry_before(
+    entry: &Submission,
+    form: Form,
+    next: &Submission,
+    linux: bool,
+) -> CoreEntry
+    ensures { result ≡ spec.core_entry_before entry.now form next.now linux }
+{
+    CoreEntry {
+        flags: flags_before(core_flags(entry.flags), next, linux),
+        ..core_entry_of(entry, form)
+    }
+}
+
 /// The flags that the core is told of an entry, where these were its flags and the next entry of its call is this one. By Linux's rules a soft link before a linked timeout that ends the chain is told as a hard one: so the timeout ends by itself, and posts as its own flags say. By the manual pages' they stay as they were.
-pub fn flags_before(flags: u8, next: &Submission, linux: bool) -> u8
+fn flags_before(flags: u8, next: &Submission, linux: bool) -> u8
     ensures { result ≡ spec.flags_before flags next.now linux }
 {
     let is_soft = linux && flags & 4 != 0 && flags & 8 == 0;
