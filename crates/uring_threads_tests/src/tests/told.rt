@@ -1,11 +1,16 @@
 //! What settling all ends reports, as plain values.
 
+ghost use Rattle.std.specs.Prelude.{◌≡◌};
+
 use super::ends::Ends;
 use super::replay::replays;
+use super::threads::{Flags, Script};
 use std::alloc::{AllocError, Global};
+use std::sync::Wait;
 use std::test::Fail;
+use std::thread::Threads;
 use uring_entry::Cqe;
-use uring_threads::{Counts, Gate, Item, KernelPort, Report, Rests};
+use uring_threads::{AppEnd, Counts, Gate, Item, KernelPort, Report, Rests};
 
 /// What a report says: the counts, and the first three of each list, as many as there are.
 #[derive(Clone, Copy)]
@@ -40,7 +45,7 @@ pub fn first_three<T: Copy + Drop>(list: &[T]) -> [Option<T>; 3] {
 pub type Left = ([Option<Item>; 3], [Option<Cqe>; 3]);
 
 /// What is left in them.
-pub fn left_in(rests: Rests) -> Left {
+fn left_in(rests: Rests) -> Left {
     let left = (first_three(&rests.unsent), first_three(&rests.undelivered));
     drop(rests);
     left
@@ -53,6 +58,23 @@ pub fn tell<G: Gate>(report: &Report<G>) -> Told {
         unsent: first_three(report.unsent()),
         undelivered: first_three(report.undelivered()),
         waiting: first_three(report.waiting()),
+    }
+}
+
+/// What is left in two ports that are settled.
+pub fn settle_ports<K: KernelPort>(
+    alloc: Global,
+    app: AppEnd<K::App>,
+    kernel: K,
+) -> Result<Left, Fail>
+    requires { K.pairing kernel ≡ app.pairing }
+{
+    match app.settle(alloc, kernel) {
+        Ok(rests) => Ok(left_in(rests)),
+        Err(ends) => {
+            drop(ends);
+            Err(Fail::from(AllocError))
+        }
     }
 }
 
@@ -69,5 +91,26 @@ pub fn settle<K: KernelPort, G: Gate>(
             Ok((told, replayed?))
         }
         Err(AllocError) => Err(Fail::from(AllocError)),
+    }
+}
+
+/// Whether these ends, in threads of their own, end with all done and nothing on its way, and the trace is what a new machine answers.
+pub fn run_and_settle<K: KernelPort + Send + 'static, G: Gate + Send, R: Threads + Wait + Sync>(
+    rt: &R,
+    alloc: Global,
+    ends: Ends<K, G>,
+    script: &mut Script,
+    flags: &Flags,
+) -> Result<bool, Fail>
+where
+    K::App: Send + 'static,
+{
+    let mut ends = ends;
+    ends.run(rt, script, flags);
+    match settle(alloc, ends) {
+        Ok((told, replayed)) => {
+            Ok(script.done && replayed && told.is_over(script.completions.len()))
+        }
+        Err(fail) => Err(fail),
     }
 }
