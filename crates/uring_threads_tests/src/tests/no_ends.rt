@@ -1,6 +1,6 @@
 //! Which set-ups and gates have no ends, and why.
 
-use super::check_none;
+use super::check;
 use std::alloc::Global;
 use std::test::Fail;
 use uring_entry::Setup;
@@ -12,38 +12,24 @@ fn fault(alloc: Global, setup: &Setup, workers: usize) -> Result<Option<LanesFau
     Ok(lanes(alloc, setup, gates).err())
 }
 
-/// How many workers are tried.
-static WORKERS: [usize; 3] = [0, 1, 9];
-
-/// Why a set-up that goes on has no ends with so many workers, and why one that stops has none, which is told before.
-fn wanted(workers: usize) -> [Option<LanesFault>; 2] {
-    let stops = Some(LanesFault::Stops);
-    if workers == 1 {
-        [None, stops]
-    } else {
-        [Some(LanesFault::BadWorkers), stops]
-    }
+/// Why there are none with 0, 1 and 9 workers.
+fn faults(alloc: Global, setup: &Setup) -> Result<[Option<LanesFault>; 3], Fail> {
+    let none = fault(alloc, setup, 0)?;
+    let one = fault(alloc, setup, 1)?;
+    let nine = fault(alloc, setup, 9)?;
+    Ok([none, one, nine])
 }
 
-/// Why there are none of a set-up that goes on, and of one that stops.
-fn faults(alloc: Global, workers: usize) -> Result<[Option<LanesFault>; 2], Fail> {
+/// Whether a set-up has ends with one worker alone, and one that stops has none and is told so before.
+fn are_told(alloc: Global) -> Result<bool, Fail> {
     let setup = Setup::new(2, Some(2), 1, 0)?;
-    let goes_on = fault(alloc, &setup, workers)?;
-    let stops = fault(alloc, &setup.stopping(), workers)?;
-    Ok([goes_on, stops])
-}
-
-/// The first number of workers with which it is otherwise.
-fn first_wrong(alloc: Global) -> Result<Option<usize>, Fail> {
-    for workers in &WORKERS {
-        if faults(alloc, *workers)? != wanted(*workers) {
-            return Ok(Some(*workers));
-        }
-    }
-    Ok(None)
+    let bad = Some(LanesFault::BadWorkers);
+    let goes_on = faults(alloc, &setup)? == [bad, None, bad];
+    let stops = faults(alloc, &setup.stopping())? == [Some(LanesFault::Stops); 3];
+    Ok(goes_on && stops)
 }
 
 #[test]
 fn stopping_is_told_before_the_workers(rt: HostRuntime) -> Result<(), Fail> {
-    check_none(&rt, first_wrong(rt.alloc()))
+    check(&rt, are_told(rt.alloc()), "why there are no ends")
 }

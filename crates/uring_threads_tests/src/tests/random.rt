@@ -4,7 +4,7 @@ use super::check_none;
 use super::dice::Dice;
 use super::ends::{Ends, Ports, open_ends};
 use super::threads::{Flags, Script};
-use super::told::{run_and_settle, settle};
+use super::told::{run_and_settle, settles_right};
 use std::alloc::{AllocError, Global};
 use std::sync::Wait;
 use std::test::Fail;
@@ -140,8 +140,8 @@ fn is_right_half_way<K: Ports>(alloc: Global, seed: u64) -> Result<bool, Fail> {
     match ends_of::<K>(alloc, seed) {
         Ok(mut ends) => {
             let goes = go_some_way(alloc, &mut dice, &mut ends);
-            let (_, replayed) = settle(alloc, ends)?;
-            Ok(goes && replayed)
+            let right = settles_right(alloc, ends, None)?;
+            Ok(goes && right)
         }
         Err(fail) => Err(fail),
     }

@@ -2,7 +2,7 @@
 
 ghost use Rattle.std.specs.Prelude.{◌≡◌, ◌≤◌, vec_capacity};
 
-use super::told::{Left, settle_ports};
+use super::told::{Left, leaves};
 use super::{check, nop};
 use std::alloc::Global;
 use std::test::Fail;
@@ -41,10 +41,12 @@ fn goes(app: &mut AppEnd<AppLanes>, kernel: &mut KernelLanes, items: &mut Vec<It
     submits(app) && pulls(kernel, items) && app.reap() == Some(Cqe::new(1, 0, [0; 64]))
 }
 
-/// Whether the second call is unsent, and the second completion undelivered.
-fn is_right(left: &Left) -> bool {
-    left.0 == [Some(Item::Bad(9)), Some(nop(2)), None]
-        && left.1 == [Some(Cqe::new(2, -9, [0; 64])), None, None]
+/// The second call is unsent, and the second completion undelivered.
+fn wanted() -> Left {
+    (
+        [Some(Item::Bad(9)), Some(nop(2)), None],
+        [Some(Cqe::new(2, -9, [0; 64])), None, None],
+    )
 }
 
 /// Whether all goes at new ends, and that is left.
@@ -55,8 +57,8 @@ fn goes_and_leaves(alloc: Global) -> Result<bool, Fail> {
     let mut app = AppEnd::new(port, setup.sq());
     let goes = goes(&mut app, &mut kernel, &mut items);
     drop(items);
-    let left = settle_ports(alloc, app, kernel)?;
-    Ok(goes && is_right(&left))
+    let right = leaves(alloc, app, kernel, &wanted())?;
+    Ok(goes && right)
 }
 
 #[test]

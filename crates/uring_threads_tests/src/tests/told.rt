@@ -44,11 +44,9 @@ pub fn first_three<T: Copy + Drop>(list: &[T]) -> [Option<T>; 3] {
 /// The first three of each list that two ports still held as they were settled.
 pub type Left = ([Option<Item>; 3], [Option<Cqe>; 3]);
 
-/// What is left in them.
-fn left_in(rests: Rests) -> Left {
-    let left = (first_three(&rests.unsent), first_three(&rests.undelivered));
-    drop(rests);
-    left
+/// Whether this is left in them.
+fn is_left(rests: &Rests, wanted: &Left) -> bool {
+    first_three(&rests.unsent) == wanted.0 && first_three(&rests.undelivered) == wanted.1
 }
 
 /// What this report says.
@@ -61,16 +59,21 @@ pub fn tell<G: Gate>(report: &Report<G>) -> Told {
     }
 }
 
-/// What is left in two ports that are settled.
-pub fn settle_ports<K: KernelPort>(
+/// Whether two ports leave this as they are settled.
+pub fn leaves<K: KernelPort>(
     alloc: Global,
     app: AppEnd<K::App>,
     kernel: K,
-) -> Result<Left, Fail>
+    wanted: &Left,
+) -> Result<bool, Fail>
     requires { K.pairing kernel ≡ app.pairing }
 {
     match app.settle(alloc, kernel) {
-        Ok(rests) => Ok(left_in(rests)),
+        Ok(rests) => {
+            let right = is_left(&rests, wanted);
+            drop(rests);
+            Ok(right)
+        }
         Err(ends) => {
             drop(ends);
             Err(Fail::from(AllocError))
@@ -78,17 +81,30 @@ pub fn settle_ports<K: KernelPort>(
     }
 }
 
-/// What these ends report, and whether the trace is what a new machine answers.
-pub fn settle<K: KernelPort, G: Gate>(
+/// Whether the trace of a report is what a new machine answers, and nothing is on its way behind so many completions, if it says how many.
+fn is_right<G: Gate>(
+    alloc: Global,
+    report: &Report<G>,
+    reaped: Option<usize>,
+) -> Result<bool, Fail> {
+    let replayed = replays(alloc, report)?;
+    match reaped {
+        Some(reaped) => Ok(replayed && tell(report).is_over(reaped)),
+        None => Ok(replayed),
+    }
+}
+
+/// Whether these ends report it so.
+pub fn settles_right<K: KernelPort, G: Gate>(
     alloc: Global,
     ends: Ends<K, G>,
-) -> Result<(Told, bool), Fail> {
+    reaped: Option<usize>,
+) -> Result<bool, Fail> {
     match ends.settle(alloc) {
         Ok(report) => {
-            let told = tell(&report);
-            let replayed = replays(alloc, &report);
+            let right = is_right(alloc, &report, reaped);
             drop(report);
-            Ok((told, replayed?))
+            right
         }
         Err(AllocError) => Err(Fail::from(AllocError)),
     }
@@ -107,10 +123,6 @@ where
 {
     let mut ends = ends;
     ends.run(rt, script, flags);
-    match settle(alloc, ends) {
-        Ok((told, replayed)) => {
-            Ok(script.done && replayed && told.is_over(script.completions.len()))
-        }
-        Err(fail) => Err(fail),
-    }
+    let right = settles_right(alloc, ends, Some(script.completions.len()))?;
+    Ok(right && script.done)
 }

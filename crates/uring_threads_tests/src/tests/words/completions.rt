@@ -2,7 +2,7 @@
 ghost use Rattle.std.specs.Prelude.{◌≡◌};
 
 use super::super::check;
-use super::super::told::{Left, settle_ports};
+use super::super::told::{Left, leaves};
 use super::across::completion;
 use std::alloc::Global;
 use std::test::Fail;
@@ -52,9 +52,9 @@ fn look(app: &mut AppEnd<AppWords>, kernel: &mut KernelWords) -> Seen
     }
 }
 
-/// Whether only what was not got is undelivered.
-fn is_right(left: &Left) -> bool {
-    left.0 == [None; 3] && left.1 == [Some(completion(2)), None, None]
+/// Only what was not got is undelivered.
+fn wanted() -> Left {
+    ([None; 3], [Some(completion(2)), None, None])
 }
 
 /// Whether that is seen at new ends, and left.
@@ -63,8 +63,8 @@ fn is_undelivered(alloc: Global) -> Result<bool, Fail> {
     let (port, mut kernel) = word_ports(alloc, &setup)?;
     let mut app = AppEnd::new(port, setup.sq());
     let seen = look(&mut app, &mut kernel).is_right();
-    let left = settle_ports(alloc, app, kernel)?;
-    Ok(seen && is_right(&left))
+    let right = leaves(alloc, app, kernel, &wanted())?;
+    Ok(seen && right)
 }
 
 #[test]

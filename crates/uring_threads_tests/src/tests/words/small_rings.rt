@@ -1,7 +1,7 @@
 //! A ring of four that is settled.
 ghost use Rattle.std.specs.Prelude.{◌≡◌, ◌≤◌, vec_capacity};
 
-use super::super::told::{Left, settle_ports};
+use super::super::told::{Left, leaves};
 use super::super::{check, nop};
 use std::alloc::Global;
 use std::test::Fail;
@@ -24,9 +24,9 @@ fn pulls_one_of_two(
     first && second && kernel.pull(items) == Pulled::Call
 }
 
-/// Whether the second call is unsent, and nothing else left.
-fn is_right(left: &Left) -> bool {
-    left.0 == [Some(Item::Bad(9)), Some(nop(2)), None] && left.1 == [None; 3]
+/// The second call is unsent, and nothing else left.
+fn wanted() -> Left {
+    ([Some(Item::Bad(9)), Some(nop(2)), None], [None; 3])
 }
 
 /// Whether both calls go on a new ring, and that is left.
@@ -37,8 +37,8 @@ fn is_unsent(alloc: Global) -> Result<bool, Fail> {
     let mut app = AppEnd::new(port, setup.sq());
     let goes = pulls_one_of_two(&mut app, &mut kernel, &mut items);
     drop(items);
-    let left = settle_ports(alloc, app, kernel)?;
-    Ok(goes && is_right(&left))
+    let right = leaves(alloc, app, kernel, &wanted())?;
+    Ok(goes && right)
 }
 
 #[test]
