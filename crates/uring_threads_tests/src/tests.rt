@@ -6,6 +6,7 @@ mod ends;
 mod gates;
 mod growth;
 mod held;
+mod lanes;
 mod moments;
 mod no_ends;
 mod random;
@@ -15,11 +16,11 @@ mod rests;
 mod results;
 mod rounds;
 mod rows;
-mod settled;
 mod threads;
 mod told;
 mod words;
 
+use std::fmt::Debug;
 use std::process::Abort;
 use std::test::Fail;
 use uring_entry::Sqe;
@@ -32,8 +33,11 @@ fn check(rt: &impl Abort, holds: Result<bool, Fail>, what: &str) -> Result<(), F
     Ok(())
 }
 
-/// Asserts that no seed went wrong: what did goes by its number.
-fn check_seeds(rt: &impl Abort, wrong: Result<Option<u64>, Fail>) -> Result<(), Fail> {
+/// Asserts that nothing went wrong: what did goes by its name or number.
+fn check_none<T: Debug + PartialEq + Drop>(
+    rt: &impl Abort,
+    wrong: Result<Option<T>, Fail>,
+) -> Result<(), Fail> {
     let wrong = wrong?;
     assert_eq!(rt; wrong, None);
     Ok(())

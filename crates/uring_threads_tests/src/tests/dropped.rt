@@ -1,23 +1,74 @@
 //! One end is dropped in the middle, and the others go on.
 
 use super::ends::{Ends, new_ends};
-use super::{check, nop, turn};
+use super::rows::Put::{Nop, Write};
+use super::rows::Row::{Submit, Turn};
+use super::rows::{Row, completion, first_wrong, items};
+use super::{check_none, turn};
 use std::alloc::Global;
 use std::test::Fail;
-use uring_entry::{Cqe, Sqe};
 use uring_threads::Worked::{Done, Idle};
 use uring_threads::{
-    AppEnd, AppLanes, CloseRefusal, Item, Kernel, KernelLanes, Open, SubmitRefusal, Turn, Worked,
-    Worker,
+    AppEnd, AppLanes, CloseRefusal, Kernel, KernelLanes, Open, SubmitRefusal, Worked, Worker,
 };
 
 /// All ends over lanes.
 type Lanes = Ends<KernelLanes, Open>;
 
-/// Whether the dispatcher's next turns are these.
-fn turns(kernel: &mut Kernel<KernelLanes>, wanted: &[Turn]) -> bool {
-    for each in wanted {
-        if kernel.turn().ok() != Some(*each) {
+/// The end that goes.
+#[derive(Clone, Copy)]
+enum Gone {
+    Application,
+    Dispatcher,
+    Worker,
+}
+
+/// What all ends do before one goes, of which the others go on.
+struct Case {
+    name: &'static str,
+    before: &'static [Row],
+    gone: Gone,
+}
+
+/// Each end that goes.
+static CASES: [Case; 3] = [
+    Case {
+        name: "without the application",
+        before: &[Submit(&[Nop(1)]), Submit(&[Nop(2), Nop(3)])],
+        gone: Gone::Application,
+    },
+    Case {
+        name: "without the dispatcher",
+        before: &[Submit(&[Nop(1)]), Turn(1, 1, 0, 0)],
+        gone: Gone::Dispatcher,
+    },
+    Case {
+        name: "without a worker",
+        before: &[Submit(&[Write(1, 1, 98), Nop(2)]), Turn(2, 2, 0, 0)],
+        gone: Gone::Worker,
+    },
+];
+
+/// A turn that takes in one item, then one that takes in two.
+static TAKEN: [[u64; 4]; 2] = [[1, 1, 0, 0], [2, 2, 0, 0]];
+
+/// A turn that delivers three completions, then one that finds nothing.
+static THREE_DELIVERED: [[u64; 4]; 2] = [[0, 0, 3, 3], [0, 0, 0, 0]];
+
+/// A turn that delivers one completion, then one that finds nothing.
+static ONE_DELIVERED: [[u64; 4]; 2] = [[0, 0, 1, 1], [0, 0, 0, 0]];
+
+/// What a worker does that has three jobs, the first of all, or the second.
+static THREE_DONE: [Worked; 3] = [Done(0), Done(1), Done(2)];
+
+static FIRST_DONE: [Worked; 3] = [Done(0), Idle, Idle];
+
+static SECOND_DONE: [Worked; 3] = [Done(1), Idle, Idle];
+
+/// Whether the dispatcher's next turns have these numbers.
+fn turns(kernel: &mut Kernel<KernelLanes>, wanted: &[[u64; 4]]) -> bool {
+    for [popped, issued, finished, delivered] in wanted {
+        if kernel.turn().ok() != Some(turn(*popped, *issued, *finished, *delivered)) {
             return false;
         }
     }
@@ -37,48 +88,21 @@ fn works(workers: &mut [Worker<Open>], wanted: &[Worked]) -> bool {
     true
 }
 
-/// The application goes behind two calls: whether all jobs are done and delivered, and the ring isn't closed.
-fn go_on_without_application(ends: Lanes) -> bool {
-    let Ends {
-        mut app,
-        mut kernel,
-        mut workers,
-    } = ends;
-    let first = app.submit(&[nop(1)]).is_ok();
-    let second = app.submit(&[nop(2), nop(3)]).is_ok();
-    drop(app);
-    let taken = turns(&mut kernel, &[turn(1, 1, 0, 0), turn(2, 2, 0, 0)]);
-    let done = works(&mut workers, &[Done(0), Done(1), Done(2)]);
-    let delivered = turns(&mut kernel, &[turn(0, 0, 3, 3), turn(0, 0, 0, 0)]);
-    let idle = kernel.idle();
-    drop(kernel);
-    drop(workers);
-    first && second && taken && done && delivered && !idle
+/// Whether all jobs of two calls are done and delivered, and the ring isn't closed.
+fn carries_out_all(kernel: &mut Kernel<KernelLanes>, workers: &mut [Worker<Open>]) -> bool {
+    turns(kernel, &TAKEN)
+        && works(workers, &THREE_DONE)
+        && turns(kernel, &THREE_DELIVERED)
+        && !kernel.idle()
 }
 
 /// Whether four more items are put and no more, and nothing comes back.
 fn is_full_behind_four(app: &mut AppEnd<AppLanes>) -> bool {
-    let put = app.submit(&[nop(2), nop(3), nop(4), nop(5)]) == Ok(());
-    let full = app.submit(&[nop(6)]) == Err(SubmitRefusal::Full);
-    let open = app.close() == Err(CloseRefusal::Full);
-    put && full && open && app.reap().is_none()
-}
-
-/// The dispatcher goes once it has taken a call in: whether its job is done, four more items are put and no more, and nothing comes back.
-fn go_on_without_dispatcher(ends: Lanes) -> bool {
-    let Ends {
-        mut app,
-        mut kernel,
-        mut workers,
-    } = ends;
-    let submitted = app.submit(&[nop(1)]).is_ok();
-    let taken = kernel.turn().is_ok();
-    drop(kernel);
-    let done = works(&mut workers, &[Done(0), Idle, Idle]);
-    let full = is_full_behind_four(&mut app);
-    drop(app);
-    drop(workers);
-    submitted && taken && done && full
+    let four = items(&[Nop(2), Nop(3), Nop(4), Nop(5)]);
+    app.submit(&four) == Ok(())
+        && app.submit(&four[..1]) == Err(SubmitRefusal::Full)
+        && app.close() == Err(CloseRefusal::Full)
+        && app.reap().is_none()
 }
 
 /// Whether the no-op that worker 0 has is done and comes back, and the write beside it doesn't.
@@ -87,54 +111,56 @@ fn brings_one_back(
     kernel: &mut Kernel<KernelLanes>,
     workers: &mut [Worker<Open>],
 ) -> bool {
-    let done = works(workers, &[Done(1), Idle, Idle]);
-    let delivered = turns(kernel, &[turn(0, 0, 1, 1), turn(0, 0, 0, 0)]);
-    let back = app.reap() == Some(Cqe::new(2, 0, [0; 64]));
-    done && delivered && back && app.reap().is_none()
+    works(workers, &SECOND_DONE)
+        && turns(kernel, &ONE_DELIVERED)
+        && app.reap() == Some(completion(2))
+        && app.reap().is_none()
 }
 
-/// A write goes to worker 1, which then goes: whether the no-op beside it is done by worker 0 and comes back, and the write doesn't.
+/// The application goes: whether what it submitted is carried out.
+fn go_on_without_application(ends: Lanes) -> bool {
+    let Ends {
+        app,
+        mut kernel,
+        mut workers,
+    } = ends;
+    drop(app);
+    let right = carries_out_all(&mut kernel, &mut workers);
+    drop(kernel);
+    drop(workers);
+    right
+}
+
+/// The dispatcher goes: whether the job that it issued is done, and what is put then stays.
+fn go_on_without_dispatcher(ends: Lanes) -> bool {
+    let Ends {
+        mut app,
+        kernel,
+        mut workers,
+    } = ends;
+    drop(kernel);
+    let right = works(&mut workers, &FIRST_DONE) && is_full_behind_four(&mut app);
+    drop(app);
+    drop(workers);
+    right
+}
+
+/// The worker goes that has the write: whether the no-op beside it comes back.
 fn go_on_without_worker(ends: Lanes) -> bool {
     let Ends {
         mut app,
         mut kernel,
         mut workers,
     } = ends;
-    let write = Item::Entry(Sqe::write(1, 0, 1, 0, &[98]));
-    let submitted = app.submit(&[write, nop(2)]).is_ok();
-    let taken = turns(&mut kernel, &[turn(2, 2, 0, 0)]);
     drop(workers.pop());
     let right = brings_one_back(&mut app, &mut kernel, &mut workers);
     drop(app);
     drop(kernel);
     drop(workers);
-    submitted && taken && right
+    right
 }
 
-/// The end that goes.
-#[derive(Clone, Copy)]
-enum Gone {
-    Application,
-    Dispatcher,
-    Worker,
-}
-
-/// Each end, and without which the others go on.
-static GONE: [(Gone, &str); 3] = [
-    (Gone::Application, "without the application"),
-    (Gone::Dispatcher, "without the dispatcher"),
-    (Gone::Worker, "without a worker"),
-];
-
-/// Whether the others of two workers' ends go on without it.
-fn go_on_without(alloc: Global, gone: Gone) -> Result<bool, Fail> {
-    match new_ends(alloc, 2, 2) {
-        Ok(ends) => Ok(go_on(ends, gone)),
-        Err(fault) => Err(fault),
-    }
-}
-
-/// The same of these ends.
+/// Whether the others go on without it.
 fn go_on(ends: Lanes, gone: Gone) -> bool {
     match gone {
         Gone::Application => go_on_without_application(ends),
@@ -143,10 +169,29 @@ fn go_on(ends: Lanes, gone: Gone) -> bool {
     }
 }
 
+/// Whether the ends of two workers go as far as the case says, and the others on from there.
+fn goes(alloc: Global, case: &Case) -> Result<bool, Fail> {
+    match new_ends(alloc, 2, 2) {
+        Ok(mut ends) => {
+            let wrong = first_wrong(&mut ends, case.before);
+            let right = go_on(ends, case.gone);
+            Ok(right && wrong.is_none())
+        }
+        Err(fail) => Err(fail),
+    }
+}
+
+/// The name of the first case that goes otherwise.
+fn first_wrong_case(alloc: Global) -> Result<Option<&'static str>, Fail> {
+    for case in &CASES {
+        if !goes(alloc, case)? {
+            return Ok(Some(case.name));
+        }
+    }
+    Ok(None)
+}
+
 #[test]
 fn the_others_go_on(rt: HostRuntime) -> Result<(), Fail> {
-    for (gone, what) in &GONE {
-        check(&rt, go_on_without(rt.alloc(), *gone), what)?;
-    }
-    Ok(())
+    check_none(&rt, first_wrong_case(rt.alloc()))
 }

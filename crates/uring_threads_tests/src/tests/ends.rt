@@ -93,10 +93,21 @@ pub fn open_ends<K: Ports>(
     setup: &Setup,
     workers: usize,
 ) -> Result<Ends<K, Open>, Fail> {
-    let gates = vec![in alloc; Open; workers]?;
-    match K::ends(alloc, setup, gates) {
+    match try_ends(alloc, setup, workers) {
         Ok(ends) => Ok(ends),
         Err(fault) => Err(Fail::from(fault)),
+    }
+}
+
+/// The same, or why there are none.
+pub fn try_ends<K: Ports>(
+    alloc: Global,
+    setup: &Setup,
+    workers: usize,
+) -> Result<Ends<K, Open>, LanesFault> {
+    match vec![in alloc; Open; workers] {
+        Ok(gates) => K::ends(alloc, setup, gates),
+        Err(_) => Err(LanesFault::NoMemory),
     }
 }
 

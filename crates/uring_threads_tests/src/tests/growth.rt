@@ -5,8 +5,11 @@
 mod middle;
 mod plays;
 
-use super::ends::{Ends, Ports};
+use super::check;
+use super::ends::{Ends, Ports, open_ends, try_ends};
 use std::alloc::{AllocError, Global};
+use std::io::Print;
+use std::process::Abort;
 use std::test::Fail;
 use uring_entry::Setup;
 use uring_threads::{LanesFault, Open, Report};
@@ -14,33 +17,29 @@ use uring_threads::{LanesFault, Open, Report};
 /// All ends over ports of this kind, with workers that nothing holds up.
 type Made<K> = Ends<K, Open>;
 
-/// Makes all ends of rings of four with two files and one worker, if need be by a second try, and notes if memory for them was refused: then nothing stood.
+/// Makes all ends of rings of four with two files and one worker, if need be by a second try, and notes if the first was refused: then nothing stood.
 fn make<K: Ports>(alloc: Global, was_refused: &mut bool) -> Result<Made<K>, Fail> {
     let setup = Setup::new(4, Some(4), 2, 0)?;
-    match try_make(alloc, &setup) {
+    match try_ends(alloc, &setup, 1) {
         Ok(made) => Ok(made),
-        Err(LanesFault::NoMemory) => {
+        Err(_) => {
             *was_refused = true;
-            make_again(alloc, &setup)
+            open_ends(alloc, &setup, 1)
         }
-        Err(fault) => Err(Fail::from(fault)),
     }
 }
 
-/// The second try.
-fn make_again<K: Ports>(alloc: Global, setup: &Setup) -> Result<Made<K>, Fail> {
-    match try_make(alloc, setup) {
-        Ok(made) => Ok(made),
-        Err(fault) => Err(Fail::from(fault)),
+/// Asserts that all went right, and tells if memory was refused.
+fn check_and_tell(
+    rt: &(impl Abort + Print),
+    right: Result<bool, Fail>,
+    was_refused: bool,
+) -> Result<(), Fail> {
+    check(rt, right, "what stands behind a refusal")?;
+    if was_refused {
+        println!(rt; "refused")?;
     }
-}
-
-/// Makes them, unless memory is refused.
-fn try_make<K: Ports>(alloc: Global, setup: &Setup) -> Result<Made<K>, LanesFault> {
-    match vec![in alloc; Open; 1] {
-        Ok(gates) => K::ends(alloc, setup, gates),
-        Err(_) => Err(LanesFault::NoMemory),
-    }
+    Ok(())
 }
 
 /// What settling leaves, if need be at the second try. It notes if memory for it was refused.

@@ -3,7 +3,7 @@
 use super::check;
 use super::ends::Ports;
 use super::threads::{Flags, Script};
-use super::told::{first_three, settle};
+use super::told::{first_three, run_and_settle};
 use std::alloc::{AllocError, Global};
 use std::sync::Wait;
 use std::sync::atomic::{AtomicBool, Ordering};
@@ -75,25 +75,20 @@ fn gates<'a>(
     Ok(vec![in alloc; gate(true, flags, ran_out), gate(false, flags, ran_out)]?)
 }
 
-/// Whether the trace is what a new machine answers, once new ends with two workers, of which worker 0's gate holds its jobs, ran in threads of their own.
-fn is_replayed<K: Ports + Send + 'static, R: Threads + Wait + Sync>(
+/// Whether all goes right at new ends with a worker behind each of these gates, in threads of their own.
+fn goes_through<K: Ports + Send + 'static, G: Gate + Send, R: Threads + Wait + Sync>(
     rt: &R,
     alloc: Global,
-    flags: &Flags,
-    ran_out: &AtomicBool,
+    gates: Vec<G>,
     script: &mut Script,
+    flags: &Flags,
 ) -> Result<bool, Fail>
 where
     K::App: Send + 'static,
 {
     let setup = Setup::new(4, Some(4), 2, 0)?;
-    let gates = gates(alloc, flags, ran_out)?;
     match K::ends(alloc, &setup, gates) {
-        Ok(mut ends) => {
-            ends.run(rt, script, flags);
-            let (_, replayed) = settle(alloc, ends)?;
-            Ok(replayed)
-        }
+        Ok(ends) => run_and_settle(rt, alloc, ends, script, flags),
         Err(fault) => Err(Fail::from(fault)),
     }
 }
@@ -105,7 +100,23 @@ fn is_reaped(completions: &[Cqe]) -> bool {
     first_three(completions) == [second, first, None]
 }
 
-/// Whether they are reaped so with worker 0 held, which the application ends; and the trace is what a new machine answers.
+/// Whether all goes right with worker 0 held, which the application ends by what it reaps.
+fn is_right<K: Ports + Send + 'static, R: Threads + Wait + Sync>(
+    rt: &R,
+    alloc: Global,
+    flags: &Flags,
+    ran_out: &AtomicBool,
+    script: &mut Script,
+) -> Result<bool, Fail>
+where
+    K::App: Send + 'static,
+{
+    let gates = gates(alloc, flags, ran_out)?;
+    let right = goes_through::<K, _, R>(rt, alloc, gates, script, flags)?;
+    Ok(right && is_reaped(&script.completions) && !ran_out.load(Ordering::SeqCst))
+}
+
+/// The same with nothing told or reaped yet.
 fn plays_two_writes<K: Ports + Send + 'static, R: Threads + Wait + Sync>(
     rt: &R,
     alloc: Global,
@@ -113,14 +124,12 @@ fn plays_two_writes<K: Ports + Send + 'static, R: Threads + Wait + Sync>(
 where
     K::App: Send + 'static,
 {
+    let mut script = two_writes(alloc)?;
     let flags = Flags::new();
     let ran_out = AtomicBool::new(false);
-    let mut script = two_writes(alloc)?;
-    let replayed = is_replayed::<K, R>(rt, alloc, &flags, &ran_out, &mut script);
-    let reaped = is_reaped(&script.completions);
+    let right = is_right::<K, R>(rt, alloc, &flags, &ran_out, &mut script);
     drop(script);
-    let replayed = replayed?;
-    Ok(reaped && replayed && !ran_out.load(Ordering::SeqCst))
+    right
 }
 
 #[test]

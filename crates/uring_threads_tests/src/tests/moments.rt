@@ -1,17 +1,17 @@
-//! What settling reports at one moment, with something on its way between any two ends.
+//! What settling reports at a moment: with something on its way between any two ends, and with a call that no turn took in.
 
 use super::ends::{Ends, Ports, new_ends};
 use super::replay::{has_events, replays};
-use super::rows::Put::{Nop, Write};
+use super::rows::Put::{Bad, Nop, Write};
 use super::rows::Row::{Submit, Turn, Work};
 use super::rows::{Row, first_wrong};
 use super::told::{Told, tell};
-use super::{check, nop};
+use super::{check_none, nop};
 use std::alloc::{AllocError, Global};
 use std::test::Fail;
 use uring_entry::{Cqe, Sqe};
 use uring_threads::Worked::Done;
-use uring_threads::{Answer, Counts, FileState, KernelLanes, Open, Report, Step};
+use uring_threads::{Answer, Counts, FileState, Item, KernelLanes, Open, Report, Step};
 use uring_words::KernelWords;
 
 /// Bytes that are nothing.
@@ -22,14 +22,46 @@ fn write(user_data: u64, fd: i32, byte: u8) -> Sqe {
     Sqe::write(user_data, 0, fd, 0, &[byte])
 }
 
-/// Three requests are started, the two writes are carried out, the first one's completion is delivered, and one more no-op is submitted.
-static HALF_WAY: [Row; 6] = [
-    Submit(&[Write(1, 0, 97), Write(2, 1, 98), Nop(3)]),
-    Turn(3, 3, 0, 0),
-    Work(0, Done(0)),
-    Turn(0, 0, 1, 1),
-    Work(1, Done(1)),
-    Submit(&[Nop(4)]),
+/// What is on its way at a moment.
+#[derive(Clone, Copy)]
+enum OnItsWay {
+    /// Something between any two ends.
+    All,
+
+    /// A call that no turn took in.
+    Call,
+}
+
+/// What some end does up to a moment, and what is on its way then.
+struct Moment {
+    name: &'static str,
+    rows: &'static [Row],
+    on_its_way: OnItsWay,
+}
+
+/// Three requests are started, the two writes are carried out, the first one's completion is delivered, and one more no-op is submitted; and of two calls that are submitted one turn takes the first in.
+static MOMENTS: [Moment; 2] = [
+    Moment {
+        name: "what is on its way is reported",
+        rows: &[
+            Submit(&[Write(1, 0, 97), Write(2, 1, 98), Nop(3)]),
+            Turn(3, 3, 0, 0),
+            Work(0, Done(0)),
+            Turn(0, 0, 1, 1),
+            Work(1, Done(1)),
+            Submit(&[Nop(4)]),
+        ],
+        on_its_way: OnItsWay::All,
+    },
+    Moment {
+        name: "the second call is unsent",
+        rows: &[
+            Submit(&[Nop(1)]),
+            Submit(&[Bad(9), Nop(2)]),
+            Turn(1, 1, 0, 0),
+        ],
+        on_its_way: OnItsWay::Call,
+    },
 ];
 
 /// A write that ended with its one byte written.
@@ -121,17 +153,36 @@ fn has_files(report: &Report<Open>) -> bool {
 }
 
 /// Whether a report says all of it, and the trace is what a new machine answers.
-fn is_right(alloc: Global, report: &Report<Open>) -> Result<bool, Fail> {
-    let told = has_lists(&tell(report));
+fn has_all(alloc: Global, report: &Report<Open>) -> Result<bool, Fail> {
     let replayed = replays(alloc, report)?;
-    Ok(told && replayed && has_trace(report) && has_files(report))
+    Ok(replayed && has_lists(&tell(report)) && has_trace(report) && has_files(report))
+}
+
+/// Whether a report has the second call unsent, and nothing else on its way.
+fn has_call(report: &Report<Open>) -> bool {
+    let told = tell(report);
+    told.unsent == [Some(Item::Bad(9)), Some(nop(2)), None]
+        && told.undelivered == [None; 3]
+        && told.waiting == [None; 3]
+}
+
+/// Whether a report says what is on its way.
+fn is_right(alloc: Global, report: &Report<Open>, on_its_way: OnItsWay) -> Result<bool, Fail> {
+    match on_its_way {
+        OnItsWay::All => has_all(alloc, report),
+        OnItsWay::Call => Ok(has_call(report)),
+    }
 }
 
 /// Whether settling these ends reports it.
-fn settles_right<K: Ports>(alloc: Global, ends: Ends<K, Open>) -> Result<bool, Fail> {
+fn settles_right<K: Ports>(
+    alloc: Global,
+    ends: Ends<K, Open>,
+    on_its_way: OnItsWay,
+) -> Result<bool, Fail> {
     match ends.settle(alloc) {
         Ok(report) => {
-            let right = is_right(alloc, &report);
+            let right = is_right(alloc, &report, on_its_way);
             drop(report);
             right
         }
@@ -139,22 +190,34 @@ fn settles_right<K: Ports>(alloc: Global, ends: Ends<K, Open>) -> Result<bool, F
     }
 }
 
-/// Whether the ends of two workers go half way, and then report it.
-fn is_reported<K: Ports>(alloc: Global) -> Result<bool, Fail> {
+/// Whether the ends of two workers go as far as this moment, and then report it.
+fn is_reported<K: Ports>(alloc: Global, moment: &Moment) -> Result<bool, Fail> {
     match new_ends::<K>(alloc, 2, 2) {
         Ok(mut ends) => {
-            let wrong = first_wrong(&mut ends, &HALF_WAY);
-            let right = settles_right(alloc, ends)?;
-            Ok(wrong == None && right)
+            let wrong = first_wrong(&mut ends, moment.rows);
+            let right = settles_right(alloc, ends, moment.on_its_way)?;
+            Ok(right && wrong.is_none())
         }
         Err(fail) => Err(fail),
     }
 }
 
+/// The name of the first moment that is reported otherwise.
+fn first_wrong_moment<K: Ports>(alloc: Global) -> Result<Option<&'static str>, Fail> {
+    for moment in &MOMENTS {
+        if !is_reported::<K>(alloc, moment)? {
+            return Ok(Some(moment.name));
+        }
+    }
+    Ok(None)
+}
+
 #[test]
-fn what_is_on_its_way_is_reported(rt: HostRuntime) -> Result<(), Fail> {
-    let lanes = is_reported::<KernelLanes>(rt.alloc());
-    check(&rt, lanes, "over lanes")?;
-    let words = is_reported::<KernelWords>(rt.alloc());
-    check(&rt, words, "over words")
+fn are_reported_over_lanes(rt: HostRuntime) -> Result<(), Fail> {
+    check_none(&rt, first_wrong_moment::<KernelLanes>(rt.alloc()))
+}
+
+#[test]
+fn are_reported_over_words(rt: HostRuntime) -> Result<(), Fail> {
+    check_none(&rt, first_wrong_moment::<KernelWords>(rt.alloc()))
 }

@@ -1,10 +1,10 @@
 //! Random submissions, in threads and settled at random moments: each trace is what a new machine answers, and the files are that machine's.
 
-use super::check_seeds;
+use super::check_none;
 use super::dice::Dice;
 use super::ends::{Ends, Ports, open_ends};
 use super::threads::{Flags, Script};
-use super::told::{Told, settle};
+use super::told::{run_and_settle, settles_right};
 use std::alloc::{AllocError, Global};
 use std::sync::Wait;
 use std::test::Fail;
@@ -38,27 +38,24 @@ fn script(alloc: Global, seed: u64) -> Result<Script, AllocError> {
     })
 }
 
-/// What the ends of a seed report once they ran in threads of their own.
-fn told_in_threads<K: Ports + Send + 'static, R: Threads + Wait + Sync>(
+/// Whether the ends of a seed, in threads of their own, do what one machine does.
+fn goes_in_threads<K: Ports + Send + 'static, R: Threads + Wait + Sync>(
     rt: &R,
     alloc: Global,
     seed: u64,
     script: &mut Script,
-) -> Result<(Told, bool), Fail>
+) -> Result<bool, Fail>
 where
     K::App: Send + 'static,
 {
     let flags = Flags::new();
     match ends_of::<K>(alloc, seed) {
-        Ok(mut ends) => {
-            ends.run(rt, script, &flags);
-            settle(alloc, ends)
-        }
+        Ok(ends) => run_and_settle(rt, alloc, ends, script, &flags),
         Err(fail) => Err(fail),
     }
 }
 
-/// Whether they end with all done and nothing on its way, and the trace is what a new machine answers.
+/// The same by the seed's script.
 fn is_right_in_threads<K: Ports + Send + 'static, R: Threads + Wait + Sync>(
     rt: &R,
     alloc: Global,
@@ -68,11 +65,9 @@ where
     K::App: Send + 'static,
 {
     let mut script = script(alloc, seed)?;
-    let told = told_in_threads::<K, R>(rt, alloc, seed, &mut script);
-    let (done, reaped) = (script.done, script.completions.len());
+    let right = goes_in_threads::<K, R>(rt, alloc, seed, &mut script);
     drop(script);
-    let (told, replayed) = told?;
-    Ok(done && told.is_over(reaped) && replayed)
+    right
 }
 
 /// The first seed of which the threads go otherwise.
@@ -93,11 +88,11 @@ where
 
 #[test]
 fn threads_do_what_one_machine_does(rt: HostRuntime) -> Result<(), Fail> {
-    check_seeds(
+    check_none(
         &rt,
         first_wrong_in_threads::<KernelLanes, _>(&rt, rt.alloc()),
     )?;
-    check_seeds(
+    check_none(
         &rt,
         first_wrong_in_threads::<KernelWords, _>(&rt, rt.alloc()),
     )
@@ -145,8 +140,8 @@ fn is_right_half_way<K: Ports>(alloc: Global, seed: u64) -> Result<bool, Fail> {
     match ends_of::<K>(alloc, seed) {
         Ok(mut ends) => {
             let goes = go_some_way(alloc, &mut dice, &mut ends);
-            let (_, replayed) = settle(alloc, ends)?;
-            Ok(goes && replayed)
+            let right = settles_right(alloc, ends, None)?;
+            Ok(goes && right)
         }
         Err(fail) => Err(fail),
     }
@@ -164,6 +159,6 @@ fn first_wrong_half_way<K: Ports>(alloc: Global) -> Result<Option<u64>, Fail> {
 
 #[test]
 fn ends_settle_half_way(rt: HostRuntime) -> Result<(), Fail> {
-    check_seeds(&rt, first_wrong_half_way::<KernelLanes>(rt.alloc()))?;
-    check_seeds(&rt, first_wrong_half_way::<KernelWords>(rt.alloc()))
+    check_none(&rt, first_wrong_half_way::<KernelLanes>(rt.alloc()))?;
+    check_none(&rt, first_wrong_half_way::<KernelWords>(rt.alloc()))
 }

@@ -3,12 +3,8 @@
 ghost use Rattle.std.specs.Prelude.{◌≡◌, ◌≤◌, vec_capacity};
 
 use super::nop;
-use std::alloc::Global;
-use std::test::Fail;
-use uring_entry::Setup;
 use uring_threads::{
     AppEnd, AppLanes, CloseRefusal, Item, KernelLanes, KernelPort, Pulled, SubmitRefusal,
-    lane_ports,
 };
 
 type Submits<const N: usize> = [Option<SubmitRefusal>; N];
@@ -52,7 +48,7 @@ fn closes(
 
 /// What all of them return, and two pulls behind them.
 #[derive(Clone, Copy)]
-struct Returned {
+pub struct Returned {
     open: Submits<6>,
     closes: [Option<CloseRefusal>; 3],
     closed: Submits<3>,
@@ -61,7 +57,7 @@ struct Returned {
 
 impl Returned {
     /// Whether the refusals come in their order.
-    fn is_right(&self) -> bool {
+    pub fn is_right(&self) -> bool {
         let open = [
             Some(SubmitRefusal::Empty),
             Some(SubmitRefusal::TooLong),
@@ -78,7 +74,7 @@ impl Returned {
 }
 
 /// What they return at these ends.
-fn return_all(
+pub fn return_all(
     app: &mut AppEnd<AppLanes>,
     kernel: &mut KernelLanes,
     items: &mut Vec<Item>,
@@ -93,24 +89,4 @@ fn return_all(
         closed,
         pulls: [kernel.pull(items), kernel.pull(items)],
     }
-}
-
-/// What they return at new ends.
-fn returned_at_new_ends(alloc: Global) -> Result<Returned, Fail> {
-    let setup = Setup::new(4, Some(4), 1, 0)?;
-    let mut items = Vec::with_capacity(alloc, setup.sq() as usize)?;
-    let (port, mut kernel) = lane_ports(alloc, &setup)?;
-    let mut app = AppEnd::new(port, setup.sq());
-    let returned = return_all(&mut app, &mut kernel, &mut items);
-    drop(app);
-    drop(kernel);
-    drop(items);
-    Ok(returned)
-}
-
-#[test]
-fn come_in_their_order(rt: HostRuntime) -> Result<(), Fail> {
-    let returned = returned_at_new_ends(rt.alloc())?;
-    assert!(rt; returned.is_right());
-    Ok(())
 }

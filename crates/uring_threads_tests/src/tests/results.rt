@@ -25,15 +25,22 @@ fn accept(core: &mut Core, slot: u32) {
     core.step(Step::End);
 }
 
-/// Takes in a result of each of four requests: one never accepted, one that waits, one that runs, and that one once more.
-fn take_all(core: &mut Core, trace: &mut Events) -> Result<(), Fail> {
+/// A request that was never accepted, one that waits, one that runs, and that one once more.
+static NUMBERS: [u64; 4] = [2, 1, 0, 0];
+
+/// Has two no-ops accepted, of which the first is issued.
+fn start(core: &mut Core) {
     accept(core, 0);
     accept(core, 1);
     core.step(Step::Issue { number: 0 });
-    take_result(core, trace, 2, DONE)?;
-    take_result(core, trace, 1, DONE)?;
-    take_result(core, trace, 0, DONE)?;
-    take_result(core, trace, 0, DONE)?;
+}
+
+/// Takes in a result of each of these requests.
+fn take_all(core: &mut Core, trace: &mut Events) -> Result<(), Fail> {
+    start(core);
+    for number in &NUMBERS {
+        take_result(core, trace, *number, DONE)?;
+    }
     Ok(())
 }
 

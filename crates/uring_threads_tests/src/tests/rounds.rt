@@ -2,10 +2,8 @@
 ghost use Rattle.std.specs.Prelude.{◌≡◌, ◌≤◌, vec_capacity};
 
 use super::nop;
-use std::alloc::Global;
-use std::test::Fail;
-use uring_entry::{Cqe, Setup};
-use uring_threads::{AppEnd, AppLanes, Item, KernelLanes, KernelPort, Pulled, lane_ports};
+use uring_entry::Cqe;
+use uring_threads::{AppEnd, AppLanes, Item, KernelLanes, KernelPort, Pulled};
 
 /// Delivers so many completions, with user data from 0 on. Whether there was room, and none beyond the fourth.
 fn delivers(kernel: &mut KernelLanes, count: usize) -> bool
@@ -52,7 +50,7 @@ fn goes_through(
 }
 
 /// The first of a thousand rounds that goes otherwise.
-fn first_wrong_round(
+pub fn first_wrong_round(
     app: &mut AppEnd<AppLanes>,
     kernel: &mut KernelLanes,
     items: &mut Vec<Item>,
@@ -72,24 +70,4 @@ fn first_wrong_round(
         }
     }
     None
-}
-
-/// The same on new ends.
-fn first_wrong_round_of_new_ends(alloc: Global) -> Result<Option<u64>, Fail> {
-    let setup = Setup::new(4, Some(4), 1, 0)?;
-    let mut items = Vec::with_capacity(alloc, setup.sq() as usize)?;
-    let (port, mut kernel) = lane_ports(alloc, &setup)?;
-    let mut app = AppEnd::new(port, setup.sq());
-    let wrong = first_wrong_round(&mut app, &mut kernel, &mut items);
-    drop(app);
-    drop(kernel);
-    drop(items);
-    Ok(wrong)
-}
-
-#[test]
-fn go_through_and_back(rt: HostRuntime) -> Result<(), Fail> {
-    let wrong = first_wrong_round_of_new_ends(rt.alloc())?;
-    assert!(rt; wrong == None);
-    Ok(())
 }

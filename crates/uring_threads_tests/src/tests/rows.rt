@@ -68,7 +68,7 @@ fn item(put: Put) -> Item {
 }
 
 /// These items, and words that name no slot behind them.
-fn items(puts: &[Put]) -> [Item; 4] {
+pub fn items(puts: &[Put]) -> [Item; 4] {
     let mut items = [Item::Bad(u32::MAX); 4];
     for (item_there, put) in items.iter_mut().zip(puts) {
         *item_there = item(*put);
@@ -77,7 +77,7 @@ fn items(puts: &[Put]) -> [Item; 4] {
 }
 
 /// Whether the submission of these items is answered so.
-fn submits<K: Ports>(
+pub fn submits<K: Ports>(
     ends: &mut Ends<K, Open>,
     puts: &[Put],
     wanted: Result<(), SubmitRefusal>,
@@ -87,7 +87,7 @@ fn submits<K: Ports>(
 }
 
 /// The completion of a no-op.
-fn completion(user_data: u64) -> Cqe {
+pub fn completion(user_data: u64) -> Cqe {
     Cqe::new(user_data, 0, [0; 64])
 }
 

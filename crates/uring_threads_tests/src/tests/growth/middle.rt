@@ -2,13 +2,22 @@
 
 use super::super::ends::Ports;
 use super::super::nop;
+use super::super::rows::Put::{Bad, Nop};
+use super::super::rows::{Put, submits};
 use super::super::told::{Told, tell};
-use super::{Made, make, settle};
+use super::{Made, check_and_tell, make, settle};
 use std::alloc::{AllocError, Global};
 use std::test::Fail;
 use uring_entry::Cqe;
 use uring_threads::{Counts, Item, KernelLanes};
 use uring_words::KernelWords;
+
+/// Calls of a no-op, of two, and of a bad word and a no-op, and how often the dispatcher and the worker have turns behind each: one no-op is delivered then and not reaped, two are issued of which the worker did the first, and the last call stays.
+static CALLS: [(&[Put], u64); 3] = [
+    (&[Nop(1)], 2),
+    (&[Nop(2), Nop(3)], 1),
+    (&[Bad(9), Nop(4)], 0),
+];
 
 /// Turns the dispatcher twice, so that the second turn goes on where the first was refused memory, and has the worker take a job. Whether memory was refused.
 fn turn_and_work<K: Ports>(made: &mut Made<K>) -> bool {
@@ -18,15 +27,23 @@ fn turn_and_work<K: Ports>(made: &mut Made<K>) -> bool {
     first || second
 }
 
-/// Has one no-op delivered and not reaped, two issued of which the worker did the first, and a call of a bad word and a no-op submitted. Whether a turn was refused memory.
+/// Submits a call, and has turns behind it. Whether a turn was refused memory.
+fn submit_and_turn<K: Ports>(made: &mut Made<K>, call: &[Put], turns: u64) -> bool {
+    submits(made, call, Ok(()));
+    let mut was_refused = false;
+    for _ in 0..turns {
+        was_refused |= turn_and_work(made);
+    }
+    was_refused
+}
+
+/// Has all calls submitted, with the turns behind them. Whether a turn was refused memory.
 fn go_to_the_middle<K: Ports>(made: &mut Made<K>) -> bool {
-    made.submit(&[nop(1)]);
-    let first = turn_and_work(made);
-    let second = turn_and_work(made);
-    made.submit(&[nop(2), nop(3)]);
-    let third = turn_and_work(made);
-    made.submit(&[Item::Bad(9), nop(4)]);
-    first || second || third
+    let mut was_refused = false;
+    for (call, turns) in &CALLS {
+        was_refused |= submit_and_turn(made, call, *turns);
+    }
+    was_refused
 }
 
 /// Whether nothing is lost.
@@ -60,14 +77,12 @@ fn settles_right<K: Ports>(
     }
 }
 
-/// Whether new ends that are settled then report it so, and whether memory was refused.
-fn settle_then<K: Ports>(alloc: Global) -> Result<(bool, bool), Fail> {
-    let mut was_refused = false;
-    match make::<K>(alloc, &mut was_refused) {
+/// Whether new ends that are settled then report it so. It notes if memory was refused.
+fn settle_then<K: Ports>(alloc: Global, was_refused: &mut bool) -> Result<bool, Fail> {
+    match make::<K>(alloc, was_refused) {
         Ok(mut made) => {
-            let refused_then = go_to_the_middle(&mut made);
-            let right = settles_right(alloc, made, &mut was_refused)?;
-            Ok((right, was_refused || refused_then))
+            *was_refused |= go_to_the_middle(&mut made);
+            settles_right(alloc, made, was_refused)
         }
         Err(fail) => Err(fail),
     }
@@ -75,20 +90,14 @@ fn settle_then<K: Ports>(alloc: Global) -> Result<(bool, bool), Fail> {
 
 #[test]
 fn settling_in_the_middle_loses_nothing(rt: HostRuntime) -> Result<(), Fail> {
-    let (right, was_refused) = settle_then::<KernelLanes>(rt.alloc())?;
-    assert!(rt; right);
-    if was_refused {
-        println!(rt; "refused")?;
-    }
-    Ok(())
+    let mut was_refused = false;
+    let right = settle_then::<KernelLanes>(rt.alloc(), &mut was_refused);
+    check_and_tell(&rt, right, was_refused)
 }
 
 #[test]
 fn settling_over_words_in_the_middle_loses_nothing(rt: HostRuntime) -> Result<(), Fail> {
-    let (right, was_refused) = settle_then::<KernelWords>(rt.alloc())?;
-    assert!(rt; right);
-    if was_refused {
-        println!(rt; "refused")?;
-    }
-    Ok(())
+    let mut was_refused = false;
+    let right = settle_then::<KernelWords>(rt.alloc(), &mut was_refused);
+    check_and_tell(&rt, right, was_refused)
 }

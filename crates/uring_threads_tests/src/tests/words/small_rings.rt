@@ -1,9 +1,9 @@
 //! A ring of four that is settled.
 ghost use Rattle.std.specs.Prelude.{◌≡◌, ◌≤◌, vec_capacity};
 
-use super::super::told::{Left, left_in};
+use super::super::told::{Left, leaves};
 use super::super::{check, nop};
-use std::alloc::{AllocError, Global};
+use std::alloc::Global;
 use std::test::Fail;
 use uring_entry::Setup;
 use uring_threads::{AppEnd, Item, KernelPort, Pulled};
@@ -24,28 +24,21 @@ fn pulls_one_of_two(
     first && second && kernel.pull(items) == Pulled::Call
 }
 
-/// Whether both calls go, of which the first is pulled, and what is left if they are settled then.
-fn settled(alloc: Global) -> Result<(bool, Left), Fail> {
+/// The second call is unsent, and nothing else left.
+fn wanted() -> Left {
+    ([Some(Item::Bad(9)), Some(nop(2)), None], [None; 3])
+}
+
+/// Whether both calls go on a new ring, and that is left.
+fn is_unsent(alloc: Global) -> Result<bool, Fail> {
     let setup = Setup::new(4, Some(4), 1, 0)?;
     let mut items = Vec::with_capacity(alloc, setup.sq() as usize)?;
     let (port, mut kernel) = word_ports(alloc, &setup)?;
     let mut app = AppEnd::new(port, setup.sq());
     let goes = pulls_one_of_two(&mut app, &mut kernel, &mut items);
     drop(items);
-    match app.settle(alloc, kernel) {
-        Ok(rests) => Ok((goes, left_in(rests))),
-        Err(ends) => {
-            drop(ends);
-            Err(AllocError)?
-        }
-    }
-}
-
-/// Whether it goes so, and the second call is unsent.
-fn is_unsent(alloc: Global) -> Result<bool, Fail> {
-    let (goes, (unsent, undelivered)) = settled(alloc)?;
-    let wanted = [Some(Item::Bad(9)), Some(nop(2)), None];
-    Ok(goes && unsent == wanted && undelivered == [None; 3])
+    let right = leaves(alloc, app, kernel, &wanted())?;
+    Ok(goes && right)
 }
 
 #[test]
