@@ -12,6 +12,7 @@ pub mod CancellingForm
 pub mod MissingForm
 pub mod SleepForm
 pub mod MeansForm
+pub mod OpeningForm
 pub mod PinningForm
 pub mod UnknownForm
 pub mod StartForm

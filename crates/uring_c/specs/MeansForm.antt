@@ -6,8 +6,6 @@ use Rattle.uring_enter.specs.declared.fault.Fault.TheVariants as fault
 use Rattle.uring_enter.specs.declared.means.Listed.{Listed}
 use Rattle.uring_enter.specs.declared.means.Means.{Means}
 use Rattle.uring_enter.specs.declared.means.Means.TheVariants.{Nothing, Transfer, Poll, Call, Opening, Sync, Close, Connect, Splice, Send, Receive, ReceiveMessage, SlotRemoval, FilesPlacing, FilesUpdate, Timeout, LinkedTimeout, Provision, ProvisionRemoval, Message, Cancel, PollRemoval, TimeoutRemoval}
-use Rattle.uring_enter.specs.declared.pipe_open.Opening.{Opening}
-use Rattle.uring_enter.specs.declared.pipe_open.Opening.TheVariants.{Plain, AtOnce, Pipe}
 use Rattle.uring_enter.specs.Faults.{can_have}
 use Rattle.uring_enter.specs.SystemCalls.{of_three}
 use Rattle.uring_c.specs.declared.call_exports.MeansWords.{MeansWords}
@@ -58,12 +56,6 @@ words_of_means Message = bare 19
 words_of_means Cancel = bare 20
 words_of_means PollRemoval = bare 21
 words_of_means TimeoutRemoval = bare 22
-
--- kinds count in the order of `Opening`, from 0. Our own rule
-abbrev pub word_of_opening : Opening → ℕ
-word_of_opening Plain = 0
-word_of_opening AtOnce = 1
-word_of_opening Pipe = 2
 
 -- faults count in the order of `Fault`, from 1. Our own rule
 abbrev pub fault_of_word : ℕ → Option Fault

@@ -1,7 +1,7 @@
 //! How paths are opened, for C: functions of `c/wulgach_calls.h`.
 ghost use Rattle.std.specs.Prelude.{◌≡◌};
 ghost use Rattle.uring_enter.specs.PipeOpens as opens;
-ghost use Rattle.uring_c.specs.MeansForm.{word_of_opening};
+ghost use Rattle.uring_c.specs.OpeningForm.{word_of_opening};
 
 use uring_enter::{
     Opening, Standing, Submission, asks_writer, found_flags, looking_flags, looks_at_path,
