@@ -1,11 +1,10 @@
 -- The laws of chains.
 use Rattle.std.proofs.Common.{◌≡◌, ℕ, ◌+◌, Bool, true, false, ◌&&◌, ◌==◌, length, [], ◌∷◌, ◌++◌, refl, ◌∙◌, arith}
-use Rattle.std.proofs.lemmas.Bool.{false≢true, true≢false}
+use Rattle.std.proofs.lemmas.Bool.{and_parts, false≢true, true≢false}
 use Rattle.std.proofs.lemmas.Bool.Decides.{Decides-eqb}
 use Rattle.uring_enter.specs.declared.member.Member.{Member}
 use Rattle.uring_enter.specs.Chains.{chain_behind, chain_of, limits}
 use Rattle.uring_enter.specs.ChainLaws.{LimitsTheOneBefore, LimitsOneAtMost, all_link, ChainsHold, ChainsEnd}
-use Rattle.uring_enter.proofs.Running.{both_left, both_right}
 
 and_true : (x y b : Bool) → b ≡ true → (x && y && b) ≡ (x && y)
 and_true true true b is = is
@@ -21,7 +20,7 @@ limits_the_one_before first entry before earlier =
 
 number_of : (timeout one : Member) → limits timeout one ≡ true → timeout.number ≡ one.number + 1
 number_of timeout one is =
-    let same = both_right (timeout.entry.is_linked_timeout && timeout.is_linked) (timeout.number == one.number + 1) is in
+    let same = (and_parts (timeout.entry.is_linked_timeout && timeout.is_linked) (timeout.number == one.number + 1) is).1 in
     (Decides-eqb timeout.number (one.number + 1)).0 same
 
 pub limits_one_at_most : LimitsOneAtMost
@@ -40,8 +39,8 @@ pub chains_hold : ChainsHold
 chains_hold first [] earlier all = refl
 chains_hold first (e ∷ newer) earlier all =
     chain_holds e.links (chain_of first (newer ++ earlier)) (first + length (e ∷ newer ++ earlier))
-    (both_left e.links (all_link newer) all)
-    ∙ chains_hold first newer earlier (both_right e.links (all_link newer) all)
+    (and_parts e.links (all_link newer) all).0
+    ∙ chains_hold first newer earlier (and_parts e.links (all_link newer) all).1
 
 pub chains_end : ChainsEnd
 chains_end first before earlier is =

@@ -1,6 +1,6 @@
 -- The laws of courses.
 use Rattle.std.proofs.Common.{◌≡◌, ℕ, ℤ, ◌+◌, ◌≤◌, Bool, true, false, not, ◌&&◌, Option, Some, None, List, [], ◌∷◌, ◌++◌, ◌⊎◌, inl, inr, refl, sym, ap, arith}
-use Rattle.std.proofs.lemmas.Bool.{false≢true, true≢false}
+use Rattle.std.proofs.lemmas.Bool.{and_parts, false≢true, true≢false}
 use Rattle.uring_enter.specs.declared.act.Fact.{Fact}
 use Rattle.uring_enter.specs.declared.act.Fact.TheVariants.{Started, Dropped, Cancelled, Tried, Waits, WentOn, Done, Notified, Ended}
 use Rattle.uring_enter.specs.declared.act.Act.{Act}
@@ -8,7 +8,6 @@ use Rattle.uring_enter.specs.declared.act.Act.TheVariants.{Nothing, CarryOut, En
 use Rattle.uring_entry.specs.Errors.{error}
 use Rattle.uring_enter.specs.Courses.{has_started, has_ended, is_cancelled, is_tried, result, moved, by_cancel, end_by, may_go_on, act_by, is_carrying_out, is_ending, is_known, can_be, fits, is_run}
 use Rattle.uring_enter.specs.CourseLaws.{CarriesOutWhatRuns, CarriesOutOnce, tries, returns, TriesOnce, EndsForGood, EndsWithItsResult}
-use Rattle.uring_enter.proofs.Running.{both_left, both_right}
 
 runs_by : (started ended tried cancelled : Bool) (found : Option ℤ) (so_far : ℤ)
     → act_by (started && not ended && not tried) (end_by found cancelled so_far) ≡ CarryOut
@@ -122,34 +121,34 @@ counted_of : (log : List Fact) → is_run log ≡ true
     → IsCounted (is_tried log) (is_known (result log)) (tries log) (returns log)
 counted_of [] run =
     record { busy = λ is. absurd (false≢true is); idle = λ is other. refl; most = omega arith }
-counted_of (Started ∷ earlier) run = counted_of earlier (both_right (fits earlier Started) (is_run earlier) run)
-counted_of (Cancelled ∷ earlier) run = counted_of earlier (both_right (fits earlier Cancelled) (is_run earlier) run)
-counted_of (Ended ∷ earlier) run = counted_of earlier (both_right (fits earlier Ended) (is_run earlier) run)
+counted_of (Started ∷ earlier) run = counted_of earlier (and_parts (fits earlier Started) (is_run earlier) run).1
+counted_of (Cancelled ∷ earlier) run = counted_of earlier (and_parts (fits earlier Cancelled) (is_run earlier) run).1
+counted_of (Ended ∷ earlier) run = counted_of earlier (and_parts (fits earlier Ended) (is_run earlier) run).1
 counted_of (Tried ∷ earlier) run =
-    let fitted = both_left (fits earlier Tried) (is_run earlier) run in
+    let fitted = (and_parts (fits earlier Tried) (is_run earlier) run).0 in
     let known = is_known (result earlier) in
     let free = carried_by (has_started earlier) (is_tried earlier) known (is_cancelled earlier) (has_ended earlier) (result earlier) (moved earlier) fitted in
     tried_once_more (is_tried earlier) known (tries earlier) (returns earlier) free.0 free.1
-    (counted_of earlier (both_right (fits earlier Tried) (is_run earlier) run))
+    (counted_of earlier (and_parts (fits earlier Tried) (is_run earlier) run).1)
 counted_of (Waits so_far ∷ earlier) run =
-    let fitted = both_left (fits earlier (Waits so_far)) (is_run earlier) run in
+    let fitted = (and_parts (fits earlier (Waits so_far)) (is_run earlier) run).0 in
     came_back (is_tried earlier) (is_known (result earlier)) (tries earlier) (returns earlier)
-    (both_right (not (has_ended earlier)) (is_tried earlier) fitted)
-    (counted_of earlier (both_right (fits earlier (Waits so_far)) (is_run earlier) run))
+    (and_parts (not (has_ended earlier)) (is_tried earlier) fitted).1
+    (counted_of earlier (and_parts (fits earlier (Waits so_far)) (is_run earlier) run).1)
 counted_of (WentOn ∷ earlier) run =
-    let fitted = both_left (fits earlier WentOn) (is_run earlier) run in
+    let fitted = (and_parts (fits earlier WentOn) (is_run earlier) run).0 in
     came_back (is_tried earlier) (is_known (result earlier)) (tries earlier) (returns earlier)
-    (both_right (not (has_ended earlier)) (is_tried earlier) fitted)
-    (counted_of earlier (both_right (fits earlier WentOn) (is_run earlier) run))
+    (and_parts (not (has_ended earlier)) (is_tried earlier) fitted).1
+    (counted_of earlier (and_parts (fits earlier WentOn) (is_run earlier) run).1)
 counted_of (Done res ∷ earlier) run =
     came_to_its_end (is_tried earlier) (is_known (result earlier)) (tries earlier) (returns earlier)
-    (counted_of earlier (both_right (fits earlier (Done res)) (is_run earlier) run))
+    (counted_of earlier (and_parts (fits earlier (Done res)) (is_run earlier) run).1)
 counted_of (Dropped res ∷ earlier) run =
     its_result_is_set (is_tried earlier) (is_known (result earlier)) (tries earlier) (returns earlier)
-    (counted_of earlier (both_right (fits earlier (Dropped res)) (is_run earlier) run))
+    (counted_of earlier (and_parts (fits earlier (Dropped res)) (is_run earlier) run).1)
 counted_of (Notified res ∷ earlier) run =
     its_result_is_set (is_tried earlier) (is_known (result earlier)) (tries earlier) (returns earlier)
-    (counted_of earlier (both_right (fits earlier (Notified res)) (is_run earlier) run))
+    (counted_of earlier (and_parts (fits earlier (Notified res)) (is_run earlier) run).1)
 
 pub tries_once : TriesOnce
 tries_once log run = (counted_of log run).most

@@ -1,5 +1,6 @@
 -- Why a call that waits ends.
 use Rattle.std.proofs.Common.{◌≡◌, ℕ, ℤ, Bool, true, false, List, [], ◌∷◌, if◌then◌else◌, refl, sym, ap, ◌∙◌}
+use Rattle.std.proofs.lemmas.Bool.{and_parts}
 use Rattle.uring_enter.specs.declared.asked.Asked.{Asked}
 use Rattle.uring_enter.specs.declared.asked.Policy.{Policy}
 use Rattle.uring_enter.specs.declared.asked.Policy.TheVariants.{InOrder, Lazy, ByChoice}
@@ -12,12 +13,12 @@ use Rattle.uring_enter.specs.Replies.{waits, is_enough}
 use Rattle.uring_enter.specs.Due.{due, is_reply_to, go_by, ended, going, stuck}
 use Rattle.uring_enter.specs.Laws.{saw_enough, EndsForAReason}
 use Rattle.uring_enter.proofs.Commands.{if_false, going_else, stuck_else, hearing_else, going_waiting, stuck_waiting}
-use Rattle.uring_enter.proofs.Running.{both_left, both_right, against, passing_is_else}
+use Rattle.uring_enter.proofs.Running.{against, passing_is_else}
 
 -- no entries were taken: the call doesn't wait
 not_taken : (a : Asked) (n : ℕ) (t : Sight) (log : List Reply)
     → waits a (NotTaken n t ∷ log) ≡ true → ⊥
-not_taken a n t log waits_on = against false refl (both_right _ _ (both_left _ _ waits_on))
+not_taken a n t log waits_on = against false refl (and_parts _ _ ((and_parts _ _ waits_on).0)).1
 
 is_end : Command → Bool
 is_end (command.Return _) = true
@@ -40,8 +41,8 @@ waiting_ends : (a : Asked) (log : List Reply) (b : Bool) (s : Sight) (v : ℤ)
     → waits a log ≡ true → going a log b s ≡ command.Return v → is_enough a log s ≡ true
 unfolding is_end
 waiting_ends a log b s v waits_on is =
-    both_left _ _ (both_left _ _
-    (then_of _ _ _ v (go_by_no_end a.policy _) (sym (going_waiting a log b s waits_on) ∙ is)))
+    (and_parts _ _ (and_parts _ _
+    (then_of _ _ _ v (go_by_no_end a.policy _) (sym (going_waiting a log b s waits_on) ∙ is))).0).0
 
 -- where it was offered that the call ends, there was enough
 offered : (b g : Bool) (policy : Policy) (log : List Reply) (v : ℤ)
@@ -54,8 +55,8 @@ offered false g ByChoice log v answers = answers
 waiting_offers : (a : Asked) (log : List Reply) (b : Bool) (s : Sight)
     → waits a log ≡ true → is_reply_to (going a log b s) Chosen ≡ true → is_enough a log s ≡ true
 waiting_offers a log b s waits_on answers =
-    both_left _ _ (offered _ _ a.policy log _
-    (sym (ap (λ c. is_reply_to c Chosen) (going_waiting a log b s waits_on)) ∙ answers))
+    (and_parts _ _ (offered _ _ a.policy log _
+    (sym (ap (λ c. is_reply_to c Chosen) (going_waiting a log b s waits_on)) ∙ answers))).0
 
 chosen : (a : Asked) (log : List Reply) → waits a log ≡ true
     → is_reply_to (due a log) Chosen ≡ true → saw_enough a log ≡ true
@@ -118,8 +119,8 @@ ends_for_a_reason a (NotTaken n s ∷ log) v run waits_on is = absurd (not_taken
 ends_for_a_reason a (WentOn s ∷ log) v run waits_on is = waiting_ends a log true s v waits_on is
 ends_for_a_reason a (Stuck s ∷ log) v run waits_on is = absurd (stuck_ends a log s v waits_on is)
 ends_for_a_reason a (Woken ∷ log) v run waits_on is = cc
-ends_for_a_reason a (Passed ∷ log) v run waits_on is = absurd (passed a log waits_on (both_left _ _ run))
-ends_for_a_reason a (Chosen ∷ log) v run waits_on is = chosen a log waits_on (both_left _ _ run)
+ends_for_a_reason a (Passed ∷ log) v run waits_on is = absurd (passed a log waits_on (and_parts _ _ run).0)
+ends_for_a_reason a (Chosen ∷ log) v run waits_on is = chosen a log waits_on (and_parts _ _ run).0
 ends_for_a_reason a (WrongHead ∷ log) v run waits_on is = tt
 ends_for_a_reason a (TimedOut t ∷ log) v run waits_on is = tt
 ends_for_a_reason a (Interrupted t ∷ log) v run waits_on is = tt

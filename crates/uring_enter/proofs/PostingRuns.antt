@@ -1,19 +1,19 @@
 -- The laws of completions that were posted.
 use Rattle.std.proofs.Common.{◌≡◌, ◌+◌, ◌-◌, ◌≤◌, true, ◌==◌, length, drop, Some, None, List, [], ◌∷◌, ◌++◌, refl, sym, ap, ◌∙◌, arith}
 use Rattle.std.specs.Ordering.{int_eq}
+use Rattle.std.proofs.lemmas.Bool.{and_parts}
 use Rattle.std.proofs.lemmas.Bool.Decides.{Decides-eqb, Decides-int_eq}
 use Rattle.std.proofs.lemmas.List.{map-append, length-append, length-drop, drop-map, drop-drop, drop-append-le}
 use Rattle.uring_enter.specs.declared.posted.Posted.{Posted}
 use Rattle.uring_enter.specs.declared.posted.Completion.{Completion}
 use Rattle.uring_enter.specs.Postings.{Posting, Ended, Reaped, is_of, unreaped}
 use Rattle.uring_enter.specs.PostingLaws.{IsPosting, cores, core_of, ShowsTheCores, all, gone, ShowsEachOnce}
-use Rattle.uring_enter.proofs.Running.{both_left, both_right}
 
 -- the core's completion of an end is what the core knows of it
 core_is : (end : Posted) (c : Completion) → is_of end c ≡ true → core_of end ≡ c
 core_is end c is i = record {
-  user_data = sym ((Decides-eqb c.user_data end.token).0 (both_left (c.user_data == end.token) (int_eq c.res end.told) is)) i;
-  res = sym ((Decides-int_eq c.res end.told).0 (both_right (c.user_data == end.token) (int_eq c.res end.told) is)) i;
+  user_data = sym ((Decides-eqb c.user_data end.token).0 (and_parts (c.user_data == end.token) (int_eq c.res end.told) is).0) i;
+  res = sym ((Decides-int_eq c.res end.told).0 (and_parts (c.user_data == end.token) (int_eq c.res end.told) is).1) i;
 }
 
 pub shows_the_cores : ShowsTheCores

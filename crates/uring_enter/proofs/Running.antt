@@ -1,5 +1,6 @@
 -- The laws of a run.
 use Rattle.std.proofs.Common.{◌≡◌, ℤ, pos, Bool, true, false, ◌&&◌, List, [], ◌∷◌, if◌then◌else◌, refl, sym, ap, ◌∙◌}
+use Rattle.std.proofs.lemmas.Bool.{and_parts}
 use Rattle.uring_enter.specs.declared.asked.Asked.{Asked}
 use Rattle.uring_enter.specs.declared.command.Command.{Command}
 use Rattle.uring_enter.specs.declared.command.Command.TheVariants as command
@@ -10,14 +11,6 @@ use Rattle.uring_enter.specs.Replies.{is_enough}
 use Rattle.uring_enter.specs.Due.{due, is_reply_to, ended}
 use Rattle.uring_enter.specs.Laws.{IsInVain, SleepsInVain, GivesUpInVain, SubmitsOnce}
 use Rattle.uring_enter.proofs.Commands.{true_is_not_false, if_false, IsElse, going_else, stuck_else, stuck_unless_waiting, hearing_else}
-
-pub both_left : (x y : Bool) → x && y ≡ true → x ≡ true
-both_left true y h = refl
-both_left false y h = h
-
-pub both_right : (x y : Bool) → x && y ≡ true → y ≡ true
-both_right true y h = h
-both_right false y h = cc
 
 -- what can't be
 pub against : (x : Bool) → x ≡ false → x ≡ true → ⊥
@@ -90,7 +83,7 @@ unfolding sleeps
 sleeps_in_vain a [] run is = cc
 sleeps_in_vain a (Heard s ∷ []) run is = cc
 sleeps_in_vain a (Heard s ∷ last ∷ log) run is =
-    heard_behind a s last log (both_left _ _ run) is
+    heard_behind a s last log (and_parts _ _ run).0 is
 sleeps_in_vain a (Taken n t ∷ log) run is =
     absurd (no_sleep _ (going_else sleeps sleeping_is_else a (Taken n t ∷ log) false t) is)
 sleeps_in_vain a (NotTaken n t ∷ log) run is =
@@ -118,7 +111,7 @@ given_up (command.Return v) answers = cc
 
 pub gives_up_in_vain : GivesUpInVain
 gives_up_in_vain a log run =
-    sleeps_in_vain a log (both_right _ _ run) (given_up _ (both_left _ _ run))
+    sleeps_in_vain a log (and_parts _ _ run).1 (given_up _ (and_parts _ _ run).0)
 
 pub submits_once : SubmitsOnce
 unfolding submits
