@@ -2,8 +2,8 @@
 use Rattle.std.specs.Prelude.{ℕ, ◌^◌, if◌then◌else◌}
 use Rattle.std.specs.Int.RustNames.{bit_or}
 use Rattle.uring_enter.specs.declared.cancelling.Cancelling.{Cancelling}
-use Rattle.uring_enter.specs.declared.cancelling.SoughtFile.{SoughtFile}
-use Rattle.uring_enter.specs.declared.cancelling.SoughtFile.TheVariants.{NoFile, OfSlot, OfNumber}
+use Rattle.uring_enter.specs.declared.seeking.SoughtFile.{SoughtFile}
+use Rattle.uring_enter.specs.declared.seeking.SoughtFile.TheVariants.{NoFile, OfSlot, OfNumber}
 use Rattle.uring_enter.specs.Cancelling.{CancelStep, Rouses, LooksAgain, StopsTime, Marks, place, is_done}
 
 -- kinds count in the order of `SoughtFile`, from 0. Our own rule

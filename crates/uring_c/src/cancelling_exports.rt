@@ -3,6 +3,7 @@ ghost use Rattle.std.specs.Prelude.{◌≡◌, List};
 ghost use Rattle.uring_enter.specs.declared.act.Fact.{Fact};
 ghost use Rattle.uring_enter.specs.Courses.{KeepsCourse};
 ghost use Rattle.uring_enter.specs.Cancelling as spec;
+ghost use Rattle.uring_enter.specs.Seeking as seeking;
 ghost use Rattle.uring_c.specs.CancellingForm.{word_of_cancelling, word_of_sought_file};
 
 use crate::duty_exports::bit;
@@ -11,7 +12,7 @@ use uring_enter::{Cancelling, Course, Sought, SoughtFile, file_of};
 /// Where the file is looked for that a cancel names.
 #[unsafe(no_mangle)]
 pub extern "C" fn wulgach_sought_file(sought: &Sought) -> u32
-    ensures { result ≡ word_of_sought_file (spec.file_of sought.now) }
+    ensures { result ≡ word_of_sought_file (seeking.file_of sought.now) }
 {
     match file_of(sought) {
         SoughtFile::NoFile => 0,

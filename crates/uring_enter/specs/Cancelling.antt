@@ -1,15 +1,8 @@
--- What is done with a request that a cancel has found, and where the file is looked for that a cancel names. io_uring_enter(2), IORING_OP_ASYNC_CANCEL.
-use Rattle.std.specs.Prelude.{◌≡◌, ℕ, Bool, true, not, ◌&&◌, nat_lt, List, if◌then◌else◌}
+-- What is done with a request that a cancel has found. io_uring_enter(2), IORING_OP_ASYNC_CANCEL.
+use Rattle.std.specs.Prelude.{◌≡◌, ℕ, Bool, true, not, ◌&&◌, nat_lt, List}
 use Rattle.uring_enter.specs.declared.act.Fact.{Fact}
-use Rattle.uring_enter.specs.declared.cancel.Sought.{Sought}
 use Rattle.uring_enter.specs.declared.cancelling.Cancelling.{Cancelling}
-use Rattle.uring_enter.specs.declared.cancelling.SoughtFile.{SoughtFile}
-use Rattle.uring_enter.specs.declared.cancelling.SoughtFile.TheVariants.{NoFile, OfSlot, OfNumber}
 use Rattle.uring_enter.specs.Courses.{has_started, has_ended}
-
--- a cancel names a file by IORING_ASYNC_CANCEL_FD, also if it is of any: that of a slot with IORING_ASYNC_CANCEL_FD_FIXED, and else that of a descriptor's number
-abbrev pub file_of : Sought → SoughtFile
-file_of s = if s.is_by_fd then (if s.is_fixed then OfSlot else OfNumber) else NoFile
 
 pub data CancelStep : Type 0 where
   Rouses : CancelStep

@@ -1,8 +1,10 @@
--- What a cancel or a removal looks for, by its entry, or by the call that makes it. io_uring_enter(2), IORING_OP_ASYNC_CANCEL, IORING_OP_POLL_REMOVE and IORING_OP_TIMEOUT_REMOVE; io_uring_register(2), IORING_REGISTER_SYNC_CANCEL.
+-- What a cancel or a removal looks for, by its entry, or by the call that makes it, and where the file is looked for that it names. io_uring_enter(2), IORING_OP_ASYNC_CANCEL, IORING_OP_POLL_REMOVE and IORING_OP_TIMEOUT_REMOVE; io_uring_register(2), IORING_REGISTER_SYNC_CANCEL.
 use Rattle.std.specs.Prelude.{ℕ, ℤ, pos, Bool, false, not, ◌&&◌, ◌||◌, ◌==◌, if◌then◌else◌}
 use Rattle.std.specs.Int.{w32, cast_unsigned}
 use Rattle.uring_enter.specs.declared.submission.Submission.{Submission}
 use Rattle.uring_enter.specs.declared.cancel.Sought.{Sought}
+use Rattle.uring_enter.specs.declared.seeking.SoughtFile.{SoughtFile}
+use Rattle.uring_enter.specs.declared.seeking.SoughtFile.TheVariants.{NoFile, OfSlot, OfNumber}
 use Rattle.uring_enter.specs.Clocks.{has_some}
 use Rattle.uring_entry.specs.Errors.{error}
 
@@ -41,3 +43,7 @@ sought_by_call user_data fd flags = record {
 -- -9 (EBADF) where it looks by a descriptor that isn't open, or by a slot that has no file; then it looks at nothing. What Linux 6.18 does
 abbrev pub seeking_fault : Sought → Bool → ℤ
 seeking_fault s is_there = if s.is_by_fd && not is_there then error 9 else pos 0
+
+-- a cancel names a file by IORING_ASYNC_CANCEL_FD, also if it is of any: that of a slot with IORING_ASYNC_CANCEL_FD_FIXED, and else that of a descriptor's number
+abbrev pub file_of : Sought → SoughtFile
+file_of s = if s.is_by_fd then (if s.is_fixed then OfSlot else OfNumber) else NoFile

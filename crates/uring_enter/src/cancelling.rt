@@ -1,4 +1,4 @@
-//! What is done with a request that a cancel has found, and where the file is looked for that a cancel names. io_uring_enter(2), IORING_OP_ASYNC_CANCEL; the order is our own rule.
+//! What is done with a request that a cancel has found. io_uring_enter(2), IORING_OP_ASYNC_CANCEL; the order is our own rule.
 
 ghost use Rattle.std.specs.Prelude.{◌≡◌, List};
 ghost use Rattle.uring_enter.specs.declared.act.Fact.{Fact};
@@ -6,21 +6,7 @@ ghost use Rattle.uring_enter.specs.Courses.{KeepsCourse};
 ghost use Rattle.uring_enter.specs.Cancelling as spec;
 ghost use Rattle.uring_enter.specs.Cancelling.{MarksAtLast};
 
-use crate::cancel::Sought;
 use crate::course::Course;
-
-/// Where the file is looked for that a cancel names.
-#[derive(Clone, Copy, Drop)]
-pub enum SoughtFile {
-    /// It names none.
-    NoFile,
-
-    /// In a slot of the table of registered files.
-    OfSlot,
-
-    /// By the number of a descriptor.
-    OfNumber,
-}
 
 /// What is done with a request that a cancel has found, in the order in which it stands here.
 #[derive(Clone, Copy, Drop)]
@@ -36,19 +22,6 @@ pub struct Cancelling {
 
     /// It is marked as cancelled, and so isn't carried out any more.
     pub marks: bool,
-}
-
-/// Where the file is looked for that a cancel names.
-pub fn file_of(sought: &Sought) -> SoughtFile
-    ensures { result ≡ spec.file_of sought.now }
-{
-    if !sought.is_by_fd {
-        SoughtFile::NoFile
-    } else if sought.is_fixed {
-        SoughtFile::OfSlot
-    } else {
-        SoughtFile::OfNumber
-    }
 }
 
 /// What is done with a request that a cancel has found, which runs or doesn't.

@@ -1,10 +1,23 @@
-//! What a cancel or a removal looks for, by its entry, or by the call that makes it. io_uring_enter(2), IORING_OP_ASYNC_CANCEL, IORING_OP_POLL_REMOVE and IORING_OP_TIMEOUT_REMOVE; io_uring_register(2), IORING_REGISTER_SYNC_CANCEL.
+//! What a cancel or a removal looks for, by its entry, or by the call that makes it, and where the file is looked for that it names. io_uring_enter(2), IORING_OP_ASYNC_CANCEL, IORING_OP_POLL_REMOVE and IORING_OP_TIMEOUT_REMOVE; io_uring_register(2), IORING_REGISTER_SYNC_CANCEL.
 
 ghost use Rattle.std.specs.Prelude.{◌≡◌};
 ghost use Rattle.uring_enter.specs.Seeking as spec;
 
 use crate::cancel::Sought;
 use crate::submission::Submission;
+
+/// Where the file is looked for that a cancel names.
+#[derive(Clone, Copy, Drop)]
+pub enum SoughtFile {
+    /// It names none.
+    NoFile,
+
+    /// In a slot of the table of registered files.
+    OfSlot,
+
+    /// By the number of a descriptor.
+    OfNumber,
+}
 
 /// What is looked for by the entry of a cancel, or of a removal. If that is a registered file, its slot stands in `fd`.
 pub fn sought_of(entry: &Submission) -> Sought
@@ -55,4 +68,17 @@ pub fn seeking_fault(sought: &Sought, is_there: bool) -> i32
     ensures { result ≡ spec.seeking_fault sought.now is_there }
 {
     if sought.is_by_fd && !is_there { -9 } else { 0 }
+}
+
+/// Where the file is looked for that a cancel names.
+pub fn file_of(sought: &Sought) -> SoughtFile
+    ensures { result ≡ spec.file_of sought.now }
+{
+    if !sought.is_by_fd {
+        SoughtFile::NoFile
+    } else if sought.is_fixed {
+        SoughtFile::OfSlot
+    } else {
+        SoughtFile::OfNumber
+    }
 }
