@@ -1,7 +1,7 @@
 //! What is asked of the ends of running requests.
 
 /// What is asked of the end of a running request.
-#[derive(Clone, Copy, Debug, PartialEq, Eq)]
+#[derive(Clone, Copy)]
 pub enum Ends {
     /// The result and the bytes that the files give.
     Given,

@@ -10,7 +10,7 @@ use uring_memory::Memory;
 use uring_text::{KeptLine, is_name, spelled_number, split_tokens_in};
 
 /// What a line says of a set-up.
-#[derive(Clone, Copy, Debug, PartialEq, Eq)]
+#[derive(Clone, Copy)]
 pub enum Said {
     /// It isn't to say one.
     Nothing,
@@ -23,14 +23,14 @@ pub enum Said {
 }
 
 /// What the words behind the numbers of a set-up ask for: whether its calls stop, and whether its rules are Linux's.
-#[derive(Clone, Copy, Debug, PartialEq, Eq)]
+#[derive(Clone, Copy)]
 pub(crate) struct Asked {
     stops: bool,
     linux: bool,
 }
 
 /// The numbers of a set-up, and what is asked for beside them.
-#[derive(Clone, Copy, Debug, PartialEq, Eq)]
+#[derive(Clone, Copy)]
 pub(crate) struct Sizes {
     sq: u32,
     cq: u32,

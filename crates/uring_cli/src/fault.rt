@@ -5,7 +5,7 @@ use uring_play::PlayFault;
 use uring_trace::TraceFault;
 
 /// Why a run of the program didn't do what was asked.
-#[derive(Debug, Drop)]
+#[derive(Drop)]
 pub enum Fault {
     /// A fault of a trace.
     Trace(TraceFault),

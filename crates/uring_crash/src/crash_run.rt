@@ -24,7 +24,7 @@ use uring_text::{Calls, TraceFault, push_text, read_once, write_all};
 const CHUNK: usize = 512;
 
 /// What is asked of a crash.
-#[derive(Clone, Copy, Debug, PartialEq, Eq)]
+#[derive(Clone, Copy)]
 pub struct Asked {
     /// The descriptor of the file.
     pub fd: i32,

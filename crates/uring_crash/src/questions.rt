@@ -21,7 +21,7 @@ use uring_text::{Calls, TraceFault, push_number, push_text, write_all};
 use uring_volume::ImagesError;
 
 /// A question of all images that a crash may leave of a file.
-#[derive(Debug, Drop)]
+#[derive(Drop)]
 pub enum Question {
     /// How many there are.
     Count,
@@ -34,7 +34,7 @@ pub enum Question {
 }
 
 /// What became of a question.
-#[derive(Clone, Copy, Debug, PartialEq, Drop)]
+#[derive(Clone, Copy, Drop)]
 pub enum Reply {
     /// It was answered; of bytes, that each image has them.
     Answered,

@@ -12,7 +12,7 @@ use std::alloc::{AllocError, Global};
 use uring_outcomes::Ending;
 
 /// What is claimed of lines.
-#[derive(Clone, Copy, Debug, PartialEq, Eq)]
+#[derive(Clone, Copy)]
 pub enum Claim {
     /// No outcome shows any of them.
     Never,

@@ -16,7 +16,7 @@ use uring_text::{push_number, push_text};
 pub const MOST_IMAGES: u32 = 1_000;
 
 /// What became of a list of what a power failure may show.
-#[derive(Clone, Copy, Debug, PartialEq, Eq)]
+#[derive(Clone, Copy)]
 pub enum CrashesListed {
     /// It was written, and is all.
     All,

@@ -9,7 +9,7 @@ use uring_machine::{Sqe, Why};
 use uring_text::{TextMemory, push_number, push_text};
 
 /// A request, as far as the lines so far tell of it.
-#[derive(Clone, Copy, Debug, PartialEq, Eq)]
+#[derive(Clone, Copy)]
 pub(crate) struct Request {
     pub(crate) entry: Sqe,
 

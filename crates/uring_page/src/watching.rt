@@ -16,7 +16,7 @@ use uring_text::{Calls, TextMemory, TraceFault, write_all};
 use uring_trace::Explainer;
 
 /// What is written of a run.
-#[derive(Clone, Copy, Debug, PartialEq, Eq)]
+#[derive(Clone, Copy)]
 pub enum Form {
     /// Its data, as JSON.
     Json,

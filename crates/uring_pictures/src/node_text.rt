@@ -9,7 +9,7 @@ use uring_text::{TextMemory, push_named, push_number, push_operation, push_text}
 use uring_trace::push_why_in;
 
 /// Where a request stands.
-#[derive(Clone, Copy, Debug, PartialEq, Eq)]
+#[derive(Clone, Copy)]
 pub(crate) struct Place {
     /// Its call, numbered from 0.
     pub(crate) call: u64,

@@ -13,7 +13,7 @@ use uring_text::{TextMemory, push_text};
 const WIDTH: usize = 9;
 
 /// The lines of one request, each numbered from 1 on.
-#[derive(Clone, Copy, Debug, PartialEq, Eq)]
+#[derive(Clone, Copy)]
 struct Row {
     accepted: u64,
     started: Option<u64>,

@@ -15,7 +15,7 @@ use uring_core::{Answer, Core, Setup, Step};
 use uring_early::{Found, find_bytes};
 
 /// What was found of a recorded trace.
-#[derive(Clone, Copy, Debug, PartialEq, Eq)]
+#[derive(Clone, Copy)]
 pub enum Early {
     /// It is that of a history of so many steps that is lawful by early effects.
     Lawful(u64),

@@ -11,7 +11,7 @@ use uring_text::{
 };
 
 /// A language whose lines have steps.
-#[derive(Clone, Copy, Debug, PartialEq, Eq)]
+#[derive(Clone, Copy)]
 pub enum Language {
     /// Steps alone: a trace.
     Steps,

@@ -8,7 +8,7 @@ ghost use Rattle.uring_trace.specs.declared.questions.Question.TheVariants as qu
 use uring_text::{KeptLine, is_name, spelled_long, spelled_signed};
 
 /// What a line asks to be shown. Our own rule.
-#[derive(Clone, Copy, Debug, PartialEq, Eq)]
+#[derive(Clone, Copy)]
 pub enum Question {
     /// `show counts`: how many requests were accepted, are outstanding and run, and how many completions were posted and reaped.
     Counts,

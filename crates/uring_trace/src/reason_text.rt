@@ -12,7 +12,7 @@ use uring_machine::{Answer, Doom, Fault, Found, Machine, Since, Step, Why};
 use uring_text::{TextMemory, push_named, push_number, push_text};
 
 /// The reason of an answer.
-#[derive(Clone, Copy, Debug, PartialEq, Eq)]
+#[derive(Clone, Copy)]
 pub enum Reason {
     /// How the request stood before the step.
     Stands(Why),
