@@ -113,6 +113,10 @@ enum wulgach_matter {
 /* Whether this is taken to be so (enum wulgach_matter), where it is known to be so or not, or isn't known: then all but a counter are. */
 bool wulgach_is_taken_so(uint32_t matter, bool knows, bool is_so);
 
+/* Whether a list of processors has this number, as the kernel lists those that are online: numbers, and two with a hyphen between for all from the
+ * one to the other, with commas between them, in one line. A part that is anything else has none. */
+bool wulgach_lists_number(const uint8_t *list, size_t length, uint32_t number);
+
 /* ---- memory that is registered ---- */
 
 /* Memory that is to be registered as a buffer, or as a ring of buffers, and what is known of it. */

@@ -126,8 +126,9 @@ void wulgach_times_count_end(struct wulgach_times *times, const struct wulgach_c
 /* A clock says that it is so late, or a call's own limit does. */
 void wulgach_times_move_to(struct wulgach_times *times, uint64_t now);
 
-/* A call has slept from then to then, by a real clock. What two calls slept at once counts once. */
-void wulgach_times_sleep(struct wulgach_times *times, uint64_t start, uint64_t stop);
+/* A call has slept from then to then, by a real clock. Where time is real it is then so late as that clock says, which said `origin` as the ring's
+ * time began; else what was slept passes, and what two calls slept at once counts once. */
+void wulgach_times_slept(struct wulgach_times *times, bool is_real, uint64_t origin, uint64_t start, uint64_t stop);
 
 /* Nothing else can go on, and time passes until this timeout is over. */
 void wulgach_times_pass(struct wulgach_times *times, const struct wulgach_timeout *timeout);
@@ -148,6 +149,9 @@ int32_t wulgach_times_passing(const struct wulgach_times *times, const struct wu
  * waits, while a request waits for a descriptor or none does: where it doesn't, it needn't be asked. */
 bool wulgach_may_have_others(bool knows, uint64_t links);
 bool wulgach_times_asks_threads(const struct wulgach_times *times, bool has_streams);
+
+/* Whether it matters to such a call, which has a mask to sleep with or none, whether a signal waits. */
+bool wulgach_asks_signals(bool has_mask, bool has_streams);
 
 /* Writes how a call waits that has this limit, where nothing can go on. It sleeps while a descriptor is waited for; while another
  * thread may call, if no timeout runs; and where time passes by itself. Else one for which a signal waits sleeps until now, and the signal ends it
@@ -174,6 +178,15 @@ void wulgach_times_deadline(const struct wulgach_times *times, struct wulgach_li
 /* Writes how long a call sleeps at most that is to sleep until then: all that is left, but no longer than 10 milliseconds if no other
  * thread can wake it. */
 void wulgach_times_sleeps_for(const struct wulgach_times *times, const struct wulgach_limit *until, bool can_be_woken, struct wulgach_limit *limit);
+
+/* A time in whole seconds and what is left of it: struct timespec. */
+struct wulgach_span {
+    uint64_t seconds;
+    uint64_t nanoseconds;       /* fewer than a second has */
+};
+
+/* Writes so many nanoseconds as ppoll(2) takes them. */
+void wulgach_span_of(uint64_t nanoseconds, struct wulgach_span *span);
 
 /* Writes to when time moves on behind such a sleep, where nothing has woken it; no limit: it was a nap, and only what a clock says has
  * passed. To be asked before the sleep. */

@@ -320,7 +320,7 @@ uint32_t wulgach_sleep_begins(int32_t fault, bool is_told);
 
 /* What is known behind a wait. */
 struct wulgach_waited {
-    int32_t result;             /* what the sleep came to: 0, or an error number's negative */
+    int32_t result;             /* what the sleep came to: an error number's negative, or how many descriptors have ended it */
     bool is_never;              /* there was nothing to wait for, and it didn't sleep */
     bool has_messages;          /* another ring has left a message, */
     bool may_post;              /* and a completion may be posted that belongs to no end of a request */
@@ -330,9 +330,35 @@ struct wulgach_waited {
 /* Returns what came of a wait, as the reply to a call that wants to sleep (enum wulgach_reply_kind). */
 uint32_t wulgach_waited(const struct wulgach_waited *waited);
 
-/* Whether a sleep naps for a request that may have to wait, and doesn't poll its descriptor: it has none, as the open of a named pipe; or it was carried out
- * so often in vain, once right behind the other though its descriptor showed ready, and shows ready still. */
-bool wulgach_naps_for(const struct wulgach_needs *needs, uint32_t vain, bool is_ready);
+/* What a sleep does for a request that runs. */
+struct wulgach_slept_for {
+    uint32_t vain;              /* how often it was carried out in vain, as far as that counts from now on */
+    bool is_polled;             /* its descriptor is polled */
+    bool naps;                  /* the sleep is a nap */
+};
+
+/* Writes what a sleep does for a request that was carried out so often in vain, and of whose socket poll(2) doesn't tell that it was shut down for writing
+ * (`asks_broken`), or does. It polls the descriptor of each that may have to wait for it, and naps beside that if `asks_broken`. For one it naps
+ * alone: it has no descriptor, as the open of a named pipe; or it was carried out twice or more in vain, once right behind the other though its
+ * descriptor showed ready, and shows ready still. What was in vain counts no more once it doesn't. */
+void wulgach_slept_for(const struct wulgach_standing *standing, const struct wulgach_needs *needs, uint32_t vain, bool is_ready, bool asks_broken, struct wulgach_slept_for *slept);
+
+/* Whether it matters to that whether its descriptor shows ready. */
+bool wulgach_asks_before_nap(const struct wulgach_needs *needs, uint32_t vain);
+
+/* Whether a sleep can be woken by whatever it waits for: it has a descriptor by which another thread wakes it, and naps for no request. */
+bool wulgach_can_be_woken(bool has_descriptor, bool naps);
+
+/* What is asked of a descriptor, as poll(2) takes it: struct pollfd. */
+struct wulgach_poll_row {
+    uint32_t fd;                /* its number: one that is negative is past 31 bits here */
+    uint16_t events;
+    uint16_t found;             /* revents */
+};
+
+/* Joins what is asked of one descriptor. Returns how many rows there are then: those ask for each event of each descriptor for which any did, and for
+ * nothing else, and each is of another descriptor, in the order of their numbers. */
+size_t wulgach_join_polled(struct wulgach_poll_row *rows, size_t count);
 
 /* Whether a timeout fires behind a wait, if its time is over: not behind a sleep that a signal or an error ended. */
 bool wulgach_fires_behind(const struct wulgach_waited *waited);

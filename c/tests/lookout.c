@@ -233,17 +233,42 @@ static uint32_t waited(struct wulgach_waited waited)
     return wulgach_waited(&waited);
 }
 
-static void sleep_or_not(void)
+static struct wulgach_slept_for slept_for(bool is_stream, bool needs_file, uint32_t vain, bool is_ready, bool asks_broken)
+{
+    struct wulgach_standing standing = {.is_stream = is_stream};
+    struct wulgach_needs needs = {.needs_file = needs_file};
+    struct wulgach_slept_for slept;
+    wulgach_slept_for(&standing, &needs, vain, is_ready, asks_broken, &slept);
+    return slept;
+}
+
+/* Whether a sleep polls for such a request, naps for it, and counts so many tries in vain from then on. */
+static bool is_slept_for(struct wulgach_slept_for slept, bool is_polled, bool naps, uint32_t vain)
+{
+    return slept.is_polled == is_polled && slept.naps == naps && slept.vain == vain;
+}
+
+static void sleep_for_requests(void)
 {
     struct wulgach_needs file = {.needs_file = true}, none = {0};
-    demand(!wulgach_naps_for(&file, 1, true) && wulgach_naps_for(&file, 2, true) && !wulgach_naps_for(&file, 2, false) && wulgach_naps_for(&none, 1, true), "for which request a sleep naps");
-    demand(wulgach_fires_behind(&(struct wulgach_waited){0}) && !wulgach_fires_behind(&(struct wulgach_waited){.result = -4}) && !wulgach_fires_behind(&(struct wulgach_waited){.is_never = true}), "behind which sleep a timeout fires");
+    demand(is_slept_for(slept_for(true, true, 1, true, false), true, false, 1) && is_slept_for(slept_for(true, true, 2, true, false), false, true, 2) && is_slept_for(slept_for(true, true, 2, false, false), true, false, 0) && is_slept_for(slept_for(true, false, 1, true, false), false, true, 1), "for which request a sleep naps");
+    demand(is_slept_for(slept_for(true, true, 0, false, true), true, true, 0) && is_slept_for(slept_for(false, true, 3, true, true), false, false, 3), "beside a poll, and without any");
+    demand(!wulgach_asks_before_nap(&file, 1) && wulgach_asks_before_nap(&file, 2) && !wulgach_asks_before_nap(&none, 2), "whether what it shows is asked");
+    demand(wulgach_can_be_woken(true, false) && !wulgach_can_be_woken(true, true) && !wulgach_can_be_woken(false, false), "whether a sleep can be woken");
+    struct wulgach_poll_row rows[] = {{7, 1, 0}, {3, 4, 0}, {UINT32_MAX, 1, 0}, {7, 4, 0}, {3, 0, 0}, {7, 1, 0}};
+    demand(wulgach_join_polled(rows, 6) == 3 && rows[0].fd == 3 && rows[0].events == 4 && rows[1].fd == 7 && rows[1].events == 5 && rows[2].fd == UINT32_MAX && rows[2].events == 1, "a descriptor is asked once for all");
+    demand(wulgach_join_polled(rows, 0) == 0 && wulgach_join_polled(rows, 1) == 1, "none, and one");
+}
+
+static void sleep_or_not(void)
+{
+    demand(wulgach_fires_behind(&(struct wulgach_waited){0}) && wulgach_fires_behind(&(struct wulgach_waited){.result = 2}) && !wulgach_fires_behind(&(struct wulgach_waited){.result = -4}) && !wulgach_fires_behind(&(struct wulgach_waited){.is_never = true}), "behind which sleep a timeout fires");
     demand(wulgach_sleep_begins(-14, true) == WULGACH_SLEEP_FAILS && wulgach_sleep_begins(0, true) == WULGACH_SLEEP_WAKES && wulgach_sleep_begins(0, false) == WULGACH_SLEEPS, "whether a sleep begins");
     demand(wulgach_sleep_came_to(2, false) == 2 && wulgach_sleep_came_to(-12, false) == -12 && wulgach_sleep_came_to(2, true) == -4, "a child leaves a sleep");
     demand(wulgach_lets_more_lie(-22) && !wulgach_lets_more_lie(-4) && !wulgach_lets_more_lie(1), "behind which sleep more become dormant");
     demand(wulgach_sleep_counted_as(-22, 3, 4) == 1 && wulgach_sleep_counted_as(-22, 3, 3) == -22 && wulgach_sleep_counted_as(-12, 3, 4) == -12 && wulgach_sleep_counted_as(0, 3, 4) == 0, "what that counts as");
     demand(wulgach_left_of(7, 7) == 0 && wulgach_left_of(7, 8) == 63, "a child leaves its parent's ring");
-    demand(waited((struct wulgach_waited){0}) == WULGACH_WOKEN && waited((struct wulgach_waited){.is_over = true}) == WULGACH_TIMED_OUT, "a sleep that ends");
+    demand(waited((struct wulgach_waited){0}) == WULGACH_WOKEN && waited((struct wulgach_waited){.result = 2}) == WULGACH_WOKEN && waited((struct wulgach_waited){.is_over = true}) == WULGACH_TIMED_OUT, "a sleep that ends");
     demand(waited((struct wulgach_waited){.result = -4, .is_over = true}) == WULGACH_INTERRUPTED && waited((struct wulgach_waited){.result = -12}) == WULGACH_FAILED, "a sleep that fails");
     demand(waited((struct wulgach_waited){.is_never = true}) == WULGACH_ENDLESS && waited((struct wulgach_waited){.is_never = true, .has_messages = true}) == WULGACH_ENDLESS && waited((struct wulgach_waited){.is_never = true, .has_messages = true, .may_post = true}) == WULGACH_WOKEN, "nothing to wait for");
 }
@@ -329,6 +354,7 @@ int main(void)
     tell_of_writes();
     hear_pipes();
     hear_in_order();
+    sleep_for_requests();
     sleep_or_not();
     jump();
     keep_files();

@@ -3,6 +3,7 @@
 
 #include <stdio.h>
 #include <stdlib.h>
+#include <string.h>
 
 static void demand(bool holds, const char *what)
 {
@@ -320,6 +321,23 @@ static void keep_pages(void)
     demand(wulgach_has_byte_of(10, 5, 14, 20) && !wulgach_has_byte_of(10, 5, 15, 20) && wulgach_has_byte_of(10, 5, 0, 11) && !wulgach_has_byte_of(10, 5, 0, 10) && wulgach_has_byte_of(10, UINT64_MAX, 11, 12), "memory that has a byte of other");
 }
 
+/* Whether a list of processors has each of these numbers, and no other below 12. */
+static bool has_numbers(const char *list, uint32_t numbers)
+{
+    for (uint32_t number = 0; number < 12; number++)
+        if (wulgach_lists_number((const uint8_t *)list, strlen(list), number) != (numbers >> number & 1))
+            return false;
+    return true;
+}
+
+static void list_processors(void)
+{
+    demand(has_numbers("0-3,5,7-9\n", 0x3af) && has_numbers("0\n", 1) && has_numbers("11", 0x800), "a list of processors");
+    demand(has_numbers("", 0) && has_numbers("\n1", 0) && has_numbers("2,,4\n", 0x14) && has_numbers("3-1\n", 0), "empty parts");
+    demand(has_numbers("1-,-2,3-4-5,x6,7 ,8\n", 0x100), "parts that are anything else");
+    demand(wulgach_lists_number((const uint8_t *)"4294967295", 10, UINT32_MAX) && wulgach_lists_number((const uint8_t *)"0-99999999999999999999", 22, UINT32_MAX) && !wulgach_lists_number((const uint8_t *)"99999999999999999999", 20, UINT32_MAX) && !wulgach_lists_number((const uint8_t *)"4294967296", 10, 0), "large numbers");
+}
+
 static void take_what_is_unknown(void)
 {
     demand(wulgach_is_taken_so(WULGACH_IS_REACHED, false, false) && wulgach_is_taken_so(WULGACH_IS_EVENTFD, false, false) && !wulgach_is_taken_so(WULGACH_IS_COUNTER, false, true) && wulgach_is_taken_so(WULGACH_IS_ONLINE, false, false), "what isn't known");
@@ -333,6 +351,7 @@ int main(void)
     go_through_set_ups();
     map_rings();
     keep_pages();
+    list_processors();
     take_what_is_unknown();
     refuse_flags();
     make_calls();

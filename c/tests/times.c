@@ -28,6 +28,10 @@ static int32_t start(uint64_t number, uint64_t more, uint64_t count, bool is_lin
 static void check_sums(void)
 {
     demand(wulgach_time_of(1, 5) == SECOND + 5, "a second and five nanoseconds");
+    struct wulgach_span span, longest;
+    wulgach_span_of(3 * (uint64_t)SECOND + 7, &span);
+    wulgach_span_of(UINT64_MAX, &longest);
+    demand(span.seconds == 3 && span.nanoseconds == 7 && longest.seconds == 18446744073 && longest.nanoseconds == 709551615, "a time as ppoll(2) takes it");
     demand(wulgach_timeout_count(&(struct wulgach_submission){.off = (1ull << 32) + 3}) == 3 && wulgach_timeout_count(&(struct wulgach_submission){.off = 1ull << 63}) == 0, "how many completions are counted");
     demand(wulgach_time_of(-1, 5) == 0 && wulgach_time_of(0, -5) == 0, "a negative time is none");
     demand(wulgach_time_of(INT64_MAX, 0) == INT64_MAX, "a time past the largest is the largest");
@@ -84,9 +88,13 @@ static void check_counts_and_changes(void)
     demand(times.time == 50, "time doesn't go back");
     wulgach_times_stop(&times, rows, ROOM, 2);
     demand(times.count == 0 && times.expired == 1, "a cancelled one doesn't count as ended");
-    wulgach_times_sleep(&times, 1000, 1010);
-    wulgach_times_sleep(&times, 1005, 1015);
+    wulgach_times_slept(&times, false, 900, 1000, 1010);
+    wulgach_times_slept(&times, false, 900, 1005, 1015);
     demand(times.time == 65, "what two slept at once counts once");
+    wulgach_times_slept(&times, true, 900, 1000, 1010);
+    demand(times.time == 110, "where time is real, a clock says it");
+    wulgach_times_slept(&times, true, 900, 1000, 905);
+    demand(times.time == 110, "and it doesn't go back");
 }
 
 static void check_waits(void)
@@ -96,6 +104,7 @@ static void check_waits(void)
     struct wulgach_wait wait;
     struct wulgach_woken woken;
     uint64_t limited = 0;
+    demand(wulgach_asks_signals(true, false) && !wulgach_asks_signals(true, true) && !wulgach_asks_signals(false, false), "whether signals are asked about");
     wulgach_times_begin(&times);
     wulgach_times_wait(&times, rows, ROOM, &none, &never, &wait);
     demand(wait.kind == WULGACH_WAIT_NEVER, "there is nothing to wait for");

@@ -40,11 +40,10 @@ void start_clock(struct ring *ring)
 {
     read_clock();
     wulgach_times_begin(&ring->times);
-    ring->origin = is_time_real() ? real_time() : 0;
+    ring->origin = real_time();
 }
 
 void catch_up(struct ring *ring)
 {
-    if (is_time_real())
-        wulgach_times_move_to(&ring->times, wulgach_time_left(real_time(), ring->origin));
+    wulgach_times_move_to(&ring->times, wulgach_time_left(real_time(), ring->origin));
 }

@@ -13,7 +13,7 @@ uint64_t real_time(void);
 /* Lets a ring's time begin. */
 void start_clock(struct ring *ring);
 
-/* Where time is real, moves a ring's on to now. */
+/* Moves a ring's time on to now, where it is real. */
 void catch_up(struct ring *ring);
 
 #endif

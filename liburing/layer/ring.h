@@ -98,7 +98,7 @@ struct ring {
     struct wulgach_times times;         /* its time, in nanoseconds, and how many timeouts run: */
     struct wulgach_timeout *timeouts;   /* these, */
     size_t timeouts_room;               /* and for how many there is room */
-    uint64_t origin;                    /* where time is real: when it was 0 */
+    uint64_t origin;                    /* what the real clock said as its time began */
     bool has_complained;                /* that the application stored a wrong head was said */
     bool has_trace;                     /* whether it is known where steps and answers go: */
     int trace_file;                     /* there, where trace isn't NULL */

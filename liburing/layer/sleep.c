@@ -14,7 +14,7 @@
 
 #include <errno.h>
 #include <poll.h>
-#include <stdlib.h>
+#include <stddef.h>
 #include <sys/stat.h>
 #include <time.h>
 #include <unistd.h>
@@ -29,44 +29,28 @@ bool has_threads(void)
 /* Adds what has passed since `start` to the ring's time. */
 static void add_slept(struct ring *ring, uint64_t start)
 {
-    if (is_time_real())
-        catch_up(ring);
-    else
-        wulgach_times_sleep(&ring->times, start, real_time());
+    wulgach_times_slept(&ring->times, is_time_real(), ring->origin, start, real_time());
 }
 
-static int by_descriptor(const void *one, const void *other)
-{
-    const struct pollfd *first = one, *second = other;
-    return (first->fd > second->fd) - (first->fd < second->fd);
-}
+_Static_assert(sizeof(struct pollfd) == sizeof(struct wulgach_poll_row) && offsetof(struct pollfd, fd) == offsetof(struct wulgach_poll_row, fd) && offsetof(struct pollfd, events) == offsetof(struct wulgach_poll_row, events) && offsetof(struct pollfd, revents) == offsetof(struct wulgach_poll_row, found), "a row is what poll(2) takes");
 
 /* Joins what is asked of one descriptor: the kernel takes no more entries than a process may have descriptors. */
-static nfds_t join_streams(struct pollfd *streams, nfds_t count)
+static nfds_t join_polled(struct pollfd *polled, nfds_t count)
 {
-    nfds_t kept = 0;
-    if (count > 1)
-        qsort(streams, count, sizeof *streams, by_descriptor);
-    for (nfds_t i = 0; i < count; i++)
-        if (kept > 0 && streams[kept - 1].fd == streams[i].fd)
-            streams[kept - 1].events |= streams[i].events;
-        else
-            streams[kept++] = streams[i];
-    return kept;
+    return wulgach_join_polled((struct wulgach_poll_row *)polled, count);
 }
 
-/* Whether a request is napped for: what its descriptor shows is asked where that matters. */
-static bool is_napped_for(struct request *request)
+/* What the sleep does for a request. What its descriptor shows is asked where that matters. */
+static struct wulgach_slept_for find_slept_for(struct request *request)
 {
-    if (!wulgach_naps_for(&request->needs, request->vain, true))
-        return false;
-    bool naps = wulgach_naps_for(&request->needs, request->vain, is_ready(request));
-    if (!naps)
-        request->vain = 0;
-    return naps;
+    struct wulgach_slept_for slept;
+    bool shows = wulgach_asks_before_nap(&request->needs, request->vain) && is_ready(request);
+    wulgach_slept_for(&request->standing, &request->needs, request->vain, shows, asks_broken(request), &slept);
+    request->vain = slept.vain;
+    return slept;
 }
 
-/* Lists the descriptors of the running requests that wait for streams, each once. Says whether there are others, for which it is to nap. */
+/* Lists what is asked of the descriptors of the running requests that wait for streams. Says whether there are some for which it is to nap. */
 static nfds_t list_streams(const struct ring *ring, struct pollfd *streams, bool *naps)
 {
     nfds_t count = 0;
@@ -74,13 +58,11 @@ static nfds_t list_streams(const struct ring *ring, struct pollfd *streams, bool
         struct request *request = ring->running.rows[i];
         if (!wulgach_polls(&request->standing))
             continue;
-        *naps |= asks_broken(request);
-        if (is_napped_for(request))
-            *naps = true;
-        else
+        struct wulgach_slept_for slept = find_slept_for(request);
+        *naps |= slept.naps;
+        if (slept.is_polled)
             streams[count++] = poll_of(request);
     }
-    count = join_streams(streams, count);
     if (wulgach_polls_instance(ring->dormant.count))
         streams[count++] = (struct pollfd){.fd = ring->dormant.instance, .events = POLLIN};
     return count;
@@ -89,7 +71,9 @@ static nfds_t list_streams(const struct ring *ring, struct pollfd *streams, bool
 /* Polls without the ring's lock. Handlers of signals run meanwhile. */
 static int poll_unlocked(struct ring *ring, struct sleeper *self, nfds_t count, const struct wulgach_limit *limit, const sigset_t *signals)
 {
-    struct timespec time = {(time_t)(limit->at / 1000000000), (long)(limit->at % 1000000000)};
+    struct wulgach_span span;
+    wulgach_span_of(limit->at, &span);
+    struct timespec time = {(time_t)span.seconds, (long)span.nanoseconds};
     int fd = ring->called_fd;
     pthread_mutex_unlock(&ring->lock);
     /* A message that came before that is posted, and wakes this thread. */
@@ -129,16 +113,17 @@ __attribute__((noinline)) int sleep_until(struct ring *ring, const struct wulgac
     if (wulgach_polls_writes(ring->pipes.count))
         self->polled[count++] = (struct pollfd){.fd = ring->pipes.inotify, .events = POLLIN};
     struct wulgach_limit limit, end;
-    wulgach_times_sleeps_for(&ring->times, until, self->wake >= 0 && !naps, &limit);
-    wulgach_times_comes_to(&ring->times, until, self->wake >= 0 && !naps, &end);
+    bool can_be_woken = wulgach_can_be_woken(self->wake >= 0, naps);
+    wulgach_times_sleeps_for(&ring->times, until, can_be_woken, &limit);
+    wulgach_times_comes_to(&ring->times, until, can_be_woken, &end);
     uint64_t start = real_time();
-    int result = poll_unlocked(ring, self, count, &limit, signals);
+    int result = poll_unlocked(ring, self, join_polled(self->polled, count), &limit, signals);
     end_sleep(self);
     place = 0;
     result = let_more_lie(ring, result);
     add_slept(ring, start);
     wulgach_times_wake(&ring->times, &end, result);
-    return result < 0 ? result : 0;
+    return result;
 }
 
 void wake_sleepers(struct ring *ring)
@@ -147,6 +132,6 @@ void wake_sleepers(struct ring *ring)
     if (!wulgach_lookout_wakes(&ring->lookout))
         return;
     for (const struct sleeper *sleeper = ring->sleepers; sleeper; sleeper = sleeper->next)
-        if (sleeper->wake >= 0 && write(sleeper->wake, &one, sizeof one) < 0)
-            continue;
+        if (write(sleeper->wake, &one, sizeof one) < 0)
+            continue;   /* it has none, and naps */
 }

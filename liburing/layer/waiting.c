@@ -55,7 +55,7 @@ static struct wulgach_wake_sources wake_sources(const struct ring *ring, const s
         .has_streams = has_streams,
         .has_threads = wulgach_times_asks_threads(&ring->times, has_streams) && has_threads(),
         .is_real = is_time_real(),
-        .has_signal = mask && !has_streams && has_signal(mask),
+        .has_signal = wulgach_asks_signals(mask != NULL, has_streams) && has_signal(mask),
     };
 }
 

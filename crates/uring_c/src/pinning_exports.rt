@@ -1,9 +1,10 @@
-//! Which memory may be registered, for C: functions of `c/wulgach_register.h`.
+//! Which memory may be registered, and which processors a list names, for C: functions of `c/wulgach_register.h`.
 ghost use Rattle.std.specs.Prelude.{◌≡◌};
 ghost use Rattle.uring_register.specs.Pinning as spec;
+ghost use Rattle.uring_register.specs.Processors as processors;
 ghost use Rattle.uring_c.specs.PinningForm.{known_of};
 
-use uring_register::{Memory, has_byte_of, is_written_back, pinning_fault};
+use uring_register::{Memory, has_byte_of, is_written_back, lists_number, pinning_fault};
 
 /// The fault of registering this memory, or 0.
 #[unsafe(no_mangle)]
@@ -28,4 +29,12 @@ pub extern "C" fn wulgach_is_written_back(major: u32, knows: bool, kind: u64) ->
 {
     let kind = if knows { Some(kind) } else { None };
     is_written_back(major, kind)
+}
+
+/// Whether a list of processors has a number.
+#[unsafe(no_mangle)]
+pub extern "C" fn wulgach_lists_number(list: &[u8], number: u32) -> bool
+    ensures { result ≡ processors.lists_number list.now number }
+{
+    lists_number(list, number)
 }

@@ -1,15 +1,19 @@
-//! Whom a sleep polls for, who keeps a file open, what time it is behind a sleep, and what a cancel looks for before it ends, for C: functions of `c/wulgach_waits.h`, `c/wulgach_times.h` and `c/wulgach_course.h`.
-ghost use Rattle.std.specs.Prelude.{◌≡◌, List};
+//! Whom a sleep polls for, that it asks each descriptor once, who keeps a file open, how long a sleep lasts, what time it is behind it, and what a cancel looks for before it ends, for C: functions of `c/wulgach_waits.h`, `c/wulgach_times.h` and `c/wulgach_course.h`.
+ghost use Rattle.std.specs.Prelude.{◌≡◌, ◌≤◌, ℕ, length, take, List, ◌∷◌};
 ghost use Rattle.uring_enter.specs.declared.timeout.Timeout.{Timeout};
 ghost use Rattle.uring_enter.specs.Timeouts.{Event};
 ghost use Rattle.uring_enter.specs.Kept.{KeepsTime};
 ghost use Rattle.uring_enter.specs.Outcomes as outcomes;
 ghost use Rattle.uring_enter.specs.Readiness as ready;
-ghost use Rattle.uring_enter.specs.Sleeps.{behind_sleep};
+ghost use Rattle.uring_enter.specs.Joining as joining;
+ghost use Rattle.uring_enter.specs.Sleeps.{behind_sleep, passes, IsSpan};
 ghost use Rattle.uring_crossing.specs.TimeForm.{limit_of};
 
 use uring_crossing::time_words::LimitWords;
-use uring_enter::{Needs, Standing, Times, keeps_open, keeps_second_open, looks_ahead, polls};
+use uring_enter::{
+    Needs, PollRow, Span, Standing, Times, join, keeps_open, keeps_second_open, looks_ahead, polls,
+    span_of,
+};
 
 /// Whether a call that sleeps polls the descriptor of a request that runs.
 #[unsafe(no_mangle)]
@@ -17,6 +21,41 @@ pub extern "C" fn wulgach_polls(standing: &Standing) -> bool
     ensures { result ≡ ready.polls standing.now }
 {
     polls(standing)
+}
+
+/// Joins what is asked of one descriptor, and returns how many rows ask for all of it.
+#[unsafe(no_mangle)]
+pub extern "C" fn wulgach_join_polled(rows: &mut [PollRow]) -> usize
+    ensures asks { (fd event : ℕ)
+        → joining.asks fd event (take result rows.new) ≡ joining.asks fd event rows.old }
+    ensures polls { (fd : ℕ) → joining.polls fd (take result rows.new) ≡ joining.polls fd rows.old }
+    ensures once { joining.EachOnce (take result rows.new) }
+    ensures within { result ≤ length rows.old }
+{
+    join(rows)
+}
+
+/// Writes so many nanoseconds as ppoll(2) takes them.
+#[unsafe(no_mangle)]
+pub extern "C" fn wulgach_span_of(nanoseconds: u64, span: &mut Span)
+    ensures { IsSpan nanoseconds span.new }
+{
+    *span = span_of(nanoseconds);
+}
+
+/// A call has slept from then to then, by a real clock, which said `origin` as the ring's time began.
+#[unsafe(no_mangle)]
+pub extern "C" fn wulgach_times_slept(
+    times: &mut Times,
+    is_real: bool,
+    origin: u64,
+    start: u64,
+    stop: u64,
+)
+    ensures { (log : List Event) (rows : List Timeout) → KeepsTime log times.old rows
+        → KeepsTime (passes is_real origin start stop ∷ log) times.new rows }
+{
+    times.slept(is_real, origin, start, stop);
 }
 
 /// Whether a request is to be given a descriptor of its own, whose file was looked for or wasn't, with this error or 0, and is kept for it already or isn't.

@@ -5,8 +5,8 @@ ghost use Rattle.uring_enter.specs.Sleeping as sleeping;
 ghost use Rattle.uring_c.specs.SleepForm.{word_of_beginning, word_of_outcome};
 
 use uring_enter::{
-    Beginning, Needs, Outcome, PipePoll, Waited, beginning_of, came_to, counted_as, fires_behind,
-    lets_more_lie, naps_for, outcome_of,
+    Beginning, Needs, Outcome, PipePoll, SleptFor, Standing, Waited, asks_before_nap, beginning_of,
+    came_to, can_be_woken, counted_as, fires_behind, lets_more_lie, outcome_of, slept_for,
 };
 
 /// Whether a request is to be told of writes to its pipe.
@@ -67,12 +67,35 @@ pub extern "C" fn wulgach_waited(waited: &Waited) -> u32
     }
 }
 
-/// Whether a sleep naps for a request that may have to wait, was carried out so often in vain, and whose descriptor shows ready or not.
+/// Whether it matters to what a sleep does for a request, which was carried out so often in vain, whether its descriptor shows ready.
 #[unsafe(no_mangle)]
-pub extern "C" fn wulgach_naps_for(needs: &Needs, vain: u32, is_ready: bool) -> bool
-    ensures { result ≡ sleeping.naps_for needs.now vain is_ready }
+pub extern "C" fn wulgach_asks_before_nap(needs: &Needs, vain: u32) -> bool
+    ensures { result ≡ sleeping.asks_before_nap needs.now vain }
 {
-    naps_for(needs, vain, is_ready)
+    asks_before_nap(needs, vain)
+}
+
+/// Writes what a sleep does for a request that runs, was carried out so often in vain, and whose descriptor shows ready or not.
+#[unsafe(no_mangle)]
+pub extern "C" fn wulgach_slept_for(
+    standing: &Standing,
+    needs: &Needs,
+    vain: u32,
+    is_ready: bool,
+    asks_broken: bool,
+    slept: &mut SleptFor,
+)
+    ensures { slept.new ≡ sleeping.slept_for standing.now needs.now vain is_ready asks_broken }
+{
+    *slept = slept_for(standing, needs, vain, is_ready, asks_broken);
+}
+
+/// Whether a sleep can be woken by whatever it waits for.
+#[unsafe(no_mangle)]
+pub extern "C" fn wulgach_can_be_woken(has_descriptor: bool, naps: bool) -> bool
+    ensures { result ≡ sleeping.can_be_woken has_descriptor naps }
+{
+    can_be_woken(has_descriptor, naps)
 }
 
 /// Whether a timeout fires behind a wait, if its time is over.

@@ -4,7 +4,7 @@ ghost use Rattle.uring_enter.specs.declared.act.Fact.{Fact};
 ghost use Rattle.uring_enter.specs.Courses.{KeepsCourse, counts};
 ghost use Rattle.uring_enter.specs.declared.wait.Wait.{Wait};
 ghost use Rattle.uring_enter.specs.declared.wait.Woken.{Woken};
-ghost use Rattle.uring_enter.specs.Timeouts.{Event, Started, Posted, Changed, Stopped, Clock, Slept, Passed, Ended};
+ghost use Rattle.uring_enter.specs.Timeouts.{Event, Started, Posted, Changed, Stopped, Clock, Passed, Ended};
 ghost use Rattle.uring_enter.specs.Timeouts.{nanoseconds_of, running, outcome, is_over, cancelled_by, fires, linked_outcome};
 ghost use Rattle.uring_enter.specs.Timeouts.{posted, NoneIsOver, IsNext, IsReachedOf, AreApart, HasNone, IsRow, EndsNone, EndsWith};
 ghost use Rattle.uring_enter.specs.Kept.{KeepsTime};
@@ -174,15 +174,6 @@ pub extern "C" fn wulgach_times_move_to(times: &mut Times, now: u64)
         → KeepsTime (Clock now ∷ log) times.new rows }
 {
     times.move_to(now);
-}
-
-/// A call has slept from then to then, by a real clock.
-#[unsafe(no_mangle)]
-pub extern "C" fn wulgach_times_sleep(times: &mut Times, start: u64, stop: u64)
-    ensures { (log : List Event) (rows : List Timeout) → KeepsTime log times.old rows
-        → KeepsTime (Slept start stop ∷ log) times.new rows }
-{
-    times.sleep(start, stop);
 }
 
 /// Nothing else can go on, and time passes until this timeout is over.

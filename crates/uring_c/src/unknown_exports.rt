@@ -8,7 +8,7 @@ ghost use Rattle.uring_enter.specs.Rounds.{most_of_a_round};
 ghost use Rattle.uring_enter.specs.Unknown as unknown;
 ghost use Rattle.uring_c.specs.UnknownForm.{known_of, matter_of};
 
-use uring_enter::{Matter, Rounds, Times, is_taken_so, may_have_others};
+use uring_enter::{Matter, Rounds, Times, asks_signals, is_taken_so, may_have_others};
 
 /// Whether something is taken to be so, where it is known, or isn't.
 #[unsafe(no_mangle)]
@@ -51,6 +51,14 @@ pub extern "C" fn wulgach_times_asks_threads(times: &Times, has_streams: bool) -
         → result ≡ unknown.asks_threads has_streams (has_any (running log)) }
 {
     times.asks_threads(has_streams)
+}
+
+/// Whether it matters to a call that waits whether a signal does.
+#[unsafe(no_mangle)]
+pub extern "C" fn wulgach_asks_signals(has_mask: bool, has_streams: bool) -> bool
+    ensures { result ≡ unknown.asks_signals has_mask has_streams }
+{
+    asks_signals(has_mask, has_streams)
 }
 
 /// Returns how many positions the next round takes at most.

@@ -29,3 +29,4 @@ mod PassageRuns
 mod StepRuns
 mod AdvanceRuns
 mod AskingRuns
+mod JoiningRuns

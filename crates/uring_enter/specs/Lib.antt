@@ -88,6 +88,7 @@ pub mod Missed
 pub mod Storing
 pub mod Named
 pub mod Leaving
+pub mod Joining
 pub mod Jumps
 pub mod PuttingOff
 pub mod Receipts

@@ -1,7 +1,8 @@
 -- How long a call sleeps at most, and what time it is behind a sleep that came to its end. Our own rules: where no descriptor is left by which another thread could wake the sleeper, it naps, and looks again.
-use Rattle.std.specs.Prelude.{ℕ, ℤ, pos, ◌-◌, Bool, ◌||◌, nat_le, min, Option, Some, None, List, ◌∷◌, if◌then◌else◌}
+use Rattle.std.specs.Prelude.{◌≡◌, ◌<◌, ℕ, ℤ, pos, ◌+◌, ◌*◌, ◌-◌, Bool, ◌||◌, nat_le, min, Option, Some, None, List, ◌∷◌, if◌then◌else◌}
 use Rattle.std.specs.Ordering.{int_eq}
-use Rattle.uring_enter.specs.Timeouts.{Event, Clock, time}
+use Rattle.uring_enter.specs.declared.sleeps.Span.{Span}
+use Rattle.uring_enter.specs.Timeouts.{Event, Clock, Slept, time}
 
 -- 10 milliseconds, in nanoseconds
 abbrev pub nap : ℕ
@@ -34,3 +35,11 @@ reached end came = if int_eq came (pos 0) then end else None
 -- what has happened behind a sleep
 abbrev pub behind_sleep : List Event → Option ℕ → ℤ → List Event
 behind_sleep log end came = behind_end log (reached end came)
+
+-- what a sleep lets pass by a clock: where time is real it is what the clock says since the ring's time began, and else what was slept is added
+abbrev pub passes : (is_real : Bool) → (origin start stop : ℕ) → Event
+passes is_real origin start stop = if is_real then Clock (stop - origin) else Slept start stop
+
+-- a time in whole seconds and what is left of it, which is less than one. nanosleep(2), struct timespec
+abbrev pub IsSpan : ℕ → Span → Type 0
+IsSpan time span = (span.seconds * 1000000000 + span.nanoseconds ≡ time) × (span.nanoseconds < 1000000000)

@@ -1,5 +1,5 @@
 -- What is taken to be so where it can't be asked, as in a process without /proc; and what is asked once, or only if it matters. Our own rules, but where a source is named.
-use Rattle.std.specs.Prelude.{ℕ, Bool, true, false, not, ◌||◌, ◌==◌, Option, Some, None}
+use Rattle.std.specs.Prelude.{ℕ, Bool, true, false, not, ◌&&◌, ◌||◌, ◌==◌, Option, Some, None}
 use Rattle.uring_enter.specs.declared.unknown.Matter.{Matter}
 use Rattle.uring_enter.specs.declared.unknown.Matter.TheVariants.{Reached, Eventfd, Counter, Processor}
 
@@ -26,3 +26,7 @@ reads_mask sleeps = sleeps == 0
 -- of other threads it is asked only where no request waits for a descriptor and no timeout runs
 abbrev pub asks_threads : Bool → Bool → Bool
 asks_threads has_streams has_timeouts = not (has_streams || has_timeouts)
+
+-- of signals it is asked only where the call has a mask, which may let one come that its thread doesn't, and no request waits for a descriptor
+abbrev pub asks_signals : Bool → Bool → Bool
+asks_signals has_mask has_streams = has_mask && not has_streams

@@ -2,8 +2,10 @@
 
 ghost use Rattle.std.specs.Prelude.{◌≡◌};
 ghost use Rattle.uring_enter.specs.Sleeping as spec;
+ghost use Rattle.uring_enter.specs.Sleeping.{NapsAlikeUnasked};
 
 use crate::needs::Needs;
+use crate::ready::{Standing, polls};
 
 /// Whether a sleep begins.
 #[derive(Clone, Copy, Drop)]
@@ -21,7 +23,7 @@ pub enum Beginning {
 #[repr(C)]
 #[derive(Clone, Copy, Drop)]
 pub struct Waited {
-    /// What the sleep came to: 0, or an error number's negative.
+    /// What the sleep came to, by its ppoll(2): an error number's negative, or how many descriptors have ended it.
     pub result: i32,
 
     /// There was nothing to wait for, and it didn't sleep.
@@ -60,7 +62,7 @@ pub enum Outcome {
 pub fn fires_behind(waited: &Waited) -> bool
     ensures { result ≡ spec.fires_behind waited.now }
 {
-    !waited.is_never && waited.result == 0
+    !waited.is_never && waited.result >= 0
 }
 
 /// What a sleep came to, where its ppoll(2) came to this: in the process that began it, or in a child that was forked meanwhile. Our own rule, of a child.
@@ -102,11 +104,74 @@ pub fn beginning_of(fault: i32, is_told: bool) -> Beginning
 }
 
 /// Whether a sleep naps for a request that may have to wait, and polls its descriptor not: it has none; or it was carried out so often in vain, once right behind the other though its descriptor showed ready each time, and shows ready still.
-pub fn naps_for(needs: &Needs, vain: u32, is_ready: bool) -> bool
+fn naps_for(needs: &Needs, vain: u32, is_ready: bool) -> bool
     ensures { result ≡ spec.naps_for needs.now vain is_ready }
 {
     !needs.needs_file || vain >= 2 && is_ready
 }
+
+/// What a sleep does for a request that runs.
+#[repr(C)]
+#[derive(Clone, Copy, Drop)]
+pub struct SleptFor {
+    /// How often the request was carried out in vain, as far as that counts from now on.
+    pub vain: u32,
+
+    /// Its descriptor is polled.
+    pub is_polled: bool,
+
+    /// The sleep is a nap.
+    pub naps: bool,
+}
+
+/// Whether it matters to that which a sleep does for a request whether its descriptor shows ready.
+pub fn asks_before_nap(needs: &Needs, vain: u32) -> bool
+    ensures { result ≡ spec.asks_before_nap needs.now vain }
+{
+    needs.needs_file && vain >= 2
+}
+
+/// What a sleep does for a request that runs, was carried out so often in vain, whose descriptor shows ready or doesn't, and of whose socket a poll(2) doesn't tell that it was shut down for writing, or does.
+pub fn slept_for(
+    standing: &Standing,
+    needs: &Needs,
+    vain: u32,
+    is_ready: bool,
+    asks_broken: bool,
+) -> SleptFor
+    ensures { result ≡ spec.slept_for standing.now needs.now vain is_ready asks_broken }
+{
+    let naps = naps_for(needs, vain, is_ready);
+    let is_polled = polls(standing) && !naps;
+    SleptFor {
+        vain: vain_behind(needs, vain, is_ready),
+        is_polled,
+        naps: polls(standing) && (naps || asks_broken),
+    }
+}
+
+/// How often a request was carried out in vain, as far as that counts behind a look at its descriptor.
+fn vain_behind(needs: &Needs, vain: u32, is_ready: bool) -> u32
+    ensures { result ≡ spec.vain_behind needs.now vain is_ready }
+{
+    if asks_before_nap(needs, vain) && !is_ready {
+        0
+    } else {
+        vain
+    }
+}
+
+/// Whether a sleep can be woken by whatever it waits for: it has a descriptor by which another thread wakes it, or hasn't, and naps for a request, or for none.
+pub fn can_be_woken(has_descriptor: bool, naps: bool) -> bool
+    ensures { result ≡ spec.can_be_woken has_descriptor naps }
+{
+    has_descriptor && !naps
+}
+
+/// What a sleep does for a request is the same, whether its descriptor shows ready or not, where it isn't asked.
+pub fn naps_alike_unasked()
+    ensures { NapsAlikeUnasked }
+{}
 
 /// What came of a wait.
 pub fn outcome_of(waited: &Waited) -> Outcome

@@ -1,16 +1,36 @@
 //! How long a call sleeps at most, and what time it is behind a sleep that came to its end.
 
-ghost use Rattle.std.specs.Prelude.{◌≡◌, List};
+ghost use Rattle.std.specs.Prelude.{◌≡◌, List, ◌∷◌};
 ghost use Rattle.uring_enter.specs.declared.timeout.Timeout.{Timeout};
 ghost use Rattle.uring_enter.specs.Timeouts.{Event};
 ghost use Rattle.uring_enter.specs.Kept.{KeepsTime};
-ghost use Rattle.uring_enter.specs.Sleeps.{behind_end, behind_sleep, lasts_at_most, comes_to, reached};
+ghost use Rattle.uring_enter.specs.Sleeps.{behind_end, behind_sleep, lasts_at_most, comes_to, passes, reached, IsSpan};
 
 use crate::timeout::left_until;
 use crate::times::Times;
 
 /// How long a call naps that can't be woken, in nanoseconds.
 const NAP: u64 = 10_000_000;
+
+/// A time as ppoll(2) takes it: `struct timespec`.
+#[repr(C)]
+#[derive(Clone, Copy, Drop)]
+pub struct Span {
+    pub seconds: u64,
+
+    /// Fewer than a second has.
+    pub nanoseconds: u64,
+}
+
+/// So many nanoseconds as ppoll(2) takes them.
+pub fn span_of(nanoseconds: u64) -> Span
+    ensures { IsSpan nanoseconds result }
+{
+    Span {
+        seconds: nanoseconds / 1_000_000_000,
+        nanoseconds: nanoseconds % 1_000_000_000,
+    }
+}
 
 impl Times {
     /// How long a call sleeps at most that is to sleep until then, in nanoseconds: no longer than a nap if no other thread can wake it.
@@ -50,6 +70,18 @@ impl Times {
             → KeepsTime (behind_sleep log end came) self.new rows }
     {
         self.come_to(reached(end, came));
+    }
+
+    /// A call has slept from then to then, by a real clock, which said `origin` as the ring's time began.
+    pub fn slept(&mut self, is_real: bool, origin: u64, start: u64, stop: u64)
+        ensures { (log : List Event) (rows : List Timeout) → KeepsTime log self.old rows
+            → KeepsTime (passes is_real origin start stop ∷ log) self.new rows }
+    {
+        if is_real {
+            self.move_to(left_until(stop, origin));
+        } else {
+            self.sleep(start, stop);
+        }
     }
 
     /// Time moves on to then, if it does.

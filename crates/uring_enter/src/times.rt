@@ -144,7 +144,7 @@ impl Times {
     }
 
     /// A call has slept from then to then, by a real clock. What two calls slept at once counts once.
-    pub fn sleep(&mut self, start: u64, stop: u64)
+    pub(crate) fn sleep(&mut self, start: u64, stop: u64)
         ensures { (log : List Event) (rows : List Timeout) → KeepsTime log self.old rows
             → KeepsTime (Slept start stop ∷ log) self.new rows }
     {

@@ -53,6 +53,13 @@ pub fn reads_mask(sleeps: u32) -> bool
     sleeps == 0
 }
 
+/// Whether it matters to a call that waits whether a signal does, where it has a mask to sleep with or none, and a request waits for a descriptor or none does.
+pub fn asks_signals(has_mask: bool, has_streams: bool) -> bool
+    ensures { result ≡ spec.asks_signals has_mask has_streams }
+{
+    has_mask && !has_streams
+}
+
 impl Times {
     /// Whether it matters to a call that waits whether another thread may make one, where a request waits for a descriptor or none does.
     pub fn asks_threads(&self, has_streams: bool) -> bool
@@ -70,9 +77,9 @@ pub fn waits_alike_unasked()
         → wait_of sources has_timeouts now until ≡ wait_of (record sources { has_threads = other }) has_timeouts now until }
 {}
 
-/// Where a request waits for a descriptor, a call waits the same whether a signal waits or none.
+/// Where that isn't asked though it has a mask, a call waits the same whether a signal waits or none.
 pub fn waits_alike_beside_descriptors()
     ensures { (sources : WakeSources) (has_timeouts other : Bool) (now : ℕ) (until : Option ℕ)
-        → sources.has_streams ≡ true
+        → spec.asks_signals true sources.has_streams ≡ false
         → wait_of sources has_timeouts now until ≡ wait_of (record sources { has_signal = other }) has_timeouts now until }
 {}

@@ -20,5 +20,6 @@ pub mod Stepping
 pub mod Listing
 pub mod Lists
 pub mod Placing
+pub mod Processors
 pub mod Structures
 pub mod Numbering

@@ -1,0 +1,30 @@
+-- Which processors a list names, as the kernel lists those that are online: `0-3,5,7-9`. cpuset(7), "Formats", list format.
+use Rattle.std.specs.Prelude.{ℕ, Bool, not, ◌&&◌, ◌==◌, ◌+◌, ◌*◌, ◌-◌, nat_le, nat_lt, List, length, if◌then◌else◌}
+use Rattle.std.specs.List.{list_any, list_all, slice_split, position_or_len, before_first, after_first, fold}
+
+-- where a byte stands first, or how many there are
+abbrev pub position_of : (byte : ℕ) → List ℕ → ℕ
+position_of byte bytes = position_or_len (λ other. other == byte) bytes
+
+-- a decimal number
+abbrev pub is_number : List ℕ → Bool
+is_number digits = not (length digits == 0) && list_all (λ digit. nat_le 48 digit && nat_le digit 57) digits
+
+abbrev pub value_of : List ℕ → ℕ
+value_of digits = fold (λ value digit. value * 10 + (digit - 48)) 0 digits
+
+abbrev pub is_between : (first last : List ℕ) → ℕ → Bool
+is_between first last number =
+    is_number first && is_number last && nat_le (value_of first) number && nat_le number (value_of last)
+
+-- a part is a number, or two with a hyphen between, and has what stands from the one to the other. Any other has none, which is our own rule
+abbrev pub has_number : List ℕ → ℕ → Bool
+has_number part number =
+    if nat_lt (position_of 45 part) (length part)
+    then is_between (before_first (λ byte. byte == 45) part) (after_first (λ byte. byte == 45) part) number
+    else is_between part part number
+
+-- a list has its parts in one line, with commas between
+abbrev pub lists_number : List ℕ → ℕ → Bool
+lists_number list number =
+    list_any (λ part. has_number part number) (slice_split (λ byte. byte == 44) (before_first (λ byte. byte == 10) list))
