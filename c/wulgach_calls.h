@@ -285,6 +285,51 @@ struct wulgach_synced_kind {
  * file or a folder that counts as open by its number. Our own rule. */
 bool wulgach_counts_as_synced(const struct wulgach_openness *openness, const struct wulgach_synced_kind *kind);
 
+/* What is logged of a request, so that it is known what a power failure may leave. */
+enum wulgach_logged {
+    WULGACH_LOGS_NOTHING = 0,
+    WULGACH_LOGS_WRITE = 1,
+    WULGACH_LOGS_SYNC = 2
+};
+
+/* Where a write begins. */
+enum wulgach_begins {
+    WULGACH_BEGINS_AT_OFFSET = 0,
+    WULGACH_BEGINS_AT_POSITION = 1,     /* the descriptor's */
+    WULGACH_BEGINS_AT_END = 2           /* the file's */
+};
+
+/* How a write is made, by a request or by a system call. */
+struct wulgach_writing {
+    bool is_known;      /* it is known which flags its open file has: */
+    uint32_t status;    /* these (fcntl(2), F_GETFL) */
+    uint32_t flags;     /* its own (pwritev2(2), RWF_..) */
+    uint64_t offset;    /* or 2^64 - 1 */
+};
+
+/* The bytes of a sync that isn't of the whole file. */
+struct wulgach_synced_bytes {
+    uint64_t begin;
+    uint32_t length;
+};
+
+/* Whether what happens to a file is logged that is of this kind: a regular one, or a folder. Our own rule. */
+bool wulgach_is_logged_kind(const struct wulgach_synced_kind *kind);
+
+/* What is logged of the request of an entry that is this to the core (enum wulgach_form), has this operation, and is on a stream or isn't: enum
+ * wulgach_logged. A write to what keeps its bytes, and FSYNC. What else changes a file is a system call of its own, and one with a fault isn't
+ * carried out. Our own rule. */
+uint32_t wulgach_logged_of(uint32_t form, uint8_t code, bool is_stream);
+
+/* Where a write begins (enum wulgach_begins): at the end, whatever its offset, with RWF_APPEND, or with O_APPEND without RWF_NOAPPEND; and whether
+ * a sync of its bytes follows it, before it ends: with O_DSYNC, O_SYNC, RWF_DSYNC or RWF_SYNC. */
+uint32_t wulgach_write_begins(const struct wulgach_writing *writing);
+bool wulgach_syncs_itself(const struct wulgach_writing *writing);
+
+/* Writes the bytes that the sync of an entry is of. False, and nothing is written: it is of the whole file, since it has neither an offset nor a
+ * length. One with an offset alone is of no byte. io_uring_prep_fsync(3). */
+bool wulgach_synced_bytes(const struct wulgach_submission *entry, struct wulgach_synced_bytes *bytes);
+
 /* The number of the signal that is taken back behind an operation which ended with this, or 0: 25 (SIGXFSZ) of a write, FALLOCATE or SPLICE, with
  * -27 (EFBIG), and 13 (SIGPIPE) of a splice or a tee, or of a write that IOSQE_ASYNC gives to a worker, with -32 (EPIPE). In a kernel a worker of
  * its own has the signal, and the program gets none. Whether SIGXFSZ may have come at all, where this is the greatest length that the process may give

@@ -305,12 +305,50 @@ static void look_at_results(void)
     demand(wulgach_is_stream_type(1) && wulgach_is_stream_type(5) && !wulgach_is_stream_type(2) && !wulgach_is_stream_type(0), "streams");
 }
 
+/* The flags are those of open(2) and pwritev2(2), and the bytes of a sync those that a kernel's was seen to write. */
+static void look_at_logs(void)
+{
+    static const struct wulgach_synced_kind regular = {.is_regular = true}, folder = {.is_folder = true}, pipe = {0};
+    demand(wulgach_is_logged_kind(&regular) && wulgach_is_logged_kind(&folder) && !wulgach_is_logged_kind(&pipe), "which files are logged");
+    demand(wulgach_logged_of(WULGACH_FORM_TOKEN, 23, false) == WULGACH_LOGS_WRITE && wulgach_logged_of(WULGACH_FORM_TOKEN, 2, false) == WULGACH_LOGS_WRITE && wulgach_logged_of(WULGACH_FORM_TOKEN, 5, false) == WULGACH_LOGS_WRITE, "writes");
+    demand(wulgach_logged_of(WULGACH_FORM_TOKEN, 3, false) == WULGACH_LOGS_SYNC && wulgach_logged_of(WULGACH_FORM_TOKEN, 3, true) == WULGACH_LOGS_SYNC, "syncs");
+    demand(wulgach_logged_of(WULGACH_FORM_TOKEN, 23, true) == WULGACH_LOGS_NOTHING && wulgach_logged_of(WULGACH_FORM_REFUSED, 23, false) == WULGACH_LOGS_NOTHING && wulgach_logged_of(WULGACH_FORM_REFUSED, 3, false) == WULGACH_LOGS_NOTHING && wulgach_logged_of(WULGACH_FORM_TOKEN, 22, false) == WULGACH_LOGS_NOTHING && wulgach_logged_of(WULGACH_FORM_CANCEL, 14, false) == WULGACH_LOGS_NOTHING, "what isn't logged");
+    enum { APPENDS = 02000, SYNCS_DATA = 010000, SYNCS = 04010000 };
+    static const struct {
+        struct wulgach_writing writing;
+        uint32_t begins;
+        bool syncs;
+    } rows[] = {
+        {{true, 1, 0, 5}, WULGACH_BEGINS_AT_OFFSET, false},
+        {{true, 1, 0, UINT64_MAX}, WULGACH_BEGINS_AT_POSITION, false},
+        {{true, 1 | APPENDS, 0, 5}, WULGACH_BEGINS_AT_END, false},
+        {{true, 1 | APPENDS, 0, UINT64_MAX}, WULGACH_BEGINS_AT_END, false},
+        {{true, 1 | APPENDS, 32, 5}, WULGACH_BEGINS_AT_OFFSET, false},
+        {{true, 1 | APPENDS, 32, UINT64_MAX}, WULGACH_BEGINS_AT_POSITION, false},
+        {{true, 1, 16, 5}, WULGACH_BEGINS_AT_END, false},
+        {{true, 1, 32, 5}, WULGACH_BEGINS_AT_OFFSET, false},
+        {{false, 1 | APPENDS | SYNCS, 0, 5}, WULGACH_BEGINS_AT_OFFSET, false},
+        {{true, 1 | SYNCS_DATA, 0, 5}, WULGACH_BEGINS_AT_OFFSET, true},
+        {{true, 1 | SYNCS, 0, 5}, WULGACH_BEGINS_AT_OFFSET, true},
+        {{true, 1, 2, 5}, WULGACH_BEGINS_AT_OFFSET, true},
+        {{true, 1, 4, 5}, WULGACH_BEGINS_AT_OFFSET, true},
+        {{true, 1, 1 | 8, 5}, WULGACH_BEGINS_AT_OFFSET, false},
+    };
+    for (size_t i = 0; i < sizeof rows / sizeof *rows; i++)
+        demand(wulgach_write_begins(&rows[i].writing) == rows[i].begins && wulgach_syncs_itself(&rows[i].writing) == rows[i].syncs, "a write");
+    struct wulgach_synced_bytes synced = {7, 7};
+    demand(!wulgach_synced_bytes(&(struct wulgach_submission){.opcode = 3}, &synced) && synced.begin == 7 && synced.length == 7, "a sync of all");
+    demand(wulgach_synced_bytes(&(struct wulgach_submission){.opcode = 3, .len = 4096}, &synced) && synced.begin == 0 && synced.length == 4096, "of the first bytes");
+    demand(wulgach_synced_bytes(&(struct wulgach_submission){.opcode = 3, .off = 4096}, &synced) && synced.begin == 4096 && synced.length == 0, "of none");
+}
+
 int main(void)
 {
     look_at_results();
     look_at_opens();
     look_at_messages();
     look_at_parts();
+    look_at_logs();
     compare_rows();
     look_at_slots();
     look_at_variants();

@@ -7,7 +7,7 @@ import errno
 import os
 import stat
 
-from crashing.events import COPY, CREATE, LENGTH, LINK, MAKE_FOLDER, MAKE_LINK, MAPPED, OF_NAMES, REMOVE, RENAME, SPACE, SYNC, SYNC_ALL, SYNCS_ITS_RANGE, WRITE
+from crashing.events import COPY, CREATE, IS_OF_RANGE, LENGTH, LINK, MAKE_FOLDER, MAKE_LINK, MAPPED, OF_NAMES, REMOVE, RENAME, SPACE, SYNC, SYNC_ALL, SYNCS_ITS_RANGE, WRITE
 from crashing.labels import Bytes, Parts
 
 # Modes of fallocate, and a flag of renameat2.
@@ -147,7 +147,7 @@ class Disk:
             self.name_syncs.append(Sync(operation, operation.begin, operation.end, not operation.fails(), covers=lambda naming: True))
         elif kind == SYNC:
             number = self.file_of(operation)
-            self.begin_sync(number, operation, (operation.offset, operation.offset + operation.length) if operation.length else None)
+            self.begin_sync(number, operation, (operation.offset, operation.offset + operation.length) if operation.flags & IS_OF_RANGE else None)
             if self.files[number].kind == "folder":
                 self.name_syncs.append(Sync(operation, operation.begin, operation.end, not operation.fails(), covers=lambda naming: number in naming.folders))
             elif self.is_ordered:
@@ -158,8 +158,11 @@ class Disk:
     def begin_sync(self, number, operation, range):
         file = self.files[number]
         if file.kind == "file":
-            file.syncs.append(Sync(operation, operation.begin, operation.end, not operation.fails(), range))
-            file.all_syncs = [*file.all_syncs[-99:], file.syncs[-1]]
+            sync = Sync(operation, operation.begin, operation.end, not operation.fails(), range)
+            # (one of no byte makes none safe)
+            if range is None or range[0] < range[1]:
+                file.syncs.append(sync)
+            file.all_syncs = [*file.all_syncs[-99:], sync]
 
     def begin_change(self, operation):
         file = self.files[self.file_of(operation)]

@@ -1,12 +1,12 @@
 /* Appends events to the log, by calls that nothing traps and that take no memory: a signal's handler calls them too. */
 #define _GNU_SOURCE
 #include "log.h"
+#include "logging.h"
 #include "passing.h"
 
 #include <errno.h>
 #include <fcntl.h>
 #include <limits.h>
-#include <linux/fs.h>
 #include <pthread.h>
 #include <stdio.h>
 #include <stdlib.h>
@@ -151,20 +151,5 @@ bool is_on_disk(int fd, char path[PATH_ROOM], uint64_t *file)
     if (!path_of(fd, path) || !is_path_on_disk(path) || pass(SYS_fstat, fd, (long)&about, 0, 0, 0, 0) < 0)
         return false;
     *file = about.st_ino;
-    return S_ISREG(about.st_mode) || S_ISDIR(about.st_mode);
-}
-
-int64_t place_of_write(int fd, int64_t offset, bool appends)
-{
-    struct stat about;
-    long flags = pass(SYS_fcntl, fd, F_GETFL, 0, 0, 0, 0);
-    if ((appends || (flags >= 0 && flags & O_APPEND)) && pass(SYS_fstat, fd, (long)&about, 0, 0, 0, 0) == 0)
-        return about.st_size;
-    return offset >= 0 ? offset : pass(SYS_lseek, fd, 0, SEEK_CUR, 0, 0, 0);
-}
-
-bool syncs_writes(int fd)
-{
-    long flags = pass(SYS_fcntl, fd, F_GETFL, 0, 0, 0, 0);
-    return flags >= 0 && flags & O_DSYNC;   /* (O_SYNC has its bit too) */
+    return wulgach_is_logged_mode(about.st_mode);
 }

@@ -13,7 +13,7 @@
 enum event_kind {
     EVENT_WRITE = 1,        /* of these bytes */
     EVENT_COPY,             /* of bytes that its end says */
-    EVENT_SYNC,             /* of a file or a folder: the whole, or of `length` bytes if it isn't 0 */
+    EVENT_SYNC,             /* of a file or a folder */
     EVENT_SYNC_ALL,         /* sync, syncfs */
     EVENT_LENGTH,           /* a file's length becomes `offset` */
     EVENT_SPACE,            /* fallocate: `flags` is its mode */
@@ -29,7 +29,8 @@ enum event_kind {
     EVENT_MAPPED            /* bytes that were written through memory since it was last compared */
 };
 
-enum { SYNCS_ITS_RANGE = 1 };   /* the flag of a write that a sync of its range follows */
+/* The flag of a write that a sync of its range follows, and that of a sync which is of its range alone. */
+enum { SYNCS_ITS_RANGE = 1, IS_OF_RANGE = 2 };
 
 /* Behind it stand its path, its second path and its bytes. */
 struct event {
@@ -62,11 +63,5 @@ bool is_output(const char *path);
 
 /* A path's folder and name: "", if it is read through another link or isn't there. */
 bool path_of(int fd, char path[PATH_ROOM]);
-
-/* Where a write without an offset begins, or one that appends. */
-int64_t place_of_write(int fd, int64_t offset, bool appends);
-
-/* Whether a descriptor's writes are synced each. */
-bool syncs_writes(int fd);
 
 #endif

@@ -1,7 +1,7 @@
 /* Calls that move bytes from one file to another: what they moved is read where it went, and stands at the event's end. */
 #define _GNU_SOURCE
 #include "files.h"
-#include "../layer/log.h"
+#include "../layer/logging.h"
 #include "../layer/passing.h"
 
 #include <sys/mman.h>
@@ -58,8 +58,7 @@ long call_copy(long call, const long words[6])
     if (cut[way.length] > MOST_COPIED)
         cut[way.length] = MOST_COPIED;
     struct event event = {.kind = EVENT_COPY, .file = file, .length = (uint64_t)cut[way.length]};
-    event.offset = place_of_write(way.to, way.place, false);
-    event.flags = syncs_writes(way.to) ? SYNCS_ITS_RANGE : 0;
+    wulgach_place_write(&event, way.to, (uint64_t)way.place, 0);
     log_event(&event, path, NULL, NULL, 0);
     long result = pass(call, cut[0], cut[1], cut[2], cut[3], cut[4], cut[5]);
     end_copy(reader_of(file, way.to), event.offset, result);

@@ -6,7 +6,7 @@
  */
 #define _GNU_SOURCE
 #include "files.h"
-#include "../layer/log.h"
+#include "../layer/logging.h"
 #include "../layer/passing.h"
 #include "run.h"
 
@@ -14,7 +14,6 @@
 #include <fcntl.h>
 #include <linux/audit.h>
 #include <linux/filter.h>
-#include <linux/fs.h>
 #include <linux/seccomp.h>
 #include <stdatomic.h>
 #include <stdlib.h>
@@ -76,8 +75,7 @@ static long call_write(long call, const long words[6], const struct written *wri
     if (!is_on_disk(written->fd, path, &file))
         return is_output(path) ? log_output(call, words, written) : carry(call, words);
     struct event event = {.kind = EVENT_WRITE, .file = file, .length = length};
-    event.offset = place_of_write(written->fd, written->offset, written->flags & RWF_APPEND);
-    event.flags = syncs_writes(written->fd) || written->flags & (RWF_DSYNC | RWF_SYNC) ? SYNCS_ITS_RANGE : 0;
+    wulgach_place_write(&event, written->fd, (uint64_t)written->offset, written->flags);
     log_event(&event, path, NULL, written->vectors, written->count);
     return end_operation(carry(call, words));
 }
@@ -113,7 +111,7 @@ static long call_sync(long call, const long words[6])
 {
     char path[PATH_ROOM];
     uint64_t file;
-    if (!is_on_disk((int)words[0], path, &file))
+    if (!wulgach_is_open_number((int)words[0]) || !is_on_disk((int)words[0], path, &file))
         return carry(call, words);
     compare_maps(file);
     struct event event = {.kind = EVENT_SYNC, .file = file};
@@ -125,7 +123,7 @@ static long call_sync(long call, const long words[6])
 static long call_sync_all(long call, const long words[6])
 {
     char path[PATH_ROOM];
-    if (call == SYS_syncfs && !(path_of((int)words[0], path) && is_path_on_disk(path)))
+    if (call == SYS_syncfs && !(wulgach_is_open_number((int)words[0]) && path_of((int)words[0], path) && is_path_on_disk(path)))
         return carry(call, words);
     compare_maps(0);
     struct event event = {.kind = EVENT_SYNC_ALL};

@@ -1,11 +1,12 @@
 /* A program that is linked with nothing of ours, and whose calls that change files are put into a log. It is run by uring-run, in a folder
  * that counts as the disk.
  *
- *   logged copies | bytes
+ *   logged copies | bytes | places | syncs
  *
  * Status 0: all was as it is to be. Else a line says what wasn't.
  */
 #define _GNU_SOURCE
+#include "../layer/log.h"
 #include "trapped.h"
 
 #include <errno.h>
@@ -64,14 +65,19 @@ static void copies(void)
     pthread_exit(NULL);
 }
 
-static long write_by_ring(const struct ring *ring, int file, const void *from, uint32_t length)
+static long do_by_ring(const struct ring *ring, struct io_uring_sqe entry)
 {
     static uint32_t tail;
-    ring->entries[0] = (struct io_uring_sqe){.opcode = IORING_OP_WRITE, .fd = file, .addr = (uintptr_t)from, .len = length};
+    ring->entries[0] = entry;
     __atomic_store_n((uint32_t *)(ring->sq + ring->params.sq_off.tail), ++tail, __ATOMIC_RELEASE);
     WANT(enter(ring, 1, 1, NULL) == 1);
     __atomic_store_n((uint32_t *)(ring->sq + ring->params.cq_off.head), tail, __ATOMIC_RELEASE);
     return ((struct io_uring_cqe *)(ring->cq + ring->params.cq_off.cqes))[(tail - 1) % ring->params.cq_entries].res;
+}
+
+static long write_by_ring(const struct ring *ring, int file, const void *from, uint32_t length)
+{
+    return do_by_ring(ring, (struct io_uring_sqe){.opcode = IORING_OP_WRITE, .fd = file, .addr = (uintptr_t)from, .len = length});
 }
 
 /* Bytes that can't be read, none or not all of them, are written as far as they can: what stands in the log behind these isn't lost. */
@@ -91,14 +97,95 @@ static void bytes(void)
     WANT(pwrite(file, room, SIZE, 0) == SIZE && write_by_ring(&ring, file, "behind", 6) == 6);
 }
 
+/* The last event of the log that is of this kind, and of an operation of a ring's or a call. */
+static struct event last_event(uint16_t kind, bool is_of_ring)
+{
+    static char log[1 << 24];
+    struct event found = {0}, event;
+    int file = open(getenv("WULGACH_LOG"), O_RDONLY);
+    ssize_t length = file < 0 ? -1 : read(file, log, sizeof log);
+    WANT(length > 0 && length < (ssize_t)sizeof log && close(file) == 0);
+    for (ssize_t at = 0; at < length; at += event.size) {
+        memcpy(&event, log + at, sizeof event);
+        if (event.kind == kind && (event.operation != 0) == is_of_ring)
+            found = event;
+    }
+    return found;
+}
+
+/* A write of three letters by a ring, and the same by a system call: where these stand then is where the log has them. */
+struct place {
+    int open_flags;         /* of the file, which has ten letters */
+    int flags;              /* RWF_.. */
+    int64_t offset;         /* -1: none. The descriptor's position is 4 */
+    ssize_t at;             /* there they stand */
+    bool syncs;
+};
+
+static void want_place(const struct place *place, int file, bool is_of_ring, long written)
+{
+    char letters[20] = {0};
+    struct event event = last_event(EVENT_WRITE, is_of_ring);
+    WANT(written == 3 && pread(file, letters, sizeof letters, 0) >= 10 && memcmp(letters + place->at, "xyz", 3) == 0);
+    WANT(event.offset == place->at && event.length == 3 && (event.flags == SYNCS_ITS_RANGE) == place->syncs);
+}
+
+static int make_ten(const struct place *place)
+{
+    int file = open("places", O_RDWR | O_CREAT | O_TRUNC | place->open_flags, 0600);
+    WANT(file >= 0 && write(file, "0123456789", 10) == 10 && lseek(file, 4, SEEK_SET) == 4);
+    return file;
+}
+
+static void places(void)
+{
+    enum { APPENDS = 16, APPENDS_NOT = 32 };     /* RWF_APPEND and RWF_NOAPPEND */
+    static const struct place all[] = {
+        {0, 0, 2, 2, false}, {0, 0, -1, 4, false}, {O_APPEND, 0, 2, 10, false}, {O_APPEND, 0, -1, 10, false}, {0, APPENDS, 2, 10, false},
+        {O_APPEND, APPENDS_NOT, 2, 2, false}, {O_APPEND, APPENDS_NOT, -1, 4, false}, {0, APPENDS_NOT, 2, 2, false},
+        {O_DSYNC, 0, 2, 2, true}, {O_SYNC, 0, 2, 2, true}, {0, RWF_DSYNC, 2, 2, true}, {0, RWF_SYNC, 2, 2, true},
+    };
+    struct ring ring = set_up(0);
+    struct iovec part = {(char *)"xyz", 3};
+    for (size_t i = 0; i < sizeof all / sizeof *all; i++) {
+        int file = make_ten(&all[i]);
+        want_place(&all[i], file, true, do_by_ring(&ring, (struct io_uring_sqe){.opcode = IORING_OP_WRITE, .fd = file, .addr = (uintptr_t)part.iov_base, .len = 3, .off = (uint64_t)all[i].offset, .rw_flags = all[i].flags}));
+        file = make_ten(&all[i]);
+        want_place(&all[i], file, false, syscall(SYS_pwritev2, file, &part, 1, all[i].offset, 0, all[i].flags));
+    }
+}
+
+static void want_sync(const struct ring *ring, int file, uint64_t offset, uint32_t length, bool is_of_range)
+{
+    WANT(do_by_ring(ring, (struct io_uring_sqe){.opcode = IORING_OP_FSYNC, .fd = file, .off = offset, .len = length}) == 0);
+    struct event event = last_event(EVENT_SYNC, true);
+    WANT((event.flags == IS_OF_RANGE) == is_of_range && event.offset == (int64_t)offset && event.length == length);
+}
+
+/* One with an offset alone isn't of all bytes. What is open for its path alone can't be synced. */
+static void syncs(void)
+{
+    struct ring ring = set_up(0);
+    int file = make("syncs"), path = open("syncs", O_PATH);
+    want_sync(&ring, file, 0, 0, false);
+    want_sync(&ring, file, 0, 4096, true);
+    want_sync(&ring, file, 4096, 4096, true);
+    want_sync(&ring, file, 4096, 0, true);
+    WANT(fsync(path) == -1 && errno == EBADF && fdatasync(path) == -1 && errno == EBADF && syncfs(path) == -1 && errno == EBADF);
+    WANT(fsync(file) == 0 && last_event(EVENT_SYNC, false).flags == 0);
+}
+
+static const struct {
+    const char *name;
+    void (*run)(void);
+} modes[] = {{"copies", copies}, {"bytes", bytes}, {"places", places}, {"syncs", syncs}};
+
 int main(int argc, char **argv)
 {
-    const char *name = argc > 1 ? argv[1] : "";
-    if (strcmp(name, "copies") == 0)
-        copies();
-    else if (strcmp(name, "bytes") == 0)
-        bytes();
-    else
-        return 2;
-    return 0;
+    for (size_t i = 0; argc > 1 && i < sizeof modes / sizeof *modes; i++)
+        if (strcmp(argv[1], modes[i].name) == 0) {
+            modes[i].run();
+            return 0;
+        }
+    return 2;
 }

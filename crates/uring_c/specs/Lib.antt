@@ -25,3 +25,4 @@ pub mod ListingForm
 pub mod ChangingForm
 pub mod CarryingForm
 pub mod HearingForm
+pub mod LoggingForm

@@ -26,6 +26,7 @@ mod keeping_exports;
 mod leaving_exports;
 mod listing_exports;
 mod lists_exports;
+mod logging_exports;
 mod lookout_exports;
 mod lying_exports;
 mod machine_exports;

@@ -1,5 +1,6 @@
 /* Each way in which a program writes a file and syncs it. */
 #define _GNU_SOURCE
+#include "../trapped.h"
 #include "ways.h"
 
 #include <fcntl.h>
@@ -298,11 +299,27 @@ static void by_splice(void)
     sync_file(file);
 }
 
+static void do_by_ring(const struct ring *ring, struct io_uring_sqe entry, int result)
+{
+    const struct io_uring_cqe *last = (const struct io_uring_cqe *)(ring->cq + ring->params.cq_off.cqes);
+    publish(ring, entry);
+    demand(enter(ring, 1, 1, NULL) == 1 && last->res == result, "a ring");
+}
+
+/* The sync of a range that has all bytes, or of one with an offset and no length, which has none. */
+static void by_ring(void)
+{
+    struct ring writes = set_up(0), syncs = set_up(0);
+    int file = make("data", 0);
+    do_by_ring(&writes, (struct io_uring_sqe){.opcode = IORING_OP_WRITE, .fd = file, .addr = (uintptr_t)bytes, .len = SIZE}, SIZE);
+    do_by_ring(&syncs, (struct io_uring_sqe){.opcode = IORING_OP_FSYNC, .fd = file, .off = is_synced ? 0 : SIZE / 2, .len = is_synced ? SIZE : 0}, 0);
+}
+
 const struct way ways[] = {
     {"write", by_write}, {"creat", by_creat}, {"writev", by_vectors}, {"pwritev2", by_flags}, {"dsync", by_synced_file},
     {"osync", by_wholly_synced_file}, {"direct", by_direct}, {"append", by_append}, {"stream", by_stream}, {"cut", by_cut},
     {"length", by_length}, {"room", by_room}, {"copy", by_copy}, {"sendfile", by_sendfile}, {"memory", by_memory},
     {"rename", by_rename}, {"link", by_link}, {"nameless", by_nameless}, {"symlink", by_symbolic_link},
     {"folder", by_folder}, {"exchange", by_exchange}, {"range", by_range}, {"child", by_child}, {"threads", by_threads}, {"inline", by_inline},
-    {"sync", by_whole_sync}, {"syncfs", by_disk_sync}, {"splice", by_splice}, {NULL, NULL},
+    {"sync", by_whole_sync}, {"syncfs", by_disk_sync}, {"splice", by_splice}, {"ring", by_ring}, {NULL, NULL},
 };

@@ -1,0 +1,18 @@
+-- What is logged of a request, and where a write begins, in words that C can read.
+use Rattle.std.specs.Prelude.{ℕ}
+use Rattle.uring_enter.specs.declared.logging.Begins.{Begins}
+use Rattle.uring_enter.specs.declared.logging.Begins.TheVariants.{AtOffset, AtPosition, AtEnd}
+use Rattle.uring_enter.specs.declared.logging.Logged.{Logged}
+use Rattle.uring_enter.specs.declared.logging.Logged.TheVariants.{Nothing, Write, Sync}
+
+-- kinds count in the order of `Logged`, from 0. Our own rule
+abbrev pub word_of_logged : Logged → ℕ
+word_of_logged Nothing = 0
+word_of_logged Write = 1
+word_of_logged Sync = 2
+
+-- places count in the order of `Begins`, from 0. Our own rule
+abbrev pub word_of_begins : Begins → ℕ
+word_of_begins AtOffset = 0
+word_of_begins AtPosition = 1
+word_of_begins AtEnd = 2

@@ -1,0 +1,47 @@
+/* Which files are logged, where a write begins and whether it is synced: the library says so. Nothing here is trapped, and nothing takes memory: a
+ * signal's handler calls it too.
+ */
+#define _GNU_SOURCE
+#include "logging.h"
+#include "openness.h"
+#include "passing.h"
+#include "wulgach_calls.h"
+
+#include <fcntl.h>
+#include <sys/stat.h>
+#include <sys/syscall.h>
+#include <unistd.h>
+
+bool wulgach_is_logged_mode(mode_t mode)
+{
+    struct wulgach_synced_kind kind = {.is_regular = S_ISREG(mode), .is_folder = S_ISDIR(mode)};
+    return wulgach_is_logged_kind(&kind);
+}
+
+bool wulgach_is_open_number(int fd)
+{
+    return counts_as_open(fd, false);
+}
+
+/* Where a write begins that the library says to begin there. */
+static int64_t place_of(int fd, uint32_t begins, uint64_t offset)
+{
+    struct stat about = {0};
+    switch (begins) {
+    case WULGACH_BEGINS_AT_END:
+        pass(SYS_fstat, fd, (long)&about, 0, 0, 0, 0);
+        return about.st_size;
+    case WULGACH_BEGINS_AT_POSITION:
+        return pass(SYS_lseek, fd, 0, SEEK_CUR, 0, 0, 0);
+    default:
+        return (int64_t)offset;
+    }
+}
+
+void wulgach_place_write(struct event *event, int fd, uint64_t offset, int flags)
+{
+    long status = pass(SYS_fcntl, fd, F_GETFL, 0, 0, 0, 0);
+    struct wulgach_writing writing = {.is_known = status >= 0, .status = (uint32_t)status, .flags = (uint32_t)flags, .offset = offset};
+    event->offset = place_of(fd, wulgach_write_begins(&writing), offset);
+    event->flags = wulgach_syncs_itself(&writing) ? SYNCS_ITS_RANGE : 0;
+}
