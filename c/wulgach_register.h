@@ -341,8 +341,24 @@ void wulgach_enroll(uint64_t *words, size_t count, uint32_t row, uint32_t descri
 int32_t wulgach_dismissing_fault(uint32_t row, bool has_reserved, bool has_data);
 void wulgach_dismiss(uint64_t *words, size_t count, uint32_t row);
 
-/* Writes the descriptor of a number, and returns 0; or returns -22 of a number past the last, -9 of a free row, and writes nothing. */
-int32_t wulgach_enrolled_named(const uint64_t *words, size_t count, uint32_t number, uint64_t *descriptor);
+/* Writes the descriptor of a number, and returns 0; or returns -22 of a number past the last, and of any to a thread that isn't known, -9 of a free
+ * row, and writes nothing. */
+int32_t wulgach_enrolled_named(const uint64_t *words, size_t count, bool is_known, uint32_t number, uint64_t *descriptor);
+
+/* By what a thread may become known to io_uring. */
+enum wulgach_deed {
+    WULGACH_SETS_UP = 0,    /* it makes a ring */
+    WULGACH_CALLS = 1,      /* it makes a call of io_uring_enter(2) that passes: only if that is asked to submit, on a ring without a thread of its own */
+    WULGACH_ENROLLS = 2     /* it makes a call that gives rings numbers, whose count passes */
+};
+
+/* Returns in which process a thread is known that has done this (enum wulgach_deed) in `process`, and was known in `before`; 0 is none. What is asked for
+ * matters to a call alone. And whether it is known in `process`: not by what the thread did that has forked it, whose rows it hasn't either. */
+uint32_t wulgach_known_behind(uint32_t before, uint32_t process, uint32_t deed, uint32_t to_submit, bool has_thread);
+bool wulgach_is_known(uint32_t before, uint32_t process);
+
+/* How many rows are taken of a list of so many, by which rings lose their numbers: none of a thread that isn't known, whatever they say. */
+uint32_t wulgach_dismissed_rows(bool is_known, uint32_t count);
 
 /* ---- restrictions ---- */
 
