@@ -480,7 +480,8 @@ enum wulgach_making_step {
 
 enum wulgach_buffer_step {
     WULGACH_BUFFER_PAGES = 0,   /* its pages are looked at: wulgach_pinning_fault; */
-    WULGACH_BUFFER_MEMORY = 1   /* and there is memory for it, and for its tag: -12 */
+    WULGACH_BUFFER_TAGS = 1,    /* and there is memory for its tag: -12 (ENOMEM); */
+    WULGACH_BUFFER_MEMORY = 2   /* and for it */
 };
 
 enum wulgach_ring_step {
@@ -508,10 +509,10 @@ enum wulgach_closing_step {
 
 /* The bit 1 << STEP of each step: they are done by rising bits, until one fails. A list that isn't there isn't read, but that of an update
  * or of a placing, which ends so with -14 (EFAULT); only a file that is registered is
- * looked for and has a tag, or none; a list of restrictions without rows isn't read; and a close with a fault does nothing. */
+ * looked for and has a tag; a tag of 0 is none; a list of restrictions without rows isn't read; and a close with a fault does nothing. */
 uint32_t wulgach_reading_steps(bool has_tags, bool has_list, bool is_update);
-uint32_t wulgach_making_steps(bool is_registered, bool has_tag);
-uint32_t wulgach_buffer_steps(void);
+uint32_t wulgach_making_steps(bool is_registered, uint64_t tag);
+uint32_t wulgach_buffer_steps(uint64_t tag);
 uint32_t wulgach_ring_steps(void);
 uint32_t wulgach_restricting_steps(uint32_t count);
 uint32_t wulgach_dismissing_steps(void);
