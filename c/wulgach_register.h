@@ -345,8 +345,24 @@ void wulgach_enroll(uint64_t *words, size_t count, uint32_t row, uint32_t descri
 int32_t wulgach_dismissing_fault(uint32_t row, bool has_reserved, bool has_data);
 void wulgach_dismiss(uint64_t *words, size_t count, uint32_t row);
 
-/* Writes the descriptor of a number, and returns 0; or returns -22 of a number past the last, -9 of a free row, and writes nothing. */
-int32_t wulgach_enrolled_named(const uint64_t *words, size_t count, uint32_t number, uint64_t *descriptor);
+/* Writes the descriptor of a number, and returns 0; or returns -22 of a number past the last, and of any to a thread that isn't known, -9 of a free
+ * row, and writes nothing. */
+int32_t wulgach_enrolled_named(const uint64_t *words, size_t count, bool is_known, uint32_t number, uint64_t *descriptor);
+
+/* By what a thread may become known to io_uring. */
+enum wulgach_deed {
+    WULGACH_SETS_UP = 0,    /* it makes a ring */
+    WULGACH_CALLS = 1,      /* it makes a call of io_uring_enter(2) that passes: only if that is asked to submit, on a ring without a thread of its own */
+    WULGACH_ENROLLS = 2     /* it makes a call that gives rings numbers, whose count passes */
+};
+
+/* Returns in which process a thread is known that has done this (enum wulgach_deed) in `process`, and was known in `before`; 0 is none. What is asked for
+ * matters to a call alone. And whether it is known in `process`: not by what the thread did that has forked it, whose rows it hasn't either. */
+uint32_t wulgach_known_behind(uint32_t before, uint32_t process, uint32_t deed, uint32_t to_submit, bool has_thread);
+bool wulgach_is_known(uint32_t before, uint32_t process);
+
+/* How many rows are taken of a list of so many, by which rings lose their numbers: none of a thread that isn't known, whatever they say. */
+uint32_t wulgach_dismissed_rows(bool is_known, uint32_t count);
 
 /* ---- restrictions ---- */
 
@@ -468,7 +484,8 @@ enum wulgach_making_step {
 
 enum wulgach_buffer_step {
     WULGACH_BUFFER_PAGES = 0,   /* its pages are looked at: wulgach_pinning_fault; */
-    WULGACH_BUFFER_MEMORY = 1   /* and there is memory for it, and for its tag: -12 */
+    WULGACH_BUFFER_TAGS = 1,    /* and there is memory for its tag: -12 (ENOMEM); */
+    WULGACH_BUFFER_MEMORY = 2   /* and for it */
 };
 
 enum wulgach_ring_step {
@@ -496,10 +513,10 @@ enum wulgach_closing_step {
 
 /* The bit 1 << STEP of each step: they are done by rising bits, until one fails. A list that isn't there isn't read, but that of an update
  * or of a placing, which ends so with -14 (EFAULT); only a file that is registered is
- * looked for and has a tag, or none; a list of restrictions without rows isn't read; and a close with a fault does nothing. */
+ * looked for and has a tag; a tag of 0 is none; a list of restrictions without rows isn't read; and a close with a fault does nothing. */
 uint32_t wulgach_reading_steps(bool has_tags, bool has_list, bool is_update);
-uint32_t wulgach_making_steps(bool is_registered, bool has_tag);
-uint32_t wulgach_buffer_steps(void);
+uint32_t wulgach_making_steps(bool is_registered, uint64_t tag);
+uint32_t wulgach_buffer_steps(uint64_t tag);
 uint32_t wulgach_ring_steps(void);
 uint32_t wulgach_restricting_steps(uint32_t count);
 uint32_t wulgach_dismissing_steps(void);

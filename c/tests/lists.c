@@ -75,10 +75,10 @@ static void go_by_steps(void)
 {
     demand(wulgach_reading_steps(true, true, false) == 3 && wulgach_reading_steps(true, false, false) == 1 << WULGACH_READING_TAG && wulgach_reading_steps(false, true, false) == 1 << WULGACH_READING_ROW && wulgach_reading_steps(false, false, false) == 0, "how a row is read");
     demand(wulgach_reading_steps(true, false, true) == 3 && wulgach_reading_steps(false, false, true) == 1 << WULGACH_READING_ROW, "also without a list");
-    demand(wulgach_making_steps(true, true) == 15 && wulgach_making_steps(true, false) == 13 && wulgach_making_steps(false, false) == 12 && wulgach_making_steps(false, true) == 12, "how a file is made");
+    demand(wulgach_making_steps(true, 1) == 15 && wulgach_making_steps(true, 1ull << 63) == 15 && wulgach_making_steps(true, 0) == 13 && wulgach_making_steps(false, 0) == 12 && wulgach_making_steps(false, 1) == 12, "how a file is made");
     demand(wulgach_ring_steps() == 7, "how a ring of buffers is registered");
     demand(wulgach_closing_steps(0) == 3 && wulgach_closing_steps(-9) == 0, "what a close does");
-    demand(wulgach_buffer_steps() == 3, "how a buffer is made");
+    demand(wulgach_buffer_steps(0) == 5 && wulgach_buffer_steps(1ull << 32) == 7, "how a buffer is made");
     demand(wulgach_restricting_steps(0) == 5 && wulgach_restricting_steps(1) == 7, "how a list of restrictions is registered");
     demand(wulgach_dismissing_steps() == 7, "how a ring loses its number");
 }

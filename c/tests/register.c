@@ -269,19 +269,31 @@ static void enroll_rings(void)
     uint64_t rows[16], fd = 99;
     uint32_t row = 99;
     wulgach_enrolled_begin(rows, 16);
-    demand(wulgach_enrolled_named(rows, 16, 0, &fd) == -9 && wulgach_enrolled_named(rows, 16, 16, &fd) == -22 && fd == 99, "no rings");
+    demand(wulgach_enrolled_named(rows, 16, true, 0, &fd) == -9 && wulgach_enrolled_named(rows, 16, true, 16, &fd) == -22 && fd == 99, "no rings");
     demand(wulgach_enrolling_fault(16, false, false, false) == -22 && wulgach_enrolling_fault(3, true, true, true) == -22 && wulgach_enrolling_fault(UINT32_MAX, false, false, false) == -9 && wulgach_enrolling_fault(3, false, true, false) == -95 && wulgach_enrolling_fault(15, false, true, true) == 0, "faults");
     demand(wulgach_enrolled_place(rows, 16, 3, &row) == 0 && row == 3, "a row");
     wulgach_enroll(rows, 16, 3, 0);
-    demand(wulgach_enrolled_named(rows, 16, 3, &fd) == 0 && fd == 0 && wulgach_enrolled_place(rows, 16, 3, &row) == -16 && row == 3, "one that is taken");
+    demand(wulgach_enrolled_named(rows, 16, true, 3, &fd) == 0 && fd == 0 && wulgach_enrolled_place(rows, 16, 3, &row) == -16 && row == 3, "one that is taken");
     for (uint32_t i = 0; i < 15; i++) {
         demand(wulgach_enrolled_place(rows, 16, UINT32_MAX, &row) == 0 && row == (i < 3 ? i : i + 1), "any");
         wulgach_enroll(rows, 16, row, 100 + row);
     }
-    demand(wulgach_enrolled_place(rows, 16, UINT32_MAX, &row) == -16 && wulgach_enrolled_named(rows, 16, 15, &fd) == 0 && fd == 115, "all");
+    demand(wulgach_enrolled_place(rows, 16, UINT32_MAX, &row) == -16 && wulgach_enrolled_named(rows, 16, true, 15, &fd) == 0 && fd == 115, "all");
     demand(wulgach_dismissing_fault(16, false, false) == -22 && wulgach_dismissing_fault(3, true, false) == -22 && wulgach_dismissing_fault(3, false, true) == -22 && wulgach_dismissing_fault(15, false, false) == 0, "dismissing");
     wulgach_dismiss(rows, 16, 9);
-    demand(wulgach_enrolled_named(rows, 16, 9, &fd) == -9 && wulgach_enrolled_place(rows, 16, UINT32_MAX, &row) == 0 && row == 9, "one that was dismissed");
+    demand(wulgach_enrolled_named(rows, 16, true, 9, &fd) == -9 && wulgach_enrolled_place(rows, 16, UINT32_MAX, &row) == 0 && row == 9, "one that was dismissed");
+}
+
+static void know_threads(void)
+{
+    uint64_t rows[16], fd = 99;
+    wulgach_enrolled_begin(rows, 16);
+    wulgach_enroll(rows, 16, 3, 7);
+    demand(wulgach_enrolled_named(rows, 16, false, 3, &fd) == -22 && wulgach_enrolled_named(rows, 16, false, 4, &fd) == -22 && fd == 99, "numbers of a thread that isn't known");
+    demand(wulgach_known_behind(0, 5, WULGACH_SETS_UP, 0, true) == 5 && wulgach_known_behind(4, 5, WULGACH_ENROLLS, 0, false) == 5 && wulgach_known_behind(4, 5, WULGACH_CALLS, 1, false) == 5, "what makes one known");
+    demand(wulgach_known_behind(4, 5, WULGACH_CALLS, 0, false) == 4 && wulgach_known_behind(0, 5, WULGACH_CALLS, 9, true) == 0 && wulgach_known_behind(4, 5, 99, 1, false) == 4, "what doesn't");
+    demand(wulgach_is_known(5, 5) && !wulgach_is_known(4, 5) && !wulgach_is_known(0, 5), "where it is");
+    demand(wulgach_dismissed_rows(true, 9) == 9 && wulgach_dismissed_rows(false, 9) == 0, "rows that are taken");
 }
 
 static void go_through_set_ups(void)
@@ -359,6 +371,7 @@ int main(void)
     note_threads();
     tell_eventfds();
     enroll_rings();
+    know_threads();
     take_rows();
     give_slots();
     change_tables();

@@ -48,30 +48,50 @@ static int read_row(struct buffer_row *row, const struct wulgach_lists *lists, u
     return result;
 }
 
-static int make_buffer(struct ring *ring, uint64_t *word, const struct iovec *bytes, uint64_t tag)
+/* A buffer that is made of a row. */
+struct making {
+    struct inbox *told;         /* who is told its tag once it is gone: 0 is none */
+    uint64_t tag;
+    struct message *message;    /* for that */
+    struct iovec bytes;
+    struct buffer *buffer;
+};
+
+static int make_buffer(struct making *making)
 {
-    struct message *message = tag ? make_message_of(tag, 0) : NULL;
     struct buffer *buffer = malloc(sizeof *buffer);
-    if (!buffer || (tag && !message)) {
-        free(buffer);
-        free(message);
+    if (!buffer)
         return wulgach_missing_fault(WULGACH_NO_MEMORY_OWN);
-    }
-    *buffer = (struct buffer){.bytes = *bytes, .told = &ring->inbox, .tag = message};
-    wulgach_uses_begin(&buffer->uses, message != NULL);
-    *word = (uintptr_t)buffer;
+    *buffer = (struct buffer){.bytes = making->bytes, .told = making->told, .tag = making->message};
+    wulgach_uses_begin(&buffer->uses, making->message != NULL);
+    making->buffer = buffer;
     return 0;
 }
 
-/* Makes the buffer of a row that names one, in the steps that the library says. */
-static int make_there(struct ring *ring, struct known_memory *known, uint64_t *word, const struct iovec *bytes, uint64_t tag)
+static int make_step(struct known_memory *known, struct making *making, uint32_t step)
 {
+    switch (step) {
+    case WULGACH_BUFFER_PAGES:
+        return pinning_fault(known, &making->bytes);
+    case WULGACH_BUFFER_TAGS:
+        making->message = make_message_of(making->tag, 0);
+        return making->message ? 0 : wulgach_missing_fault(WULGACH_NO_MEMORY_OWN);
+    default:
+        return make_buffer(making);
+    }
+}
+
+/* Makes the buffer of a row that names one, in the steps that the library says. */
+static int make_there(struct ring *ring, struct known_memory *known, uint64_t *word, const struct buffer_row *row)
+{
+    struct making making = {.told = &ring->inbox, .tag = row->tag, .bytes = row->bytes};
     int fault = 0;
-    for (uint32_t steps = wulgach_buffer_steps(); steps && fault == 0; steps &= steps - 1)
-        if (__builtin_ctz(steps) == WULGACH_BUFFER_PAGES)
-            fault = pinning_fault(known, bytes);
-        else
-            fault = make_buffer(ring, word, bytes, tag);
+    for (uint32_t steps = wulgach_buffer_steps(making.tag); steps && fault == 0; steps &= steps - 1)
+        fault = make_step(known, &making, (uint32_t)__builtin_ctz(steps));
+    if (fault < 0)
+        free(making.message);
+    else
+        *word = (uintptr_t)making.buffer;
     return fault;
 }
 
@@ -89,7 +109,7 @@ static int make_row(struct ring *ring, struct known_memory *known, uint64_t *wor
     int result = read_row(&row, lists, index, false);
     if (result < 0)
         return result;
-    return steps_of(&row, &fault) & 1U << WULGACH_STEP_MAKES ? make_there(ring, known, &words[row.place.slot], &row.bytes, row.tag) : fault;
+    return steps_of(&row, &fault) & 1U << WULGACH_STEP_MAKES ? make_there(ring, known, &words[row.place.slot], &row) : fault;
 }
 
 /* Of a table that isn't registered after all, no tag is told. */
@@ -158,7 +178,7 @@ static int update_buffer(struct ring *ring, struct known_memory *known, const st
     uint64_t word = 0;
     for (uint32_t steps = steps_of(row, &fault); steps && fault == 0; steps &= steps - 1)
         if (__builtin_ctz(steps) == WULGACH_STEP_MAKES)
-            fault = make_there(ring, known, &word, &row->bytes, row->tag);
+            fault = make_there(ring, known, &word, row);
         else
             release_buffer(buffer_of(wulgach_table_fill(&buffers->table, buffers->words, buffers->table.count, row->place.slot, word)));
     return fault;

@@ -1,6 +1,6 @@
 /* The table is a thread's own, as in the kernel. A ring in it stays open whatever is closed: it has a descriptor of the layer's
- * own, under a high number, which is closed when the thread ends. Which row a ring gets, what a number names and what is refused is the
- * library's decision.
+ * own, under a high number, which is closed when the thread ends. Which row a ring gets, what a number names, to which threads, and what is refused
+ * is the library's decision.
  */
 #define _GNU_SOURCE
 #include "enrolling.h"
@@ -20,15 +20,21 @@
 
 enum { MOST = 16 };
 
-/* The library's words of a thread that has rows, and the process in which it has them. */
+/* The library's words of a thread that has rows, and the process in which it is known to io_uring, and has them. */
 static __thread uint64_t *table;
-static __thread pid_t owner;
+static __thread uint32_t known_in;
 static pthread_key_t key;
 static pthread_once_t once = PTHREAD_ONCE_INIT;
 
-static bool is_parents(void)
+static bool is_known(void)
 {
-    return table && owner != this_process();
+    return wulgach_is_known(known_in, (uint32_t)this_process());
+}
+
+static const uint64_t *own_rows(void)
+{
+    static const uint64_t none[MOST];
+    return table ? table : none;
 }
 
 /* (a signal's handler may call meanwhile) */
@@ -51,7 +57,7 @@ static void close_rows(void)
 {
     uint64_t fd;
     for (uint32_t i = 0; i < MOST; i++)
-        if (wulgach_enrolled_named(table, MOST, i, &fd) == 0)
+        if (wulgach_enrolled_named(own_rows(), MOST, is_known(), i, &fd) == 0)
             close_row((int)fd);
 }
 
@@ -66,8 +72,7 @@ static void end_thread(void *rows)
         return;
     }
     block_signals(&signals);
-    if (!is_parents())
-        close_rows();
+    close_rows();
     free_table();
     allow_signals(&signals);
 }
@@ -81,21 +86,25 @@ static void make_key(void)
  * program's own keeps them open. */
 static void leave_parents_table(void)
 {
-    if (!is_parents())
+    if (!table || is_known())
         return;
     free_table();
     pthread_setspecific(key, NULL);
 }
 
+void note_deed(enum wulgach_deed deed, uint32_t to_submit, bool has_thread)
+{
+    leave_parents_table();
+    known_in = wulgach_known_behind(known_in, (uint32_t)this_process(), deed, to_submit, has_thread);
+}
+
 static int make_table(void)
 {
     pthread_once(&once, make_key);
-    leave_parents_table();
     if (!table) {
         table = calloc(MOST, sizeof *table);
         if (table)
             wulgach_enrolled_begin(table, MOST);
-        owner = this_process();
         pthread_setspecific(key, table);
     }
     return table ? 0 : wulgach_missing_fault(WULGACH_NO_MEMORY_OWN);
@@ -114,8 +123,9 @@ static int enroll(int fd, uint32_t row)
 static void dismiss(uint32_t row)
 {
     uint64_t fd;
-    if (wulgach_enrolled_named(table, MOST, row, &fd) == 0)
-        close_row((int)fd);
+    if (wulgach_enrolled_named(own_rows(), MOST, is_known(), row, &fd) < 0)
+        return;
+    close_row((int)fd);
     wulgach_dismiss(table, MOST, row);
 }
 
@@ -192,7 +202,7 @@ static int for_each_row(int (*change)(uint64_t at), uint64_t list, uint32_t coun
 {
     struct wulgach_lists lists;
     wulgach_lists_of_call(list, count, &lists);
-    int result = make_table();
+    int result = 0;
     uint32_t done = 0;
     while (wulgach_takes_next(done, lists.count, result)) {
         struct wulgach_list_row row;
@@ -205,19 +215,20 @@ static int for_each_row(int (*change)(uint64_t at), uint64_t list, uint32_t coun
 
 int enroll_rings(uint64_t list, uint32_t count)
 {
-    return for_each_row(enroll_row, list, count);
+    note_deed(WULGACH_ENROLLS, 0, false);
+    int result = make_table();
+    return result < 0 ? result : for_each_row(enroll_row, list, count);
 }
 
 int dismiss_rings(uint64_t list, uint32_t count)
 {
-    return for_each_row(dismiss_row, list, count);
+    return for_each_row(dismiss_row, list, wulgach_dismissed_rows(is_known(), count));
 }
 
 int enrolled_fd(uint32_t number)
 {
-    static const uint64_t none[MOST];
     uint64_t fd;
     leave_parents_table();
-    int result = wulgach_enrolled_named(table ? table : none, MOST, number, &fd);
+    int result = wulgach_enrolled_named(own_rows(), MOST, is_known(), number, &fd);
     return result < 0 ? result : (int)fd;
 }

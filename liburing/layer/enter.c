@@ -244,6 +244,7 @@ static int enter_ring(struct ring *ring, struct waiting *waiting, uint32_t steps
             do_duties_at_begin(ring, false);
             break;
         case WULGACH_MAKES_CALL:
+            note_deed(WULGACH_CALLS, waiting->to_submit, ring->has_thread);
             result = carry_call_out(ring, waiting, waiting->flags);
             break;
         default:

@@ -135,7 +135,7 @@ static int make_step(struct making *making, uint32_t step)
 static int make_by_steps(struct file **made, struct making making, bool is_registered)
 {
     int fault = 0;
-    for (uint32_t steps = wulgach_making_steps(is_registered, making.tag != 0); steps && fault == 0; steps &= steps - 1)
+    for (uint32_t steps = wulgach_making_steps(is_registered, making.tag); steps && fault == 0; steps &= steps - 1)
         fault = make_step(&making, (uint32_t)__builtin_ctz(steps));
     if (fault < 0)
         free(making.message);

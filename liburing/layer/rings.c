@@ -4,6 +4,7 @@
 #include "clock.h"
 #include "copying.h"
 #include "descriptors.h"
+#include "enrolling.h"
 #include "enter.h"
 #include "eventfds.h"
 #include "groups.h"
@@ -189,6 +190,7 @@ static int set_up(uint32_t entries, struct io_uring_params *params, bool is_poll
         return result;
     int fd = making.ring->fd;
     add_ring(making.ring);
+    note_deed(WULGACH_SETS_UP, 0, false);
     return fd;
 }
 

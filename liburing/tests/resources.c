@@ -230,7 +230,7 @@ static void test_rings_by_number(void)
     make_ring(&ring, 8, 0, 0);
     make_ring(&other, 8, 0, 0);
     struct io_uring_rsrc_update row = {.offset = (unsigned)-1, .data = (uint64_t)ring.fd}, bad = {.offset = 3, .data = (uint64_t)file}, past = {.offset = 16};
-    check(enter_by_number(0, 0) == -EINVAL || enter_by_number(0, 0) == -EBADF);
+    check(enter_by_number(0, 0) == -EBADF);
     check(register_at(other.fd, IORING_REGISTER_RING_FDS, &row, 0) == -EINVAL);
     check(register_at(other.fd, IORING_REGISTER_RING_FDS, &row, 17) == -EINVAL);
     check(register_at(other.fd, IORING_REGISTER_RING_FDS, NULL, 1) == -EFAULT);
@@ -242,7 +242,7 @@ static void test_rings_by_number(void)
     int status;
     pid_t child = fork();
     if (child == 0)
-        _exit(enter_by_number(number, 0) == -EINVAL || enter_by_number(number, 0) == -EBADF ? 0 : 1);
+        _exit(enter_by_number(number, 0) == -EINVAL ? 0 : 1);
     check(waitpid(child, &status, 0) == child && status == 0);
     close(ring.fd);
     put(&ring, IORING_OP_NOP, 7, 0);
@@ -254,6 +254,80 @@ static void test_rings_by_number(void)
     check(enter_by_number(number, 0) == -EBADF);
     close(file);
     close_ring(&other);
+}
+
+/* Whether io_uring knows the thread: to another no number is one. */
+static bool is_known(void)
+{
+    long result = enter_by_number(0, 0);
+    check(result == -EINVAL || result == -EBADF);
+    return result == -EBADF;
+}
+
+static long dismiss(const struct ring *ring, struct io_uring_rsrc_update *row, unsigned count)
+{
+    return register_at(ring->fd, IORING_UNREGISTER_RING_FDS, row, count);
+}
+
+/* What is no number's row. */
+static struct io_uring_rsrc_update no_row = {.offset = 77, .data = 5};
+
+static void *know_by_submitting(void *of)
+{
+    const struct ring *rings = of;
+    struct io_uring_sync_cancel_reg nothing = {.addr = 1, .timeout = {-1, -1}};
+    check(!is_known() && enter(&rings[0], 0, 0, IORING_ENTER_GETEVENTS) == 0);
+    check(register_at(rings[0].fd, IORING_REGISTER_SYNC_CANCEL, &nothing, 1) == -ENOENT);
+    check(enter(&rings[1], 1, 0, 0) == -EBADFD && enter(&rings[2], 1, 0, IORING_ENTER_SQ_WAKEUP) == 1 && !is_known());
+    check(dismiss(&rings[0], &no_row, 1) == 0 && dismiss(&rings[0], (void *)1, 16) == 0 && dismiss(&rings[0], &no_row, 17) == -EINVAL);
+    check(enter(&rings[0], 1, 0, 0) == 0 && is_known());
+    check(dismiss(&rings[0], &no_row, 1) == -EINVAL && dismiss(&rings[0], (void *)1, 16) == -EFAULT);
+    return NULL;
+}
+
+static void *know_by_enrolling(void *of)
+{
+    const struct ring *ring = of;
+    check(register_at(ring->fd, IORING_REGISTER_RING_FDS, &no_row, 17) == -EINVAL && !is_known());
+    check(register_at(ring->fd, IORING_REGISTER_RING_FDS, &no_row, 1) == -EINVAL && is_known());
+    return NULL;
+}
+
+static void *know_by_set_up(void *of)
+{
+    struct io_uring_params bad = {.flags = 1U << 31};
+    struct ring ring;
+    (void)of;
+    check(set_up(4, &bad) == -EINVAL && !is_known());
+    make_ring(&ring, 4, 0, 0);
+    close_ring(&ring);
+    check(is_known());
+    return NULL;
+}
+
+/* A thread becomes known as it makes a ring, asks for a submission or enrolls a ring; and a child isn't by what its parent did. */
+static void test_known_threads(void)
+{
+    static void *(*const ways[])(void *) = {know_by_submitting, know_by_enrolling, know_by_set_up};
+    struct ring rings[3];
+    int status;
+    make_ring(&rings[0], 4, 0, 0);
+    make_ring(&rings[1], 4, 0, IORING_SETUP_R_DISABLED);
+    make_ring(&rings[2], 4, 0, IORING_SETUP_SQPOLL);
+    for (size_t i = 0; i < sizeof ways / sizeof *ways; i++) {
+        pthread_t thread;
+        check(pthread_create(&thread, NULL, ways[i], rings) == 0 && pthread_join(thread, NULL) == 0);
+    }
+    check(is_known());
+    pid_t child = fork();
+    if (child == 0) {
+        check(!is_known());
+        know_by_set_up(NULL);
+        _exit(0);
+    }
+    check(waitpid(child, &status, 0) == child && status == 0);
+    for (size_t i = 0; i < 3; i++)
+        close_ring(&rings[i]);
 }
 
 /* A ring whose thread takes entries: it sleeps, and a call wakes it. */
@@ -320,6 +394,7 @@ int main(int count, char **words)
         {"advice", test_advice},
         {"restrictions", test_restrictions},
         {"rings by number", test_rings_by_number},
+        {"known threads", test_known_threads},
         {"sqpoll", test_sqpoll},
         {"large cells", test_large_cells},
     };

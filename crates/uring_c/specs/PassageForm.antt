@@ -12,6 +12,8 @@ use Rattle.uring_register.specs.declared.numbering.RowStage.{RowStage}
 use Rattle.uring_register.specs.declared.numbering.RowStage.TheVariants as stage
 use Rattle.uring_register.specs.declared.numbering.RowOnto.{RowOnto}
 use Rattle.uring_register.specs.declared.numbering.RowOnto.TheVariants as row
+use Rattle.uring_register.specs.declared.enrolled.Deed.{Deed}
+use Rattle.uring_register.specs.declared.enrolled.Deed.TheVariants as deed
 use Rattle.uring_enter.specs.declared.glance.Glance.{Glance}
 use Rattle.uring_enter.specs.declared.glance.Glance.TheVariants as glance
 use Rattle.uring_enter.specs.declared.lying.Answered.{Answered}
@@ -45,6 +47,13 @@ check_of word =
     if word == 2 then Some Counts else
     if word == 3 then Some Caller else
     if word == 4 then Some Argument else None
+
+-- by what a thread may become known, by its word: a set-up, a call that asks for so many entries on a ring with a thread of its own or without, and enrolling; any other word is a call that asks for none. Our own rule
+abbrev pub deed_of : (word to_submit : ℕ) → (has_thread : Bool) → Deed
+deed_of word to_submit has_thread =
+    if word == 0 then deed.SetsUp else
+    if word == 1 then deed.Calls to_submit has_thread else
+    if word == 2 then deed.Enrolls else deed.Calls 0 has_thread
 
 -- what is done by a row that gives a ring a number counts in the order of `RowStage`, from 0; then that it fails, that the number is lost and that it is done. Our own rule
 abbrev pub word_of_row : RowOnto → ℕ

@@ -3,11 +3,11 @@ ghost use Rattle.std.specs.Prelude.{◌≡◌, ◌+◌, ◌≤◌, ◌<◌, leng
 ghost use Rattle.uring_register.specs.Enrolling.{Enrolling, Enrolled, Dismissed, KeepsEnrolled, IsEnrolledAt, HasNoRow, content};
 ghost use Rattle.uring_register.specs.Enrolling as spec;
 ghost use Rattle.uring_register.specs.Numbering as numbering;
-ghost use Rattle.uring_c.specs.PassageForm.{word_of_row, row_stage_of};
+ghost use Rattle.uring_c.specs.PassageForm.{word_of_row, row_stage_of, deed_of};
 
 use uring_register::{
-    RowOnto, RowStage, begin_rows, dismiss, dismissing_fault, enroll, enrolling_fault, named,
-    next_of_row, row_for,
+    Deed, RowOnto, RowStage, begin_rows, dismiss, dismissed_rows, dismissing_fault, enroll,
+    enrolling_fault, is_known, known_behind, named, next_of_row, row_for,
 };
 
 /// No row holds a ring.
@@ -110,15 +110,61 @@ pub extern "C" fn wulgach_dismiss(rows: &mut [u64], row: u32)
     dismiss(rows, row);
 }
 
+/// Returns in which process a thread is known that has done this in this process, and was known in that one before; 0 is none.
+#[unsafe(no_mangle)]
+pub extern "C" fn wulgach_known_behind(
+    before: u32,
+    process: u32,
+    deed: u32,
+    to_submit: u32,
+    has_thread: bool,
+) -> u32
+    ensures { result ≡ spec.known_behind before process (deed_of deed to_submit has_thread) }
+{
+    known_behind(before, process, deed_by(deed, to_submit, has_thread))
+}
+
+fn deed_by(word: u32, to_submit: u32, has_thread: bool) -> Deed
+    ensures { result ≡ deed_of word to_submit has_thread }
+{
+    match word {
+        0 => Deed::SetsUp,
+        1 => Deed::Calls(to_submit, has_thread),
+        2 => Deed::Enrolls,
+        _ => Deed::Calls(0, has_thread),
+    }
+}
+
+/// Whether a thread is known in this process, which was known in that one last.
+#[unsafe(no_mangle)]
+pub extern "C" fn wulgach_is_known(before: u32, process: u32) -> bool
+    ensures { result ≡ spec.is_known before process }
+{
+    is_known(before, process)
+}
+
+/// How many rows of a list are taken by which rings lose their numbers, of a thread that is known or isn't.
+#[unsafe(no_mangle)]
+pub extern "C" fn wulgach_dismissed_rows(is_known: bool, count: u32) -> u32
+    ensures { result ≡ spec.dismissed_rows is_known count }
+{
+    dismissed_rows(is_known, count)
+}
+
 /// Writes the descriptor of a number, and returns 0. Else returns the fault, and writes nothing.
 #[unsafe(no_mangle)]
-pub extern "C" fn wulgach_enrolled_named(rows: &[u64], number: u32, descriptor: &mut u64) -> i32
-    ensures fault { (log : List Enrolling) → KeepsEnrolled log rows.now → result ≡ spec.naming_fault log number }
+pub extern "C" fn wulgach_enrolled_named(
+    rows: &[u64],
+    is_known: bool,
+    number: u32,
+    descriptor: &mut u64,
+) -> i32
+    ensures fault { (log : List Enrolling) → KeepsEnrolled log rows.now → result ≡ spec.naming_fault log is_known number }
     ensures descriptor { (log : List Enrolling) → KeepsEnrolled log rows.now → result ≡ pos 0
         → content log number ≡ descriptor.new + 1 }
     ensures kept { (result ≡ pos 0 → ⊥) → descriptor.new ≡ descriptor.old }
 {
-    match named(rows, number) {
+    match named(rows, is_known, number) {
         Ok(found) => {
             *descriptor = found;
             0

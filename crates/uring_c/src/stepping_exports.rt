@@ -43,10 +43,10 @@ pub extern "C" fn wulgach_reading_steps(has_tags: bool, has_list: bool, is_updat
 
 /// How the file of a descriptor is made, the bit of each step.
 #[unsafe(no_mangle)]
-pub extern "C" fn wulgach_making_steps(is_registered: bool, has_tag: bool) -> u32
-    ensures { result ≡ spec.making_steps is_registered has_tag }
+pub extern "C" fn wulgach_making_steps(is_registered: bool, tag: u64) -> u32
+    ensures { result ≡ spec.making_steps is_registered tag }
 {
-    making_steps(is_registered, has_tag)
+    making_steps(is_registered, tag)
 }
 
 /// How a ring of provided buffers is registered, the bit of each step.
@@ -59,10 +59,10 @@ pub extern "C" fn wulgach_ring_steps() -> u32
 
 /// How the buffer of a row is made that names one, the bit of each step.
 #[unsafe(no_mangle)]
-pub extern "C" fn wulgach_buffer_steps() -> u32
-    ensures { result ≡ spec.buffer_steps }
+pub extern "C" fn wulgach_buffer_steps(tag: u64) -> u32
+    ensures { result ≡ spec.buffer_steps tag }
 {
-    buffer_steps()
+    buffer_steps(tag)
 }
 
 /// How a list of so many restrictions is registered, the bit of each step.

@@ -1,6 +1,8 @@
 -- Which rings a thread has by number, by what has happened, the newest first. io_uring_register(2), IORING_REGISTER_RING_FDS and IORING_UNREGISTER_RING_FDS; io_uring_enter(2), IORING_ENTER_REGISTERED_RING. The order of faults is what Linux 6.18 was seen to do.
-use Rattle.std.specs.Prelude.{◌≡◌, ℕ, ℤ, pos, ◌+◌, ◌<◌, ◌≤◌, Bool, not, ◌&&◌, ◌||◌, ◌==◌, nat_le, min, length, slice_index_or, List, [], ◌∷◌, if◌then◌else◌}
+use Rattle.std.specs.Prelude.{◌≡◌, ℕ, ℤ, pos, ◌+◌, ◌<◌, ◌≤◌, Bool, true, not, ◌&&◌, ◌||◌, ◌==◌, nat_le, min, length, slice_index_or, List, [], ◌∷◌, if◌then◌else◌}
 use Rattle.uring_register.specs.Tables.{IsFirstFree, NoneIsFree}
+use Rattle.uring_register.specs.declared.enrolled.Deed.{Deed}
+use Rattle.uring_register.specs.declared.enrolled.Deed.TheVariants.{SetsUp, Calls, Enrolls}
 pub use Rattle.uring_entry.specs.Errors.{error, is_below}
 
 -- a thread has 16 rows
@@ -42,11 +44,29 @@ abbrev pub dismissing_fault : ℕ → Bool → Bool → ℤ
 dismissing_fault row reserved has_data =
     if reserved || has_data || nat_le 16 row then error 22 else pos 0
 
--- a number past the last row is -22, and one of a free row -9. Linux says -22 of each number to a thread that has set up no ring and called on none
-abbrev pub naming_fault : List Enrolling → ℕ → ℤ
-naming_fault log number =
-    if nat_le 16 number then error 22 else
+-- whether a thread becomes known to io_uring by what it does: as it makes a ring or gives rings numbers, or as it is asked to submit, whatever is published, but not on a ring whose own thread takes entries (IORING_SETUP_SQPOLL). No other call makes it known, as one that waits, cancels or registers files. What Linux 6.18 was seen to do
+abbrev pub makes_known : Deed → Bool
+makes_known SetsUp = true
+makes_known (Calls to_submit has_thread) = not (to_submit == 0) && not has_thread
+makes_known Enrolls = true
+
+-- in which process it is known then, which was so before in that one, 0 if in none
+abbrev pub known_behind : (before process : ℕ) → Deed → ℕ
+known_behind before process deed = if makes_known deed then process else before
+
+-- whether it is known in this process. A child's thread isn't by what its parent's did, whose rows it hasn't either. fork(2)
+abbrev pub is_known : (before process : ℕ) → Bool
+is_known before process = before == process
+
+-- a number past the last row is -22, and so is each number to a thread that isn't known; and one of a free row is -9
+abbrev pub naming_fault : List Enrolling → Bool → ℕ → ℤ
+naming_fault log known number =
+    if not known || nat_le 16 number then error 22 else
     if content log number == 0 then error 9 else pos 0
+
+-- how many rows of a list are taken by which rings lose their numbers: none of a thread that isn't known, so that its call ends with 0 whatever they say
+abbrev pub dismissed_rows : Bool → ℕ → ℕ
+dismissed_rows known count = if known then count else 0
 
 -- glue: the rows' words after all this
 pub record KeepsEnrolled (log : List Enrolling) (rows : List ℕ) : Type 0 where

@@ -78,13 +78,52 @@ pub fn dismiss(rows: &mut [u64], row: u32)
     put(rows, row, 0);
 }
 
-/// The descriptor of a number, or the fault.
-pub fn named(rows: &[u64], number: u32) -> Result<u64, i32>
-    ensures { (log : List Enrolling) → KeepsEnrolled log rows.now
-        → MatchResult result (λ descriptor. (spec.naming_fault log number ≡ pos 0) × (content log number ≡ descriptor + 1))
-        (λ fault. (fault ≡ spec.naming_fault log number) × (spec.is_below fault ≡ true)) }
+/// What a thread does by which it may become known to io_uring.
+#[derive(Clone, Copy, Drop)]
+pub enum Deed {
+    /// It makes a ring.
+    SetsUp,
+
+    /// It makes a call of io_uring_enter(2) that passes, which asks for so many entries, on a ring with a thread of its own or without.
+    Calls(u32, bool),
+
+    /// It makes a call that gives rings numbers, whose count passes.
+    Enrolls,
+}
+
+/// In which process a thread is known that has done this in this process, and was known in that one before; 0 is none.
+pub fn known_behind(before: u32, process: u32, deed: Deed) -> u32
+    ensures { result ≡ spec.known_behind before process deed }
 {
-    if number >= ROWS {
+    let is_made_known = match deed {
+        Deed::SetsUp => true,
+        Deed::Calls(to_submit, has_thread) => to_submit != 0 && !has_thread,
+        Deed::Enrolls => true,
+    };
+    if is_made_known { process } else { before }
+}
+
+/// Whether a thread is known in this process, which was known in that one last.
+pub fn is_known(before: u32, process: u32) -> bool
+    ensures { result ≡ spec.is_known before process }
+{
+    before == process
+}
+
+/// How many rows of a list are taken by which rings lose their numbers, of a thread that is known or isn't.
+pub fn dismissed_rows(is_known: bool, count: u32) -> u32
+    ensures { result ≡ spec.dismissed_rows is_known count }
+{
+    if is_known { count } else { 0 }
+}
+
+/// The descriptor of a number, or the fault.
+pub fn named(rows: &[u64], is_known: bool, number: u32) -> Result<u64, i32>
+    ensures { (log : List Enrolling) → KeepsEnrolled log rows.now
+        → MatchResult result (λ descriptor. (spec.naming_fault log is_known number ≡ pos 0) × (content log number ≡ descriptor + 1))
+        (λ fault. (fault ≡ spec.naming_fault log is_known number) × (spec.is_below fault ≡ true)) }
+{
+    if !is_known || number >= ROWS {
         return Err(-22);
     }
     match word_at(rows, number) {

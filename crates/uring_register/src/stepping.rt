@@ -10,11 +10,11 @@ pub fn reading_steps(has_tags: bool, has_list: bool, is_update: bool) -> u32
     bit(1, has_tags) | bit(2, has_list || is_update)
 }
 
-/// How the file of a descriptor is made, which is to be registered, with a tag or without, or is held for a request: one that is to be registered is open (1), there is memory for its tag (2); it is no ring's (4), and it is copied (8).
-pub fn making_steps(is_registered: bool, has_tag: bool) -> u32
-    ensures { result ≡ spec.making_steps is_registered has_tag }
+/// How the file of a descriptor is made, which is to be registered, with this tag, 0 being none, or is held for a request: one that is to be registered is open (1), there is memory for its tag (2); it is no ring's (4), and it is copied (8).
+pub fn making_steps(is_registered: bool, tag: u64) -> u32
+    ensures { result ≡ spec.making_steps is_registered tag }
 {
-    bit(1, is_registered) | bit(2, is_registered && has_tag) | bit(4, true) | bit(8, true)
+    bit(1, is_registered) | bit(2, is_registered && has_tag(tag)) | bit(4, true) | bit(8, true)
 }
 
 /// How a ring of provided buffers is registered: its form is looked at (1), then its pages (2), and there is memory for its group (4).
@@ -24,11 +24,17 @@ pub fn ring_steps() -> u32
     bit(1, true) | bit(2, true) | bit(4, true)
 }
 
-/// How the buffer of a row is made that names one: its pages are looked at (1), and there is memory for it and for its tag (2).
-pub fn buffer_steps() -> u32
-    ensures { result ≡ spec.buffer_steps }
+/// How the buffer of a row is made that names one, with this tag, 0 being none: its pages are looked at (1), and there is memory for its tag (2) and for it (4).
+pub fn buffer_steps(tag: u64) -> u32
+    ensures { result ≡ spec.buffer_steps tag }
 {
-    bit(1, true) | bit(2, true)
+    bit(1, true) | bit(2, has_tag(tag)) | bit(4, true)
+}
+
+fn has_tag(tag: u64) -> bool
+    ensures { result ≡ spec.has_tag tag }
+{
+    tag != 0
 }
 
 /// How a list of so many restrictions is registered: the ring and the length of the list are looked at (1), the list is read, if it has rows (2), and its rows are taken, one behind the other (4).
