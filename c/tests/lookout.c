@@ -254,6 +254,7 @@ static void sleep_or_not(void)
 /* The thread's stack has a hundred bytes from 1000 on, and its handlers' ten from 1040 on. */
 static void jump(void)
 {
+    demand(wulgach_has_mark(7, true, 7) && !wulgach_has_mark(7, true, 8) && !wulgach_has_mark(7, false, 7), "a mark that stands");
     demand(LEFT(.place = 1050, .from = 1050, .here = 1040) && !ASKS(.place = 1050, .from = 1050, .here = 1060), "a mark that is gone");
     demand(!ASKS(.is_marked = true, .place = 1050, .from = 1050, .here = 1040) && !LEFT(.is_marked = true, .place = 1050, .from = 1050, .here = 1040, .own_lowest = 1000, .own_size = 100), "from below");
     demand(ASKS(.is_marked = true, .place = 1050, .from = 1050, .here = 1060) && LEFT(.is_marked = true, .place = 1050, .from = 1050, .here = 1060, .own_lowest = 1000, .own_size = 100), "from above");

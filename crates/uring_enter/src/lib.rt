@@ -276,6 +276,7 @@ pub use instance::poll_start;
 pub use instance::present_of;
 pub use jumping::SeenSleep;
 pub use jumping::asks_stacks;
+pub use jumping::has_mark;
 pub use jumping::was_left;
 pub use keeping::asks_locks;
 pub use keeping::asks_whether_same;
