@@ -127,6 +127,9 @@ bool wulgach_looks_at_path(const struct wulgach_submission *entry, uint64_t how)
 uint64_t wulgach_looking_flags(const struct wulgach_submission *entry, uint64_t how);
 uint64_t wulgach_found_flags(const struct wulgach_submission *entry, uint64_t how);
 
+/* Whether its path is opened in the place of that, whose opening came to this: behind -2 (ENOENT) there is no /proc. Our own rule. */
+bool wulgach_opens_by_path(int32_t res);
+
 /* A request stands so whose path was looked up as it starts, and names a pipe or doesn't: if it does, it may have to wait for its descriptor, though
  * it has none. Our own rule. */
 void wulgach_standing_behind_path(struct wulgach_standing *standing, bool names_pipe);
@@ -141,6 +144,10 @@ enum wulgach_opening {
 /* Returns how the call of an entry is made (enum wulgach_opening), whose path was found to name a pipe, or wasn't: a pipe that was looked up is opened so.
  * Else OPENAT and OPENAT2 are asked not to wait, but of a path alone and of a folder, and where the flags say so themselves. */
 uint32_t wulgach_opening_of(const struct wulgach_submission *entry, uint64_t how, bool names_pipe);
+
+/* Returns with which flags a path is opened that is asked not to wait, whose open has these: O_NONBLOCK besides. Of its file that is taken back as
+ * wulgach_flags_behind has it. */
+uint64_t wulgach_unwilling_flags(uint64_t flags);
 
 /* Whether an open that was asked not to wait, and came to this, is made once more without that: behind -11 (EWOULDBLOCK), which a lease is waited
  * for (open(2)). */

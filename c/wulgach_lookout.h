@@ -209,6 +209,11 @@ uint32_t wulgach_glance_of(bool is_impatient, bool is_of_many, int32_t came, uin
  * bytes, which comes to -32 (EPIPE) then; and who sleeps naps meanwhile. */
 bool wulgach_asks_broken(const struct wulgach_submission *entry, uint32_t family, uint32_t kind);
 
+/* Whether a request is found ready: a look has shown it so (WULGACH_GLANCE_READY); or it is to be carried out once whatever its descriptor shows
+ * (wulgach_is_tried_first), and wasn't yet; or its socket was shut down so. And whether that is asked for it: else it may be either. Our own rule. */
+bool wulgach_is_found_ready(bool is_shown, bool is_tried_first, bool was_tried, bool is_broken);
+bool wulgach_asks_breaking(bool is_shown, bool is_tried_first, bool was_tried);
+
 /* ---- sleeps that were left ---- */
 
 /* Whether a sleep has this mark still, where its frame can be read and this was found there, or it can't: a stack that is no memory any more was left.

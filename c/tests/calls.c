@@ -209,6 +209,8 @@ static void look_at_opens(void)
     struct wulgach_submission reads = opening(OPENAT, O_NOFOLLOW | O_CLOEXEC, false), writes = opening(OPENAT, O_WRONLY | O_APPEND, false);
     demand(wulgach_looking_flags(&reads, 0) == (O_PATH | O_CLOEXEC | O_NOFOLLOW) && wulgach_looking_flags(&writes, O_NOFOLLOW) == (O_PATH | O_CLOEXEC), "how it is looked up");
     demand(wulgach_found_flags(&reads, 0) == (O_NONBLOCK | O_CLOEXEC) && wulgach_found_flags(&writes, O_RDWR) == (O_WRONLY | O_APPEND | O_NONBLOCK), "how what was found is opened");
+    demand(wulgach_opens_by_path(-2) && !wulgach_opens_by_path(-6) && !wulgach_opens_by_path(3), "where there is no /proc");
+    demand(wulgach_unwilling_flags(O_RDWR | O_CREAT) == (O_RDWR | O_CREAT | O_NONBLOCK) && wulgach_unwilling_flags((uint64_t)1 << 63) == ((uint64_t)1 << 63 | O_NONBLOCK), "how an open is asked not to wait");
     struct wulgach_standing file = {.has_found_buffer = true}, stream = {.is_stream = true};
     wulgach_standing_behind_path(&file, false);
     wulgach_standing_behind_path(&stream, false);

@@ -299,6 +299,8 @@ static void lie(void)
     demand(wulgach_instance_answered(64, 64) == WULGACH_INSTANCE_ASKS && wulgach_instance_answered(63, 64) == WULGACH_INSTANCE_IS_DONE && wulgach_instance_answered(0, 64) == WULGACH_INSTANCE_IS_DONE && wulgach_instance_answered(-1, 64) == WULGACH_INSTANCE_ROUSES, "what an instance answers");
     struct wulgach_submission write = {.opcode = 23}, send = {.opcode = 26}, receive = {.opcode = 27};
     demand(wulgach_asks_broken(&write, 1, 1) && wulgach_asks_broken(&send, 1, 1) && !wulgach_asks_broken(&receive, 1, 1) && !wulgach_asks_broken(&send, 2, 1) && !wulgach_asks_broken(&send, 1, 2), "what is asked whether it was shut down for writing");
+    demand(wulgach_is_found_ready(true, false, true, false) && wulgach_is_found_ready(false, true, false, false) && !wulgach_is_found_ready(false, true, true, false) && wulgach_is_found_ready(false, true, true, true) && !wulgach_is_found_ready(false, false, false, false), "what is found ready");
+    demand(wulgach_asks_breaking(false, true, true) && wulgach_asks_breaking(false, false, false) && !wulgach_asks_breaking(true, false, false) && !wulgach_asks_breaking(false, true, false), "for what that is asked");
     demand(wulgach_glance_of(true, true, -1, 0) == WULGACH_GLANCE_READY && wulgach_glance_of(false, true, -1, 0) == WULGACH_GLANCE_ASKS_ALONE && wulgach_glance_of(false, false, -1, 0) == WULGACH_GLANCE_READY && wulgach_glance_of(false, true, 1, 4) == WULGACH_GLANCE_READY && wulgach_glance_of(false, true, 1, 0) == WULGACH_GLANCE_UNREADY, "a look");
 }
 
