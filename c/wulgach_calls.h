@@ -107,6 +107,27 @@ uint32_t wulgach_asked_descriptors(uint8_t code);
 bool wulgach_asked_flags(bool is_known, uint32_t flags, uint32_t *asked);
 bool wulgach_flags_behind(bool was_asked, bool is_known, uint32_t flags, uint32_t *behind);
 
+/* What is known of the lock of a byte that no file has (fcntl(2), F_SETLK), by which processes that have one open file keep each other from such calls. */
+struct wulgach_locked {
+    uint32_t tries;             /* how often it was tried, */
+    int32_t came_to;            /* and what the last try came to: 0, or the negative of an error number */
+    bool is_of_application;     /* the application has a lock on that byte */
+    bool is_of_others;          /* another process has one there that means something else, as that of a whole file */
+};
+
+/* What is done for it. */
+enum wulgach_locking {
+    WULGACH_LOCKING_TRIES = 0,
+    WULGACH_LOCKING_YIELDS = 1,         /* it is tried once others have had a moment, */
+    WULGACH_LOCKING_PAUSES = 2,         /* or behind a pause */
+    WULGACH_LOCKING_HOLDS = 3,          /* it is had, or nobody can have it: the call is made, and it is given back */
+    WULGACH_LOCKING_GOES_WITHOUT = 4    /* the call is made without */
+};
+
+/* Returns what is next (enum wulgach_locking): it is tried 2,000 times at most, the first twenty behind the first one without a pause, and had unless
+ * a try comes to -11 (EAGAIN) or -13 (EACCES). Where the application has a lock there, or others have, no more is tried. Our own rule. */
+uint32_t wulgach_locking_next(const struct wulgach_locked *locked);
+
 /* Whether an end of a splice is asked so: no pipe, and no regular file, which never waits. Our own rule. */
 bool wulgach_asks_end(bool is_pipe, bool is_regular);
 

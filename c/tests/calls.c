@@ -265,11 +265,15 @@ static void look_at_calls(void)
     }
 }
 
+#define LOCKING(...) wulgach_locking_next(&(struct wulgach_locked){__VA_ARGS__})
+
 static void ask_descriptors(void)
 {
     uint32_t flags = 7;
     for (unsigned code = 0; code < 64; code++)
         demand(wulgach_asked_descriptors((uint8_t)code) == (code == 13 || code == 16 ? 1u : code == 30 || code == 33 ? 2u : 0u), "of how many descriptors it is asked");
+    demand(LOCKING(0) == WULGACH_LOCKING_TRIES && LOCKING(.is_of_application = true) == WULGACH_LOCKING_GOES_WITHOUT && LOCKING(.tries = 1) == WULGACH_LOCKING_HOLDS && LOCKING(.tries = 1, .came_to = -9) == WULGACH_LOCKING_HOLDS, "a lock that is had");
+    demand(LOCKING(.tries = 20, .came_to = -11) == WULGACH_LOCKING_YIELDS && LOCKING(.tries = 21, .came_to = -13) == WULGACH_LOCKING_PAUSES && LOCKING(.tries = 2000, .came_to = -11) == WULGACH_LOCKING_GOES_WITHOUT && LOCKING(.tries = 1, .came_to = -11, .is_of_others = true) == WULGACH_LOCKING_GOES_WITHOUT, "one that another has");
     demand(!wulgach_asked_flags(false, 2, &flags) && !wulgach_asked_flags(true, O_NONBLOCK | 2, &flags) && flags == 7, "what isn't to wait anyway");
     demand(wulgach_asked_flags(true, O_APPEND | 2, &flags) && flags == (O_APPEND | O_NONBLOCK | 2), "what is asked");
     demand(!wulgach_flags_behind(false, true, O_NONBLOCK, &flags) && !wulgach_flags_behind(true, false, O_NONBLOCK, &flags) && !wulgach_flags_behind(true, true, 2, &flags) && flags == (O_APPEND | O_NONBLOCK | 2), "what isn't taken back");
