@@ -87,12 +87,10 @@ void wulgach_group_unregister(struct wulgach_group *group);
 /* How many bytes an operation that wants so many has of a provided buffer of this length. 0 wants all. */
 uint32_t wulgach_buffer_part(uint64_t wanted, uint32_t length);
 
-/* The flags of the completion of an operation that had a provided buffer (IORING_CQE_F_BUFFER and its number), or 0 if it hasn't taken it:
- * it has if it moved bytes, and a transfer also at the end of its file. */
-uint32_t wulgach_buffer_flags(int32_t res, bool is_transfer, uint16_t id);
-
-/* The same of an operation that would have to wait, and has put so many bytes into its buffer so far: it has taken that if there are any. */
-uint32_t wulgach_buffer_flags_so_far(uint32_t moved, uint16_t id);
+/* The flags of the completion of an operation that had a provided buffer (IORING_CQE_F_BUFFER and its number), or 0 if it hasn't taken it: it has if it
+ * came to bytes, and a transfer also at the end of its file. One that would have to wait has taken it if it has put any bytes there so far, whatever
+ * it came to. */
+uint32_t wulgach_buffer_flags(bool would_wait, uint32_t moved, int32_t res, bool is_transfer, uint16_t id);
 
 /* Whether it has taken its buffer, by these flags: then that is taken out of its group (wulgach_group_take). */
 bool wulgach_buffer_is_taken(uint32_t flags);

@@ -107,6 +107,27 @@ uint32_t wulgach_asked_descriptors(uint8_t code);
 bool wulgach_asked_flags(bool is_known, uint32_t flags, uint32_t *asked);
 bool wulgach_flags_behind(bool was_asked, bool is_known, uint32_t flags, uint32_t *behind);
 
+/* What is known of the lock of a byte that no file has (fcntl(2), F_SETLK), by which processes that have one open file keep each other from such calls. */
+struct wulgach_locked {
+    uint32_t tries;             /* how often it was tried, */
+    int32_t came_to;            /* and what the last try came to: 0, or the negative of an error number */
+    bool is_of_application;     /* the application has a lock on that byte */
+    bool is_of_others;          /* another process has one there that means something else, as that of a whole file */
+};
+
+/* What is done for it. */
+enum wulgach_locking {
+    WULGACH_LOCKING_TRIES = 0,
+    WULGACH_LOCKING_YIELDS = 1,         /* it is tried once others have had a moment, */
+    WULGACH_LOCKING_PAUSES = 2,         /* or behind a pause */
+    WULGACH_LOCKING_HOLDS = 3,          /* it is had, or nobody can have it: the call is made, and it is given back */
+    WULGACH_LOCKING_GOES_WITHOUT = 4    /* the call is made without */
+};
+
+/* Returns what is next (enum wulgach_locking): it is tried 2,000 times at most, the first twenty behind the first one without a pause, and had unless
+ * a try comes to -11 (EAGAIN) or -13 (EACCES). Where the application has a lock there, or others have, no more is tried. Our own rule. */
+uint32_t wulgach_locking_next(const struct wulgach_locked *locked);
+
 /* Whether an end of a splice is asked so: no pipe, and no regular file, which never waits. Our own rule. */
 bool wulgach_asks_end(bool is_pipe, bool is_regular);
 
@@ -127,6 +148,9 @@ bool wulgach_looks_at_path(const struct wulgach_submission *entry, uint64_t how)
 uint64_t wulgach_looking_flags(const struct wulgach_submission *entry, uint64_t how);
 uint64_t wulgach_found_flags(const struct wulgach_submission *entry, uint64_t how);
 
+/* Whether its path is opened in the place of that, whose opening came to this: behind -2 (ENOENT) there is no /proc. Our own rule. */
+bool wulgach_opens_by_path(int32_t res);
+
 /* A request stands so whose path was looked up as it starts, and names a pipe or doesn't: if it does, it may have to wait for its descriptor, though
  * it has none. Our own rule. */
 void wulgach_standing_behind_path(struct wulgach_standing *standing, bool names_pipe);
@@ -141,6 +165,10 @@ enum wulgach_opening {
 /* Returns how the call of an entry is made (enum wulgach_opening), whose path was found to name a pipe, or wasn't: a pipe that was looked up is opened so.
  * Else OPENAT and OPENAT2 are asked not to wait, but of a path alone and of a folder, and where the flags say so themselves. */
 uint32_t wulgach_opening_of(const struct wulgach_submission *entry, uint64_t how, bool names_pipe);
+
+/* Returns with which flags a path is opened that is asked not to wait, whose open has these: O_NONBLOCK besides. Of its file that is taken back as
+ * wulgach_flags_behind has it. */
+uint64_t wulgach_unwilling_flags(uint64_t flags);
 
 /* Whether an open that was asked not to wait, and came to this, is made once more without that: behind -11 (EWOULDBLOCK), which a lease is waited
  * for (open(2)). */

@@ -246,6 +246,9 @@ enum wulgach_timing {
 bool wulgach_is_timeout(uint8_t code);
 bool wulgach_is_linked_timeout(uint8_t code);
 
+/* Whether it is either: then it is asked what becomes of its time by what happens to itself. */
+bool wulgach_is_timed(uint8_t code);
+
 /* Returns what becomes of a timeout's time (enum wulgach_timing) when a request starts, when a cancel finds one, and when one has ended. The
  * time of a linked timeout runs while the request runs that it limits. That of another runs from its own start on, unless a cancel has found
  * it before (`is_found`), until it ends or a cancel finds it. */

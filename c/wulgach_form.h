@@ -218,6 +218,10 @@ struct wulgach_strict {
     bool has_skipped;   /* an entry had IOSQE_CQE_SKIP_SUCCESS, and wasn't refused for that */
 };
 
+/* Returns with which flags the set-up of a strict ring, which has these, asks the kernel: all but IORING_SETUP_ATTACH_WQ, since what it names is no ring of
+ * the kernel's. Our own rule. */
+uint32_t wulgach_strict_flags_asked(uint32_t flags);
+
 /* Begins a ring that has seen no entry. */
 void wulgach_strict_begin(struct wulgach_strict *strict);
 

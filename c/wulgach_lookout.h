@@ -204,11 +204,21 @@ enum wulgach_glance {
  * wulgach_counts_as_ready has it. */
 uint32_t wulgach_glance_of(bool is_impatient, bool is_of_many, int32_t came, uint16_t events);
 
-/* ---- sleeps that were left ---- */
 /* Whether a request whose socket was found unready, of this family and type (socket(2)), is ready all the same if that was shut down for writing, or its
  * peer for reading: a write or a send by a local socket of streams (AF_UNIX, SOCK_STREAM), of which no poll(2) tells that. It is asked by a send of no
  * bytes, which comes to -32 (EPIPE) then; and who sleeps naps meanwhile. */
 bool wulgach_asks_broken(const struct wulgach_submission *entry, uint32_t family, uint32_t kind);
+
+/* Whether a request is found ready: a look has shown it so (WULGACH_GLANCE_READY); or it is to be carried out once whatever its descriptor shows
+ * (wulgach_is_tried_first), and wasn't yet; or its socket was shut down so. And whether that is asked for it: else it may be either. Our own rule. */
+bool wulgach_is_found_ready(bool is_shown, bool is_tried_first, bool was_tried, bool is_broken);
+bool wulgach_asks_breaking(bool is_shown, bool is_tried_first, bool was_tried);
+
+/* ---- sleeps that were left ---- */
+
+/* Whether a sleep has this mark still, where its frame can be read and this was found there, or it can't: a stack that is no memory any more was left.
+ * Our own rule. */
+bool wulgach_has_mark(uint64_t mark, bool is_read, uint64_t found);
 
 /* What a thread that calls sees of a sleep of its own, which a signal's handler may have left by a jump. */
 struct wulgach_seen_sleep {
@@ -217,7 +227,7 @@ struct wulgach_seen_sleep {
     uint64_t here;              /* where the thread calls now */
     uint64_t own_lowest, own_size;              /* the stack that the thread was made with; 0 where that isn't known */
     uint64_t handlers_lowest, handlers_size;    /* the one that its handlers had as the sleep began, or 0 */
-    bool is_marked;             /* its mark stands there still, or it can't be read */
+    bool is_marked;             /* it has its mark still, as wulgach_has_mark has it */
     bool is_on_handlers;        /* the thread runs on its handlers' stack now */
 };
 

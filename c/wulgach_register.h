@@ -91,6 +91,11 @@ bool wulgach_names_descriptor(uint32_t flags);
  * and -19 (ENODEV) of a private copy that is to be written. A mapping may be longer than its part. */
 int32_t wulgach_mapping_fault(const struct wulgach_mapping *asked);
 
+/* Returns which of its flags say where a ring's memory is to be that is mapped so: MAP_FIXED, MAP_FIXED_NOREPLACE and MAP_32BIT; the others change nothing
+ * of what is there. And what may be done with it: PROT_READ and PROT_WRITE. */
+uint32_t wulgach_mapping_placing(const struct wulgach_mapping *asked);
+uint32_t wulgach_mapping_protection(const struct wulgach_mapping *asked);
+
 enum wulgach_fate {
     WULGACH_RING_STAYS = 0,
     WULGACH_RING_ASKS = 1,      /* whether a descriptor of this process is open on it is to be asked */

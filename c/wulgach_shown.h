@@ -133,6 +133,9 @@ void wulgach_watched_add(struct wulgach_watched *watched, uint32_t events, uint6
 /* Returns what is changed (enum wulgach_watch) of a descriptor that was polled for so, or wasn't, and is to be so, or isn't. */
 uint32_t wulgach_watch_of(const struct wulgach_watched *before, bool was_watched, const struct wulgach_watched *after, bool is_watched);
 
+/* Whether a descriptor is added whose renewal came to this: behind -2 (ENOENT, epoll_ctl(2)) its number was another file's. */
+bool wulgach_watch_adds_behind(int32_t res);
+
 /* What a ring's descriptor polls for beside what its requests wait for, as a set of bits. */
 enum wulgach_besides {
     WULGACH_POLLS_WRITES = 1,   /* what tells of writes to pipes */

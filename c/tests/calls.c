@@ -209,6 +209,8 @@ static void look_at_opens(void)
     struct wulgach_submission reads = opening(OPENAT, O_NOFOLLOW | O_CLOEXEC, false), writes = opening(OPENAT, O_WRONLY | O_APPEND, false);
     demand(wulgach_looking_flags(&reads, 0) == (O_PATH | O_CLOEXEC | O_NOFOLLOW) && wulgach_looking_flags(&writes, O_NOFOLLOW) == (O_PATH | O_CLOEXEC), "how it is looked up");
     demand(wulgach_found_flags(&reads, 0) == (O_NONBLOCK | O_CLOEXEC) && wulgach_found_flags(&writes, O_RDWR) == (O_WRONLY | O_APPEND | O_NONBLOCK), "how what was found is opened");
+    demand(wulgach_opens_by_path(-2) && !wulgach_opens_by_path(-6) && !wulgach_opens_by_path(3), "where there is no /proc");
+    demand(wulgach_unwilling_flags(O_RDWR | O_CREAT) == (O_RDWR | O_CREAT | O_NONBLOCK) && wulgach_unwilling_flags((uint64_t)1 << 63) == ((uint64_t)1 << 63 | O_NONBLOCK), "how an open is asked not to wait");
     struct wulgach_standing file = {.has_found_buffer = true}, stream = {.is_stream = true};
     wulgach_standing_behind_path(&file, false);
     wulgach_standing_behind_path(&stream, false);
@@ -263,11 +265,15 @@ static void look_at_calls(void)
     }
 }
 
+#define LOCKING(...) wulgach_locking_next(&(struct wulgach_locked){__VA_ARGS__})
+
 static void ask_descriptors(void)
 {
     uint32_t flags = 7;
     for (unsigned code = 0; code < 64; code++)
         demand(wulgach_asked_descriptors((uint8_t)code) == (code == 13 || code == 16 ? 1u : code == 30 || code == 33 ? 2u : 0u), "of how many descriptors it is asked");
+    demand(LOCKING(0) == WULGACH_LOCKING_TRIES && LOCKING(.is_of_application = true) == WULGACH_LOCKING_GOES_WITHOUT && LOCKING(.tries = 1) == WULGACH_LOCKING_HOLDS && LOCKING(.tries = 1, .came_to = -9) == WULGACH_LOCKING_HOLDS, "a lock that is had");
+    demand(LOCKING(.tries = 20, .came_to = -11) == WULGACH_LOCKING_YIELDS && LOCKING(.tries = 21, .came_to = -13) == WULGACH_LOCKING_PAUSES && LOCKING(.tries = 2000, .came_to = -11) == WULGACH_LOCKING_GOES_WITHOUT && LOCKING(.tries = 1, .came_to = -11, .is_of_others = true) == WULGACH_LOCKING_GOES_WITHOUT, "one that another has");
     demand(!wulgach_asked_flags(false, 2, &flags) && !wulgach_asked_flags(true, O_NONBLOCK | 2, &flags) && flags == 7, "what isn't to wait anyway");
     demand(wulgach_asked_flags(true, O_APPEND | 2, &flags) && flags == (O_APPEND | O_NONBLOCK | 2), "what is asked");
     demand(!wulgach_flags_behind(false, true, O_NONBLOCK, &flags) && !wulgach_flags_behind(true, false, O_NONBLOCK, &flags) && !wulgach_flags_behind(true, true, 2, &flags) && flags == (O_APPEND | O_NONBLOCK | 2), "what isn't taken back");

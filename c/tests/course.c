@@ -66,6 +66,7 @@ static void time_two(void)
 {
     struct wulgach_member read = {.number = 3, .chain = 3, .entry = {.links = true}}, linked = {.number = 4, .chain = 3, .is_linked = true, .entry = {.is_linked_timeout = true}}, plain = {.number = 9, .chain = 9};
     demand(wulgach_is_timeout(11) && !wulgach_is_timeout(15) && wulgach_is_linked_timeout(15) && !wulgach_is_linked_timeout(11) && !wulgach_is_timeout(12), "which are timeouts");
+    demand(wulgach_is_timed(11) && wulgach_is_timed(15) && !wulgach_is_timed(12), "what is timed");
     demand(wulgach_timing_behind_start(&linked, &read, false) == WULGACH_TIMING_BEGINS && wulgach_timing_behind_start(&linked, &linked, false) == WULGACH_TIMING_STAYS, "a linked timeout");
     demand(wulgach_timing_behind_start(&plain, &plain, false) == WULGACH_TIMING_BEGINS && wulgach_timing_behind_start(&plain, &plain, true) == WULGACH_TIMING_STAYS, "another, and one that a cancel has found");
     demand(wulgach_timing_behind_end(&linked, &read) == WULGACH_TIMING_STOPS && wulgach_timing_behind_end(&linked, &linked) == WULGACH_TIMING_STOPS && wulgach_timing_behind_end(&linked, &plain) == WULGACH_TIMING_STAYS, "an end");

@@ -183,6 +183,7 @@ static void be_strict(void)
     struct wulgach_strict strict;
     wulgach_strict_begin(&strict);
     struct wulgach_submission none = {0}, drain = {.flags = 2}, skip = {.flags = 64}, both = {.flags = 66}, selects = {.flags = 32 | 66}, wrong = {.flags = 128 | 66};
+    demand(wulgach_strict_flags_asked(0x60) == 0x40 && wulgach_strict_flags_asked(0xffffffdf) == 0xffffffdf, "another ring's workers");
     demand(wulgach_strict_refusal(&strict, &drain, true, false, true, true) == 0 && wulgach_strict_refusal(&strict, &none, true, false, false, true) == -22, "a drain, an unknown operation");
     demand(wulgach_strict_refusal(&strict, &skip, true, false, true, false) == -22 && wulgach_strict_refusal(&strict, &drain, true, false, true, true) == 0, "a flag that isn't known");
     demand(wulgach_strict_refusal(&strict, &selects, true, false, true, true) == -95 && wulgach_strict_refusal(&strict, &wrong, true, false, true, true) == -22 && wulgach_strict_refusal(&strict, &drain, true, false, true, true) == 0, "faults that go before");

@@ -279,6 +279,7 @@ static void sleep_or_not(void)
 /* The thread's stack has a hundred bytes from 1000 on, and its handlers' ten from 1040 on. */
 static void jump(void)
 {
+    demand(wulgach_has_mark(7, true, 7) && !wulgach_has_mark(7, true, 8) && !wulgach_has_mark(7, false, 7), "a mark that stands");
     demand(LEFT(.place = 1050, .from = 1050, .here = 1040) && !ASKS(.place = 1050, .from = 1050, .here = 1060), "a mark that is gone");
     demand(!ASKS(.is_marked = true, .place = 1050, .from = 1050, .here = 1040) && !LEFT(.is_marked = true, .place = 1050, .from = 1050, .here = 1040, .own_lowest = 1000, .own_size = 100), "from below");
     demand(ASKS(.is_marked = true, .place = 1050, .from = 1050, .here = 1060) && LEFT(.is_marked = true, .place = 1050, .from = 1050, .here = 1060, .own_lowest = 1000, .own_size = 100), "from above");
@@ -323,6 +324,8 @@ static void lie(void)
     demand(wulgach_instance_answered(64, 64) == WULGACH_INSTANCE_ASKS && wulgach_instance_answered(63, 64) == WULGACH_INSTANCE_IS_DONE && wulgach_instance_answered(0, 64) == WULGACH_INSTANCE_IS_DONE && wulgach_instance_answered(-1, 64) == WULGACH_INSTANCE_ROUSES, "what an instance answers");
     struct wulgach_submission write = {.opcode = 23}, send = {.opcode = 26}, receive = {.opcode = 27};
     demand(wulgach_asks_broken(&write, 1, 1) && wulgach_asks_broken(&send, 1, 1) && !wulgach_asks_broken(&receive, 1, 1) && !wulgach_asks_broken(&send, 2, 1) && !wulgach_asks_broken(&send, 1, 2), "what is asked whether it was shut down for writing");
+    demand(wulgach_is_found_ready(true, false, true, false) && wulgach_is_found_ready(false, true, false, false) && !wulgach_is_found_ready(false, true, true, false) && wulgach_is_found_ready(false, true, true, true) && !wulgach_is_found_ready(false, false, false, false), "what is found ready");
+    demand(wulgach_asks_breaking(false, true, true) && wulgach_asks_breaking(false, false, false) && !wulgach_asks_breaking(true, false, false) && !wulgach_asks_breaking(false, true, false), "for what that is asked");
     demand(wulgach_glance_of(true, true, -1, 0) == WULGACH_GLANCE_READY && wulgach_glance_of(false, true, -1, 0) == WULGACH_GLANCE_ASKS_ALONE && wulgach_glance_of(false, false, -1, 0) == WULGACH_GLANCE_READY && wulgach_glance_of(false, true, 1, 4) == WULGACH_GLANCE_READY && wulgach_glance_of(false, true, 1, 0) == WULGACH_GLANCE_UNREADY, "a look");
 }
 

@@ -318,6 +318,8 @@ static void map_rings(void)
     demand(MAPPED(.size = 1, .offset = 1ull << 31, .protection = RUN) == -12 && MAPPED(.size = 1, .flags = SHARED | FIXED) == 0, "an offset");
     demand(MAPPED(.size = 1, .protection = RUN) == -22 && MAPPED(.size = 1, .protection = RUN, .flags = 8) == -22 && MAPPED(.size = 1, .protection = RUN, .flags = VALIDATED | SYNC) == -95 && MAPPED(.size = 1, .flags = SHARED | SYNC) == 0, "a kind");
     demand(MAPPED(.size = 1, .protection = RUN, .flags = SHARED | STACK) == -1 && MAPPED(.size = 1, .flags = SHARED | STACK) == -22 && MAPPED(.size = 1, .protection = WRITE, .flags = PRIVATE) == -19, "a use");
+    struct wulgach_mapping asked = {.protection = READ | WRITE | RUN, .flags = SHARED | FIXED | UNTAKEN | SYNC | 0x40};
+    demand(wulgach_mapping_placing(&asked) == (FIXED | UNTAKEN | 0x40) && wulgach_mapping_protection(&asked) == (READ | WRITE), "where it is, and for what");
     demand(wulgach_names_descriptor(SHARED) && !wulgach_names_descriptor(SHARED | 0x20), "memory of no file");
 }
 

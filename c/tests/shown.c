@@ -26,6 +26,7 @@ static void watch(void)
     demand(wulgach_watch_of(&before, false, &after, true) == WULGACH_WATCH_ADDS && wulgach_watch_of(&before, true, &after, false) == WULGACH_WATCH_REMOVES, "one comes or goes");
     wulgach_watched_add(&after, 1, 6);
     demand(wulgach_watch_of(&before, true, &after, true) == WULGACH_WATCH_RENEWS, "another waits");
+    demand(wulgach_watch_adds_behind(-2) && !wulgach_watch_adds_behind(0) && !wulgach_watch_adds_behind(-1), "a number that another file has");
     demand(wulgach_polls_besides(0, false) == 0 && wulgach_polls_besides(2, false) == WULGACH_POLLS_WRITES && wulgach_polls_besides(0, true) == WULGACH_POLLS_INSTANCE, "what is polled for besides");
 }
 

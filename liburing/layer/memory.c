@@ -123,17 +123,14 @@ int make_file(void)
     return fd < 0 ? -errno : fd;
 }
 
-/* The flags of a mapping that say where it is to be. */
-enum { PLACES = MAP_FIXED | MAP_FIXED_NOREPLACE | MAP_32BIT };
-
 /* A shared mapping of no size that is moved is mapped once more, and stays. It is moved to where the kernel puts memory that is asked for so. */
 static void *map_part(const struct memory *memory, const struct wulgach_mapping *asked)
 {
     void *part = wulgach_region_of(asked->offset) == WULGACH_RINGS ? (void *)memory->sq : memory->entries;
-    void *place = mmap((void *)asked->at, asked->size, PROT_NONE, MAP_PRIVATE | MAP_ANONYMOUS | MAP_NORESERVE | (int)(asked->flags & PLACES), -1, 0);
+    void *place = mmap((void *)asked->at, asked->size, PROT_NONE, MAP_PRIVATE | MAP_ANONYMOUS | MAP_NORESERVE | (int)wulgach_mapping_placing(asked), -1, 0);
     if (place == MAP_FAILED)
         return MAP_FAILED;
-    if (mremap(part, 0, asked->size, MREMAP_MAYMOVE | MREMAP_FIXED, place) != MAP_FAILED && mprotect(place, asked->size, (int)asked->protection & (PROT_READ | PROT_WRITE)) == 0)
+    if (mremap(part, 0, asked->size, MREMAP_MAYMOVE | MREMAP_FIXED, place) != MAP_FAILED && mprotect(place, asked->size, (int)wulgach_mapping_protection(asked)) == 0)
         return place;
     int error = errno;
     munmap(place, asked->size);

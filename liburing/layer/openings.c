@@ -26,10 +26,10 @@ static int32_t open_unwilling(const struct request *request, struct wulgach_syst
     struct open_how how;
     if (request->how) {
         how = *request->how;
-        how.flags |= O_NONBLOCK;
+        how.flags = wulgach_unwilling_flags(how.flags);
         call.third = (uintptr_t)&how;
     } else {
-        call.third |= O_NONBLOCK;
+        call.third = wulgach_unwilling_flags(call.third);
     }
     return make_call(&call);
 }
@@ -72,9 +72,8 @@ static int32_t open_found(const struct request *request, const struct wulgach_sy
     struct open_how how = {.flags = found_flags_of(request), .mode = request->how ? request->how->mode : 0};
     snprintf(name, sizeof name, "/proc/thread-self/fd/%d", request->found_pipe);
     int fd = request->how ? (int)syscall(SYS_openat2, AT_FDCWD, name, &how, sizeof how) : openat(AT_FDCWD, name, (int)how.flags, 0);
-    if (fd >= 0)
-        return fd;
-    return errno == ENOENT ? open_unwilling(request, *call) : -errno;
+    int32_t res = fd < 0 ? -errno : fd;
+    return wulgach_opens_by_path(res) ? open_unwilling(request, *call) : res;
 }
 
 /* Whether a tee would wait for more: one of what nobody writes to comes to its end at once, and none takes anything out. */
@@ -96,10 +95,13 @@ static bool has_writer(int fd)
     return poll(&at, 1, 0) > 0 || has_writer_now(fd);
 }
 
-/* Takes back that a file isn't to wait. */
-static void let_wait(int fd)
+/* Takes back that a file isn't to wait, if one was opened. */
+static void let_wait(int32_t fd)
 {
-    fcntl(fd, F_SETFL, fcntl(fd, F_GETFL) & ~O_NONBLOCK);
+    int flags = fd >= 0 ? fcntl(fd, F_GETFL) : -1;
+    uint32_t behind;
+    if (wulgach_flags_behind(fd >= 0, flags >= 0, (uint32_t)flags, &behind))
+        fcntl(fd, F_SETFL, (int)behind);
 }
 
 /* Opens a path by this call, which is asked not to wait. Returns its descriptor, or the negative of an error number. */
@@ -108,8 +110,7 @@ static int32_t open_at_once(const struct request *request, const struct wulgach_
     int32_t fd = open_unwilling(request, *call);
     if (wulgach_opens_again(fd))
         return make_call(call);
-    if (fd >= 0)
-        let_wait(fd);
+    let_wait(fd);
     return fd;
 }
 
@@ -136,8 +137,7 @@ static int32_t open_pipe(struct request *request, const struct wulgach_system_ca
     request->is_opened = false;
     if (was_opened)
         give_to_application(fd, found_flags_of(request) & O_CLOEXEC);
-    if (fd >= 0)
-        let_wait(fd);
+    let_wait(fd);
     return fd;
 }
 

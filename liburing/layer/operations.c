@@ -67,7 +67,9 @@ bool is_polled(const struct request *request)
 
 bool is_glanced_ready(const struct request *request, uint32_t glance)
 {
-    return glance == WULGACH_GLANCE_READY || (request->is_tried_first && !request->has_called) || is_broken(request);
+    bool is_shown = glance == WULGACH_GLANCE_READY;
+    bool breaks = wulgach_asks_breaking(is_shown, request->is_tried_first, request->has_called) && is_broken(request);
+    return wulgach_is_found_ready(is_shown, request->is_tried_first, request->has_called, breaks);
 }
 
 bool is_ready(const struct request *request)
@@ -266,7 +268,7 @@ static int32_t call_with_buffer(struct ring *ring, struct request *request, bool
         return fault_without_buffer(request);
     uint16_t id = request->provided.id;
     int32_t res = call_into(ring, request, request->provided, is_half);
-    request->flags = res == WOULD_WAIT ? wulgach_buffer_flags_so_far((uint32_t)moved_so_far(request), id) : wulgach_buffer_flags(res, is_transfer(request), id);
+    request->flags = wulgach_buffer_flags(res == WOULD_WAIT, (uint32_t)moved_so_far(request), res, is_transfer(request), id);
     if (wulgach_buffer_is_taken(request->flags))
         take_provided(ring, request->entry.buf_group);
     return res;

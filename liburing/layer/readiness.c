@@ -145,10 +145,10 @@ int change_polled(struct ring *ring, int change, int fd, struct epoll_event *eve
     return epoll_ctl(ring->called_fd, change, fd, event);
 }
 
-static int watch(struct ring *ring, int change, const struct watched *watched)
+static int32_t watch(struct ring *ring, int change, const struct watched *watched)
 {
     struct epoll_event event = {.events = watched->at.events};
-    return change_polled(ring, change, watched->fd, &event);
+    return change_polled(ring, change, watched->fd, &event) < 0 ? -errno : 0;
 }
 
 /* Changes what is watched of one descriptor, or two lists' first: NULL where one has it not. A number that is closed and opened again
@@ -164,7 +164,7 @@ static void watch_change(struct ring *ring, const struct watched *before, const 
         watch(ring, EPOLL_CTL_DEL, before);
         return;
     case WULGACH_WATCH_RENEWS:
-        if (watch(ring, EPOLL_CTL_MOD, after) < 0)
+        if (wulgach_watch_adds_behind(watch(ring, EPOLL_CTL_MOD, after)))
             watch(ring, EPOLL_CTL_ADD, after);
         return;
     default:

@@ -123,8 +123,9 @@ void leave_inner_sleeps(const struct sleeper *sleeper)
 
 static bool has_mark(const struct sleeper *sleeper)
 {
-    uint64_t mark;
-    return copy_in(&mark, (uintptr_t)sleeper->place, sizeof mark) < 0 || mark == sleeper->mark;
+    uint64_t found = 0;
+    bool is_read = copy_in(&found, (uintptr_t)sleeper->place, sizeof found) == 0;
+    return wulgach_has_mark(sleeper->mark, is_read, found);
 }
 
 /* Finds out which stacks the thread has: the one that it was made with, and that of its handlers, as it is now and was as the sleep began. */

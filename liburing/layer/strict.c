@@ -60,9 +60,8 @@ bool is_strict(void)
 
 int ask_set_up(uint32_t entries, const struct io_uring_params *params)
 {
-    /* The ring that shares its workers is the layer's. */
     struct io_uring_params asked = *params;
-    asked.flags &= ~(uint32_t)IORING_SETUP_ATTACH_WQ;
+    asked.flags = wulgach_strict_flags_asked(asked.flags);
     int fd = is_strict() ? make_kernel_ring(entries, &asked) : -1;
     if (fd >= 0)
         close(fd);

@@ -26,6 +26,11 @@ bool is_linked_timeout(const struct request *request)
     return wulgach_is_linked_timeout(request->entry.opcode);
 }
 
+static bool is_timed(const struct request *request)
+{
+    return wulgach_is_timed(request->entry.opcode);
+}
+
 static uint64_t time_of_clock(clockid_t clock)
 {
     struct timespec now;
@@ -103,7 +108,7 @@ struct request *timeout_behind(const struct ring *ring, const struct request *re
 void note_started(struct ring *ring, const struct request *request)
 {
     const struct request *behind = timeout_behind(ring, request);
-    if (is_timeout(request))
+    if (is_timed(request))
         clock_timeout(ring, request, wulgach_timing_behind_start(&request->member, &request->member, request->course.is_cancelled));
     if (behind)
         clock_timeout(ring, behind, wulgach_timing_behind_start(&behind->member, &request->member, behind->course.is_cancelled));
@@ -111,14 +116,14 @@ void note_started(struct ring *ring, const struct request *request)
 
 void note_found(struct ring *ring, const struct request *request)
 {
-    if (is_timeout(request))
+    if (is_timed(request))
         clock_timeout(ring, request, wulgach_timing_behind_finding(&request->member, &request->member));
 }
 
 void note_ended(struct ring *ring, const struct request *request)
 {
     const struct request *behind = timeout_behind(ring, request);
-    if (is_timeout(request) || is_linked_timeout(request))
+    if (is_timed(request))
         clock_timeout(ring, request, wulgach_timing_behind_end(&request->member, &request->member));
     if (behind)
         clock_timeout(ring, behind, wulgach_timing_behind_end(&behind->member, &request->member));

@@ -15,9 +15,8 @@
 #include <stdio.h>
 #include <unistd.h>
 
-/* So often it is tried to lock one that another has, a tenth of a second at least: then that has been stopped, maybe. Behind the first tries this
- * thread sleeps between them. */
-enum { MOST_TRIES = 2000, HASTY_TRIES = 20, PAUSE = 50 };
+/* Between two tries of a lock, in microseconds. */
+enum { PAUSE = 50 };
 
 static const off_t PLACE = (off_t)1 << 62;
 
@@ -33,10 +32,10 @@ void unlock_unwilling(void)
     pthread_mutex_unlock(&only);
 }
 
-static bool set_lock(int fd, short type)
+static int32_t set_lock(int fd, short type)
 {
     struct flock lock = {.l_type = type, .l_whence = SEEK_SET, .l_start = PLACE, .l_len = 1};
-    return fcntl(fd, F_SETLK, &lock) >= 0 || (errno != EAGAIN && errno != EACCES);
+    return fcntl(fd, F_SETLK, &lock) < 0 ? -errno : 0;
 }
 
 /* Whether another has it by a lock that means something else, as that of a whole file. */
@@ -53,20 +52,21 @@ static bool is_of_application(int fd)
     return fcntl(fd, F_OFD_GETLK, &lock) >= 0 && lock.l_type != F_UNLCK && lock.l_pid == getpid();
 }
 
-/* Returns whether it is to be unlocked. */
+/* Does for the lock what the library says. Returns whether it is to be given back. */
 static bool lock_file(int fd)
 {
-    if (is_of_application(fd))
-        return false;
-    for (int tries = 0; tries < MOST_TRIES && !is_of_others(fd); tries++) {
-        if (set_lock(fd, F_WRLCK))
-            return true;
-        if (tries < HASTY_TRIES)
+    struct wulgach_locked locked = {.is_of_application = is_of_application(fd)};
+    uint32_t next;
+    while ((next = wulgach_locking_next(&locked)) < WULGACH_LOCKING_HOLDS) {
+        if (next == WULGACH_LOCKING_YIELDS)
             sched_yield();
-        else
+        else if (next == WULGACH_LOCKING_PAUSES)
             usleep(PAUSE);
+        locked.came_to = set_lock(fd, F_WRLCK);
+        locked.is_of_others = locked.came_to < 0 && is_of_others(fd);
+        locked.tries++;
     }
-    return false;
+    return next == WULGACH_LOCKING_HOLDS;
 }
 
 /* A descriptor that is asked, or none. */

@@ -11,6 +11,7 @@
 #include <signal.h>
 #include <sys/wait.h>
 #include <time.h>
+#include <ucontext.h>
 
 /* ---- what is waited for, and whether it is gone ---- */
 
@@ -247,6 +248,40 @@ static void test_other_stack(void)
     munmap(memory, SIZE);
 }
 
+static struct waited *of_own_stack;
+
+static void wait_on_own_stack(void)
+{
+    enter(&of_own_stack->ring, 0, 1, IORING_ENTER_GETEVENTS);
+    check(false);
+}
+
+/* The wait stood on a stack of the program's own, which is no memory any more. */
+static void test_stack_is_gone(void)
+{
+    enum { SIZE = 1 << 18 };
+    char *memory = mmap(NULL, SIZE, PROT_READ | PROT_WRITE, MAP_PRIVATE | MAP_ANONYMOUS, -1, 0);
+    struct waited waited;
+    static ucontext_t own, rest;
+    check(memory != MAP_FAILED && getcontext(&own) == 0);
+    own.uc_stack = (stack_t){.ss_sp = memory, .ss_size = SIZE};
+    own.uc_link = &rest;
+    makecontext(&own, wait_on_own_stack, 0);
+    make_waited(&waited);
+    of_own_stack = &waited;
+    catch(SIGUSR1, jump, 0);
+    volatile timer_t timer;
+    if (sigsetjmp(back, 1) == 0) {
+        may_jump = 1;
+        timer = signal_soon(SIGUSR1);
+        check(swapcontext(&rest, &own) == 0 && false);
+    }
+    timer_delete(timer);
+    check(munmap(memory, SIZE) == 0);
+    expect_good(&waited);
+    expect_gone(&waited);
+}
+
 static void end_thread(int number)
 {
     (void)number;
@@ -341,6 +376,7 @@ int main(int count, char **words)
         {"left beside a thread", test_left_beside_thread},
         {"wait in a wait", test_wait_in_wait},
         {"other stack", test_other_stack},
+        {"stack is gone", test_stack_is_gone},
         {"thread ends", test_thread_ends},
         {"cancelled behind", test_cancelled_behind},
         {"child jumps", test_child_jumps},

@@ -1,5 +1,7 @@
 -- How an operation is carried out, in words that C can read.
 use Rattle.std.specs.Prelude.{ℕ, ℤ}
+use Rattle.uring_enter.specs.declared.asking.Locking.{Locking}
+use Rattle.uring_enter.specs.declared.asking.Locking.TheVariants.{Tries, Yields, Pauses, Holds, GoesWithout}
 use Rattle.uring_enter.specs.declared.carrying.Source.{Source}
 use Rattle.uring_enter.specs.declared.carrying.Source.TheVariants.{Start, Entry, Fault, HalfOfCalls, Calls}
 use Rattle.uring_enter.specs.declared.carrying.Calls.{Calls as Made}
@@ -24,3 +26,11 @@ word_of_calls OfTransfer = 0
 word_of_calls OfPoll = 1
 word_of_calls InTurn = 2
 word_of_calls Once = 3
+
+-- what is next for a lock counts in the order of `Locking`, from 0. Our own rule
+abbrev pub word_of_locking : Locking → ℕ
+word_of_locking Tries = 0
+word_of_locking Yields = 1
+word_of_locking Pauses = 2
+word_of_locking Holds = 3
+word_of_locking GoesWithout = 4

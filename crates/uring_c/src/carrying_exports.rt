@@ -2,13 +2,13 @@
 ghost use Rattle.std.specs.Prelude.{◌≡◌, true, false, MatchOption};
 ghost use Rattle.uring_enter.specs.Asking as asking;
 ghost use Rattle.uring_enter.specs.Carrying as spec;
-ghost use Rattle.uring_c.specs.CarryingForm.{res_of_source, word_of_calls, word_of_source};
+ghost use Rattle.uring_c.specs.CarryingForm.{res_of_source, word_of_calls, word_of_locking, word_of_source};
 ghost use Rattle.uring_c.specs.MeansForm.{fault_of_word};
 
 use crate::call_exports::fault_of;
 use uring_enter::{
-    Calls, Source, asked_descriptors, asked_flags, calls_of, finish_steps, flags_behind, half_in,
-    source_of,
+    Calls, Locked, Locking, Source, asked_descriptors, asked_flags, calls_of, finish_steps,
+    flags_behind, half_in, next_of_locking, source_of,
 };
 
 /// Returns where the result of the operation of this code comes from, whose start has found this error, or 0, and which is given this fault, or none, and writes the result of a fault that it is given. Else nothing is written.
@@ -95,4 +95,18 @@ pub extern "C" fn wulgach_finish_steps(is_zero_copy: bool) -> u32
     ensures { result ≡ spec.finish_steps is_zero_copy }
 {
     finish_steps(is_zero_copy)
+}
+
+/// Returns what is next for the lock by which processes keep each other from calls whose descriptors are asked not to wait.
+#[unsafe(no_mangle)]
+pub extern "C" fn wulgach_locking_next(locked: &Locked) -> u32
+    ensures { result ≡ word_of_locking (asking.next_of_locking locked.now) }
+{
+    match next_of_locking(locked) {
+        Locking::Tries => 0,
+        Locking::Yields => 1,
+        Locking::Pauses => 2,
+        Locking::Holds => 3,
+        Locking::GoesWithout => 4,
+    }
 }

@@ -1,8 +1,18 @@
 //! Whether a sleep was left by a jump of a signal's handler, for C: functions of `c/wulgach_lookout.h`.
 ghost use Rattle.std.specs.Prelude.{◌≡◌};
 ghost use Rattle.uring_enter.specs.Jumps as spec;
+ghost use Rattle.uring_c.specs.UnknownForm.{known_of};
 
-use uring_enter::{SeenSleep, asks_stacks, was_left};
+use uring_enter::{SeenSleep, asks_stacks, has_mark, was_left};
+
+/// Whether a sleep has this mark still, where its frame can be read and this was found there, or it can't.
+#[unsafe(no_mangle)]
+pub extern "C" fn wulgach_has_mark(mark: u64, is_read: bool, found: u64) -> bool
+    ensures { result ≡ spec.has_mark mark (known_of is_read found) }
+{
+    let known = if is_read { Some(found) } else { None };
+    has_mark(mark, known)
+}
 
 /// Whether it matters which stacks the thread has.
 #[unsafe(no_mangle)]

@@ -9,8 +9,8 @@ ghost use Rattle.uring_c.specs.PassageForm.{word_of_glance, word_of_answered, wo
 ghost use Rattle.uring_c.specs.RingForm.{known_if};
 
 use uring_enter::{
-    Answered, Glance, Gone, Lookout, Submission, Waiter, answer_of, asks_broken, dormant_events,
-    glance_of, takes_descriptor,
+    Answered, Glance, Gone, Lookout, Submission, Waiter, answer_of, asks_breaking, asks_broken,
+    dormant_events, glance_of, is_found_ready, takes_descriptor,
 };
 
 /// Returns what a poll(2), of one descriptor or of many, says of a request.
@@ -36,6 +36,31 @@ pub extern "C" fn wulgach_asks_broken(entry: &Submission, family: u32, kind: u32
     ensures { result ≡ glances.asks_broken entry.now family kind }
 {
     asks_broken(entry, family, kind)
+}
+
+/// Whether a request is found ready, by a look, by what it is, or by its socket.
+#[unsafe(no_mangle)]
+pub extern "C" fn wulgach_is_found_ready(
+    is_shown: bool,
+    is_tried_first: bool,
+    was_tried: bool,
+    is_broken: bool,
+) -> bool
+    ensures { result ≡ glances.is_found_ready is_shown is_tried_first was_tried is_broken }
+{
+    is_found_ready(is_shown, is_tried_first, was_tried, is_broken)
+}
+
+/// Whether it is asked for that if its socket was shut down for writing.
+#[unsafe(no_mangle)]
+pub extern "C" fn wulgach_asks_breaking(
+    is_shown: bool,
+    is_tried_first: bool,
+    was_tried: bool,
+) -> bool
+    ensures { result ≡ glances.asks_breaking is_shown is_tried_first was_tried }
+{
+    asks_breaking(is_shown, is_tried_first, was_tried)
 }
 
 /// The instance has told that its descriptor is ready, by which it is dormant no more.

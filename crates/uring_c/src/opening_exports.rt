@@ -5,7 +5,7 @@ ghost use Rattle.uring_c.specs.OpeningForm.{word_of_opening};
 
 use uring_enter::{
     Opening, Standing, Submission, asks_writer, found_flags, looking_flags, looks_at_path,
-    opening_of, opening_waits, opens_again, standing_behind_path,
+    opening_of, opening_waits, opens_again, opens_by_path, standing_behind_path, unwilling_flags,
 };
 
 /// Whether the path of an entry is looked up as its request starts, whether it names a pipe.
@@ -30,6 +30,22 @@ pub extern "C" fn wulgach_found_flags(entry: &Submission, how: u64) -> u64
     ensures { result ≡ opens.found_flags entry.now how }
 {
     found_flags(entry, how)
+}
+
+/// Whether its path is opened in the place of that, whose opening came to this.
+#[unsafe(no_mangle)]
+pub extern "C" fn wulgach_opens_by_path(res: i32) -> bool
+    ensures { result ≡ opens.opens_by_path res }
+{
+    opens_by_path(res)
+}
+
+/// Returns with which flags a path is opened that is asked not to wait, whose open has these.
+#[unsafe(no_mangle)]
+pub extern "C" fn wulgach_unwilling_flags(flags: u64) -> u64
+    ensures { result ≡ opens.unwilling_flags flags }
+{
+    unwilling_flags(flags)
 }
 
 /// A request stands so whose path was looked up as it starts, and names a pipe or doesn't.

@@ -7,7 +7,7 @@ ghost use Rattle.uring_c.specs.RingForm.{word_of_region, word_of_onto, stage_of,
 
 use uring_enter::{
     Fate, Mapping, Onto, Region, Stage, fate_of, mapping_fault, names_descriptor, next_stage,
-    region_of,
+    placing_flags, protection_of, region_of,
 };
 use uring_register::{holding_fault, telling_fault};
 
@@ -37,6 +37,22 @@ pub extern "C" fn wulgach_mapping_fault(asked: &Mapping) -> i32
     ensures { result ≡ mappings.mapping_fault asked.now }
 {
     mapping_fault(asked)
+}
+
+/// Returns which of its flags say where a ring's memory is to be that is mapped so.
+#[unsafe(no_mangle)]
+pub extern "C" fn wulgach_mapping_placing(asked: &Mapping) -> u32
+    ensures { result ≡ mappings.placing_flags asked.now }
+{
+    placing_flags(asked)
+}
+
+/// And what may be done with it.
+#[unsafe(no_mangle)]
+pub extern "C" fn wulgach_mapping_protection(asked: &Mapping) -> u32
+    ensures { result ≡ mappings.protection_of asked.now }
+{
+    protection_of(asked)
 }
 
 /// Returns what a set-up does behind this, which came to `res`.

@@ -1,8 +1,9 @@
 //! What a strict ring refuses of an entry, for C: functions of `c/wulgach_form.h`.
 ghost use Rattle.std.specs.Prelude.{◌≡◌, List, []};
+ghost use Rattle.uring_enter.specs.Strictness as spec;
 ghost use Rattle.uring_enter.specs.Strictness.{Looked, KeepsStrict, looked_by, refusal_by};
 
-use uring_enter::{Strict, Submission};
+use uring_enter::{Strict, Submission, flags_asked};
 
 /// Begins a strict ring that has seen no entry.
 #[unsafe(no_mangle)]
@@ -28,4 +29,12 @@ pub extern "C" fn wulgach_strict_refusal(
         → KeepsStrict (looked_by log entry.now is_strict linux is_served knows_skip) strict.new }
 {
     strict.refusal_by(entry, is_strict, linux, is_served, knows_skip)
+}
+
+/// Returns with which flags the set-up of a strict ring, which has these, asks the kernel.
+#[unsafe(no_mangle)]
+pub extern "C" fn wulgach_strict_flags_asked(flags: u32) -> u32
+    ensures { result ≡ spec.flags_asked flags }
+{
+    flags_asked(flags)
 }

@@ -14,7 +14,7 @@ ghost use Rattle.uring_c.specs.RingForm.{word_of_timing, word_of_visit, word_of_
 use crate::duty_exports::bit;
 use uring_enter::{
     Awaited, Awaiting, Changing, Course, Member, Receiver, Timing, Visit, is_linked_timeout,
-    is_timeout, posts_message, visit_of, visits_again,
+    is_timed, is_timeout, posts_message, visit_of, visits_again,
 };
 
 /// Whether the operation of this code is a timeout.
@@ -31,6 +31,14 @@ pub extern "C" fn wulgach_is_linked_timeout(code: u8) -> bool
     ensures { result ≡ clocks.is_linked_timeout code }
 {
     is_linked_timeout(code)
+}
+
+/// Whether it is either, so that it is asked what becomes of its time by what happens to itself.
+#[unsafe(no_mangle)]
+pub extern "C" fn wulgach_is_timed(code: u8) -> bool
+    ensures { result ≡ clocks.is_timed code }
+{
+    is_timed(code)
 }
 
 /// Returns what becomes of a timeout's time when a request starts.

@@ -5,7 +5,7 @@ ghost use Rattle.uring_register.specs.Bytes as spec;
 ghost use Rattle.uring_c.specs.UsesForm.{word_of_ending};
 
 use uring_register::{
-    Buffer, Ending, Uses, bytes_fault, flags_of, flags_so_far, further_in, is_taken, part_of,
+    Buffer, Ending, Uses, bytes_fault, flags_behind, further_in, is_taken, part_of,
 };
 
 /// One has a file or buffer, with a tag or without: a slot that is to get it, or a request.
@@ -73,20 +73,18 @@ pub extern "C" fn wulgach_buffer_part(wanted: u64, length: u32) -> u32
     part_of(wanted, length)
 }
 
-/// The flags of the completion of an operation that had the provided buffer of this number: 0 if it hasn't taken it.
+/// The flags of the completion of an operation that had the provided buffer of this number, and came to `res`, or would have to wait and has put so many bytes into it: 0 if it hasn't taken it.
 #[unsafe(no_mangle)]
-pub extern "C" fn wulgach_buffer_flags(res: i32, is_transfer: bool, id: u16) -> u32
-    ensures { result ≡ spec.flags_of res is_transfer id }
+pub extern "C" fn wulgach_buffer_flags(
+    would_wait: bool,
+    moved: u32,
+    res: i32,
+    is_transfer: bool,
+    id: u16,
+) -> u32
+    ensures { result ≡ spec.flags_behind would_wait moved res is_transfer id }
 {
-    flags_of(res, is_transfer, id)
-}
-
-/// The flags of the completion of an operation that would have to wait, and has put so many bytes into the provided buffer of this number so far: 0 if it hasn't taken it.
-#[unsafe(no_mangle)]
-pub extern "C" fn wulgach_buffer_flags_so_far(moved: u32, id: u16) -> u32
-    ensures { result ≡ spec.flags_so_far moved id }
-{
-    flags_so_far(moved, id)
+    flags_behind(would_wait, moved, res, is_transfer, id)
 }
 
 /// Whether an operation has taken the provided buffer that it had, by the flags of its completion: then that is taken out of its group.

@@ -5,7 +5,7 @@ ghost use Rattle.uring_enter.specs.Watching as spec;
 ghost use Rattle.uring_c.specs.MessageForm.{word_of_besides, word_of_watch, watched_of};
 
 use crate::duty_exports::bit;
-use uring_enter::{Watch, Watched, polls_besides, watch_of};
+use uring_enter::{Watch, Watched, adds_behind, polls_besides, watch_of};
 
 /// Begins a descriptor for which nobody waits.
 #[unsafe(no_mangle)]
@@ -54,6 +54,14 @@ fn watch_word(watch: Watch) -> u32
         Watch::Removes => 2,
         Watch::Renews => 3,
     }
+}
+
+/// Whether a descriptor is added whose renewal came to this.
+#[unsafe(no_mangle)]
+pub extern "C" fn wulgach_watch_adds_behind(res: i32) -> bool
+    ensures { result ≡ spec.adds_behind res }
+{
+    adds_behind(res)
 }
 
 /// Returns what a ring's descriptor polls for beside what its requests wait for, where so many pipes are watched, and the ring has an epoll instance for those that are dormant, or none.

@@ -1,5 +1,5 @@
 -- The time and the count that a timeout gives. io_uring_enter(2), IORING_OP_TIMEOUT: IORING_TIMEOUT_ABS is 1, IORING_TIMEOUT_BOOTTIME 4, IORING_TIMEOUT_REALTIME 8 and IORING_TIMEOUT_ETIME_SUCCESS 32.
-use Rattle.std.specs.Prelude.{ℕ, ◌-◌, Bool, not, ◌==◌, Option, Some, None, if◌then◌else◌}
+use Rattle.std.specs.Prelude.{ℕ, ◌-◌, Bool, not, ◌||◌, ◌==◌, Option, Some, None, if◌then◌else◌}
 use Rattle.std.specs.Int.RustNames.{bit_and}
 use Rattle.uring_enter.specs.declared.submission.Submission.{Submission}
 use Rattle.uring_enter.specs.declared.timeout.Clock.{Clock}
@@ -14,6 +14,10 @@ is_timeout code = code == 11
 
 abbrev pub is_linked_timeout : ℕ → Bool
 is_linked_timeout code = code == 15
+
+-- either is timed by what happens to itself too: as it starts, is found and ends, it is asked what becomes of its time
+abbrev pub is_timed : ℕ → Bool
+is_timed code = is_timeout code || is_linked_timeout code
 
 -- the clock of an absolute time: that of the flag, else CLOCK_MONOTONIC. A relative one has none: it lasts so long
 abbrev pub clock_of : Submission → Option Clock

@@ -1,6 +1,11 @@
 -- Whether a sleep was left by a jump of a signal's handler (longjmp(3)), as its thread sees it that calls once more. Our own rules; a stack grows downwards, and handlers may have one of their own, sigaltstack(2).
-use Rattle.std.specs.Prelude.{ℕ, Bool, not, ◌-◌, ◌&&◌, ◌||◌, ◌==◌, nat_le, nat_lt}
+use Rattle.std.specs.Prelude.{ℕ, Bool, false, not, ◌-◌, ◌&&◌, ◌||◌, ◌==◌, nat_le, nat_lt, Option, Some, None}
 use Rattle.uring_enter.specs.declared.jumping.SeenSleep.{SeenSleep}
+
+-- whether a sleep has its mark still, by what stands in its frame, if that can be read: a stack on which a thread sleeps is memory, so one that isn't any more was left
+abbrev pub has_mark : (mark : ℕ) → Option ℕ → Bool
+has_mark mark (Some found) = found == mark
+has_mark mark None = false
 
 -- whether an address stands on a stack of so many bytes from its lowest on. One of no bytes holds none
 abbrev pub is_on : (lowest size at : ℕ) → Bool

@@ -48,3 +48,11 @@ abbrev pub mapping_fault : Mapping → ℤ
 mapping_fault m =
     if is_below (part_fault m) then part_fault m else
     if is_below (kind_fault m) then kind_fault m else use_fault m
+
+-- which flags say where it is to be: MAP_FIXED (16), MAP_32BIT (64) and MAP_FIXED_NOREPLACE (1048576). The rest change nothing of a ring's memory, which is there already
+abbrev pub placing_flags : Mapping → ℕ
+placing_flags m = bit_and m.flags 1048656
+
+-- what may be done with it: PROT_READ (1) and PROT_WRITE (2)
+abbrev pub protection_of : Mapping → ℕ
+protection_of m = bit_and m.protection 3

@@ -17,6 +17,10 @@ flags_of e how = if e.opcode == 28 then how else e.op_flags
 abbrev pub asks_opening : (code flags : ℕ) → Bool
 asks_opening code flags = (code == 18 || code == 28) && not (has_some flags 2164736)
 
+-- with which flags it is opened then: its own, and O_NONBLOCK (2048). It is taken back of the open file as it is of one that was asked for a call (`flags_behind`)
+abbrev pub unwilling_flags : ℕ → ℕ
+unwilling_flags flags = bit_or flags 2048
+
 -- so the open of a named pipe doesn't wait for its other end. It does if a kernel gives it to a worker at once, who doesn't ask: what may make or cut a file (O_CREAT, 64, or O_TRUNC, 512), and an entry that says so (IOSQE_ASYNC, 16)
 abbrev pub goes_to_worker : Submission → (flags : ℕ) → Bool
 goes_to_worker e flags = has_some e.flags 16 || has_some flags 576
@@ -34,6 +38,10 @@ looking_flags e how = bit_or 2621440 (bit_and (flags_of e how) 131072)
 -- what was found is opened through its link in /proc, which is to be followed: with the flags of its open but O_NOFOLLOW, and not to wait (O_NONBLOCK, 2048). proc_pid_fd(5)
 abbrev pub found_flags : Submission → (how : ℕ) → ℕ
 found_flags e how = bit_or (bit_and (flags_of e how) (2 ^ 64 - 1 - 131072)) 2048
+
+-- behind -2 (ENOENT) there is no /proc, since what was found is there as long as its descriptor: then its path is opened, which may name another by now. Our own rule
+abbrev pub opens_by_path : ℤ → Bool
+opens_by_path res = int_eq res (error 2)
 
 -- and one that names a pipe counts as a request that may have to wait for its descriptor, though it has none: so it runs, and is carried out again, until the other end is open. Our own rule
 abbrev pub standing_behind_path : Standing → (names_pipe : Bool) → Standing

@@ -1,5 +1,6 @@
 -- What a ring that goes by a kernel refuses of its entries, by those that it was asked about, the newest first. io_uring_enter(2), IOSQE_CQE_SKIP_SUCCESS: behind one that skips its success a drain couldn't tell when all before it have ended, so the kernel refuses drains for good.
-use Rattle.std.specs.Prelude.{◌≡◌, ℤ, pos, Bool, false, not, ◌&&◌, ◌||◌, List, [], ◌∷◌, if◌then◌else◌}
+use Rattle.std.specs.Prelude.{◌≡◌, ℕ, ℤ, pos, Bool, false, not, ◌&&◌, ◌||◌, List, [], ◌∷◌, if◌then◌else◌}
+use Rattle.std.specs.Int.RustNames.{bit_and}
 use Rattle.uring_enter.specs.declared.strict.Strict.{Strict}
 use Rattle.uring_enter.specs.declared.submission.Submission.{Submission}
 use Rattle.uring_enter.specs.Clocks.{has_some}
@@ -26,6 +27,10 @@ abbrev pub refusal_of : List Looked → Submission → Bool → Bool → ℤ
 refusal_of log e is_served knows_skip =
     if is_below (unserved_fault e is_served knows_skip) then unserved_fault e is_served knows_skip else
     if has_skipped (Looks e is_served knows_skip ∷ log) && has_some e.flags 2 then error 95 else pos 0
+
+-- with which flags a strict ring's set-up asks the kernel: its own, but IORING_SETUP_ATTACH_WQ (32), since what it names is a ring of the layer's. Our own rule
+abbrev pub flags_asked : ℕ → ℕ
+flags_asked flags = bit_and flags 4294967263
 
 -- whether a ring goes by a kernel: a strict one by this machine's, and one by Linux's rules by one that serves all. One by the manual pages' rules refuses nothing so
 abbrev pub goes_by_kernel : (is_strict linux : Bool) → Bool

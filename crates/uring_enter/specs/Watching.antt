@@ -1,6 +1,8 @@
 -- What a ring's descriptor polls for, by the requests that wait for one descriptor. epoll_ctl(2): a number that is closed and opened again is another file, which isn't polled for. That a descriptor is polled for afresh once another request waits for it is our own rule.
-use Rattle.std.specs.Prelude.{◌≡◌, ℕ, max, Bool, true, ◌&&◌, ◌==◌, List, [], ◌∷◌, Option, Some, None, if◌then◌else◌}
+use Rattle.std.specs.Prelude.{◌≡◌, ℕ, ℤ, max, Bool, true, ◌&&◌, ◌==◌, List, [], ◌∷◌, Option, Some, None, if◌then◌else◌}
+use Rattle.std.specs.Ordering.{int_eq}
 use Rattle.std.specs.Int.RustNames.{bit_or}
+use Rattle.uring_entry.specs.Errors.{error}
 use Rattle.uring_enter.specs.Duties.{polls_writes, polls_instance}
 use Rattle.uring_enter.specs.declared.watched.Besides.{Besides}
 use Rattle.uring_enter.specs.declared.watched.Watched.{Watched}
@@ -33,6 +35,10 @@ change_of None (Some after) = Adds
 change_of (Some before) None = Removes
 change_of (Some before) (Some after) =
     if before.events == after.events && before.begun == after.begun then Stays else Renews
+
+-- a renewal that comes to -2 (ENOENT) is of a number that isn't polled for any more, since it was closed, and is another file's: that one is added
+abbrev pub adds_behind : ℤ → Bool
+adds_behind res = int_eq res (error 2)
 
 -- beside what its requests wait for, a ring's descriptor polls for what tells of writes to pipes where any are watched, as a sleep does; and for the epoll instance of those that are dormant as long as there is one, whether any are: so nothing is changed of it as requests become dormant and are roused. Our own rule
 abbrev pub polls_besides : (watched : ℕ) → (has_instance : Bool) → Besides

@@ -2,6 +2,7 @@
 
 ghost use Rattle.std.specs.Prelude.{◌≡◌};
 ghost use Rattle.uring_enter.specs.Glances as spec;
+ghost use Rattle.uring_enter.specs.Glances.{AsksBreakingWhereItMatters};
 
 use crate::needs::{is_send, is_write};
 use crate::ready::counts_as_ready;
@@ -39,3 +40,27 @@ pub fn asks_broken(entry: &Submission, family: u32, kind: u32) -> bool
 {
     family == 1 && kind == 1 && (is_write(entry.opcode) || is_send(entry.opcode))
 }
+
+/// Whether a request is found ready: a look has shown it so; or it is to be carried out once whatever its descriptor shows, and wasn't yet; or its socket was shut down for writing. Our own rule.
+pub fn is_found_ready(
+    is_shown: bool,
+    is_tried_first: bool,
+    was_tried: bool,
+    is_broken: bool,
+) -> bool
+    ensures { result ≡ spec.is_found_ready is_shown is_tried_first was_tried is_broken }
+{
+    is_shown || (is_tried_first && !was_tried) || is_broken
+}
+
+/// Whether it is asked for that if its socket was shut down for writing.
+pub fn asks_breaking(is_shown: bool, is_tried_first: bool, was_tried: bool) -> bool
+    ensures { result ≡ spec.asks_breaking is_shown is_tried_first was_tried }
+{
+    !is_shown && (!is_tried_first || was_tried)
+}
+
+/// Where that isn't asked, it doesn't matter.
+pub fn asks_breaking_where_it_matters()
+    ensures { AsksBreakingWhereItMatters }
+{}

@@ -24,11 +24,21 @@ pub struct SeenSleep {
     pub handlers_lowest: u64,
     pub handlers_size: u64,
 
-    /// Its mark stands there still, or it can't be read.
+    /// It has its mark still.
     pub is_marked: bool,
 
     /// The thread runs on its handlers' stack now.
     pub is_on_handlers: bool,
+}
+
+/// Whether the sleep has this mark still, where that stands which was found, if it could be read.
+pub fn has_mark(mark: u64, found: Option<u64>) -> bool
+    ensures { result ≡ spec.has_mark mark found }
+{
+    match found {
+        Some(word) => word == mark,
+        None => false,
+    }
 }
 
 /// Whether it matters which stacks the thread has.

@@ -44,6 +44,20 @@ pub fn mapping_fault(asked: &Mapping) -> i32
     if fault < 0 { fault } else { use_fault(asked) }
 }
 
+/// Which of its flags say where a ring's memory is to be.
+pub fn placing_flags(asked: &Mapping) -> u32
+    ensures { result ≡ spec.placing_flags asked.now }
+{
+    asked.flags & 0x10_0050
+}
+
+/// What may be done with that memory.
+pub fn protection_of(asked: &Mapping) -> u32
+    ensures { result ≡ spec.protection_of asked.now }
+{
+    asked.protection & 3
+}
+
 /// Why this part isn't mapped at this address, or 0.
 fn part_fault(asked: &Mapping) -> i32
     ensures { result ≡ spec.part_fault asked.now }

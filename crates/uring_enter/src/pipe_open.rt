@@ -67,6 +67,20 @@ pub fn found_flags(entry: &Submission, how: u64) -> u64
     flags_of(entry, how) & !0x2_0000 | 0x800
 }
 
+/// With which flags a path is opened that is asked not to wait, whose open has these.
+pub fn unwilling_flags(flags: u64) -> u64
+    ensures { result ≡ spec.unwilling_flags flags }
+{
+    flags | 0x800
+}
+
+/// Whether the path is opened in the place of the pipe that was found by it, whose opening through its link came to this: there is no /proc.
+pub fn opens_by_path(res: i32) -> bool
+    ensures { result ≡ spec.opens_by_path res }
+{
+    res == -2
+}
+
 /// How a request stands whose path was looked up as it starts, and names a pipe or doesn't. Our own rule.
 pub fn standing_behind_path(standing: &Standing, names_pipe: bool) -> Standing
     ensures { result ≡ spec.standing_behind_path standing.now names_pipe }

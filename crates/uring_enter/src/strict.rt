@@ -1,6 +1,7 @@
 //! What a ring that goes by a kernel refuses of an entry. io_uring_enter(2), IOSQE_CQE_SKIP_SUCCESS; io_uring_register(2), IORING_REGISTER_PROBE.
 
 ghost use Rattle.std.specs.Prelude.{◌≡◌, List, [], ◌∷◌};
+ghost use Rattle.uring_enter.specs.Strictness as spec;
 ghost use Rattle.uring_enter.specs.Strictness.{Looked, Looks, KeepsStrict, looked_by, refusal_by, refusal_of, unserved_fault};
 
 use crate::form::first_fault;
@@ -71,4 +72,11 @@ fn unserved_fault(entry: &Submission, is_served: bool, knows_skip: bool) -> i32
     } else {
         first_fault(entry)
     }
+}
+
+/// With which flags a strict ring's set-up, which has these, asks the kernel: but IORING_SETUP_ATTACH_WQ.
+pub fn flags_asked(flags: u32) -> u32
+    ensures { result ≡ spec.flags_asked flags }
+{
+    flags & 0xffff_ffdf
 }

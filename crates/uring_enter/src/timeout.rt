@@ -2,7 +2,7 @@
 
 ghost use Rattle.std.specs.Prelude.{◌≡◌, ◌-◌};
 ghost use Rattle.uring_enter.specs.Timeouts.{later, nanoseconds_of, ends_before, is_reached_by, with_expiry, cancelled_by, fires, linked_outcome};
-ghost use Rattle.uring_enter.specs.Clocks.{clock_of, count_of, is_linked_timeout, is_timeout, lasts};
+ghost use Rattle.uring_enter.specs.Clocks.{clock_of, count_of, is_linked_timeout, is_timed, is_timeout, lasts};
 
 use crate::submission::Submission;
 
@@ -18,6 +18,13 @@ pub fn is_linked_timeout(code: u8) -> bool
     ensures { result ≡ is_linked_timeout code }
 {
     code == 15
+}
+
+/// Whether it is either: what happens to itself may begin or end its time.
+pub fn is_timed(code: u8) -> bool
+    ensures { result ≡ is_timed code }
+{
+    is_timeout(code) || is_linked_timeout(code)
 }
 
 /// A timeout that starts. io_uring_enter(2), IORING_OP_TIMEOUT and IORING_OP_LINK_TIMEOUT.

@@ -33,6 +33,13 @@ pub enum Watch {
     Renews,
 }
 
+/// Whether a descriptor is added whose renewal came to this: its number was another file's. epoll_ctl(2), ENOENT.
+pub fn adds_behind(res: i32) -> bool
+    ensures { result ≡ spec.adds_behind res }
+{
+    res == -2
+}
+
 /// What a ring's descriptor polls for beside what its requests wait for.
 #[derive(Clone, Copy, Drop)]
 pub struct Besides {

@@ -33,7 +33,7 @@ pub fn part_of(wanted: u64, length: u32) -> u32
 }
 
 /// The flags of the completion of an operation that had the provided buffer of this number, by its result: 0 if it hasn't taken it.
-pub fn flags_of(res: i32, is_transfer: bool, id: u16) -> u32
+fn flags_of(res: i32, is_transfer: bool, id: u16) -> u32
     ensures { result ≡ spec.flags_of res is_transfer id }
 {
     if res > 0 || (res == 0 && is_transfer) {
@@ -59,13 +59,24 @@ pub fn further_in(had: &Buffer, moved: u32) -> Option<Buffer>
 }
 
 /// The flags of the completion of an operation that would have to wait, and has put so many bytes into the provided buffer of this number so far: 0 if it hasn't taken it.
-pub fn flags_so_far(moved: u32, id: u16) -> u32
+fn flags_so_far(moved: u32, id: u16) -> u32
     ensures { result ≡ spec.flags_so_far moved id }
 {
     if moved > 0 {
         1 + id as u32 * 0x1_0000
     } else {
         0
+    }
+}
+
+/// The flags of the completion of an operation that had the provided buffer of this number, whose calls came to `res`, or would have to wait and have put `moved` bytes into it: 0 if it hasn't taken it.
+pub fn flags_behind(would_wait: bool, moved: u32, res: i32, is_transfer: bool, id: u16) -> u32
+    ensures { result ≡ spec.flags_behind would_wait moved res is_transfer id }
+{
+    if would_wait {
+        flags_so_far(moved, id)
+    } else {
+        flags_of(res, is_transfer, id)
     }
 }
 

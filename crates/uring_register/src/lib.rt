@@ -29,8 +29,7 @@ mod use_laws;
 mod uses;
 
 pub use bytes::bytes_fault;
-pub use bytes::flags_of;
-pub use bytes::flags_so_far;
+pub use bytes::flags_behind;
 pub use bytes::further_in;
 pub use bytes::is_taken;
 pub use bytes::part_of;
