@@ -220,14 +220,14 @@ static const struct known {
     {IORING_OP_WRITE, LEN, 0x80000000},
     /* sendmsg(2) and recvmsg(2) refuse MSG_CMSG_COMPAT. */
     {IORING_OP_SENDMSG, OWN, 1u << 31}, {IORING_OP_RECVMSG, OWN, 1u << 31}, {IORING_OP_SEND, OWN, 1u << 31}, {IORING_OP_RECV, OWN, 1u << 31}, {IORING_OP_SEND_ZC, OWN, 1u << 31}, {IORING_OP_SENDMSG_ZC, OWN, 1u << 31},
-    /* What isn't served: timeouts that go on, an accept that doesn't wait or waits first, other cancels, bundles, a send to an address or from provided buffers, registered vectors. */
+    /* What isn't served: timeouts that go on, an accept that doesn't wait or waits first, other cancels, bundles, a send from provided buffers, registered vectors. */
     {IORING_OP_TIMEOUT, OWN, 1u << 6}, {IORING_OP_LINK_TIMEOUT, OWN, 1u << 6},
     {IORING_OP_ACCEPT, PRIORITY, 6},
     {IORING_OP_ASYNC_CANCEL, OWN, 48},
-    {IORING_OP_SEND, PRIORITY, 16}, {IORING_OP_RECV, PRIORITY, 16}, {IORING_OP_SEND, FLAGS, IOSQE_BUFFER_SELECT}, {IORING_OP_SEND, OFF, 0}, {IORING_OP_SEND, OFF_OR, 0},
+    {IORING_OP_SEND, PRIORITY, 16}, {IORING_OP_RECV, PRIORITY, 16}, {IORING_OP_SEND, FLAGS, IOSQE_BUFFER_SELECT},
     {IORING_OP_SENDMSG_ZC, PRIORITY, 4},
-    /* A send without copies is served by any socket, also one that refuses it there, and sendmsg(2) takes an address of no length for none. */
-    {IORING_OP_SEND_ZC, SLOT_OF, 1}, {IORING_OP_SENDMSG_ZC, SLOT_OF, 1}, {IORING_OP_SEND_ZC, OFF, 0}, {IORING_OP_SEND_ZC, OFF_OR, 0},
+    /* A send without copies is served by any socket, also one that refuses it there. */
+    {IORING_OP_SEND_ZC, SLOT_OF, 1}, {IORING_OP_SENDMSG_ZC, SLOT_OF, 1},
     /* A structure of an open has 4,096 bytes at most, and is copied behind what else is wrong with its entry. */
     {IORING_OP_OPENAT2, OFF, 0}, {IORING_OP_OPENAT2, LEN, 0},
     /* A failure that skips its success posts nothing there. */

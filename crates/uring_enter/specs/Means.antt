@@ -11,6 +11,7 @@ use Rattle.uring_enter.specs.Asking.{asked_descriptors}
 use Rattle.uring_enter.specs.Clocks.{has_some}
 use Rattle.uring_enter.specs.Layouts.{call_flags}
 use Rattle.uring_enter.specs.Needs.{is_transfer, is_send, is_of_sockets, is_splice, advised_length}
+use Rattle.uring_enter.specs.Pieces.{address_size}
 use Rattle.uring_enter.specs.Readiness.{has_message_flags}
 use Rattle.uring_enter.specs.SystemCalls as sys
 use Rattle.uring_enter.specs.SystemCalls.{of_three, of_four, of_five, of_six, word_of}
@@ -75,10 +76,20 @@ of_descriptors e h =
     -- SPLICE and TEE
     Splice (splice_of e h)
 
+-- a SEND or a SEND_ZC that names an address, where `off` says
+abbrev pub names_address : Submission → Bool
+names_address e = (e.opcode == 26 || e.opcode == 47) && not (e.off == 0)
+
+-- it is sent by sendto(2), of the bytes that are left: to sendmsg(2) an address of no bytes is none
+abbrev pub send_to : Submission → Held → SystemCall
+send_to e h =
+    of_six sys.sendto (word_of h.fd) h.buffer h.length (call_flags e) h.address (address_size e)
+
 -- operations on sockets. A message is that which is held, and waits for nothing
 abbrev pub of_sockets : Submission → Held → Means
 of_sockets e h =
     -- SENDMSG, SEND, SEND_ZC and SENDMSG_ZC
+    if names_address e then Send (send_to e h) else
     if is_send e.opcode then Send (of_three sys.sendmsg (word_of h.fd) h.value (call_flags e)) else
     -- RECVMSG and RECV
     if e.opcode == 10 then ReceiveMessage (of_three sys.recvmsg (word_of h.fd) h.value (call_flags e)) else

@@ -65,7 +65,7 @@ rule_of code =
     if code == 10 then row (offset + slot) any Receive else
     if code == 13 then row (length + buffer) 526336 Accept else
     if code == 16 then bars (priority + length + own_flags + buffer + slot) else
-    if code == 26 then row offset any Send else
+    if code == 26 then row 0 any Send else
     if code == 27 then row (offset + slot) any Receive else
     if code == 34 then bars (priority + offset + address + own_flags + buffer + slot) else
     if code == 45 then row (priority + address + own_flags + buffer) any Socket else

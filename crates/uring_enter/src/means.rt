@@ -6,11 +6,12 @@ ghost use Rattle.uring_enter.specs.Means.{CallsNeverSleep};
 
 use crate::layout::call_flags;
 use crate::needs::{advised_length, is_send, is_transfer};
+use crate::piece::address_size;
 use crate::submission::Submission;
 use crate::system_call::{
     ACCEPT4, CLOSE, CONNECT, EPOLL_CTL, FADVISE64, FALLOCATE, FDATASYNC, FGETXATTR, FSETXATTR,
     FSYNC, GETXATTR, LINKAT, MADVISE, MKDIRAT, OPENAT, OPENAT2, RECVMSG, RENAMEAT2, SENDMSG,
-    SETXATTR, SHUTDOWN, SOCKET, SPLICE, STATX, SYMLINKAT, SYNC_FILE_RANGE, SystemCall, TEE,
+    SENDTO, SETXATTR, SHUTDOWN, SOCKET, SPLICE, STATX, SYMLINKAT, SYNC_FILE_RANGE, SystemCall, TEE,
     UNLINKAT, word_of,
 };
 
@@ -40,6 +41,15 @@ pub struct Held {
 
     /// and of that where it writes.
     pub offset_out: u64,
+
+    /// Of a send to an address: where its bytes stand that are left,
+    pub buffer: u64,
+
+    /// how many they are,
+    pub length: u64,
+
+    /// and the address.
+    pub address: u64,
 }
 
 /// A list of descriptors, whose files are put into slots.
@@ -293,6 +303,21 @@ fn of_descriptors(entry: &Submission, held: &Held) -> Means
     }
 }
 
+/// What sends to an address.
+fn send_to(entry: &Submission, held: &Held) -> SystemCall
+    ensures { result ≡ spec.send_to entry.now held.now }
+{
+    SystemCall {
+        number: SENDTO,
+        first: word_of(held.fd),
+        second: held.buffer,
+        third: held.length,
+        fourth: call_flags(entry) as u64,
+        fifth: held.address,
+        sixth: address_size(entry),
+    }
+}
+
 /// Operations on sockets.
 fn of_sockets(entry: &Submission, held: &Held) -> Means
     ensures { result ≡ spec.of_sockets entry.now held.now }
@@ -300,6 +325,7 @@ fn of_sockets(entry: &Submission, held: &Held) -> Means
     let (fd, off, addr, len) = (word_of(held.fd), entry.off, entry.addr, entry.len as u64);
     let (value, flags) = (held.value, call_flags(entry) as u64);
     match entry.opcode {
+        26 | 47 if entry.off != 0 => Means::Send(send_to(entry, held)),
         9 | 26 | 47 | 48 => Means::Send(SystemCall::of_three(SENDMSG, fd, value, flags)),
         10 => Means::ReceiveMessage(SystemCall::of_three(RECVMSG, fd, value, flags)),
         27 => Means::Receive(SystemCall::of_three(RECVMSG, fd, value, flags)),

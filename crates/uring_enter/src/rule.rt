@@ -114,7 +114,7 @@ pub fn rule_of(code: u8) -> Option<Rule>
         10 => row(OFFSET | SLOT, ANY, Also::Receive),
         13 => row(LENGTH | BUFFER, OF_SOCKET, Also::Accept),
         16 => bars(PRIORITY | LENGTH | FLAGS | BUFFER | SLOT),
-        26 => row(OFFSET, ANY, Also::Send),
+        26 => row(0, ANY, Also::Send),
         27 => row(OFFSET | SLOT, ANY, Also::Receive),
         34 => bars(PRIORITY | OFFSET | ADDRESS | FLAGS | BUFFER | SLOT),
         45 => row(PRIORITY | ADDRESS | FLAGS | BUFFER, ANY, Also::Socket),
