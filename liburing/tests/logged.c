@@ -1,7 +1,7 @@
 /* A program that is linked with nothing of ours, and whose calls that change files are put into a log. It is run by uring-run, in a folder
  * that counts as the disk.
  *
- *   logged copies | bytes
+ *   logged copies | bytes | lengths
  *
  * Status 0: all was as it is to be. Else a line says what wasn't.
  */
@@ -64,14 +64,19 @@ static void copies(void)
     pthread_exit(NULL);
 }
 
-static long write_by_ring(const struct ring *ring, int file, const void *from, uint32_t length)
+static long result_by_ring(const struct ring *ring, const struct io_uring_sqe *entry)
 {
     static uint32_t tail;
-    ring->entries[0] = (struct io_uring_sqe){.opcode = IORING_OP_WRITE, .fd = file, .addr = (uintptr_t)from, .len = length};
+    ring->entries[0] = *entry;
     __atomic_store_n((uint32_t *)(ring->sq + ring->params.sq_off.tail), ++tail, __ATOMIC_RELEASE);
     WANT(enter(ring, 1, 1, NULL) == 1);
     __atomic_store_n((uint32_t *)(ring->sq + ring->params.cq_off.head), tail, __ATOMIC_RELEASE);
     return ((struct io_uring_cqe *)(ring->cq + ring->params.cq_off.cqes))[(tail - 1) % ring->params.cq_entries].res;
+}
+
+static long write_by_ring(const struct ring *ring, int file, const void *from, uint32_t length)
+{
+    return result_by_ring(ring, &(struct io_uring_sqe){.opcode = IORING_OP_WRITE, .fd = file, .addr = (uintptr_t)from, .len = length});
 }
 
 /* Bytes that can't be read, none or not all of them, are written as far as they can: what stands in the log behind these isn't lost. */
@@ -91,6 +96,17 @@ static void bytes(void)
     WANT(pwrite(file, room, SIZE, 0) == SIZE && write_by_ring(&ring, file, "behind", 6) == 6);
 }
 
+/* A length by a ring is put into the log as one by a call is. */
+static void lengths(void)
+{
+    enum { FTRUNCATE = 55 };
+    struct ring ring = set_up(0);
+    int file = make("length");
+    WANT(write(file, "shorter", 7) == 7);
+    WANT(result_by_ring(&ring, &(struct io_uring_sqe){.opcode = FTRUNCATE, .fd = file, .off = 5}) == 0 && lseek(file, 0, SEEK_END) == 5);
+    WANT(result_by_ring(&ring, &(struct io_uring_sqe){.opcode = FTRUNCATE, .fd = file, .off = UINT64_MAX}) == -EINVAL);
+}
+
 int main(int argc, char **argv)
 {
     const char *name = argc > 1 ? argv[1] : "";
@@ -98,6 +114,8 @@ int main(int argc, char **argv)
         copies();
     else if (strcmp(name, "bytes") == 0)
         bytes();
+    else if (strcmp(name, "lengths") == 0)
+        lengths();
     else
         return 2;
     return 0;

@@ -36,7 +36,7 @@ path_at what from = stands what from 4096
 abbrev pub name_at : ℕ → Option Piece
 name_at from = stands SecondPath from 256
 
--- what is copied first; of one buffer nothing is. A vector has 16 bytes, a message 56, a time 16 and an event of an epoll instance 12; how long an address is a connect says in 32 bits of `off`
+-- what is copied first; of one buffer nothing is. A vector has 16 bytes, a message 56, a time 16 and an event of an epoll instance 12; how long an address is a connect and a bind say in 32 bits of `off`
 abbrev pub first_of : Submission → Option Piece
 first_of e =
     -- READV and WRITEV
@@ -48,8 +48,8 @@ first_of e =
     -- TIMEOUT and LINK_TIMEOUT; TIMEOUT_REMOVE, if it is an update
     if e.opcode == 11 || e.opcode == 15 then stands Time e.addr 16 else
     if e.opcode == 12 then unless (e.op_flags == 0) Time e.off 16 else
-    -- CONNECT
-    if e.opcode == 16 then stands Address e.addr (bit_and e.off 4294967295) else
+    -- CONNECT and BIND
+    if e.opcode == 16 || e.opcode == 56 then stands Address e.addr (bit_and e.off 4294967295) else
     -- OPENAT2, whose structure says its size
     if e.opcode == 28 then stands How e.off e.len else
     -- OPENAT, STATX, RENAMEAT, UNLINKAT, MKDIRAT, SYMLINKAT and LINKAT

@@ -9,10 +9,10 @@ use crate::needs::{advised_length, is_send, is_transfer};
 use crate::piece::address_size;
 use crate::submission::Submission;
 use crate::system_call::{
-    ACCEPT4, CLOSE, CONNECT, EPOLL_CTL, FADVISE64, FALLOCATE, FDATASYNC, FGETXATTR, FSETXATTR,
-    FSYNC, GETXATTR, LINKAT, MADVISE, MKDIRAT, OPENAT, OPENAT2, RECVMSG, RENAMEAT2, SENDMSG,
-    SENDTO, SETXATTR, SHUTDOWN, SOCKET, SPLICE, STATX, SYMLINKAT, SYNC_FILE_RANGE, SystemCall, TEE,
-    UNLINKAT, word_of,
+    ACCEPT4, BIND, CLOSE, CONNECT, EPOLL_CTL, FADVISE64, FALLOCATE, FCNTL, FDATASYNC, FGETXATTR,
+    FSETXATTR, FSYNC, FTRUNCATE, GETXATTR, LINKAT, LISTEN, MADVISE, MKDIRAT, OPENAT, OPENAT2,
+    RECVMSG, RENAMEAT2, SENDMSG, SENDTO, SETXATTR, SHUTDOWN, SOCKET, SPLICE, STATX, SYMLINKAT,
+    SYNC_FILE_RANGE, SystemCall, TEE, UNLINKAT, word_of,
 };
 
 /// What is held for a request when it is carried out: descriptors, and where in memory the copies of what its entry points to stand, or 0.
@@ -176,18 +176,21 @@ pub fn means_of(entry: &Submission, held: &Held) -> Means
     }
 }
 
-/// FSYNC, SYNC_FILE_RANGE, FALLOCATE, CLOSE, FADVISE, MADVISE, EPOLL_CTL, SPLICE and TEE.
+/// FSYNC, SYNC_FILE_RANGE, FALLOCATE, CLOSE, FADVISE, MADVISE, EPOLL_CTL, SPLICE, TEE, FIXED_FD_INSTALL and FTRUNCATE.
 fn is_on_descriptor(code: u8) -> bool
     ensures { result ≡ spec.is_on_descriptor code }
 {
-    matches!(code, 3 | 8 | 17 | 19 | 24 | 25 | 29 | 30 | 33)
+    matches!(code, 3 | 8 | 17 | 19 | 24 | 25 | 29 | 30 | 33 | 54 | 55)
 }
 
-/// What goes by messages, ACCEPT, CONNECT, SHUTDOWN and SOCKET.
+/// What goes by messages, ACCEPT, CONNECT, SHUTDOWN, SOCKET, BIND and LISTEN.
 fn is_on_socket(code: u8) -> bool
     ensures { result ≡ spec.is_on_socket code }
 {
-    matches!(code, 9 | 10 | 13 | 16 | 26 | 27 | 34 | 45 | 47 | 48)
+    matches!(
+        code,
+        9 | 10 | 13 | 16 | 26 | 27 | 34 | 45 | 47 | 48 | 56 | 57
+    )
 }
 
 /// OPENAT, STATX, OPENAT2, RENAMEAT, UNLINKAT, MKDIRAT, SYMLINKAT and LINKAT.
@@ -276,6 +279,14 @@ fn close_of(entry: &Submission) -> Means
     }
 }
 
+/// What gives a descriptor of the same file.
+fn duplicate_of(entry: &Submission, held: &Held) -> SystemCall
+    ensures { result ≡ spec.duplicate_of entry.now held.now }
+{
+    let how = if entry.op_flags & 1 != 0 { 0 } else { 1030 };
+    SystemCall::of_three(FCNTL, word_of(held.fd), how, 0)
+}
+
 /// Operations on what is open.
 fn of_descriptors(entry: &Submission, held: &Held) -> Means
     ensures { result ≡ spec.of_descriptors entry.now held.now }
@@ -299,6 +310,8 @@ fn of_descriptors(entry: &Submission, held: &Held) -> Means
             let instance = word_of(entry.fd);
             Means::Call(SystemCall::of_four(EPOLL_CTL, instance, len, low(off), held.value))
         }
+        54 => Means::Call(duplicate_of(entry, held)),
+        55 => Means::Call(SystemCall::of_three(FTRUNCATE, fd, off, 0)),
         _ => Means::Splice(splice_of(entry, held)),
     }
 }
@@ -335,6 +348,8 @@ fn of_sockets(entry: &Submission, held: &Held) -> Means
         }
         16 => Means::Connect(SystemCall::of_three(CONNECT, fd, value, off)),
         34 => Means::Call(SystemCall::of_three(SHUTDOWN, fd, len, 0)),
+        56 => Means::Call(SystemCall::of_three(BIND, fd, value, off)),
+        57 => Means::Call(SystemCall::of_three(LISTEN, fd, len, 0)),
         _ => {
             let domain = word_of(entry.fd);
             opens(entry, SystemCall::of_three(SOCKET, domain, low(off), len))

@@ -80,7 +80,7 @@ fn first_of(entry: &Submission) -> Option<Piece>
         9 | 10 | 48 => stands(What::Message, entry.addr, 56),
         11 | 15 => stands(What::Time, entry.addr, 16),
         12 => unless(entry.op_flags == 0, What::Time, entry.off, 16),
-        16 => stands(What::Address, entry.addr, entry.off & 0xffff_ffff),
+        16 | 56 => stands(What::Address, entry.addr, entry.off & 0xffff_ffff),
         18 | 21 | 35..=39 => stands(What::Path, entry.addr, PATH_SIZE),
         28 => stands(What::How, entry.off, entry.len as u64),
         29 => unless(entry.len == 2, What::Value, entry.addr, 12),

@@ -161,6 +161,14 @@ pub fn rule_of(code: u8) -> Option<Rule>
         40 => row(PRIORITY | BUFFER, 3, Also::Nothing),
         41 | 42 => row(PRIORITY, 3, Also::Nothing),
         43 | 44 => row(PRIORITY, 0, Also::Nothing),
+        54 => row(
+            PRIORITY | OFFSET | ADDRESS | LENGTH | BUFFER | SLOT | THIRD,
+            1,
+            Also::Nothing,
+        ),
+        55 => bars(PRIORITY | ADDRESS | LENGTH | FLAGS | BUFFER | SLOT | THIRD),
+        56 => bars(PRIORITY | LENGTH | FLAGS | BUFFER | SLOT),
+        57 => bars(PRIORITY | OFFSET | ADDRESS | FLAGS | BUFFER | SLOT),
         _ => None,
     }
 }
