@@ -26,6 +26,9 @@ struct wulgach_held {
     uint64_t value;         /* that is read; an address; or a message, struct msghdr */
     uint64_t offset_in;     /* of a splice: of a copy of the offset where it reads, */
     uint64_t offset_out;    /* and of that where it writes */
+    uint64_t buffer;        /* of a send to an address: where its bytes stand that are left, */
+    uint64_t length;        /* how many they are, */
+    uint64_t address;       /* and the address */
 };
 
 enum wulgach_by {

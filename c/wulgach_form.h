@@ -175,7 +175,7 @@ struct wulgach_header {
  * what stands in front of the bytes has no length of 31 bits. */
 int32_t wulgach_next_message_piece(const struct wulgach_submission *entry, const struct wulgach_header *header, uint32_t copied, int32_t fault, struct wulgach_piece *piece);
 
-/* Whether the address that the operation of this code names is copied by itself, as of IORING_OP_CONNECT; else it stands in the message that is
+/* Whether the address that the operation of this code names is copied by itself, as of IORING_OP_CONNECT and BIND; else it stands in the message that is
  * sent. */
 bool wulgach_is_address_alone(uint8_t code);
 

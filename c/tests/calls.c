@@ -19,10 +19,10 @@ static void demand(bool holds, const char *what)
     }
 }
 
-enum { NOP, READV, WRITEV, FSYNC, READ_FIXED, WRITE_FIXED, POLL_ADD, POLL_REMOVE, SYNC_FILE_RANGE, SENDMSG, RECVMSG, TIMEOUT, TIMEOUT_REMOVE, ACCEPT, ASYNC_CANCEL, LINK_TIMEOUT, CONNECT, FALLOCATE, OPENAT, CLOSE, FILES_UPDATE, STATX, READ, WRITE, FADVISE, MADVISE, SEND, RECV, OPENAT2, EPOLL_CTL, SPLICE, PROVIDE_BUFFERS, REMOVE_BUFFERS, TEE, SHUTDOWN, RENAMEAT, UNLINKAT, MKDIRAT, SYMLINKAT, LINKAT, MSG_RING, FSETXATTR, SETXATTR, FGETXATTR, GETXATTR, SOCKET, SEND_ZC = 47, SENDMSG_ZC };
+enum { NOP, READV, WRITEV, FSYNC, READ_FIXED, WRITE_FIXED, POLL_ADD, POLL_REMOVE, SYNC_FILE_RANGE, SENDMSG, RECVMSG, TIMEOUT, TIMEOUT_REMOVE, ACCEPT, ASYNC_CANCEL, LINK_TIMEOUT, CONNECT, FALLOCATE, OPENAT, CLOSE, FILES_UPDATE, STATX, READ, WRITE, FADVISE, MADVISE, SEND, RECV, OPENAT2, EPOLL_CTL, SPLICE, PROVIDE_BUFFERS, REMOVE_BUFFERS, TEE, SHUTDOWN, RENAMEAT, UNLINKAT, MKDIRAT, SYMLINKAT, LINKAT, MSG_RING, FSETXATTR, SETXATTR, FGETXATTR, GETXATTR, SOCKET, SEND_ZC = 47, SENDMSG_ZC, FIXED_FD_INSTALL = 54, FTRUNCATE, BIND, LISTEN };
 
 /* Each field of an entry has a number of its own, and so has what is held. */
-enum { FD = -100, OFF = 1001, ADDR = 1002, LEN = 1003, FLAGS = 1004, ON = 11, FROM = 12, PATH = 21, SECOND = 22, HOW = 23, VALUE = 24, IN = 25, OUT = 26 };
+enum { FD = -100, OFF = 1001, ADDR = 1002, LEN = 1003, FLAGS = 1004, ON = 11, FROM = 12, PATH = 21, SECOND = 22, HOW = 23, VALUE = 24, IN = 25, OUT = 26, BYTES = 27, LEFT = 28, TO = 29 };
 
 #define AT_FOLDER ((uint64_t)FD)
 
@@ -33,7 +33,7 @@ static struct wulgach_submission entry_of(uint8_t code)
 
 static struct wulgach_means means_of(struct wulgach_submission entry)
 {
-    const struct wulgach_held held = {.fd = ON, .second_fd = FROM, .path = PATH, .second_path = SECOND, .how = HOW, .value = VALUE, .offset_in = IN, .offset_out = OUT};
+    const struct wulgach_held held = {.fd = ON, .second_fd = FROM, .path = PATH, .second_path = SECOND, .how = HOW, .value = VALUE, .offset_in = IN, .offset_out = OUT, .buffer = BYTES, .length = LEFT, .address = TO};
     struct wulgach_means means;
     memset(&means, 0xff, sizeof means);
     wulgach_means_of(&entry, &held, &means);
@@ -51,8 +51,8 @@ static const struct row rows[] = {
     {FSYNC, WULGACH_BY_SYNC, {SYS_fsync, ON}},
     {SYNC_FILE_RANGE, WULGACH_BY_CALL, {SYS_sync_file_range, ON, OFF, LEN, FLAGS}},
     {SENDMSG, WULGACH_BY_SEND, {SYS_sendmsg, ON, VALUE, FLAGS | 0x4040}},
-    {SEND, WULGACH_BY_SEND, {SYS_sendmsg, ON, VALUE, FLAGS | 0x4040}},
-    {SEND_ZC, WULGACH_BY_SEND, {SYS_sendmsg, ON, VALUE, FLAGS | 0x4040}},
+    {SEND, WULGACH_BY_SEND, {SYS_sendto, ON, BYTES, LEFT, FLAGS | 0x4040, TO}},
+    {SEND_ZC, WULGACH_BY_SEND, {SYS_sendto, ON, BYTES, LEFT, FLAGS | 0x4040, TO}},
     {SENDMSG_ZC, WULGACH_BY_SEND, {SYS_sendmsg, ON, VALUE, FLAGS | 0x4040}},
     {RECVMSG, WULGACH_BY_RECEIVE_MESSAGE, {SYS_recvmsg, ON, VALUE, FLAGS | 0x40}},
     {RECV, WULGACH_BY_RECEIVE, {SYS_recvmsg, ON, VALUE, FLAGS | 0x40}},
@@ -79,6 +79,10 @@ static const struct row rows[] = {
     {FGETXATTR, WULGACH_BY_CALL, {SYS_fgetxattr, ON, SECOND, OFF, LEN}},
     {GETXATTR, WULGACH_BY_CALL, {SYS_getxattr, PATH, SECOND, OFF, LEN}},
     {SOCKET, WULGACH_BY_CALL, {SYS_socket, AT_FOLDER, OFF, LEN}},
+    {FIXED_FD_INSTALL, WULGACH_BY_CALL, {SYS_fcntl, ON, F_DUPFD_CLOEXEC}},
+    {FTRUNCATE, WULGACH_BY_CALL, {SYS_ftruncate, ON, OFF}},
+    {BIND, WULGACH_BY_CALL, {SYS_bind, ON, VALUE, OFF}},
+    {LISTEN, WULGACH_BY_CALL, {SYS_listen, ON, LEN}},
     {NOP, WULGACH_BY_NOTHING, {0}},
     {READ, WULGACH_BY_TRANSFER, {0}},
     {WRITEV, WULGACH_BY_TRANSFER, {0}},
@@ -126,12 +130,16 @@ static void look_at_slots(void)
 
 static void look_at_variants(void)
 {
-    struct wulgach_submission sync = entry_of(FSYNC), splice = entry_of(SPLICE), socket = entry_of(SOCKET), advice = entry_of(FADVISE);
+    struct wulgach_submission sync = entry_of(FSYNC), splice = entry_of(SPLICE), socket = entry_of(SOCKET), advice = entry_of(FADVISE), send = entry_of(SEND), elsewhere = entry_of(SEND_ZC), install = entry_of(FIXED_FD_INSTALL);
     sync.op_flags = 1;
     splice.addr = splice.off = UINT64_MAX;
     splice.op_flags = 1u << 31 | 1;
     socket.off = 1ull << 32 | 2;
-    advice.addr = 0;
+    advice.addr = send.off = 0;
+    elsewhere.file_index = 16;
+    install.op_flags = 1;
+    demand(means_of(install).call.number == SYS_fcntl && means_of(install).call.second == F_DUPFD, "a descriptor for programs that are started");
+    demand(means_of(send).call.number == SYS_sendmsg && means_of(send).call.second == VALUE && means_of(elsewhere).call.sixth == 16, "a send to nowhere, and how long an address is");
     demand(means_of(sync).call.number == SYS_fdatasync, "a sync of data");
     struct wulgach_means means = means_of(splice);
     demand(IS_CALL(means.call, SYS_splice, FROM, 0, ON, 0, LEN, 3), "a splice without offsets");

@@ -48,6 +48,8 @@ static void look_at_more_fields(void)
     demand(FORM(.opcode = 31, .fd = 1) == -22 && FORM(.opcode = 31, .fd = 2, .len = 1, .off = 65535) == -22 && FORM(.opcode = 31, .fd = 1, .len = 4, .addr = UINT64_MAX) == -75 && FORM(.opcode = 31, .fd = 1, .len = 1, .addr = 0x7ffffffff000) == -14, "their ends");
     demand(FORM(.opcode = 32, .fd = 1) == 0 && FORM(.opcode = 32, .fd = 0) == -22 && FORM(.opcode = 32, .fd = 1, .len = 1) == -22, "their removal");
     demand(FORM(.opcode = 40, .op_flags = 3) == 0 && FORM(.opcode = 40, .op_flags = 4) == -22 && FORM(.opcode = 34, .len = 2) == 0 && FORM(.opcode = 34, .off = 1) == -22, "a message, a shutdown");
+    demand(FORM(.opcode = 54) == -9 && FORM(.opcode = 54, .flags = 1, .op_flags = 1) == 0 && FORM(.opcode = 54, .op_flags = 2) == -9 && FORM(.opcode = 54, .flags = 1, .op_flags = 2) == -22 && FORM(.opcode = 54, .off = 1) == -22, "a descriptor of what is registered");
+    demand(FORM(.opcode = 55, .off = 5) == 0 && FORM(.opcode = 55, .len = 5) == -22 && FORM(.opcode = 56, .off = 5, .addr = 5) == 0 && FORM(.opcode = 56, .len = 5) == -22 && FORM(.opcode = 57, .len = 5) == 0 && FORM(.opcode = 57, .off = 5) == -22, "a length, a name, a backlog");
     demand(FORM(.opcode = 45, .off = 0x80000) == 0 && FORM(.opcode = 45, .off = 0x80000, .file_index = 1) == -22, "a socket");
     demand(FORM(.opcode = 13, .ioprio = 1, .flags = 64) == 0 && FORM(.opcode = 13, .ioprio = 1, .file_index = 1) == -22 && FORM(.opcode = 27, .ioprio = 2, .flags = 32, .len = 4) == 0 && FORM(.opcode = 27, .ioprio = 2, .len = 4) == -22, "those that go on");
     demand(FORM(.opcode = 30, .off = 5, .op_flags = 0x8000000f) == 0 && FORM(.opcode = 30, .op_flags = 16) == -22 && FORM(.opcode = 33, .off = 5) == -22, "a splice, a tee");
@@ -109,7 +111,7 @@ static void look_at_order(void)
     demand(wulgach_form_of(&plain, 0, true, &fault) == WULGACH_FORM_REFUSED && fault == -22, "a personality");
     demand(FORM(.opcode = 22, .flags = 32) == 0 && FORM(.opcode = 27, .flags = 32) == 0, "one that may select");
     demand(wulgach_form_copied(WULGACH_FORM_TOKEN, 0) == WULGACH_FORM_TOKEN && wulgach_form_copied(WULGACH_FORM_CANCEL, 0) == WULGACH_FORM_CANCEL && wulgach_form_copied(WULGACH_FORM_TOKEN, -14) == WULGACH_FORM_REFUSED, "what can't be copied");
-    demand(wulgach_probed_flags(0) == 1 && wulgach_probed_flags(46) == 0 && wulgach_probed_flags(200) == 0, "what a probe tells");
+    demand(wulgach_probed_flags(0) == 1 && wulgach_probed_flags(46) == 0 && wulgach_probed_flags(53) == 0 && wulgach_probed_flags(54) == 1 && wulgach_probed_flags(57) == 1 && wulgach_probed_flags(200) == 0, "what a probe tells");
     demand(wulgach_is_address_alone(16) && !wulgach_is_address_alone(9) && !wulgach_is_address_alone(26), "whose address is copied by itself");
 }
 

@@ -62,11 +62,11 @@ static void take_rows(void)
     made = none;
     demand(wulgach_restrictions_register(&made, NULL, 0) == 0 && !wulgach_restrictions_allow_entry(&made, 0, 0) && !wulgach_restrictions_allow_call(&made, 0, false) && wulgach_restrictions_allow_call(&made, 0, true), "no rows");
     made = none;
-    demand(TAKE(&made, {.kind = 0, .number = 26}) == -22 && TAKE(&made, {.kind = 1, .number = 49}) == -22 && TAKE(&made, {.kind = 4}) == -22, "rows that there aren't");
-    demand(TAKE(&made, {.kind = 0, .number = 25}, {.kind = 4}, {.kind = 1, .number = 48}) == -22 && wulgach_restrictions_allow_call(&made, 24, false), "a list with a bad row holds nothing");
-    demand(TAKE(&made, {.kind = 0, .number = 25, .resv = 1, .fourth_resv = 2}, {.kind = 1, .number = 48}, {.kind = 1, .number = 0}) == 0, "rows");
+    demand(TAKE(&made, {.kind = 0, .number = 26}) == -22 && TAKE(&made, {.kind = 1, .number = 58}) == -22 && TAKE(&made, {.kind = 4}) == -22, "rows that there aren't");
+    demand(TAKE(&made, {.kind = 0, .number = 25}, {.kind = 4}, {.kind = 1, .number = 57}) == -22 && wulgach_restrictions_allow_call(&made, 24, false), "a list with a bad row holds nothing");
+    demand(TAKE(&made, {.kind = 0, .number = 25, .resv = 1, .fourth_resv = 2}, {.kind = 1, .number = 57}, {.kind = 1, .number = 0}) == 0, "rows");
     demand(wulgach_restrictions_allow_call(&made, 25, false) && !wulgach_restrictions_allow_call(&made, 24, false) && !wulgach_restrictions_allow_call(&made, 89, false), "which calls");
-    demand(wulgach_restrictions_allow_entry(&made, 48, 0) && wulgach_restrictions_allow_entry(&made, 0, 0) && !wulgach_restrictions_allow_entry(&made, 47, 0) && !wulgach_restrictions_allow_entry(&made, 112, 0), "which operations");
+    demand(wulgach_restrictions_allow_entry(&made, 57, 0) && wulgach_restrictions_allow_entry(&made, 0, 0) && !wulgach_restrictions_allow_entry(&made, 47, 0) && !wulgach_restrictions_allow_entry(&made, 121, 0), "which operations");
     demand(!wulgach_restrictions_allow_entry(&made, 0, 4), "no flags");
     demand(TAKE(&made, {.kind = 1, .number = 0}, {.kind = 2, .number = 255}, {.kind = 2, .number = 4}, {.kind = 3, .number = 16}) == 0, "flags");
     demand(wulgach_restrictions_allow_entry(&made, 0, 16) && wulgach_restrictions_allow_entry(&made, 0, 20) && !wulgach_restrictions_allow_entry(&made, 0, 4) && !wulgach_restrictions_allow_entry(&made, 0, 24), "which flags, by the last row of a kind");
@@ -213,11 +213,11 @@ static void make_calls(void)
     demand(wulgach_argument_fault(PROBE, false, 0) == -22 && wulgach_argument_fault(PROBE, true, 256) == 0 && wulgach_argument_fault(PROBE, true, 257) == -22, "a probe");
     demand(wulgach_argument_fault(ENROLL, true, 0) == -22 && wulgach_argument_fault(ENROLL, false, 16) == 0 && wulgach_argument_fault(DISMISS, true, 17) == -22, "rings by number");
     demand(wulgach_argument_fault(RESTRICT, false, 999) == 0 && wulgach_argument_fault(9, true, 1) == -22, "restrictions, and what isn't served");
-    static const struct { uint32_t count; uint8_t rows; } probes[] = {{0, 0}, {1, 1}, {49, 49}, {256, 49}};
+    static const struct { uint32_t count; uint8_t rows; } probes[] = {{0, 0}, {1, 1}, {58, 58}, {256, 58}};
     for (size_t i = 0; i < sizeof probes / sizeof *probes; i++) {
         struct wulgach_probe probe;
         wulgach_probe_of(probes[i].count, &probe);
-        demand(probe.last == 48 && probe.rows == probes[i].rows, "rows of a probe");
+        demand(probe.last == 57 && probe.rows == probes[i].rows, "rows of a probe");
     }
 }
 

@@ -142,7 +142,7 @@ static uint8_t flags_before(uint8_t flags, const struct wulgach_submission *next
 
 static void copy_pieces(void)
 {
-    enum { READV = 1, RECVMSG = 10, CONNECT = 16, READ = 22, OPENAT2 = 28, SETXATTR = 42, SEND_ZC = 47 };
+    enum { READV = 1, RECVMSG = 10, CONNECT = 16, BIND = 56, READ = 22, OPENAT2 = 28, SEND = 26, SETXATTR = 42, SEND_ZC = 47 };
     struct wulgach_submission set = {.opcode = SETXATTR, .addr = 1, .off = 2, .addr3 = 3, .len = 5};
     struct wulgach_piece piece = {.from = 99};
     demand(NEXT(0, .opcode = 0) == 0 && piece.from == 99, "a no-op");
@@ -154,8 +154,8 @@ static void copy_pieces(void)
     set.len = 0;
     demand(next(set, 1, &piece) == 1 && piece.what == WULGACH_PATH && piece.from == 3 && next(set, 2, &piece) == 0, "its file behind no value");
     set.len = 65537;
-    demand(next(set, 1, &piece) == -7 && NEXT(0, .opcode = CONNECT, .off = 129) == -22 && NEXT(0, .opcode = CONNECT, .off = 128) == 1, "too long");
-    demand(NEXT(1, .opcode = SEND_ZC, .off = 1, .file_index = 0x10080) == 1 && NEXT(1, .opcode = SEND_ZC) == 0, "where a send goes");
+    demand(next(set, 1, &piece) == -7 && NEXT(0, .opcode = CONNECT, .off = 129) == -22 && NEXT(0, .opcode = CONNECT, .off = 128) == 1 && NEXT(0, .opcode = BIND, .off = 129) == -22 && NEXT(0, .opcode = BIND, .off = 1ull << 32 | 2) == 1, "too long");
+    demand(NEXT(1, .opcode = SEND_ZC, .off = 1, .file_index = 0x10080) == 1 && NEXT(1, .opcode = SEND_ZC) == 0 && NEXT(1, .opcode = SEND, .off = 1, .file_index = 16) == 1, "where a send goes");
     demand(NEXT(0, .opcode = OPENAT2, .addr = 1, .off = 2, .len = 32) == 1 && piece.what == WULGACH_HOW && piece.from == 2 && piece.size == 32, "how a file is opened");
     demand(NEXT(1, .opcode = OPENAT2, .addr = 1, .off = 2, .len = 32) == 1 && piece.what == WULGACH_PATH && piece.from == 1, "its path comes behind that");
     demand(NEXT(0, .opcode = OPENAT2, .len = 4097) == -7 && wulgach_how_fault(false) == -7 && wulgach_how_fault(true) == 0, "a longer structure");

@@ -58,6 +58,7 @@ int32_t make_passing_call(const struct wulgach_system_call *call)
 
 struct wulgach_held held_of(const struct request *request)
 {
+    struct iovec first = request->vector_count > 0 ? *request->vectors : (struct iovec){0};
     return (struct wulgach_held){
         .fd = request->fd,
         .second_fd = request->second_fd,
@@ -65,6 +66,9 @@ struct wulgach_held held_of(const struct request *request)
         .second_path = (uintptr_t)request->second_path,
         .how = (uintptr_t)request->how,
         .value = (uintptr_t)request->value,
+        .buffer = (uintptr_t)first.iov_base,
+        .length = first.iov_len,
+        .address = (uintptr_t)request->address,
     };
 }
 

@@ -54,6 +54,11 @@ const char *operation_name(uint8_t code)
         [IORING_OP_GETXATTR] = "getxattr",
         [IORING_OP_SEND_ZC] = "send_zc",
         [IORING_OP_SENDMSG_ZC] = "sendmsg_zc",
+        /* (headers that are older than these don't name them) */
+        [54] = "fixed_fd_install",
+        [55] = "ftruncate",
+        [56] = "bind",
+        [57] = "listen",
     };
     return code < sizeof names / sizeof *names && names[code] ? names[code] : "operation";
 }

@@ -77,7 +77,8 @@ struct request {
     uint32_t vector_count;
     uint64_t length;                /* the bytes of a transfer's vectors */
     char *path, *second_path;
-    void *value;                    /* of an extended attribute, an address, or a message */
+    void *value;                    /* of an extended attribute, an address, or a message, */
+    const void *address;            /* and in that the address that it is sent to, or NULL */
     struct open_how *how;
     struct __kernel_timespec *time;
     struct request *before, *next;  /* its neighbours in the directory, if that is kept; or of those that have ended and are kept the next */

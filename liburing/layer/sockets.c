@@ -85,7 +85,7 @@ int copy_address(struct request *request, uint64_t from, size_t size)
         return request->value ? copy_in(request->value, from, size) : wulgach_missing_fault(WULGACH_NO_MEMORY_OWN);
     }
     struct addressed *addressed = request->value;
-    addressed->message.msg_name = &addressed->address;
+    request->address = addressed->message.msg_name = &addressed->address;
     addressed->message.msg_namelen = (socklen_t)size;
     return copy_in(&addressed->address, from, size);
 }

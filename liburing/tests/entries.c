@@ -109,7 +109,7 @@ static struct answer *answer;
 
 static bool gives_descriptor(uint8_t code)
 {
-    return code == IORING_OP_ACCEPT || code == IORING_OP_OPENAT || code == IORING_OP_OPENAT2 || code == IORING_OP_SOCKET;
+    return code == IORING_OP_ACCEPT || code == IORING_OP_OPENAT || code == IORING_OP_OPENAT2 || code == IORING_OP_SOCKET || code == FIXED_FD_INSTALL;
 }
 
 /* Puts a result behind those of lower user data: which of a chain's members posts first isn't asked here, nor what else a send without
@@ -141,7 +141,8 @@ static void ask_with(uint8_t code, struct change one, struct change other)
     struct ring ring;
     make_ring(&ring, 8, 0, 0);
     make_ring(&at.other, 8, 0, 0);
-    int slots[8] = {at.file, at.socket, -1, -1, -1, -1, -1, -1};
+    /* (a kernel may not ask whether what is to be bound is a socket) */
+    int slots[8] = {code == BIND || code == LISTEN ? at.socket : at.file, at.socket, -1, -1, -1, -1, -1, -1};
     struct iovec buffer = {at.bytes, 4096};
     check(register_at(ring.fd, IORING_REGISTER_FILES, slots, 8) == 0 && register_at(ring.fd, IORING_REGISTER_BUFFERS, &buffer, 1) == 0);
     unsigned count = 1;
@@ -220,21 +221,21 @@ static const struct known {
     {IORING_OP_WRITE, LEN, 0x80000000},
     /* sendmsg(2) and recvmsg(2) refuse MSG_CMSG_COMPAT. */
     {IORING_OP_SENDMSG, OWN, 1u << 31}, {IORING_OP_RECVMSG, OWN, 1u << 31}, {IORING_OP_SEND, OWN, 1u << 31}, {IORING_OP_RECV, OWN, 1u << 31}, {IORING_OP_SEND_ZC, OWN, 1u << 31}, {IORING_OP_SENDMSG_ZC, OWN, 1u << 31},
-    /* What isn't served: timeouts that go on, an accept that doesn't wait or waits first, other cancels, bundles, a send to an address or from provided buffers, registered vectors. */
+    /* What isn't served: timeouts that go on, an accept that doesn't wait or waits first, other cancels, bundles, a send from provided buffers, registered vectors. */
     {IORING_OP_TIMEOUT, OWN, 1u << 6}, {IORING_OP_LINK_TIMEOUT, OWN, 1u << 6},
     {IORING_OP_ACCEPT, PRIORITY, 6},
     {IORING_OP_ASYNC_CANCEL, OWN, 48},
-    {IORING_OP_SEND, PRIORITY, 16}, {IORING_OP_RECV, PRIORITY, 16}, {IORING_OP_SEND, FLAGS, IOSQE_BUFFER_SELECT}, {IORING_OP_SEND, OFF, 0}, {IORING_OP_SEND, OFF_OR, 0},
+    {IORING_OP_SEND, PRIORITY, 16}, {IORING_OP_RECV, PRIORITY, 16}, {IORING_OP_SEND, FLAGS, IOSQE_BUFFER_SELECT},
     {IORING_OP_SENDMSG_ZC, PRIORITY, 4},
-    /* A send without copies is served by any socket, also one that refuses it there, and sendmsg(2) takes an address of no length for none. */
-    {IORING_OP_SEND_ZC, SLOT_OF, 1}, {IORING_OP_SENDMSG_ZC, SLOT_OF, 1}, {IORING_OP_SEND_ZC, OFF, 0}, {IORING_OP_SEND_ZC, OFF_OR, 0},
+    /* A send without copies is served by any socket, also one that refuses it there. */
+    {IORING_OP_SEND_ZC, SLOT_OF, 1}, {IORING_OP_SENDMSG_ZC, SLOT_OF, 1},
     /* A structure of an open has 4,096 bytes at most, and is copied behind what else is wrong with its entry. */
     {IORING_OP_OPENAT2, OFF, 0}, {IORING_OP_OPENAT2, LEN, 0},
     /* A failure that skips its success posts nothing there. */
     {IORING_OP_FSYNC, FLAGS, IOSQE_CQE_SKIP_SUCCESS}, {IORING_OP_SYNC_FILE_RANGE, FLAGS, IOSQE_CQE_SKIP_SUCCESS}, {IORING_OP_FALLOCATE, FLAGS, IOSQE_CQE_SKIP_SUCCESS}, {IORING_OP_MADVISE, FLAGS, IOSQE_CQE_SKIP_SUCCESS},
     {IORING_OP_STATX, FLAGS, IOSQE_CQE_SKIP_SUCCESS}, {IORING_OP_SHUTDOWN, FLAGS, IOSQE_CQE_SKIP_SUCCESS}, {IORING_OP_RENAMEAT, FLAGS, IOSQE_CQE_SKIP_SUCCESS}, {IORING_OP_UNLINKAT, FLAGS, IOSQE_CQE_SKIP_SUCCESS},
     {IORING_OP_MKDIRAT, FLAGS, IOSQE_CQE_SKIP_SUCCESS}, {IORING_OP_SYMLINKAT, FLAGS, IOSQE_CQE_SKIP_SUCCESS}, {IORING_OP_LINKAT, FLAGS, IOSQE_CQE_SKIP_SUCCESS}, {IORING_OP_FSETXATTR, FLAGS, IOSQE_CQE_SKIP_SUCCESS},
-    {IORING_OP_SETXATTR, FLAGS, IOSQE_CQE_SKIP_SUCCESS}, {IORING_OP_FGETXATTR, FLAGS, IOSQE_CQE_SKIP_SUCCESS}, {IORING_OP_GETXATTR, FLAGS, IOSQE_CQE_SKIP_SUCCESS},
+    {IORING_OP_SETXATTR, FLAGS, IOSQE_CQE_SKIP_SUCCESS}, {IORING_OP_FGETXATTR, FLAGS, IOSQE_CQE_SKIP_SUCCESS}, {IORING_OP_GETXATTR, FLAGS, IOSQE_CQE_SKIP_SUCCESS}, {FTRUNCATE, FLAGS, IOSQE_CQE_SKIP_SUCCESS},
     /* A provided buffer is looked for before a file. */
     {IORING_OP_READ, FLAGS, IOSQE_BUFFER_SELECT}, {IORING_OP_READV, FLAGS, IOSQE_BUFFER_SELECT}, {IORING_OP_RECV, FLAGS, IOSQE_BUFFER_SELECT}, {IORING_OP_RECVMSG, FLAGS, IOSQE_BUFFER_SELECT},
 };
@@ -273,6 +274,11 @@ static int remove_one(const char *path, const struct stat *status, int kind, str
     return remove(path);
 }
 
+static bool is_served(uint8_t code)
+{
+    return code != IORING_OP_URING_CMD && (code <= IORING_OP_SENDMSG_ZC || code >= FIXED_FD_INSTALL);
+}
+
 /* Whether the kernel is the one of which is told what differs. */
 static bool is_told_of(void)
 {
@@ -295,13 +301,13 @@ int main(int count, char **words)
     answer = mmap(NULL, sizeof *answer, PROT_READ | PROT_WRITE, MAP_SHARED | MAP_ANONYMOUS, -1, 0);
     check(answer != MAP_FAILED && mkdtemp(room));
     for (unsigned code = 0; code <= LAST_OPERATION; code++)
-        for (size_t i = 0; code != IORING_OP_URING_CMD && i < CHANGES; i++)
+        for (size_t i = 0; is_served((uint8_t)code) && i < CHANGES; i++)
             compare((uint8_t)code, changes[i], changes[0]);
     srand(7);
     for (unsigned i = 0; i < pairs; i++) {
         unsigned code = (unsigned)rand() % (LAST_OPERATION + 1);
         struct change one = changes[1 + rand() % (CHANGES - 1)], other = changes[1 + rand() % (CHANGES - 1)];
-        if (code != IORING_OP_URING_CMD)
+        if (is_served((uint8_t)code))
             compare((uint8_t)code, one, other);
     }
     nftw(room, remove_one, 16, FTW_DEPTH | FTW_PHYS);

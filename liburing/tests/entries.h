@@ -15,7 +15,8 @@
 
 /* ---- what an entry is about ---- */
 
-enum { LAST_OPERATION = IORING_OP_SENDMSG_ZC, A_DESCRIPTOR = 777777 };
+/* (the last four aren't in most headers) */
+enum { FIXED_FD_INSTALL = 54, FTRUNCATE, BIND, LISTEN, LAST_OPERATION = LISTEN, A_DESCRIPTOR = 777777 };
 
 static struct {
     int folder, file, socket, over_network, full_pipe, empty_pipe, waits, listener, unconnected, epoll;
@@ -119,6 +120,8 @@ static inline struct io_uring_sqe socket_entry(uint8_t code)
     case IORING_OP_ACCEPT: return SQE(.fd = at.listener);
     case IORING_OP_CONNECT: return SQE(.fd = at.unconnected, .addr = ADDRESS(&at.address), .off = sizeof at.address);
     case IORING_OP_SHUTDOWN: return SQE(.fd = at.socket, .len = 2);
+    case BIND: return SQE(.fd = at.unconnected, .addr = ADDRESS(&at.address), .off = sizeof(sa_family_t));
+    case LISTEN: return SQE(.fd = at.unconnected, .len = 4);
     case IORING_OP_SOCKET: return SQE(.fd = AF_UNIX, .off = SOCK_STREAM);
     case IORING_OP_SPLICE: return SQE(.splice_fd_in = at.full_pipe, .splice_off_in = UINT64_MAX, .fd = at.empty_pipe, .off = UINT64_MAX, .len = 3);
     case IORING_OP_TEE: return SQE(.splice_fd_in = at.full_pipe, .fd = at.empty_pipe, .len = 3);
@@ -138,6 +141,8 @@ static inline struct io_uring_sqe entry_of(uint8_t code)
     case IORING_OP_POLL_REMOVE: case IORING_OP_ASYNC_CANCEL: case IORING_OP_TIMEOUT_REMOVE: return SQE(.addr = 77);
     case IORING_OP_TIMEOUT: case IORING_OP_LINK_TIMEOUT: return SQE(.addr = ADDRESS(&at.time), .len = 1);
     case IORING_OP_FALLOCATE: return SQE(.fd = at.file, .addr = 200);
+    case FTRUNCATE: return SQE(.fd = at.file, .off = 200);
+    case FIXED_FD_INSTALL: return SQE(.flags = IOSQE_FIXED_FILE);
     case IORING_OP_CLOSE: return SQE(.fd = dup(at.file));
     case IORING_OP_FILES_UPDATE: return SQE(.addr = ADDRESS(at.files), .len = 1, .off = 2);
     case IORING_OP_MADVISE: return SQE(.addr = ADDRESS(at.bytes) + 4096, .len = 4096);

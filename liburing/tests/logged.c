@@ -1,7 +1,7 @@
 /* A program that is linked with nothing of ours, and whose calls that change files are put into a log. It is run by uring-run, in a folder
  * that counts as the disk.
  *
- *   logged copies | bytes | places | syncs
+ *   logged copies | bytes | places | syncs | lengths
  *
  * Status 0: all was as it is to be. Else a line says what wasn't.
  */
@@ -175,10 +175,21 @@ static void syncs(void)
     WANT(fsync(file) == 0 && last_event(EVENT_SYNC, false).flags == 0);
 }
 
+/* A length by a ring is put into the log as one by a call is. */
+static void lengths(void)
+{
+    enum { FTRUNCATE = 55 };
+    struct ring ring = set_up(0);
+    int file = make("length");
+    WANT(write(file, "shorter", 7) == 7);
+    WANT(do_by_ring(&ring, (struct io_uring_sqe){.opcode = FTRUNCATE, .fd = file, .off = 5}) == 0 && lseek(file, 0, SEEK_END) == 5);
+    WANT(do_by_ring(&ring, (struct io_uring_sqe){.opcode = FTRUNCATE, .fd = file, .off = UINT64_MAX}) == -EINVAL);
+}
+
 static const struct {
     const char *name;
     void (*run)(void);
-} modes[] = {{"copies", copies}, {"bytes", bytes}, {"places", places}, {"syncs", syncs}};
+} modes[] = {{"copies", copies}, {"bytes", bytes}, {"places", places}, {"syncs", syncs}, {"lengths", lengths}};
 
 int main(int argc, char **argv)
 {

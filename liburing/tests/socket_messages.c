@@ -6,6 +6,7 @@
 #define _GNU_SOURCE
 #include "engines.h"
 
+#include <netinet/in.h>
 #include <stddef.h>
 #include <sys/socket.h>
 #include <sys/uio.h>
@@ -133,6 +134,119 @@ static void test_addresses_are_copied(void)
     close_ring(&ring);
 }
 
+/* A socket with a name of this machine's network, or a local one. */
+static int make_named(int domain, struct sockaddr_storage *name, socklen_t *size)
+{
+    int fd = socket(domain, SOCK_DGRAM, 0);
+    *name = (struct sockaddr_storage){.ss_family = (sa_family_t)domain};
+    if (domain == AF_INET)
+        memcpy((char *)name + 4, &(uint32_t){htonl(INADDR_LOOPBACK)}, 4);
+    *size = domain == AF_INET ? sizeof(struct sockaddr_in) : sizeof(sa_family_t);
+    check(bind(fd, (void *)name, *size) == 0);
+    *size = sizeof *name;
+    check(getsockname(fd, (void *)name, size) == 0);
+    return fd;
+}
+
+static struct io_uring_sqe *put_send_to(struct ring *ring, uint8_t code, uint8_t flags, int fd, char *bytes, unsigned length, const void *name, socklen_t size)
+{
+    struct io_uring_sqe *entry = put_transfer(ring, code, 0, flags, fd, bytes, length, (uintptr_t)name);
+    entry->addr_len = (uint16_t)size;
+    return entry;
+}
+
+/* A send goes to the address that it names, as that was when it was submitted; one without copies has its two completions. */
+static void test_sends_to_addresses(void)
+{
+    static char bytes[] = "bytes", text[8];
+    for (int i = 0; i < 3; i++) {
+        struct ring ring;
+        struct sockaddr_storage name;
+        socklen_t size;
+        int to = make_named(i < 2 ? AF_INET : AF_UNIX, &name, &size), from = socket(i < 2 ? AF_INET : AF_UNIX, SOCK_DGRAM, 0), ends[2];
+        check(pipe(ends) == 0);
+        make_ring(&ring, 8, 0, 0);
+        put_transfer(&ring, IORING_OP_READ, 1, IOSQE_IO_LINK, ends[0], text, 1, 0);
+        put_send_to(&ring, i == 1 ? IORING_OP_SEND_ZC : IORING_OP_SEND, 0, from, bytes, 5, &name, size);
+        check(enter(&ring, 2, 0, 0) == 2);
+        memset(&name, 0, sizeof name);
+        check(write(ends[1], "t", 1) == 1);
+        struct seen first = next_of(&ring), second = next_of(&ring);
+        check(first.user_data == 1 && first.res == 1);
+        check(second.user_data == 0 && second.res == 5 && second.flags == (i == 1 ? IORING_CQE_F_MORE : 0));
+        check(i != 1 || next_of(&ring).flags == IORING_CQE_F_NOTIF);
+        check(recv(to, text, 8, MSG_DONTWAIT) == 5 && memcmp(text, bytes, 5) == 0);
+        for (int k = 0; k < 2; k++)
+            close(ends[k]);
+        close(to);
+        close(from);
+        close_ring(&ring);
+    }
+}
+
+/* What is wrong with the address of a send is a fault of its entry, if it can't be read or is longer than any; what else, its socket says, to which one of
+ * no bytes is one. Seen at a ring of Linux 6.18. */
+static void test_refused_addresses(void)
+{
+    static char bytes[4], many[65536], unknown[128] = {(char)0xff, (char)0x7f};
+    struct sockaddr_storage name;
+    socklen_t size;
+    int to = make_named(AF_INET, &name, &size), from = socket(AF_INET, SOCK_DGRAM, 0), ends[2];
+    void *nowhere = (void *)8;
+    const struct {
+        const void *name;
+        uint32_t size, length;
+        bool is_stream;
+        int32_t res;
+    } rows[] = {
+        {&name, 16, 4, false, 4}, {&name, 128, 4, false, 4}, {&name, 129, 4, false, -EINVAL}, {&name, 65535, 4, false, -EINVAL}, {&name, 65536 + 16, 4, false, -EINVAL}, {&name, 0, 4, false, -EINVAL},
+        {&name, 8, 4, false, -EINVAL}, {nowhere, 16, 4, false, -EFAULT}, {nowhere, 129, 4, false, -EINVAL}, {nowhere, 0, 4, false, -EINVAL}, {NULL, 16, 4, false, -EDESTADDRREQ}, {NULL, 9999, 4, false, -EDESTADDRREQ}, {NULL, 65536, 4, false, -EINVAL},
+        {unknown, 128, 4, false, -EAFNOSUPPORT}, {&name, 16, 0, false, 0}, {&name, 16, sizeof many, false, -EMSGSIZE}, {&name, 16, 4, true, -EISCONN}, {&name, 0, 4, true, 4}, {&name, 129, 4, true, -EINVAL},
+    };
+    struct ring ring;
+    check(socketpair(AF_UNIX, SOCK_STREAM, 0, ends) == 0);
+    make_ring(&ring, 8, 0, 0);
+    for (size_t i = 0; i < 2 * (sizeof rows / sizeof *rows); i++) {
+        bool is_copied = i % 2 == 0;
+        if ((rows[i / 2].name == nowhere && is_under_valgrind()) || (rows[i / 2].is_stream && !is_copied))
+            continue;
+        struct io_uring_sqe *entry = put_send_to(&ring, is_copied ? IORING_OP_SEND : IORING_OP_SEND_ZC, 0, rows[i / 2].is_stream ? ends[0] : from, rows[i / 2].length > sizeof bytes ? many : bytes, rows[i / 2].length, rows[i / 2].name, 0);
+        entry->file_index = rows[i / 2].size;
+        check(enter(&ring, 1, 0, 0) == 1);
+        struct seen found = next_of(&ring);
+        check(found.res == rows[i / 2].res);
+        check(!(found.flags & IORING_CQE_F_MORE) || next_of(&ring).flags == IORING_CQE_F_NOTIF);
+    }
+    close(to);
+    close(from);
+    close(ends[0]);
+    close(ends[1]);
+    close_ring(&ring);
+}
+
+/* One to a socket that takes no more waits until that takes some. (On a ring of Linux 6.18 it is sent without its bytes then: they were copied when there was no
+ * room, and aren't once more.) */
+static void test_send_to_full(void)
+{
+    struct ring ring;
+    struct sockaddr_storage name;
+    socklen_t size;
+    static char bytes[1024];
+    int to = make_named(AF_UNIX, &name, &size), from = socket(AF_UNIX, SOCK_DGRAM, 0);
+    make_ring(&ring, 8, 0, 0);
+    while (sendto(from, bytes, sizeof bytes, MSG_DONTWAIT, (void *)&name, size) > 0)
+        ;
+    put_send_to(&ring, IORING_OP_SEND, 0, from, bytes, 3, &name, size);
+    check(enter(&ring, 1, 0, 0) == 1 && enter_for(&ring, 1, 1000000) == -ETIME);
+    check(recv(to, bytes, sizeof bytes, MSG_DONTWAIT) > 0);
+    check(wait_for_one(&ring) == 3);
+    put_send_to(&ring, IORING_OP_SEND, 0, from, bytes, 3, &name, size)->msg_flags = MSG_DONTWAIT;
+    check(result_of_one(&ring, 1) == -EAGAIN);
+    close(to);
+    close(from);
+    close_ring(&ring);
+}
+
 /* What is told of a message: how many bytes its address has, where there is a place for one; then its flags; and then how many control data. What stands behind
  * a field that can't be written stays as it was. Seen at a ring of Linux 6.18. */
 static void test_told_in_order(void)
@@ -170,6 +284,9 @@ int main(int count, char **words)
         {"refused messages", test_refused_messages},
         {"addresses are copied", test_addresses_are_copied},
         {"told in order", test_told_in_order},
+        {"sends to addresses", test_sends_to_addresses},
+        {"refused addresses", test_refused_addresses},
+        {"send to full", test_send_to_full},
     };
     return run_tests(tests, sizeof tests / sizeof *tests, count > 1 ? words[1] : NULL);
 }

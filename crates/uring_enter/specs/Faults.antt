@@ -11,8 +11,8 @@ given_result Disk = Some (error 5)
 given_result Room = Some (error 28)
 given_result Short = None
 
--- the disk fails (EIO) in transfers, FSYNC (3) and FALLOCATE (17), and has no room (ENOSPC) for writes and FALLOCATE. A transfer of more than a byte can be short; but one on a stream may have to wait, and be made again
+-- the disk fails (EIO) in transfers, FSYNC (3), FALLOCATE (17) and FTRUNCATE (55), and has no room (ENOSPC) for writes and FALLOCATE. A transfer of more than a byte can be short; but one on a stream may have to wait, and be made again
 abbrev pub can_have : ℕ → Bool → ℕ → Fault → Bool
-can_have code is_stream length Disk = is_transfer code || code == 3 || code == 17
+can_have code is_stream length Disk = is_transfer code || code == 3 || code == 17 || code == 55
 can_have code is_stream length Room = is_write code || code == 17
 can_have code is_stream length Short = is_transfer code && not is_stream && nat_lt 1 length

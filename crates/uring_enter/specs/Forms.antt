@@ -108,9 +108,10 @@ has_no_file code =
 abbrev pub gives_what_is_barred : Submission → Bool
 gives_what_is_barred e = not (e.personality == 0) || not (is_bare (rule_of e.opcode) e)
 
--- a slot (IOSQE_FIXED_FILE, 1), where no file is looked for
-abbrev pub names_slot_in_vain : Submission → Bool
-names_slot_in_vain e = has_some e.flags 1 && has_no_file e.opcode
+-- a slot (IOSQE_FIXED_FILE, 1), where no file is looked for; or none, of a FIXED_FD_INSTALL (54), which is of a slot alone
+abbrev pub names_wrong_file : Submission → Bool
+names_wrong_file e =
+    has_some e.flags 1 && has_no_file e.opcode || e.opcode == 54 && not (has_some e.flags 1)
 
 -- READ, WRITE, SEND, RECV and SEND_ZC (47): of these the kernel looks at the buffer's address beforehand, but where a provided (32) or a registered one (IORING_RECVSEND_FIXED_BUF, 4) takes its place
 abbrev pub names_buffer : Submission → Bool
@@ -124,11 +125,11 @@ fault_of_buffers e =
     if e.opcode == 31 then provision_fault e else
     if names_buffer e && is_out_of_reach e.addr e.len then error 14 else pos 0
 
--- the fault of an entry's fields, or 0: -22 (EINVAL) of what is barred, -9 (EBADF) of a slot in vain, -22 of what else its operation asks for, and then that of buffers
+-- the fault of an entry's fields, or 0: -22 (EINVAL) of what is barred, -9 (EBADF) of a slot in vain or of none, -22 of what else its operation asks for, and then that of buffers
 abbrev pub field_fault : Submission → ℤ
 field_fault e =
     if gives_what_is_barred e then error 22 else
-    if names_slot_in_vain e then error 9 else
+    if names_wrong_file e then error 9 else
     if not (is_right (rule_of e.opcode) e) then error 22 else
     fault_of_buffers e
 

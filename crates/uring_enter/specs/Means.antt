@@ -11,6 +11,7 @@ use Rattle.uring_enter.specs.Asking.{asked_descriptors}
 use Rattle.uring_enter.specs.Clocks.{has_some}
 use Rattle.uring_enter.specs.Layouts.{call_flags}
 use Rattle.uring_enter.specs.Needs.{is_transfer, is_send, is_of_sockets, is_splice, advised_length}
+use Rattle.uring_enter.specs.Pieces.{address_size}
 use Rattle.uring_enter.specs.Readiness.{has_message_flags}
 use Rattle.uring_enter.specs.SystemCalls as sys
 use Rattle.uring_enter.specs.SystemCalls.{of_three, of_four, of_five, of_six, word_of}
@@ -56,6 +57,11 @@ changes_slots e =
     || (e.opcode == 13 || e.opcode == 18 || e.opcode == 19 || e.opcode == 28 || e.opcode == 45)
     && not (e.file_index == 0)
 
+-- a new descriptor of the same file, the lowest that is free: F_DUPFD_CLOEXEC (1030), or with IORING_FIXED_FD_NO_CLOEXEC (1) F_DUPFD (0). fcntl(2)
+abbrev pub duplicate_of : Submission → Held → SystemCall
+duplicate_of e h =
+    of_three sys.fcntl (word_of h.fd) (if has_some e.op_flags 1 then 0 else 1030) 0
+
 -- operations on what is open
 abbrev pub of_descriptors : Submission → Held → Means
 of_descriptors e h =
@@ -72,13 +78,26 @@ of_descriptors e h =
     if e.opcode == 25 then Call (of_three sys.madvise e.addr (advised_length e) e.op_flags) else
     -- EPOLL_CTL: `fd` is the epoll instance, `len` what is done, and `off` with which descriptor
     if e.opcode == 29 then Call (of_four sys.epoll_ctl (word_of e.fd) e.len (low e.off) h.value) else
+    -- FIXED_FD_INSTALL; FTRUNCATE, whose length is `off`
+    if e.opcode == 54 then Call (duplicate_of e h) else
+    if e.opcode == 55 then Call (of_three sys.ftruncate (word_of h.fd) e.off 0) else
     -- SPLICE and TEE
     Splice (splice_of e h)
+
+-- a SEND or a SEND_ZC that names an address, where `off` says
+abbrev pub names_address : Submission → Bool
+names_address e = (e.opcode == 26 || e.opcode == 47) && not (e.off == 0)
+
+-- it is sent by sendto(2), of the bytes that are left: to sendmsg(2) an address of no bytes is none
+abbrev pub send_to : Submission → Held → SystemCall
+send_to e h =
+    of_six sys.sendto (word_of h.fd) h.buffer h.length (call_flags e) h.address (address_size e)
 
 -- operations on sockets. A message is that which is held, and waits for nothing
 abbrev pub of_sockets : Submission → Held → Means
 of_sockets e h =
     -- SENDMSG, SEND, SEND_ZC and SENDMSG_ZC
+    if names_address e then Send (send_to e h) else
     if is_send e.opcode then Send (of_three sys.sendmsg (word_of h.fd) h.value (call_flags e)) else
     -- RECVMSG and RECV
     if e.opcode == 10 then ReceiveMessage (of_three sys.recvmsg (word_of h.fd) h.value (call_flags e)) else
@@ -89,6 +108,9 @@ of_sockets e h =
     if e.opcode == 16 then Connect (of_three sys.connect (word_of h.fd) h.value e.off) else
     -- SHUTDOWN
     if e.opcode == 34 then Call (of_three sys.shutdown (word_of h.fd) e.len 0) else
+    -- BIND, whose address has `off` bytes; LISTEN, whose backlog is `len`
+    if e.opcode == 56 then Call (of_three sys.bind (word_of h.fd) h.value e.off) else
+    if e.opcode == 57 then Call (of_three sys.listen (word_of h.fd) e.len 0) else
     -- SOCKET: `fd` is the domain, `off` the type, and `len` the protocol
     opens e (of_three sys.socket (word_of e.fd) (low e.off) e.len)
 
@@ -168,10 +190,12 @@ CallsNeverSleep = (e : Submission) → is_of_sockets e.opcode || is_splice e.opc
 abbrev pub is_on_descriptor : ℕ → Bool
 is_on_descriptor code =
     code == 3 || code == 8 || code == 17 || code == 19 || code == 24 || code == 25 || code == 29 || code == 30 || code == 33
+    || code == 54 || code == 55
 
 abbrev pub is_on_socket : ℕ → Bool
 is_on_socket code =
     code == 9 || code == 10 || code == 13 || code == 16 || code == 26 || code == 27 || code == 34 || code == 45 || code == 47 || code == 48
+    || code == 56 || code == 57
 
 abbrev pub is_on_path : ℕ → Bool
 is_on_path code = code == 18 || code == 21 || code == 28 || nat_le 35 code && nat_le code 39

@@ -9,9 +9,9 @@ use Rattle.uring_enter.specs.declared.copying.Copying.TheVariants.{Copies, Ends}
 use Rattle.uring_enter.specs.Clocks.{has_some}
 use Rattle.uring_entry.specs.Errors.{error, is_below}
 
--- CONNECT (16) has no message: its address is copied by itself, as its call takes it. connect(2). That of a send stands in its message, sendmsg(2)
+-- CONNECT (16) and BIND (56) have no message: their address is copied by itself, as their call takes it. connect(2), bind(2). That of a send stands in its message, sendmsg(2)
 abbrev pub is_address_alone : ℕ → Bool
-is_address_alone code = code == 16
+is_address_alone code = code == 16 || code == 56
 
 -- an address whose length is negative in 32 bits is -22 (EINVAL); where the header names none its length counts for nothing
 abbrev pub address_fault : Header → ℤ

@@ -48,11 +48,12 @@ is_splice code = code == 30 || code == 33
 abbrev pub is_poll : ℕ → Bool
 is_poll code = code == 6
 
--- an operation that acts on an open file, which its entry may name by the slot of a table: also FSYNC, SYNC_FILE_RANGE, FALLOCATE, FADVISE, SHUTDOWN, FSETXATTR and FGETXATTR. IOSQE_FIXED_FILE
+-- an operation that acts on an open file, which its entry may name by the slot of a table: also FSYNC, SYNC_FILE_RANGE, FALLOCATE, FADVISE, SHUTDOWN, FSETXATTR, FGETXATTR, FIXED_FD_INSTALL, FTRUNCATE, BIND and LISTEN. IOSQE_FIXED_FILE
 abbrev pub needs_file : ℕ → Bool
 needs_file code =
     is_transfer code || is_of_sockets code || is_splice code || is_poll code
     || code == 3 || code == 8 || code == 17 || code == 24 || code == 34 || code == 41 || code == 43
+    || code == 54 || code == 55 || code == 56 || code == 57
 
 -- the length of an advice: that of 64 bits, which FADVISE (24) has for an address and MADVISE for an offset; or that of 32 bits, where the long one is 0. What Linux 6.18 does
 abbrev pub advised_length : Submission → ℕ

@@ -21,12 +21,12 @@ wants_whole e has_message =
 abbrev pub cuts : Submission → Carried → Bool
 cuts e c = (e.opcode == 10 || e.opcode == 27) && c.has_message && has_some c.message_flags 40
 
--- SYNC_FILE_RANGE (8), FSYNC (3), FALLOCATE (17), STATX (21), MADVISE (25), SHUTDOWN (34), RENAMEAT, UNLINKAT, MKDIRAT, SYMLINKAT and LINKAT (35 to 39), FSETXATTR, SETXATTR, FGETXATTR and GETXATTR (41 to 44): Linux doesn't mark the request as failed if one of these is carried out and fails. What Linux 6.18 was seen to do
+-- SYNC_FILE_RANGE (8), FSYNC (3), FALLOCATE (17), STATX (21), MADVISE (25), SHUTDOWN (34), RENAMEAT, UNLINKAT, MKDIRAT, SYMLINKAT and LINKAT (35 to 39), FSETXATTR, SETXATTR, FGETXATTR and GETXATTR (41 to 44), FTRUNCATE (55): Linux doesn't mark the request as failed if one of these is carried out and fails. What Linux 6.18 was seen to do
 abbrev pub is_forgiving : ℕ → Bool
 is_forgiving code =
     code == 3 || code == 8 || code == 17 || code == 21 || code == 25 || code == 34
     || code == 35 || code == 36 || code == 37 || code == 38 || code == 39
-    || code == 41 || code == 42 || code == 43 || code == 44
+    || code == 41 || code == 42 || code == 43 || code == 44 || code == 55
 
 -- by Linux's rules a failure of one of these is a success to its link and to IOSQE_CQE_SKIP_SUCCESS, if it was carried out: not if something that it needs isn't there, nor if it was cancelled
 abbrev pub forgives : Submission → Carried → (linux : Bool) → Bool

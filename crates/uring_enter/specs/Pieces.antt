@@ -22,9 +22,12 @@ buffer_of e = record { what = Buffer; from = e.addr; size = e.len }
 abbrev pub value_of : Submission → Option Piece
 value_of e = unless (e.len == 0) Value e.off e.len
 
--- the address that a SEND_ZC may name, whose length stands in 16 bits of `file_index`
+-- how long the address is that a SEND or a SEND_ZC may name: that stands in 16 bits of `file_index`
+abbrev pub address_size : Submission → ℕ
+address_size e = bit_and e.file_index 65535
+
 abbrev pub address_of : Submission → Option Piece
-address_of e = unless (e.off == 0) Address e.off (bit_and e.file_index 65535)
+address_of e = unless (e.off == 0) Address e.off (address_size e)
 
 -- a path ends within 4,096 bytes, its last one 0, and the name of an attribute within 256. path_resolution(7); xattr(7)
 abbrev pub path_at : What → ℕ → Option Piece
@@ -33,7 +36,7 @@ path_at what from = stands what from 4096
 abbrev pub name_at : ℕ → Option Piece
 name_at from = stands SecondPath from 256
 
--- what is copied first; of one buffer nothing is. A vector has 16 bytes, a message 56, a time 16 and an event of an epoll instance 12; how long an address is a connect says in 32 bits of `off`
+-- what is copied first; of one buffer nothing is. A vector has 16 bytes, a message 56, a time 16 and an event of an epoll instance 12; how long an address is a connect and a bind say in 32 bits of `off`
 abbrev pub first_of : Submission → Option Piece
 first_of e =
     -- READV and WRITEV
@@ -45,8 +48,8 @@ first_of e =
     -- TIMEOUT and LINK_TIMEOUT; TIMEOUT_REMOVE, if it is an update
     if e.opcode == 11 || e.opcode == 15 then stands Time e.addr 16 else
     if e.opcode == 12 then unless (e.op_flags == 0) Time e.off 16 else
-    -- CONNECT
-    if e.opcode == 16 then stands Address e.addr (bit_and e.off 4294967295) else
+    -- CONNECT and BIND
+    if e.opcode == 16 || e.opcode == 56 then stands Address e.addr (bit_and e.off 4294967295) else
     -- OPENAT2, whose structure says its size
     if e.opcode == 28 then stands How e.off e.len else
     -- OPENAT, STATX, RENAMEAT, UNLINKAT, MKDIRAT, SYMLINKAT and LINKAT
@@ -67,8 +70,8 @@ second_of e =
     if e.opcode == 41 || e.opcode == 42 && not (e.len == 0) then value_of e else
     -- SETXATTR and GETXATTR: the file's path
     if e.opcode == 42 || e.opcode == 44 then path_at Path e.addr3 else
-    -- SEND_ZC
-    if e.opcode == 47 then address_of e else None
+    -- SEND and SEND_ZC
+    if e.opcode == 26 || e.opcode == 47 then address_of e else None
 
 -- and third: the path of a SETXATTR behind its value
 abbrev pub third_of : Submission → Option Piece

@@ -65,7 +65,7 @@ rule_of code =
     if code == 10 then row (offset + slot) any Receive else
     if code == 13 then row (length + buffer) 526336 Accept else
     if code == 16 then bars (priority + length + own_flags + buffer + slot) else
-    if code == 26 then row offset any Send else
+    if code == 26 then row 0 any Send else
     if code == 27 then row (offset + slot) any Receive else
     if code == 34 then bars (priority + offset + address + own_flags + buffer + slot) else
     if code == 45 then row (priority + address + own_flags + buffer) any Socket else
@@ -100,7 +100,13 @@ rule_of code =
     if code == 40 then row (priority + buffer) 3 Nothing else
     -- FSETXATTR and SETXATTR, with XATTR_CREATE and XATTR_REPLACE; FGETXATTR and GETXATTR
     if code == 41 || code == 42 then row priority 3 Nothing else
-    if code == 43 || code == 44 then row priority 0 Nothing else None
+    if code == 43 || code == 44 then row priority 0 Nothing else
+    -- FIXED_FD_INSTALL, with IORING_FIXED_FD_NO_CLOEXEC; FTRUNCATE
+    if code == 54 then row (priority + offset + address + length + buffer + slot + third) 1 Nothing else
+    if code == 55 then bars (priority + address + length + own_flags + buffer + slot + third) else
+    -- BIND and LISTEN
+    if code == 56 then bars (priority + length + own_flags + buffer + slot) else
+    if code == 57 then bars (priority + offset + address + own_flags + buffer + slot) else None
 
 abbrev pub is_rule : Option Rule → Bool
 is_rule (Some _) = true

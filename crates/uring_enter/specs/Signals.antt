@@ -6,10 +6,10 @@ use Rattle.uring_enter.specs.Clocks.{has_some}
 use Rattle.uring_enter.specs.Needs.{is_write, is_splice}
 use Rattle.uring_entry.specs.Errors.{error}
 
--- a write, FALLOCATE (17) or SPLICE (30) may have had one that ends with -27 (EFBIG)
+-- a write, FALLOCATE (17), SPLICE (30) or FTRUNCATE (55) may have had one that ends with -27 (EFBIG)
 abbrev pub may_signal : Submission → ℤ → Bool
 may_signal e res =
-    (is_write e.opcode || e.opcode == 17 || e.opcode == 30) && int_eq res (error 27)
+    (is_write e.opcode || e.opcode == 17 || e.opcode == 30 || e.opcode == 55) && int_eq res (error 27)
 
 -- a splice or a tee, or a write that a worker makes since IOSQE_ASYNC (16) asks for it, may have had SIGPIPE that ends with -32 (EPIPE). Another write makes its call itself, and its program gets the signal
 abbrev pub may_break : Submission → ℤ → Bool

@@ -1,5 +1,5 @@
 -- What an operation of sockets asks of its entry, beside the fields that must be 0. io_uring_enter(2), IORING_OP_SEND and those of its kind; which fields an operation leaves free is what the kernel does.
-use Rattle.std.specs.Prelude.{Bool, not, ◌^◌, ◌&&◌, ◌||◌, ◌==◌, nat_lt}
+use Rattle.std.specs.Prelude.{Bool, not, ◌^◌, ◌&&◌, ◌||◌, ◌==◌, nat_lt, if◌then◌else◌}
 use Rattle.std.specs.Int.RustNames.{bit_and}
 use Rattle.uring_enter.specs.declared.submission.Submission.{Submission}
 use Rattle.uring_enter.specs.Clocks.{has_some}
@@ -12,9 +12,9 @@ has_length e = nat_lt e.len (2 ^ 31)
 abbrev pub is_send_message : Submission → Bool
 is_send_message e = has_length e && bit_and e.ioprio 65534 == 0
 
--- 16 bits of `file_index` say how long an address is, and the others are reserved
+-- 16 bits of `file_index` say how long an address is, which stands where `off` says, and the others are reserved. One of more than 128 bytes is refused before the buffer is looked at
 abbrev pub has_short_size : Submission → Bool
-has_short_size e = nat_lt e.file_index 65536
+has_short_size e = nat_lt e.file_index (if e.off == 0 then 65536 else 129)
 
 abbrev pub is_send : Submission → Bool
 is_send e = is_send_message e && has_short_size e

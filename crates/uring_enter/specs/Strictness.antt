@@ -11,10 +11,14 @@ pub data Looked : Type 0 where
   -- an entry, whose operation the kernel serves or not, and which knows IOSQE_CQE_SKIP_SUCCESS or not
   Looks : Submission → Bool → Bool → Looked
 
+-- the kernel doesn't serve its operation, or doesn't know IOSQE_CQE_SKIP_SUCCESS (64), which it has
+abbrev pub is_unserved : Submission → (is_served knows_skip : Bool) → Bool
+is_unserved e is_served knows_skip = not is_served || has_some e.flags 64 && not knows_skip
+
 -- the fault of an entry's operation and flags, which goes before: -22 (EINVAL) of what the kernel doesn't know, IOSQE_CQE_SKIP_SUCCESS (64) among that, else as on any ring
 abbrev pub unserved_fault : Submission → Bool → Bool → ℤ
 unserved_fault e is_served knows_skip =
-    if not is_served || has_some e.flags 64 && not knows_skip then error 22 else first_fault e
+    if is_unserved e is_served knows_skip then error 22 else first_fault e
 
 -- one without such a fault has skipped its success
 abbrev pub has_skipped : List Looked → Bool

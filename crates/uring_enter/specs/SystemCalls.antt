@@ -30,11 +30,23 @@ recvmsg = 47
 abbrev pub shutdown : ℕ
 shutdown = 48
 
+abbrev pub bind : ℕ
+bind = 49
+
+abbrev pub listen : ℕ
+listen = 50
+
+abbrev pub fcntl : ℕ
+fcntl = 72
+
 abbrev pub fsync : ℕ
 fsync = 74
 
 abbrev pub fdatasync : ℕ
 fdatasync = 75
+
+abbrev pub ftruncate : ℕ
+ftruncate = 77
 
 abbrev pub setxattr : ℕ
 setxattr = 188

@@ -23,7 +23,7 @@ pub fn can_have(code: u8, is_stream: bool, length: u64, fault: Fault) -> bool
     ensures { result ≡ spec.can_have code is_stream length fault }
 {
     match fault {
-        Fault::Disk => is_transfer(code) || matches!(code, 3 | 17),
+        Fault::Disk => is_transfer(code) || matches!(code, 3 | 17 | 55),
         Fault::Room => is_write(code) || code == 17,
         Fault::Short => is_transfer(code) && !is_stream && length > 1,
     }

@@ -102,11 +102,12 @@ fn gives_what_is_barred(entry: &Submission) -> bool
     entry.personality != 0 || !is_bare(entry)
 }
 
-/// A slot, where no file is looked for.
-fn names_slot_in_vain(entry: &Submission) -> bool
-    ensures { result ≡ spec.names_slot_in_vain entry.now }
+/// A slot, where no file is looked for, or none, where one has to be.
+fn names_wrong_file(entry: &Submission) -> bool
+    ensures { result ≡ spec.names_wrong_file entry.now }
 {
-    entry.flags & 1 != 0 && has_no_file(entry.opcode)
+    let is_of_slot = entry.flags & 1 != 0;
+    is_of_slot && has_no_file(entry.opcode) || entry.opcode == 54 && !is_of_slot
 }
 
 /// The fault of an entry's fields, or 0.
@@ -115,7 +116,7 @@ fn field_fault(entry: &Submission) -> i32
 {
     if gives_what_is_barred(entry) {
         -22
-    } else if names_slot_in_vain(entry) {
+    } else if names_wrong_file(entry) {
         -9
     } else if !is_right(entry) {
         -22

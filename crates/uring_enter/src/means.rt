@@ -6,12 +6,13 @@ ghost use Rattle.uring_enter.specs.Means.{CallsNeverSleep};
 
 use crate::layout::call_flags;
 use crate::needs::{advised_length, is_send, is_transfer};
+use crate::piece::address_size;
 use crate::submission::Submission;
 use crate::system_call::{
-    ACCEPT4, CLOSE, CONNECT, EPOLL_CTL, FADVISE64, FALLOCATE, FDATASYNC, FGETXATTR, FSETXATTR,
-    FSYNC, GETXATTR, LINKAT, MADVISE, MKDIRAT, OPENAT, OPENAT2, RECVMSG, RENAMEAT2, SENDMSG,
-    SETXATTR, SHUTDOWN, SOCKET, SPLICE, STATX, SYMLINKAT, SYNC_FILE_RANGE, SystemCall, TEE,
-    UNLINKAT, word_of,
+    ACCEPT4, BIND, CLOSE, CONNECT, EPOLL_CTL, FADVISE64, FALLOCATE, FCNTL, FDATASYNC, FGETXATTR,
+    FSETXATTR, FSYNC, FTRUNCATE, GETXATTR, LINKAT, LISTEN, MADVISE, MKDIRAT, OPENAT, OPENAT2,
+    RECVMSG, RENAMEAT2, SENDMSG, SENDTO, SETXATTR, SHUTDOWN, SOCKET, SPLICE, STATX, SYMLINKAT,
+    SYNC_FILE_RANGE, SystemCall, TEE, UNLINKAT, word_of,
 };
 
 /// What is held for a request when it is carried out: descriptors, and where in memory the copies of what its entry points to stand, or 0.
@@ -40,6 +41,15 @@ pub struct Held {
 
     /// and of that where it writes.
     pub offset_out: u64,
+
+    /// Of a send to an address: where its bytes stand that are left,
+    pub buffer: u64,
+
+    /// how many they are,
+    pub length: u64,
+
+    /// and the address.
+    pub address: u64,
 }
 
 /// A list of descriptors, whose files are put into slots.
@@ -166,18 +176,21 @@ pub fn means_of(entry: &Submission, held: &Held) -> Means
     }
 }
 
-/// FSYNC, SYNC_FILE_RANGE, FALLOCATE, CLOSE, FADVISE, MADVISE, EPOLL_CTL, SPLICE and TEE.
+/// FSYNC, SYNC_FILE_RANGE, FALLOCATE, CLOSE, FADVISE, MADVISE, EPOLL_CTL, SPLICE, TEE, FIXED_FD_INSTALL and FTRUNCATE.
 fn is_on_descriptor(code: u8) -> bool
     ensures { result ≡ spec.is_on_descriptor code }
 {
-    matches!(code, 3 | 8 | 17 | 19 | 24 | 25 | 29 | 30 | 33)
+    matches!(code, 3 | 8 | 17 | 19 | 24 | 25 | 29 | 30 | 33 | 54 | 55)
 }
 
-/// What goes by messages, ACCEPT, CONNECT, SHUTDOWN and SOCKET.
+/// What goes by messages, ACCEPT, CONNECT, SHUTDOWN, SOCKET, BIND and LISTEN.
 fn is_on_socket(code: u8) -> bool
     ensures { result ≡ spec.is_on_socket code }
 {
-    matches!(code, 9 | 10 | 13 | 16 | 26 | 27 | 34 | 45 | 47 | 48)
+    matches!(
+        code,
+        9 | 10 | 13 | 16 | 26 | 27 | 34 | 45 | 47 | 48 | 56 | 57
+    )
 }
 
 /// OPENAT, STATX, OPENAT2, RENAMEAT, UNLINKAT, MKDIRAT, SYMLINKAT and LINKAT.
@@ -266,6 +279,14 @@ fn close_of(entry: &Submission) -> Means
     }
 }
 
+/// What gives a descriptor of the same file.
+fn duplicate_of(entry: &Submission, held: &Held) -> SystemCall
+    ensures { result ≡ spec.duplicate_of entry.now held.now }
+{
+    let how = if entry.op_flags & 1 != 0 { 0 } else { 1030 };
+    SystemCall::of_three(FCNTL, word_of(held.fd), how, 0)
+}
+
 /// Operations on what is open.
 fn of_descriptors(entry: &Submission, held: &Held) -> Means
     ensures { result ≡ spec.of_descriptors entry.now held.now }
@@ -289,7 +310,24 @@ fn of_descriptors(entry: &Submission, held: &Held) -> Means
             let instance = word_of(entry.fd);
             Means::Call(SystemCall::of_four(EPOLL_CTL, instance, len, low(off), held.value))
         }
+        54 => Means::Call(duplicate_of(entry, held)),
+        55 => Means::Call(SystemCall::of_three(FTRUNCATE, fd, off, 0)),
         _ => Means::Splice(splice_of(entry, held)),
+    }
+}
+
+/// What sends to an address.
+fn send_to(entry: &Submission, held: &Held) -> SystemCall
+    ensures { result ≡ spec.send_to entry.now held.now }
+{
+    SystemCall {
+        number: SENDTO,
+        first: word_of(held.fd),
+        second: held.buffer,
+        third: held.length,
+        fourth: call_flags(entry) as u64,
+        fifth: held.address,
+        sixth: address_size(entry),
     }
 }
 
@@ -300,6 +338,7 @@ fn of_sockets(entry: &Submission, held: &Held) -> Means
     let (fd, off, addr, len) = (word_of(held.fd), entry.off, entry.addr, entry.len as u64);
     let (value, flags) = (held.value, call_flags(entry) as u64);
     match entry.opcode {
+        26 | 47 if entry.off != 0 => Means::Send(send_to(entry, held)),
         9 | 26 | 47 | 48 => Means::Send(SystemCall::of_three(SENDMSG, fd, value, flags)),
         10 => Means::ReceiveMessage(SystemCall::of_three(RECVMSG, fd, value, flags)),
         27 => Means::Receive(SystemCall::of_three(RECVMSG, fd, value, flags)),
@@ -309,6 +348,8 @@ fn of_sockets(entry: &Submission, held: &Held) -> Means
         }
         16 => Means::Connect(SystemCall::of_three(CONNECT, fd, value, off)),
         34 => Means::Call(SystemCall::of_three(SHUTDOWN, fd, len, 0)),
+        56 => Means::Call(SystemCall::of_three(BIND, fd, value, off)),
+        57 => Means::Call(SystemCall::of_three(LISTEN, fd, len, 0)),
         _ => {
             let domain = word_of(entry.fd);
             opens(entry, SystemCall::of_three(SOCKET, domain, low(off), len))

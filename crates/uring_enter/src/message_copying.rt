@@ -27,11 +27,11 @@ pub struct Header {
     pub name_size: u32,
 }
 
-/// Whether the address that the operation of this code names is copied by itself; else it stands in the message that is sent. IORING_OP_CONNECT.
+/// Whether the address that the operation of this code names is copied by itself; else it stands in the message that is sent. IORING_OP_CONNECT, BIND.
 pub fn is_address_alone(code: u8) -> bool
     ensures { result ≡ spec.is_address_alone code }
 {
-    code == 16
+    code == 16 || code == 56
 }
 
 /// What goes on behind so many pieces of an entry's message, of which the last has this fault, or 0.

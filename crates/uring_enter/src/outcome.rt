@@ -92,11 +92,11 @@ fn forgives(entry: &Submission, carried: &Carried, linux: bool) -> bool
     linux && is_forgiving(entry.opcode) && !carried.is_missing && !carried.is_cancelled
 }
 
-/// FSYNC, SYNC_FILE_RANGE, FALLOCATE, STATX, MADVISE, SHUTDOWN, names that are changed, and extended attributes.
+/// FSYNC, SYNC_FILE_RANGE, FALLOCATE, STATX, MADVISE, SHUTDOWN, names that are changed, extended attributes, and FTRUNCATE.
 fn is_forgiving(code: u8) -> bool
     ensures { result ≡ is_forgiving code }
 {
-    matches!(code, 3 | 8 | 17 | 21 | 25 | 34..=39 | 41..=44)
+    matches!(code, 3 | 8 | 17 | 21 | 25 | 34..=39 | 41..=44 | 55)
 }
 
 /// Whether an operation is a success only if it moves all that it is asked to.

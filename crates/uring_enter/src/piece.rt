@@ -80,7 +80,7 @@ fn first_of(entry: &Submission) -> Option<Piece>
         9 | 10 | 48 => stands(What::Message, entry.addr, 56),
         11 | 15 => stands(What::Time, entry.addr, 16),
         12 => unless(entry.op_flags == 0, What::Time, entry.off, 16),
-        16 => stands(What::Address, entry.addr, entry.off & 0xffff_ffff),
+        16 | 56 => stands(What::Address, entry.addr, entry.off & 0xffff_ffff),
         18 | 21 | 35..=39 => stands(What::Path, entry.addr, PATH_SIZE),
         28 => stands(What::How, entry.off, entry.len as u64),
         29 => unless(entry.len == 2, What::Value, entry.addr, 12),
@@ -98,7 +98,7 @@ fn second_of(entry: &Submission) -> Option<Piece>
         41 => value_of(entry),
         42 if entry.len != 0 => value_of(entry),
         42 | 44 => stands(What::Path, entry.addr3, PATH_SIZE),
-        47 => address_of(entry),
+        26 | 47 => address_of(entry),
         _ => None,
     }
 }
@@ -112,12 +112,23 @@ fn third_of(entry: &Submission) -> Option<Piece>
     }
 }
 
-/// The address that a send without copies may name.
+/// How long the address is that a send may name.
+pub(crate) fn address_size(entry: &Submission) -> u64
+    ensures { result ≡ spec.address_size entry.now }
+{
+    (entry.file_index & 0xffff) as u64
+}
+
+/// The address that a send may name.
 fn address_of(entry: &Submission) -> Option<Piece>
     ensures { result ≡ spec.address_of entry.now }
 {
-    let size = (entry.file_index & 0xffff) as u64;
-    unless(entry.off == 0, What::Address, entry.off, size)
+    unless(
+        entry.off == 0,
+        What::Address,
+        entry.off,
+        address_size(entry),
+    )
 }
 
 /// The value of an attribute that is set.

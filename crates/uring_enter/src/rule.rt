@@ -114,7 +114,7 @@ pub fn rule_of(code: u8) -> Option<Rule>
         10 => row(OFFSET | SLOT, ANY, Also::Receive),
         13 => row(LENGTH | BUFFER, OF_SOCKET, Also::Accept),
         16 => bars(PRIORITY | LENGTH | FLAGS | BUFFER | SLOT),
-        26 => row(OFFSET, ANY, Also::Send),
+        26 => row(0, ANY, Also::Send),
         27 => row(OFFSET | SLOT, ANY, Also::Receive),
         34 => bars(PRIORITY | OFFSET | ADDRESS | FLAGS | BUFFER | SLOT),
         45 => row(PRIORITY | ADDRESS | FLAGS | BUFFER, ANY, Also::Socket),
@@ -161,6 +161,14 @@ pub fn rule_of(code: u8) -> Option<Rule>
         40 => row(PRIORITY | BUFFER, 3, Also::Nothing),
         41 | 42 => row(PRIORITY, 3, Also::Nothing),
         43 | 44 => row(PRIORITY, 0, Also::Nothing),
+        54 => row(
+            PRIORITY | OFFSET | ADDRESS | LENGTH | BUFFER | SLOT | THIRD,
+            1,
+            Also::Nothing,
+        ),
+        55 => bars(PRIORITY | ADDRESS | LENGTH | FLAGS | BUFFER | SLOT | THIRD),
+        56 => bars(PRIORITY | LENGTH | FLAGS | BUFFER | SLOT),
+        57 => bars(PRIORITY | OFFSET | ADDRESS | FLAGS | BUFFER | SLOT),
         _ => None,
     }
 }

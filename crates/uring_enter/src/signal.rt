@@ -23,7 +23,7 @@ pub fn signal_behind(entry: &Submission, res: i32) -> u32
 fn may_signal(entry: &Submission, res: i32) -> bool
     ensures { result ≡ spec.may_signal entry.now res }
 {
-    res == -27 && (is_write(entry.opcode) || matches!(entry.opcode, 17 | 30))
+    res == -27 && (is_write(entry.opcode) || matches!(entry.opcode, 17 | 30 | 55))
 }
 
 /// Whether SIGPIPE may have come of an operation that ended with this, and that a worker of a kernel's would have carried out.

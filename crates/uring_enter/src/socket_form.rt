@@ -18,11 +18,11 @@ pub(crate) fn is_send_message(entry: &Submission) -> bool
     has_length(entry) && entry.ioprio & !1 == 0
 }
 
-/// The upper half of this word is reserved.
+/// The upper half of this word is reserved, and an address has 128 bytes at most.
 fn has_short_size(entry: &Submission) -> bool
     ensures { result ≡ spec.has_short_size entry.now }
 {
-    entry.file_index < 0x1_0000
+    entry.file_index < if entry.off == 0 { 0x1_0000 } else { 129 }
 }
 
 pub(crate) fn is_send(entry: &Submission) -> bool

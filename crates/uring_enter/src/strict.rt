@@ -2,7 +2,7 @@
 
 ghost use Rattle.std.specs.Prelude.{◌≡◌, List, [], ◌∷◌};
 ghost use Rattle.uring_enter.specs.Strictness as spec;
-ghost use Rattle.uring_enter.specs.Strictness.{Looked, Looks, KeepsStrict, looked_by, refusal_by, refusal_of, unserved_fault};
+ghost use Rattle.uring_enter.specs.Strictness.{Looked, Looks, KeepsStrict, looked_by, is_unserved, refusal_by, refusal_of, unserved_fault};
 
 use crate::form::first_fault;
 use crate::submission::Submission;
@@ -63,11 +63,18 @@ impl Strict {
     }
 }
 
+/// Whether a kernel that serves its operation or not, and knows IOSQE_CQE_SKIP_SUCCESS or not, lacks what an entry asks for.
+fn is_unserved(entry: &Submission, is_served: bool, knows_skip: bool) -> bool
+    ensures { result ≡ is_unserved entry.now is_served knows_skip }
+{
+    !is_served || entry.flags & 64 != 0 && !knows_skip
+}
+
 /// The fault of an entry's operation and flags in a kernel that serves the operation or not, and knows IOSQE_CQE_SKIP_SUCCESS or not.
 fn unserved_fault(entry: &Submission, is_served: bool, knows_skip: bool) -> i32
     ensures { result ≡ unserved_fault entry.now is_served knows_skip }
 {
-    if !is_served || entry.flags & 64 != 0 && !knows_skip {
+    if is_unserved(entry, is_served, knows_skip) {
         -22
     } else {
         first_fault(entry)

@@ -21,9 +21,17 @@ pub(crate) const RECVMSG: u64 = 47;
 
 pub(crate) const SHUTDOWN: u64 = 48;
 
+pub(crate) const BIND: u64 = 49;
+
+pub(crate) const LISTEN: u64 = 50;
+
+pub(crate) const FCNTL: u64 = 72;
+
 pub(crate) const FSYNC: u64 = 74;
 
 pub(crate) const FDATASYNC: u64 = 75;
+
+pub(crate) const FTRUNCATE: u64 = 77;
 
 pub(crate) const SETXATTR: u64 = 188;
 

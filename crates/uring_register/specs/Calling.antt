@@ -126,9 +126,9 @@ is_content _ c = true
 abbrev pub content_fault : Call → Bool → Content → ℤ
 content_fault call is_read c = if is_read then unless (is_content call c) else error 14
 
--- what a probe tells: the last operation that there is, SENDMSG_ZC (48), and how many rows are looked at, and told, which are those of operations that there are
+-- what a probe tells: the last operation that there is, LISTEN (57), and how many rows are looked at, and told, which are those of operations that there are
 abbrev pub probe_of : ℕ → Probed
-probe_of count = record { last = 48; rows = min count 49 }
+probe_of count = record { last = 57; rows = min count 58 }
 
 -- whether a call ends requests, each of which then posts its completion: a cancel
 abbrev pub ends_requests : Call → Bool

@@ -6,11 +6,11 @@ use Rattle.uring_register.specs.declared.restrictions.Restriction.{Restriction}
 use Rattle.uring_register.specs.declared.restrictions.Restrictions.{Restrictions}
 use Rattle.uring_entry.specs.Errors.{error}
 
--- a row is of one of four kinds, and names a call or an operation that there is. The calls of io_uring_register(2) are those up to IORING_REGISTER_FILE_ALLOC_RANGE (25), the operations those up to IORING_OP_SENDMSG_ZC (48)
+-- a row is of one of four kinds, and names a call or an operation that there is. The calls of io_uring_register(2) are those up to IORING_REGISTER_FILE_ALLOC_RANGE (25), the operations those up to IORING_OP_LISTEN (57)
 abbrev pub is_row : Restriction → Bool
 is_row r =
     if r.kind == 0 then nat_lt r.number 26 else
-    if r.kind == 1 then nat_lt r.number 49 else nat_lt r.kind 4
+    if r.kind == 1 then nat_lt r.number 58 else nat_lt r.kind 4
 
 abbrev pub row_fault : Restriction → ℤ
 row_fault r = if is_row r then pos 0 else error 22

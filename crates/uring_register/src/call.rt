@@ -217,8 +217,8 @@ pub fn probe_of(count: u32) -> Probe
     ensures { result ≡ spec.probe_of count }
 {
     Probe {
-        last: 48,
-        rows: count.min(49) as u8,
+        last: 57,
+        rows: count.min(58) as u8,
     }
 }
 

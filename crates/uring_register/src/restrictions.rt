@@ -131,7 +131,7 @@ fn is_row(row: Restriction) -> bool
 {
     match row.kind {
         0 => row.number < 26,
-        1 => row.number < 49,
+        1 => row.number < 58,
         _ => row.kind < 4,
     }
 }
