@@ -95,3 +95,4 @@ pub mod Advances
 pub mod Asking
 pub mod Carrying
 pub mod Hearing
+pub mod Closing
