@@ -215,6 +215,23 @@ struct wulgach_argument {
     bool is_time_readable;      /* and that can be read */
 };
 
+/* The structure as it stands in memory: `struct io_uring_getevents_arg`. */
+struct wulgach_extended_form {
+    uint64_t sigmask;
+    uint32_t sigmask_sz, pad;
+    uint64_t ts;
+};
+
+/* What it gives. */
+struct wulgach_given {
+    uint64_t mask_at, mask_size;    /* where its mask is, and its size; 0: it has none */
+    uint64_t time_at;               /* where its time is, */
+    bool has_time;                  /* unless it has none */
+};
+
+/* Writes that: the mask stands at `sigmask`, and the time at `ts`, unless that is 0. */
+void wulgach_argument_gives(const struct wulgach_extended_form *extended, struct wulgach_given *given);
+
 /* Whether a call reads its last argument that is asked to submit so many entries, and whose submission came to this: it gets events
  * (IORING_ENTER_GETEVENTS), and all was submitted. */
 bool wulgach_reads_argument(bool gets, uint32_t to_submit, int64_t submitted);

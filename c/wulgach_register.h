@@ -106,16 +106,31 @@ enum wulgach_fate {
  * closed or another ring is made: it is freed once no call is on it and no descriptor is open on it, if that is known. */
 uint32_t wulgach_ring_fate(bool is_own, uint32_t calls, bool knows, bool is_open);
 
+/* Whether a descriptor of this process may name a ring that was made by that one: to a child it names none of its parent's, so that its call ends with
+ * -95. Our own rule. */
+bool wulgach_may_name_ring_of(uint32_t maker, uint32_t process);
+
+/* It is looked of all rings whether they are closed. */
+enum { WULGACH_ALL_RINGS = 0x7fffffff };
+
+/* Of how many rings it is looked whether they are closed, in their turn, where not every close is heard: before a call sleeps; and as one ends, since a
+ * ring may have been closed while a call was on it, or once in ten milliseconds, where there are so many rings in all. Where one is closed, all that are
+ * let go what they have. And whether it matters how long ago it was last looked, in nanoseconds: else that may be anything. Our own rule. */
+uint32_t wulgach_looked_at_before_sleep(void);
+uint32_t wulgach_looked_at_behind(bool may_be_left, uint32_t rings, uint64_t elapsed);
+bool wulgach_asks_elapsed(bool may_be_left, uint32_t rings);
+
 /* ---- what can't be asked, as where there is no /proc ---- */
 
 enum wulgach_matter {
     WULGACH_IS_REACHED = 0,     /* a descriptor is open on a ring */
     WULGACH_IS_EVENTFD = 1,     /* it is an eventfd's, as a call says */
     WULGACH_IS_COUNTER = 2,     /* one of no kind of file counts, as an eventfd or a timerfd does */
-    WULGACH_IS_ONLINE = 3       /* a processor is online */
+    WULGACH_IS_ONLINE = 3,      /* a processor is online */
+    WULGACH_IS_SAME_FILE = 4    /* two descriptors are on one file */
 };
 
-/* Whether this is taken to be so (enum wulgach_matter), where it is known to be so or not, or isn't known: then all but a counter are. */
+/* Whether this is taken to be so (enum wulgach_matter), where it is known to be so or not, or isn't known: then all but a counter and one file are. */
 bool wulgach_is_taken_so(uint32_t matter, bool knows, bool is_so);
 
 /* Whether a list of processors has this number, as the kernel lists those that are online: numbers, and two with a hyphen between for all from the

@@ -288,7 +288,11 @@ bool wulgach_is_tried_first(const struct wulgach_submission *entry, uint32_t lea
 enum wulgach_beginning {
     WULGACH_SLEEP_FAILS = 0,    /* with the fault */
     WULGACH_SLEEP_WAKES = 1,    /* it needn't: something may go on */
-    WULGACH_SLEEPS = 2
+    WULGACH_SLEEPS = 2,
+    WULGACH_LETS_OTHERS_GO = 3, /* rings that were closed let go what they have: it is looked at so many (wulgach_looked_at_before_sleep) */
+    WULGACH_READS_MASK = 4,     /* its mask is read */
+    WULGACH_DOES_DUTIES = 5,    /* what is due before a sleep is done */
+    WULGACH_SLEEP_AT_FIRST = 6
 };
 
 /* What a sleep came to, where its ppoll(2) came to this (0 or more, or an error number's negative): that; but -4 (EINTR) in a child that was forked
@@ -315,8 +319,10 @@ enum wulgach_left {
  * child that was forked while a call slept on its parent's ring, and is back from that sleep. Our own rule. */
 uint32_t wulgach_left_of(uint32_t maker, uint32_t process);
 
-/* Returns whether a sleep begins (enum wulgach_beginning) whose arguments have this fault, or 0, and before which a poll was told, or none. */
-uint32_t wulgach_sleep_begins(int32_t fault, bool is_told);
+/* Returns what comes next of a call that is to sleep (enum wulgach_beginning), behind `last`, which has brought what may let something go on, as the end
+ * of another ring's files, or what a poll was told; and whose arguments have this fault, or 0, once its mask was read. Where a ring has let go what it had,
+ * the call looks again before a fault counts. */
+uint32_t wulgach_sleep_next(uint32_t last, bool has_brought, int32_t fault);
 
 /* What is known behind a wait. */
 struct wulgach_waited {

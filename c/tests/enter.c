@@ -149,6 +149,13 @@ static void read_arguments(void)
     check(wulgach_last_argument_fault(&argument) == -22, "one of another size");
     argument.is_extended = false;
     check(wulgach_last_argument_fault(&argument) == 0, "a mask");
+    struct wulgach_extended_form extended = {.sigmask = 3, .sigmask_sz = 8, .pad = 9, .ts = 1ull << 32};
+    struct wulgach_given given;
+    wulgach_argument_gives(&extended, &given);
+    check(given.mask_at == 3 && given.mask_size == 8 && given.time_at == 1ull << 32 && given.has_time, "a structure with both");
+    extended = (struct wulgach_extended_form){.pad = 9};
+    wulgach_argument_gives(&extended, &given);
+    check(given.mask_at == 0 && given.mask_size == 0 && !given.has_time, "one with neither");
     check(wulgach_asks_mask(true, 0, 0) && !wulgach_asks_mask(true, 0, 1) && !wulgach_asks_mask(true, 0, UINT32_MAX) && !wulgach_asks_mask(false, 0, 0) && !wulgach_asks_mask(true, -14, 0), "when a mask is read");
     check(wulgach_sleep_fault(0, true, -14) == -14 && wulgach_sleep_fault(-22, true, -14) == -22 && wulgach_sleep_fault(0, false, -14) == 0, "which fault counts");
     check(wulgach_mask_fault(8, true) == 0 && wulgach_mask_fault(8, false) == -14 && wulgach_mask_fault(3, false) == -22, "its faults");

@@ -263,7 +263,8 @@ static void sleep_for_requests(void)
 static void sleep_or_not(void)
 {
     demand(wulgach_fires_behind(&(struct wulgach_waited){0}) && wulgach_fires_behind(&(struct wulgach_waited){.result = 2}) && !wulgach_fires_behind(&(struct wulgach_waited){.result = -4}) && !wulgach_fires_behind(&(struct wulgach_waited){.is_never = true}), "behind which sleep a timeout fires");
-    demand(wulgach_sleep_begins(-14, true) == WULGACH_SLEEP_FAILS && wulgach_sleep_begins(0, true) == WULGACH_SLEEP_WAKES && wulgach_sleep_begins(0, false) == WULGACH_SLEEPS, "whether a sleep begins");
+    demand(wulgach_sleep_next(WULGACH_SLEEP_AT_FIRST, true, -14) == WULGACH_LETS_OTHERS_GO && wulgach_sleep_next(WULGACH_LETS_OTHERS_GO, true, -14) == WULGACH_SLEEP_WAKES && wulgach_sleep_next(WULGACH_LETS_OTHERS_GO, false, 0) == WULGACH_READS_MASK && wulgach_sleep_next(WULGACH_READS_MASK, true, -14) == WULGACH_DOES_DUTIES, "what comes before a sleep");
+    demand(wulgach_sleep_next(WULGACH_DOES_DUTIES, true, -14) == WULGACH_SLEEP_FAILS && wulgach_sleep_next(WULGACH_DOES_DUTIES, true, 0) == WULGACH_SLEEP_WAKES && wulgach_sleep_next(WULGACH_DOES_DUTIES, false, 0) == WULGACH_SLEEPS, "whether a sleep begins");
     demand(wulgach_sleep_came_to(2, false) == 2 && wulgach_sleep_came_to(-12, false) == -12 && wulgach_sleep_came_to(2, true) == -4, "a child leaves a sleep");
     demand(wulgach_lets_more_lie(-22) && !wulgach_lets_more_lie(-4) && !wulgach_lets_more_lie(1), "behind which sleep more become dormant");
     demand(wulgach_sleep_counted_as(-22, 3, 4) == 1 && wulgach_sleep_counted_as(-22, 3, 3) == -22 && wulgach_sleep_counted_as(-12, 3, 4) == -12 && wulgach_sleep_counted_as(0, 3, 4) == 0, "what that counts as");

@@ -304,6 +304,9 @@ static void go_through_set_ups(void)
     demand(wulgach_region_of(0) == WULGACH_RINGS && wulgach_region_of(0x8001000) == WULGACH_RINGS && wulgach_region_of(0x10000000) == WULGACH_ENTRIES && wulgach_region_of(0x18000000) == WULGACH_NO_REGION, "what is mapped");
     demand(wulgach_ring_fate(false, 0, true, false) == WULGACH_RING_STAYS && wulgach_ring_fate(true, 1, true, false) == WULGACH_RING_STAYS && wulgach_ring_fate(true, 0, false, false) == WULGACH_RING_ASKS, "rings that stay");
     demand(wulgach_ring_fate(true, 0, true, true) == WULGACH_RING_STAYS && wulgach_ring_fate(true, 0, true, false) == WULGACH_RING_GOES, "one that goes");
+    demand(wulgach_may_name_ring_of(5, 5) && !wulgach_may_name_ring_of(4, 5), "whose ring a descriptor names");
+    demand(wulgach_looked_at_before_sleep() == 8 && wulgach_looked_at_behind(true, 1, 0) == WULGACH_ALL_RINGS && wulgach_looked_at_behind(false, 2, 10000000) == 8 && wulgach_looked_at_behind(false, 2, 9999999) == 0 && wulgach_looked_at_behind(false, 1, UINT64_MAX) == 0, "how many are looked at");
+    demand(wulgach_asks_elapsed(false, 2) && !wulgach_asks_elapsed(false, 1) && !wulgach_asks_elapsed(true, 2), "when the time matters");
     demand(wulgach_holding_fault(-1, false) == -9 && wulgach_holding_fault(3, true) == -9 && wulgach_holding_fault(3, false) == 0 && wulgach_telling_fault(true) == 0 && wulgach_telling_fault(false) == -14, "files");
 }
 
@@ -354,8 +357,8 @@ static void list_processors(void)
 
 static void take_what_is_unknown(void)
 {
-    demand(wulgach_is_taken_so(WULGACH_IS_REACHED, false, false) && wulgach_is_taken_so(WULGACH_IS_EVENTFD, false, false) && !wulgach_is_taken_so(WULGACH_IS_COUNTER, false, true) && wulgach_is_taken_so(WULGACH_IS_ONLINE, false, false), "what isn't known");
-    for (uint32_t matter = WULGACH_IS_REACHED; matter <= WULGACH_IS_ONLINE; matter++)
+    demand(wulgach_is_taken_so(WULGACH_IS_REACHED, false, false) && wulgach_is_taken_so(WULGACH_IS_EVENTFD, false, false) && !wulgach_is_taken_so(WULGACH_IS_COUNTER, false, true) && wulgach_is_taken_so(WULGACH_IS_ONLINE, false, false) && !wulgach_is_taken_so(WULGACH_IS_SAME_FILE, false, true), "what isn't known");
+    for (uint32_t matter = WULGACH_IS_REACHED; matter <= WULGACH_IS_SAME_FILE; matter++)
         demand(wulgach_is_taken_so(matter, true, true) && !wulgach_is_taken_so(matter, true, false), "what is");
 }
 

@@ -70,7 +70,7 @@ __attribute__((constructor)) static void watch_forks(void)
 
 static bool is_own(const struct ring *ring)
 {
-    return ring->process == this_process();
+    return wulgach_may_name_ring_of((uint32_t)ring->process, (uint32_t)this_process());
 }
 
 uint32_t what_is_left(const struct ring *ring)
@@ -116,7 +116,7 @@ static bool is_gone(struct ring *ring)
     return fate == WULGACH_RING_GOES;
 }
 
-/* Whether a ring may be closed that a call is on: whoever ends one looks. */
+/* Whether a ring may be closed that a call is on. */
 static bool is_left_in_call;
 
 /* The same. One that only a call keeps goes as that ends, which may have been just before that was noted. */
@@ -266,18 +266,23 @@ static struct ring *next_to_look_at(void)
     return looked_at;
 }
 
-bool let_others_go(void)
+/* Looks at so many in their turn, and where one has gone at all. */
+static bool look_at_others(uint32_t most)
 {
-    enum { FEW = 8 };
     pthread_mutex_lock(&rings_lock);
     struct ring *first = next_to_look_at();
     bool has_gone = first && is_gone(first);
-    for (int i = 1; i < FEW && !has_gone && next_to_look_at() != first; i++)
+    for (uint32_t i = 1; i < most && !has_gone && next_to_look_at() != first; i++)
         has_gone = is_gone(looked_at);
     if (has_gone)
         free_closed_rings();
     pthread_mutex_unlock(&rings_lock);
     return has_gone;
+}
+
+bool let_others_go(void)
+{
+    return look_at_others(wulgach_looked_at_before_sleep());
 }
 
 /* (who has the lock may wait for what the thread of the handler has: then whoever ends a call next looks) */
@@ -316,28 +321,36 @@ struct ring *hold_ring(int fd)
     return ring;
 }
 
-/* Where there are other rings, once in ten milliseconds. */
-static bool is_time_to_look(void)
+static uint64_t last_look;          /* when it was last looked as a call ended, in nanoseconds */
+
+static uint64_t coarse_time(void)
 {
-    enum { EVERY = 10000000 };
-    static uint64_t last;
-    struct timespec now;
-    if (__atomic_load_n(&ring_count, __ATOMIC_RELAXED) < 2 || clock_gettime(CLOCK_MONOTONIC_COARSE, &now) < 0)
-        return false;
-    uint64_t at = (uint64_t)now.tv_sec * 1000000000 + (uint64_t)now.tv_nsec;
-    if (at - __atomic_load_n(&last, __ATOMIC_RELAXED) < EVERY)
-        return false;
-    __atomic_store_n(&last, at, __ATOMIC_RELAXED);
-    return true;
+    struct timespec now = {0};
+    clock_gettime(CLOCK_MONOTONIC_COARSE, &now);
+    return (uint64_t)now.tv_sec * 1000000000 + (uint64_t)now.tv_nsec;
+}
+
+/* Looks whether rings are closed, as the library says that a call does which ends. */
+static void look_behind_call(void)
+{
+    bool may_be_left = __atomic_load_n(&is_left_in_call, __ATOMIC_SEQ_CST);
+    uint32_t rings = __atomic_load_n(&ring_count, __ATOMIC_RELAXED);
+    uint64_t now = wulgach_asks_elapsed(may_be_left, rings) ? coarse_time() : 0;
+    uint32_t most = wulgach_looked_at_behind(may_be_left, rings, now - __atomic_load_n(&last_look, __ATOMIC_RELAXED));
+    if (most == 0)
+        return;
+    if (most == WULGACH_ALL_RINGS) {
+        free_closed();
+        return;
+    }
+    __atomic_store_n(&last_look, now, __ATOMIC_RELAXED);
+    look_at_others(most);
 }
 
 void release_ring(struct ring *ring)
 {
     __atomic_sub_fetch(&ring->calls, 1, __ATOMIC_SEQ_CST);
-    if (__atomic_load_n(&is_left_in_call, __ATOMIC_SEQ_CST))
-        free_closed();
-    else if (is_time_to_look())
-        let_others_go();
+    look_behind_call();
 }
 
 struct ring *lock_ring(int fd)

@@ -42,18 +42,21 @@ struct waiting {
 /* Reads the structure that a call gives as its last argument, which has this size. Returns its fault, or 0. */
 static int read_extended(struct waiting *waiting)
 {
-    struct io_uring_getevents_arg extended;
+    struct wulgach_extended_form extended = {0};
+    struct wulgach_given given;
     struct __kernel_timespec time;
     struct wulgach_argument argument = {.size = waiting->mask_size, .is_extended = waiting->is_extended};
+    _Static_assert(sizeof extended == sizeof(struct io_uring_getevents_arg), "the library's structure");
     argument.is_readable = argument.size == sizeof extended && copy_in(&extended, waiting->mask, sizeof extended) == 0;
-    argument.has_time = argument.is_readable && extended.ts;
-    argument.is_time_readable = argument.has_time && copy_in(&time, extended.ts, sizeof time) == 0;
+    wulgach_argument_gives(&extended, &given);
+    argument.has_time = given.has_time;
+    argument.is_time_readable = given.has_time && copy_in(&time, given.time_at, sizeof time) == 0;
     int fault = wulgach_last_argument_fault(&argument);
     if (fault < 0)
         return fault;
-    waiting->mask = extended.sigmask;
-    waiting->mask_size = extended.sigmask_sz;
-    if (argument.has_time)
+    waiting->mask = given.mask_at;
+    waiting->mask_size = given.mask_size;
+    if (given.has_time)
         waiting->limit = (struct wulgach_limit){.at = wulgach_time_of(time.tv_sec, time.tv_nsec), .is_set = true};
     return 0;
 }
@@ -150,21 +153,35 @@ static enum wulgach_reply_kind go_on_fully(struct ring *ring)
     return kind;
 }
 
+/* Does what the library says comes before a sleep, and says whether that has brought something. */
+static bool do_before_sleep(struct ring *ring, struct waiting *waiting, uint32_t step, int *fault)
+{
+    switch (step) {
+    case WULGACH_LETS_OTHERS_GO:
+        if (!let_others_go())
+            return false;
+        do_duties_at_begin(ring, true);
+        return true;
+    case WULGACH_READS_MASK:
+        *fault = sleep_fault(waiting);
+        return false;
+    default:
+        return do_duties_before_sleep(ring, *fault < 0);
+    }
+}
+
 static enum wulgach_reply_kind sleep_on(struct ring *ring, struct waiting *waiting, struct wulgach_reply *reply)
 {
-    if (let_others_go()) {
-        do_duties_at_begin(ring, true);
+    int error, fault = 0;
+    bool has_brought = false;
+    uint32_t next = WULGACH_SLEEP_AT_FIRST;
+    while ((next = wulgach_sleep_next(next, has_brought, fault)) > WULGACH_SLEEPS)
+        has_brought = do_before_sleep(ring, waiting, next, &fault);
+    if (next == WULGACH_SLEEP_WAKES)
         return WULGACH_WOKEN;
-    }
-    int error, fault = sleep_fault(waiting);
-    switch (wulgach_sleep_begins(fault, do_duties_before_sleep(ring, fault < 0))) {
-    case WULGACH_SLEEP_FAILS:
+    if (next == WULGACH_SLEEP_FAILS) {
         reply->number = (uint32_t)-fault;
         return WULGACH_FAILED;
-    case WULGACH_SLEEP_WAKES:
-        return WULGACH_WOKEN;
-    default:
-        break;
     }
     do_duties_at_rest(ring);
     enum wulgach_reply_kind kind = wait_for_any(ring, &waiting->limit, waiting->signals, &error);

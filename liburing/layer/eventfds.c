@@ -66,5 +66,5 @@ void tell_eventfd(struct ring *ring, uint64_t told)
 
 bool has_told(const struct ring *ring, uint64_t before, int fd)
 {
-    return ring->tellings != before && ring->telling.is_registered && are_on_one_file(ring->eventfd, fd) == 1;
+    return ring->tellings != before && ring->telling.is_registered && is_same_file(ring->eventfd, fd);
 }

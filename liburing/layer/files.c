@@ -72,7 +72,7 @@ bool release_file(struct file *file)
 
 bool is_file_of(const struct file *file, int fd)
 {
-    return are_on_one_file(file->fd, fd) == 1;
+    return is_same_file(file->fd, fd);
 }
 
 struct file *use_file(struct ring *ring, uint32_t index)

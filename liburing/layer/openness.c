@@ -2,6 +2,7 @@
 #define _GNU_SOURCE
 #include "openness.h"
 #include "process.h"
+#include "wulgach_register.h"
 
 #include <fcntl.h>
 #include <linux/kcmp.h>
@@ -42,4 +43,10 @@ int are_on_one_file(int one, int other)
         return result;
     long order = syscall(SYS_kcmp, process, process, KCMP_FILE, one, other);
     return order < 0 ? -1 : order == 0;
+}
+
+bool is_same_file(int one, int other)
+{
+    int same = are_on_one_file(one, other);
+    return wulgach_is_taken_so(WULGACH_IS_SAME_FILE, same >= 0, same > 0);
 }

@@ -20,4 +20,7 @@ size_t name_of_descriptor(int fd, char name[MOST_OF_NAME]);
 /* Whether two descriptors are open on one file: 1 or 0, or negative: the kernel doesn't say. */
 int are_on_one_file(int one, int other);
 
+/* Whether they are taken to be so. */
+bool is_same_file(int one, int other);
+
 #endif

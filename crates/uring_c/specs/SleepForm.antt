@@ -1,7 +1,11 @@
 -- When a sleep begins and what came of it, in words that C can read.
-use Rattle.std.specs.Prelude.{ℕ}
+use Rattle.std.specs.Prelude.{ℕ, Option, Some, None, ◌==◌, if◌then◌else◌}
 use Rattle.uring_enter.specs.declared.sleeping.Beginning.{Beginning}
 use Rattle.uring_enter.specs.declared.sleeping.Beginning.TheVariants.{Fails, Wakes, Sleeps}
+use Rattle.uring_enter.specs.declared.closing.BeforeSleep.{BeforeSleep}
+use Rattle.uring_enter.specs.declared.closing.BeforeSleep.TheVariants.{LetsOthersGo, ReadsMask, DoesDuties}
+use Rattle.uring_enter.specs.declared.closing.SleepOnto.{SleepOnto}
+use Rattle.uring_enter.specs.declared.closing.SleepOnto.TheVariants.{Does, Begins}
 use Rattle.uring_enter.specs.declared.sleeping.Outcome.{Outcome}
 use Rattle.uring_enter.specs.declared.sleeping.Outcome.TheVariants.{Woken, TimedOut, Interrupted, Endless, Failed}
 
@@ -10,6 +14,20 @@ abbrev pub word_of_beginning : Beginning → ℕ
 word_of_beginning Fails = 0
 word_of_beginning Wakes = 1
 word_of_beginning Sleeps = 2
+
+-- and behind them what is done before a sleep, in the order of `BeforeSleep`
+abbrev pub word_of_sleep : SleepOnto → ℕ
+word_of_sleep (Begins beginning) = word_of_beginning beginning
+word_of_sleep (Does LetsOthersGo) = 3
+word_of_sleep (Does ReadsMask) = 4
+word_of_sleep (Does DoesDuties) = 5
+
+-- what was done, by that word; None: nothing
+abbrev pub step_of : ℕ → Option BeforeSleep
+step_of word =
+    if word == 3 then Some LetsOthersGo else
+    if word == 4 then Some ReadsMask else
+    if word == 5 then Some DoesDuties else None
 
 -- the kinds of replies to a call that wants to sleep
 abbrev pub word_of_outcome : Outcome → ℕ

@@ -5,7 +5,8 @@ ghost use Rattle.uring_enter.specs.Rounds.{KeepsRounds, returned};
 ghost use Rattle.uring_c.specs.RoundForm.{goes_on, submitted_of};
 
 use uring_enter::{
-    Argument, Round, Rounds, argument_fault, mask_fault, reads_argument, with_fault,
+    Argument, Extended, Given, Round, Rounds, argument_fault, given_by, mask_fault, reads_argument,
+    with_fault,
 };
 
 /// Whether a call reads its last argument that is asked to submit so many entries, and whose submission came to this.
@@ -14,6 +15,14 @@ pub extern "C" fn wulgach_reads_argument(gets: bool, to_submit: u32, submitted: 
     ensures { result ≡ spec.is_read gets to_submit submitted }
 {
     reads_argument(gets, to_submit, submitted)
+}
+
+/// Writes what a structure of a mask and a time gives.
+#[unsafe(no_mangle)]
+pub extern "C" fn wulgach_argument_gives(extended: &Extended, given: &mut Given)
+    ensures { given.new ≡ spec.given_by extended.now }
+{
+    *given = given_by(extended);
 }
 
 /// The fault of a call's last argument, or 0.

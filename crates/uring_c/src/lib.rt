@@ -7,6 +7,7 @@ mod cancel_exports;
 mod cancelling_exports;
 mod carrying_exports;
 mod chain_exports;
+mod closing_exports;
 mod core_exports;
 mod core_request_exports;
 mod core_word_exports;

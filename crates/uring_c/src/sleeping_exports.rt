@@ -2,11 +2,11 @@
 ghost use Rattle.std.specs.Prelude.{◌≡◌};
 ghost use Rattle.uring_enter.specs.PipePolls as polls;
 ghost use Rattle.uring_enter.specs.Sleeping as sleeping;
-ghost use Rattle.uring_c.specs.SleepForm.{word_of_beginning, word_of_outcome};
+ghost use Rattle.uring_c.specs.SleepForm.{word_of_outcome};
 
 use uring_enter::{
-    Beginning, Needs, Outcome, PipePoll, SleptFor, Standing, Waited, asks_before_nap, beginning_of,
-    came_to, can_be_woken, counted_as, fires_behind, lets_more_lie, outcome_of, slept_for,
+    Needs, Outcome, PipePoll, SleptFor, Standing, Waited, asks_before_nap, came_to, can_be_woken,
+    counted_as, fires_behind, lets_more_lie, outcome_of, slept_for,
 };
 
 /// Whether a request is to be told of writes to its pipe.
@@ -39,18 +39,6 @@ pub extern "C" fn wulgach_sleep_counted_as(came: i32, before: u64, behind: u64) 
     ensures { result ≡ sleeping.counted_as came before behind }
 {
     counted_as(came, before, behind)
-}
-
-/// Returns whether a sleep begins whose arguments have this fault, or 0, and before which a poll was told, or none.
-#[unsafe(no_mangle)]
-pub extern "C" fn wulgach_sleep_begins(fault: i32, is_told: bool) -> u32
-    ensures { result ≡ word_of_beginning (sleeping.beginning_of fault is_told) }
-{
-    match beginning_of(fault, is_told) {
-        Beginning::Fails => 0,
-        Beginning::Wakes => 1,
-        Beginning::Sleeps => 2,
-    }
 }
 
 /// Returns what came of a wait, as the reply to a call that wants to sleep.

@@ -26,6 +26,7 @@ fn matter(word: u32) -> Matter
         0 => Matter::Reached,
         1 => Matter::Eventfd,
         2 => Matter::Counter,
+        4 => Matter::SameFile,
         _ => Matter::Processor,
     }
 }

@@ -5,6 +5,8 @@ use Rattle.uring_entry.specs.Errors.{error}
 use Rattle.uring_enter.specs.Clocks.{has_some}
 use Rattle.uring_enter.specs.Replies.{is_none}
 use Rattle.uring_enter.specs.declared.argument.Argument.{Argument}
+use Rattle.uring_enter.specs.declared.argument.Extended.{Extended}
+use Rattle.uring_enter.specs.declared.argument.Given.{Given}
 
 -- with IORING_ENTER_EXT_ARG (8) it is a structure of a mask and a time, else a mask alone
 abbrev pub is_extended : ℕ → Bool
@@ -13,6 +15,10 @@ is_extended flags = has_some flags 8
 -- a call reads its argument behind its submission, if it gets events and all was submitted. Else nothing of it is refused
 abbrev pub is_read : Bool → ℕ → ℤ → Bool
 is_read gets to_submit submitted = gets && int_eq submitted (pos to_submit)
+
+-- what a structure gives (`struct io_uring_getevents_arg`): a mask, at `sigmask`, of `sigmask_sz` bytes, and a time, at `ts`, unless that is 0. What stands between isn't looked at
+abbrev pub given_by : Extended → Given
+given_by e = record { mask_at = e.sigmask; mask_size = e.sigmask_sz; time_at = e.ts; has_time = not (e.ts == 0) }
 
 -- of a structure first its size is looked at, which is 24 bytes: -22 (EINVAL); then it is read, and then the time that it names: -14 (EFAULT). A mask alone has no fault yet
 abbrev pub argument_fault : Argument → ℤ

@@ -97,3 +97,4 @@ pub mod Asking
 pub mod Carrying
 pub mod Hearing
 pub mod Logging
+pub mod Closing

@@ -1,14 +1,15 @@
 -- What is taken to be so where it can't be asked, as in a process without /proc; and what is asked once, or only if it matters. Our own rules, but where a source is named.
 use Rattle.std.specs.Prelude.{ℕ, Bool, true, false, not, ◌&&◌, ◌||◌, ◌==◌, Option, Some, None}
 use Rattle.uring_enter.specs.declared.unknown.Matter.{Matter}
-use Rattle.uring_enter.specs.declared.unknown.Matter.TheVariants.{Reached, Eventfd, Counter, Processor}
+use Rattle.uring_enter.specs.declared.unknown.Matter.TheVariants.{Reached, Eventfd, Counter, Processor, SameFile}
 
--- a ring stays as long as a descriptor may be open on it, and a program means what it says of an eventfd and of a processor: nothing is taken away and nothing refused for what isn't known. A descriptor is one that counts only if that is known: of another a short transfer waits, and the system call refuses it then
+-- a ring stays as long as a descriptor may be open on it, and a program means what it says of an eventfd and of a processor: nothing is taken away and nothing refused for what isn't known. A descriptor is one that counts only if that is known: of another a short transfer waits, and the system call refuses it then. Two descriptors are on one file only if that is known: so others are looked at again behind an end that may have closed the last descriptor of a file, and no poll counts as one of the ring's own eventfd
 abbrev pub unless_known : Matter → Bool
 unless_known Reached = true
 unless_known Eventfd = true
 unless_known Counter = false
 unless_known Processor = true
+unless_known SameFile = false
 
 abbrev pub is_taken_so : Matter → Option Bool → Bool
 is_taken_so matter (Some is_so) = is_so

@@ -1,7 +1,7 @@
 //! The last arguments of a call: whether they are read, and which are refused. io_uring_enter(2), IORING_ENTER_EXT_ARG.
 
 ghost use Rattle.std.specs.Prelude.{◌≡◌};
-ghost use Rattle.uring_enter.specs.Arguments.{is_extended, is_read, argument_fault, mask_fault, with_fault};
+ghost use Rattle.uring_enter.specs.Arguments.{is_extended, is_read, given_by, argument_fault, mask_fault, with_fault};
 
 /// The last argument of a call, as far as it was read.
 #[repr(C)]
@@ -21,6 +21,52 @@ pub struct Argument {
 
     /// The time can be read.
     pub is_time_readable: bool,
+}
+
+/// The structure of a mask and a time, as it stands in memory: `struct io_uring_getevents_arg`.
+#[repr(C)]
+#[derive(Clone, Copy, Drop)]
+pub struct Extended {
+    /// Where the mask is.
+    pub sigmask: u64,
+
+    /// Its size.
+    pub sigmask_sz: u32,
+
+    /// Not looked at.
+    pub pad: u32,
+
+    /// Where the time is.
+    pub ts: u64,
+}
+
+/// What that gives.
+#[repr(C)]
+#[derive(Clone, Copy, Drop)]
+pub struct Given {
+    /// Where the mask is.
+    pub mask_at: u64,
+
+    /// Its size.
+    pub mask_size: u64,
+
+    /// Where the time is.
+    pub time_at: u64,
+
+    /// There is one.
+    pub has_time: bool,
+}
+
+/// What a structure of a mask and a time gives.
+pub fn given_by(extended: &Extended) -> Given
+    ensures { result ≡ given_by extended.now }
+{
+    Given {
+        mask_at: extended.sigmask,
+        mask_size: extended.sigmask_sz as u64,
+        time_at: extended.ts,
+        has_time: extended.ts != 0,
+    }
 }
 
 /// Whether the last argument of a call with these flags is a structure of a mask and a time. IORING_ENTER_EXT_ARG.

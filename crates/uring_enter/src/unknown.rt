@@ -24,6 +24,9 @@ pub enum Matter {
 
     /// Whether a processor is online.
     Processor,
+
+    /// Whether two descriptors are on one file.
+    SameFile,
 }
 
 /// Whether it is taken to be so, where this is known of it, or nothing.
@@ -32,7 +35,7 @@ pub fn is_taken_so(matter: Matter, known: Option<bool>) -> bool
 {
     match known {
         Some(is_so) => is_so,
-        None => !matches!(matter, Matter::Counter),
+        None => !matches!(matter, Matter::Counter | Matter::SameFile),
     }
 }
 

@@ -1,0 +1,67 @@
+//! Whose ring a descriptor names, when it is looked whether rings are closed, and what a call does before it sleeps, for C: functions of `c/wulgach_waits.h` and `c/wulgach_register.h`.
+ghost use Rattle.std.specs.Prelude.{◌≡◌};
+ghost use Rattle.uring_enter.specs.Closing as spec;
+ghost use Rattle.uring_c.specs.SleepForm.{word_of_sleep, step_of};
+
+use uring_enter::{
+    BeforeSleep, Beginning, SleepOnto, asks_elapsed, looked_at_before_sleep, looked_at_behind,
+    may_name, next_before_sleep,
+};
+
+/// Whether a descriptor of this process may name a ring that was made by that one.
+#[unsafe(no_mangle)]
+pub extern "C" fn wulgach_may_name_ring_of(maker: u32, process: u32) -> bool
+    ensures { result ≡ spec.may_name maker process }
+{
+    may_name(maker, process)
+}
+
+/// Of how many rings it is looked whether they are closed before a call sleeps.
+#[unsafe(no_mangle)]
+pub extern "C" fn wulgach_looked_at_before_sleep() -> u32
+    ensures { result ≡ spec.looked_at_before_sleep }
+{
+    looked_at_before_sleep()
+}
+
+/// Of how many it is looked as a call ends: 2^31 - 1 is all.
+#[unsafe(no_mangle)]
+pub extern "C" fn wulgach_looked_at_behind(may_be_left: bool, rings: u32, elapsed: u64) -> u32
+    ensures { result ≡ spec.looked_at_behind may_be_left rings elapsed }
+{
+    looked_at_behind(may_be_left, rings, elapsed)
+}
+
+/// Whether it matters to that how long ago it was.
+#[unsafe(no_mangle)]
+pub extern "C" fn wulgach_asks_elapsed(may_be_left: bool, rings: u32) -> bool
+    ensures { result ≡ spec.asks_elapsed may_be_left rings }
+{
+    asks_elapsed(may_be_left, rings)
+}
+
+/// Returns what comes next of a call that is to sleep, behind this, which has brought what may let something go on, or hasn't.
+#[unsafe(no_mangle)]
+pub extern "C" fn wulgach_sleep_next(last: u32, has_brought: bool, fault: i32) -> u32
+    ensures { result ≡ word_of_sleep (spec.next_before_sleep (step_of last) has_brought fault) }
+{
+    match next_before_sleep(step(last), has_brought, fault) {
+        SleepOnto::Begins(Beginning::Fails) => 0,
+        SleepOnto::Begins(Beginning::Wakes) => 1,
+        SleepOnto::Begins(Beginning::Sleeps) => 2,
+        SleepOnto::Does(BeforeSleep::LetsOthersGo) => 3,
+        SleepOnto::Does(BeforeSleep::ReadsMask) => 4,
+        SleepOnto::Does(BeforeSleep::DoesDuties) => 5,
+    }
+}
+
+fn step(word: u32) -> Option<BeforeSleep>
+    ensures { result ≡ step_of word }
+{
+    match word {
+        3 => Some(BeforeSleep::LetsOthersGo),
+        4 => Some(BeforeSleep::ReadsMask),
+        5 => Some(BeforeSleep::DoesDuties),
+        _ => None,
+    }
+}
