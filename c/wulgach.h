@@ -290,6 +290,12 @@ int32_t wulgach_core_new(struct wulgach_core *core, const struct wulgach_setup *
 /* Makes one step, and writes its answer. -22 exactly if kind is 8 (FINISH) or above 14. */
 int32_t wulgach_core_step(struct wulgach_core *core, const struct wulgach_step *step, struct wulgach_answer *answer);
 
+/* Writes a step with its answer as the line of a trace, without its end: as much as there is room for, and how many bytes it has.
+ * What stands before the answer is read as this step. -22 if the words give no step, or no answer, or the step has no such line, as
+ * a FILL with other fields than its operation's form has; -12 if memory was refused. Then nothing is written. */
+enum { WULGACH_MOST_OF_LINE = 512 };
+int32_t wulgach_trace_line(const struct wulgach_step *step, const struct wulgach_answer *answer, uint8_t *line, size_t room, uint64_t *len);
+
 /* Makes all steps of a submission call of count entries at once: LOAD_HEAD; for each entry a FILL of the slot of its place, from
  * 0, and an INDEX; STORE_TAIL; a BEGIN of count positions; count times TAKE; and END, whose answer it writes: TAKEN.
  *

@@ -79,87 +79,20 @@ static void print_flags(FILE *out, uint8_t flags)
         fputc('-', out);
 }
 
-static void print_fill(FILE *out, const struct wulgach_step *step)
-{
-    uint8_t code = (uint8_t)step->entry[0], flags = (uint8_t)(step->entry[0] >> 8);
-    fprintf(out, "fill %" PRIu32 " ", step->word);
-    if (code == WULGACH_OP_NOP)
-        fputs("nop", out);
-    else if (code == WULGACH_OP_CANCEL)
-        fputs("cancel", out);
-    else if (code == WULGACH_OP_READ)
-        fputs("read", out);
-    else
-        fprintf(out, "op %u", (unsigned)code);
-    fprintf(out, " %" PRIu64 " ", step->entry[4]);
-    print_flags(out, flags);
-    if (code == WULGACH_OP_CANCEL)
-        fprintf(out, " %" PRIu64, step->entry[2]);
-    if (code == WULGACH_OP_READ)
-        fprintf(out, " 0 0 %" PRIu32, (uint32_t)step->entry[3]);
-}
-
-static void print_step(FILE *out, const struct wulgach_step *step)
-{
-    static const char *const names[15] = {"fill", "index", "tail", "head", "begin", "take", "end", "issue", "finish", "flush", "cqtail", "reap", "cqhead", "close", "next"};
-    switch (step->kind) {
-    case WULGACH_FILL:
-        print_fill(out, step);
-        break;
-    case WULGACH_INDEX:
-    case WULGACH_BEGIN:
-        fprintf(out, "%s %" PRIu32, names[step->kind], step->word);
-        break;
-    case WULGACH_ISSUE:
-    case WULGACH_FINISH:
-        fprintf(out, "%s %" PRIu64, names[step->kind], step->number);
-        break;
-    default:
-        fputs(names[step->kind], out);
-    }
-}
-
-static void print_answer(FILE *out, const struct wulgach_answer *answer)
-{
-    static const char *const names[29] = {"ok", "no slot", "busy", "ok", "full", "tail", "head", "call", "closed", "in call", "spent", "again", "entry", "dropped", "no more", "no call", "taken", "not all", "run", "ended", "not ready", "running", "unknown", "not running", "moved", "cqe", "none", "ok", "next"};
-    fputs(names[answer->kind], out);
-    switch (answer->kind) {
-    case WULGACH_TAIL:
-    case WULGACH_HEAD:
-    case WULGACH_CALL:
-        fprintf(out, " %" PRIu32, answer->word);
-        break;
-    case WULGACH_ENTRY:
-        fprintf(out, " %" PRIu64, answer->entry[4]);
-        break;
-    case WULGACH_TAKEN:
-        fprintf(out, " %" PRIu32 " dropped %" PRIu32 " head %" PRIu32, answer->word, answer->dropped, answer->head);
-        break;
-    case WULGACH_ENDED:
-        fprintf(out, " %" PRId32, answer->res);
-        break;
-    case WULGACH_MOVED:
-    case WULGACH_NEXT_IS:
-        fprintf(out, " %" PRIu64, answer->number);
-        break;
-    case WULGACH_REAPED:
-        /* A token has no data. */
-        fprintf(out, " %" PRIu64 " %" PRId32 " -", answer->number, answer->res);
-        break;
-    default:
-        break;
-    }
-}
-
 void trace_step(struct ring *ring, const struct wulgach_step *step, const struct wulgach_answer *answer)
 {
     if (!ring->has_trace)
         open_trace(ring);
     if (!ring->trace)
         return;
-    print_step(ring->trace, step);
-    fputs(" = ", ring->trace);
-    print_answer(ring->trace, answer);
+    uint8_t line[WULGACH_MOST_OF_LINE];
+    uint64_t length;
+    if (wulgach_trace_line(step, answer, line, sizeof line, &length) != 0) {
+        fprintf(stderr, "wulgach: a step has no line in the trace\n");
+        close_trace(ring);
+        return;
+    }
+    fwrite(line, 1, length, ring->trace);
     end_line(ring);
 }
 

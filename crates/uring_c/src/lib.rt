@@ -57,6 +57,7 @@ mod structure_exports;
 mod taking_exports;
 mod time_exports;
 mod timing_exports;
+mod trace_exports;
 mod tried_exports;
 mod unknown_exports;
 mod update_exports;

@@ -7,3 +7,4 @@ pub mod Refusals
 pub mod Holding
 pub mod Cutting
 pub mod Starts
+pub mod SameSteps

@@ -17,3 +17,4 @@ pub mod Outcomes
 pub mod TimeForm
 pub mod CourseForm
 pub mod WaitForm
+pub mod TraceLines

@@ -30,6 +30,7 @@ pub mod state_words;
 pub mod step_words;
 pub mod taken_words;
 pub mod time_words;
+pub mod trace_lines;
 pub mod volume_calls;
 pub mod volume_memory;
 pub mod volume_place;

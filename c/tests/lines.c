@@ -1,0 +1,79 @@
+/* Steps with their answers as lines of a trace, beside lines written by hand; and each refusal, with what it leaves. Memory is
+ * refused as refusing.h says. */
+#define TEST "lines"
+
+#include "refusing.h"
+#include "wulgach.h"
+
+#include <string.h>
+
+/* Words of an entry. */
+enum { OP = 0, ADDR = 2, LEN = 3, USER_DATA = 4 };
+
+static const struct {
+    const char *line;
+    struct wulgach_step step;
+    struct wulgach_answer answer;
+} lines[] = {
+    {"fill 3 nop 7 DS = ok", {.kind = WULGACH_FILL, .word = 3, .entry = {[OP] = 0x4200, [USER_DATA] = 7}}, {.kind = WULGACH_FILLED}},
+    {"fill 0 cancel 1 - 9 = no slot", {.kind = WULGACH_FILL, .entry = {[OP] = 14, [ADDR] = 9, [USER_DATA] = 1}}, {.kind = WULGACH_NO_SLOT}},
+    {"fill 0 read 1 LHA 0 0 65 = busy", {.kind = WULGACH_FILL, .entry = {[OP] = 0x1c16, [LEN] = 65, [USER_DATA] = 1}}, {.kind = WULGACH_BUSY}},
+    {"index 4294967295 = full", {.kind = WULGACH_INDEX, .word = UINT32_MAX}, {.kind = WULGACH_FULL}},
+    {"tail = tail 5", {.kind = WULGACH_STORE_TAIL}, {.kind = WULGACH_TAIL, .word = 5}},
+    {"begin 2 = call 1", {.kind = WULGACH_BEGIN, .word = 2}, {.kind = WULGACH_CALL, .word = 1}},
+    {"take = entry 7", {.kind = WULGACH_TAKE}, {.kind = WULGACH_ENTRY, .entry = {[USER_DATA] = 7}}},
+    {"end = taken 1 dropped 2 head 3", {.kind = WULGACH_END}, {.kind = WULGACH_TAKEN, .word = 1, .dropped = 2, .head = 3}},
+    {"issue 9 = not ready", {.kind = WULGACH_ISSUE, .number = 9}, {.kind = WULGACH_NOT_READY}},
+    {"finish 9 = ended -125", {.kind = WULGACH_FINISH, .number = 9}, {.kind = WULGACH_ENDED, .res = -125}},
+    {"flush = moved 8", {.kind = WULGACH_FLUSH}, {.kind = WULGACH_MOVED, .number = 8}},
+    {"reap = cqe 7 -22 -", {.kind = WULGACH_REAP}, {.kind = WULGACH_REAPED, .number = 7, .res = -22}},
+    {"close = ok", {.kind = WULGACH_CLOSE}, {.kind = WULGACH_SHUT}},
+    {"next = next 4", {.kind = WULGACH_NEXT}, {.kind = WULGACH_NEXT_IS, .number = 4}},
+};
+
+static void lines_are_written(void)
+{
+    for (size_t i = 0; i < sizeof lines / sizeof *lines; i++) {
+        uint8_t line[WULGACH_MOST_OF_LINE];
+        uint64_t length = 0;
+        check(wulgach_trace_line(&lines[i].step, &lines[i].answer, line, sizeof line, &length) == 0, lines[i].line);
+        check(length == strlen(lines[i].line) && memcmp(line, lines[i].line, length) == 0, lines[i].line);
+    }
+}
+
+static void want_refused(struct wulgach_step step, struct wulgach_answer answer, int32_t fault, const char *what)
+{
+    uint8_t line[8] = "as it is";
+    uint64_t length = 77;
+    check(wulgach_trace_line(&step, &answer, line, sizeof line, &length) == fault, what);
+    check(length == 77 && memcmp(line, "as it is", 8) == 0, what);
+}
+
+static void refusals(void)
+{
+    const struct wulgach_step tail = {.kind = WULGACH_STORE_TAIL};
+    const struct wulgach_answer ok = {.kind = WULGACH_TAIL};
+    want_refused((struct wulgach_step){.kind = 15}, ok, -22, "no step");
+    want_refused(tail, (struct wulgach_answer){.kind = 29}, -22, "no answer");
+    want_refused((struct wulgach_step){.kind = WULGACH_FILL, .entry = {[5] = 1}}, ok, -22, "a no-op with another field");
+    served = 0;
+    want_refused(tail, ok, -12, "memory is refused");
+    served = -1;
+}
+
+static void room(void)
+{
+    uint8_t line[4] = "....";
+    uint64_t length = 0;
+    check(wulgach_trace_line(&lines[4].step, &lines[4].answer, line, 3, &length) == 0, "less room");
+    check(length == strlen(lines[4].line) && memcmp(line, "tai.", 4) == 0, "what there is room for");
+}
+
+int main(void)
+{
+    lines_are_written();
+    refusals();
+    room();
+    puts("lines: each is as written by hand");
+    return 0;
+}
