@@ -294,6 +294,10 @@ uint32_t wulgach_source_of(uint8_t code, int32_t started, uint32_t fault, int32_
  * the first half, rounded down, that stand there. */
 uint64_t wulgach_half_in(uint64_t all, uint64_t before, uint64_t length);
 
+/* How many bytes a provided buffer of this length counts as having, once WULGACH_FROM_HALF has cut the part of it that a call goes on in, which moves
+ * `all` at most: what is cut isn't used again, so that a next try stays within what was made. */
+uint64_t wulgach_left_of_buffer(uint64_t length, uint64_t all, uint64_t part);
+
 /* What is done with the result of a request that was carried out, or that a cancel has found, in this order: a set has the bit 1 << STEP of
  * each. */
 enum wulgach_finish_step {

@@ -186,6 +186,7 @@ static void look_at_sources(void)
     demand(wulgach_source_of(WRITE, 0, WULGACH_GIVES_SHORT, &res) == WULGACH_FROM_HALF && wulgach_source_of(WRITE, 0, 0, &res) == WULGACH_FROM_CALLS && wulgach_source_of(WRITE, 0, 4, &res) == WULGACH_FROM_CALLS && res == 7, "what is made");
     demand(wulgach_source_of(WRITE, 0, WULGACH_GIVES_EIO, &res) == WULGACH_FROM_FAULT && res == -5 && wulgach_source_of(WRITE, 0, WULGACH_GIVES_ENOSPC, &res) == WULGACH_FROM_FAULT && res == -28, "what it is given");
     demand(wulgach_half_in(11, 0, 3) == 3 && wulgach_half_in(11, 3, 4) == 2 && wulgach_half_in(11, 7, 4) == 0 && wulgach_half_in(1, 0, 1) == 0, "half of what is moved");
+    demand(wulgach_left_of_buffer(11, 11, 11) == 5 && wulgach_left_of_buffer(11, 11, 7) == 9 && wulgach_left_of_buffer(11, 11, 4) == 11 && wulgach_left_of_buffer(1, 1, 1) == 0, "what is left of a buffer");
     demand(wulgach_finish_steps(true) == 15 && wulgach_finish_steps(false) == 13, "what is done with a result");
 }
 

@@ -247,13 +247,13 @@ static bool begin_buffer(struct ring *ring, struct request *request)
     return true;
 }
 
-/* Goes on there in its buffer. What a fault cuts is cut for good. */
+/* Goes on there in its buffer, of which what a fault cuts isn't used again. */
 static int32_t call_into(struct ring *ring, struct request *request, struct wulgach_buffer at, bool is_half)
 {
     *request->vectors = (struct iovec){(void *)(uintptr_t)at.address, at.length};
     if (is_half) {
         shorten(request);
-        request->provided.length -= at.length - (uint32_t)request->vectors->iov_len;
+        request->provided.length = (uint32_t)wulgach_left_of_buffer(request->provided.length, request->length, at.length);
     }
     return call_or_wait(ring, request);
 }

@@ -177,6 +177,7 @@ pub use carrying::Source;
 pub use carrying::calls_of;
 pub use carrying::finish_steps;
 pub use carrying::half_in;
+pub use carrying::left_of_buffer;
 pub use carrying::source_of;
 pub use chain_laws::chains_end;
 pub use chain_laws::chains_hold;
