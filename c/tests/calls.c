@@ -315,7 +315,8 @@ static void look_at_results(void)
     static const struct wulgach_openness open = {.is_open = true}, path = {true, true};
     static const struct wulgach_synced_kind regular = {.is_regular = true}, folder = {.is_folder = true}, pipe = {0};
     demand(wulgach_counts_as_synced(&open, &regular) && wulgach_counts_as_synced(&open, &folder) && !wulgach_counts_as_synced(&open, &pipe) && !wulgach_counts_as_synced(&path, &regular) && !wulgach_counts_as_synced(&(struct wulgach_openness){0}, &regular), "what is synced");
-    demand(wulgach_is_limited(true, 0) && wulgach_is_limited(true, 1ull << 40) && !wulgach_is_limited(true, UINT64_MAX) && !wulgach_is_limited(false, 0), "where files may get too long");
+    demand(wulgach_is_taken_back(SIGXFSZ, true, 0) && wulgach_is_taken_back(SIGXFSZ, true, 1ull << 40) && !wulgach_is_taken_back(SIGXFSZ, true, UINT64_MAX) && !wulgach_is_taken_back(SIGXFSZ, false, 0), "where files may get too long");
+    demand(wulgach_is_taken_back(SIGPIPE, true, UINT64_MAX) && wulgach_is_taken_back(SIGPIPE, false, 0) && !wulgach_is_taken_back(0, true, 0), "where that doesn't matter");
     demand(wulgach_is_signal_of_call(0, true) && !wulgach_is_signal_of_call(0, false) && !wulgach_is_signal_of_call(-6, true), "whose signal it is");
     demand(wulgach_is_stream_type(1) && wulgach_is_stream_type(5) && !wulgach_is_stream_type(2) && !wulgach_is_stream_type(0), "streams");
 }
