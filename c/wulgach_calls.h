@@ -294,6 +294,10 @@ uint32_t wulgach_source_of(uint8_t code, int32_t started, uint32_t fault, int32_
  * the first half, rounded down, that stand there. */
 uint64_t wulgach_half_in(uint64_t all, uint64_t before, uint64_t length);
 
+/* How many bytes a provided buffer of this length counts as having, once WULGACH_FROM_HALF has cut the part of it that a call goes on in, which moves
+ * `all` at most: what is cut isn't used again, so that a next try stays within what was made. */
+uint64_t wulgach_left_of_buffer(uint64_t length, uint64_t all, uint64_t part);
+
 /* What is done with the result of a request that was carried out, or that a cancel has found, in this order: a set has the bit 1 << STEP of
  * each. */
 enum wulgach_finish_step {
@@ -363,11 +367,12 @@ bool wulgach_synced_bytes(const struct wulgach_submission *entry, struct wulgach
 
 /* The number of the signal that is taken back behind an operation which ended with this, or 0: 25 (SIGXFSZ) of a write, FALLOCATE or SPLICE, with
  * -27 (EFBIG), and 13 (SIGPIPE) of a splice or a tee, or of a write that IOSQE_ASYNC gives to a worker, with -32 (EPIPE). In a kernel a worker of
- * its own has the signal, and the program gets none. Whether SIGXFSZ may have come at all, where this is the greatest length that the process may give
- * a file (getrlimit(2), RLIMIT_FSIZE), if that is known: unless it is 2^64 - 1 (RLIM_INFINITY), or isn't known. And whether a signal that was taken
- * is the call's, by its code (si_code), and by whether this process is told as its sender (si_pid): another is to be pending again. */
+ * its own has the signal, and the program gets none. Whether that signal, or 0, is taken back, where this is the greatest length that the process may
+ * give a file (getrlimit(2), RLIMIT_FSIZE), if that is known: SIGXFSZ may not have come at all if it is 2^64 - 1 (RLIM_INFINITY), and isn't taken
+ * where it isn't known; SIGPIPE is taken whatever it is. And whether a signal that was taken is the call's, by its code (si_code), and by whether this
+ * process is told as its sender (si_pid): another is to be pending again. */
 uint32_t wulgach_signal_behind(const struct wulgach_submission *entry, int32_t res);
-bool wulgach_is_limited(bool knows, uint64_t most);
+bool wulgach_is_taken_back(uint32_t signal, bool knows, uint64_t most);
 bool wulgach_is_signal_of_call(int32_t code, bool is_own);
 
 #ifdef __cplusplus

@@ -186,6 +186,7 @@ static void look_at_sources(void)
     demand(wulgach_source_of(WRITE, 0, WULGACH_GIVES_SHORT, &res) == WULGACH_FROM_HALF && wulgach_source_of(WRITE, 0, 0, &res) == WULGACH_FROM_CALLS && wulgach_source_of(WRITE, 0, 4, &res) == WULGACH_FROM_CALLS && res == 7, "what is made");
     demand(wulgach_source_of(WRITE, 0, WULGACH_GIVES_EIO, &res) == WULGACH_FROM_FAULT && res == -5 && wulgach_source_of(WRITE, 0, WULGACH_GIVES_ENOSPC, &res) == WULGACH_FROM_FAULT && res == -28, "what it is given");
     demand(wulgach_half_in(11, 0, 3) == 3 && wulgach_half_in(11, 3, 4) == 2 && wulgach_half_in(11, 7, 4) == 0 && wulgach_half_in(1, 0, 1) == 0, "half of what is moved");
+    demand(wulgach_left_of_buffer(11, 11, 11) == 5 && wulgach_left_of_buffer(11, 11, 7) == 9 && wulgach_left_of_buffer(11, 11, 4) == 11 && wulgach_left_of_buffer(1, 1, 1) == 0, "what is left of a buffer");
     demand(wulgach_finish_steps(true) == 15 && wulgach_finish_steps(false) == 13, "what is done with a result");
 }
 
@@ -314,7 +315,8 @@ static void look_at_results(void)
     static const struct wulgach_openness open = {.is_open = true}, path = {true, true};
     static const struct wulgach_synced_kind regular = {.is_regular = true}, folder = {.is_folder = true}, pipe = {0};
     demand(wulgach_counts_as_synced(&open, &regular) && wulgach_counts_as_synced(&open, &folder) && !wulgach_counts_as_synced(&open, &pipe) && !wulgach_counts_as_synced(&path, &regular) && !wulgach_counts_as_synced(&(struct wulgach_openness){0}, &regular), "what is synced");
-    demand(wulgach_is_limited(true, 0) && wulgach_is_limited(true, 1ull << 40) && !wulgach_is_limited(true, UINT64_MAX) && !wulgach_is_limited(false, 0), "where files may get too long");
+    demand(wulgach_is_taken_back(SIGXFSZ, true, 0) && wulgach_is_taken_back(SIGXFSZ, true, 1ull << 40) && !wulgach_is_taken_back(SIGXFSZ, true, UINT64_MAX) && !wulgach_is_taken_back(SIGXFSZ, false, 0), "where files may get too long");
+    demand(wulgach_is_taken_back(SIGPIPE, true, UINT64_MAX) && wulgach_is_taken_back(SIGPIPE, false, 0) && !wulgach_is_taken_back(0, true, 0), "where that doesn't matter");
     demand(wulgach_is_signal_of_call(0, true) && !wulgach_is_signal_of_call(0, false) && !wulgach_is_signal_of_call(-6, true), "whose signal it is");
     demand(wulgach_is_stream_type(1) && wulgach_is_stream_type(5) && !wulgach_is_stream_type(2) && !wulgach_is_stream_type(0), "streams");
 }

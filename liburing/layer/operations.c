@@ -129,24 +129,30 @@ static struct wulgach_vectors vectors_of(const struct request *request)
     };
 }
 
-/* Makes the call once more, of a socket that was shut down: a datagram may have come just before that. */
-static int32_t call_behind_shut(const struct request *request, const struct wulgach_system_call *call, struct wulgach_transfer *transfer)
+/* Makes the call in the way that the library said. A read is made by the kernel's call itself, which is quicker than the C library's. */
+static int32_t make_in_way(const struct request *request, const struct wulgach_system_call *call, uint32_t way)
 {
-    transfer->is_shut = true;
-    return wulgach_shut_result(submission_of(&request->entry), make_call(call), true, is_not_to_wait(request));
+    if (way == WULGACH_CALL_UNWILLING)
+        return make_unwilling_transfer(call, request->fd);
+    return request->needs.is_read ? make_passing_call(call) : make_call(call);
 }
 
-/* Makes the call in the way that the library said. A read is made by the kernel's call itself, which is quicker than the C library's. */
+/* Makes it, and once more of a socket that was shut down: a datagram may have come just before that. */
+static int32_t make_unless_shut(const struct request *request, const struct wulgach_system_call *call, uint32_t way, bool *is_found_shut)
+{
+    int32_t res = make_in_way(request, call, way);
+    if (!wulgach_asks_shut(submission_of(&request->entry), res) || !is_shut(request->fd))
+        return res;
+    *is_found_shut = true;
+    return wulgach_shut_result(submission_of(&request->entry), make_in_way(request, call, way), true, is_not_to_wait(request));
+}
+
 static int32_t call_transfer(const struct request *request, struct wulgach_transfer *transfer, uint32_t way)
 {
     struct wulgach_vectors vectors = vectors_of(request);
     struct wulgach_system_call call;
     wulgach_transfer_call(submission_of(&request->entry), &vectors, transfer, way, &call);
-    if (way == WULGACH_CALL_UNWILLING)
-        return make_unwilling_transfer(&call, request->fd);
-    int32_t res = request->needs.is_read ? make_passing_call(&call) : make_call(&call);
-    if (wulgach_asks_shut(submission_of(&request->entry), res) && is_shut(request->fd))
-        res = call_behind_shut(request, &call, transfer);
+    int32_t res = make_unless_shut(request, &call, way, &transfer->is_shut);
     if (way == WULGACH_CALL_AT_ONCE && res == -EOPNOTSUPP)
         note_slow(request->fd);
     return res;
@@ -247,13 +253,13 @@ static bool begin_buffer(struct ring *ring, struct request *request)
     return true;
 }
 
-/* Goes on there in its buffer. What a fault cuts is cut for good. */
+/* Goes on there in its buffer, of which what a fault cuts isn't used again. */
 static int32_t call_into(struct ring *ring, struct request *request, struct wulgach_buffer at, bool is_half)
 {
     *request->vectors = (struct iovec){(void *)(uintptr_t)at.address, at.length};
     if (is_half) {
         shorten(request);
-        request->provided.length -= at.length - (uint32_t)request->vectors->iov_len;
+        request->provided.length = (uint32_t)wulgach_left_of_buffer(request->provided.length, request->length, at.length);
     }
     return call_or_wait(ring, request);
 }

@@ -12,12 +12,12 @@
 #include <sys/syscall.h>
 #include <unistd.h>
 
-/* Whether the kernel may send one, by how long a file may get. */
-static bool has_limit(void)
+/* Whether it is taken back, by how long a file may get. */
+static bool is_to_be_taken(uint32_t signal)
 {
     struct rlimit limit = {0};
     bool knows = getrlimit(RLIMIT_FSIZE, &limit) == 0;
-    return wulgach_is_limited(knows, limit.rlim_cur);
+    return wulgach_is_taken_back(signal, knows, limit.rlim_cur);
 }
 
 /* Takes back the signal of this number that a call has brought, if there is one. */
@@ -37,7 +37,7 @@ _Static_assert(SIGXFSZ == 25 && SIGPIPE == 13, "signals count as the library's d
 
 void take_back_signal(uint32_t signal)
 {
-    if (signal == 0 || (signal == SIGXFSZ && !has_limit()))
-        return;
-    take_back((int)signal);
+    /* (most calls bring none) */
+    if (signal != 0 && is_to_be_taken(signal))
+        take_back((int)signal);
 }

@@ -6,11 +6,17 @@
 #define _GNU_SOURCE
 #include "engines.h"
 
+#include <linux/filter.h>
+#include <linux/seccomp.h>
 #include <netinet/in.h>
 #include <poll.h>
 #include <pthread.h>
 #include <signal.h>
+#include <stddef.h>
+#include <sys/prctl.h>
 #include <sys/socket.h>
+#include <sys/syscall.h>
+#include <sys/uio.h>
 #include <sys/un.h>
 
 /* A local socket with a name of its own, which listens. */
@@ -126,6 +132,47 @@ static void test_shut_unwilling(void)
     close(ends[0]);
     close(ends[1]);
     close_ring(&ring);
+}
+
+/* From now on no read of the calling thread can be asked not to wait, as in a kernel whose sockets don't know of that. */
+static void refuse_nowait(void)
+{
+    struct sock_filter lines[] = {
+        BPF_STMT(BPF_LD | BPF_W | BPF_ABS, offsetof(struct seccomp_data, nr)),
+        BPF_JUMP(BPF_JMP | BPF_JEQ | BPF_K, SYS_preadv2, 0, 3),
+        BPF_STMT(BPF_LD | BPF_W | BPF_ABS, offsetof(struct seccomp_data, args[5])),
+        BPF_JUMP(BPF_JMP | BPF_JSET | BPF_K, RWF_NOWAIT, 0, 1),
+        BPF_STMT(BPF_RET | BPF_K, SECCOMP_RET_ERRNO | EOPNOTSUPP),
+        BPF_STMT(BPF_RET | BPF_K, SECCOMP_RET_ALLOW),
+    };
+    struct sock_fprog filter = {.len = sizeof lines / sizeof *lines, .filter = lines};
+    check(prctl(PR_SET_NO_NEW_PRIVS, 1, 0, 0, 0) == 0 && prctl(PR_SET_SECCOMP, SECCOMP_MODE_FILTER, &filter) == 0);
+}
+
+static void *read_shut(void *nothing)
+{
+    struct ring ring;
+    int ends[2];
+    char text[8];
+    refuse_nowait();
+    make_ring(&ring, 8, 0, 0);
+    check(socketpair(AF_UNIX, SOCK_DGRAM, 0, ends) == 0 && send(ends[1], "last", 4, 0) == 4 && shutdown(ends[0], SHUT_RD) == 0);
+    put_transfer(&ring, IORING_OP_READ, 0, 0, ends[0], text, 8, 0);
+    check(result_of_one(&ring, 1) == 4 && memcmp(text, "last", 4) == 0);
+    put_transfer(&ring, IORING_OP_READ, 0, 0, ends[0], text, 8, 0);
+    check(enter(&ring, 1, 0, 0) == 1 && enter_for(&ring, 1, 100000000) == 0);
+    check(wait_for_one(&ring) == 0);
+    close(ends[0]);
+    close(ends[1]);
+    close_ring(&ring);
+    return nothing;
+}
+
+/* A read of a socket of datagrams that was shut down ends with 0 too where no call can be asked not to wait. */
+static void test_shut_unasked(void)
+{
+    pthread_t reader;
+    check(pthread_create(&reader, NULL, read_shut, NULL) == 0 && pthread_join(reader, NULL) == 0);
 }
 
 /* Fills a socket until poll(2) finds no room in it, where some is left. */
@@ -306,6 +353,7 @@ int main(int count, char **words)
         {"shut datagrams", test_shut_datagrams},
         {"full backlog", test_full_backlog},
         {"shut unwilling", test_shut_unwilling},
+        {"shut unasked", test_shut_unasked},
         {"some room", test_some_room},
         {"low mark", test_low_mark},
         {"empty writes", test_empty_writes},

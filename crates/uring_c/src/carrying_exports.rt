@@ -8,7 +8,7 @@ ghost use Rattle.uring_c.specs.MeansForm.{fault_of_word};
 use crate::call_exports::fault_of;
 use uring_enter::{
     Calls, Locked, Locking, Source, asked_descriptors, asked_flags, calls_of, finish_steps,
-    flags_behind, half_in, next_of_locking, source_of,
+    flags_behind, half_in, left_of_buffer, next_of_locking, source_of,
 };
 
 /// Returns where the result of the operation of this code comes from, whose start has found this error, or 0, and which is given this fault, or none, and writes the result of a fault that it is given. Else nothing is written.
@@ -35,6 +35,14 @@ pub extern "C" fn wulgach_half_in(all: u64, before: u64, length: u64) -> u64
     ensures { result ≡ spec.half_in all before length }
 {
     half_in(all, before, length)
+}
+
+/// How many bytes a provided buffer of this length counts as having, once the first half of `all` alone is made in the part of it that a call goes on in.
+#[unsafe(no_mangle)]
+pub extern "C" fn wulgach_left_of_buffer(length: u64, all: u64, part: u64) -> u64
+    ensures { result ≡ spec.left_of_buffer length all part }
+{
+    left_of_buffer(length, all, part)
 }
 
 /// Returns by which calls the operation of this code is carried out.

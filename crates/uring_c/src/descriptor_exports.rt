@@ -11,8 +11,8 @@ ghost use Rattle.uring_c.specs.UnknownForm.{known_of};
 use uring_enter::{
     Directions, Nature, Openness, SpliceEnds, SplicePoll, Submission, SyncedKind, asks_counter,
     asks_openness, counts_as_open, counts_as_synced, directions_of, ends_at_start,
-    fault_asks_buffer, is_counter_name, is_eventfd_name, is_limited, is_missing, is_signal_of_call,
-    isnt_to_wait, signal_behind, splice_poll,
+    fault_asks_buffer, is_counter_name, is_eventfd_name, is_missing, is_signal_of_call,
+    is_taken_back, isnt_to_wait, signal_behind, splice_poll,
 };
 
 /// Whether a descriptor counts as open that is this, and is named by its number, or by the slot that holds its file.
@@ -113,12 +113,12 @@ pub extern "C" fn wulgach_signal_behind(entry: &Submission, res: i32) -> u32
     signal_behind(entry, res)
 }
 
-/// Whether the kernel may send a signal for a file that gets too long, where this is the greatest length that the process may give one, if that is known.
+/// Whether the signal of this number, or none, 0, is taken back, where this is the greatest length that the process may give a file, if that is known.
 #[unsafe(no_mangle)]
-pub extern "C" fn wulgach_is_limited(knows: bool, most: u64) -> bool
-    ensures { result ≡ signals.is_limited (known_of knows most) }
+pub extern "C" fn wulgach_is_taken_back(signal: u32, knows: bool, most: u64) -> bool
+    ensures { result ≡ signals.is_taken_back signal (known_of knows most) }
 {
-    is_limited(if knows { Some(most) } else { None })
+    is_taken_back(signal, if knows { Some(most) } else { None })
 }
 
 /// Whether a signal that was taken is that of the call.

@@ -33,6 +33,10 @@ source_of code started given =
 abbrev pub half_in : (all before length : ℕ) → ℕ
 half_in all before length = min length (all / 2 - before)
 
+-- what it cuts of a provided buffer isn't used again: the buffer counts as so much shorter from then on, where a call goes on in a part of it and makes half of `all` there. Our own rule
+abbrev pub left_of_buffer : (length all part : ℕ) → ℕ
+left_of_buffer length all part = length - (part - half_in all 0 part)
+
 -- a transfer is made by its calls, and a poll by a look; what goes by sockets and a splice or a tee by calls that aren't to wait and looks in turn, since it may have to wait for its descriptor; any other by one call, or what whoever keeps the ring does itself
 abbrev pub calls_of : ℕ → Calls
 calls_of code =

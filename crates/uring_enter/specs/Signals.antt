@@ -25,6 +25,10 @@ abbrev pub is_limited : Option ℕ → Bool
 is_limited (Some bytes) = not (bytes == 2 ^ 64 - 1)
 is_limited None = false
 
+-- whether the signal of this number is taken back, where that is the greatest length: of SIGXFSZ (25) that decides it, and any other that there is, SIGPIPE, is taken back whatever it is
+abbrev pub is_taken_back : ℕ → Option ℕ → Bool
+is_taken_back signal most = if signal == 25 then is_limited most else not (signal == 0)
+
 -- a signal is that of the call if it is told as sent by this process as kill(2) sends it, SI_USER (0). Any other the program was sent, and it stays pending. sigaction(2); what Linux 6.18 was seen to do
 abbrev pub is_of_call : (code : ℤ) → (is_own : Bool) → Bool
 is_of_call code is_own = int_eq code (pos 0) && is_own

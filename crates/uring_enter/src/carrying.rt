@@ -73,6 +73,13 @@ pub fn half_in(all: u64, before: u64, length: u64) -> u64
     length.min((all / 2).saturating_sub(before))
 }
 
+/// How many bytes a provided buffer of this length counts as having, once a short fault has cut the part of it that a call goes on in, which moves `all` at most: what is cut isn't used again. Our own rule.
+pub fn left_of_buffer(length: u64, all: u64, part: u64) -> u64
+    ensures { result ≡ spec.left_of_buffer length all part }
+{
+    length.saturating_sub(part.saturating_sub(half_in(all, 0, part)))
+}
+
 /// By which calls the operation of this code is carried out. Our own rule, by what the manual page says of each.
 pub fn calls_of(code: u8) -> Calls
     ensures { result ≡ spec.calls_of code }

@@ -33,8 +33,19 @@ fn may_break(entry: &Submission, res: i32) -> bool
     res == -32 && (is_splice(entry.opcode) || is_write(entry.opcode) && entry.flags & 16 != 0)
 }
 
+/// Whether the signal of this number, or none, 0, is taken back, where this is the greatest length that the process may give a file, in bytes, if that is known: it decides it of SIGXFSZ (25) alone.
+pub fn is_taken_back(signal: u32, most: Option<u64>) -> bool
+    ensures { result ≡ spec.is_taken_back signal most }
+{
+    if signal == 25 {
+        is_limited(most)
+    } else {
+        signal != 0
+    }
+}
+
 /// Whether the kernel may send a signal for a file that gets too long, where this is the greatest length that the process may give one, in bytes, if that is known.
-pub fn is_limited(most: Option<u64>) -> bool
+fn is_limited(most: Option<u64>) -> bool
     ensures { result ≡ spec.is_limited most }
 {
     match most {
