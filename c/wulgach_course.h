@@ -192,14 +192,27 @@ struct wulgach_ended_early {
     bool has_fired;         /* which has cancelled the request before it */
 };
 
-/* Whether a cancel that the core has ended so has found a request that runs. */
-bool wulgach_looks_for_running(bool is_cancel, int32_t res);
+/* A cancel that the core has ended. */
+struct wulgach_ended_cancel {
+    bool is_cancel;         /* it is one: of another request nothing is looked for */
+    bool has_looked;        /* the requests that run were shown to it, */
+    bool has_cancelled;     /* and it has cancelled one */
+    bool has_next;          /* it has found, before the core ended it, a request that hasn't started and could */
+    bool linux_rules;
+};
 
-/* Whether a cancel that the core has ended so looks for a request which hasn't started and could: by Linux's rules the core finds only what
- * has started, and the kernel starts in the call that takes it what can start. */
-bool wulgach_looks_for_next(bool is_cancel, int32_t res, bool linux_rules);
+enum wulgach_sought_behind {
+    WULGACH_SEEKS_RUNNING = 0,  /* the requests that run */
+    WULGACH_SEEKS_NEXT = 1,     /* the one that could start */
+    WULGACH_SEEKS_NO_MORE = 2
+};
 
-/* Whether a cancel looks for such a request before the core ends it: behind its end others could start, which it doesn't find. */
+/* Returns what it looks for next (enum wulgach_sought_behind), which ends with this: the requests that run, if the core has found one; then, unless it has
+ * cancelled one, the request that could start. By Linux's rules the core finds only what has started, and the kernel starts in the call that takes
+ * it what can start. */
+uint32_t wulgach_sought_behind(const struct wulgach_ended_cancel *cancel, int32_t res);
+
+/* Whether a cancel looks for a request that hasn't started and could before the core ends it: behind its end others could start, which it doesn't find. */
 bool wulgach_looks_ahead(bool is_cancel, bool linux_rules);
 
 /* What is shown of a request that the core has ended with this result: 0 of a cancel that has cancelled a request, an

@@ -139,7 +139,7 @@ struct wulgach_copied {
 };
 
 /* Writes the piece that is copied next of an entry when it is submitted, and returns 1. Else nothing more is copied, and it returns the fault
- * of the entry, or 0. That is the first of those of its pieces, in their order, where one that is too long (an address, a value, a structure) isn't
+ * of the entry, or 0. That is the first of those of its pieces, in their order, where one that is too long (an address, a value) isn't
  * copied; -22 (EINVAL) if it takes a provided buffer and hasn't one vector; and -22 of a linked timeout, but behind an entry that links it
  * and is none itself. */
 int32_t wulgach_next_piece(const struct wulgach_submission *entry, const struct wulgach_copied *copied, struct wulgach_piece *piece);
@@ -189,10 +189,10 @@ int32_t wulgach_vector_fault(const struct wulgach_submission *entry, int32_t bef
 /* How many bytes a transfer moves at most of buffers with so many bytes and one more: 0x7ffff000 and no more. */
 uint64_t wulgach_length_with(uint64_t length, uint64_t size);
 
-/* The fault of how a file is opened, -7 (E2BIG) if what is newer isn't all 0; and of an open by that, with these flags, behind its path: -22
- * if it goes to a slot and has O_CLOEXEC. Each is 0 if there is none. */
+/* The fault of how a file is opened, -7 (E2BIG) if what is newer isn't all 0; and of an entry behind its first path: -22 of an open that goes to a slot and
+ * has O_CLOEXEC, be it by its entry's flags or by those of its structure (`how`). Each is 0 if there is none. */
 int32_t wulgach_how_fault(bool is_rest_zero);
-int32_t wulgach_open_fault(const struct wulgach_submission *entry, uint64_t flags);
+int32_t wulgach_open_fault(const struct wulgach_submission *entry, uint64_t how);
 
 /* Where the parts of a message stand in a buffer, of a RECVMSG that goes on, in bytes from its beginning. */
 struct wulgach_layout {

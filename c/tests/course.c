@@ -151,11 +151,22 @@ static void judge_results(void)
     struct wulgach_ended_early faulty = {.is_faulty = true, .fault = -14}, cancel = {.is_cancel = true, .has_cancelled = true}, late = {.is_cancel = true};
     struct wulgach_ended_early fired = {.is_linked_timeout = true, .has_fired = true}, idle = {.is_linked_timeout = true};
     demand(wulgach_shown_of(&faulty, -22) == -14 && wulgach_shown_of(&faulty, -125) == -125, "an entry with a fault");
-    demand(wulgach_looks_for_running(true, -114) && !wulgach_looks_for_running(true, -2) && !wulgach_looks_for_running(false, -114), "what a cancel looks for");
     demand(wulgach_shown_of(&cancel, -114) == 0 && wulgach_shown_of(&late, -114) == -114 && wulgach_shown_of(&cancel, -2) == 0 && wulgach_shown_of(&late, -2) == -2, "a cancel");
-    demand(wulgach_looks_for_next(true, -2, true) && !wulgach_looks_for_next(true, -2, false) && !wulgach_looks_for_next(true, -114, true), "what it looks for by Linux's rules");
     demand(wulgach_looks_ahead(true, true) && !wulgach_looks_ahead(true, false) && !wulgach_looks_ahead(false, true), "and before its end");
     demand(wulgach_shown_of(&fired, -125) == -62 && wulgach_shown_of(&idle, -125) == -125 && wulgach_shown_of(&idle, -22) == -22, "a linked timeout's end");
+}
+
+static void look_behind_cancels(void)
+{
+    struct wulgach_ended_cancel cancel = {.is_cancel = true, .has_next = true, .linux_rules = true}, other = {.has_next = true, .linux_rules = true};
+    demand(wulgach_sought_behind(&cancel, -114) == WULGACH_SEEKS_RUNNING && wulgach_sought_behind(&other, -114) == WULGACH_SEEKS_NO_MORE, "what runs");
+    demand(wulgach_sought_behind(&cancel, -2) == WULGACH_SEEKS_NEXT && wulgach_sought_behind(&other, -2) == WULGACH_SEEKS_NO_MORE, "what could start");
+    cancel.has_looked = true;
+    demand(wulgach_sought_behind(&cancel, -114) == WULGACH_SEEKS_NO_MORE && wulgach_sought_behind(&cancel, -2) == WULGACH_SEEKS_NEXT, "what comes behind those that run");
+    cancel.linux_rules = false;
+    demand(wulgach_sought_behind(&cancel, -2) == WULGACH_SEEKS_NO_MORE, "by the manual pages' rules");
+    cancel.linux_rules = cancel.has_cancelled = true;
+    demand(wulgach_sought_behind(&cancel, -2) == WULGACH_SEEKS_NO_MORE, "one is cancelled");
 }
 
 static void link_requests(void)
@@ -182,6 +193,7 @@ int main(void)
     notify();
     show_ends();
     judge_results();
+    look_behind_cancels();
     link_requests();
     printf("course: as called for\n");
     return 0;

@@ -41,7 +41,7 @@ static void look_at_fields(void)
 
 static void look_at_more_fields(void)
 {
-    demand(FORM(.opcode = 18, .file_index = 1) == 0 && FORM(.opcode = 18, .file_index = 1, .op_flags = 0x80000) == -22 && FORM(.opcode = 28, .len = 24) == 0 && FORM(.opcode = 28, .len = 23) == -22 && FORM(.opcode = 28, .len = 24, .buf_index = 1) == -22, "opens");
+    demand(FORM(.opcode = 18, .file_index = 1) == 0 && FORM(.opcode = 18, .file_index = 1, .op_flags = 0x80000) == 0 && FORM(.opcode = 28, .len = 24) == 0 && FORM(.opcode = 28, .len = 23) == -22 && FORM(.opcode = 28, .len = 24, .buf_index = 1) == -22, "opens");
     demand(FORM(.opcode = 19, .fd = 3) == 0 && FORM(.opcode = 19, .file_index = 1) == 0 && FORM(.opcode = 19, .fd = 3, .file_index = 1) == -22, "a close");
     demand(FORM(.opcode = 20, .len = 1) == 0 && FORM(.opcode = 20) == -22 && FORM(.opcode = 20, .len = 1, .flags = 1) == -22, "an update of files");
     demand(FORM(.opcode = 31, .fd = 65536, .len = 1) == 0 && FORM(.opcode = 31, .fd = 1, .len = 1, .off = 65535) == 0 && FORM(.opcode = 31, .fd = 65537, .len = 1) == -7 && FORM(.opcode = 31, .fd = -1, .op_flags = 1) == -22 && FORM(.opcode = 31, .fd = 1, .len = 1, .off = 65536) == -7, "provided buffers");
@@ -178,6 +178,8 @@ static void open_files(void)
     struct wulgach_submission slot = {.opcode = 28, .file_index = 1}, none = {.opcode = 28};
     demand(wulgach_how_fault(true) == 0 && wulgach_how_fault(false) == -7, "newer fields");
     demand(wulgach_open_fault(&slot, 0x80000) == -22 && wulgach_open_fault(&slot, 2) == 0 && wulgach_open_fault(&none, 0x80000) == 0, "a slot");
+    struct wulgach_submission plain = {.opcode = 18, .file_index = 1, .op_flags = 0x80000}, status = {.opcode = 21, .file_index = 1, .op_flags = 0x80000};
+    demand(wulgach_open_fault(&plain, 0) == -22 && wulgach_open_fault(&status, 0x80000) == 0, "an open by its entry's flags, and no open");
 }
 
 static void be_strict(void)

@@ -149,26 +149,33 @@ void end_of(struct ring *ring, struct request *request, int32_t res, int32_t tol
         do_duty(ring, &end, (enum wulgach_end_duty)__builtin_ctz(duties));
 }
 
-/* A cancel of the core's has ended so: cancels what it has found all the same, and says whether there is one. Of a core that has found what no cancel
+/* A request of the core's has ended so: cancels what it has found all the same, if it is a cancel, and says whether there is one. Of a core that has found what no cancel
  * finds the result is put right. */
 static bool cancel_behind(struct ring *ring, const struct request *cancel, struct request *next, int32_t *res)
 {
-    if (wulgach_looks_for_running(true, *res) && cancel_running(ring, wulgach_target_of(submission_of(&cancel->entry)), res))
-        return true;
-    if (!next || !wulgach_looks_for_next(true, *res, ring->is_linux))
-        return false;
-    cancel_request(ring, next);
-    return true;
+    struct wulgach_ended_cancel ended = {.is_cancel = cancel->mapping == CANCEL, .has_next = next, .linux_rules = ring->is_linux};
+    for (;;)
+        switch ((enum wulgach_sought_behind)wulgach_sought_behind(&ended, *res)) {
+        case WULGACH_SEEKS_RUNNING:
+            ended.has_cancelled = cancel_running(ring, wulgach_target_of(submission_of(&cancel->entry)), res);
+            ended.has_looked = true;
+            break;
+        case WULGACH_SEEKS_NEXT:
+            cancel_request(ring, next);
+            ended.has_cancelled = true;
+            break;
+        case WULGACH_SEEKS_NO_MORE:
+            return ended.has_cancelled;
+        }
 }
 
 int32_t shown_of(struct ring *ring, const struct request *request, struct request *next, int32_t res)
 {
-    bool is_cancel = request->mapping == CANCEL;
     struct wulgach_ended_early ended = {
         .fault = request->fault,
         .is_faulty = request->mapping == REFUSED,
-        .is_cancel = is_cancel,
-        .has_cancelled = is_cancel && cancel_behind(ring, request, next, &res),
+        .is_cancel = request->mapping == CANCEL,
+        .has_cancelled = cancel_behind(ring, request, next, &res),
         .is_linked_timeout = is_linked_timeout(request),
         .has_fired = request->has_fired,
     };

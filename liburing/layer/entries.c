@@ -5,6 +5,7 @@
 #include "cancels.h"
 #include "copying.h"
 #include "groups.h"
+#include "openings.h"
 #include "polls.h"
 #include "sockets.h"
 #include "timeouts.h"
@@ -62,16 +63,30 @@ static int copy_time(struct request *request, uint64_t from)
 _Static_assert(sizeof(struct iovec) == 16 && sizeof(struct msghdr) == 56 && sizeof(struct __kernel_timespec) == 16, "a piece is as long as it is here");
 _Static_assert(sizeof(struct open_how) == 24 && sizeof(struct epoll_event) == 12 && sizeof(struct sockaddr_storage) == 128, "a piece is as long as it is here");
 
-/* How a file is opened: at least what is known of that, and it may have more. */
+/* Looks at what a structure of an open has behind what is known of it, page by page, since what comes behind a byte that isn't 0 needn't be there. Returns
+ * its fault, or 0. */
+static int32_t look_at_rest(uint64_t from, uint64_t end)
+{
+    enum { PAGE = 4096 };
+    static const char zeros[PAGE];
+    char page[PAGE];
+    bool is_zero = true;
+    while (is_zero && from < end) {
+        size_t left = PAGE - from % PAGE, size = end - from < left ? end - from : left;
+        int result = copy_in(page, from, size);
+        if (result < 0)
+            return result;
+        is_zero = memcmp(page, zeros, size) == 0;
+        from += size;
+    }
+    return wulgach_how_fault(is_zero);
+}
+
+/* How a file is opened: at least what is known of that, and it may have more, which is looked at first, as in a kernel. */
 static int copy_how(struct request *request, const struct wulgach_piece *piece)
 {
-    bool is_rest_zero = true;
-    int result = copy_of((void **)&request->how, piece->from, piece->size);
-    if (result < 0)
-        return result;
-    for (size_t i = sizeof *request->how; i < piece->size; i++)
-        is_rest_zero &= ((const char *)request->how)[i] == 0;
-    return wulgach_how_fault(is_rest_zero);
+    int32_t fault = look_at_rest(piece->from + sizeof *request->how, piece->from + piece->size);
+    return fault < 0 ? fault : copy_of((void **)&request->how, piece->from, sizeof *request->how);
 }
 
 /* A path, or the name of an attribute. */
@@ -88,7 +103,7 @@ static int copy_name(const struct request *request, char **to, const struct wulg
 static int copy_first_path(struct request *request, const struct wulgach_piece *piece)
 {
     int result = copy_name(request, &request->path, piece);
-    return result < 0 || !request->how ? result : wulgach_open_fault(submission_of(&request->entry), request->how->flags);
+    return result < 0 ? result : wulgach_open_fault(submission_of(&request->entry), how_flags(request));
 }
 
 /* Copies a piece of what the entry points to. Returns 0, its fault or -ENOMEM. */

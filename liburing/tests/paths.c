@@ -189,14 +189,14 @@ static void test_how(void)
     struct io_uring_rsrc_register sparse = {.nr = 2, .flags = IORING_RSRC_REGISTER_SPARSE};
     struct {
         struct open_how how;
-        char more[8];
+        char more[8192];
     } large = {.how = {.flags = O_RDWR | O_CREAT | O_CLOEXEC, .mode = 0600}};
     static const struct {
         uint32_t size, slot;
         bool has_path;
         char more;
         int32_t res;
-    } rows[] = {{23, 0, true, 0, -EINVAL}, {23, 0, false, 0, -EINVAL}, {24, 1, true, 0, -EINVAL}, {24, 1, false, 0, -EFAULT}, {32, 0, true, 1, -E2BIG}, {32, 0, false, 1, -E2BIG}, {4097, 0, true, 0, -E2BIG}, {32, 0, true, 0, 0}};
+    } rows[] = {{8216, 0, true, 0, 0}, {8216, 0, true, 1, -E2BIG}, {23, 0, true, 0, -EINVAL}, {23, 0, false, 0, -EINVAL}, {24, 1, true, 0, -EINVAL}, {24, 1, false, 0, -EFAULT}, {32, 0, true, 1, -E2BIG}, {32, 0, false, 1, -E2BIG}, {4097, 0, true, 0, 0}, {32, 0, true, 0, 0}};
     make_ring(&ring, 8, 0, 0);
     check(register_at(ring.fd, IORING_REGISTER_FILES2, &sparse, sizeof sparse) == 0);
     for (size_t i = 0; i < sizeof rows / sizeof *rows; i++) {
@@ -208,6 +208,47 @@ static void test_how(void)
         int32_t res = result_of_one(&ring, 1);
         check(res == rows[i].res || (rows[i].res == 0 && res > 0 && close(res) == 0 && unlinkat(root, "how", 0) == 0));
         check(!is_there("how"));
+    }
+    close_ring(&ring);
+}
+
+/* What is newer in a structure of an open is looked at first, up to what isn't 0 or can't be read: it lies over the end of a page, or its newer fields begin one. */
+static void test_how_at_an_edge(void)
+{
+    enum { PAGE = 4096, KNOWN = sizeof(struct open_how), LONG = 64 };
+    struct ring ring;
+    char *pages = mmap(NULL, 3 * PAGE, PROT_READ | PROT_WRITE, MAP_PRIVATE | MAP_ANONYMOUS, -1, 0), *page = pages + PAGE;
+    check(pages != MAP_FAILED && mprotect(pages, PAGE, PROT_NONE) == 0 && mprotect(page + PAGE, PAGE, PROT_NONE) == 0);
+    make_ring(&ring, 8, 0, 0);
+    for (int row = 0; row < 4; row++) {
+        bool is_at_end = row & 1, has_more = row & 2;
+        struct io_uring_sqe *entry = put_path(&ring, IORING_OP_OPENAT2, 0, "no");
+        entry->off = (uintptr_t)(is_at_end ? page + PAGE - KNOWN - 8 : page - KNOWN);
+        entry->len = is_at_end ? LONG : KNOWN + 8;
+        page[0] = page[PAGE - 1] = has_more;
+        check(result_of_one(&ring, 1) == (has_more ? -E2BIG : -EFAULT));
+    }
+    munmap(pages, 3 * PAGE);
+    close_ring(&ring);
+}
+
+/* What a slot has isn't closed by exec: an open into one that says so is refused, but behind its path. */
+static void test_open_into_slot(void)
+{
+    struct ring ring;
+    struct io_uring_rsrc_register sparse = {.nr = 2, .flags = IORING_RSRC_REGISTER_SPARSE};
+    static const struct {
+        const char *path;
+        uint32_t slot, flags;
+        int32_t res;
+    } rows[] = {{NULL, 1, O_CLOEXEC, -EFAULT}, {"", 1, O_CLOEXEC, -ENOENT}, {"no", 1, O_CLOEXEC, -EINVAL}, {"no", 1, 0, -ENOENT}, {"no", 0, O_CLOEXEC, -ENOENT}};
+    make_ring(&ring, 8, 0, 0);
+    check(register_at(ring.fd, IORING_REGISTER_FILES2, &sparse, sizeof sparse) == 0);
+    for (size_t i = 0; i < sizeof rows / sizeof *rows; i++) {
+        struct io_uring_sqe *entry = put_path(&ring, IORING_OP_OPENAT, 0, rows[i].path);
+        entry->open_flags = rows[i].flags;
+        entry->file_index = rows[i].slot;
+        check(result_of_one(&ring, 1) == rows[i].res);
     }
     close_ring(&ring);
 }
@@ -260,7 +301,7 @@ static void test_refused_names(void)
 int main(int count, char **words)
 {
     static const struct named tests[] = {
-        {"names", test_names}, {"refused names", test_refused_names}, {"how", test_how}, {"chain", test_chain}, {"attributes", test_attributes}, {"epoll", test_epoll}, {"table", test_table},
+        {"names", test_names}, {"refused names", test_refused_names}, {"how", test_how}, {"how at an edge", test_how_at_an_edge}, {"open into slot", test_open_into_slot}, {"chain", test_chain}, {"attributes", test_attributes}, {"epoll", test_epoll}, {"table", test_table},
     };
     check(mkdtemp(folder) && (root = open(folder, O_PATH | O_DIRECTORY)) >= 0);
     int status = run_tests(tests, sizeof tests / sizeof *tests, count > 1 ? words[1] : NULL);

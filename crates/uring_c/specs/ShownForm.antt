@@ -1,9 +1,11 @@
--- What is to be stored into ring memory, when a ring's descriptor is readable, and what a completion tells of, in words that C can read.
+-- What is to be stored into ring memory, when a ring's descriptor is readable, what a completion tells of, and what a cancel looks for that has ended, in words that C can read.
 use Rattle.std.specs.Prelude.{ℕ, true, false}
 use Rattle.uring_enter.specs.declared.readable.Readable.{Readable}
 use Rattle.uring_enter.specs.declared.readable.Readable.TheVariants as readable
 use Rattle.uring_enter.specs.declared.shot.Part.{Part}
 use Rattle.uring_enter.specs.declared.shot.Part.TheVariants as part
+use Rattle.uring_enter.specs.declared.outcome.SoughtBehind.{SoughtBehind}
+use Rattle.uring_enter.specs.declared.outcome.SoughtBehind.TheVariants as sought
 use Rattle.uring_enter.specs.declared.showing.Store.{Store}
 use Rattle.uring_enter.specs.declared.showing.Store.TheVariants.{Cell, Tail}
 use Rattle.uring_c.specs.declared.shown_exports.StoreWords.{StoreWords}
@@ -25,3 +27,9 @@ word_of_part part.Event = 0
 word_of_part part.Sent = 1
 word_of_part part.Notice = 2
 word_of_part part.Own = 3
+
+-- what a cancel looks for counts in the order of `SoughtBehind`, from 0. Our own rule
+abbrev pub word_of_sought : SoughtBehind → ℕ
+word_of_sought sought.Running = 0
+word_of_sought sought.Next = 1
+word_of_sought sought.Nothing = 2

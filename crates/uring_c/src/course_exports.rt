@@ -7,21 +7,21 @@ ghost use Rattle.uring_enter.specs.declared.member.Entry.{Entry};
 ghost use Rattle.uring_enter.specs.Courses.{KeepsCourse, act, behind_act, fits};
 ghost use Rattle.uring_enter.specs.Courses.{shown as shown_by};
 ghost use Rattle.uring_enter.specs.Courses.{notice_of as noticed};
-ghost use Rattle.uring_enter.specs.Outcomes.{is_success, looks_for_next, looks_for_running, shown_of, success_of_entry};
+ghost use Rattle.uring_enter.specs.Outcomes.{is_success, shown_of, sought_behind, success_of_entry};
 ghost use Rattle.uring_enter.specs.Shots as shots;
 ghost use Rattle.uring_enter.specs.Chains.{member_of, limits};
 ghost use Rattle.uring_enter.specs.Showing.{Change, KeepsShown};
 ghost use Rattle.uring_enter.specs.Showing.{Posted as WasPosted};
 ghost use Rattle.uring_enter.specs.Postings.{Posting, Ended, KeepsPosted, is_taken, with_res, posts};
 ghost use Rattle.uring_crossing.specs.CourseForm.{fact_of, word_of_act, res_of_act, last_of, word_of_end, is_refused, part_of};
-ghost use Rattle.uring_c.specs.ShownForm.{word_of_part};
+ghost use Rattle.uring_c.specs.ShownForm.{word_of_part, word_of_sought};
 
 use uring_crossing::completion_words::CompletionWords;
 use uring_crossing::course_words::{act_res, act_word, fact, last, part};
 use uring_enter::{
-    Carried, Course, EndedEarly, Entry, Fact, Member, Part, Posted, Shown, Submission,
-    completion_flags, end_of_send, has_succeeded, looks_for_next, looks_for_running, notice_of,
-    shown_of, untold_behind,
+    Carried, Course, EndedCancel, EndedEarly, Entry, Fact, Member, Part, Posted, Shown,
+    SoughtBehind, Submission, completion_flags, end_of_send, has_succeeded, notice_of, shown_of,
+    sought_behind, untold_behind,
 };
 
 /// A request that was accepted just now.
@@ -183,20 +183,16 @@ fn part_word(part: Part) -> u32
     }
 }
 
-/// Whether a cancel that the core has ended so has found a request that runs.
+/// What a cancel looks for next that the core has ended, and which ends with this.
 #[unsafe(no_mangle)]
-pub extern "C" fn wulgach_looks_for_running(is_cancel: bool, res: i32) -> bool
-    ensures { result ≡ looks_for_running is_cancel res }
+pub extern "C" fn wulgach_sought_behind(cancel: &EndedCancel, res: i32) -> u32
+    ensures { result ≡ word_of_sought (sought_behind cancel.now res) }
 {
-    looks_for_running(is_cancel, res)
-}
-
-/// Whether a cancel that the core has ended so looks for a request which hasn't started and could.
-#[unsafe(no_mangle)]
-pub extern "C" fn wulgach_looks_for_next(is_cancel: bool, res: i32, linux: bool) -> bool
-    ensures { result ≡ looks_for_next is_cancel res linux }
-{
-    looks_for_next(is_cancel, res, linux)
+    match sought_behind(*cancel, res) {
+        SoughtBehind::Running => 0,
+        SoughtBehind::Next => 1,
+        SoughtBehind::Nothing => 2,
+    }
 }
 
 /// What is shown of a request that the core has ended with this result.

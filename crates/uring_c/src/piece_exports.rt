@@ -128,12 +128,12 @@ pub extern "C" fn wulgach_how_fault(is_rest_zero: bool) -> i32
     how_fault(is_rest_zero)
 }
 
-/// The fault of an open with these flags, behind its path, or 0.
+/// The fault of an entry behind its first path, or 0. `how`: the flags of its structure of an open, if it has one.
 #[unsafe(no_mangle)]
-pub extern "C" fn wulgach_open_fault(entry: &Submission, flags: u64) -> i32
-    ensures { result ≡ spec.open_fault entry.now flags }
+pub extern "C" fn wulgach_open_fault(entry: &Submission, how: u64) -> i32
+    ensures { result ≡ spec.open_fault entry.now how }
 {
-    open_fault(entry, flags)
+    open_fault(entry, how)
 }
 
 /// How many vectors a message with so many has.

@@ -5,7 +5,7 @@ use Rattle.std.specs.Int.RustNames.{bit_and}
 use Rattle.uring_enter.specs.declared.submission.Submission.{Submission}
 use Rattle.uring_enter.specs.declared.rule.Rule.{Rule}
 use Rattle.uring_enter.specs.declared.rule.Also.{Also}
-use Rattle.uring_enter.specs.declared.rule.Also.TheVariants.{Nothing, Transfer, Vectors, Sync, Poll, PollRemoval, Timeout, LinkedTimeout, TimeoutRemoval, Cancel, Open, OpenHow, Close, FilesUpdate, ProvisionRemoval, Socket, Accept, Send, SendMessage, Receive, SendZeroCopy, SendMessageZeroCopy}
+use Rattle.uring_enter.specs.declared.rule.Also.TheVariants.{Nothing, Transfer, Vectors, Sync, Poll, PollRemoval, Timeout, LinkedTimeout, TimeoutRemoval, Cancel, OpenHow, Close, FilesUpdate, ProvisionRemoval, Socket, Accept, Send, SendMessage, Receive, SendZeroCopy, SendMessageZeroCopy}
 use Rattle.uring_enter.specs.declared.form.Form.{Form}
 use Rattle.uring_enter.specs.declared.form.Form.TheVariants as form
 use Rattle.uring_enter.specs.Rules.{rule_of, is_rule, priority, offset, address, length, own_flags, buffer, slot, third, padding}
@@ -46,7 +46,7 @@ is_poll_removal e =
     nat_le e.len 7 && not (e.len == 1)
     && (has_some e.len 4 || e.off == 0) && (has_some e.len 2 || e.op_flags == 0)
 
--- whether an entry is what else its operation asks for. IORING_ASYNC_CANCEL_FD (2) and ANY (4) exclude each other; O_CLOEXEC is 2^19, and what a slot has isn't closed by exec; OPEN_HOW_SIZE_VER0 is 24; a close is of a descriptor or of a slot
+-- whether an entry is what else its operation asks for. IORING_ASYNC_CANCEL_FD (2) and ANY (4) exclude each other; OPEN_HOW_SIZE_VER0 is 24; a close is of a descriptor or of a slot
 abbrev pub meets : Also → Submission → Bool
 meets Nothing e = true
 meets Transfer e = is_priority e.ioprio
@@ -58,7 +58,6 @@ meets Timeout e = is_timeout e
 meets LinkedTimeout e = is_timeout e && bit_and e.off 4294967295 == 0
 meets TimeoutRemoval e = is_timeout_removal e
 meets Cancel e = not (bit_and e.op_flags 6 == 6)
-meets Open e = e.file_index == 0 || not (has_some e.op_flags 524288)
 meets OpenHow e = nat_le 24 e.len
 meets Close e = e.file_index == 0 || int_eq e.fd (pos 0)
 meets FilesUpdate e = not (e.len == 0) && not (has_some e.flags 1)

@@ -6,6 +6,7 @@ use Rattle.uring_enter.specs.declared.piece.What.{What}
 use Rattle.uring_enter.specs.declared.piece.What.TheVariants.{Buffer, Vectors, Path, SecondPath, How, Time, Value, Message, Address}
 use Rattle.uring_enter.specs.declared.piece.Piece.{Piece}
 use Rattle.uring_enter.specs.Clocks.{has_some}
+use Rattle.uring_enter.specs.PipeOpens.{flags_of}
 use Rattle.uring_entry.specs.Errors.{error, is_below}
 
 abbrev pub stands : What → ℕ → ℕ → Option Piece
@@ -83,11 +84,10 @@ piece_of e place =
     if place == 1 then second_of e else
     if place == 2 then third_of e else None
 
--- an address of more than 128 bytes is -22 (EINVAL), an attribute's value of more than 65,536 -7 (E2BIG), and so a structure that is longer than a page, before any is copied
+-- an address of more than 128 bytes is -22 (EINVAL), and an attribute's value of more than 65,536 -7 (E2BIG), before any is copied
 abbrev pub fault_by : What → ℕ → ℤ
 fault_by Address size = if nat_le size 128 then pos 0 else error 22
 fault_by Value size = if nat_le size 65536 then pos 0 else error 7
-fault_by How size = if nat_le size 4096 then pos 0 else error 7
 fault_by _ size = pos 0
 
 abbrev pub fault_of : Piece → ℤ
@@ -102,9 +102,10 @@ time_fault seconds nanoseconds =
 abbrev pub how_fault : Bool → ℤ
 how_fault is_rest_zero = if is_rest_zero then pos 0 else error 7
 
--- what a slot has isn't closed by exec: O_CLOEXEC is 2^19
-abbrev pub open_fault : Submission → ℕ → ℤ
-open_fault e flags = if not (e.file_index == 0) && has_some flags 524288 then error 22 else pos 0
+-- what a slot has isn't closed by exec: O_CLOEXEC is 2^19. That comes behind the path of an OPENAT and an OPENAT2, and is no fault of another entry with a path. `how`: the flags of the structure of an OPENAT2
+abbrev pub open_fault : Submission → (how : ℕ) → ℤ
+open_fault e how =
+    if (e.opcode == 18 || e.opcode == 28) && not (e.file_index == 0) && has_some (flags_of e how) 524288 then error 22 else pos 0
 
 -- a message that is to take a provided buffer (32) and has no vectors has an empty one, which the buffer takes the place of. What Linux 6.18 does
 abbrev pub message_vectors : Submission → ℕ → ℕ

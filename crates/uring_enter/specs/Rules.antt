@@ -2,7 +2,7 @@
 use Rattle.std.specs.Prelude.{ℕ, ◌+◌, Bool, true, false, ◌||◌, ◌==◌, Option, Some, None, if◌then◌else◌}
 use Rattle.uring_enter.specs.declared.rule.Rule.{Rule}
 use Rattle.uring_enter.specs.declared.rule.Also.{Also}
-use Rattle.uring_enter.specs.declared.rule.Also.TheVariants.{Nothing, Transfer, Vectors, Sync, Poll, PollRemoval, Timeout, LinkedTimeout, TimeoutRemoval, Cancel, Open, OpenHow, Close, FilesUpdate, ProvisionRemoval, Socket, Accept, Send, SendMessage, Receive, SendZeroCopy, SendMessageZeroCopy}
+use Rattle.uring_enter.specs.declared.rule.Also.TheVariants.{Nothing, Transfer, Vectors, Sync, Poll, PollRemoval, Timeout, LinkedTimeout, TimeoutRemoval, Cancel, OpenHow, Close, FilesUpdate, ProvisionRemoval, Socket, Accept, Send, SendMessage, Receive, SendZeroCopy, SendMessageZeroCopy}
 
 -- the fields of an entry, a bit each. `slot` is file_index, which also is splice_fd_in; `third` is addr3, and `padding` what stands behind it
 abbrev pub priority : ℕ
@@ -79,7 +79,7 @@ rule_of code =
     -- FALLOCATE
     if code == 17 then bars (priority + own_flags + buffer + slot) else
     -- OPENAT, OPENAT2, CLOSE and FILES_UPDATE
-    if code == 18 then row (priority + buffer) any Open else
+    if code == 18 then row (priority + buffer) any Nothing else
     if code == 28 then row (priority + buffer) any OpenHow else
     if code == 19 then row (priority + offset + address + length + own_flags + buffer) any Close else
     if code == 20 then row (priority + own_flags + slot) any FilesUpdate else

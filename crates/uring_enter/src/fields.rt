@@ -14,9 +14,6 @@ use crate::socket_form::{
 };
 use crate::submission::Submission;
 
-/// `O_CLOEXEC`.
-const CLOEXEC: u32 = 0x80000;
-
 /// Whether an entry gives none of the fields that must be 0.
 pub(crate) fn is_bare(entry: &Submission) -> bool
     ensures { result ≡ spec.is_bare (rules.rule_of entry.now.opcode) entry.now }
@@ -74,7 +71,6 @@ fn meets(also: Also, entry: &Submission) -> bool
         Also::LinkedTimeout => is_timeout(entry) && entry.off & 0xffff_ffff == 0,
         Also::TimeoutRemoval => is_timeout_removal(entry),
         Also::Cancel => entry.op_flags & 6 != 6,
-        Also::Open => entry.file_index == 0 || entry.op_flags & CLOEXEC == 0,
         Also::OpenHow => entry.len >= 24,
         Also::Close => entry.file_index == 0 || entry.fd == 0,
         Also::FilesUpdate => entry.len != 0 && entry.flags & 1 == 0,

@@ -1,7 +1,7 @@
 //! What of a request's result is a success to the links behind it, and what is shown of one that the core ends by itself.
 
 ghost use Rattle.std.specs.Prelude.{◌≡◌};
-ghost use Rattle.uring_enter.specs.Outcomes.{cuts, forgives, is_forgiven, is_forgiving, is_success, is_whole, success_of_entry, wants_whole, looks_ahead, looks_for_running, looks_for_next, may_have_found, shown_of, LooksInTime};
+ghost use Rattle.uring_enter.specs.Outcomes.{cuts, forgives, is_forgiven, is_forgiving, is_success, is_whole, success_of_entry, wants_whole, looks_ahead, looks_for_running, looks_for_next, may_have_found, shown_of, sought_behind, CancelsOne, LooksInTime};
 
 use crate::needs::{is_of_sockets, is_splice, is_transfer};
 use crate::parts::is_alone;
@@ -194,18 +194,71 @@ pub struct EndedEarly {
 }
 
 /// Whether a cancel that the core has ended so has found a request that runs.
-pub fn looks_for_running(is_cancel: bool, res: i32) -> bool
+fn looks_for_running(is_cancel: bool, res: i32) -> bool
     ensures { result ≡ looks_for_running is_cancel res }
 {
     is_cancel && res == -114
 }
 
 /// Whether a cancel that the core has ended so looks for a request which hasn't started and could, in a ring by Linux's rules or by the manual pages'.
-pub fn looks_for_next(is_cancel: bool, res: i32, linux: bool) -> bool
+fn looks_for_next(is_cancel: bool, res: i32, linux: bool) -> bool
     ensures { result ≡ looks_for_next is_cancel res linux }
 {
     linux && is_cancel && res == -2
 }
+
+/// A cancel that the core has ended.
+#[repr(C)]
+#[derive(Clone, Copy, Drop)]
+pub struct EndedCancel {
+    /// It is one: of another request nothing is looked for.
+    pub is_cancel: bool,
+
+    /// The requests that run were shown to it.
+    pub has_looked: bool,
+
+    /// It has cancelled one.
+    pub has_cancelled: bool,
+
+    /// It has found, before the core ended it, a request that could start.
+    pub has_next: bool,
+
+    /// Its ring goes by Linux's rules.
+    pub linux: bool,
+}
+
+/// What a cancel looks for that the core has ended.
+#[derive(Clone, Copy, Drop)]
+pub enum SoughtBehind {
+    /// The requests that run.
+    Running,
+
+    /// The one that could start.
+    Next,
+
+    Nothing,
+}
+
+/// What a cancel looks for next that the core has ended, and which ends with this.
+pub fn sought_behind(cancel: EndedCancel, res: i32) -> SoughtBehind
+    ensures { result ≡ sought_behind cancel res }
+{
+    if !cancel.has_looked && looks_for_running(cancel.is_cancel, res) {
+        SoughtBehind::Running
+    } else if cancel.has_next
+        && !cancel.has_cancelled
+        && looks_for_next(cancel.is_cancel, res, cancel.linux)
+    {
+        SoughtBehind::Next
+    } else {
+        SoughtBehind::Nothing
+    }
+}
+
+/// A cancel that has cancelled a request looks for no other.
+pub fn cancels_one()
+    ensures { CancelsOne }
+{}
 
 /// Whether a cancel looks, before the core ends it, for a request which hasn't started and could: behind its end others could start, which it doesn't find.
 pub fn looks_ahead(is_cancel: bool, linux: bool) -> bool

@@ -3,6 +3,7 @@
 ghost use Rattle.std.specs.Prelude.{◌≡◌};
 ghost use Rattle.uring_enter.specs.Pieces as spec;
 
+use crate::pipe_open::flags_of;
 use crate::submission::Submission;
 
 /// How many bytes a path has at most, its end with them.
@@ -162,7 +163,6 @@ impl Piece {
         match self.what {
             What::Address => { if self.size <= 128 { 0 } else { -22 } }
             What::Value => { if self.size <= 65536 { 0 } else { -7 } }
-            What::How => { if self.size <= 4096 { 0 } else { -7 } }
             _ => 0,
         }
     }
@@ -186,11 +186,12 @@ pub fn how_fault(is_rest_zero: bool) -> i32
     if is_rest_zero { 0 } else { -7 }
 }
 
-/// The fault of an open with these flags, which comes behind its path, or 0: what a slot has isn't closed by exec.
-pub fn open_fault(entry: &Submission, flags: u64) -> i32
-    ensures { result ≡ spec.open_fault entry.now flags }
+/// The fault of an entry behind its first path, or 0: what a slot has isn't closed by exec. `how`: the flags of its `struct open_how`, if it has one.
+pub fn open_fault(entry: &Submission, how: u64) -> i32
+    ensures { result ≡ spec.open_fault entry.now how }
 {
-    if entry.file_index != 0 && flags & 0x80000 != 0 {
+    let opens = entry.opcode == 18 || entry.opcode == 28;
+    if opens && entry.file_index != 0 && flags_of(entry, how) & 0x80000 != 0 {
         -22
     } else {
         0

@@ -21,7 +21,7 @@ pub enum Opening {
 }
 
 /// The flags of an entry's open, whose `struct open_how` has these, if it has one. openat2(2).
-fn flags_of(entry: &Submission, how: u64) -> u64
+pub(crate) fn flags_of(entry: &Submission, how: u64) -> u64
     ensures { result ≡ spec.flags_of entry.now how }
 {
     if entry.opcode == 28 {

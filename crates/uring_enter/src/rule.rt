@@ -58,8 +58,6 @@ pub enum Also {
 
     Cancel,
 
-    Open,
-
     /// An open by a structure.
     OpenHow,
 
@@ -133,7 +131,7 @@ pub fn rule_of(code: u8) -> Option<Rule>
             Also::LinkedTimeout,
         ),
         17 => bars(PRIORITY | FLAGS | BUFFER | SLOT),
-        18 => row(PRIORITY | BUFFER, ANY, Also::Open),
+        18 => row(PRIORITY | BUFFER, ANY, Also::Nothing),
         28 => row(PRIORITY | BUFFER, ANY, Also::OpenHow),
         19 => row(
             PRIORITY | OFFSET | ADDRESS | LENGTH | FLAGS | BUFFER,
