@@ -1,19 +1,19 @@
 -- A call's words give the call back.
 use Rattle.std.proofs.Common.{◌≡◌, List, [], ◌∷◌, Some, Result, Ok, Err, IfOk, refl, sym, ap, subst, ◌∙◌}
 use Rattle.std.specs.Result.{result_ok}
-use Rattle.uring_enter.specs.declared.asked.Policy.{Policy}
-use Rattle.uring_enter.specs.declared.asked.Policy.TheVariants.{InOrder, Lazy, ByChoice}
-use Rattle.uring_enter.specs.declared.asked.Asked.{Asked}
-use Rattle.uring_enter.specs.declared.command.Command.{Command}
-use Rattle.uring_enter.specs.declared.command.Command.TheVariants as command
-use Rattle.uring_enter.specs.declared.enter.Before.{Before}
-use Rattle.uring_enter.specs.declared.enter.Before.TheVariants as before
-use Rattle.uring_enter.specs.declared.enter.Enter.{Enter}
-use Rattle.uring_enter.specs.declared.enter.WrongReply.{WrongReply}
-use Rattle.uring_enter.specs.declared.reply.Reply.{Reply}
+use Rattle.uring_enter.specs.declared.call.asked.Policy.{Policy}
+use Rattle.uring_enter.specs.declared.call.asked.Policy.TheVariants.{InOrder, Lazy, ByChoice}
+use Rattle.uring_enter.specs.declared.call.asked.Asked.{Asked}
+use Rattle.uring_enter.specs.declared.call.command.Command.{Command}
+use Rattle.uring_enter.specs.declared.call.command.Command.TheVariants as command
+use Rattle.uring_enter.specs.declared.call.enter.Before.{Before}
+use Rattle.uring_enter.specs.declared.call.enter.Before.TheVariants as before
+use Rattle.uring_enter.specs.declared.call.enter.Enter.{Enter}
+use Rattle.uring_enter.specs.declared.call.enter.WrongReply.{WrongReply}
+use Rattle.uring_enter.specs.declared.call.reply.Reply.{Reply}
 use Rattle.uring_crossing.specs.EnterForm.{word_of_policy, policy_of, asked_of, words_of_asked, command_of, words_of_command, word_of_before, before_of_word, enter_of, words_of_enter, AreAfter}
-use Rattle.uring_enter.specs.After.{IsAfter}
-use Rattle.uring_enter.specs.Due.{due}
+use Rattle.uring_enter.specs.Call.After.{IsAfter}
+use Rattle.uring_enter.specs.Call.Due.{due}
 use Rattle.uring_crossing.specs.declared.enter_words.EnterWords.{EnterWords}
 
 policy_back : (p : Policy) → policy_of (word_of_policy p) ≡ Some p

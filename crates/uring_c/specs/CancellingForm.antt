@@ -1,10 +1,10 @@
 -- What is done with a request that a cancel has found, and where the file is looked for that it names, in words that C can read.
 use Rattle.std.specs.Prelude.{ℕ, ◌^◌, if◌then◌else◌}
 use Rattle.std.specs.Int.RustNames.{bit_or}
-use Rattle.uring_enter.specs.declared.cancelling.Cancelling.{Cancelling}
-use Rattle.uring_enter.specs.declared.seeking.SoughtFile.{SoughtFile}
-use Rattle.uring_enter.specs.declared.seeking.SoughtFile.TheVariants.{NoFile, OfSlot, OfNumber}
-use Rattle.uring_enter.specs.Cancelling.{CancelStep, Rouses, LooksAgain, StopsTime, Marks, place, is_done}
+use Rattle.uring_operations.specs.declared.requests.cancelling.Cancelling.{Cancelling}
+use Rattle.uring_enter.specs.declared.cancels.seeking.SoughtFile.{SoughtFile}
+use Rattle.uring_enter.specs.declared.cancels.seeking.SoughtFile.TheVariants.{NoFile, OfSlot, OfNumber}
+use Rattle.uring_operations.specs.Requests.Cancelling.{CancelStep, Rouses, LooksAgain, StopsTime, Marks, place, is_done}
 
 -- kinds count in the order of `SoughtFile`, from 0. Our own rule
 abbrev pub word_of_sought_file : SoughtFile → ℕ

@@ -1,11 +1,11 @@
 -- How an operation is carried out, in words that C can read.
 use Rattle.std.specs.Prelude.{ℕ, ℤ}
-use Rattle.uring_enter.specs.declared.asking.Locking.{Locking}
-use Rattle.uring_enter.specs.declared.asking.Locking.TheVariants.{Tries, Yields, Pauses, Holds, GoesWithout}
-use Rattle.uring_enter.specs.declared.carrying.Source.{Source}
-use Rattle.uring_enter.specs.declared.carrying.Source.TheVariants.{Start, Entry, Fault, HalfOfCalls, Calls}
-use Rattle.uring_enter.specs.declared.carrying.Calls.{Calls as Made}
-use Rattle.uring_enter.specs.declared.carrying.Calls.TheVariants.{OfTransfer, OfPoll, InTurn, Once}
+use Rattle.uring_operations.specs.declared.files.asking.Locking.{Locking}
+use Rattle.uring_operations.specs.declared.files.asking.Locking.TheVariants.{Tries, Yields, Pauses, Holds, GoesWithout}
+use Rattle.uring_enter.specs.declared.going_on.carrying.Source.{Source}
+use Rattle.uring_enter.specs.declared.going_on.carrying.Source.TheVariants.{Start, Entry, Fault, HalfOfCalls, Calls}
+use Rattle.uring_enter.specs.declared.going_on.carrying.Calls.{Calls as Made}
+use Rattle.uring_enter.specs.declared.going_on.carrying.Calls.TheVariants.{OfTransfer, OfPoll, InTurn, Once}
 
 -- sources count in the order of `Source`, from 0. Our own rule
 abbrev pub word_of_source : Source → ℕ

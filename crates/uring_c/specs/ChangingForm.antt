@@ -1,8 +1,8 @@
 -- What the update of a poll does with it, in words that C can read.
 use Rattle.std.specs.Prelude.{ℕ, ◌^◌, if◌then◌else◌}
 use Rattle.std.specs.Int.RustNames.{bit_or}
-use Rattle.uring_enter.specs.declared.afresh.Changing.{Changing}
-use Rattle.uring_enter.specs.Afresh.{ChangingStep, Rouses, Delists, Changes, Unwatches, AsksEvents, Looks, place, is_done}
+use Rattle.uring_operations.specs.declared.requests.afresh.Changing.{Changing}
+use Rattle.uring_operations.specs.Requests.Afresh.{ChangingStep, Rouses, Delists, Changes, Unwatches, AsksEvents, Looks, place, is_done}
 
 -- the bit of a step, where it is done, is 2 to the power of its place: so steps are done by rising bits. Our own rule
 abbrev pub bit : Changing → ChangingStep → ℕ

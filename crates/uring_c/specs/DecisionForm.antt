@@ -1,9 +1,9 @@
 -- When files are found, and what goes on in one choice, in words that C can read.
 use Rattle.std.specs.Prelude.{ℕ, Bool, true, Option, Some, None}
-use Rattle.uring_enter.specs.declared.asked.Policy.{Policy}
-use Rattle.uring_enter.specs.declared.drains.WhenFound.{WhenFound}
-use Rattle.uring_enter.specs.declared.drains.WhenFound.TheVariants.{AtItsStart, ByTheCall, InItsTurn, AsksStart}
-use Rattle.uring_enter.specs.Due.{is_one_choice}
+use Rattle.uring_enter.specs.declared.call.asked.Policy.{Policy}
+use Rattle.uring_enter.specs.declared.taking_up.drains.WhenFound.{WhenFound}
+use Rattle.uring_enter.specs.declared.taking_up.drains.WhenFound.TheVariants.{AtItsStart, ByTheCall, InItsTurn, AsksStart}
+use Rattle.uring_enter.specs.Call.Due.{is_one_choice}
 use Rattle.uring_crossing.specs.EnterForm.{policy_of}
 
 -- kinds count in the order of `WhenFound`, from 0. Our own rule

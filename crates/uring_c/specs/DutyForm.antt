@@ -1,8 +1,8 @@
 -- What a call does besides what it is asked for, in words that C can read.
 use Rattle.std.specs.Prelude.{ℕ, ◌^◌, if◌then◌else◌}
 use Rattle.std.specs.Int.RustNames.{bit_or}
-use Rattle.uring_enter.specs.declared.duties.Duties.{Duties}
-use Rattle.uring_enter.specs.Duties.{Duty, LooksAfresh, HearsPipes, PassesTime, FindsFiles, KeepsNew, HoldsFiles, WatchesPipes, LetsLie, ShowsEnds, TellsReadiness, HearsApplication, ShowsFlags, TellsEventfd, place, is_due}
+use Rattle.uring_enter.specs.declared.going_on.duties.Duties.{Duties}
+use Rattle.uring_enter.specs.GoingOn.Duties.{Duty, LooksAfresh, HearsPipes, PassesTime, FindsFiles, KeepsNew, HoldsFiles, WatchesPipes, LetsLie, ShowsEnds, TellsReadiness, HearsApplication, ShowsFlags, TellsEventfd, place, is_due}
 
 -- the bit of a duty, where it is due, is 2 to the power of its place: so duties are done by rising bits. Our own rule
 abbrev pub bit : Duties → Duty → ℕ

@@ -1,7 +1,7 @@
 -- What an entry is to the core, in words that C can read.
 use Rattle.std.specs.Prelude.{ℕ, ℤ, pos}
-use Rattle.uring_enter.specs.declared.form.Form.{Form}
-use Rattle.uring_enter.specs.declared.form.Form.TheVariants.{Token, Cancel, Refused}
+use Rattle.uring_operations.specs.declared.entries.form.Form.{Form}
+use Rattle.uring_operations.specs.declared.entries.form.Form.TheVariants.{Token, Cancel, Refused}
 
 -- kinds count in the order of `Form`, from 0. Our own rule
 abbrev pub word_of_form : Form → ℕ

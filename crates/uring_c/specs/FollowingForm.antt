@@ -1,8 +1,8 @@
 -- What the end of a request makes of others, in words that C can read.
 use Rattle.std.specs.Prelude.{ℕ, ◌^◌, if◌then◌else◌}
 use Rattle.std.specs.Int.RustNames.{bit_or}
-use Rattle.uring_enter.specs.declared.following.BehindEnd.{BehindEnd}
-use Rattle.uring_enter.specs.Following.{EndDuty, KeepsCompletion, Counts, StopsTimeout, LooksAtCounts, Unwatches, ForgetsDescriptor, LooksBehind, LetsStart, EndsDrain, Leaves, HasEnds, end_place, is_end_due}
+use Rattle.uring_enter.specs.declared.going_on.following.BehindEnd.{BehindEnd}
+use Rattle.uring_enter.specs.GoingOn.Following.{EndDuty, KeepsCompletion, Counts, StopsTimeout, LooksAtCounts, Unwatches, ForgetsDescriptor, LooksBehind, LetsStart, EndsDrain, Leaves, HasEnds, end_place, is_end_due}
 
 -- the bit of what is due is 2 to the power of its place: so it is done by rising bits. Our own rule
 abbrev pub end_bit : BehindEnd → EndDuty → ℕ

@@ -1,11 +1,11 @@
 -- In which order writes to pipes are heard, and where what has overflowed is asked for, in words that C can read.
 use Rattle.std.specs.Prelude.{ℕ, true, false, ◌==◌, Option, Some, None, if◌then◌else◌}
-use Rattle.uring_enter.specs.declared.hearing.Hearing.{Hearing}
-use Rattle.uring_enter.specs.declared.hearing.Hearing.TheVariants.{Adds, Drops, TellsOfGone, Sorts, Reads, CountsAsHeard}
-use Rattle.uring_enter.specs.declared.hearing.Telling.{Telling}
-use Rattle.uring_enter.specs.declared.hearing.Telling.TheVariants.{PassesOver, Asks, Tells}
-use Rattle.uring_enter.specs.declared.storing.Occasion.{Occasion}
-use Rattle.uring_enter.specs.declared.storing.Occasion.TheVariants.{Call, Step, Posting}
+use Rattle.uring_enter.specs.declared.waiting.hearing.Hearing.{Hearing}
+use Rattle.uring_enter.specs.declared.waiting.hearing.Hearing.TheVariants.{Adds, Drops, TellsOfGone, Sorts, Reads, CountsAsHeard}
+use Rattle.uring_enter.specs.declared.waiting.hearing.Telling.{Telling}
+use Rattle.uring_enter.specs.declared.waiting.hearing.Telling.TheVariants.{PassesOver, Asks, Tells}
+use Rattle.uring_enter.specs.declared.completions.storing.Occasion.{Occasion}
+use Rattle.uring_enter.specs.declared.completions.storing.Occasion.TheVariants.{Call, Step, Posting}
 
 -- what is done counts in the order of `Hearing`, from 1; 0 is nothing. Our own rule
 abbrev pub word_of_hearing : Option Hearing → ℕ

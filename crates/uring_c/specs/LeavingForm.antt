@@ -1,8 +1,8 @@
 -- What is left undone with a ring by a process that didn't make it, in words that C can read.
 use Rattle.std.specs.Prelude.{ℕ, if◌then◌else◌}
 use Rattle.std.specs.Int.RustNames.{bit_or}
-use Rattle.uring_enter.specs.declared.leaving.Left.{Left}
-use Rattle.uring_enter.specs.Leaving.{Deed, LocksAgain, EndsSleep, DoesDuties, Looks, LetsGo, EndsMemory, is_left}
+use Rattle.uring_enter.specs.declared.waiting.leaving.Left.{Left}
+use Rattle.uring_enter.specs.Waiting.Leaving.{Deed, LocksAgain, EndsSleep, DoesDuties, Looks, LetsGo, EndsMemory, is_left}
 
 -- the bit of a deed, where it is left undone. Our own rule
 abbrev pub weight : Deed → ℕ

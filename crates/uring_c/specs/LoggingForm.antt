@@ -1,9 +1,9 @@
 -- What is logged of a request, and where a write begins, in words that C can read.
 use Rattle.std.specs.Prelude.{ℕ}
-use Rattle.uring_enter.specs.declared.logging.Begins.{Begins}
-use Rattle.uring_enter.specs.declared.logging.Begins.TheVariants.{AtOffset, AtPosition, AtEnd}
-use Rattle.uring_enter.specs.declared.logging.Logged.{Logged}
-use Rattle.uring_enter.specs.declared.logging.Logged.TheVariants.{Nothing, Write, Sync}
+use Rattle.uring_operations.specs.declared.files.logging.Begins.{Begins}
+use Rattle.uring_operations.specs.declared.files.logging.Begins.TheVariants.{AtOffset, AtPosition, AtEnd}
+use Rattle.uring_operations.specs.declared.files.logging.Logged.{Logged}
+use Rattle.uring_operations.specs.declared.files.logging.Logged.TheVariants.{Nothing, Write, Sync}
 
 -- kinds count in the order of `Logged`, from 0. Our own rule
 abbrev pub word_of_logged : Logged → ℕ

@@ -1,13 +1,13 @@
 -- By what an operation is carried out, and the faults that it can be given, in words that C can read.
 use Rattle.std.specs.Prelude.{ℕ, Bool, false, ◌==◌, Option, Some, None, if◌then◌else◌}
-use Rattle.uring_enter.specs.declared.system_call.SystemCall.{SystemCall}
-use Rattle.uring_enter.specs.declared.fault.Fault.{Fault}
-use Rattle.uring_enter.specs.declared.fault.Fault.TheVariants as fault
-use Rattle.uring_enter.specs.declared.means.Listed.{Listed}
-use Rattle.uring_enter.specs.declared.means.Means.{Means}
-use Rattle.uring_enter.specs.declared.means.Means.TheVariants.{Nothing, Transfer, Poll, Call, Opening, Sync, Close, Connect, Splice, Send, Receive, ReceiveMessage, SlotRemoval, FilesPlacing, FilesUpdate, Timeout, LinkedTimeout, Provision, ProvisionRemoval, Message, Cancel, PollRemoval, TimeoutRemoval}
-use Rattle.uring_enter.specs.Faults.{can_have}
-use Rattle.uring_enter.specs.SystemCalls.{of_three}
+use Rattle.uring_operations.specs.declared.calls.system_call.SystemCall.{SystemCall}
+use Rattle.uring_operations.specs.declared.requests.fault.Fault.{Fault}
+use Rattle.uring_operations.specs.declared.requests.fault.Fault.TheVariants as fault
+use Rattle.uring_operations.specs.declared.calls.means.Listed.{Listed}
+use Rattle.uring_operations.specs.declared.calls.means.Means.{Means}
+use Rattle.uring_operations.specs.declared.calls.means.Means.TheVariants.{Nothing, Transfer, Poll, Call, Opening, Sync, Close, Connect, Splice, Send, Receive, ReceiveMessage, SlotRemoval, FilesPlacing, FilesUpdate, Timeout, LinkedTimeout, Provision, ProvisionRemoval, Message, Cancel, PollRemoval, TimeoutRemoval}
+use Rattle.uring_operations.specs.Requests.Faults.{can_have}
+use Rattle.uring_operations.specs.Calls.SystemCalls.{of_three}
 use Rattle.uring_c.specs.declared.call_exports.MeansWords.{MeansWords}
 
 abbrev pub no_list : Listed

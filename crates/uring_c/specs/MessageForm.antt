@@ -1,14 +1,14 @@
 -- What a message to another ring does, and what is changed of what a ring's descriptor polls for, in words that C can read.
 use Rattle.std.specs.Prelude.{ℕ, ◌^◌, ℤ, pos, Bool, Option, Some, None, if◌then◌else◌}
 use Rattle.std.specs.Int.RustNames.{bit_or}
-use Rattle.uring_enter.specs.Messages.{MessageStep, HasMemory, FindsFile, PassesFile, Tells, place, is_done}
-use Rattle.uring_enter.specs.declared.message.MessageSteps.{MessageSteps}
-use Rattle.uring_enter.specs.declared.message.Sending.{Sending}
-use Rattle.uring_enter.specs.declared.message.Sending.TheVariants.{Fails}
-use Rattle.uring_enter.specs.declared.watched.Besides.{Besides}
-use Rattle.uring_enter.specs.declared.watched.Watch.{Watch}
-use Rattle.uring_enter.specs.declared.watched.Watch.TheVariants.{Stays, Adds, Removes, Renews}
-use Rattle.uring_enter.specs.declared.watched.Watched.{Watched}
+use Rattle.uring_enter.specs.Rings.Messages.{MessageStep, HasMemory, FindsFile, PassesFile, Tells, place, is_done}
+use Rattle.uring_enter.specs.declared.rings.message.MessageSteps.{MessageSteps}
+use Rattle.uring_enter.specs.declared.rings.message.Sending.{Sending}
+use Rattle.uring_enter.specs.declared.rings.message.Sending.TheVariants.{Fails}
+use Rattle.uring_enter.specs.declared.waiting.watched.Besides.{Besides}
+use Rattle.uring_enter.specs.declared.waiting.watched.Watch.{Watch}
+use Rattle.uring_enter.specs.declared.waiting.watched.Watch.TheVariants.{Stays, Adds, Removes, Renews}
+use Rattle.uring_enter.specs.declared.waiting.watched.Watched.{Watched}
 
 -- the bit of a step, where it is done, is 2 to the power of its place: so steps are done by rising bits. Our own rule
 abbrev pub bit : MessageSteps → MessageStep → ℕ

@@ -1,8 +1,8 @@
 -- What isn't found, in words that C can read.
 use Rattle.std.specs.Prelude.{ℕ, ℤ, pos, Option, Some, None, ◌==◌, if◌then◌else◌}
-use Rattle.uring_enter.specs.declared.missing.Missing.{Missing}
-use Rattle.uring_enter.specs.declared.missing.Missing.TheVariants as missing
-use Rattle.uring_enter.specs.Missing.{missing_fault}
+use Rattle.uring_enter.specs.declared.rings.missing.Missing.{Missing}
+use Rattle.uring_enter.specs.declared.rings.missing.Missing.TheVariants as missing
+use Rattle.uring_enter.specs.Rings.Missing.{missing_fault}
 
 -- kinds count in the order of `Missing`, from 0; another word names nothing. Our own rule
 abbrev pub missing_of : ℕ → Option Missing

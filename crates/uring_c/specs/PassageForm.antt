@@ -2,24 +2,24 @@
 use Rattle.std.specs.Prelude.{ℕ, Bool, ◌+◌, ◌^◌, ℤ, pos, Option, Some, None, ◌==◌, if◌then◌else◌}
 use Rattle.std.specs.Int.{w32, cast_signed}
 use Rattle.std.specs.Int.RustNames.{bit_or}
-use Rattle.uring_enter.specs.Passages.{CallStep, HasStructure, Begins, IsMade, Returns, place, is_done, call_steps}
-use Rattle.uring_enter.specs.declared.passage.CallSteps.{CallSteps}
-use Rattle.uring_enter.specs.declared.passage.Check.{Check}
-use Rattle.uring_enter.specs.declared.passage.Check.TheVariants.{Number, Descriptor, Counts, Caller, Argument}
-use Rattle.uring_enter.specs.declared.passage.Passage.{Passage}
-use Rattle.uring_enter.specs.declared.passage.Passage.TheVariants.{Checks, IsRefused, Passes}
+use Rattle.uring_enter.specs.Call.Passages.{CallStep, HasStructure, Begins, IsMade, Returns, place, is_done, call_steps}
+use Rattle.uring_enter.specs.declared.call.passage.CallSteps.{CallSteps}
+use Rattle.uring_enter.specs.declared.call.passage.Check.{Check}
+use Rattle.uring_enter.specs.declared.call.passage.Check.TheVariants.{Number, Descriptor, Counts, Caller, Argument}
+use Rattle.uring_enter.specs.declared.call.passage.Passage.{Passage}
+use Rattle.uring_enter.specs.declared.call.passage.Passage.TheVariants.{Checks, IsRefused, Passes}
 use Rattle.uring_register.specs.declared.numbering.RowStage.{RowStage}
 use Rattle.uring_register.specs.declared.numbering.RowStage.TheVariants as stage
 use Rattle.uring_register.specs.declared.numbering.RowOnto.{RowOnto}
 use Rattle.uring_register.specs.declared.numbering.RowOnto.TheVariants as row
 use Rattle.uring_register.specs.declared.enrolled.Deed.{Deed}
 use Rattle.uring_register.specs.declared.enrolled.Deed.TheVariants as deed
-use Rattle.uring_enter.specs.declared.glance.Glance.{Glance}
-use Rattle.uring_enter.specs.declared.glance.Glance.TheVariants as glance
-use Rattle.uring_enter.specs.declared.lying.Answered.{Answered}
-use Rattle.uring_enter.specs.declared.lying.Answered.TheVariants as answered
-use Rattle.uring_enter.specs.declared.missed.Gone.{Gone}
-use Rattle.uring_enter.specs.declared.missed.Gone.TheVariants as gone
+use Rattle.uring_operations.specs.declared.requests.glance.Glance.{Glance}
+use Rattle.uring_operations.specs.declared.requests.glance.Glance.TheVariants as glance
+use Rattle.uring_enter.specs.declared.waiting.lying.Answered.{Answered}
+use Rattle.uring_enter.specs.declared.waiting.lying.Answered.TheVariants as answered
+use Rattle.uring_enter.specs.declared.waiting.missed.Gone.{Gone}
+use Rattle.uring_enter.specs.declared.waiting.missed.Gone.TheVariants as gone
 
 -- the bit of a step of a call is 2 to the power of its place, behind the numbers of checks, which have three bits: so steps are done by rising bits. Our own rule
 abbrev pub bit : CallSteps → CallStep → ℕ

@@ -1,9 +1,9 @@
 -- What waits behind a completion that was put off, in words that C can read.
 use Rattle.std.specs.Prelude.{ℕ, ◌==◌, if◌then◌else◌}
-use Rattle.uring_enter.specs.declared.putting_off.Coming.{Coming}
-use Rattle.uring_enter.specs.declared.putting_off.Coming.TheVariants.{Submission, Posting, End}
-use Rattle.uring_enter.specs.declared.putting_off.Order.{Order}
-use Rattle.uring_enter.specs.declared.putting_off.Order.TheVariants.{Comes, PostsFirst, Waits}
+use Rattle.uring_enter.specs.declared.going_on.putting_off.Coming.{Coming}
+use Rattle.uring_enter.specs.declared.going_on.putting_off.Coming.TheVariants.{Submission, Posting, End}
+use Rattle.uring_enter.specs.declared.going_on.putting_off.Order.{Order}
+use Rattle.uring_enter.specs.declared.going_on.putting_off.Order.TheVariants.{Comes, PostsFirst, Waits}
 
 -- what is to come, by its word: kinds count in the order of `Coming`, from 0. Our own rule
 abbrev pub coming_of : ℕ → Coming

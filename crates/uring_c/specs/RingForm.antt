@@ -1,21 +1,21 @@
 -- What a set-up does, what is mapped of a ring and when it is freed, what becomes of a timeout's time, of a message and of a registered file, in words that C can read.
 use Rattle.std.specs.Prelude.{ℕ, pos, Bool, Option, Some, None, ◌==◌, if◌then◌else◌}
-use Rattle.uring_enter.specs.declared.ringing.Region.{Region}
-use Rattle.uring_enter.specs.declared.ringing.Region.TheVariants.{Rings, Entries}
-use Rattle.uring_enter.specs.declared.ringing.Stage.{Stage}
-use Rattle.uring_enter.specs.declared.ringing.Stage.TheVariants.{Reads, AsksKernel, Makes, Tells}
-use Rattle.uring_enter.specs.declared.ringing.Onto.{Onto}
-use Rattle.uring_enter.specs.declared.ringing.Onto.TheVariants.{Does, Fails, Drops, IsDone}
-use Rattle.uring_enter.specs.declared.ringing.Fate.{Fate}
-use Rattle.uring_enter.specs.declared.ringing.Fate.TheVariants as fate
-use Rattle.uring_enter.specs.declared.timing.Timing.{Timing}
-use Rattle.uring_enter.specs.declared.timing.Timing.TheVariants as timing
-use Rattle.uring_enter.specs.declared.visit.Visit.{Visit}
-use Rattle.uring_enter.specs.declared.visit.Visit.TheVariants as visit
-use Rattle.uring_enter.specs.declared.afresh.Awaited.{Awaited}
-use Rattle.uring_enter.specs.declared.afresh.Awaited.TheVariants as awaited
-use Rattle.uring_enter.specs.declared.form.Form.{Form}
-use Rattle.uring_enter.specs.declared.form.Form.TheVariants as form
+use Rattle.uring_enter.specs.declared.rings.ringing.Region.{Region}
+use Rattle.uring_enter.specs.declared.rings.ringing.Region.TheVariants.{Rings, Entries}
+use Rattle.uring_enter.specs.declared.rings.ringing.Stage.{Stage}
+use Rattle.uring_enter.specs.declared.rings.ringing.Stage.TheVariants.{Reads, AsksKernel, Makes, Tells}
+use Rattle.uring_enter.specs.declared.rings.ringing.Onto.{Onto}
+use Rattle.uring_enter.specs.declared.rings.ringing.Onto.TheVariants.{Does, Fails, Drops, IsDone}
+use Rattle.uring_enter.specs.declared.rings.ringing.Fate.{Fate}
+use Rattle.uring_enter.specs.declared.rings.ringing.Fate.TheVariants as fate
+use Rattle.uring_operations.specs.declared.chains.timing.Timing.{Timing}
+use Rattle.uring_operations.specs.declared.chains.timing.Timing.TheVariants as timing
+use Rattle.uring_enter.specs.declared.rings.visit.Visit.{Visit}
+use Rattle.uring_enter.specs.declared.rings.visit.Visit.TheVariants as visit
+use Rattle.uring_operations.specs.declared.requests.afresh.Awaited.{Awaited}
+use Rattle.uring_operations.specs.declared.requests.afresh.Awaited.TheVariants as awaited
+use Rattle.uring_operations.specs.declared.entries.form.Form.{Form}
+use Rattle.uring_operations.specs.declared.entries.form.Form.TheVariants as form
 
 -- parts count in the order of `Region`, from 1; 0 where there is none. Our own rule
 abbrev pub word_of_region : Option Region → ℕ

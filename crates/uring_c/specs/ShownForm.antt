@@ -1,13 +1,13 @@
 -- What is to be stored into ring memory, when a ring's descriptor is readable, what a completion tells of, and what a cancel looks for that has ended, in words that C can read.
 use Rattle.std.specs.Prelude.{ℕ, true, false}
-use Rattle.uring_enter.specs.declared.readable.Readable.{Readable}
-use Rattle.uring_enter.specs.declared.readable.Readable.TheVariants as readable
-use Rattle.uring_enter.specs.declared.shot.Part.{Part}
-use Rattle.uring_enter.specs.declared.shot.Part.TheVariants as part
-use Rattle.uring_enter.specs.declared.outcome.SoughtBehind.{SoughtBehind}
-use Rattle.uring_enter.specs.declared.outcome.SoughtBehind.TheVariants as sought
-use Rattle.uring_enter.specs.declared.showing.Store.{Store}
-use Rattle.uring_enter.specs.declared.showing.Store.TheVariants.{Cell, Tail}
+use Rattle.uring_enter.specs.declared.completions.readable.Readable.{Readable}
+use Rattle.uring_enter.specs.declared.completions.readable.Readable.TheVariants as readable
+use Rattle.uring_enter.specs.declared.completions.shot.Part.{Part}
+use Rattle.uring_enter.specs.declared.completions.shot.Part.TheVariants as part
+use Rattle.uring_operations.specs.declared.requests.outcome.SoughtBehind.{SoughtBehind}
+use Rattle.uring_operations.specs.declared.requests.outcome.SoughtBehind.TheVariants as sought
+use Rattle.uring_enter.specs.declared.completions.showing.Store.{Store}
+use Rattle.uring_enter.specs.declared.completions.showing.Store.TheVariants.{Cell, Tail}
 use Rattle.uring_c.specs.declared.shown_exports.StoreWords.{StoreWords}
 
 abbrev pub words_of_store : Store → StoreWords

@@ -1,13 +1,13 @@
 -- When a sleep begins and what came of it, in words that C can read.
 use Rattle.std.specs.Prelude.{ℕ, Option, Some, None, ◌==◌, if◌then◌else◌}
-use Rattle.uring_enter.specs.declared.sleeping.Beginning.{Beginning}
-use Rattle.uring_enter.specs.declared.sleeping.Beginning.TheVariants.{Fails, Wakes, Sleeps}
-use Rattle.uring_enter.specs.declared.closing.BeforeSleep.{BeforeSleep}
-use Rattle.uring_enter.specs.declared.closing.BeforeSleep.TheVariants.{LetsOthersGo, ReadsMask, DoesDuties}
-use Rattle.uring_enter.specs.declared.closing.SleepOnto.{SleepOnto}
-use Rattle.uring_enter.specs.declared.closing.SleepOnto.TheVariants.{Does, Begins}
-use Rattle.uring_enter.specs.declared.sleeping.Outcome.{Outcome}
-use Rattle.uring_enter.specs.declared.sleeping.Outcome.TheVariants.{Woken, TimedOut, Interrupted, Endless, Failed}
+use Rattle.uring_enter.specs.declared.waiting.sleeping.Beginning.{Beginning}
+use Rattle.uring_enter.specs.declared.waiting.sleeping.Beginning.TheVariants.{Fails, Wakes, Sleeps}
+use Rattle.uring_enter.specs.declared.rings.closing.BeforeSleep.{BeforeSleep}
+use Rattle.uring_enter.specs.declared.rings.closing.BeforeSleep.TheVariants.{LetsOthersGo, ReadsMask, DoesDuties}
+use Rattle.uring_enter.specs.declared.rings.closing.SleepOnto.{SleepOnto}
+use Rattle.uring_enter.specs.declared.rings.closing.SleepOnto.TheVariants.{Does, Begins}
+use Rattle.uring_enter.specs.declared.waiting.sleeping.Outcome.{Outcome}
+use Rattle.uring_enter.specs.declared.waiting.sleeping.Outcome.TheVariants.{Woken, TimedOut, Interrupted, Endless, Failed}
 
 -- kinds count in the order of `Beginning`, from 0. Our own rule
 abbrev pub word_of_beginning : Beginning → ℕ

@@ -1,16 +1,16 @@
 -- What goes on next, and what is copied of an entry, in words that C can read.
 use Rattle.std.specs.Prelude.{ℕ, ℤ, pos, Option, Some, None}
-use Rattle.uring_enter.specs.declared.taking.Onward.{Onward}
-use Rattle.uring_enter.specs.declared.taking.Onward.TheVariants.{Takes, IsFull, HasEnded}
-use Rattle.uring_enter.specs.declared.ways.Way.{Way}
-use Rattle.uring_enter.specs.declared.ways.Way.TheVariants.{Finish, Issue, Return}
-use Rattle.uring_enter.specs.declared.update.Removal.{Removal}
-use Rattle.uring_enter.specs.declared.update.Removal.TheVariants.{Cancel, Update, UpdateLinked}
-use Rattle.uring_enter.specs.declared.piece.What.{What}
-use Rattle.uring_enter.specs.declared.piece.What.TheVariants.{Buffer, Vectors, Path, SecondPath, How, Time, Value, Message, Address}
-use Rattle.uring_enter.specs.declared.piece.Piece.{Piece}
-use Rattle.uring_enter.specs.declared.copying.Copying.{Copying}
-use Rattle.uring_enter.specs.declared.copying.Copying.TheVariants.{Copies, Ends}
+use Rattle.uring_enter.specs.declared.taking_up.taking.Onward.{Onward}
+use Rattle.uring_enter.specs.declared.taking_up.taking.Onward.TheVariants.{Takes, IsFull, HasEnded}
+use Rattle.uring_operations.specs.declared.requests.ways.Way.{Way}
+use Rattle.uring_operations.specs.declared.requests.ways.Way.TheVariants.{Finish, Issue, Return}
+use Rattle.uring_enter.specs.declared.cancels.update.Removal.{Removal}
+use Rattle.uring_enter.specs.declared.cancels.update.Removal.TheVariants.{Cancel, Update, UpdateLinked}
+use Rattle.uring_operations.specs.declared.copies.piece.What.{What}
+use Rattle.uring_operations.specs.declared.copies.piece.What.TheVariants.{Buffer, Vectors, Path, SecondPath, How, Time, Value, Message, Address}
+use Rattle.uring_operations.specs.declared.copies.piece.Piece.{Piece}
+use Rattle.uring_operations.specs.declared.copies.copying.Copying.{Copying}
+use Rattle.uring_operations.specs.declared.copies.copying.Copying.TheVariants.{Copies, Ends}
 use Rattle.uring_c.specs.declared.piece_exports.PieceWords.{PieceWords}
 
 -- kinds count in the order of `Onward`, from 0. Our own rule

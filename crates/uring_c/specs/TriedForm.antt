@@ -1,8 +1,8 @@
 -- What is done once an operation was carried out, in words that C can read.
 use Rattle.std.specs.Prelude.{ℕ, ◌^◌, if◌then◌else◌}
 use Rattle.std.specs.Int.RustNames.{bit_or}
-use Rattle.uring_enter.specs.declared.tried.BehindTry.{BehindTry}
-use Rattle.uring_enter.specs.Tried.{TryDuty, LooksAfresh, Waits, AsksGoingOn, try_place, is_try_due}
+use Rattle.uring_enter.specs.declared.going_on.tried.BehindTry.{BehindTry}
+use Rattle.uring_enter.specs.GoingOn.Tried.{TryDuty, LooksAfresh, Waits, AsksGoingOn, try_place, is_try_due}
 
 -- the bit of what is due is 2 to the power of its place: so it is done by rising bits. Our own rule
 abbrev pub try_bit : BehindTry → TryDuty → ℕ

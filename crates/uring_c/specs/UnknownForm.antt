@@ -1,7 +1,7 @@
 -- What is asked and may not be answered, in words that C can read.
 use Rattle.std.specs.Prelude.{ℕ, ◌==◌, if◌then◌else◌}
-use Rattle.uring_enter.specs.declared.unknown.Matter.{Matter}
-use Rattle.uring_enter.specs.declared.unknown.Matter.TheVariants.{Reached, Eventfd, Counter, Processor, SameFile}
+use Rattle.uring_enter.specs.declared.call.unknown.Matter.{Matter}
+use Rattle.uring_enter.specs.declared.call.unknown.Matter.TheVariants.{Reached, Eventfd, Counter, Processor, SameFile}
 pub use Rattle.uring_c.specs.PinningForm.{known_of}
 
 -- matters count in the order of `Matter`, from 0. Our own rule

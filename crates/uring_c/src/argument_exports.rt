@@ -1,7 +1,7 @@
 //! The last arguments of a call, and what the thread that takes entries takes, for C: functions of `c/wulgach_enter.h`.
 ghost use Rattle.std.specs.Prelude.{◌≡◌, ℕ, List, [], ◌∷◌};
-ghost use Rattle.uring_enter.specs.Arguments as spec;
-ghost use Rattle.uring_enter.specs.Rounds.{KeepsRounds, returned};
+ghost use Rattle.uring_enter.specs.Call.Arguments as spec;
+ghost use Rattle.uring_enter.specs.TakingUp.Rounds.{KeepsRounds, returned};
 ghost use Rattle.uring_c.specs.RoundForm.{goes_on, submitted_of};
 
 use uring_enter::{

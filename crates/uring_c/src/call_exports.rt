@@ -1,14 +1,14 @@
 //! By what an operation is carried out, for C: the functions of `c/wulgach_calls.h`.
 ghost use Rattle.std.specs.Prelude.{◌≡◌, true, false, MatchOption};
-ghost use Rattle.uring_enter.specs.CallResults as results;
-ghost use Rattle.uring_enter.specs.Means as spec;
-ghost use Rattle.uring_enter.specs.Parts as parts;
-ghost use Rattle.uring_enter.specs.TransferCalls.{call_of};
+ghost use Rattle.uring_operations.specs.Calls.CallResults as results;
+ghost use Rattle.uring_operations.specs.Calls.Means as spec;
+ghost use Rattle.uring_operations.specs.Calls.Parts as parts;
+ghost use Rattle.uring_operations.specs.Calls.TransferCalls.{call_of};
 ghost use Rattle.uring_c.specs.MeansForm.{words, by_list, words_of_means, fault_of_word, can_have_one};
 ghost use Rattle.uring_crossing.specs.WaitForm.{task_of};
 
 use uring_crossing::wait_words::task;
-use uring_enter::{
+use uring_operations::{
     Fault, Held, Listed, Means, Submission, SystemCall, Transfer, Vectors, asks_anew, asks_end,
     asks_shut, can_have, control_of, done_result, has_begun, is_stream_type, means_of,
     moved_so_far, placed_result, shut_result, tells_message, told_result, transfer_call,

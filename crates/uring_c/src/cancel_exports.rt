@@ -1,16 +1,17 @@
 //! What a cancel finds, for C: the functions of `c/wulgach_cancel.h`.
 ghost use Rattle.std.specs.Prelude.{◌≡◌, ℕ, List, [], ◌∷◌};
-ghost use Rattle.uring_enter.specs.declared.cancel.Outstanding.{Outstanding};
-ghost use Rattle.uring_enter.specs.declared.cancel.Sought.{Sought};
-ghost use Rattle.uring_enter.specs.Cancels as cancels;
-ghost use Rattle.uring_enter.specs.Cancels.{is_waiting as waits};
-ghost use Rattle.uring_enter.specs.Seeking as seeking;
-ghost use Rattle.uring_enter.specs.Cancels.{result_of, is_cancelled, is_asked, HasSeen, HasSought, oldest, is_stopped, has_cancelled, found_by_core};
+ghost use Rattle.uring_enter.specs.declared.cancels.cancel.Outstanding.{Outstanding};
+ghost use Rattle.uring_enter.specs.declared.cancels.cancel.Sought.{Sought};
+ghost use Rattle.uring_enter.specs.Cancels.Cancels as cancels;
+ghost use Rattle.uring_enter.specs.Cancels.Cancels.{is_waiting as waits};
+ghost use Rattle.uring_enter.specs.Cancels.Seeking as seeking;
+ghost use Rattle.uring_enter.specs.Cancels.Cancels.{result_of, is_cancelled, is_asked, HasSeen, HasSought, oldest, is_stopped, has_cancelled, found_by_core};
 
 use uring_enter::{
-    Cancel, Outstanding, Search, Sought, Submission, asks_file, goes_by_user_data, is_taken_behind,
-    is_waiting, seeking_fault, sought_by_call, sought_of,
+    Cancel, Outstanding, Search, Sought, asks_file, goes_by_user_data, is_taken_behind, is_waiting,
+    seeking_fault, sought_by_call, sought_of,
 };
+use uring_operations::Submission;
 use uring_register::CancelForm;
 
 /// Writes what is looked for by the entry of a cancel, or of a removal.

@@ -1,13 +1,14 @@
 //! What is done with a request that a cancel has found, and where the file is looked for that it names, for C: functions of `c/wulgach_cancel.h`.
 ghost use Rattle.std.specs.Prelude.{◌≡◌, List};
-ghost use Rattle.uring_enter.specs.declared.act.Fact.{Fact};
-ghost use Rattle.uring_enter.specs.Courses.{KeepsCourse};
-ghost use Rattle.uring_enter.specs.Cancelling as spec;
-ghost use Rattle.uring_enter.specs.Seeking as seeking;
+ghost use Rattle.uring_operations.specs.declared.requests.act.Fact.{Fact};
+ghost use Rattle.uring_operations.specs.Requests.Courses.{KeepsCourse};
+ghost use Rattle.uring_operations.specs.Requests.Cancelling as spec;
+ghost use Rattle.uring_enter.specs.Cancels.Seeking as seeking;
 ghost use Rattle.uring_c.specs.CancellingForm.{word_of_cancelling, word_of_sought_file};
 
 use crate::duty_exports::bit;
-use uring_enter::{Cancelling, Course, Sought, SoughtFile, file_of};
+use uring_enter::{Sought, SoughtFile, file_of};
+use uring_operations::{Cancelling, Course};
 
 /// Where the file is looked for that a cancel names.
 #[unsafe(no_mangle)]

@@ -1,14 +1,14 @@
 //! How an operation is carried out, and what is asked of descriptors meanwhile, for C: functions of `c/wulgach_calls.h`.
 ghost use Rattle.std.specs.Prelude.{◌≡◌, true, false, MatchOption};
-ghost use Rattle.uring_enter.specs.Asking as asking;
-ghost use Rattle.uring_enter.specs.Carrying as spec;
+ghost use Rattle.uring_operations.specs.Files.Asking as asking;
+ghost use Rattle.uring_enter.specs.GoingOn.Carrying as spec;
 ghost use Rattle.uring_c.specs.CarryingForm.{res_of_source, word_of_calls, word_of_locking, word_of_source};
 ghost use Rattle.uring_c.specs.MeansForm.{fault_of_word};
 
 use crate::call_exports::fault_of;
-use uring_enter::{
-    Calls, Locked, Locking, Source, asked_descriptors, asked_flags, calls_of, finish_steps,
-    flags_behind, half_in, left_of_buffer, next_of_locking, source_of,
+use uring_enter::{Calls, Source, calls_of, finish_steps, half_in, left_of_buffer, source_of};
+use uring_operations::{
+    Locked, Locking, asked_descriptors, asked_flags, flags_behind, next_of_locking,
 };
 
 /// Returns where the result of the operation of this code comes from, whose start has found this error, or 0, and which is given this fault, or none, and writes the result of a fault that it is given. Else nothing is written.

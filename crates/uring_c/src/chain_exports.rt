@@ -1,11 +1,12 @@
 //! Whether a chain drains, who can start beside drains, and how long that is known, for C: functions of `c/wulgach_enter.h` and `c/wulgach_waits.h`.
 ghost use Rattle.std.specs.Prelude.{◌≡◌, ◌+◌, ◌<◌, ◌^◌, ℕ, length, List, [], ◌∷◌};
-ghost use Rattle.uring_enter.specs.Drainings.{Drainage, KeepsChain, KeepsDrains, keeps_startable, may_change_slots, oldest_starts, when_found};
-ghost use Rattle.uring_enter.specs.Drainings as spec;
-ghost use Rattle.uring_enter.specs.declared.submission.Submission.{Submission as Seen};
+ghost use Rattle.uring_enter.specs.TakingUp.Drainings.{Drainage, KeepsChain, KeepsDrains, keeps_startable, may_change_slots, oldest_starts, when_found};
+ghost use Rattle.uring_enter.specs.TakingUp.Drainings as spec;
+ghost use Rattle.uring_operations.specs.declared.entries.submission.Submission.{Submission as Seen};
 ghost use Rattle.uring_c.specs.DecisionForm.{word_of_when};
 
-use uring_enter::{Chain, Changes, Drains, Member, Submission, WhenFound, lets_others_start};
+use uring_enter::{Chain, Changes, Drains, WhenFound, lets_others_start};
+use uring_operations::{Member, Submission};
 
 /// The first member of a chain has these flags.
 #[unsafe(no_mangle)]

@@ -1,27 +1,27 @@
 //! The course of a request for C, what is shown of its end, and its chain: the functions of `c/wulgach_course.h`.
 ghost use Rattle.std.specs.Prelude.{◌≡◌, ◌+◌, ◌<◌, ◌-◌, ◌^◌, ℕ, length, List, [], ◌∷◌, Some, true, false, negsuc, MatchOption, if◌then◌else◌};
-ghost use Rattle.uring_enter.specs.declared.act.Fact.{Fact};
-ghost use Rattle.uring_enter.specs.declared.act.Fact.TheVariants.{Started, Done};
-ghost use Rattle.uring_enter.specs.declared.act.Fact.TheVariants.{Ended as HasEnded};
-ghost use Rattle.uring_enter.specs.declared.member.Entry.{Entry};
-ghost use Rattle.uring_enter.specs.Courses.{KeepsCourse, act, behind_act, fits};
-ghost use Rattle.uring_enter.specs.Courses.{shown as shown_by};
-ghost use Rattle.uring_enter.specs.Courses.{notice_of as noticed};
-ghost use Rattle.uring_enter.specs.Outcomes.{is_success, shown_of, sought_behind, success_of_entry};
-ghost use Rattle.uring_enter.specs.Shots as shots;
-ghost use Rattle.uring_enter.specs.Chains.{member_of, limits};
-ghost use Rattle.uring_enter.specs.Showing.{Change, KeepsShown};
-ghost use Rattle.uring_enter.specs.Showing.{Posted as WasPosted};
-ghost use Rattle.uring_enter.specs.Postings.{Posting, Ended, KeepsPosted, is_taken, with_res, posts};
+ghost use Rattle.uring_operations.specs.declared.requests.act.Fact.{Fact};
+ghost use Rattle.uring_operations.specs.declared.requests.act.Fact.TheVariants.{Started, Done};
+ghost use Rattle.uring_operations.specs.declared.requests.act.Fact.TheVariants.{Ended as HasEnded};
+ghost use Rattle.uring_operations.specs.declared.chains.member.Entry.{Entry};
+ghost use Rattle.uring_operations.specs.Requests.Courses.{KeepsCourse, act, behind_act, fits};
+ghost use Rattle.uring_operations.specs.Requests.Courses.{shown as shown_by};
+ghost use Rattle.uring_operations.specs.Requests.Courses.{notice_of as noticed};
+ghost use Rattle.uring_operations.specs.Requests.Outcomes.{is_success, shown_of, sought_behind, success_of_entry};
+ghost use Rattle.uring_enter.specs.Completions.Shots as shots;
+ghost use Rattle.uring_operations.specs.Chains.Chains.{member_of, limits};
+ghost use Rattle.uring_enter.specs.Completions.Showing.{Change, KeepsShown};
+ghost use Rattle.uring_enter.specs.Completions.Showing.{Posted as WasPosted};
+ghost use Rattle.uring_enter.specs.Completions.Postings.{Posting, Ended, KeepsPosted, is_taken, with_res, posts};
 ghost use Rattle.uring_crossing.specs.CourseForm.{fact_of, word_of_act, res_of_act, last_of, word_of_end, is_refused, part_of};
 ghost use Rattle.uring_c.specs.ShownForm.{word_of_part, word_of_sought};
 
 use uring_crossing::completion_words::CompletionWords;
 use uring_crossing::course_words::{act_res, act_word, fact, last, part};
-use uring_enter::{
-    Carried, Course, EndedCancel, EndedEarly, Entry, Fact, Member, Part, Posted, Shown,
-    SoughtBehind, Submission, completion_flags, end_of_send, has_succeeded, notice_of, shown_of,
-    sought_behind, untold_behind,
+use uring_enter::{Part, Posted, Shown, completion_flags, end_of_send, untold_behind};
+use uring_operations::{
+    Carried, Course, EndedCancel, EndedEarly, Entry, Fact, Member, SoughtBehind, Submission,
+    has_succeeded, notice_of, shown_of, sought_behind,
 };
 
 /// A request that was accepted just now.

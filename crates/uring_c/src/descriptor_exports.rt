@@ -1,14 +1,14 @@
 //! What counts as an open descriptor or a count, what an operation ends with that had a fault as it started, for what a splice is polled, and which signal is taken back, for C: functions of `c/wulgach_waits.h` and `c/wulgach_calls.h`.
 ghost use Rattle.std.specs.Prelude.{◌≡◌};
-ghost use Rattle.uring_enter.specs.Descriptors as found;
-ghost use Rattle.uring_enter.specs.Openness as opened;
-ghost use Rattle.uring_enter.specs.Readiness as ready;
-ghost use Rattle.uring_enter.specs.Signals as signals;
-ghost use Rattle.uring_enter.specs.Splices as splices;
-ghost use Rattle.uring_enter.specs.Syncing as syncing;
+ghost use Rattle.uring_operations.specs.Files.Descriptors as found;
+ghost use Rattle.uring_operations.specs.Files.Openness as opened;
+ghost use Rattle.uring_operations.specs.Requests.Readiness as ready;
+ghost use Rattle.uring_operations.specs.Calls.Signals as signals;
+ghost use Rattle.uring_operations.specs.Calls.Splices as splices;
+ghost use Rattle.uring_operations.specs.Files.Syncing as syncing;
 ghost use Rattle.uring_c.specs.UnknownForm.{known_of};
 
-use uring_enter::{
+use uring_operations::{
     Directions, Nature, Openness, SpliceEnds, SplicePoll, Submission, SyncedKind, asks_counter,
     asks_openness, counts_as_open, counts_as_synced, directions_of, ends_at_start,
     fault_asks_buffer, is_counter_name, is_eventfd_name, is_missing, is_signal_of_call,

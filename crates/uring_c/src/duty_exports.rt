@@ -1,6 +1,6 @@
 //! What a call does besides what it is asked for, for C: functions of `c/wulgach_enter.h`.
 ghost use Rattle.std.specs.Prelude.{◌≡◌, if◌then◌else◌};
-ghost use Rattle.uring_enter.specs.Duties as spec;
+ghost use Rattle.uring_enter.specs.GoingOn.Duties as spec;
 ghost use Rattle.uring_register.specs.Calling.{may_post as posts};
 ghost use Rattle.uring_c.specs.DutyForm.{word_of_duties};
 

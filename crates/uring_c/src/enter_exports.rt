@@ -1,8 +1,8 @@
 //! A call of io_uring_enter(2) for C: `wulgach_enter_begin` and `wulgach_enter_next` of the header.
 ghost use Rattle.std.specs.Prelude.{◌≡◌, ℤ, pos, negsuc, List, [], ◌∷◌, Option, Some, None, true, false};
-ghost use Rattle.uring_enter.specs.declared.asked.Asked.{Asked};
-ghost use Rattle.uring_enter.specs.declared.reply.Reply.{Reply};
-ghost use Rattle.uring_enter.specs.Due.{due, is_reply_to};
+ghost use Rattle.uring_enter.specs.declared.call.asked.Asked.{Asked};
+ghost use Rattle.uring_enter.specs.declared.call.reply.Reply.{Reply};
+ghost use Rattle.uring_enter.specs.Call.Due.{due, is_reply_to};
 ghost use Rattle.uring_crossing.specs.EnterForm.{on_ring_of, reply_of, words_of_command, AreAfter};
 
 use uring_crossing::enter_words::{

@@ -1,17 +1,15 @@
 //! What is read of the submission ring, what the core is given of it, and what some entries come to, for C: functions of `c/wulgach_form.h`.
 ghost use Rattle.std.specs.Prelude.{◌≡◌, ◌+◌, ◌<◌, ◌^◌, is_some, unwrap_or};
-ghost use Rattle.uring_enter.specs.CoreEntries as spec;
-ghost use Rattle.uring_enter.specs.Layouts as layouts;
-ghost use Rattle.uring_enter.specs.NoOps.{result_of};
+ghost use Rattle.uring_enter.specs.TakingUp.CoreEntries as spec;
+ghost use Rattle.uring_operations.specs.Calls.Layouts as layouts;
+ghost use Rattle.uring_operations.specs.Entries.NoOps.{result_of};
 ghost use Rattle.uring_c.specs.EntryForm.{word_of_form};
 ghost use Rattle.uring_c.specs.RingForm.{form_of_word};
 
 use crate::form_exports::form_word;
 use uring_crossing::whole_call_memory::EntryWords;
-use uring_enter::{
-    CoreEntry, Form, Layout, Member, Submission, core_entry_before, core_entry_of, extra_of,
-    is_one_chain, layout_of, no_op_result, slot_of,
-};
+use uring_enter::{CoreEntry, core_entry_before, core_entry_of, extra_of, is_one_chain, slot_of};
+use uring_operations::{Form, Layout, Member, Submission, layout_of, no_op_result};
 
 /// Whether an index word names a slot of a table of so many entries: the one of that number.
 #[unsafe(no_mangle)]

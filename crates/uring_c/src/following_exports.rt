@@ -1,6 +1,6 @@
 //! What the end of a request makes of others, for C: functions of `c/wulgach_lookout.h`.
 ghost use Rattle.std.specs.Prelude.{◌≡◌};
-ghost use Rattle.uring_enter.specs.Following as spec;
+ghost use Rattle.uring_enter.specs.GoingOn.Following as spec;
 ghost use Rattle.uring_c.specs.FollowingForm.{word_of_end};
 
 use crate::duty_exports::bit;

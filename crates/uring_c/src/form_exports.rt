@@ -1,17 +1,17 @@
 //! What an entry is to the core, and which requests go on, for C: the functions of `c/wulgach_form.h`.
 ghost use Rattle.std.specs.Prelude.{◌≡◌, List};
-ghost use Rattle.uring_enter.specs.Copies as copies;
-ghost use Rattle.uring_enter.specs.Forms.{copies_pieces, form_copied, form_of};
-ghost use Rattle.uring_enter.specs.Rules.{probed_flags as flags_of_probed};
-ghost use Rattle.uring_enter.specs.Showing.{Change, KeepsShown};
-ghost use Rattle.uring_enter.specs.Shots.{comes_of_ring, goes_on, has_room, shot_of, tells};
+ghost use Rattle.uring_operations.specs.Copies.Copies as copies;
+ghost use Rattle.uring_operations.specs.Entries.Forms.{copies_pieces, form_copied, form_of};
+ghost use Rattle.uring_operations.specs.Entries.Rules.{probed_flags as flags_of_probed};
+ghost use Rattle.uring_enter.specs.Completions.Showing.{Change, KeepsShown};
+ghost use Rattle.uring_enter.specs.Completions.Shots.{comes_of_ring, goes_on, has_room, shot_of, tells};
 ghost use Rattle.uring_c.specs.EntryForm.{word_of_form, fault_of_form};
 ghost use Rattle.uring_c.specs.RingForm.{form_of_word};
 
 use crate::entry_exports::form_by_word;
-use uring_enter::{
-    Entry, Form, Posted, Shown, Submission, comes_of_ring, copies_pieces, form_copied, form_of,
-    link_of, probed_flags,
+use uring_enter::{Posted, Shown, comes_of_ring};
+use uring_operations::{
+    Entry, Form, Submission, copies_pieces, form_copied, form_of, link_of, probed_flags,
 };
 
 /// Returns what an entry is to the core, and writes its fault, or 0. `refusal` is the error with which a strict ring refuses it, or 0.

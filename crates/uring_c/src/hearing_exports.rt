@@ -1,7 +1,7 @@
 //! In which order writes to pipes are heard, and where what has overflowed is asked for, for C: functions of `c/wulgach_lookout.h` and `c/wulgach_shown.h`.
 ghost use Rattle.std.specs.Prelude.{◌≡◌};
-ghost use Rattle.uring_enter.specs.Hearing as spec;
-ghost use Rattle.uring_enter.specs.Storing as storing;
+ghost use Rattle.uring_enter.specs.Waiting.Hearing as spec;
+ghost use Rattle.uring_enter.specs.Completions.Storing as storing;
 ghost use Rattle.uring_c.specs.HearingForm.{hearing_of, occasion_of, word_of_hearing, word_of_telling};
 
 use uring_enter::{

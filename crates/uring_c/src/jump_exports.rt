@@ -1,6 +1,6 @@
 //! Whether a sleep was left by a jump of a signal's handler, for C: functions of `c/wulgach_lookout.h`.
 ghost use Rattle.std.specs.Prelude.{◌≡◌};
-ghost use Rattle.uring_enter.specs.Jumps as spec;
+ghost use Rattle.uring_enter.specs.Waiting.Jumps as spec;
 ghost use Rattle.uring_c.specs.UnknownForm.{known_of};
 
 use uring_enter::{SeenSleep, asks_stacks, has_mark, was_left};

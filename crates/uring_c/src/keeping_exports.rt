@@ -1,9 +1,9 @@
 //! What a request's file is kept for, and what others hear of its end, for C: functions of `c/wulgach_lookout.h`.
 ghost use Rattle.std.specs.Prelude.{◌≡◌};
-ghost use Rattle.uring_enter.specs.Keeping as keeping;
+ghost use Rattle.uring_operations.specs.Files.Keeping as keeping;
 ghost use Rattle.uring_c.specs.PassageForm.{copied_if};
 
-use uring_enter::{
+use uring_operations::{
     Standing, asks_locks, counts_as_written, keeps_before_close, may_close_last, shares_copy,
     stays_open, tells_anew,
 };

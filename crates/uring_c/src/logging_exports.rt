@@ -1,11 +1,11 @@
 //! What is logged of writes and syncs, for C: functions of `c/wulgach_calls.h`.
 ghost use Rattle.std.specs.Prelude.{◌≡◌, true, false, MatchOption};
-ghost use Rattle.uring_enter.specs.Logging as spec;
+ghost use Rattle.uring_operations.specs.Files.Logging as spec;
 ghost use Rattle.uring_c.specs.LoggingForm.{word_of_begins, word_of_logged};
 ghost use Rattle.uring_c.specs.RingForm.{form_of_word};
 
 use crate::entry_exports::form_by_word;
-use uring_enter::{
+use uring_operations::{
     Begins, Logged, Submission, SyncedBytes, SyncedKind, Writing, is_logged_kind, logged_of,
     synced_bytes, syncs_itself, write_begins,
 };

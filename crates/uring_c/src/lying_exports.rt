@@ -1,17 +1,15 @@
 //! What a look at descriptors says, what an epoll instance tells of requests that are dormant, and what is told of writes, for C: functions of `c/wulgach_lookout.h`.
 ghost use Rattle.std.specs.Prelude.{◌≡◌, true, List, ◌∷◌};
-ghost use Rattle.uring_enter.specs.Glances as glances;
-ghost use Rattle.uring_enter.specs.Lookouts.{Happening, Changed, KeepsLookout, may_be_own};
-ghost use Rattle.uring_enter.specs.Lying as lying;
-ghost use Rattle.uring_enter.specs.Missed as missed;
-ghost use Rattle.uring_enter.specs.Waiters.{Encounter, Around, WasSeen, KeepsWaiter, around, has_heard};
+ghost use Rattle.uring_operations.specs.Requests.Glances as glances;
+ghost use Rattle.uring_enter.specs.Waiting.Lookouts.{Happening, Changed, KeepsLookout, may_be_own};
+ghost use Rattle.uring_enter.specs.Waiting.Lying as lying;
+ghost use Rattle.uring_enter.specs.Waiting.Missed as missed;
+ghost use Rattle.uring_enter.specs.Waiting.Waiters.{Encounter, Around, WasSeen, KeepsWaiter, around, has_heard};
 ghost use Rattle.uring_c.specs.PassageForm.{word_of_glance, word_of_answered, word_of_gone};
 ghost use Rattle.uring_c.specs.RingForm.{known_if};
 
-use uring_enter::{
-    Answered, Glance, Gone, Lookout, Submission, Waiter, answer_of, asks_breaking, asks_broken,
-    dormant_events, glance_of, is_found_ready, takes_descriptor,
-};
+use uring_enter::{Answered, Gone, Lookout, Waiter, answer_of, dormant_events, takes_descriptor};
+use uring_operations::{Glance, Submission, asks_breaking, asks_broken, glance_of, is_found_ready};
 
 /// Returns what a poll(2), of one descriptor or of many, says of a request.
 #[unsafe(no_mangle)]

@@ -1,13 +1,14 @@
 //! What a message to another ring does, for C: functions of `c/wulgach_form.h`.
 ghost use Rattle.std.specs.Prelude.{◌≡◌, is_some, unwrap_or};
-ghost use Rattle.uring_enter.specs.Messages as spec;
+ghost use Rattle.uring_enter.specs.Rings.Messages as spec;
 ghost use Rattle.uring_c.specs.MessageForm.{word_of_message, fault_of_sending};
 
 use crate::duty_exports::bit;
 use uring_enter::{
-    Message, MessageSteps, Receiver, Sending, Submission, is_by_slot, may_be_ring, message_steps,
-    sending_of, told_of,
+    Message, MessageSteps, Receiver, Sending, is_by_slot, may_be_ring, message_steps, sending_of,
+    told_of,
 };
+use uring_operations::Submission;
 
 /// Whether the entry of a message names its ring by a slot.
 #[unsafe(no_mangle)]

@@ -1,8 +1,8 @@
 //! What the fields of an entry mean that the layer's own tables are asked for, for C: functions of `c/wulgach_form.h`.
 ghost use Rattle.std.specs.Prelude.{◌≡◌};
-ghost use Rattle.uring_enter.specs.Named as spec;
+ghost use Rattle.uring_operations.specs.Entries.Named as spec;
 
-use uring_enter::{
+use uring_operations::{
     Offsets, Passed, Provided, Submission, offsets_of, passed_of, provided_of, removed_of,
     target_of,
 };

@@ -1,9 +1,9 @@
 //! How paths are opened, for C: functions of `c/wulgach_calls.h`.
 ghost use Rattle.std.specs.Prelude.{◌≡◌};
-ghost use Rattle.uring_enter.specs.PipeOpens as opens;
+ghost use Rattle.uring_operations.specs.Files.PipeOpens as opens;
 ghost use Rattle.uring_c.specs.OpeningForm.{word_of_opening};
 
-use uring_enter::{
+use uring_operations::{
     Opening, Standing, Submission, asks_writer, found_flags, looking_flags, looks_at_path,
     opening_of, opening_waits, opens_again, opens_by_path, standing_behind_path, unwilling_flags,
 };

@@ -1,8 +1,8 @@
 //! In which order a call is refused, and with which fault one that is to sleep fails, for C: functions of `c/wulgach_enter.h`.
 ghost use Rattle.std.specs.Prelude.{◌≡◌, false};
-ghost use Rattle.uring_enter.specs.Arguments as arguments;
-ghost use Rattle.uring_enter.specs.Passages as spec;
-ghost use Rattle.uring_enter.specs.Slept as slept;
+ghost use Rattle.uring_enter.specs.Call.Arguments as arguments;
+ghost use Rattle.uring_enter.specs.Call.Passages as spec;
+ghost use Rattle.uring_enter.specs.Call.Slept as slept;
 ghost use Rattle.uring_c.specs.PassageForm.{word_of_passage, word_of_call, check_of};
 ghost use Rattle.uring_c.specs.UnknownForm.{known_of};
 

@@ -1,19 +1,19 @@
 //! What is copied of an entry, and the faults of that, for C: functions of `c/wulgach_form.h`.
 ghost use Rattle.std.specs.Prelude.{◌≡◌, pos, true, false, MatchOption, Option, Some};
-ghost use Rattle.uring_enter.specs.Pieces as spec;
-ghost use Rattle.uring_enter.specs.Buffers as buffers;
-ghost use Rattle.uring_enter.specs.Copies as copies;
-ghost use Rattle.uring_enter.specs.Copies.{next_of};
-ghost use Rattle.uring_enter.specs.MessageCopies.{is_address_alone as is_alone, next_of_message};
-ghost use Rattle.uring_enter.specs.Names as names;
-ghost use Rattle.uring_enter.specs.declared.copying.Copying.TheVariants.{Copies, Ends};
-ghost use Rattle.uring_enter.specs.declared.member.Entry.{Entry as Before};
-ghost use Rattle.uring_enter.specs.declared.piece.Piece.{Piece as Told};
+ghost use Rattle.uring_operations.specs.Copies.Pieces as spec;
+ghost use Rattle.uring_operations.specs.Entries.Buffers as buffers;
+ghost use Rattle.uring_operations.specs.Copies.Copies as copies;
+ghost use Rattle.uring_operations.specs.Copies.Copies.{next_of};
+ghost use Rattle.uring_operations.specs.Copies.MessageCopies.{is_address_alone as is_alone, next_of_message};
+ghost use Rattle.uring_operations.specs.Entries.Names as names;
+ghost use Rattle.uring_operations.specs.declared.copies.copying.Copying.TheVariants.{Copies, Ends};
+ghost use Rattle.uring_operations.specs.declared.chains.member.Entry.{Entry as Before};
+ghost use Rattle.uring_operations.specs.declared.copies.piece.Piece.{Piece as Told};
 ghost use Rattle.uring_c.specs.TakingForm.{word_of_what, words_of_piece, word_of_copying, words_of_copying};
 ghost use Rattle.uring_crossing.specs.CourseForm.{entry_of};
 
 use uring_crossing::course_words::entry_if;
-use uring_enter::{
+use uring_operations::{
     Copying, Entry, Header, Piece, Submission, What, how_fault, is_address_alone, is_own_fault,
     length_with, message_vectors, name_fault, next_message_piece, next_piece, one_buffer,
     open_fault, time_fault, vector_fault, wanted_of,

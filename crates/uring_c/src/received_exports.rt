@@ -1,9 +1,11 @@
 //! What is told of a message that was received, and what is next behind a part of one, for C: functions of `c/wulgach_calls.h`.
 ghost use Rattle.std.specs.Prelude.{◌≡◌, ◌+◌, ◌^◌, ◌<◌, is_some, unwrap_or};
-ghost use Rattle.uring_enter.specs.Advances as advances;
-ghost use Rattle.uring_enter.specs.Receipts as receipts;
+ghost use Rattle.uring_operations.specs.Calls.Advances as advances;
+ghost use Rattle.uring_operations.specs.Copies.Receipts as receipts;
 
-use uring_enter::{Field, Front, Received, Rest, Vector, front_of, moved_by, next_told, rest_of};
+use uring_operations::{
+    Field, Front, Received, Rest, Vector, front_of, moved_by, next_told, rest_of,
+};
 
 /// Writes the field of a message that is told next, behind so many. False, and nothing is written: all were told.
 #[unsafe(no_mangle)]

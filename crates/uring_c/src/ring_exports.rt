@@ -1,7 +1,7 @@
 //! What a set-up does, what is mapped of a ring and when it is freed, for C: functions of `c/wulgach_register.h`.
 ghost use Rattle.std.specs.Prelude.{◌≡◌};
-ghost use Rattle.uring_enter.specs.Mappings as mappings;
-ghost use Rattle.uring_enter.specs.Ringing as spec;
+ghost use Rattle.uring_enter.specs.Rings.Mappings as mappings;
+ghost use Rattle.uring_enter.specs.Rings.Ringing as spec;
 ghost use Rattle.uring_register.specs.Holding as holding;
 ghost use Rattle.uring_c.specs.RingForm.{word_of_region, word_of_onto, stage_of, word_of_fate, known_if};
 

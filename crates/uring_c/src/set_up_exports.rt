@@ -1,10 +1,10 @@
 //! What is wrong with a set-up: `wulgach_setup_fault` of the header; and which rings are made, `wulgach_set_up` of `c/wulgach_register.h`.
 ghost use Rattle.std.specs.Prelude.{◌≡◌, ◌↔◌, pos};
 ghost use Rattle.uring_entry.specs.Setup.{Setup};
-ghost use Rattle.uring_enter.specs.SettingUp.{IsMade, IsRefusedWith};
-ghost use Rattle.uring_enter.specs.SettingUp.{features as features_of};
-ghost use Rattle.uring_enter.specs.SettingUp.{has_thread as has_one};
-ghost use Rattle.uring_enter.specs.SettingUp as spec;
+ghost use Rattle.uring_enter.specs.Rings.SettingUp.{IsMade, IsRefusedWith};
+ghost use Rattle.uring_enter.specs.Rings.SettingUp.{features as features_of};
+ghost use Rattle.uring_enter.specs.Rings.SettingUp.{has_thread as has_one};
+ghost use Rattle.uring_enter.specs.Rings.SettingUp as spec;
 ghost use Rattle.uring_crossing.specs.SetUps.{IsRefused, HasBadSq, HasBadCq, HasBadFiles, words_of_setup};
 
 use uring_crossing::set_up_words::SetupWords;

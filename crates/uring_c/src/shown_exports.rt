@@ -1,9 +1,9 @@
 //! What the application is shown, for C: the functions of `c/wulgach_shown.h`.
 ghost use Rattle.std.specs.Prelude.{◌≡◌, ◌+◌, ◌%◌, ◌^◌, ◌≤◌, ℕ, pos, negsuc, drop, MatchOption, List, [], ◌∷◌, nat_le, nat_lt};
-ghost use Rattle.uring_enter.specs.Showing.{Change, Reaped, KeepsShown, IsTold, posted, written, reaped, store_of, behind_store, heard_of, overflows, loads_head, may_bring, ready, flags_of};
-ghost use Rattle.uring_enter.specs.Prospects.{WereSoMany, readable_of};
-ghost use Rattle.uring_enter.specs.declared.posted.Posted.{Posted as Row};
-ghost use Rattle.uring_enter.specs.Postings.{Posting, Reaped as RowsReaped, KeepsPosted};
+ghost use Rattle.uring_enter.specs.Completions.Showing.{Change, Reaped, KeepsShown, IsTold, posted, written, reaped, store_of, behind_store, heard_of, overflows, loads_head, may_bring, ready, flags_of};
+ghost use Rattle.uring_enter.specs.Completions.Prospects.{WereSoMany, readable_of};
+ghost use Rattle.uring_enter.specs.declared.completions.posted.Posted.{Posted as Row};
+ghost use Rattle.uring_enter.specs.Completions.Postings.{Posting, Reaped as RowsReaped, KeepsPosted};
 ghost use Rattle.uring_c.specs.ShownForm.{word_of_readable, words_of_store};
 
 use uring_enter::{Prospect, Readable, Shown, Store};

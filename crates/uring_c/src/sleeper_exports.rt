@@ -1,19 +1,17 @@
 //! Whom a sleep polls for, that it asks each descriptor once, who keeps a file open, how long a sleep lasts, what time it is behind it, and what a cancel looks for before it ends, for C: functions of `c/wulgach_waits.h`, `c/wulgach_times.h` and `c/wulgach_course.h`.
 ghost use Rattle.std.specs.Prelude.{◌≡◌, ◌≤◌, ℕ, length, take, List, ◌∷◌};
-ghost use Rattle.uring_enter.specs.declared.timeout.Timeout.{Timeout};
-ghost use Rattle.uring_enter.specs.Timeouts.{Event};
-ghost use Rattle.uring_enter.specs.Kept.{KeepsTime};
-ghost use Rattle.uring_enter.specs.Outcomes as outcomes;
-ghost use Rattle.uring_enter.specs.Readiness as ready;
-ghost use Rattle.uring_enter.specs.Joining as joining;
-ghost use Rattle.uring_enter.specs.Sleeps.{behind_sleep, passes, IsSpan};
+ghost use Rattle.uring_operations.specs.declared.entries.timeout.Timeout.{Timeout};
+ghost use Rattle.uring_operations.specs.Entries.Timeouts.{Event};
+ghost use Rattle.uring_enter.specs.Time.Kept.{KeepsTime};
+ghost use Rattle.uring_operations.specs.Requests.Outcomes as outcomes;
+ghost use Rattle.uring_operations.specs.Requests.Readiness as ready;
+ghost use Rattle.uring_enter.specs.Waiting.Joining as joining;
+ghost use Rattle.uring_enter.specs.Waiting.Sleeps.{behind_sleep, passes, IsSpan};
 ghost use Rattle.uring_crossing.specs.TimeForm.{limit_of};
 
 use uring_crossing::time_words::LimitWords;
-use uring_enter::{
-    Needs, PollRow, Span, Standing, Times, join, keeps_open, keeps_second_open, looks_ahead, polls,
-    span_of,
-};
+use uring_enter::{PollRow, Span, Times, join, span_of};
+use uring_operations::{Needs, Standing, keeps_open, keeps_second_open, looks_ahead, polls};
 
 /// Whether a call that sleeps polls the descriptor of a request that runs.
 #[unsafe(no_mangle)]

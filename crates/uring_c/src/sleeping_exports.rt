@@ -1,13 +1,14 @@
 //! When a sleep isn't begun, what came of one, and which polls are told of writes, for C: functions of `c/wulgach_waits.h` and `c/wulgach_lookout.h`.
 ghost use Rattle.std.specs.Prelude.{◌≡◌};
-ghost use Rattle.uring_enter.specs.PipePolls as polls;
-ghost use Rattle.uring_enter.specs.Sleeping as sleeping;
+ghost use Rattle.uring_enter.specs.Waiting.PipePolls as polls;
+ghost use Rattle.uring_enter.specs.Waiting.Sleeping as sleeping;
 ghost use Rattle.uring_c.specs.SleepForm.{word_of_outcome};
 
 use uring_enter::{
-    Needs, Outcome, PipePoll, SleptFor, Standing, Waited, asks_before_nap, came_to, can_be_woken,
-    counted_as, fires_behind, lets_more_lie, outcome_of, slept_for,
+    Outcome, PipePoll, SleptFor, Waited, asks_before_nap, came_to, can_be_woken, counted_as,
+    fires_behind, lets_more_lie, outcome_of, slept_for,
 };
+use uring_operations::{Needs, Standing};
 
 /// Whether a request is to be told of writes to its pipe.
 #[unsafe(no_mangle)]

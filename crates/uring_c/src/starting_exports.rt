@@ -1,10 +1,10 @@
 //! What is done as a request starts, for C: functions of `c/wulgach_lookout.h`.
 ghost use Rattle.std.specs.Prelude.{◌≡◌};
-ghost use Rattle.uring_enter.specs.Starts as starts;
+ghost use Rattle.uring_operations.specs.Requests.Starts as starts;
 ghost use Rattle.uring_c.specs.StartForm.{word_of_starting};
 
 use crate::duty_exports::bit;
-use uring_enter::{
+use uring_operations::{
     Needs, Standing, Starting, Submission, lets_start, steps_at_start, steps_behind_files,
 };
 

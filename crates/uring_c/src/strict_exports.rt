@@ -1,9 +1,9 @@
 //! What a strict ring refuses of an entry, for C: functions of `c/wulgach_form.h`.
 ghost use Rattle.std.specs.Prelude.{◌≡◌, List, []};
-ghost use Rattle.uring_enter.specs.Strictness as spec;
-ghost use Rattle.uring_enter.specs.Strictness.{Looked, KeepsStrict, looked_by, refusal_by};
+ghost use Rattle.uring_operations.specs.Entries.Strictness as spec;
+ghost use Rattle.uring_operations.specs.Entries.Strictness.{Looked, KeepsStrict, looked_by, refusal_by};
 
-use uring_enter::{Strict, Submission, flags_asked};
+use uring_operations::{Strict, Submission, flags_asked};
 
 /// Begins a strict ring that has seen no entry.
 #[unsafe(no_mangle)]

@@ -1,13 +1,14 @@
 //! Which positions a call takes, and what goes on next, for C: functions of `c/wulgach_enter.h`.
 ghost use Rattle.std.specs.Prelude.{◌≡◌, ◌+◌, ◌<◌, ◌^◌, ℕ, length, false, List, [], ◌∷◌};
-ghost use Rattle.uring_enter.specs.Takings.{KeepsTaking, most, next_of, has_ended};
-ghost use Rattle.uring_enter.specs.Takings.{refusal_fault as refused};
-ghost use Rattle.uring_enter.specs.Ways.{way_of, count_of};
-ghost use Rattle.uring_enter.specs.Drainings.{Drainage, Accepted, Ended, KeepsChain, KeepsDrains, outstanding, may_post};
-ghost use Rattle.uring_enter.specs.Drainings.{drains as chain_drains};
+ghost use Rattle.uring_enter.specs.TakingUp.Takings.{KeepsTaking, most, next_of, has_ended};
+ghost use Rattle.uring_enter.specs.TakingUp.Takings.{refusal_fault as refused};
+ghost use Rattle.uring_operations.specs.Requests.Ways.{way_of, count_of};
+ghost use Rattle.uring_enter.specs.TakingUp.Drainings.{Drainage, Accepted, Ended, KeepsChain, KeepsDrains, outstanding, may_post};
+ghost use Rattle.uring_enter.specs.TakingUp.Drainings.{drains as chain_drains};
 ghost use Rattle.uring_c.specs.TakingForm.{word_of_next, cell_of_next, word_of_way, place_of_way};
 
-use uring_enter::{Chain, Drains, Item, Onward, Submitting, Taking, Way, Ways, refusal_fault};
+use uring_enter::{Chain, Drains, Item, Onward, Submitting, Taking, refusal_fault};
+use uring_operations::{Way, Ways};
 
 /// Begins a call that has taken nothing, and writes the cell of its first position. Returns how many it takes at most: where that is 0, the cell stays as it was.
 #[unsafe(no_mangle)]

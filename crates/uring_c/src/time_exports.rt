@@ -1,24 +1,25 @@
 //! The time of a ring and its timeouts for C: the functions of `c/wulgach_times.h`. Rows are the caller's memory.
 ghost use Rattle.std.specs.Prelude.{◌≡◌, ◌↔◌, ◌⊎◌, ◌≤◌, ◌-◌, pos, negsuc, length, true, false, MatchOption, List, [], ◌∷◌, None, Some, ◌&&◌, if◌then◌else◌};
-ghost use Rattle.uring_enter.specs.declared.act.Fact.{Fact};
-ghost use Rattle.uring_enter.specs.Courses.{KeepsCourse, counts};
-ghost use Rattle.uring_enter.specs.declared.wait.Wait.{Wait};
-ghost use Rattle.uring_enter.specs.declared.wait.Woken.{Woken};
-ghost use Rattle.uring_enter.specs.Timeouts.{Event, Started, Posted, Changed, Stopped, Clock, Passed, Ended};
-ghost use Rattle.uring_enter.specs.Timeouts.{nanoseconds_of, running, outcome, is_over, cancelled_by, fires, linked_outcome};
-ghost use Rattle.uring_enter.specs.Timeouts.{posted, NoneIsOver, IsNext, IsReachedOf, AreApart, HasNone, IsRow, EndsNone, EndsWith};
-ghost use Rattle.uring_enter.specs.Kept.{KeepsTime};
-ghost use Rattle.uring_enter.specs.Waits.{deadline, IsWait, IsWoken, IsPassing};
-ghost use Rattle.uring_enter.specs.Clocks.{clock_of, count_of, lasts};
-ghost use Rattle.uring_enter.specs.Sleeps.{lasts_at_most, comes_to};
+ghost use Rattle.uring_operations.specs.declared.requests.act.Fact.{Fact};
+ghost use Rattle.uring_operations.specs.Requests.Courses.{KeepsCourse, counts};
+ghost use Rattle.uring_enter.specs.declared.call.wait.Wait.{Wait};
+ghost use Rattle.uring_enter.specs.declared.call.wait.Woken.{Woken};
+ghost use Rattle.uring_operations.specs.Entries.Timeouts.{Event, Started, Posted, Changed, Stopped, Clock, Passed, Ended};
+ghost use Rattle.uring_operations.specs.Entries.Timeouts.{nanoseconds_of, running, outcome, is_over, cancelled_by, fires, linked_outcome};
+ghost use Rattle.uring_operations.specs.Entries.Timeouts.{posted, NoneIsOver, IsNext, IsReachedOf, AreApart, HasNone, IsRow, EndsNone, EndsWith};
+ghost use Rattle.uring_enter.specs.Time.Kept.{KeepsTime};
+ghost use Rattle.uring_enter.specs.Call.Waits.{deadline, IsWait, IsWoken, IsPassing};
+ghost use Rattle.uring_operations.specs.Entries.Clocks.{clock_of, count_of, lasts};
+ghost use Rattle.uring_enter.specs.Waiting.Sleeps.{lasts_at_most, comes_to};
 ghost use Rattle.uring_crossing.specs.TimeForm.{limit_of, word_of_clock, words_of_limit, words_of_wait, words_of_woken};
 
 use uring_crossing::time_words::{
     LimitWords, WaitWords, WokenWords, clock_word, limit_words, wait_words, woken_words,
 };
-use uring_enter::{
-    Course, Start, Submission, Timeout, Times, WakeSources, clock_of, count_of, lasts, left_until,
-    linked_outcome, nanoseconds_of,
+use uring_enter::{Times, WakeSources};
+use uring_operations::{
+    Course, Start, Submission, Timeout, clock_of, count_of, lasts, left_until, linked_outcome,
+    nanoseconds_of,
 };
 
 /// The nanoseconds of a time in seconds and nanoseconds.

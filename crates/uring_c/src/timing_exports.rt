@@ -1,20 +1,20 @@
 //! What becomes of a timeout's time, of a message, of a poll that is updated, and which requests a cancel waits for, for C: functions of `c/wulgach_course.h` and `c/wulgach_form.h`.
 ghost use Rattle.std.specs.Prelude.{◌≡◌, ◌<◌, ◌-◌, ◌^◌, true, false, List, [], ◌∷◌};
-ghost use Rattle.uring_enter.specs.declared.act.Fact.{Fact};
-ghost use Rattle.uring_enter.specs.declared.timing.Timing.{Timing};
-ghost use Rattle.uring_enter.specs.Courses.{KeepsCourse};
-ghost use Rattle.uring_enter.specs.Afresh as afresh;
-ghost use Rattle.uring_enter.specs.Clocks as clocks;
-ghost use Rattle.uring_enter.specs.Awaiting.{KeepsAwaiting, Look, HasSeen, HasEnded, may_see};
-ghost use Rattle.uring_enter.specs.Timings.{Happened, Starts, IsFound, Ends, was_found, runs, runs_behind};
-ghost use Rattle.uring_enter.specs.Visits as visits;
+ghost use Rattle.uring_operations.specs.declared.requests.act.Fact.{Fact};
+ghost use Rattle.uring_operations.specs.declared.chains.timing.Timing.{Timing};
+ghost use Rattle.uring_operations.specs.Requests.Courses.{KeepsCourse};
+ghost use Rattle.uring_operations.specs.Requests.Afresh as afresh;
+ghost use Rattle.uring_operations.specs.Entries.Clocks as clocks;
+ghost use Rattle.uring_enter.specs.Cancels.Awaiting.{KeepsAwaiting, Look, HasSeen, HasEnded, may_see};
+ghost use Rattle.uring_operations.specs.Chains.Timings.{Happened, Starts, IsFound, Ends, was_found, runs, runs_behind};
+ghost use Rattle.uring_enter.specs.Rings.Visits as visits;
 ghost use Rattle.uring_c.specs.ChangingForm.{word_of_changing};
 ghost use Rattle.uring_c.specs.RingForm.{word_of_timing, word_of_visit, word_of_awaited, word_of_turn};
 
 use crate::duty_exports::bit;
-use uring_enter::{
-    Awaited, Awaiting, Changing, Course, Member, Receiver, Timing, Visit, is_linked_timeout,
-    is_timed, is_timeout, posts_message, visit_of, visits_again,
+use uring_enter::{Awaiting, Receiver, Visit, posts_message, visit_of, visits_again};
+use uring_operations::{
+    Awaited, Changing, Course, Member, Timing, is_linked_timeout, is_timed, is_timeout,
 };
 
 /// Whether the operation of this code is a timeout.

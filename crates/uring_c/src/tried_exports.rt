@@ -1,6 +1,6 @@
 //! What is done once an operation was carried out, for C: a function of `c/wulgach_course.h`.
 ghost use Rattle.std.specs.Prelude.{◌≡◌};
-ghost use Rattle.uring_enter.specs.Tried as spec;
+ghost use Rattle.uring_enter.specs.GoingOn.Tried as spec;
 ghost use Rattle.uring_c.specs.TriedForm.{word_of_try};
 
 use crate::duty_exports::bit;

@@ -1,11 +1,11 @@
 //! What is taken to be so where it can't be asked, and what of it is asked once or only if it matters, for C: functions of `c/wulgach_register.h`, `c/wulgach_times.h` and `c/wulgach_enter.h`.
 ghost use Rattle.std.specs.Prelude.{◌≡◌, List};
-ghost use Rattle.uring_enter.specs.declared.timeout.Timeout.{Timeout};
-ghost use Rattle.uring_enter.specs.Timeouts.{Event, running};
-ghost use Rattle.uring_enter.specs.Kept.{KeepsTime};
-ghost use Rattle.uring_enter.specs.Waits.{has_any};
-ghost use Rattle.uring_enter.specs.Rounds.{most_of_a_round};
-ghost use Rattle.uring_enter.specs.Unknown as unknown;
+ghost use Rattle.uring_operations.specs.declared.entries.timeout.Timeout.{Timeout};
+ghost use Rattle.uring_operations.specs.Entries.Timeouts.{Event, running};
+ghost use Rattle.uring_enter.specs.Time.Kept.{KeepsTime};
+ghost use Rattle.uring_enter.specs.Call.Waits.{has_any};
+ghost use Rattle.uring_enter.specs.TakingUp.Rounds.{most_of_a_round};
+ghost use Rattle.uring_enter.specs.Call.Unknown as unknown;
 ghost use Rattle.uring_c.specs.UnknownForm.{known_of, matter_of};
 
 use uring_enter::{Matter, Rounds, Times, asks_signals, is_taken_so, may_have_others};

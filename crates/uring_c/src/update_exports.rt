@@ -1,14 +1,15 @@
 //! What an update makes of a poll or of a timeout, for C: functions of `c/wulgach_cancel.h`.
 ghost use Rattle.std.specs.Prelude.{◌≡◌, ℕ, List, [], ◌∷◌};
-ghost use Rattle.uring_enter.specs.declared.update.Linked.{Linked};
-ghost use Rattle.uring_enter.specs.Updates as spec;
-ghost use Rattle.uring_enter.specs.Updates.{HasLooked};
+ghost use Rattle.uring_enter.specs.declared.cancels.update.Linked.{Linked};
+ghost use Rattle.uring_enter.specs.Cancels.Updates as spec;
+ghost use Rattle.uring_enter.specs.Cancels.Updates.{HasLooked};
 ghost use Rattle.uring_c.specs.TakingForm.{word_of_removal};
 
 use uring_enter::{
-    Linked, LinkedUpdate, Removal, Submission, poll_removal, removal_result, timeout_removal,
-    updated_poll, updated_timeout,
+    Linked, LinkedUpdate, Removal, poll_removal, removal_result, timeout_removal, updated_poll,
+    updated_timeout,
 };
+use uring_operations::Submission;
 
 /// What the removal of a poll does.
 #[unsafe(no_mangle)]

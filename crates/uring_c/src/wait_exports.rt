@@ -1,11 +1,11 @@
 //! What carrying out an operation needs, whether it has to wait, and what becomes of a try, for C: functions of `c/wulgach_waits.h`.
 ghost use Rattle.std.specs.Prelude.{◌≡◌, true, false, MatchOption};
-ghost use Rattle.uring_enter.specs.Needs as needed;
-ghost use Rattle.uring_enter.specs.Descriptors as found;
-ghost use Rattle.uring_enter.specs.Readiness as ready;
-ghost use Rattle.uring_enter.specs.Tries as tried;
-ghost use Rattle.uring_enter.specs.CallTries as called;
-ghost use Rattle.uring_enter.specs.Instances as instances;
+ghost use Rattle.uring_operations.specs.Entries.Needs as needed;
+ghost use Rattle.uring_operations.specs.Files.Descriptors as found;
+ghost use Rattle.uring_operations.specs.Requests.Readiness as ready;
+ghost use Rattle.uring_operations.specs.Calls.Tries as tried;
+ghost use Rattle.uring_operations.specs.Calls.CallTries as called;
+ghost use Rattle.uring_operations.specs.Calls.Instances as instances;
 ghost use Rattle.uring_c.specs.RingForm.{form_of_word};
 ghost use Rattle.uring_crossing.specs.WaitForm.{word_of_finding, word_of_step, end_of_step, task_of, word_of_turn, end_of_turn, doing_of};
 
@@ -13,7 +13,7 @@ use crate::entry_exports::form_by_word;
 use uring_crossing::wait_words::{
     doing, finding_word, step_end, step_word, task, turn_end, turn_word,
 };
-use uring_enter::{
+use uring_operations::{
     Call, Known, Nature, Needs, Patience, PollStart, Submission, Transfer, Trial, asks_instance,
     asks_listening, buffer_fault, counts_as_ready, instance_events, is_impatient, is_tried_first,
     needs_as, needs_of, next_finding, next_step, next_turn, no_buffer_fault, poll_result,

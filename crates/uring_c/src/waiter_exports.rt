@@ -1,15 +1,16 @@
 //! What is known of a request that runs, and whether it can be finished, for C: functions of `c/wulgach_lookout.h`.
 ghost use Rattle.std.specs.Prelude.{◌≡◌, ◌+◌, ◌<◌, ◌^◌, not, ◌&&◌, List, [], ◌∷◌};
-ghost use Rattle.uring_enter.specs.declared.act.Fact.{Fact};
-ghost use Rattle.uring_enter.specs.Courses.{KeepsCourse, is_cancelled};
-ghost use Rattle.uring_enter.specs.Lookouts.{Happening, Waited, Told, KeepsLookout, moments, rounds};
-ghost use Rattle.uring_enter.specs.Readiness as ready;
-ghost use Rattle.uring_enter.specs.Waiters.{Encounter, WouldWait, WasCancelled, WasUpdated, WasSeen, HeardWrite, MissedWrite, Took, KeepsWaiter, around};
-ghost use Rattle.uring_enter.specs.Waiters as waiters;
+ghost use Rattle.uring_operations.specs.declared.requests.act.Fact.{Fact};
+ghost use Rattle.uring_operations.specs.Requests.Courses.{KeepsCourse, is_cancelled};
+ghost use Rattle.uring_enter.specs.Waiting.Lookouts.{Happening, Waited, Told, KeepsLookout, moments, rounds};
+ghost use Rattle.uring_operations.specs.Requests.Readiness as ready;
+ghost use Rattle.uring_enter.specs.Waiting.Waiters.{Encounter, WouldWait, WasCancelled, WasUpdated, WasSeen, HeardWrite, MissedWrite, Took, KeepsWaiter, around};
+ghost use Rattle.uring_enter.specs.Waiting.Waiters as waiters;
 ghost use Rattle.uring_crossing.specs.WaitForm.{word_of_look, word_of_sighting, behind_look};
 
 use uring_crossing::wait_words::{look_word, sighting_word};
-use uring_enter::{Course, Lookout, Moment, Needs, PipePoll, Standing, Waiter, lies_down};
+use uring_enter::{Lookout, PipePoll, Waiter};
+use uring_operations::{Course, Moment, Needs, Standing, lies_down};
 
 /// Begins a request that has started just now.
 #[unsafe(no_mangle)]

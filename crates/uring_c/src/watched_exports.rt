@@ -1,7 +1,7 @@
 //! What a ring's descriptor polls for, for C: functions of `c/wulgach_shown.h`.
 ghost use Rattle.std.specs.Prelude.{◌≡◌, List, [], ◌∷◌};
-ghost use Rattle.uring_enter.specs.Watching.{Waiting, Waits, KeepsWatched, change_of};
-ghost use Rattle.uring_enter.specs.Watching as spec;
+ghost use Rattle.uring_enter.specs.Waiting.Watching.{Waiting, Waits, KeepsWatched, change_of};
+ghost use Rattle.uring_enter.specs.Waiting.Watching as spec;
 ghost use Rattle.uring_c.specs.MessageForm.{word_of_besides, word_of_watch, watched_of};
 
 use crate::duty_exports::bit;

@@ -1,13 +1,13 @@
 -- The course of a request in words that C can read.
 use Rattle.std.specs.Prelude.{ℕ, ℤ, pos, negsuc, Bool, true, false, ◌==◌, Option, Some, None, if◌then◌else◌}
-use Rattle.uring_enter.specs.declared.act.Fact.{Fact}
-use Rattle.uring_enter.specs.declared.act.Fact.TheVariants.{Started, Dropped, Cancelled, Waits, WentOn, Done, Notified, Ended}
-use Rattle.uring_enter.specs.declared.act.Act.{Act}
-use Rattle.uring_enter.specs.declared.act.Act.TheVariants.{Nothing, CarryOut, End}
-use Rattle.uring_enter.specs.declared.shot.Part.{Part}
-use Rattle.uring_enter.specs.declared.shot.Part.TheVariants as part
-use Rattle.uring_enter.specs.declared.member.Entry.{Entry}
-use Rattle.uring_enter.specs.declared.posted.Completion.{Completion}
+use Rattle.uring_operations.specs.declared.requests.act.Fact.{Fact}
+use Rattle.uring_operations.specs.declared.requests.act.Fact.TheVariants.{Started, Dropped, Cancelled, Waits, WentOn, Done, Notified, Ended}
+use Rattle.uring_operations.specs.declared.requests.act.Act.{Act}
+use Rattle.uring_operations.specs.declared.requests.act.Act.TheVariants.{Nothing, CarryOut, End}
+use Rattle.uring_enter.specs.declared.completions.shot.Part.{Part}
+use Rattle.uring_enter.specs.declared.completions.shot.Part.TheVariants as part
+use Rattle.uring_operations.specs.declared.chains.member.Entry.{Entry}
+use Rattle.uring_enter.specs.declared.completions.posted.Completion.{Completion}
 use Rattle.uring_crossing.specs.declared.completion_words.CompletionWords.{CompletionWords}
 
 -- kinds count what happens, but that an operation is tried, in its order, from 0. Our own rule

@@ -1,18 +1,18 @@
 -- A call of io_uring_enter(2) in words that C can read.
 use Rattle.std.specs.Prelude.{◌≡◌, ℕ, ℤ, pos, Bool, false, ◌==◌, nat_lt, Option, Some, None, List, if◌then◌else◌}
-use Rattle.uring_enter.specs.declared.asked.Policy.{Policy}
-use Rattle.uring_enter.specs.declared.asked.Policy.TheVariants.{InOrder, Lazy, ByChoice}
-use Rattle.uring_enter.specs.declared.asked.Asked.{Asked}
-use Rattle.uring_enter.specs.declared.command.Command.{Command}
-use Rattle.uring_enter.specs.declared.command.Command.TheVariants as command
-use Rattle.uring_enter.specs.declared.reply.Sight.{Sight}
-use Rattle.uring_enter.specs.declared.reply.Reply.{Reply}
-use Rattle.uring_enter.specs.declared.reply.Reply.TheVariants as reply
-use Rattle.uring_enter.specs.declared.enter.Before.{Before}
-use Rattle.uring_enter.specs.declared.enter.Before.TheVariants as before
-use Rattle.uring_enter.specs.declared.enter.Enter.{Enter}
-use Rattle.uring_enter.specs.After.{IsAfter}
-use Rattle.uring_enter.specs.Due.{on_ring}
+use Rattle.uring_enter.specs.declared.call.asked.Policy.{Policy}
+use Rattle.uring_enter.specs.declared.call.asked.Policy.TheVariants.{InOrder, Lazy, ByChoice}
+use Rattle.uring_enter.specs.declared.call.asked.Asked.{Asked}
+use Rattle.uring_enter.specs.declared.call.command.Command.{Command}
+use Rattle.uring_enter.specs.declared.call.command.Command.TheVariants as command
+use Rattle.uring_enter.specs.declared.call.reply.Sight.{Sight}
+use Rattle.uring_enter.specs.declared.call.reply.Reply.{Reply}
+use Rattle.uring_enter.specs.declared.call.reply.Reply.TheVariants as reply
+use Rattle.uring_enter.specs.declared.call.enter.Before.{Before}
+use Rattle.uring_enter.specs.declared.call.enter.Before.TheVariants as before
+use Rattle.uring_enter.specs.declared.call.enter.Enter.{Enter}
+use Rattle.uring_enter.specs.Call.After.{IsAfter}
+use Rattle.uring_enter.specs.Call.Due.{on_ring}
 use Rattle.uring_crossing.specs.declared.enter_words.AskedWords.{AskedWords}
 use Rattle.uring_crossing.specs.declared.enter_words.CommandWords.{CommandWords}
 use Rattle.uring_crossing.specs.declared.enter_words.ReplyWords.{ReplyWords}

@@ -1,12 +1,12 @@
 -- Times and waits in words that C can read.
 use Rattle.std.specs.Prelude.{ℕ, ℤ, pos, negsuc, true, false, Option, Some, None, if◌then◌else◌}
-use Rattle.uring_enter.specs.declared.timeout.Timeout.{Timeout}
-use Rattle.uring_enter.specs.declared.timeout.Clock.{Clock}
-use Rattle.uring_enter.specs.declared.timeout.Clock.TheVariants.{Realtime, Monotonic, Boottime}
-use Rattle.uring_enter.specs.declared.wait.Wait.{Wait}
-use Rattle.uring_enter.specs.declared.wait.Wait.TheVariants.{Sleep, MoveTo, Never}
-use Rattle.uring_enter.specs.declared.wait.Woken.{Woken}
-use Rattle.uring_enter.specs.declared.wait.Woken.TheVariants.{Over, TimedOut, Other}
+use Rattle.uring_operations.specs.declared.entries.timeout.Timeout.{Timeout}
+use Rattle.uring_operations.specs.declared.entries.timeout.Clock.{Clock}
+use Rattle.uring_operations.specs.declared.entries.timeout.Clock.TheVariants.{Realtime, Monotonic, Boottime}
+use Rattle.uring_enter.specs.declared.call.wait.Wait.{Wait}
+use Rattle.uring_enter.specs.declared.call.wait.Wait.TheVariants.{Sleep, MoveTo, Never}
+use Rattle.uring_enter.specs.declared.call.wait.Woken.{Woken}
+use Rattle.uring_enter.specs.declared.call.wait.Woken.TheVariants.{Over, TimedOut, Other}
 use Rattle.uring_crossing.specs.declared.time_words.LimitWords.{LimitWords}
 use Rattle.uring_crossing.specs.declared.time_words.WaitWords.{WaitWords}
 use Rattle.uring_crossing.specs.declared.time_words.WokenWords.{WokenWords}

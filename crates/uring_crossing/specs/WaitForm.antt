@@ -1,24 +1,24 @@
 -- Whether a request has to wait, and what becomes of a try, in words that C can read.
 use Rattle.std.specs.Prelude.{ℕ, ℤ, ◌==◌, Option, Some, None, List, ◌∷◌, if◌then◌else◌}
-use Rattle.uring_enter.specs.declared.descriptor.Kind.TheVariants.{Never, AtOnce, Tried, Stream, Wrong}
-use Rattle.uring_enter.specs.declared.descriptor.Question.TheVariants.{Status, Offsets, Access}
-use Rattle.uring_enter.specs.declared.descriptor.Finding.{Finding}
-use Rattle.uring_enter.specs.declared.descriptor.Finding.TheVariants as finding
-use Rattle.uring_enter.specs.declared.ready.Wanted.TheVariants.{Count, Posting, Buffer, Readiness}
-use Rattle.uring_enter.specs.declared.ready.Look.{Look}
-use Rattle.uring_enter.specs.declared.ready.Look.TheVariants as look
-use Rattle.uring_enter.specs.declared.transfer.How.TheVariants as how
-use Rattle.uring_enter.specs.declared.sighting.Sighting.{Sighting}
-use Rattle.uring_enter.specs.declared.sighting.Sighting.TheVariants as sighting
-use Rattle.uring_enter.specs.Waiters.{Encounter, FoundWaiting}
-use Rattle.uring_enter.specs.declared.transfer.Task.{Task}
-use Rattle.uring_enter.specs.declared.transfer.Task.TheVariants.{Calls, Finds, Polls}
-use Rattle.uring_enter.specs.declared.transfer.Step.{Step}
-use Rattle.uring_enter.specs.declared.transfer.Step.TheVariants.{Does, Waits, Ends}
-use Rattle.uring_enter.specs.declared.waiting_call.Doing.{Doing}
-use Rattle.uring_enter.specs.declared.waiting_call.Doing.TheVariants as doing
-use Rattle.uring_enter.specs.declared.waiting_call.Turn.{Turn}
-use Rattle.uring_enter.specs.declared.waiting_call.Turn.TheVariants as turn
+use Rattle.uring_operations.specs.declared.files.descriptor.Kind.TheVariants.{Never, AtOnce, Tried, Stream, Wrong}
+use Rattle.uring_operations.specs.declared.files.descriptor.Question.TheVariants.{Status, Offsets, Access}
+use Rattle.uring_operations.specs.declared.files.descriptor.Finding.{Finding}
+use Rattle.uring_operations.specs.declared.files.descriptor.Finding.TheVariants as finding
+use Rattle.uring_operations.specs.declared.requests.ready.Wanted.TheVariants.{Count, Posting, Buffer, Readiness}
+use Rattle.uring_operations.specs.declared.requests.ready.Look.{Look}
+use Rattle.uring_operations.specs.declared.requests.ready.Look.TheVariants as look
+use Rattle.uring_operations.specs.declared.calls.transfer.How.TheVariants as how
+use Rattle.uring_enter.specs.declared.waiting.sighting.Sighting.{Sighting}
+use Rattle.uring_enter.specs.declared.waiting.sighting.Sighting.TheVariants as sighting
+use Rattle.uring_enter.specs.Waiting.Waiters.{Encounter, FoundWaiting}
+use Rattle.uring_operations.specs.declared.calls.transfer.Task.{Task}
+use Rattle.uring_operations.specs.declared.calls.transfer.Task.TheVariants.{Calls, Finds, Polls}
+use Rattle.uring_operations.specs.declared.calls.transfer.Step.{Step}
+use Rattle.uring_operations.specs.declared.calls.transfer.Step.TheVariants.{Does, Waits, Ends}
+use Rattle.uring_operations.specs.declared.calls.waiting_call.Doing.{Doing}
+use Rattle.uring_operations.specs.declared.calls.waiting_call.Doing.TheVariants as doing
+use Rattle.uring_operations.specs.declared.calls.waiting_call.Turn.{Turn}
+use Rattle.uring_operations.specs.declared.calls.waiting_call.Turn.TheVariants as turn
 
 -- kinds count in the order of `Kind`, from 0, and questions in the order of `Question` behind them. Our own rule
 abbrev pub word_of_finding : Finding → ℕ

@@ -3,7 +3,8 @@ ghost use Rattle.std.specs.Prelude.{◌≡◌};
 ghost use Rattle.uring_crossing.specs.CourseForm as spec;
 
 use crate::completion_words::CompletionWords;
-use uring_enter::{Act, Completion, Entry, Fact, Part};
+use uring_enter::{Completion, Part};
+use uring_operations::{Act, Entry, Fact};
 
 /// What has happened, by its kind and its result, if there is such a kind.
 pub fn fact(kind: u32, res: i32) -> Option<Fact>

@@ -2,7 +2,8 @@
 ghost use Rattle.std.specs.Prelude.{◌≡◌};
 ghost use Rattle.uring_crossing.specs.TimeForm as spec;
 
-use uring_enter::{Clock, Timeout, Wait, Woken};
+use uring_enter::{Wait, Woken};
+use uring_operations::{Clock, Timeout};
 
 /// A limit: `struct wulgach_limit` of the header.
 #[repr(C)]

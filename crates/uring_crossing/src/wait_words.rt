@@ -2,7 +2,8 @@
 ghost use Rattle.std.specs.Prelude.{◌≡◌};
 ghost use Rattle.uring_crossing.specs.WaitForm as spec;
 
-use uring_enter::{Doing, Finding, How, Kind, Look, Question, Sighting, Step, Task, Turn, Wanted};
+use uring_enter::Sighting;
+use uring_operations::{Doing, Finding, How, Kind, Look, Question, Step, Task, Turn, Wanted};
 
 /// The word of what is to be asked of a descriptor, or of what the request is on it.
 pub fn finding_word(finding: Finding) -> u32

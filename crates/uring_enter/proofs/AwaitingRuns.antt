@@ -1,7 +1,7 @@
 -- The law of the order in which requests end that a cancel waits for.
 use Rattle.std.proofs.Common.{◌≡◌, ℕ, ◌<◌, true, [], ◌∷◌, List, arith}
 use Rattle.std.proofs.lemmas.Bool.{false≢true}
-use Rattle.uring_enter.specs.Awaiting.{Look, HasSeen, HasEnded, EndsInOrder, is_run, next_of, was_seen}
+use Rattle.uring_enter.specs.Cancels.Awaiting.{Look, HasSeen, HasEnded, EndsInOrder, is_run, next_of, was_seen}
 
 -- the last bound holds for what was seen before
 bound : (log : List Look) (one : ℕ) → is_run log ≡ true → was_seen log one ≡ true → one < next_of log

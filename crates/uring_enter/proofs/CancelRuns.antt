@@ -1,10 +1,10 @@
 -- The laws of cancels.
 use Rattle.std.proofs.Common.{◌≡◌, ◌==◌, ℕ, ◌≤◌, Bool, true, false, not, ◌&&◌, ◌||◌, List, [], ◌∷◌, Option, Some, None, refl, arith, if◌then◌else◌}
 use Rattle.std.proofs.lemmas.Bool.{false≢true, true≢false}
-use Rattle.uring_enter.specs.declared.cancel.Sought.{Sought}
-use Rattle.uring_enter.specs.declared.cancel.Outstanding.{Outstanding}
-use Rattle.uring_enter.specs.Cancels.{is_of_all, fits, fits_fd, is_named, is_ever_found, is_free, is_waiting, is_none, is_meant, can_be_found, finds_any, first_of, one_more, count_of, oldest}
-use Rattle.uring_enter.specs.CancelLaws.{CancelsWhatFits, CancelsAllThatFit, CancelsTheOldest, AsksWhatMatters, AsksFileWhereItMatters, PassesOverLinked, PassesOverOthers, SearchPassesOverOthers}
+use Rattle.uring_enter.specs.declared.cancels.cancel.Sought.{Sought}
+use Rattle.uring_enter.specs.declared.cancels.cancel.Outstanding.{Outstanding}
+use Rattle.uring_enter.specs.Cancels.Cancels.{is_of_all, fits, fits_fd, is_named, is_ever_found, is_free, is_waiting, is_none, is_meant, can_be_found, finds_any, first_of, one_more, count_of, oldest}
+use Rattle.uring_enter.specs.Cancels.CancelLaws.{CancelsWhatFits, CancelsAllThatFit, CancelsTheOldest, AsksWhatMatters, AsksFileWhereItMatters, PassesOverLinked, PassesOverOthers, SearchPassesOverOthers}
 
 fits_by : (b f g : Bool) → (b && f && g) ≡ true → (f ≡ true) × (g ≡ true)
 fits_by true true true is = (refl, refl)

@@ -1,7 +1,7 @@
 -- The laws of what a call does besides, and in which order.
 use Rattle.std.proofs.Common.{◌≡◌, Bool, true, false, ◌&&◌, ◌||◌, refl}
 use Rattle.std.proofs.lemmas.Bool.{false≢true}
-use Rattle.uring_enter.specs.Duties.{LooksAfresh, HearsPipes, PassesTime, FindsFiles, KeepsNew, HoldsFiles, WatchesPipes, LetsLie, ShowsEnds, TellsReadiness, HearsApplication, ShowsFlags, TellsEventfd, are_many, ShowsAtLast, WatchesWhatIsHeld, LiesBehindPipes, RegistersAsItEnters}
+use Rattle.uring_enter.specs.GoingOn.Duties.{LooksAfresh, HearsPipes, PassesTime, FindsFiles, KeepsNew, HoldsFiles, WatchesPipes, LetsLie, ShowsEnds, TellsReadiness, HearsApplication, ShowsFlags, TellsEventfd, are_many, ShowsAtLast, WatchesWhatIsHeld, LiesBehindPipes, RegistersAsItEnters}
 
 due : (b : Bool) → b ≡ true → (b && true && true || false) ≡ true
 due true is = refl

@@ -6,8 +6,8 @@ use Rattle.std.specs.Int.{bit_at}
 use Rattle.std.specs.Int.RustNames.{bit_or}
 use Rattle.std.proofs.lemmas.Nat.Bits.{bit_at_or, bit_at-lt}
 use Rattle.std.proofs.lemmas.Bool.Decides.{nat_tests}
-use Rattle.uring_enter.specs.declared.joining.PollRow.{PollRow}
-use Rattle.uring_enter.specs.Joining as spec
+use Rattle.uring_enter.specs.declared.waiting.joining.PollRow.{PollRow}
+use Rattle.uring_enter.specs.Waiting.Joining as spec
 
 -- a row of the same descriptor in the place of another keeps the descriptor of each place
 pub same_fd : (xs : List PollRow) (i j : ℕ) (v d : PollRow) → i < length xs → v.fd ≡ (get_or xs i d).fd → (get_or (set xs i v) j d).fd ≡ (get_or xs j d).fd

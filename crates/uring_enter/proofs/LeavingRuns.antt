@@ -1,5 +1,5 @@
 -- The laws of what is left undone with a ring by a process that didn't make it.
-use Rattle.uring_enter.specs.Leaving.{LocksAgain, EndsSleep, DoesDuties, Looks, LetsGo, EndsMemory, LeavesParents, LeavesNothingOfItsOwn}
+use Rattle.uring_enter.specs.Waiting.Leaving.{LocksAgain, EndsSleep, DoesDuties, Looks, LetsGo, EndsMemory, LeavesParents, LeavesNothingOfItsOwn}
 
 pub leaves_parents : LeavesParents
 leaves_parents maker process LocksAgain is = is

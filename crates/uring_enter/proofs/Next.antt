@@ -1,14 +1,14 @@
 -- What comes next, behind some replies.
 use Rattle.std.proofs.Common.{◌≡◌, ℕ, pos, true, false, List, [], ◌∷◌, refl}
-use Rattle.uring_enter.specs.declared.asked.Asked.{Asked}
-use Rattle.uring_enter.specs.declared.command.Command.TheVariants as command
-use Rattle.uring_enter.specs.declared.enter.Before.TheVariants.{Other}
-use Rattle.uring_enter.specs.declared.reply.Sight.{Sight}
-use Rattle.uring_enter.specs.declared.reply.Reply.{Reply}
-use Rattle.uring_enter.specs.declared.reply.Reply.TheVariants.{Woken, Taken, NotTaken}
-use Rattle.uring_enter.specs.Replies.{is_enough}
-use Rattle.uring_enter.specs.Due.{hearing, ended, due, going}
-use Rattle.uring_enter.specs.After.{before_of}
+use Rattle.uring_enter.specs.declared.call.asked.Asked.{Asked}
+use Rattle.uring_enter.specs.declared.call.command.Command.TheVariants as command
+use Rattle.uring_enter.specs.declared.call.enter.Before.TheVariants.{Other}
+use Rattle.uring_enter.specs.declared.call.reply.Sight.{Sight}
+use Rattle.uring_enter.specs.declared.call.reply.Reply.{Reply}
+use Rattle.uring_enter.specs.declared.call.reply.Reply.TheVariants.{Woken, Taken, NotTaken}
+use Rattle.uring_enter.specs.Call.Replies.{is_enough}
+use Rattle.uring_enter.specs.Call.Due.{hearing, ended, due, going}
+use Rattle.uring_enter.specs.Call.After.{before_of}
 
 -- the application was heard behind anything but a sleep
 pub heard_enough : (a : Asked) (log : List Reply) (sight : Sight)

@@ -1,8 +1,8 @@
 -- The laws of what is done of a call besides its checks.
 use Rattle.std.proofs.Common.{pos, negsuc, refl}
 use Rattle.std.proofs.lemmas.Bool.{false≢true}
-use Rattle.uring_enter.specs.declared.passage.Passage.TheVariants.{Checks, IsRefused, Passes}
-use Rattle.uring_enter.specs.Passages.{HasStructure, Begins, IsMade, Returns, RefusedDoesNothing, MadeBetweenDuties}
+use Rattle.uring_enter.specs.declared.call.passage.Passage.TheVariants.{Checks, IsRefused, Passes}
+use Rattle.uring_enter.specs.Call.Passages.{HasStructure, Begins, IsMade, Returns, RefusedDoesNothing, MadeBetweenDuties}
 
 pub refused_does_nothing : RefusedDoesNothing
 refused_does_nothing flags has_ring is_extended last (pos n) step is = absurd (false≢true is)

@@ -4,10 +4,10 @@ use Rattle.std.specs.Ordering.{int_eq}
 use Rattle.std.proofs.lemmas.Bool.{and_parts}
 use Rattle.std.proofs.lemmas.Bool.Decides.{Decides-eqb, Decides-int_eq}
 use Rattle.std.proofs.lemmas.List.{map-append, length-append, length-drop, drop-map, drop-drop, drop-append-le}
-use Rattle.uring_enter.specs.declared.posted.Posted.{Posted}
-use Rattle.uring_enter.specs.declared.posted.Completion.{Completion}
-use Rattle.uring_enter.specs.Postings.{Posting, Ended, Reaped, is_of, unreaped}
-use Rattle.uring_enter.specs.PostingLaws.{IsPosting, cores, core_of, ShowsTheCores, all, gone, ShowsEachOnce}
+use Rattle.uring_enter.specs.declared.completions.posted.Posted.{Posted}
+use Rattle.uring_enter.specs.declared.completions.posted.Completion.{Completion}
+use Rattle.uring_enter.specs.Completions.Postings.{Posting, Ended, Reaped, is_of, unreaped}
+use Rattle.uring_enter.specs.Completions.PostingLaws.{IsPosting, cores, core_of, ShowsTheCores, all, gone, ShowsEachOnce}
 
 -- the core's completion of an end is what the core knows of it
 core_is : (end : Posted) (c : Completion) → is_of end c ≡ true → core_of end ≡ c

@@ -1,10 +1,10 @@
 -- The laws of what waits behind a completion that was put off.
 use Rattle.std.proofs.Common.{◌≡◌, Bool, true, false, [], ◌∷◌, refl, ap}
 use Rattle.std.proofs.lemmas.Bool.{false≢true}
-use Rattle.uring_enter.specs.declared.putting_off.Coming.TheVariants.{Submission, Posting, End}
-use Rattle.uring_enter.specs.declared.putting_off.Order.{Order}
-use Rattle.uring_enter.specs.declared.putting_off.Order.TheVariants.{Comes, PostsFirst, Waits}
-use Rattle.uring_enter.specs.PuttingOff.{PutOff, IsPosted, IsRefused, HasCome, is_put_off, is_refused, order_behind, NothingOvertakes, EndsBehindATry}
+use Rattle.uring_enter.specs.declared.going_on.putting_off.Coming.TheVariants.{Submission, Posting, End}
+use Rattle.uring_enter.specs.declared.going_on.putting_off.Order.{Order}
+use Rattle.uring_enter.specs.declared.going_on.putting_off.Order.TheVariants.{Comes, PostsFirst, Waits}
+use Rattle.uring_enter.specs.GoingOn.PuttingOff.{PutOff, IsPosted, IsRefused, HasCome, is_put_off, is_refused, order_behind, NothingOvertakes, EndsBehindATry}
 
 abbrev is_now : Order → Bool
 is_now Comes = true

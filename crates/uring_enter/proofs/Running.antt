@@ -1,15 +1,15 @@
 -- The laws of a run.
 use Rattle.std.proofs.Common.{◌≡◌, ℤ, pos, Bool, true, false, ◌&&◌, List, [], ◌∷◌, if◌then◌else◌, refl, sym, ap, ◌∙◌}
 use Rattle.std.proofs.lemmas.Bool.{and_parts}
-use Rattle.uring_enter.specs.declared.asked.Asked.{Asked}
-use Rattle.uring_enter.specs.declared.command.Command.{Command}
-use Rattle.uring_enter.specs.declared.command.Command.TheVariants as command
-use Rattle.uring_enter.specs.declared.reply.Sight.{Sight}
-use Rattle.uring_enter.specs.declared.reply.Reply.{Reply}
-use Rattle.uring_enter.specs.declared.reply.Reply.TheVariants.{Heard, WrongHead, Taken, NotTaken, WentOn, Chosen, Stuck, Woken, TimedOut, Interrupted, Endless, Failed, Passed}
-use Rattle.uring_enter.specs.Replies.{is_enough}
-use Rattle.uring_enter.specs.Due.{due, is_reply_to, ended}
-use Rattle.uring_enter.specs.Laws.{IsInVain, SleepsInVain, GivesUpInVain, SubmitsOnce}
+use Rattle.uring_enter.specs.declared.call.asked.Asked.{Asked}
+use Rattle.uring_enter.specs.declared.call.command.Command.{Command}
+use Rattle.uring_enter.specs.declared.call.command.Command.TheVariants as command
+use Rattle.uring_enter.specs.declared.call.reply.Sight.{Sight}
+use Rattle.uring_enter.specs.declared.call.reply.Reply.{Reply}
+use Rattle.uring_enter.specs.declared.call.reply.Reply.TheVariants.{Heard, WrongHead, Taken, NotTaken, WentOn, Chosen, Stuck, Woken, TimedOut, Interrupted, Endless, Failed, Passed}
+use Rattle.uring_enter.specs.Call.Replies.{is_enough}
+use Rattle.uring_enter.specs.Call.Due.{due, is_reply_to, ended}
+use Rattle.uring_enter.specs.Call.Laws.{IsInVain, SleepsInVain, GivesUpInVain, SubmitsOnce}
 use Rattle.uring_enter.proofs.Commands.{true_is_not_false, if_false, IsElse, going_else, stuck_else, stuck_unless_waiting, hearing_else}
 
 -- what can't be

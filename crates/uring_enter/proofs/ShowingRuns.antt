@@ -3,8 +3,8 @@ use Rattle.std.proofs.Common.{◌≡◌, ℕ, ◌+◌, ◌-◌, ◌*◌, ◌/◌
 use Rattle.std.proofs.lemmas.Bool.{cases_order}
 use Rattle.std.proofs.lemmas.Nat.{div-add-mod'}
 use Rattle.std.proofs.Math.Pow.{mod-mod-pow}
-use Rattle.uring_enter.specs.Showing.{Posted, Written, Reaped}
-use Rattle.uring_enter.specs.ShowingLaws.{ShowsWhatWasPosted, StandsApart}
+use Rattle.uring_enter.specs.Completions.Showing.{Posted, Written, Reaped}
+use Rattle.uring_enter.specs.Completions.ShowingLaws.{ShowsWhatWasPosted, StandsApart}
 
 pub shows_what_was_posted : ShowsWhatWasPosted
 shows_what_was_posted entries [] run = (omega arith, omega arith, omega arith)

@@ -5,8 +5,8 @@ use Rattle.std.proofs.lemmas.Bool.{eq-eqb, ne_eqb, not_from_true, not_from_false
 use Rattle.std.proofs.lemmas.List.{take_more, append_assoc}
 use Rattle.std.proofs.Math.Seq.{take-add}
 use Rattle.std.proofs.lemmas.List.Elements.{Contains-push_cases}
-use Rattle.uring_enter.specs.declared.timeout.Timeout.{Timeout}
-use Rattle.uring_enter.specs.Timeouts.{is_other, is_reached_by, HasNone, NoneIsReached, IsFirstReached}
+use Rattle.uring_operations.specs.declared.entries.timeout.Timeout.{Timeout}
+use Rattle.uring_operations.specs.Entries.Timeouts.{is_other, is_reached_by, HasNone, NoneIsReached, IsFirstReached}
 
 pub none_more : (rows : List Timeout) (i : ℕ) (d : Timeout) (number : ℕ) → i < length rows
     → HasNone number (take i rows) → ((get_or rows i d).number ≡ number → ⊥) → HasNone number (take (i + 1) rows)

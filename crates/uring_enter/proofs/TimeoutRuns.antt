@@ -4,12 +4,12 @@ use Rattle.std.specs.Prelude.{Contains, All, IsSome}
 use Rattle.std.proofs.lemmas.Bool.{eqb-true, eqb-false, ltb-false, leb-true, or_parts, not-true, not_from_false, ne_eqb, false≢true}
 use Rattle.std.proofs.lemmas.List.{length-map, get_or-map}
 use Rattle.std.proofs.lemmas.List.Elements.{All-contains, All-filter, All-push, All-map, All-weaker, All-nil, All-cons, All-contains_itself, filter_passes, Contains-get_or, Contains-push_cases, Contains-append_right}
-use Rattle.uring_enter.specs.declared.timeout.Start.{Start}
-use Rattle.uring_enter.specs.declared.timeout.Timeout.{Timeout}
-use Rattle.uring_enter.specs.Timeouts.{Event, later, time, started, running, is_other, with_expiry, ends_before, has_counted, is_over, AreApart}
-use Rattle.uring_enter.specs.Timeouts.{Started, Posted, Changed, Stopped, Clock, Slept, Passed, Ended}
+use Rattle.uring_operations.specs.declared.entries.timeout.Start.{Start}
+use Rattle.uring_operations.specs.declared.entries.timeout.Timeout.{Timeout}
+use Rattle.uring_operations.specs.Entries.Timeouts.{Event, later, time, started, running, is_other, with_expiry, ends_before, has_counted, is_over, AreApart}
+use Rattle.uring_operations.specs.Entries.Timeouts.{Started, Posted, Changed, Stopped, Clock, Slept, Passed, Ended}
 use Rattle.uring_entry.specs.Errors.{error}
-use Rattle.uring_enter.specs.TimeLaws.{IsRun, NeverGoesBack, WasGiven, EndsInTime, starts, EndsOnce, EndsAlone, RunsApart, is_virtual, PassesNoneOver}
+use Rattle.uring_enter.specs.Time.TimeLaws.{IsRun, NeverGoesBack, WasGiven, EndsInTime, starts, EndsOnce, EndsAlone, RunsApart, is_virtual, PassesNoneOver}
 
 pub never_goes_back : NeverGoesBack
 never_goes_back log (Started s) = omega arith

@@ -3,13 +3,13 @@ use Rattle.std.proofs.Common.{◌≡◌, ℕ, ◌≤◌, ◌<◌, ◌+◌, min, 
 use Rattle.std.specs.Prelude.{Contains, MatchOption, is_some}
 use Rattle.std.proofs.lemmas.Bool.{ltb-false, leb-true, leb-false, lt-ltb, or_parts, false≢true, cases_order}
 use Rattle.std.proofs.lemmas.List.{take_more_set}
-use Rattle.uring_enter.specs.declared.timeout.Timeout.{Timeout}
-use Rattle.uring_enter.specs.declared.wait.WakeSources.{WakeSources}
-use Rattle.uring_enter.specs.declared.wait.Woken.{Woken}
-use Rattle.uring_enter.specs.declared.wait.Woken.TheVariants.{TimedOut, Other}
-use Rattle.uring_enter.specs.Timeouts.{Event, Changed, later, time, posted, running, is_other, with_expiry, ends_before, IsNext, IsNextOf, is_over, outcome, NoneIsOver, IsDueOf, IsEarliest, HasNone, IsRow, EndsNone, EndsWith, AreApart}
-use Rattle.uring_enter.specs.Kept.{due_of, earliest_of, outcome_at, outcome_found}
-use Rattle.uring_enter.specs.Waits.{has_any, IsWoken, IsPassing, IsPassingBy, woken_of, passing_of}
+use Rattle.uring_operations.specs.declared.entries.timeout.Timeout.{Timeout}
+use Rattle.uring_enter.specs.declared.call.wait.WakeSources.{WakeSources}
+use Rattle.uring_enter.specs.declared.call.wait.Woken.{Woken}
+use Rattle.uring_enter.specs.declared.call.wait.Woken.TheVariants.{TimedOut, Other}
+use Rattle.uring_operations.specs.Entries.Timeouts.{Event, Changed, later, time, posted, running, is_other, with_expiry, ends_before, IsNext, IsNextOf, is_over, outcome, NoneIsOver, IsDueOf, IsEarliest, HasNone, IsRow, EndsNone, EndsWith, AreApart}
+use Rattle.uring_enter.specs.Time.Kept.{due_of, earliest_of, outcome_at, outcome_found}
+use Rattle.uring_enter.specs.Call.Waits.{has_any, IsWoken, IsPassing, IsPassingBy, woken_of, passing_of}
 
 -- none is among none
 none_among : (rows : List Timeout) (t : Timeout) → rows ≡ [] → Contains rows t → ⊥

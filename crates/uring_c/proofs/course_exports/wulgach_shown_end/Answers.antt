@@ -1,9 +1,9 @@
 use Rattle.std.proofs.Common.{List, ◌∷◌, Option, Bool, subst, ap, ◌∙◌, if◌then◌else◌}
-use Rattle.uring_enter.specs.declared.posted.Completion.{Completion}
-use Rattle.uring_enter.specs.Courses.{shown as shown_by}
-use Rattle.uring_enter.specs.Showing.{KeepsShown}
-use Rattle.uring_enter.specs.Showing.{Posted as WasPosted}
-use Rattle.uring_enter.specs.Postings.{Ended, KeepsPosted, with_res, posts}
+use Rattle.uring_enter.specs.declared.completions.posted.Completion.{Completion}
+use Rattle.uring_operations.specs.Requests.Courses.{shown as shown_by}
+use Rattle.uring_enter.specs.Completions.Showing.{KeepsShown}
+use Rattle.uring_enter.specs.Completions.Showing.{Posted as WasPosted}
+use Rattle.uring_enter.specs.Completions.Postings.{Ended, KeepsPosted, with_res, posts}
 use Rattle.uring_c.proofs.course_exports.wulgach_shown_end.Goals as goal
 
 pub returns-in-Ok-true-clause-rows : goal.returns-in-Ok-true-clause-rows

@@ -1,8 +1,8 @@
 use Rattle.std.proofs.Common.{rules, subst}
 use Rattle.std.proofs.lemmas.Int.{to_z-of_z}
 use Rattle.std.specs.Int.{w32}
-use Rattle.uring_enter.specs.Kept.{KeepsTime}
-use Rattle.uring_enter.specs.Sleeps.{behind_sleep}
+use Rattle.uring_enter.specs.Time.Kept.{KeepsTime}
+use Rattle.uring_enter.specs.Waiting.Sleeps.{behind_sleep}
 use Rattle.uring_c.proofs.sleeper_exports.wulgach_times_wake.Goals as goal
 
 pub returns : goal.returns

@@ -1,0 +1,14 @@
+use Rattle.std.proofs.Common.{sym, ◌∙◌}
+use Rattle.uring_enter.proofs.Next.{heard_enough, heard_too_few}
+use Rattle.uring_enter.proofs.call.enter.Enter.hearing.Goals as goal
+
+pub returns-then-is_enough : goal.returns-then-is_enough
+returns-then-is_enough c a log keeps before =
+    c.ended.ensures a log keeps
+    ∙ sym (heard_enough a log c.args.sight (sym c.in-Other.is ∙ before)
+    (sym (c.is_enough.ensures a log keeps) ∙ c.if-is_enough.true))
+
+pub returns-else-is_enough : goal.returns-else-is_enough
+returns-else-is_enough c a log keeps before =
+    sym (heard_too_few a log c.args.sight (sym c.in-Other.is ∙ before)
+    (sym (c.is_enough.ensures a log keeps) ∙ c.if-is_enough.false))

@@ -1,0 +1,14 @@
+use Rattle.std.proofs.Common.{length-set, arith}
+use Rattle.uring_operations.specs.Entries.Timeouts.{started, running}
+use Rattle.uring_enter.proofs.TimesKept.{started_rows}
+use Rattle.uring_enter.proofs.time.times.Times.start.Goals as goal
+
+pub returns-clause-started : goal.returns-clause-started
+returns-clause-started c log keeps = record {
+  time = keeps.time;
+  slept_until = keeps.slept_until;
+  posted = keeps.posted;
+  expired = keeps.expired;
+  within = omega (arith, length-set c.args.rows.now c.args.self.now.count c.started.result);
+  running = started_rows c.args.rows.now c.args.self.now.count c.started.result (started log c.args.start) (running log) (omega arith) keeps.running (c.started.ensures log c.args.rows.now keeps);
+}

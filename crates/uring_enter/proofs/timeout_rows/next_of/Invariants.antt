@@ -1,6 +1,0 @@
-use Rattle.std.proofs.Common.{take}
-use Rattle.uring_enter.specs.Timeouts.{IsNextOf}
-use Rattle.uring_enter.proofs.timeout_rows.next_of.Given as goal
-
-abbrev pub invariant-loop-i : goal.invariant-loop-i
-invariant-loop-i l = IsNextOf (take l.i l.rows) l.next

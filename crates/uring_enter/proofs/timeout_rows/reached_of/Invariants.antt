@@ -1,8 +1,0 @@
-use Rattle.std.proofs.Common.{◌≡◌, take, false}
-use Rattle.std.specs.Prelude.{Contains}
-use Rattle.uring_enter.specs.declared.timeout.Timeout.{Timeout}
-use Rattle.uring_enter.specs.Timeouts.{is_reached_by}
-use Rattle.uring_enter.proofs.timeout_rows.reached_of.Given as goal
-
-abbrev pub invariant-loop-i : goal.invariant-loop-i
-invariant-loop-i l = (t : Timeout) → Contains (take l.i l.rows) t → is_reached_by l.posted t ≡ false

@@ -1,7 +1,0 @@
-use Rattle.std.proofs.Common.{◌≡◌, ◌++◌, take, drop, map}
-use Rattle.uring_enter.specs.Timeouts.{with_expiry}
-use Rattle.uring_enter.proofs.timeout_rows.set_expiry.Given as goal
-
-abbrev pub invariant-loop-i : goal.invariant-loop-i
-invariant-loop-i l =
-    l.rows ≡ map (with_expiry l.number l.expiry) (take l.i l.initial.rows) ++ drop l.i l.initial.rows

@@ -1,7 +1,0 @@
-use Rattle.uring_enter.specs.Timeouts.{running}
-use Rattle.uring_enter.proofs.TimesKept.{earliest_is}
-use Rattle.uring_enter.proofs.times.Times.sleeps_until.Goals as goal
-
-pub returns : goal.returns
-returns c log keeps =
-    earliest_is (running log) c.next.result c.args.limit c.earliest_of.result (c.next.ensures log keeps) c.earliest_of.ensures

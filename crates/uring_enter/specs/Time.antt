@@ -1,0 +1,3 @@
+-- The time of a ring, and its timeouts.
+pub mod Kept
+pub mod TimeLaws

@@ -1,0 +1,45 @@
+-- How long a call sleeps at most, and what time it is behind a sleep that came to its end. Our own rules: where no descriptor is left by which another thread could wake the sleeper, it naps, and looks again.
+use Rattle.std.specs.Prelude.{◌≡◌, ◌<◌, ℕ, ℤ, pos, ◌+◌, ◌*◌, ◌-◌, Bool, ◌||◌, nat_le, min, Option, Some, None, List, ◌∷◌, if◌then◌else◌}
+use Rattle.std.specs.Ordering.{int_eq}
+use Rattle.uring_enter.specs.declared.waiting.sleeps.Span.{Span}
+use Rattle.uring_operations.specs.Entries.Timeouts.{Event, Clock, Slept, time}
+
+-- 10 milliseconds, in nanoseconds
+abbrev pub nap : ℕ
+nap = 10000000
+
+-- how much is left until then, behind this log. What is over has nothing left
+abbrev pub left : List Event → ℕ → ℕ
+left log at = at - time log
+
+-- how long a call sleeps at most that is to sleep until then: all that is left, but one that can't be woken no longer than a nap
+abbrev pub lasts_at_most : List Event → Option ℕ → Bool → Option ℕ
+lasts_at_most log None can_be_woken = if can_be_woken then None else Some nap
+lasts_at_most log (Some at) can_be_woken =
+    Some (if can_be_woken then left log at else min (left log at) nap)
+
+-- to when time moves on behind a sleep that came to its end: to then, exactly if all that was left was slept. A nap that was cut adds only what a clock says
+abbrev pub comes_to : List Event → Option ℕ → Bool → Option ℕ
+comes_to log None can_be_woken = None
+comes_to log (Some at) can_be_woken =
+    if can_be_woken || nat_le (left log at) nap then Some at else None
+
+abbrev pub behind_end : List Event → Option ℕ → List Event
+behind_end log None = log
+behind_end log (Some at) = Clock at ∷ log
+
+-- to when a sleep has come: to its end only if nothing has ended it before, which ppoll(2) says by 0. One that a descriptor, a signal or an error has ended adds only what a clock says
+abbrev pub reached : Option ℕ → ℤ → Option ℕ
+reached end came = if int_eq came (pos 0) then end else None
+
+-- what has happened behind a sleep
+abbrev pub behind_sleep : List Event → Option ℕ → ℤ → List Event
+behind_sleep log end came = behind_end log (reached end came)
+
+-- what a sleep lets pass by a clock: where time is real it is what the clock says since the ring's time began, and else what was slept is added
+abbrev pub passes : (is_real : Bool) → (origin start stop : ℕ) → Event
+passes is_real origin start stop = if is_real then Clock (stop - origin) else Slept start stop
+
+-- a time in whole seconds and what is left of it, which is less than one. nanosleep(2), struct timespec
+abbrev pub IsSpan : ℕ → Span → Type 0
+IsSpan time span = (span.seconds * 1000000000 + span.nanoseconds ≡ time) × (span.nanoseconds < 1000000000)

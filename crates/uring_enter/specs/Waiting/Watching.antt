@@ -1,0 +1,52 @@
+-- What a ring's descriptor polls for, by the requests that wait for one descriptor. epoll_ctl(2): a number that is closed and opened again is another file, which isn't polled for. That a descriptor is polled for afresh once another request waits for it is our own rule.
+use Rattle.std.specs.Prelude.{◌≡◌, ℕ, ℤ, max, Bool, true, ◌&&◌, ◌==◌, List, [], ◌∷◌, Option, Some, None, if◌then◌else◌}
+use Rattle.std.specs.Ordering.{int_eq}
+use Rattle.std.specs.Int.RustNames.{bit_or}
+use Rattle.uring_entry.specs.Errors.{error}
+use Rattle.uring_enter.specs.GoingOn.Duties.{polls_writes, polls_instance}
+use Rattle.uring_enter.specs.declared.waiting.watched.Besides.{Besides}
+use Rattle.uring_enter.specs.declared.waiting.watched.Watched.{Watched}
+use Rattle.uring_enter.specs.declared.waiting.watched.Watch.{Watch}
+use Rattle.uring_enter.specs.declared.waiting.watched.Watch.TheVariants.{Stays, Adds, Removes, Renews}
+
+pub data Waiting : Type 0 where
+  -- a request waits for these events, and began to at this count
+  Waits : ℕ → ℕ → Waiting
+
+-- the events of all
+abbrev pub events_of : List Waiting → ℕ
+events_of [] = 0
+events_of (Waits events begun ∷ others) = bit_or (events_of others) events
+
+-- when the last of them began
+abbrev pub newest_of : List Waiting → ℕ
+newest_of [] = 0
+newest_of (Waits events begun ∷ others) = max (newest_of others) begun
+
+-- glue: what is kept is that of a descriptor for which these wait
+pub record KeepsWatched (waiting : List Waiting) (w : Watched) : Type 0 where
+  pub events : w.events ≡ events_of waiting
+  pub begun : w.begun ≡ newest_of waiting
+
+-- it stays where the events are the same and nobody has begun to wait; None: nobody waits
+abbrev pub change_of : Option Watched → Option Watched → Watch
+change_of None None = Stays
+change_of None (Some after) = Adds
+change_of (Some before) None = Removes
+change_of (Some before) (Some after) =
+    if before.events == after.events && before.begun == after.begun then Stays else Renews
+
+-- a renewal that comes to -2 (ENOENT) is of a number that isn't polled for any more, since it was closed, and is another file's: that one is added
+abbrev pub adds_behind : ℤ → Bool
+adds_behind res = int_eq res (error 2)
+
+-- beside what its requests wait for, a ring's descriptor polls for what tells of writes to pipes where any are watched, as a sleep does; and for the epoll instance of those that are dormant as long as there is one, whether any are: so nothing is changed of it as requests become dormant and are roused. Our own rule
+abbrev pub polls_besides : (watched : ℕ) → (has_instance : Bool) → Besides
+polls_besides watched has_instance = record { writes = polls_writes watched; instance = has_instance }
+
+-- whoever polls the descriptor hears of what a call that sleeps would hear of, if there is an instance where any are dormant
+abbrev pub PollsWhatASleepDoes : Type 0
+PollsWhatASleepDoes = (watched dormant : ℕ) (has_instance : Bool)
+    → (polls_instance dormant ≡ true → has_instance ≡ true)
+    → (polls_writes watched ≡ true → (polls_besides watched has_instance).writes ≡ true)
+    × (polls_instance dormant ≡ true → (polls_besides watched has_instance).instance ≡ true)

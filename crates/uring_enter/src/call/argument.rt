@@ -1,0 +1,123 @@
+//! The last arguments of a call: whether they are read, and which are refused. io_uring_enter(2), IORING_ENTER_EXT_ARG.
+
+ghost use Rattle.std.specs.Prelude.{◌≡◌};
+ghost use Rattle.uring_enter.specs.Call.Arguments.{is_extended, is_read, given_by, argument_fault, mask_fault, with_fault};
+
+/// The last argument of a call, as far as it was read.
+#[repr(C)]
+#[derive(Clone, Copy, Drop)]
+pub struct Argument {
+    /// Its size, as the call gives it.
+    pub size: u64,
+
+    /// It is a structure of a mask and a time, and no mask alone. IORING_ENTER_EXT_ARG.
+    pub is_extended: bool,
+
+    /// The structure can be read.
+    pub is_readable: bool,
+
+    /// The structure gives a time.
+    pub has_time: bool,
+
+    /// The time can be read.
+    pub is_time_readable: bool,
+}
+
+/// The structure of a mask and a time, as it stands in memory: `struct io_uring_getevents_arg`.
+#[repr(C)]
+#[derive(Clone, Copy, Drop)]
+pub struct Extended {
+    /// Where the mask is.
+    pub sigmask: u64,
+
+    /// Its size.
+    pub sigmask_sz: u32,
+
+    /// Not looked at.
+    pub pad: u32,
+
+    /// Where the time is.
+    pub ts: u64,
+}
+
+/// What that gives.
+#[repr(C)]
+#[derive(Clone, Copy, Drop)]
+pub struct Given {
+    /// Where the mask is.
+    pub mask_at: u64,
+
+    /// Its size.
+    pub mask_size: u64,
+
+    /// Where the time is.
+    pub time_at: u64,
+
+    /// There is one.
+    pub has_time: bool,
+}
+
+/// What a structure of a mask and a time gives.
+pub fn given_by(extended: &Extended) -> Given
+    ensures { result ≡ given_by extended.now }
+{
+    Given {
+        mask_at: extended.sigmask,
+        mask_size: extended.sigmask_sz as u64,
+        time_at: extended.ts,
+        has_time: extended.ts != 0,
+    }
+}
+
+/// Whether the last argument of a call with these flags is a structure of a mask and a time. IORING_ENTER_EXT_ARG.
+pub fn is_extended(flags: u32) -> bool
+    ensures { result ≡ is_extended flags }
+{
+    flags & 8 != 0
+}
+
+/// Whether a call reads its last argument that is asked to submit so many entries, and whose submission came to this.
+pub fn reads_argument(gets: bool, to_submit: u32, submitted: i64) -> bool
+    ensures { result ≡ is_read gets to_submit submitted }
+{
+    gets && submitted == to_submit as i64
+}
+
+/// The fault of a call's last argument, or 0. What can't be read is asked for only where nothing before it is refused.
+pub fn argument_fault(argument: &Argument) -> i32
+    ensures { result ≡ argument_fault argument.now }
+{
+    if !argument.is_extended {
+        0
+    } else if argument.size != 24 {
+        -22
+    } else if !argument.is_readable || argument.has_time && !argument.is_time_readable {
+        -14
+    } else {
+        0
+    }
+}
+
+/// The fault of a mask of this size, or 0. It matters where the call is to sleep.
+pub fn mask_fault(size: u64, is_readable: bool) -> i32
+    ensures { result ≡ mask_fault size is_readable }
+{
+    if size != 8 {
+        -22
+    } else if is_readable {
+        0
+    } else {
+        -14
+    }
+}
+
+/// What a submission comes to that came to this, and behind which the call's argument has this fault, or 0.
+pub fn with_fault(submitted: i64, fault: i32) -> i64
+    ensures { result ≡ with_fault submitted fault }
+{
+    if submitted == 0 {
+        fault as i64
+    } else {
+        submitted
+    }
+}

@@ -1,0 +1,157 @@
+//! Requests that go on: which event has a completion of its own, and whether a registered eventfd is told of a completion.
+
+ghost use Rattle.std.specs.Prelude.{◌≡◌, List};
+ghost use Rattle.uring_enter.specs.Completions.Showing.{Change, KeepsShown};
+ghost use Rattle.uring_enter.specs.Completions.Shots.{NotifiesAtLast, TellsABufferOnce, brings, comes_of_ring, completion_flags, end_of_send, goes_on, has_room, is_behind, shot_of, tells, untold_behind};
+
+use crate::completions::posted::Posted;
+use crate::completions::showing::Shown;
+use uring_operations::{Submission, goes_on};
+
+/// What a request that goes on is.
+#[derive(Clone, Copy, Drop)]
+pub struct Shot {
+    /// It goes on at all.
+    pub is_multishot: bool,
+
+    /// It accepts connections: its results are descriptors, and may be 0.
+    pub is_accept: bool,
+
+    /// It receives messages: its results count what stands in front of the bytes.
+    pub is_of_messages: bool,
+
+    /// Of one that receives messages: there were bytes.
+    pub has_bytes: bool,
+
+    /// A poll's event comes of a ring: of an eventfd that it has told, or of what it has shown.
+    pub is_of_ring: bool,
+}
+
+impl Shown {
+    /// Whether the request of an entry, which has started as one that goes on or hasn't, and has moved so many bytes, goes on behind this result, which then has a completion of its own; else the request ends with it. The event of a poll comes of a ring, or doesn't; the ring has so many entries.
+    pub fn goes_on(
+        &self,
+        started: bool,
+        entry: &Submission,
+        done: u64,
+        is_of_ring: bool,
+        res: i32,
+        entries: u32,
+    ) -> bool
+        ensures { (log : List Change) → KeepsShown log self.now
+            → result ≡ goes_on (shot_of started entry.now done is_of_ring) res (has_room log entries) }
+    {
+        self.goes_on_as(shot_of(started, entry, done, is_of_ring), res, entries)
+    }
+
+    /// The same of a request that is this.
+    fn goes_on_as(&self, shot: Shot, res: i32, entries: u32) -> bool
+        ensures { (log : List Change) → KeepsShown log self.now
+            → result ≡ goes_on shot res (has_room log entries) }
+    {
+        let may_go_on = shot.is_multishot && !shot.is_of_ring;
+        may_go_on && brings(shot, res) && self.posted < entries as u64
+    }
+}
+
+/// What the request of an entry is that has started so, and has moved so many bytes, or whose event comes of a ring.
+fn shot_of(started: bool, entry: &Submission, done: u64, is_of_ring: bool) -> Shot
+    ensures { result ≡ shot_of started entry.now done is_of_ring }
+{
+    Shot {
+        is_multishot: started && goes_on(entry),
+        is_accept: entry.opcode == 13,
+        is_of_messages: entry.opcode == 10,
+        has_bytes: done > 0,
+        is_of_ring,
+    }
+}
+
+/// Whether what a poll finds comes of a ring: it has waited for a ring's descriptor; or it polls the eventfd of its own ring, which was told since the poll began, or since its last event.
+pub fn comes_of_ring(is_ring: bool, has_waited: bool, was_told: bool) -> bool
+    ensures { result ≡ comes_of_ring is_ring has_waited was_told }
+{
+    is_ring && has_waited || was_told
+}
+
+/// Whether a result says that something has come.
+fn brings(shot: Shot, res: i32) -> bool
+    ensures { result ≡ brings shot res }
+{
+    if res < 0 {
+        false
+    } else {
+        shot.is_accept || 0 < res && (!shot.is_of_messages || shot.has_bytes)
+    }
+}
+
+/// What a completion of a request tells of.
+#[derive(Clone, Copy, Drop)]
+pub enum Part {
+    /// Something has come, and the request goes on.
+    Event,
+
+    /// A send without copies is done. Another completion follows, once its memory is free.
+    Sent,
+
+    /// Its memory is free.
+    Notice,
+
+    /// The request ends, with a result of its operation or without.
+    Own,
+}
+
+/// The flags of a completion, where those of a provided buffer that was taken, and of which no other completion has told, are `of_buffer`, or 0.
+pub fn completion_flags(part: Part, of_buffer: u32) -> u32
+    ensures { result ≡ completion_flags part of_buffer }
+{
+    match part {
+        Part::Event => of_buffer | 2,
+        Part::Sent => 2,
+        Part::Notice => 8,
+        Part::Own => of_buffer,
+    }
+}
+
+/// The flags of a provided buffer of which no completion has told, behind one of this part, where they were `of_buffer`, or 0.
+pub fn untold_behind(part: Part, of_buffer: u32) -> u32
+    ensures { result ≡ untold_behind part of_buffer }
+{
+    match part {
+        Part::Event | Part::Own => 0,
+        Part::Sent | Part::Notice => of_buffer,
+    }
+}
+
+/// Behind an event that told of a buffer no completion of its request tells of it again.
+pub fn tells_a_buffer_once()
+    ensures { TellsABufferOnce }
+{}
+
+/// What the end of a send without copies tells of that has two completions, where the other was posted before, or is put off since memory was refused for it. io_uring_enter(2), IORING_OP_SEND_ZC; else our own rule.
+pub fn end_of_send(is_posted: bool) -> Part
+    ensures { result ≡ end_of_send is_posted }
+{
+    if is_posted { Part::Notice } else { Part::Sent }
+}
+
+/// Of the two completions of a send without copies the application sees first what it has sent, whatever is put off, and then the notice.
+pub fn notifies_at_last()
+    ensures { NotifiesAtLast }
+{}
+
+impl Posted {
+    /// Whether an eventfd is told of this completion, where it is registered for all, or only for what ends behind the call that submitted it.
+    pub fn tells(&self, is_async_alone: bool) -> bool
+        ensures { result ≡ tells self.now is_async_alone }
+    {
+        self.is_behind() || !is_async_alone
+    }
+
+    /// Whether it comes behind the call that submitted its request.
+    fn is_behind(&self) -> bool
+        ensures { result ≡ is_behind self.now }
+    {
+        self.is_message || self.call != self.ended
+    }
+}

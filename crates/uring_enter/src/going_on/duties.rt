@@ -1,0 +1,262 @@
+//! What a call does besides submitting, going on and sleeping, and in which order. A kernel does these the moment that they come; whoever keeps a ring without one does them as a call begins, sleeps and returns, and before an operation.
+
+ghost use Rattle.std.specs.Prelude.{◌≡◌};
+ghost use Rattle.uring_enter.specs.GoingOn.Duties as spec;
+ghost use Rattle.uring_enter.specs.GoingOn.Duties.{ShowsAtLast, TellsOfWhatIsShown, WatchesWhatIsHeld, LiesBehindPipes, RegistersAsItEnters, HearsBeforeItPosts};
+
+/// What is to be done at a moment of a call, in the order in which it stands here.
+#[derive(Clone, Copy, Drop)]
+pub struct Duties {
+    /// All that runs is looked at afresh.
+    pub looks_afresh: bool,
+
+    /// What was written to pipes is heard.
+    pub hears_pipes: bool,
+
+    /// The timeouts end whose time is over.
+    pub passes_time: bool,
+
+    /// Those find their files whose turn to do so hasn't come.
+    pub finds_files: bool,
+
+    /// The files of what was accepted are kept open.
+    pub keeps_new: bool,
+
+    /// And those of what runs, which may have found others since.
+    pub holds_files: bool,
+
+    /// Writes to the pipes are watched that polls wait for.
+    pub watches_pipes: bool,
+
+    /// Of many that wait for descriptors those become dormant that wait for nothing else.
+    pub lets_lie: bool,
+
+    /// What has ended is shown.
+    pub shows_ends: bool,
+
+    /// The ring's descriptor tells whether it is readable.
+    pub tells_readiness: bool,
+
+    /// What the application has reaped is heard.
+    pub hears_application: bool,
+
+    /// The word of flags says whether a call may bring something.
+    pub shows_flags: bool,
+
+    /// The registered eventfd is told of what was shown.
+    pub tells_eventfd: bool,
+}
+
+/// A ring as a call on it falls asleep or returns.
+#[repr(C)]
+#[derive(Clone, Copy, Drop)]
+pub struct Resting {
+    /// How many of the requests that run wait for descriptors.
+    pub waiting: u64,
+
+    /// How many of these are looked at in passing.
+    pub looked_at: u64,
+
+    /// Some are to find their files in their turn, which hasn't come.
+    pub has_due: bool,
+
+    /// Some run.
+    pub runs: bool,
+
+    /// Some are outstanding whose files weren't kept yet, if they have any.
+    pub has_new: bool,
+
+    /// Pipes are watched.
+    pub has_watches: bool,
+
+    /// Something has ended which isn't shown.
+    pub has_ends: bool,
+
+    /// The ring's descriptor polls.
+    pub is_polled: bool,
+}
+
+const NONE: Duties = Duties {
+    looks_afresh: false,
+    hears_pipes: false,
+    passes_time: false,
+    finds_files: false,
+    keeps_new: false,
+    holds_files: false,
+    watches_pipes: false,
+    lets_lie: false,
+    shows_ends: false,
+    tells_readiness: false,
+    hears_application: false,
+    shows_flags: false,
+    tells_eventfd: false,
+};
+
+/// As a call begins, or has slept.
+pub fn duties_at_begin(is_time_real: bool, has_slept: bool) -> Duties
+    ensures { result ≡ spec.at_begin is_time_real has_slept }
+{
+    Duties {
+        looks_afresh: true,
+        hears_pipes: true,
+        passes_time: is_time_real && !has_slept,
+        ..NONE
+    }
+}
+
+/// Before it is decided whether a call sleeps, where that is to fail with a fault or not.
+pub fn duties_before_sleep(resting: &Resting, has_fault: bool) -> Duties
+    ensures { result ≡ spec.before_sleep resting.now has_fault }
+{
+    Duties {
+        finds_files: resting.has_due,
+        keeps_new: resting.has_new,
+        holds_files: resting.runs,
+        watches_pipes: !has_fault && (resting.runs || resting.has_watches),
+        ..NONE
+    }
+}
+
+/// Where nothing can go on, in a ring whose eventfd is registered or isn't, and in which this was done since the call began or last slept, or wasn't.
+pub fn duties_when_stuck(resting: &Resting, has_eventfd: bool, has_shown: bool) -> Duties
+    ensures { result ≡ spec.when_stuck resting.now has_eventfd has_shown }
+{
+    Duties {
+        shows_ends: has_eventfd && !has_shown && resting.has_ends,
+        ..NONE
+    }
+}
+
+/// As a call falls asleep.
+pub fn duties_at_rest(resting: &Resting) -> Duties
+    ensures { result ≡ spec.at_rest resting.now }
+{
+    Duties {
+        lets_lie: resting.waiting > resting.looked_at,
+        ..duties_behind_posting(resting.has_ends, resting.is_polled)
+    }
+}
+
+/// As a call returns.
+pub fn duties_at_return(resting: &Resting) -> Duties
+    ensures { result ≡ spec.at_return resting.now }
+{
+    Duties {
+        finds_files: resting.has_due,
+        keeps_new: resting.has_new,
+        holds_files: resting.runs,
+        watches_pipes: resting.runs || resting.has_watches,
+        shows_flags: true,
+        ..duties_at_rest(resting)
+    }
+}
+
+/// As a call of io_uring_register(2) begins, which may post completions or may not.
+pub fn duties_at_register_begin(may_post: bool, is_time_real: bool) -> Duties
+    ensures { result ≡ spec.at_register_begin may_post is_time_real }
+{
+    Duties {
+        looks_afresh: may_post,
+        hears_pipes: may_post,
+        passes_time: may_post && is_time_real,
+        hears_application: may_post,
+        ..NONE
+    }
+}
+
+/// As a call of io_uring_register(2) returns, which may post completions or may not.
+pub fn duties_at_register_return(may_post: bool, resting: &Resting) -> Duties
+    ensures { result ≡ spec.at_register_return may_post resting.now }
+{
+    if may_post {
+        duties_at_return(resting)
+    } else {
+        NONE
+    }
+}
+
+/// Before a completion is posted that no operation has just ended with.
+pub fn duties_before_posting() -> Duties
+    ensures { result ≡ spec.before_posting }
+{
+    Duties {
+        hears_application: true,
+        ..NONE
+    }
+}
+
+/// Behind completions that were posted outside a call.
+pub fn duties_behind_posting(has_ends: bool, is_polled: bool) -> Duties
+    ensures { result ≡ spec.behind_posting has_ends is_polled }
+{
+    Duties {
+        shows_ends: has_ends,
+        tells_readiness: is_polled,
+        ..NONE
+    }
+}
+
+/// Behind completions that were stored into ring memory with their tail, of so many of which a registered eventfd is told.
+pub fn duties_behind_storing(told: u64) -> Duties
+    ensures { result ≡ spec.behind_storing told }
+{
+    Duties {
+        shows_flags: true,
+        tells_eventfd: told > 0,
+        ..NONE
+    }
+}
+
+/// Before the operation of this code is carried out. What is told: that something has ended which isn't shown.
+pub fn duties_before(code: u8, has_ends: bool) -> Duties
+    ensures { result ≡ spec.before code has_ends }
+{
+    Duties {
+        shows_ends: has_ends && code != 0,
+        ..duties_before_posting()
+    }
+}
+
+/// Whether a sleep polls what tells of writes to pipes, of which so many are watched.
+pub fn polls_writes(watched: u64) -> bool
+    ensures { result ≡ spec.polls_writes watched }
+{
+    watched > 0
+}
+
+/// Whether a sleep polls the epoll instance that tells of those that are dormant, of which there are so many: then the call waits for descriptors.
+pub fn polls_instance(dormant: u64) -> bool
+    ensures { result ≡ spec.polls_instance dormant }
+{
+    dormant > 0
+}
+
+/// The flags are shown behind all else that a call does as it returns.
+pub fn shows_at_last()
+    ensures { ShowsAtLast }
+{}
+
+/// Where a call watches pipes for what runs, it has kept their files before, behind those of what was accepted, and found them.
+pub fn watches_what_is_held()
+    ensures { WatchesWhatIsHeld }
+{}
+
+/// Of many that wait those become dormant behind the pipes that are watched.
+pub fn lies_behind_pipes()
+    ensures { LiesBehindPipes }
+{}
+
+/// A call of io_uring_register(2) that may post completions does what any call does as it begins, and as it returns.
+pub fn registers_as_it_enters()
+    ensures { RegistersAsItEnters }
+{}
+
+/// Whatever may post completions outside a call has heard the application before.
+pub fn hears_before_it_posts()
+    ensures { HearsBeforeItPosts }
+{}
+
+/// Whoever is woken by a registered eventfd sees the flags: they are shown before it is told.
+pub fn tells_of_what_is_shown()
+    ensures { TellsOfWhatIsShown }
+{}

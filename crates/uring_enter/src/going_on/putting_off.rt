@@ -1,0 +1,64 @@
+//! What waits behind a completion that was put off, since the core was refused memory for it. Our own rule.
+
+ghost use Rattle.std.specs.Prelude.{◌≡◌};
+ghost use Rattle.uring_enter.specs.GoingOn.PuttingOff as spec;
+ghost use Rattle.uring_enter.specs.GoingOn.PuttingOff.{NothingOvertakes, EndsBehindATry};
+
+/// What is to come in a ring.
+#[derive(Clone, Copy, Drop)]
+pub enum Coming {
+    /// Entries are submitted.
+    Submission,
+
+    /// A completion is posted that belongs to no end of a request.
+    Posting,
+
+    /// A request ends that isn't carried out any more.
+    End,
+}
+
+/// Whether it comes.
+#[derive(Clone, Copy, Drop)]
+pub enum Order {
+    /// Now.
+    Comes,
+
+    /// The core is given before what was put off.
+    PostsFirst,
+
+    /// It waits, since memory is refused still.
+    Waits,
+}
+
+/// Whether this comes now, where a completion was put off or none, and memory was refused for it again just before or wasn't.
+pub fn order_behind(what: Coming, is_put_off: bool, is_refused: bool) -> Order
+    ensures { result ≡ spec.order_behind what is_put_off is_refused }
+{
+    if !is_put_off {
+        return Order::Comes;
+    }
+    if is_refused {
+        behind_refusal(what)
+    } else {
+        Order::PostsFirst
+    }
+}
+
+fn behind_refusal(what: Coming) -> Order
+    ensures { result ≡ spec.behind_refusal what }
+{
+    match what {
+        Coming::Submission | Coming::Posting => Order::Waits,
+        Coming::End => Order::Comes,
+    }
+}
+
+/// Nothing is submitted or posted from when a completion was put off until it is posted.
+pub fn nothing_overtakes()
+    ensures { NothingOvertakes }
+{}
+
+/// A request ends meanwhile only if memory was refused once more just before.
+pub fn ends_behind_a_try()
+    ensures { EndsBehindATry }
+{}

@@ -1,0 +1,97 @@
+//! Whose ring a descriptor names, when it is looked whether rings are closed, and what a call does before it sleeps.
+
+ghost use Rattle.std.specs.Prelude.{◌≡◌};
+ghost use Rattle.uring_enter.specs.Rings.Closing as spec;
+ghost use Rattle.uring_enter.specs.Rings.Closing.{ElapsedMattersWhereAsked, SleepsBehindAll};
+
+use crate::waiting::sleeping::{Beginning, beginning_of};
+
+/// What is done before a call sleeps.
+#[derive(Clone, Copy, Drop)]
+pub enum BeforeSleep {
+    /// Rings that were closed let go what they have.
+    LetsOthersGo,
+
+    /// Its mask is read.
+    ReadsMask,
+
+    /// What is due before a sleep is done.
+    DoesDuties,
+}
+
+/// How a call goes on that is to sleep.
+#[derive(Clone, Copy, Drop)]
+pub enum SleepOnto {
+    Does(BeforeSleep),
+
+    /// Its sleep begins, or doesn't.
+    Begins(Beginning),
+}
+
+/// Of all rings it is looked whether they are closed.
+const ALL_RINGS: u32 = 0x7fff_ffff;
+
+/// Of so many in their turn.
+const A_FEW: u32 = 8;
+
+/// Whether a descriptor of this process may name a ring that was made by that one.
+pub fn may_name(maker: u32, process: u32) -> bool
+    ensures { result ≡ spec.may_name maker process }
+{
+    maker == process
+}
+
+/// Of how many rings it is looked whether they are closed before a call sleeps.
+pub fn looked_at_before_sleep() -> u32
+    ensures { result ≡ spec.looked_at_before_sleep }
+{
+    A_FEW
+}
+
+/// Of how many rings it is looked whether they are closed as a call ends: 2^31 - 1 is all. So many nanoseconds ago it was looked last.
+pub fn looked_at_behind(may_be_left: bool, rings: u32, elapsed: u64) -> u32
+    ensures { result ≡ spec.looked_at_behind may_be_left rings elapsed }
+{
+    if may_be_left {
+        ALL_RINGS
+    } else if rings >= 2 && elapsed >= 10_000_000 {
+        A_FEW
+    } else {
+        0
+    }
+}
+
+/// Whether it matters to that how long ago it was.
+pub fn asks_elapsed(may_be_left: bool, rings: u32) -> bool
+    ensures { result ≡ spec.asks_elapsed may_be_left rings }
+{
+    !may_be_left && rings >= 2
+}
+
+/// What comes next of a call that is to sleep, behind this, which has brought what may let something go on, or hasn't. `None`: at first. `fault`: that of its arguments, once its mask was read.
+pub fn next_before_sleep(last: Option<BeforeSleep>, has_brought: bool, fault: i32) -> SleepOnto
+    ensures { result ≡ spec.next_before_sleep last has_brought fault }
+{
+    match last {
+        None => SleepOnto::Does(BeforeSleep::LetsOthersGo),
+        Some(BeforeSleep::LetsOthersGo) => {
+            if has_brought {
+                SleepOnto::Begins(Beginning::Wakes)
+            } else {
+                SleepOnto::Does(BeforeSleep::ReadsMask)
+            }
+        }
+        Some(BeforeSleep::ReadsMask) => SleepOnto::Does(BeforeSleep::DoesDuties),
+        Some(BeforeSleep::DoesDuties) => SleepOnto::Begins(beginning_of(fault, has_brought)),
+    }
+}
+
+/// Where it isn't asked how long ago it was, as many are looked at whatever that is.
+pub fn elapsed_matters_where_asked()
+    ensures { ElapsedMattersWhereAsked }
+{}
+
+/// No call sleeps before all of that was done.
+pub fn sleeps_behind_all()
+    ensures { SleepsBehindAll }
+{}

@@ -1,0 +1,5 @@
+//! The time of a ring, and its timeouts.
+
+pub mod time_laws;
+pub mod timeout_rows;
+pub mod times;

@@ -1,0 +1,299 @@
+//! The time of a ring, and its timeouts.
+
+ghost use Rattle.std.specs.Prelude.{◌≡◌, ◌≤◌, ◌↔◌, length, List, [], ◌∷◌, MatchOption, true, false, IsErr, OnOk, OnErr, IfSome, None, Some, ◌&&◌, if◌then◌else◌};
+ghost use Rattle.uring_operations.specs.declared.requests.act.Fact.{Fact};
+ghost use Rattle.uring_operations.specs.Requests.Courses.{KeepsCourse, counts};
+ghost use Rattle.uring_operations.specs.Entries.Timeouts.{Event, Started, Posted, Changed, Stopped, Clock, Slept, Passed, Ended};
+ghost use Rattle.uring_operations.specs.Entries.Timeouts.{running, posted, started, enough_after, expired_with, IsNextOf, IsReachedOf, IsDueOf, IsEarliest};
+ghost use Rattle.uring_operations.specs.Entries.Timeouts.{outcome, AreApart, HasNone, IsRow, EndsNone, EndsWith};
+ghost use Rattle.uring_enter.specs.Time.Kept.{KeepsTime, due_of, earliest_of, outcome_at, outcome_found};
+
+use crate::time::timeout_rows::{next_of, reached_of, row_of, set_expiry, take_out};
+use uring_operations::{Course, Start, Timeout, is_reached_by, later};
+
+/// There is no room for another timeout. Nothing changes.
+#[derive(Clone, Copy, Drop)]
+pub struct NoRoom;
+
+/// The time of a ring, and how many timeouts run on it. Their rows are the caller's memory: the first `count` of those that each call is given.
+#[repr(C)]
+#[derive(Clone, Copy, Drop)]
+pub struct Times {
+    /// The ring's time, in nanoseconds.
+    pub time: u64,
+
+    /// Until when, by a real clock, it is known what was slept.
+    pub slept_until: u64,
+
+    /// How many completions were posted.
+    pub posted: u64,
+
+    /// How many timeouts have ended by their time or their count, but linked ones.
+    pub expired: u64,
+
+    /// How many timeouts run.
+    pub count: u64,
+}
+
+impl Times {
+    /// A ring's time begins.
+    pub fn begin() -> Times
+        ensures { (rows : List Timeout) → KeepsTime [] result rows }
+    {
+        Times {
+            time: 0,
+            slept_until: 0,
+            posted: 0,
+            expired: 0,
+            count: 0,
+        }
+    }
+
+    /// A timeout starts. `NoRoom`: there is no row for it. Nothing changes.
+    pub fn start(&mut self, rows: &mut [Timeout], start: Start) -> Result<(), NoRoom>
+        ensures started { (log : List Event) → KeepsTime log self.old rows.old
+            → OnOk result (KeepsTime (Started start ∷ log) self.new rows.new) }
+        ensures refused { IsErr result ↔ (length rows.old ≤ self.old.count) }
+        ensures kept { OnErr result ((self.new ≡ self.old) × (rows.new ≡ rows.old)) }
+    {
+        if self.count >= rows.len() as u64 {
+            return Err(NoRoom);
+        }
+        rows[self.count as usize] = self.started(start);
+        self.count += 1;
+        Ok(())
+    }
+
+    /// A timeout that starts now.
+    fn started(&self, start: Start) -> Timeout
+        ensures { (log : List Event) (rows : List Timeout) → KeepsTime log self.now rows
+            → result ≡ started log start }
+    {
+        Timeout {
+            number: start.number,
+            expiry: later(self.time, start.more),
+            enough: self.enough_after(start.count),
+            is_linked: start.is_linked,
+        }
+    }
+
+    /// How many completions will have been posted in all when a count that starts now is reached, or 0.
+    fn enough_after(&self, count: u64) -> u64
+        ensures { result ≡ enough_after self.now.posted count }
+    {
+        if count == 0 {
+            0
+        } else {
+            self.posted.saturating_add(count)
+        }
+    }
+
+    /// How many of these rows have timeouts that run.
+    fn count_in(&self, rows: &[Timeout]) -> usize
+        ensures within { result ≤ length rows.now }
+        ensures count { self.now.count ≤ length rows.now → result ≡ self.now.count }
+    {
+        (self.count as usize).min(rows.len())
+    }
+
+    /// The time of the timeout of this number is changed: it is over so much later than now, and has no count any more. Nothing changes if none runs.
+    pub fn change(&mut self, rows: &mut [Timeout], number: u64, more: u64)
+        ensures { (log : List Event) → KeepsTime log self.old rows.old
+            → KeepsTime (Changed number more ∷ log) self.new rows.new }
+    {
+        let count = self.count_in(rows);
+        set_expiry(rows, count, number, later(self.time, more));
+    }
+
+    /// The timeout of this number runs no more: it was cancelled or removed, or the request before it has ended.
+    pub fn stop(&mut self, rows: &mut [Timeout], number: u64)
+        ensures { (log : List Event) → KeepsTime log self.old rows.old
+            → KeepsTime (Stopped number ∷ log) self.new rows.new }
+    {
+        let count = self.count_in(rows);
+        self.count = take_out(rows, count, number) as u64;
+    }
+
+    /// So many completions were posted.
+    pub fn post(&mut self, count: u64)
+        ensures { (log : List Event) (rows : List Timeout) → KeepsTime log self.old rows
+            → KeepsTime (Posted count ∷ log) self.new rows }
+    {
+        self.posted = self.posted.saturating_add(count);
+    }
+
+    /// A request has ended, by this course, and its completion was posted or skipped. It counts as one that was posted, unless it is that of a timeout which its time or its count has ended.
+    pub fn count_end(&mut self, course: &Course, is_timeout: bool, is_posted: bool)
+        ensures { (facts : List Fact) (log : List Event) (rows : List Timeout) → KeepsCourse facts course.now
+            → KeepsTime log self.old rows
+            → KeepsTime (if is_posted && counts facts is_timeout then Posted 1 ∷ log else log) self.new rows }
+    {
+        let ends_itself = is_timeout && course.has_started && !course.is_cancelled;
+        if is_posted && !ends_itself {
+            self.post(1);
+        }
+    }
+
+    /// A clock says that it is so late, or a call's own limit does. Time never goes back.
+    pub fn move_to(&mut self, now: u64)
+        ensures { (log : List Event) (rows : List Timeout) → KeepsTime log self.old rows
+            → KeepsTime (Clock now ∷ log) self.new rows }
+    {
+        self.time = now.max(self.time);
+    }
+
+    /// A call has slept from then to then, by a real clock. What two calls slept at once counts once.
+    pub(crate) fn sleep(&mut self, start: u64, stop: u64)
+        ensures { (log : List Event) (rows : List Timeout) → KeepsTime log self.old rows
+            → KeepsTime (Slept start stop ∷ log) self.new rows }
+    {
+        let slept = stop.saturating_sub(start.max(self.slept_until));
+        self.time = self.time.max(later(self.time, slept));
+        self.slept_until = stop.max(self.slept_until);
+    }
+
+    /// Nothing else can go on, and time passes until this one is over.
+    pub fn pass(&mut self, timeout: Timeout)
+        ensures { (log : List Event) (rows : List Timeout) → KeepsTime log self.old rows
+            → KeepsTime (Passed timeout ∷ log) self.new rows }
+    {
+        self.time = timeout.expiry.max(self.time);
+    }
+
+    /// The one that ends next by time, if any runs.
+    pub fn next(&self, rows: &[Timeout]) -> Option<Timeout>
+        ensures { (log : List Event) → KeepsTime log self.now rows.now
+            → IsNextOf (running log) result }
+    {
+        next_of(rows, self.count_in(rows))
+    }
+
+    /// The one that ends next, if its time is over.
+    pub fn due(&self, rows: &[Timeout]) -> Option<Timeout>
+        ensures { (log : List Event) → KeepsTime log self.now rows.now → IsDueOf log result }
+    {
+        due_of(self.time, self.next(rows))
+    }
+
+    /// The one of those that run which started first of all whose count is reached, if any's is.
+    pub fn reached(&self, rows: &[Timeout]) -> Option<Timeout>
+        ensures { (log : List Event) → KeepsTime log self.now rows.now
+            → IsReachedOf (running log) (posted log) result }
+    {
+        reached_of(rows, self.count_in(rows), self.posted)
+    }
+
+    /// Until when a call may sleep that has this limit: the earliest of it and of the times at which timeouts are over.
+    pub fn sleeps_until(&self, rows: &[Timeout], limit: Option<u64>) -> Option<u64>
+        ensures { (log : List Event) → KeepsTime log self.now rows.now
+            → IsEarliest (running log) limit result }
+    {
+        earliest_of(self.next(rows), limit)
+    }
+
+    /// The row of the timeout of this number, if it runs.
+    fn row(&self, rows: &[Timeout], number: u64) -> Option<Timeout>
+        ensures { (log : List Event) → KeepsTime log self.now rows.now
+            → MatchOption result (HasNone number (running log)) (IsRow number (running log)) }
+    {
+        row_of(rows, self.count_in(rows), number)
+    }
+
+    /// Whether a timeout of this number runs.
+    pub fn runs(&self, rows: &[Timeout], number: u64) -> bool
+        ensures runs { (log : List Event) → KeepsTime log self.now rows.now → result ≡ true
+            → (t : Timeout) × IsRow number (running log) t }
+        ensures none { (log : List Event) → KeepsTime log self.now rows.now → result ≡ false
+            → HasNone number (running log) }
+    {
+        self.row(rows, number).is_some()
+    }
+
+    /// How the timeout of this number would end now: with 0 if its count is reached, else with -62 if its time is over; or it doesn't, or none of this number runs.
+    pub fn outcome(&self, rows: &[Timeout], number: u64) -> Option<i32>
+        ensures { (log : List Event) → KeepsTime log self.now rows.now → AreApart (running log)
+            → MatchOption result (EndsNone log number) (EndsWith log number) }
+    {
+        self.outcome_found(self.row(rows, number))
+    }
+
+    /// How one that was found would end now.
+    fn outcome_found(&self, found: Option<Timeout>) -> Option<i32>
+        ensures { result ≡ outcome_found self.now.posted self.now.time found }
+    {
+        match found {
+            Some(row) => self.outcome_of(row),
+            None => None,
+        }
+    }
+
+    /// How a timeout would end now.
+    fn outcome_of(&self, row: Timeout) -> Option<i32>
+        ensures { result ≡ outcome_at self.now.posted self.now.time row }
+    {
+        if is_reached_by(row, self.posted) {
+            Some(0)
+        } else if row.expiry <= self.time {
+            Some(-62)
+        } else {
+            None
+        }
+    }
+
+    /// The timeout of this number ends, with this result. `None`: none of this number runs whose count is reached or whose time is over. Nothing changes.
+    pub fn end(&mut self, rows: &mut [Timeout], number: u64) -> Option<i32>
+        ensures ended { (log : List Event) → KeepsTime log self.old rows.old
+            → IfSome result (λ res. (t : Timeout) × IsRow number (running log) t × (outcome log t ≡ Some res)
+            × KeepsTime (Ended t ∷ log) self.new rows.new) }
+        ensures none { (log : List Event) → KeepsTime log self.old rows.old → AreApart (running log)
+            → result ≡ None → EndsNone log number }
+        ensures kept { result ≡ None → (self.new ≡ self.old) × (rows.new ≡ rows.old) }
+    {
+        let row = self.row(rows, number)?;
+        let res = self.outcome_of(row)?;
+        self.let_end(rows, row);
+        Some(res)
+    }
+
+    /// A timeout ends.
+    fn let_end(&mut self, rows: &mut [Timeout], row: Timeout)
+        ensures { (log : List Event) → KeepsTime log self.old rows.old
+            → KeepsTime (Ended row ∷ log) self.new rows.new }
+    {
+        let count = self.count_in(rows);
+        self.count = take_out(rows, count, row.number) as u64;
+        self.expired = expired_with(self.expired, row.is_linked);
+    }
+}
+
+/// How many have ended, with one more.
+fn expired_with(expired: u64, is_linked: bool) -> u64
+    ensures { result ≡ expired_with expired is_linked }
+{
+    if is_linked {
+        expired
+    } else {
+        expired.saturating_add(1)
+    }
+}
+
+/// Who ends next, if its time is over then.
+pub(crate) fn due_of(now: u64, next: Option<Timeout>) -> Option<Timeout>
+    ensures { result ≡ due_of now next }
+{
+    match next {
+        Some(next) => { if next.expiry <= now { Some(next) } else { None } }
+        None => None,
+    }
+}
+
+/// The earlier of when the next one is over and of a limit.
+fn earliest_of(next: Option<Timeout>, limit: Option<u64>) -> Option<u64>
+    ensures { result ≡ earliest_of next limit }
+{
+    match (next, limit) {
+        (None, limit) => limit,
+        (Some(next), None) => Some(next.expiry),
+        (Some(next), Some(limit)) => Some(limit.min(next.expiry)),
+    }
+}

@@ -1,0 +1,103 @@
+//! How long a call sleeps at most, and what time it is behind a sleep that came to its end.
+
+ghost use Rattle.std.specs.Prelude.{◌≡◌, List, ◌∷◌};
+ghost use Rattle.uring_operations.specs.declared.entries.timeout.Timeout.{Timeout};
+ghost use Rattle.uring_operations.specs.Entries.Timeouts.{Event};
+ghost use Rattle.uring_enter.specs.Time.Kept.{KeepsTime};
+ghost use Rattle.uring_enter.specs.Waiting.Sleeps.{behind_end, behind_sleep, lasts_at_most, comes_to, passes, reached, IsSpan};
+
+use crate::time::times::Times;
+use uring_operations::left_until;
+
+/// How long a call naps that can't be woken, in nanoseconds.
+const NAP: u64 = 10_000_000;
+
+/// A time as ppoll(2) takes it: `struct timespec`.
+#[repr(C)]
+#[derive(Clone, Copy, Drop)]
+pub struct Span {
+    pub seconds: u64,
+
+    /// Fewer than a second has.
+    pub nanoseconds: u64,
+}
+
+/// So many nanoseconds as ppoll(2) takes them.
+pub fn span_of(nanoseconds: u64) -> Span
+    ensures { IsSpan nanoseconds result }
+{
+    Span {
+        seconds: nanoseconds / 1_000_000_000,
+        nanoseconds: nanoseconds % 1_000_000_000,
+    }
+}
+
+impl Times {
+    /// How long a call sleeps at most that is to sleep until then, in nanoseconds: no longer than a nap if no other thread can wake it.
+    pub fn sleeps_for(&self, until: Option<u64>, can_be_woken: bool) -> Option<u64>
+        ensures { (log : List Event) (rows : List Timeout) → KeepsTime log self.now rows
+            → result ≡ lasts_at_most log until can_be_woken }
+    {
+        match until {
+            None => { if can_be_woken { None } else { Some(NAP) } }
+            Some(at) => {
+                let left = left_until(at, self.time);
+                Some(if can_be_woken { left } else { left.min(NAP) })
+            }
+        }
+    }
+
+    /// To when time moves on behind such a sleep, where nothing has woken it. `None`: it was a nap, and only what a clock says has passed. To be asked before the sleep.
+    pub fn comes_to(&self, until: Option<u64>, can_be_woken: bool) -> Option<u64>
+        ensures { (log : List Event) (rows : List Timeout) → KeepsTime log self.now rows
+            → result ≡ comes_to log until can_be_woken }
+    {
+        match until {
+            None => None,
+            Some(at) => {
+                if can_be_woken || left_until(at, self.time) <= NAP {
+                    Some(at)
+                } else {
+                    None
+                }
+            }
+        }
+    }
+
+    /// A sleep has come to this that was to move time on to `end`: it does if nothing has ended the sleep before. `came` is ppoll's.
+    pub fn wake(&mut self, end: Option<u64>, came: i32)
+        ensures { (log : List Event) (rows : List Timeout) → KeepsTime log self.old rows
+            → KeepsTime (behind_sleep log end came) self.new rows }
+    {
+        self.come_to(reached(end, came));
+    }
+
+    /// A call has slept from then to then, by a real clock, which said `origin` as the ring's time began.
+    pub fn slept(&mut self, is_real: bool, origin: u64, start: u64, stop: u64)
+        ensures { (log : List Event) (rows : List Timeout) → KeepsTime log self.old rows
+            → KeepsTime (passes is_real origin start stop ∷ log) self.new rows }
+    {
+        if is_real {
+            self.move_to(left_until(stop, origin));
+        } else {
+            self.sleep(start, stop);
+        }
+    }
+
+    /// Time moves on to then, if it does.
+    fn come_to(&mut self, end: Option<u64>)
+        ensures { (log : List Event) (rows : List Timeout) → KeepsTime log self.old rows
+            → KeepsTime (behind_end log end) self.new rows }
+    {
+        if let Some(at) = end {
+            self.move_to(at);
+        }
+    }
+}
+
+/// To when a sleep has come that was to come to `end`, and came to this.
+fn reached(end: Option<u64>, came: i32) -> Option<u64>
+    ensures { result ≡ reached end came }
+{
+    if came == 0 { end } else { None }
+}

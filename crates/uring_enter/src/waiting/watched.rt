@@ -1,0 +1,105 @@
+//! What a ring's descriptor polls for: the descriptors that its requests wait for, each for the events of all of them. epoll_ctl(2).
+
+ghost use Rattle.std.specs.Prelude.{◌≡◌, List, [], ◌∷◌};
+ghost use Rattle.uring_enter.specs.Waiting.Watching.{Waiting, Waits, KeepsWatched, change_of, PollsWhatASleepDoes};
+ghost use Rattle.uring_enter.specs.Waiting.Watching as spec;
+
+use crate::going_on::duties::polls_writes;
+
+/// What is polled for of one descriptor.
+#[repr(C)]
+#[derive(Clone, Copy, Drop)]
+pub struct Watched {
+    /// The events of all requests that wait for it.
+    pub events: u32,
+
+    /// When the last of them began to wait, in a count of its ring that rises.
+    pub begun: u64,
+}
+
+/// What is changed of what is polled for.
+#[derive(Clone, Copy, Drop)]
+pub enum Watch {
+    /// Nothing.
+    Stays,
+
+    /// The descriptor is polled for from now on.
+    Adds,
+
+    /// It is polled for no more.
+    Removes,
+
+    /// It is polled for afresh: it may be another file by now.
+    Renews,
+}
+
+/// Whether a descriptor is added whose renewal came to this: its number was another file's. epoll_ctl(2), ENOENT.
+pub fn adds_behind(res: i32) -> bool
+    ensures { result ≡ spec.adds_behind res }
+{
+    res == -2
+}
+
+/// What a ring's descriptor polls for beside what its requests wait for.
+#[derive(Clone, Copy, Drop)]
+pub struct Besides {
+    /// What tells of writes to pipes.
+    pub writes: bool,
+
+    /// The epoll instance that tells of those that are dormant.
+    pub instance: bool,
+}
+
+impl Watched {
+    /// Nobody waits.
+    pub fn begin() -> Watched
+        ensures { KeepsWatched [] result }
+    {
+        Watched {
+            events: 0,
+            begun: 0,
+        }
+    }
+
+    /// A request waits for these events too, and began to at this count.
+    pub fn add(&mut self, events: u32, begun: u64)
+        ensures { (waiting : List Waiting) → KeepsWatched waiting self.old
+            → KeepsWatched (Waits events begun ∷ waiting) self.new }
+    {
+        self.events = self.events | events;
+        self.begun = self.begun.max(begun);
+    }
+}
+
+/// What is changed of a descriptor that was polled for so and is to be so. `None`: not at all.
+pub fn watch_of(before: Option<Watched>, after: Option<Watched>) -> Watch
+    ensures { result ≡ change_of before after }
+{
+    match (before, after) {
+        (None, None) => Watch::Stays,
+        (None, Some(_)) => Watch::Adds,
+        (Some(_), None) => Watch::Removes,
+        (Some(before), Some(after)) => {
+            if before.events == after.events && before.begun == after.begun {
+                Watch::Stays
+            } else {
+                Watch::Renews
+            }
+        }
+    }
+}
+
+/// What a ring's descriptor polls for beside what its requests wait for, where so many pipes are watched, and the ring has an epoll instance for those that are dormant, or none.
+pub fn polls_besides(watched: u64, has_instance: bool) -> Besides
+    ensures { result ≡ spec.polls_besides watched has_instance }
+{
+    Besides {
+        writes: polls_writes(watched),
+        instance: has_instance,
+    }
+}
+
+/// What a sleep polls besides, the ring's descriptor does too.
+pub fn polls_what_a_sleep_does()
+    ensures { PollsWhatASleepDoes }
+{}

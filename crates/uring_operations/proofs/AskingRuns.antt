@@ -1,0 +1,43 @@
+-- The law of what is asked of open files, and taken back.
+use Rattle.std.proofs.Common.{◌≡◌, ℕ, ◌+◌, ◌^◌, ◌<◌, Bool, true, false, not, ◌==◌, Option, Some, None, refl, sym, ap, ◌∙◌, if◌then◌else◌, arith}
+use Rattle.std.specs.Int.RustNames.{bit_and, bit_or}
+use Rattle.std.proofs.lemmas.Bool.{eqb-true, false≢true}
+use Rattle.std.proofs.lemmas.Nat.{and_comm, and_or_self, or_disjoint, or_lt, and-not}
+use Rattle.uring_operations.specs.Files.Asking.{TakesBackWhatItAsked, flags_behind}
+
+-- a bit that is set and cleared again leaves the others
+back : (flags : ℕ) → flags < 2 ^ 32 → bit_and flags 2048 ≡ 0 → bit_and (bit_or flags 2048) 4294965247 ≡ flags
+back flags below none =
+    let with_it = bit_or flags 2048 in
+    let small : 2048 < 2 ^ 32 = omega arith in
+    let is_sum : with_it ≡ flags + 2048 = or_disjoint flags 2048 none in
+    let split : bit_and 4294965247 with_it + bit_and 2048 with_it ≡ with_it = and-not 32 2048 with_it small (or_lt 32 flags 2048 below small) in
+    let is_bit : bit_and 2048 with_it ≡ 2048 = and_comm 2048 with_it ∙ and_or_self 2048 flags in
+    let left : bit_and 4294965247 with_it ≡ flags = omega (arith, split, is_bit, is_sum) in
+    and_comm with_it 4294965247 ∙ left
+
+is_set : (flags : ℕ) → (bit_and (bit_or flags 2048) 2048 == 0) ≡ false
+is_set flags = ap (λ bits. bits == 0) (and_or_self 2048 flags)
+
+behind : (flags : ℕ) → flags < 2 ^ 32 → bit_and flags 2048 ≡ 0 → flags_behind true true (bit_or flags 2048) ≡ Some flags
+behind flags below none =
+    ap (λ bits. if not bits then Some (bit_and (bit_or flags 2048) 4294965247) else None) (is_set flags)
+    ∙ ap (λ n. Some n) (back flags below none)
+
+abbrev is_none_of : Option ℕ → Bool
+is_none_of (Some flags) = false
+is_none_of None = true
+
+abbrev flags_in : Option ℕ → ℕ
+flags_in (Some flags) = flags
+flags_in None = 0
+
+taken_back : (flags asked : ℕ) (is_none : Bool) → flags < 2 ^ 32 → (bit_and flags 2048 == 0) ≡ is_none
+    → (if not (not is_none) then Some (bit_or flags 2048) else None) ≡ Some asked → flags_behind true true asked ≡ Some flags
+taken_back flags asked true below is was =
+    sym (ap (λ n. flags_behind true true n) (ap flags_in was)) ∙ behind flags below (eqb-true (bit_and flags 2048) 0 is)
+taken_back flags asked false below is was = absurd (false≢true (ap is_none_of (sym was)))
+
+pub takes_back_what_it_asked : TakesBackWhatItAsked
+takes_back_what_it_asked flags asked below =
+    (taken_back flags asked (bit_and flags 2048 == 0) below refl, λ is_known. refl)

@@ -1,0 +1,145 @@
+-- The laws of what a descriptor is asked.
+use Rattle.std.proofs.Common.{◌≡◌, Bool, true, false, not, ◌&&◌, ◌||◌, if◌then◌else◌, refl, sym, ap}
+use Rattle.std.proofs.lemmas.Bool.{false≢true, true≢false}
+use Rattle.uring_operations.specs.declared.entries.submission.Submission.{Submission}
+use Rattle.uring_operations.specs.declared.files.descriptor.Known.{Known}
+use Rattle.uring_operations.specs.declared.files.descriptor.Trial.{Trial}
+use Rattle.uring_operations.specs.declared.files.descriptor.Kind.{Kind}
+use Rattle.uring_operations.specs.declared.files.descriptor.Kind.TheVariants.{Never, AtOnce, Tried, Stream, Wrong}
+use Rattle.uring_operations.specs.declared.files.descriptor.Question.{Question}
+use Rattle.uring_operations.specs.declared.files.descriptor.Question.TheVariants.{Status, Offsets, Access}
+use Rattle.uring_operations.specs.declared.files.descriptor.Finding.{Finding}
+use Rattle.uring_operations.specs.declared.files.descriptor.Finding.TheVariants.{Asks, Is}
+use Rattle.uring_operations.specs.Entries.Needs.{is_read, is_transfer, is_of_sockets, is_splice, is_poll}
+use Rattle.uring_operations.specs.Files.Descriptors.{may_be_tried, is_tried_at_once, is_open_for, next_of, FindsTheKind, AsksOnce}
+
+abbrev kind_in : Finding → Kind
+kind_in (Is kind) = kind
+kind_in (Asks _) = Never
+
+abbrev has_kind : Finding → Bool
+has_kind (Is _) = true
+has_kind (Asks _) = false
+
+abbrev question_in : Finding → Question
+question_in (Asks question) = question
+question_in (Is _) = Status
+
+-- what is told, by the answers: `k` of offsets and `ka` of access say that these were asked
+abbrev by_access : Bool → Bool → Finding
+by_access ka w = if not ka then Asks Access else if w then Is Stream else Is Wrong
+
+abbrev by_offsets : Bool → Bool → Bool → Bool → Bool → Bool → Bool → Finding
+by_offsets i m v ko h ka w =
+    if i && m then Is Tried else
+    if not v && not ko then Asks Offsets else
+    if not v && h then Is Never else by_access ka w
+
+abbrev by_status : Bool → Bool → Bool → Finding → Finding
+by_status o x z transfer =
+    if not o then Is Never else if x then transfer else if z then Is Stream else Is Never
+
+abbrev by_entry : Bool → Bool → Bool → Bool → Finding → Finding
+by_entry a b c s later =
+    if a then Is Stream else if b then Is AtOnce else
+    if not c then Is Never else if not s then Asks Status else later
+
+by_access_is : (ka w w' : Bool) (kind : Kind) → (ka ≡ true → w ≡ w') → by_access ka w ≡ Is kind
+    → kind ≡ (if w' then Stream else Wrong)
+by_access_is false w w' kind agree is = absurd (false≢true (ap has_kind is))
+by_access_is true true true kind agree is = sym (ap kind_in is)
+by_access_is true false false kind agree is = sym (ap kind_in is)
+by_access_is true true false kind agree is = absurd (true≢false (agree refl))
+by_access_is true false true kind agree is = absurd (false≢true (agree refl))
+
+by_offsets_is : (i m v ko h h' ka w w' : Bool) (kind : Kind) → (ko ≡ true → h ≡ h') → (ka ≡ true → w ≡ w')
+    → by_offsets i m v ko h ka w ≡ Is kind
+    → kind ≡ (if i && m then Tried else if not v && h' then Never else if w' then Stream else Wrong)
+by_offsets_is true true v ko h h' ka w w' kind one two is = sym (ap kind_in is)
+by_offsets_is true false true ko h h' ka w w' kind one two is = by_access_is ka w w' kind two is
+by_offsets_is false m true ko h h' ka w w' kind one two is = by_access_is ka w w' kind two is
+by_offsets_is true false false false h h' ka w w' kind one two is = absurd (false≢true (ap has_kind is))
+by_offsets_is false m false false h h' ka w w' kind one two is = absurd (false≢true (ap has_kind is))
+by_offsets_is true false false true true true ka w w' kind one two is = sym (ap kind_in is)
+by_offsets_is false m false true true true ka w w' kind one two is = sym (ap kind_in is)
+by_offsets_is true false false true false false ka w w' kind one two is = by_access_is ka w w' kind two is
+by_offsets_is false m false true false false ka w w' kind one two is = by_access_is ka w w' kind two is
+by_offsets_is i m false true true false ka w w' kind one two is = absurd (true≢false (one refl))
+by_offsets_is i m false true false true ka w w' kind one two is = absurd (false≢true (one refl))
+
+by_status_is : (o x z i m v ko h h' ka w w' : Bool) (kind : Kind) → (ko ≡ true → h ≡ h') → (ka ≡ true → w ≡ w')
+    → by_status o x z (by_offsets i m v ko h ka w) ≡ Is kind
+    → kind ≡ (if not o then Never else if x then (if i && m then Tried else if not v && h' then Never else if w' then Stream else Wrong) else if z then Stream else Never)
+by_status_is false x z i m v ko h h' ka w w' kind one two is = sym (ap kind_in is)
+by_status_is true true z i m v ko h h' ka w w' kind one two is =
+    by_offsets_is i m v ko h h' ka w w' kind one two is
+by_status_is true false true i m v ko h h' ka w w' kind one two is = sym (ap kind_in is)
+by_status_is true false false i m v ko h h' ka w w' kind one two is = sym (ap kind_in is)
+
+-- `later` is what it is once it was asked what it is
+by_entry_is : (a b c s : Bool) (later : Finding) (kind whole : Kind) → (s ≡ true → later ≡ Is kind → kind ≡ whole)
+    → by_entry a b c s later ≡ Is kind
+    → kind ≡ (if a then Stream else if b then AtOnce else if c then whole else Never)
+by_entry_is true b c s later kind whole behind is = sym (ap kind_in is)
+by_entry_is false true c s later kind whole behind is = sym (ap kind_in is)
+by_entry_is false false false s later kind whole behind is = sym (ap kind_in is)
+by_entry_is false false true false later kind whole behind is = absurd (false≢true (ap has_kind is))
+by_entry_is false false true true later kind whole behind is = behind refl is
+
+opens_for : (reads one one' two two' : Bool) → one ≡ one' → two ≡ two'
+    → (if reads then one else two) ≡ (if reads then one' else two')
+opens_for true one one' two two' same other = same
+opens_for false one one' two two' same other = other
+
+pub finds_the_kind : FindsTheKind
+finds_the_kind e t k d kind fits is =
+    by_entry_is (is_poll e.opcode || is_splice e.opcode) (is_tried_at_once e t) (is_transfer e.opcode || is_of_sockets e.opcode) k.status _ kind _
+    (λ asked later. rw (← fits.opened asked, ← fits.file asked, ← fits.device asked, ← fits.socket asked)
+    (by_status_is k.nature.is_open (is_transfer e.opcode) k.nature.is_socket k.nature.is_file (may_be_tried e t) k.nature.is_device k.offsets k.nature.has_offsets d.has_offsets k.access (is_open_for e.opcode k.nature) (is_open_for e.opcode d) kind
+    fits.offsets (λ known. opens_for (is_read e.opcode) k.nature.can_read d.can_read k.nature.can_write d.can_write (fits.reads known) (fits.writes known)) later))
+    is
+
+-- whether a question was asked
+abbrev was : Question → Bool → Bool → Bool → Bool
+was Status s ko ka = s
+was Offsets s ko ka = ko
+was Access s ko ka = ka
+
+access_asks : (s ko ka w : Bool) (question : Question) → by_access ka w ≡ Asks question → was question s ko ka ≡ false
+access_asks s ko false w question is = sym (ap (λ told. was (question_in told) s ko false) is)
+access_asks s ko true true question is = absurd (true≢false (ap has_kind is))
+access_asks s ko true false question is = absurd (true≢false (ap has_kind is))
+
+offsets_asks : (i m v s ko h ka w : Bool) (question : Question) → by_offsets i m v ko h ka w ≡ Asks question
+    → was question s ko ka ≡ false
+offsets_asks true true v s ko h ka w question is = absurd (true≢false (ap has_kind is))
+offsets_asks true false true s ko h ka w question is = access_asks s ko ka w question is
+offsets_asks false m true s ko h ka w question is = access_asks s ko ka w question is
+offsets_asks true false false s false h ka w question is = sym (ap (λ told. was (question_in told) s false ka) is)
+offsets_asks false m false s false h ka w question is = sym (ap (λ told. was (question_in told) s false ka) is)
+offsets_asks true false false s true true ka w question is = absurd (true≢false (ap has_kind is))
+offsets_asks false m false s true true ka w question is = absurd (true≢false (ap has_kind is))
+offsets_asks true false false s true false ka w question is = access_asks s true ka w question is
+offsets_asks false m false s true false ka w question is = access_asks s true ka w question is
+
+asks : (a b c s o x z i m v ko h ka w : Bool) (question : Question)
+    → by_entry a b c s (by_status o x z (by_offsets i m v ko h ka w)) ≡ Asks question
+    → was question s ko ka ≡ false
+asks true b c s o x z i m v ko h ka w question is = absurd (true≢false (ap has_kind is))
+asks false true c s o x z i m v ko h ka w question is = absurd (true≢false (ap has_kind is))
+asks false false false s o x z i m v ko h ka w question is = absurd (true≢false (ap has_kind is))
+asks false false true false o x z i m v ko h ka w question is = sym (ap (λ told. was (question_in told) false ko ka) is)
+asks false false true true false x z i m v ko h ka w question is = absurd (true≢false (ap has_kind is))
+asks false false true true true true z i m v ko h ka w question is = offsets_asks i m v true ko h ka w question is
+asks false false true true true false true i m v ko h ka w question is = absurd (true≢false (ap has_kind is))
+asks false false true true true false false i m v ko h ka w question is = absurd (true≢false (ap has_kind is))
+
+asks_of : (e : Submission) (t : Trial) (k : Known) (question : Question) → next_of e t k ≡ Asks question
+    → was question k.status k.offsets k.access ≡ false
+asks_of e t k question is =
+    asks (is_poll e.opcode || is_splice e.opcode) (is_tried_at_once e t) (is_transfer e.opcode || is_of_sockets e.opcode) k.status k.nature.is_open (is_transfer e.opcode) k.nature.is_socket k.nature.is_file (may_be_tried e t) k.nature.is_device k.offsets k.nature.has_offsets k.access (is_open_for e.opcode k.nature) question is
+
+pub asks_once : AsksOnce
+asks_once e t k Status is = asks_of e t k Status is
+asks_once e t k Offsets is = asks_of e t k Offsets is
+asks_once e t k Access is = asks_of e t k Access is

@@ -1,0 +1,11 @@
+mod CourseRuns
+mod ReadinessRuns
+mod ChainRuns
+mod WayRuns
+mod DescriptorRuns
+mod CallTryRuns
+mod MeansRuns
+mod CancellingRuns
+mod AfreshRuns
+mod AdvanceRuns
+mod AskingRuns

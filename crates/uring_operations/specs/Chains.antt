@@ -1,0 +1,4 @@
+-- Which request is linked behind which, and which one limits another.
+pub mod Chains
+pub mod ChainLaws
+pub mod Timings

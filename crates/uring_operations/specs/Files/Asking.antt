@@ -1,0 +1,48 @@
+-- Of which descriptors it is asked, by the flags of their open files, that a call by them doesn't wait, and what is taken back of that. fcntl(2), F_SETFL, with O_NONBLOCK (2048); a kernel's ring asks its own calls alone, and no file, so the rest is our own rule.
+use Rattle.std.specs.Prelude.{◌≡◌, ℕ, ℤ, ◌<◌, ◌^◌, Bool, true, false, not, ◌&&◌, ◌||◌, ◌==◌, nat_le, Option, Some, None, if◌then◌else◌}
+use Rattle.std.specs.Ordering.{int_eq}
+use Rattle.std.specs.Int.RustNames.{bit_and, bit_or}
+use Rattle.uring_operations.specs.declared.files.asking.Locking.{Locking}
+use Rattle.uring_operations.specs.declared.files.asking.Locking.TheVariants.{Tries, Yields, Pauses, Holds, GoesWithout}
+use Rattle.uring_operations.specs.declared.files.asking.Locked.{Locked}
+use Rattle.uring_operations.specs.Entries.Clocks.{has_some}
+use Rattle.uring_entry.specs.Errors.{error}
+
+-- of how many descriptors of an operation it is asked while its call is made, which has no flag for that: of the one of ACCEPT (13) and of CONNECT (16), and of both ends of SPLICE (30) and of TEE (33), but of those that need it not. (SPLICE_F_NONBLOCK asks pipes, and these alone.) accept(2), connect(2), splice(2)
+abbrev pub asked_descriptors : ℕ → ℕ
+asked_descriptors code =
+    if code == 13 || code == 16 then 1 else
+    if code == 30 || code == 33 then 2 else 0
+
+-- whether the flags of an open file say that it isn't to wait
+abbrev pub says_not_to_wait : ℕ → Bool
+says_not_to_wait flags = has_some flags 2048
+
+-- an open file is asked unless it isn't to wait anyway, which is the application's word, or its flags aren't known: it keeps the others
+abbrev pub asked_flags : (is_known : Bool) → ℕ → Option ℕ
+asked_flags is_known flags =
+    if is_known && not (says_not_to_wait flags) then Some (bit_or flags 2048) else None
+
+-- that is taken back, where it was asked, and nobody else has taken it back: the other flags stay as whoever has set them meanwhile
+abbrev pub flags_behind : (was_asked is_known : Bool) → ℕ → Option ℕ
+flags_behind was_asked is_known flags =
+    if was_asked && is_known && says_not_to_wait flags then Some (bit_and flags 4294965247) else None
+
+-- an open file that was asked has the flags again that it had, where nobody else has changed them; and one that wasn't stays as it is
+abbrev pub TakesBackWhatItAsked : Type 0
+TakesBackWhatItAsked = (flags asked : ℕ) → flags < 2 ^ 32
+    → (asked_flags true flags ≡ Some asked → flags_behind true true asked ≡ Some flags)
+    × ((is_known : Bool) → flags_behind false is_known flags ≡ None)
+
+-- several processes that have one open file keep each other from such calls by the lock of a byte that no file has (fcntl(2), F_SETLK). Another has that lock if a try comes to -11 (EAGAIN) or -13 (EACCES). Any other error means that nobody can have it, as by the end of a pipe that can only be read: then the call is made as if it were had
+abbrev pub has_lock : ℤ → Bool
+has_lock came_to = not (int_eq came_to (error 11) || int_eq came_to (error 13))
+
+-- it is tried at once, twenty times more behind a moment for others, and then behind pauses, as often as two thousand times: whoever has it so long has been stopped, maybe. None is tried, and the call is made without, where the application has a lock on that byte, which ours would take off; and none more where another has one that means something else, as that of a whole file
+abbrev pub next_of_locking : Locked → Locking
+next_of_locking l =
+    if l.is_of_application then GoesWithout else
+    if l.tries == 0 then Tries else
+    if has_lock l.came_to then Holds else
+    if l.is_of_others || nat_le 2000 l.tries then GoesWithout else
+    if nat_le l.tries 20 then Yields else Pauses

@@ -1,0 +1,160 @@
+-- Whether an operation may have to wait for its descriptor, by what that is. io_uring_enter(2), at each operation; open(2), O_NONBLOCK; what the kernel does, but where our own rule is named.
+use Rattle.std.specs.Prelude.{◌≡◌, ◌+◌, ◌-◌, ◌^◌, ℕ, ℤ, Bool, true, false, not, ◌&&◌, ◌||◌, ◌==◌, nat_lt, nat_le, pos, codes, List, if◌then◌else◌}
+use Rattle.std.specs.Str.{bytes_eq}
+use Rattle.std.specs.Int.RustNames.{bit_and}
+use Rattle.uring_operations.specs.declared.entries.submission.Submission.{Submission}
+use Rattle.uring_operations.specs.declared.files.descriptor.Nature.{Nature}
+use Rattle.uring_operations.specs.declared.files.descriptor.Directions.{Directions}
+use Rattle.uring_operations.specs.declared.files.descriptor.Known.{Known}
+use Rattle.uring_operations.specs.declared.files.descriptor.Trial.{Trial}
+use Rattle.uring_operations.specs.declared.files.descriptor.Kind.{Kind}
+use Rattle.uring_operations.specs.declared.files.descriptor.Kind.TheVariants.{Never, AtOnce, Tried, Stream, Wrong}
+use Rattle.uring_operations.specs.declared.files.descriptor.Question.{Question}
+use Rattle.uring_operations.specs.declared.files.descriptor.Question.TheVariants.{Status, Offsets, Access}
+use Rattle.uring_operations.specs.declared.files.descriptor.Finding.{Finding}
+use Rattle.uring_operations.specs.declared.files.descriptor.Finding.TheVariants.{Asks, Is}
+use Rattle.uring_operations.specs.Entries.Clocks.{has_some}
+use Rattle.uring_operations.specs.Entries.Needs.{is_read, is_write, is_transfer, is_of_sockets, is_splice, is_poll, needs_file}
+use Rattle.uring_entry.specs.Errors.{error, is_below}
+
+-- whether a transfer may be made before its descriptor is asked whether it may have to wait: it moves something, at an offset, with no flags and no provided buffer; it wasn't tried before, and no choice rests on the answer. Our own rule
+abbrev pub may_be_tried : Submission → Trial → Bool
+may_be_tried e t =
+    is_transfer e.opcode && not (e.off == 2 ^ 64 - 1) && e.op_flags == 0 && not (has_some e.flags 32)
+    && not (t.length == 0) && not t.was_tried && not t.is_asked_before
+
+-- whether nothing at all is asked before: it is a read by the number of what was a file, which is asked not to wait
+abbrev pub is_tried_at_once : Submission → Trial → Bool
+is_tried_at_once e t = is_read e.opcode && t.was_file && may_be_tried e t
+
+-- of the access mode (O_ACCMODE, 3) O_RDONLY is 0, O_WRONLY 1 and O_RDWR 2; 3 is open for neither. open(2)
+abbrev pub directions_of : (flags : ℕ) → Directions
+directions_of flags = record {
+  can_read = bit_and flags 3 == 0 || bit_and flags 3 == 2;
+  can_write = bit_and flags 3 == 1 || bit_and flags 3 == 2;
+}
+
+-- whether a descriptor is open for a transfer's direction
+abbrev pub is_open_for : ℕ → Nature → Bool
+is_open_for code d = if is_read code then d.can_read else d.can_write
+
+-- a transfer waits on what has no offsets, as a pipe, and on a device; what isn't open for it never gets ready, and so it fails. A file never waits
+abbrev pub transfer_on : Submission → Trial → Nature → Kind
+transfer_on e t d =
+    if d.is_file && may_be_tried e t then Tried else
+    if not d.is_device && d.has_offsets then Never else
+    if is_open_for e.opcode d then Stream else Wrong
+
+-- an operation of sockets waits on a socket; on anything else it fails at once. What isn't open fails too
+abbrev pub kind_on : Submission → Trial → Nature → Kind
+kind_on e t d =
+    if not d.is_open then Never else
+    if is_transfer e.opcode then transfer_on e t d else
+    if d.is_socket then Stream else Never
+
+-- whether an operation may have to wait, on a descriptor that is this: a poll and a splice may, whatever it is, and others never do
+abbrev pub kind_of : Submission → Trial → Nature → Kind
+kind_of e t d =
+    if is_poll e.opcode || is_splice e.opcode then Stream else
+    if is_tried_at_once e t then AtOnce else
+    if is_transfer e.opcode || is_of_sockets e.opcode then kind_on e t d else Never
+
+-- what is asked next of a transfer's descriptor that is open, or what it is
+abbrev pub asks_of_transfer : Submission → Trial → Known → Finding
+asks_of_transfer e t k =
+    if k.nature.is_file && may_be_tried e t then Is Tried else
+    if not k.nature.is_device && not k.offsets then Asks Offsets else
+    if not k.nature.is_device && k.nature.has_offsets then Is Never else
+    if not k.access then Asks Access else
+    if is_open_for e.opcode k.nature then Is Stream else Is Wrong
+
+-- the same of a descriptor of which it was asked what it is
+abbrev pub asks_behind_status : Submission → Trial → Known → Finding
+asks_behind_status e t k =
+    if not k.nature.is_open then Is Never else
+    if is_transfer e.opcode then asks_of_transfer e t k else
+    if k.nature.is_socket then Is Stream else Is Never
+
+-- what is asked next, or what the request is: nothing is asked that doesn't matter. Our own rule
+abbrev pub next_of : Submission → Trial → Known → Finding
+next_of e t k =
+    if is_poll e.opcode || is_splice e.opcode then Is Stream else
+    if is_tried_at_once e t then Is AtOnce else
+    if not (is_transfer e.opcode || is_of_sockets e.opcode) then Is Never else
+    if not k.status then Asks Status else asks_behind_status e t k
+
+-- what was asked of a descriptor is what it is
+pub record Fits (k : Known) (d : Nature) : Type 0 where
+  pub opened : k.status ≡ true → k.nature.is_open ≡ d.is_open
+  pub file : k.status ≡ true → k.nature.is_file ≡ d.is_file
+  pub device : k.status ≡ true → k.nature.is_device ≡ d.is_device
+  pub socket : k.status ≡ true → k.nature.is_socket ≡ d.is_socket
+  pub offsets : k.offsets ≡ true → k.nature.has_offsets ≡ d.has_offsets
+  pub reads : k.access ≡ true → k.nature.can_read ≡ d.can_read
+  pub writes : k.access ≡ true → k.nature.can_write ≡ d.can_write
+
+-- whatever was asked before, what is told is what the request is by all that its descriptor is
+abbrev pub FindsTheKind : Type 0
+FindsTheKind = (e : Submission) (t : Trial) (k : Known) (d : Nature) (kind : Kind) → Fits k d
+    → next_of e t k ≡ Is kind → kind ≡ kind_of e t d
+
+abbrev pub was_asked : Question → Known → Bool
+was_asked Status k = k.status
+was_asked Offsets k = k.offsets
+was_asked Access k = k.access
+
+-- nothing is asked twice
+abbrev pub AsksOnce : Type 0
+AsksOnce = (e : Submission) (t : Trial) (k : Known) (question : Question)
+    → next_of e t k ≡ Asks question → was_asked question k ≡ false
+
+-- with what a request ends whose buffer has this fault, where its descriptor is this: that isn't open counts first, and then that it is no socket
+abbrev pub buffer_fault : Submission → Nature → ℤ → ℤ
+buffer_fault e d why =
+    if needs_file e.opcode && not d.is_open then error 9 else
+    if is_of_sockets e.opcode && not d.is_socket then error 88 else why
+
+-- with what a request ends that finds no buffer, provided or registered, where its descriptor is this: what isn't open counts first, -9 (EBADF), and then what is no socket, of an operation of sockets, -88 (ENOTSOCK); else it is -105 (ENOBUFS) of a provided buffer and -14 (EFAULT) of a registered one. What Linux 6.18 was seen to do
+abbrev pub no_buffer_fault : Submission → Nature → ℤ
+no_buffer_fault e d = buffer_fault e d (if has_some e.flags 32 then error 105 else error 14)
+
+-- whether it matters to what it ends with that had this fault as it started, whether its group has a buffer: of one that takes a provided buffer, whatever the fault, as -9 (EBADF) of a descriptor that is open in the wrong direction
+abbrev pub fault_asks_buffer : Submission → ℤ → Bool
+fault_asks_buffer e fault = has_some e.flags 32 && is_below fault
+
+-- what it ends with that had this fault as it started: that it finds no buffer counts before that. What Linux 6.18 was seen to do
+abbrev pub ends_at_start : Submission → ℤ → (has_buffer : Bool) → Nature → ℤ
+ends_at_start e fault has_buffer d =
+    if fault_asks_buffer e fault && not has_buffer then no_buffer_fault e d else fault
+
+-- what gives and takes 8 bytes at once, by the name of its descriptor in /proc: an eventfd, or a timerfd. eventfd(2), timerfd_create(2); proc(5)
+abbrev pub is_eventfd_name : List ℕ → Bool
+is_eventfd_name name = bytes_eq name (codes "anon_inode:[eventfd]")
+
+abbrev pub is_counter_name : List ℕ → Bool
+is_counter_name name = is_eventfd_name name || bytes_eq name (codes "anon_inode:[timerfd]")
+
+-- a transfer that moves fewer than 8 bytes; but a write of none is carried out, and writes none. What Linux 6.18 was seen to do
+abbrev pub is_too_short : Submission → ℕ → Bool
+is_too_short e length = nat_lt length 8 && not (length == 0 && is_write e.opcode) && not (has_some e.flags 32)
+
+-- whether it is asked for its name: only one that is too short matters to it, and only what is no file of any type counts
+abbrev pub asks_counter : Submission → ℕ → Nature → Bool
+asks_counter e length d = is_transfer e.opcode && not d.has_type && is_too_short e length
+
+-- what has no offsets, as a pipe, a socket or an eventfd: bytes are moved there at none. (of a device it isn't asked)
+abbrev pub passes_offset_over : Nature → Bool
+passes_offset_over d = d.is_open && not (d.is_file || d.is_device || d.has_offsets)
+
+-- the fault of an offset all the same: -22 (EINVAL) of one from which the bytes would go past the last that 63 bits have; and -29 (ESPIPE) of a socket's, but 0. What Linux 6.18 was seen to do; of a named pipe, and a negative offset, it first waits until it is ready
+abbrev pub offset_fault : (offset length : ℕ) → (is_socket : Bool) → ℤ
+offset_fault offset length is_socket =
+    if nat_le (2 ^ 63) (offset + length) then error 22 else
+    if is_socket && not (offset == 0) then error 29 else pos 0
+
+-- with what a transfer fails as it starts, though its descriptor might have to be waited for: -22 (EINVAL) of one that is too short for what counts (eventfd(2), timerfd_create(2)), and else by its offset, which is none where it is 2^64 - 1. 0: it doesn't
+abbrev pub start_fault : Submission → ℕ → Nature → ℤ
+start_fault e length d =
+    if not (is_transfer e.opcode) then pos 0 else
+    if d.is_counter && is_too_short e length then error 22 else
+    if passes_offset_over d && not (e.off == 2 ^ 64 - 1) then offset_fault e.off length d.is_socket else pos 0

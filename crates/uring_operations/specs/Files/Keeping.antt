@@ -1,0 +1,46 @@
+-- What a request's file is kept for, and what others hear of its end. Our own rules, but where it is said what a kernel does: there a request has its file from the moment in which it begins, and each write and each end is told as it comes.
+use Rattle.std.specs.Prelude.{◌≡◌, ℕ, ℤ, Bool, true, false, not, ◌&&◌, ◌||◌, nat_lt, Option, Some, None}
+use Rattle.std.specs.Ordering.{int_eq}
+use Rattle.uring_operations.specs.declared.requests.ready.Standing.{Standing}
+
+-- whether a request keeps its file before a close is carried out: it was accepted before that, so that a kernel would have begun it, and is on the descriptor that is closed
+abbrev pub keeps_before_close : (number : ℕ) → (fd : ℤ) → (closing : ℕ) → (closed : ℤ) → Bool
+keeps_before_close number fd closing closed = nat_lt number closing && int_eq fd closed
+
+-- whether a request is given the copy of its file that was made for another right before: that one's was copied, and by the same number, which is one file's while copies are made one right behind the other; and it hasn't to wait for its descriptor. Who waits has a copy of his own, by which an epoll instance tells of him alone
+abbrev pub shares_copy : Standing → (fd : ℤ) → (copied : Option ℤ) → Bool
+shares_copy s fd None = false
+shares_copy s fd (Some other) = int_eq other fd && not s.is_stream
+
+-- whether the end of a request may have closed the last descriptor of a file that it has kept, by which others can go on, as who reads the other end of a pipe: others run, it has closed one, and no other of the application's is known to be open on the file. That of a slot may be gone, and the number that its entry names may be another file's by now
+abbrev pub may_close_last : (others : ℕ) → (was_closed has_file is_of_slot is_same : Bool) → Bool
+may_close_last others was_closed has_file is_of_slot is_same =
+    nat_lt 0 others && was_closed && has_file && (is_of_slot || not is_same)
+
+-- whether the number is another file's is asked where it matters alone
+abbrev pub AsksWhereItMatters : Type 0
+AsksWhereItMatters = (others : ℕ) (was_closed has_file is_same : Bool)
+    → (may_close_last 0 was_closed has_file false is_same ≡ false)
+    × (may_close_last others was_closed has_file true true ≡ may_close_last others was_closed has_file true false)
+
+-- whether a pipe counts as written to behind an event: it tells of a write to that pipe, or that events were dropped, among which there may have been such a one
+abbrev pub counts_as_written : (is_dropped is_write is_own : Bool) → Bool
+counts_as_written is_dropped is_write is_own = is_dropped || is_write && is_own
+
+-- whether whoever polls a ring's descriptor is told anew: it has become readable, or isn't any more; or it is readable still, more was posted since it was told last, and somebody may wait for an edge of it (epoll(7), EPOLLET), which a kernel gives for each completion: another thread or process, or this one between its calls. That nobody does is for who runs the program to say
+abbrev pub tells_anew : (was_readable is_readable has_posted may_wait_for_edges : Bool) → Bool
+tells_anew was_readable is_readable has_posted may_wait_for_edges =
+    (is_readable && not was_readable) || (was_readable && not is_readable)
+    || is_readable && has_posted && may_wait_for_edges
+
+-- whether it is asked, as a copy of a file's descriptor is to be closed, if the process has locks on the file: it is a regular one, as almost all are that have any. Then it is asked of each copy that has stayed so far too, and those are closed that needn't stay any more
+abbrev pub asks_locks : (is_regular : Bool) → Bool
+asks_locks is_regular = is_regular
+
+-- so many copies stay at most
+abbrev pub most_left : ℕ
+most_left = 256
+
+-- whether a copy of a file's descriptor stays open that nobody needs, beside so many others: the process has locks on the file, which it would lose with the first descriptor that it closes (fcntl(2)); a kernel's ring has no descriptor of it
+abbrev pub stays_open : (is_locked : Bool) → (others : ℕ) → Bool
+stays_open is_locked others = is_locked && nat_lt others most_left

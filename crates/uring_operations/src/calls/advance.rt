@@ -1,0 +1,53 @@
+//! Which bytes of a message's vectors are next, behind a part of them. readv(2), `struct iovec`; recv(2), MSG_WAITALL.
+
+ghost use Rattle.std.specs.Prelude.{◌≡◌, ◌+◌, ◌-◌, ◌^◌, ◌<◌};
+ghost use Rattle.uring_operations.specs.Calls.Advances as spec;
+ghost use Rattle.uring_operations.specs.Calls.Advances.{LeavesWhatIsBehind};
+
+/// A vector: `struct iovec`.
+#[repr(C)]
+#[derive(Clone, Copy, Drop)]
+pub struct Vector {
+    /// Where its bytes stand,
+    pub from: u64,
+
+    /// and how many there are.
+    pub size: u64,
+}
+
+/// What is left behind a part.
+#[repr(C)]
+#[derive(Clone, Copy, Drop)]
+pub struct Rest {
+    /// Of a vector,
+    pub vector: Vector,
+
+    /// and of the bytes that were moved, for the vectors behind that.
+    pub moved: u64,
+}
+
+/// How many bytes a call of a message has moved that came to this.
+pub fn moved_by(came_to: i32) -> u64
+    ensures { result ≡ spec.moved_by came_to }
+{
+    if came_to < 0 { 0 } else { came_to as u64 }
+}
+
+/// What is left of a vector, of which and of those behind it so many bytes were moved. It ends in a memory of 64 bits.
+pub fn rest_of(vector: &Vector, moved: u64) -> Rest
+    ensures { vector.now.from + vector.now.size < 2 ^ 64 → result ≡ spec.rest_of vector.now moved }
+{
+    let part = moved.min(vector.size);
+    Rest {
+        vector: Vector {
+            from: vector.from.saturating_add(part),
+            size: vector.size - part,
+        },
+        moved: moved - part,
+    }
+}
+
+/// Where each vector is moved on in turn, the bytes that are left are those behind the ones that were moved.
+pub fn leaves_what_is_behind()
+    ensures { LeavesWhatIsBehind }
+{}

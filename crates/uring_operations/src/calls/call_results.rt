@@ -1,0 +1,79 @@
+//! What a request makes of the result of a system call, where that is more than the result: a connect that has begun, a message that was received, a file that was put into a slot, a socket that was asked what it is.
+
+ghost use Rattle.std.specs.Prelude.{◌≡◌};
+ghost use Rattle.uring_operations.specs.Calls.CallResults as spec;
+
+use crate::calls::waiting_call::is_asked;
+use crate::entries::needs::{goes_on, is_read, is_receive};
+use crate::entries::no_op::signed;
+use crate::entries::submission::Submission;
+
+/// Whether a connect that came to this goes on without its call: it isn't made again.
+pub fn has_begun(came_to: i32) -> bool
+    ensures { result ≡ spec.has_begun came_to }
+{
+    came_to == -115
+}
+
+/// Whether what belongs to a message, its sizes and flags, is told behind a call of this entry that came to this.
+pub fn tells_message(entry: &Submission, came_to: i32) -> bool
+    ensures { result ≡ spec.tells_message entry.now came_to }
+{
+    entry.opcode == 10 && came_to >= 0
+}
+
+/// What a call ends with that came to this, and behind which that could be told, or had not to be; or couldn't.
+pub fn told_result(came_to: i32, is_told: bool) -> i32
+    ensures { result ≡ spec.told_result came_to is_told }
+{
+    if is_told { came_to } else { -14 }
+}
+
+/// Whether it matters behind a call of this entry that came to this whether its socket was shut down for reading.
+pub fn asks_shut(entry: &Submission, came_to: i32) -> bool
+    ensures { result ≡ spec.asks_shut entry.now came_to }
+{
+    if came_to != -11 || goes_on(entry) {
+        false
+    } else {
+        is_receive(entry.opcode) && !is_asked(entry)
+            || is_read(entry.opcode) && entry.op_flags & 8 == 0
+    }
+}
+
+/// What a call of this entry counts as that came to this, where its socket was shut down for reading or wasn't, and its descriptor isn't to wait or is.
+pub fn shut_result(entry: &Submission, came_to: i32, is_shut: bool, isnt_to_wait: bool) -> i32
+    ensures { result ≡ spec.shut_result entry.now came_to is_shut isnt_to_wait }
+{
+    let is_end = is_shut && (!isnt_to_wait || entry.opcode == 27);
+    if came_to == -11 && is_end { 0 } else { came_to }
+}
+
+/// What a file ends with that was put into this slot, where its entry asked for that one or for any.
+pub fn placed_result(asked: u32, slot: u32) -> i32
+    ensures { result ≡ spec.placed_result asked slot }
+{
+    if asked == 0xffff_ffff {
+        signed(slot)
+    } else {
+        0
+    }
+}
+
+/// What the operation of an entry ends with that has moved so many bytes, and has put so many into its buffer, with what stands in front of them.
+pub fn done_result(entry: &Submission, done: u64, filled: u64) -> i32
+    ensures { result ≡ spec.done_result entry.now done filled }
+{
+    if entry.opcode == 10 && entry.ioprio & 2 != 0 {
+        filled.min(0x7fff_ffff) as i32
+    } else {
+        done.min(0x7fff_ffff) as i32
+    }
+}
+
+/// Whether a socket of this type is a stream: a receive from it may come in parts.
+pub fn is_stream_type(kind: u32) -> bool
+    ensures { result ≡ spec.is_stream_type kind }
+{
+    kind == 1 || kind == 5
+}

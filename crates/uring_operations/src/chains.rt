@@ -1,0 +1,5 @@
+//! Which request is linked behind which, and which one limits another.
+
+pub mod chain_laws;
+pub mod member;
+pub mod timing;

@@ -1,0 +1,9 @@
+//! The files of a request: what they are, how they are opened, and how long they are kept.
+
+pub mod asking;
+pub mod descriptor;
+pub mod keeping;
+pub mod logging;
+pub mod openness;
+pub mod pipe_open;
+pub mod syncing;

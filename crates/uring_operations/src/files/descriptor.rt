@@ -1,0 +1,336 @@
+//! Whether an operation may have to wait for its descriptor, by what that is; and what is asked of it before. io_uring_enter(2), at each operation.
+
+ghost use Rattle.std.specs.Prelude.{◌≡◌};
+ghost use Rattle.uring_operations.specs.Files.Descriptors as spec;
+ghost use Rattle.uring_operations.specs.Files.Descriptors.{AsksOnce, FindsTheKind};
+
+use crate::entries::needs::{is_of_sockets, is_read, is_splice, is_transfer, is_write, needs_file};
+use crate::entries::submission::Submission;
+
+/// What a descriptor is.
+#[repr(C)]
+#[derive(Clone, Copy, Drop)]
+pub struct Nature {
+    /// There is such a descriptor.
+    pub is_open: bool,
+
+    /// It is a regular file.
+    pub is_file: bool,
+
+    /// It is a character device.
+    pub is_device: bool,
+
+    pub is_socket: bool,
+
+    /// It can be read or written at an offset.
+    pub has_offsets: bool,
+
+    /// It is open for reading.
+    pub can_read: bool,
+
+    /// It is open for writing.
+    pub can_write: bool,
+
+    /// It counts, and so gives and takes 8 bytes at once: an eventfd, or a timerfd.
+    pub is_counter: bool,
+
+    /// It has a type of file, as a pipe and a socket too have one.
+    pub has_type: bool,
+}
+
+/// The directions of a descriptor.
+#[repr(C)]
+#[derive(Clone, Copy, Drop)]
+pub struct Directions {
+    /// It is open for reading.
+    pub can_read: bool,
+
+    /// It is open for writing.
+    pub can_write: bool,
+}
+
+/// What is known of a descriptor, as far as it was asked.
+#[repr(C)]
+#[derive(Clone, Copy, Drop)]
+pub struct Known {
+    /// It was asked what it is: a file, a device, a socket, or nothing that is open.
+    pub status: bool,
+
+    /// It was asked whether it has offsets.
+    pub offsets: bool,
+
+    /// It was asked for what it is open.
+    pub access: bool,
+
+    pub nature: Nature,
+}
+
+/// Whether a request may be tried before its descriptor is asked whether it may have to wait.
+#[repr(C)]
+#[derive(Clone, Copy, Drop)]
+pub struct Trial {
+    /// How many bytes its vectors have.
+    pub length: u64,
+
+    /// It was tried before.
+    pub was_tried: bool,
+
+    /// Its descriptor's number was that of a file that could be asked not to wait, when that was last asked.
+    pub was_file: bool,
+
+    /// A choice rests on whether it may have to wait.
+    pub is_asked_before: bool,
+}
+
+/// What a request is on its descriptor.
+#[derive(Clone, Copy, Drop)]
+pub enum Kind {
+    /// It never has to wait.
+    Never,
+
+    /// It is made at once, asked not to wait, before its descriptor is asked anything.
+    AtOnce,
+
+    /// Its descriptor is a file: it is made at its offset, before more is asked.
+    Tried,
+
+    /// It may have to wait.
+    Stream,
+
+    /// Its descriptor isn't open for it: it fails.
+    Wrong,
+}
+
+/// What a descriptor is asked.
+#[derive(Clone, Copy, Drop)]
+pub enum Question {
+    /// What it is.
+    Status,
+
+    /// Whether it has offsets.
+    Offsets,
+
+    /// For what it is open.
+    Access,
+}
+
+/// What is to be asked, or what was found.
+#[derive(Clone, Copy, Drop)]
+pub enum Finding {
+    Asks(Question),
+
+    Is(Kind),
+}
+
+/// What is to be asked next of the descriptor of an entry's request, or what the request is.
+pub fn next_finding(entry: &Submission, trial: &Trial, known: &Known) -> Finding
+    ensures { result ≡ spec.next_of entry.now trial.now known.now }
+{
+    if entry.opcode == 6 || is_splice(entry.opcode) {
+        return Finding::Is(Kind::Stream);
+    }
+    if is_tried_at_once(entry, trial) {
+        return Finding::Is(Kind::AtOnce);
+    }
+    if !is_transfer(entry.opcode) && !is_of_sockets(entry.opcode) {
+        return Finding::Is(Kind::Never);
+    }
+    if known.status {
+        behind_status(entry, trial, known)
+    } else {
+        Finding::Asks(Question::Status)
+    }
+}
+
+/// Whether a transfer may be made before its descriptor is asked whether it may have to wait.
+fn may_be_tried(entry: &Submission, trial: &Trial) -> bool
+    ensures { result ≡ spec.may_be_tried entry.now trial.now }
+{
+    let is_plain = entry.off != u64::MAX && entry.op_flags == 0 && entry.flags & 32 == 0;
+    let is_asked = trial.length == 0 || trial.was_tried || trial.is_asked_before;
+    is_transfer(entry.opcode) && is_plain && !is_asked
+}
+
+fn is_tried_at_once(entry: &Submission, trial: &Trial) -> bool
+    ensures { result ≡ spec.is_tried_at_once entry.now trial.now }
+{
+    trial.was_file && is_read(entry.opcode) && may_be_tried(entry, trial)
+}
+
+/// What is to be asked of a descriptor of which it is known what it is.
+fn behind_status(entry: &Submission, trial: &Trial, known: &Known) -> Finding
+    ensures { result ≡ spec.asks_behind_status entry.now trial.now known.now }
+{
+    if !known.nature.is_open {
+        Finding::Is(Kind::Never)
+    } else if is_transfer(entry.opcode) {
+        of_transfer(entry, trial, known)
+    } else if known.nature.is_socket {
+        Finding::Is(Kind::Stream)
+    } else {
+        Finding::Is(Kind::Never)
+    }
+}
+
+/// What is to be asked of the descriptor of a transfer, which is open.
+fn of_transfer(entry: &Submission, trial: &Trial, known: &Known) -> Finding
+    ensures { result ≡ spec.asks_of_transfer entry.now trial.now known.now }
+{
+    let nature = known.nature;
+    if nature.is_file && may_be_tried(entry, trial) {
+        Finding::Is(Kind::Tried)
+    } else if !nature.is_device && !known.offsets {
+        Finding::Asks(Question::Offsets)
+    } else if !nature.is_device && nature.has_offsets {
+        Finding::Is(Kind::Never)
+    } else if !known.access {
+        Finding::Asks(Question::Access)
+    } else if is_open_for(entry.opcode, &nature) {
+        Finding::Is(Kind::Stream)
+    } else {
+        Finding::Is(Kind::Wrong)
+    }
+}
+
+/// Whether a descriptor is open for the direction of a transfer.
+fn is_open_for(code: u8, nature: &Nature) -> bool
+    ensures { result ≡ spec.is_open_for code nature.now }
+{
+    if is_read(code) {
+        nature.can_read
+    } else {
+        nature.can_write
+    }
+}
+
+/// For which directions a descriptor is open that has these flags (F_GETFL). open(2), O_ACCMODE.
+pub fn directions_of(flags: u32) -> Directions
+    ensures { result ≡ spec.directions_of flags }
+{
+    let access = flags & 3;
+    Directions {
+        can_read: access == 0 || access == 2,
+        can_write: access == 1 || access == 2,
+    }
+}
+
+/// With what the request of an entry ends whose buffer has this fault, where its descriptor is this: what isn't open, or is no socket, counts first.
+pub fn buffer_fault(entry: &Submission, nature: &Nature, why: i32) -> i32
+    ensures { result ≡ spec.buffer_fault entry.now nature.now why }
+{
+    if needs_file(entry.opcode) && !nature.is_open {
+        -9
+    } else if is_of_sockets(entry.opcode) && !nature.is_socket {
+        -88
+    } else {
+        why
+    }
+}
+
+/// Whether it matters to what the request of an entry ends with, which had this fault as it started, whether its group has a buffer.
+pub fn fault_asks_buffer(entry: &Submission, fault: i32) -> bool
+    ensures { result ≡ spec.fault_asks_buffer entry.now fault }
+{
+    entry.flags & 32 != 0 && fault < 0
+}
+
+/// With what the request of an entry ends that had this fault as it started, where its group has a buffer, or that doesn't matter, or its descriptor is this.
+pub fn ends_at_start(entry: &Submission, fault: i32, has_buffer: bool, nature: &Nature) -> i32
+    ensures { result ≡ spec.ends_at_start entry.now fault has_buffer nature.now }
+{
+    if fault_asks_buffer(entry, fault) && !has_buffer {
+        no_buffer_fault(entry, nature)
+    } else {
+        fault
+    }
+}
+
+/// Whether a descriptor with this name in /proc is an eventfd.
+pub fn is_eventfd_name(name: &[u8]) -> bool
+    ensures { result ≡ spec.is_eventfd_name name.now }
+{
+    name == "anon_inode:[eventfd]".as_bytes()
+}
+
+/// Whether one with this name counts: an eventfd, or a timerfd.
+pub fn is_counter_name(name: &[u8]) -> bool
+    ensures { result ≡ spec.is_counter_name name.now }
+{
+    is_eventfd_name(name) || name == "anon_inode:[timerfd]".as_bytes()
+}
+
+/// Whether the descriptor of the transfer of an entry, of so many bytes, is asked for its name, where it is this but for that.
+pub fn asks_counter(entry: &Submission, length: u64, nature: &Nature) -> bool
+    ensures { result ≡ spec.asks_counter entry.now length nature.now }
+{
+    is_transfer(entry.opcode) && !nature.has_type && is_too_short(entry, length)
+}
+
+/// Whether the transfer of an entry, of so many bytes, is too short for what counts: a write of none is none.
+fn is_too_short(entry: &Submission, length: u64) -> bool
+    ensures { result ≡ spec.is_too_short entry.now length }
+{
+    let is_none = length == 0 && is_write(entry.opcode);
+    length < 8 && !is_none && entry.flags & 32 == 0
+}
+
+/// With what the request of an entry ends that finds no buffer, provided or registered, where its descriptor is this: what isn't open, or is no socket, counts first.
+pub fn no_buffer_fault(entry: &Submission, nature: &Nature) -> i32
+    ensures { result ≡ spec.no_buffer_fault entry.now nature.now }
+{
+    if entry.flags & 32 != 0 {
+        buffer_fault(entry, nature, -105)
+    } else {
+        buffer_fault(entry, nature, -14)
+    }
+}
+
+/// With what the transfer of an entry, of so many bytes, fails as it starts, where its descriptor is this; or 0.
+pub fn start_fault(entry: &Submission, length: u64, nature: &Nature) -> i32
+    ensures { result ≡ spec.start_fault entry.now length nature.now }
+{
+    if !is_transfer(entry.opcode) {
+        0
+    } else if nature.is_counter && is_too_short(entry, length) {
+        -22
+    } else if passes_offset_over(nature) && entry.off != u64::MAX {
+        offset_fault(entry.off, length, nature.is_socket)
+    } else {
+        0
+    }
+}
+
+/// Whether what is open is moved at no offset, whatever its entry says.
+fn passes_offset_over(nature: &Nature) -> bool
+    ensures { result ≡ spec.passes_offset_over nature.now }
+{
+    nature.is_open && !(nature.is_file || nature.is_device || nature.has_offsets)
+}
+
+/// The fault of an offset that counts for nothing, of so many bytes that are moved; or 0.
+fn offset_fault(offset: u64, length: u64, is_socket: bool) -> i32
+    ensures { result ≡ spec.offset_fault offset length is_socket }
+{
+    match offset.checked_add(length) {
+        None => -22,
+        Some(end) => {
+            if end > 0x7fff_ffff_ffff_ffff {
+                -22
+            } else if is_socket && offset != 0 {
+                -29
+            } else {
+                0
+            }
+        }
+    }
+}
+
+/// What is told of a request is what it is by all that its descriptor is, whatever was asked before.
+pub fn finds_the_kind()
+    ensures { FindsTheKind }
+{}
+
+/// A descriptor is asked nothing twice.
+pub fn asks_once()
+    ensures { AsksOnce }
+{}

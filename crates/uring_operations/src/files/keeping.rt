@@ -1,0 +1,76 @@
+//! What a request's file is kept for, and what others hear of its end.
+
+ghost use Rattle.std.specs.Prelude.{◌≡◌};
+ghost use Rattle.uring_operations.specs.Files.Keeping as spec;
+ghost use Rattle.uring_operations.specs.Files.Keeping.{AsksWhereItMatters};
+
+use crate::requests::ready::Standing;
+
+/// Whether the request of this number, on this descriptor, keeps its file before a close is carried out, which has a number too and closes another descriptor or the same.
+pub fn keeps_before_close(number: u64, fd: i32, closing: u64, closed: i32) -> bool
+    ensures { result ≡ spec.keeps_before_close number fd closing closed }
+{
+    number < closing && fd == closed
+}
+
+/// Whether a request on this descriptor is given the copy that was made just before it for another, on that one; or for nobody, where none was made. Our own rule.
+pub fn shares_copy(standing: &Standing, fd: i32, copied: Option<i32>) -> bool
+    ensures { result ≡ spec.shares_copy standing.now fd copied }
+{
+    match copied {
+        Some(other) => other == fd && !standing.is_stream,
+        None => false,
+    }
+}
+
+/// Whether the end of a request may have closed the last descriptor of a file that it has kept, if it has kept one: of a slot or not, and the one that its entry names is open on the same file or not; so that others are looked at again, of which so many run. `was_closed`: it has closed one.
+pub fn may_close_last(
+    others: u64,
+    was_closed: bool,
+    has_file: bool,
+    is_of_slot: bool,
+    is_same: bool,
+) -> bool
+    ensures { result ≡ spec.may_close_last others was_closed has_file is_of_slot is_same }
+{
+    others > 0 && was_closed && has_file && (is_of_slot || !is_same)
+}
+
+/// Whether a descriptor is open on the same file matters only if others run, and to a file that isn't a slot's.
+pub fn asks_whether_same()
+    ensures { AsksWhereItMatters }
+{}
+
+/// Whether a pipe counts as written to behind an event that tells of dropped events, or of a write, to this pipe or another.
+pub fn counts_as_written(is_dropped: bool, is_write: bool, is_own: bool) -> bool
+    ensures { result ≡ spec.counts_as_written is_dropped is_write is_own }
+{
+    is_dropped || is_write && is_own
+}
+
+/// Whether whoever polls a ring's descriptor is told anew, where somebody may wait for edges of it, or nobody does.
+pub fn tells_anew(
+    was_readable: bool,
+    is_readable: bool,
+    has_posted: bool,
+    may_wait_for_edges: bool,
+) -> bool
+    ensures { result ≡ spec.tells_anew was_readable is_readable has_posted may_wait_for_edges }
+{
+    let has_changed = (is_readable && !was_readable) || (was_readable && !is_readable);
+    has_changed || is_readable && has_posted && may_wait_for_edges
+}
+
+/// Whether it is asked, as a copy of a file's descriptor is to be closed that nobody needs, if the process has locks on that file, and on those of the copies that stay open: one of a regular file, or another. Our own rule.
+pub fn asks_locks(is_regular: bool) -> bool
+    ensures { result ≡ spec.asks_locks is_regular }
+{
+    is_regular
+}
+
+/// Whether a copy of a file's descriptor stays open that nobody needs, or that has stayed so far, where so many others stay. Our own rule.
+pub fn stays_open(is_locked: bool, others: u64) -> bool
+    ensures { result ≡ spec.stays_open is_locked others }
+{
+    is_locked && others < 256
+}
