@@ -8,7 +8,7 @@ use Rattle.uring_operations.specs.declared.calls.means.Means.{Means}
 use Rattle.uring_operations.specs.declared.calls.means.Means.TheVariants.{Nothing, Transfer, Poll, Call, Opening, Sync, Close, Connect, Splice, Send, Receive, ReceiveMessage, SlotRemoval, FilesPlacing, FilesUpdate, Timeout, LinkedTimeout, Provision, ProvisionRemoval, Message, Cancel, PollRemoval, TimeoutRemoval}
 use Rattle.uring_operations.specs.Requests.Faults.{can_have}
 use Rattle.uring_operations.specs.Calls.SystemCalls.{of_three}
-use Rattle.uring_c.specs.declared.call_exports.MeansWords.{MeansWords}
+use Rattle.uring_c.specs.declared.operations.call_exports.MeansWords.{MeansWords}
 
 abbrev pub no_list : Listed
 no_list = record { address = 0; count = 0 }

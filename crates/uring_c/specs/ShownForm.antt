@@ -8,7 +8,7 @@ use Rattle.uring_operations.specs.declared.requests.outcome.SoughtBehind.{Sought
 use Rattle.uring_operations.specs.declared.requests.outcome.SoughtBehind.TheVariants as sought
 use Rattle.uring_enter.specs.declared.completions.showing.Store.{Store}
 use Rattle.uring_enter.specs.declared.completions.showing.Store.TheVariants.{Cell, Tail}
-use Rattle.uring_c.specs.declared.shown_exports.StoreWords.{StoreWords}
+use Rattle.uring_c.specs.declared.calls.shown_exports.StoreWords.{StoreWords}
 
 abbrev pub words_of_store : Store → StoreWords
 words_of_store (Cell place position) = record { place = place; position = position; is_cell = true }

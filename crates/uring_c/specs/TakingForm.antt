@@ -11,7 +11,7 @@ use Rattle.uring_operations.specs.declared.copies.piece.What.TheVariants.{Buffer
 use Rattle.uring_operations.specs.declared.copies.piece.Piece.{Piece}
 use Rattle.uring_operations.specs.declared.copies.copying.Copying.{Copying}
 use Rattle.uring_operations.specs.declared.copies.copying.Copying.TheVariants.{Copies, Ends}
-use Rattle.uring_c.specs.declared.piece_exports.PieceWords.{PieceWords}
+use Rattle.uring_c.specs.declared.operations.piece_exports.PieceWords.{PieceWords}
 
 -- kinds count in the order of `Onward`, from 0. Our own rule
 abbrev pub word_of_next : Onward → ℕ

@@ -1,0 +1,34 @@
+//! What a call does, and what its ring is: over `uring_enter`.
+
+pub mod argument_exports;
+pub mod cancel_exports;
+pub mod cancelling_exports;
+pub mod chain_exports;
+pub mod closing_exports;
+pub mod duty_exports;
+pub mod enter_exports;
+pub mod following_exports;
+pub mod hearing_exports;
+pub mod jump_exports;
+pub mod leaving_exports;
+pub mod lookout_exports;
+pub mod lying_exports;
+pub mod message_exports;
+pub mod missing_exports;
+pub mod passage_exports;
+pub mod putting_off_exports;
+pub mod reaching_exports;
+pub mod ring_exports;
+pub mod set_up_exports;
+pub mod shown_exports;
+pub mod sleeper_exports;
+pub mod sleeping_exports;
+pub mod stepping_exports;
+pub mod taking_exports;
+pub mod time_exports;
+pub mod timing_exports;
+pub mod tried_exports;
+pub mod unknown_exports;
+pub mod update_exports;
+pub mod waiter_exports;
+pub mod watched_exports;

@@ -1,0 +1,112 @@
+//! What is read of the submission ring, what the core is given of it, and what some entries come to, for C: functions of `c/wulgach_form.h`.
+ghost use Rattle.std.specs.Prelude.{◌≡◌, ◌+◌, ◌<◌, ◌^◌, is_some, unwrap_or};
+ghost use Rattle.uring_enter.specs.TakingUp.CoreEntries as spec;
+ghost use Rattle.uring_operations.specs.Calls.Layouts as layouts;
+ghost use Rattle.uring_operations.specs.Entries.NoOps.{result_of};
+ghost use Rattle.uring_c.specs.EntryForm.{word_of_form};
+ghost use Rattle.uring_c.specs.RingForm.{form_of_word};
+
+use crate::operations::form_exports::form_word;
+use uring_crossing::whole_call_memory::EntryWords;
+use uring_enter::{CoreEntry, core_entry_before, core_entry_of, extra_of, is_one_chain, slot_of};
+use uring_operations::{Form, Layout, Member, Submission, layout_of, no_op_result};
+
+/// Whether an index word names a slot of a table of so many entries: the one of that number.
+#[unsafe(no_mangle)]
+pub extern "C" fn wulgach_names_slot(word: u32, entries: u32) -> bool
+    ensures { result ≡ is_some (spec.slot_of word entries) }
+{
+    slot_of(word, entries).is_some()
+}
+
+/// Whether two requests of a call are of one chain.
+#[unsafe(no_mangle)]
+pub extern "C" fn wulgach_is_one_chain(one: &Member, other: &Member) -> bool
+    ensures { result ≡ spec.is_one_chain one.now other.now }
+{
+    is_one_chain(one, other)
+}
+
+/// Writes what the core is given of an entry that is this to it.
+#[unsafe(no_mangle)]
+pub extern "C" fn wulgach_core_entry_of(entry: &Submission, form: u32, made: &mut CoreEntry)
+    ensures { made.new ≡ spec.core_entry_of entry.now (form_of_word form) }
+{
+    *made = core_entry_of(entry, form_by_word(form));
+}
+
+/// Writes what the core is given of it, by Linux's rules or the manual pages', once the next entry of its call is known to be this one.
+#[unsafe(no_mangle)]
+pub extern "C" fn wulgach_core_entry_before(
+    entry: &Submission,
+    form: u32,
+    next: &Submission,
+    linux_rules: bool,
+    made: &mut CoreEntry,
+)
+    ensures { made.new ≡ spec.core_entry_before entry.now (form_of_word form) next.now linux_rules }
+{
+    *made = core_entry_before(entry, form_by_word(form), next, linux_rules);
+}
+
+/// Writes the words of what the core is given.
+#[unsafe(no_mangle)]
+pub extern "C" fn wulgach_core_words(made: &CoreEntry, entry: &mut EntryWords)
+    ensures { entry.new.words ≡ spec.words_of made.now }
+{
+    *entry = EntryWords {
+        words: made.words(),
+    };
+}
+
+/// Returns what an entry is to the core whose end a completion is that belongs to no end of a request, and writes its operation.
+#[unsafe(no_mangle)]
+pub extern "C" fn wulgach_extra_of(linux_rules: bool, code: &mut u8) -> u32
+    ensures form { result ≡ word_of_form (spec.extra_of linux_rules).form }
+    ensures code { code.new ≡ (spec.extra_of linux_rules).code }
+{
+    let extra = extra_of(linux_rules);
+    *code = extra.code;
+    form_word(extra.form)
+}
+
+pub(crate) fn form_by_word(word: u32) -> Form
+    ensures { result ≡ form_of_word word }
+{
+    match word {
+        0 => Form::Token,
+        1 => Form::Cancel,
+        _ => Form::Refused(0),
+    }
+}
+
+/// What a no-op ends with that has found what it looks for.
+#[unsafe(no_mangle)]
+pub extern "C" fn wulgach_no_op_result(entry: &Submission) -> i32
+    ensures { result ≡ result_of entry.now }
+{
+    no_op_result(entry)
+}
+
+/// Writes where the parts of a message stand in a buffer of this size, and returns true. False: what stands in front has no room.
+#[unsafe(no_mangle)]
+pub extern "C" fn wulgach_layout_of(name: u32, control: u64, size: u64, layout: &mut Layout) -> bool
+    ensures has_room { result ≡ is_some (layouts.layout_of name control size) }
+    ensures layout { layout.new ≡ unwrap_or (layouts.layout_of name control size) layout.old }
+{
+    match layout_of(name, control, size) {
+        Some(found) => {
+            *layout = found;
+            true
+        }
+        None => false,
+    }
+}
+
+/// How much of the buffer has something behind a message of so many bytes.
+#[unsafe(no_mangle)]
+pub extern "C" fn wulgach_layout_filled(layout: &Layout, came: u32) -> u64
+    ensures { layout.now.bytes + layout.now.room < 2 ^ 64 → result ≡ layouts.filled layout.now came }
+{
+    layout.filled(came)
+}
