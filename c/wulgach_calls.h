@@ -4,6 +4,7 @@
 #ifndef WULGACH_CALLS_H
 #define WULGACH_CALLS_H
 
+#include "wulgach_tries.h"
 #include "wulgach_waits.h"
 
 #ifdef __cplusplus

@@ -1,7 +1,7 @@
 /* Which provided buffer an operation takes, and when registered files and buffers are gone: with what the manual pages call for, written
  * by hand. */
 #include "wulgach_buffers.h"
-#include "wulgach_register.h"
+#include "wulgach_tables.h"
 
 #include <stdio.h>
 #include <stdlib.h>

@@ -1,6 +1,7 @@
 /* Calls of io_uring_enter(2), each with the commands that the manual page calls for, written by hand: what is replied, and what the call
  * wants then. */
 #include "wulgach_enter.h"
+#include "wulgach_taking.h"
 
 #include <stdio.h>
 #include <stdlib.h>

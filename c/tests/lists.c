@@ -1,6 +1,7 @@
 /* The structures and lists that calls of io_uring_register(2) read, and in which steps what they name is made: with what the manual page calls for,
  * written by hand. */
 #include "wulgach_register.h"
+#include "wulgach_tables.h"
 
 #include <stdio.h>
 #include <stdlib.h>

@@ -1,5 +1,7 @@
 /* Which rings a set-up makes, and what is registered with a ring: with what the manual page calls for, written by hand. */
 #include "wulgach_register.h"
+#include "wulgach_setup.h"
+#include "wulgach_tables.h"
 
 #include <stdio.h>
 #include <stdlib.h>

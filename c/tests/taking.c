@@ -4,6 +4,7 @@
 #include "wulgach_cancel.h"
 #include "wulgach_enter.h"
 #include "wulgach_form.h"
+#include "wulgach_taking.h"
 
 #include <stdio.h>
 #include <stdlib.h>

@@ -1,5 +1,6 @@
 /* What an operation needs, whether it has to wait, and what becomes of a try: with what the manual pages call for, written by hand. */
 #include "wulgach_lookout.h"
+#include "wulgach_tries.h"
 #include "wulgach_waits.h"
 
 #include <errno.h>

@@ -8,6 +8,7 @@
 #include "passing.h"
 #include "ring.h"
 #include "trying.h"
+#include "wulgach_setup.h"
 
 #include <fcntl.h>
 #include <string.h>

@@ -7,6 +7,7 @@
 #include "copying.h"
 #include "pinning.h"
 #include "ring.h"
+#include "wulgach_tables.h"
 
 #include <stdlib.h>
 

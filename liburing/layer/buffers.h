@@ -4,6 +4,7 @@
 
 #include "wulgach_buffers.h"
 #include "wulgach_register.h"
+#include "wulgach_tables.h"
 
 #include <stdbool.h>
 #include <stdint.h>

@@ -15,6 +15,7 @@
 #include "reached.h"
 #include "sleep.h"
 #include "unwilling.h"
+#include "wulgach_setup.h"
 
 #include <errno.h>
 #include <fcntl.h>

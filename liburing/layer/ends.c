@@ -11,6 +11,7 @@
 #include "timeouts.h"
 #include "trace.h"
 #include "ways.h"
+#include "wulgach_taking.h"
 
 void note_wait(struct ring *ring, struct request *request)
 {

@@ -10,6 +10,7 @@
 #include "openness.h"
 #include "process.h"
 #include "wulgach_register.h"
+#include "wulgach_tables.h"
 
 #include <fcntl.h>
 #include <limits.h>

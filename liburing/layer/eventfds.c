@@ -7,6 +7,7 @@
 #include "numbers.h"
 #include "openness.h"
 #include "ring.h"
+#include "wulgach_setup.h"
 
 #include <fcntl.h>
 #include <poll.h>

@@ -13,6 +13,7 @@
 #include "steps.h"
 #include "submit.h"
 #include "trace.h"
+#include "wulgach_taking.h"
 
 #include <errno.h>
 #include <fcntl.h>

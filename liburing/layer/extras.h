@@ -5,6 +5,7 @@
 #define EXTRAS_H
 
 #include "wulgach_enter.h"
+#include "wulgach_taking.h"
 
 #include <linux/io_uring.h>
 #include <pthread.h>

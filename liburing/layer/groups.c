@@ -4,6 +4,7 @@
 #include "copying.h"
 #include "pinning.h"
 #include "ring.h"
+#include "wulgach_tables.h"
 
 #include <errno.h>
 #include <stddef.h>

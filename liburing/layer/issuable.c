@@ -4,6 +4,7 @@
 #include "issuable.h"
 #include "fault.h"
 #include "steps.h"
+#include "wulgach_taking.h"
 
 static bool is_kept(const struct ring *ring)
 {

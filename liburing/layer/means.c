@@ -16,6 +16,7 @@
 #include "syncing.h"
 #include "timeouts.h"
 #include "unwilling.h"
+#include "wulgach_tables.h"
 
 #include <errno.h>
 #include <sys/stat.h>

@@ -7,7 +7,7 @@
 #include "memory.h"
 #include "signals.h"
 #include "wulgach.h"
-#include "wulgach_register.h"
+#include "wulgach_setup.h"
 
 #include <errno.h>
 #include <pthread.h>

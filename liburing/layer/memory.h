@@ -9,6 +9,8 @@
 #include <stddef.h>
 #include <stdint.h>
 
+#include "wulgach_setup.h"
+
 /* The words of each ring, at the start of its mapping. */
 struct sq_words {
     uint32_t head, tail, mask, entries, dropped, flags;

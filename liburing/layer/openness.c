@@ -2,7 +2,7 @@
 #define _GNU_SOURCE
 #include "openness.h"
 #include "process.h"
-#include "wulgach_register.h"
+#include "wulgach_setup.h"
 
 #include <fcntl.h>
 #include <linux/kcmp.h>

@@ -11,6 +11,7 @@
 #include "splices.h"
 #include "trying.h"
 #include "unwilling.h"
+#include "wulgach_tries.h"
 
 #include <errno.h>
 #include <fcntl.h>

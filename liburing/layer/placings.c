@@ -5,6 +5,7 @@
 #include "copying.h"
 #include "files.h"
 #include "ring.h"
+#include "wulgach_tables.h"
 
 /* A file that is put where there is room, by a row of a list. */
 struct placing {

@@ -14,6 +14,7 @@
 #include "fault.h"
 #include "priorities.h"
 #include "wulgach_enter.h"
+#include "wulgach_taking.h"
 
 #include <inttypes.h>
 #include <pthread.h>

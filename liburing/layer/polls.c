@@ -9,6 +9,7 @@
 #include "operations.h"
 #include "pipes.h"
 #include "ring.h"
+#include "wulgach_tries.h"
 
 #include <errno.h>
 #include <sys/epoll.h>

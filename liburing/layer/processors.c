@@ -2,7 +2,7 @@
 #define _GNU_SOURCE
 #include "processors.h"
 #include "passing.h"
-#include "wulgach_register.h"
+#include "wulgach_setup.h"
 
 #include <fcntl.h>
 

@@ -21,6 +21,7 @@
 #include "streams.h"
 #include "timeouts.h"
 #include "ways.h"
+#include "wulgach_taking.h"
 
 
 /* Finds out what the library wants to know of this moment. */

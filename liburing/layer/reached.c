@@ -2,6 +2,7 @@
 #define _GNU_SOURCE
 #include "reached.h"
 #include "readiness.h"
+#include "wulgach_setup.h"
 
 #include <dirent.h>
 #include <fcntl.h>

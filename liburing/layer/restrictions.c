@@ -5,6 +5,7 @@
 #include "copying.h"
 #include "process.h"
 #include "ring.h"
+#include "wulgach_tables.h"
 
 #include <errno.h>
 #include <unistd.h>

@@ -17,6 +17,8 @@
 #include "wulgach.h"
 #include "wulgach_enter.h"
 #include "wulgach_register.h"
+#include "wulgach_tables.h"
+#include "wulgach_taking.h"
 #include "wulgach_times.h"
 
 #include <linux/io_uring.h>

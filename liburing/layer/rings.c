@@ -21,6 +21,9 @@
 #include "strict.h"
 #include "trace.h"
 #include "whole_calls.h"
+#include "wulgach_setup.h"
+#include "wulgach_tables.h"
+#include "wulgach_taking.h"
 
 #include <errno.h>
 #include <stdlib.h>

@@ -6,6 +6,7 @@
 #include "means.h"
 #include "operations.h"
 #include "ring.h"
+#include "wulgach_tries.h"
 
 #include <errno.h>
 #include <fcntl.h>

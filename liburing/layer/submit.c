@@ -17,6 +17,7 @@
 #include "trace.h"
 #include "ways.h"
 #include "whole_calls.h"
+#include "wulgach_taking.h"
 
 #include <stdlib.h>
 

@@ -9,6 +9,7 @@
 #include "policy.h"
 #include "priorities.h"
 #include "trace.h"
+#include "wulgach_taking.h"
 
 #include <inttypes.h>
 #include <stdlib.h>

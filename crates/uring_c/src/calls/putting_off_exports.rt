@@ -1,4 +1,4 @@
-//! What waits behind a completion that was put off, for C: a function of `c/wulgach_enter.h`.
+//! What waits behind a completion that was put off, for C: a function of `c/wulgach_taking.h`.
 ghost use Rattle.std.specs.Prelude.{◌≡◌};
 ghost use Rattle.uring_enter.specs.GoingOn.PuttingOff as spec;
 ghost use Rattle.uring_c.specs.PuttingOffForm.{coming_of, word_of_order};

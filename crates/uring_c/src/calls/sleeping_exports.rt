@@ -1,4 +1,4 @@
-//! When a sleep isn't begun, what came of one, and which polls are told of writes, for C: functions of `c/wulgach_waits.h` and `c/wulgach_lookout.h`.
+//! When a sleep isn't begun, what came of one, and which polls are told of writes, for C: functions of `c/wulgach_lookout.h` and `c/wulgach_waits.h`.
 ghost use Rattle.std.specs.Prelude.{◌≡◌};
 ghost use Rattle.uring_enter.specs.Waiting.PipePolls as polls;
 ghost use Rattle.uring_enter.specs.Waiting.Sleeping as sleeping;

@@ -1,4 +1,4 @@
-//! Which memory may be registered, and which processors a list names, for C: functions of `c/wulgach_register.h`.
+//! Which memory may be registered, and which processors a list names, for C: functions of `c/wulgach_register.h` and `c/wulgach_setup.h`.
 ghost use Rattle.std.specs.Prelude.{◌≡◌};
 ghost use Rattle.uring_register.specs.Pinning as spec;
 ghost use Rattle.uring_register.specs.Processors as processors;
