@@ -80,14 +80,15 @@ static void test_no_signal_of_lengths(void)
 {
     struct ring ring;
     int file = make_file();
-    struct rlimit before, limit = {1000, 1000};
+    enum { MOST = 1 << 20 };     /* a trace is shorter */
+    struct rlimit before, limit = {MOST, MOST};
     check(getrlimit(RLIMIT_FSIZE, &before) == 0);
     limit.rlim_max = before.rlim_max;
     make_ring(&ring, 8, 0, 0);
     check(setrlimit(RLIMIT_FSIZE, &limit) == 0);
-    want(&ring, put_length(&ring, 0, file, 1001), -EFBIG, GOES_ON);
-    want(&ring, put_length(&ring, 0, file, 1000), 0, GOES_ON);
-    check(setrlimit(RLIMIT_FSIZE, &before) == 0 && length_of(file) == 1000);
+    want(&ring, put_length(&ring, 0, file, MOST + 1), -EFBIG, GOES_ON);
+    want(&ring, put_length(&ring, 0, file, MOST), 0, GOES_ON);
+    check(setrlimit(RLIMIT_FSIZE, &before) == 0 && length_of(file) == MOST);
     close(file);
     close_ring(&ring);
 }
