@@ -30,14 +30,10 @@ static void *map(int fd, size_t size, uint64_t offset)
 /* Lengthens a memfd. If the process may have no file as long, that is an error, and not a signal. */
 static int lengthen(int fd, uint64_t length)
 {
-    sigset_t signals, own;
-    sigemptyset(&signals);
-    sigaddset(&signals, SIGXFSZ);
-    pthread_sigmask(SIG_BLOCK, &signals, &own);
+    sigset_t own;
+    hold_long_files(&own);
     int result = ftruncate(fd, (off_t)length) < 0 ? -errno : 0;
-    if (result == -EFBIG)
-        take_back_signal(SIGXFSZ);
-    pthread_sigmask(SIG_SETMASK, &own, NULL);
+    let_long_files(&own, result == -EFBIG);
     return result;
 }
 

@@ -6,8 +6,6 @@
 #include "process.h"
 #include "wulgach_calls.h"
 
-#include <signal.h>
-#include <stdbool.h>
 #include <sys/resource.h>
 #include <sys/syscall.h>
 #include <unistd.h>
@@ -40,4 +38,19 @@ void take_back_signal(uint32_t signal)
     /* (most calls bring none) */
     if (signal != 0 && is_to_be_taken(signal))
         take_back((int)signal);
+}
+
+void hold_long_files(sigset_t *own)
+{
+    sigset_t signals;
+    sigemptyset(&signals);
+    sigaddset(&signals, SIGXFSZ);
+    pthread_sigmask(SIG_BLOCK, &signals, own);
+}
+
+void let_long_files(const sigset_t *own, bool is_refused)
+{
+    if (is_refused)
+        take_back_signal(SIGXFSZ);
+    pthread_sigmask(SIG_SETMASK, own, NULL);
 }

@@ -6,7 +6,9 @@
 #include "numbers.h"
 #include "operations.h"
 #include "ring.h"
+#include "signals.h"
 
+#include <errno.h>
 #include <fcntl.h>
 #include <inttypes.h>
 #include <stdarg.h>
@@ -20,13 +22,24 @@ static int open_written(const char *path)
     return moved_high(open(path, O_WRONLY | O_CREAT | O_TRUNC | O_APPEND | O_CLOEXEC, 0666));
 }
 
+/* Writes the line. A process whose files may get no longer isn't ended by that. */
+static bool write_line(const struct ring *ring)
+{
+    sigset_t own;
+    hold_long_files(&own);
+    ssize_t written = write(ring->trace_file, ring->line, ring->line_length);
+    int fault = written < 0 ? errno : ENOSPC;
+    let_long_files(&own, fault == EFBIG);
+    errno = fault;
+    return written == (ssize_t)ring->line_length;
+}
+
 /* Hands the line to the file, and begins another. A trace that can't be written ends with the line before. */
 static void end_line(struct ring *ring)
 {
     fputc('\n', ring->trace);
     fflush(ring->trace);
-    ssize_t written = write(ring->trace_file, ring->line, ring->line_length);
-    if (written == (ssize_t)ring->line_length) {
+    if (write_line(ring)) {
         rewind(ring->trace);
         return;
     }

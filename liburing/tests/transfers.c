@@ -7,6 +7,7 @@
 #define _GNU_SOURCE
 #include "engines.h"
 
+#include <glob.h>
 #include <pthread.h>
 #include <signal.h>
 #include <sys/eventfd.h>
@@ -15,6 +16,7 @@
 #include <sys/signalfd.h>
 #include <sys/timerfd.h>
 #include <sys/uio.h>
+#include <sys/wait.h>
 
 static void test_files(void)
 {
@@ -371,6 +373,38 @@ static void test_broken_pipe(void)
     close_ring(&ring);
 }
 
+/* A process whose files may get no longer than its trace is isn't ended by that: the trace is. */
+static void run_below_a_trace(const char *path)
+{
+    struct rlimit limit = {100, 100};
+    struct ring ring;
+    check(setenv("WULGACH_TRACE", path, 1) == 0);
+    make_ring(&ring, 4, 0, 0);
+    for (int i = 0; i < 2; i++) {
+        put(&ring, IORING_OP_NOP, 7, 0);
+        check(enter(&ring, 1, 1, IORING_ENTER_GETEVENTS) == 1 && reap(&ring).res == 0);
+        check(setrlimit(RLIMIT_FSIZE, &limit) == 0);
+    }
+}
+
+static void test_limit_below_a_trace(void)
+{
+    char path[] = "/tmp/wulgach-trace-XXXXXX", names[64];
+    glob_t found = {0};
+    int file = mkstemp(path), status;
+    pid_t child = fork();
+    if (child == 0) {
+        run_below_a_trace(path);
+        _exit(0);
+    }
+    check(file >= 0 && waitpid(child, &status, 0) == child && status == 0);
+    snprintf(names, sizeof names, "%s*", path);
+    check(close(file) == 0 && glob(names, 0, NULL, &found) == 0);
+    for (size_t i = 0; i < found.gl_pathc; i++)
+        unlink(found.gl_pathv[i]);
+    globfree(&found);
+}
+
 int main(int count, char **words)
 {
     static const struct named tests[] = {
@@ -382,6 +416,7 @@ int main(int count, char **words)
         {"in turn", test_in_turn},
         {"too long", test_too_long},
         {"broken pipe", test_broken_pipe},
+        {"limit below a trace", test_limit_below_a_trace},
     };
     static const struct named injection = {"injection", test_injection};
     if (count > 1 && strcmp(words[1], injection.name) == 0)
