@@ -2,6 +2,8 @@
 #define _GNU_SOURCE
 #include "alone.h"
 #include "fault.h"
+#include "openness.h"
+#include "server.h"
 
 #include <dirent.h>
 #include <fcntl.h>
@@ -13,10 +15,12 @@
 #include <sys/wait.h>
 #include <unistd.h>
 
-/* Files that a run opens again, each where its parent's stands. */
+/* Files and folders that a run opens again, each where its parent's stands. Descriptors that share one open file share it in the run too. */
 struct opened {
-    int descriptor, flags;
+    int descriptor, flags, shared;  /* `shared`: an earlier one that has the same open file, or -1 */
     bool is_closed_on_exec;
+    dev_t device;
+    ino_t inode;
     off_t at;
     char path[4096];
 };
@@ -57,7 +61,7 @@ static bool has_timers(void)
             return true;
     }
     FILE *timers = fopen("/proc/self/timers", "re");
-    bool is_any = timers && fgetc(timers) != EOF;
+    bool is_any = !timers || fgetc(timers) != EOF;
     if (timers)
         fclose(timers);
     return is_any;
@@ -82,21 +86,79 @@ static bool lies_in(const char *path, const char *folder)
     return folder && strncmp(path, folder, length) == 0 && path[length] == '/';
 }
 
-/* Remembers a file that a run is to open again. */
-static bool remember(int descriptor, const char *path, int flags)
+static struct opened *room_for_one(void)
 {
     if (file_count == file_room) {
         struct opened *more = realloc(files, (2 * file_room + 8) * sizeof *files);
         if (!more)
-            return false;
+            return NULL;
         files = more;
         file_room = 2 * file_room + 8;
     }
-    struct opened *file = &files[file_count++];
-    *file = (struct opened){.descriptor = descriptor, .flags = flags & ~(O_CREAT | O_EXCL | O_TRUNC), .at = lseek(descriptor, 0, SEEK_CUR)};
+    return &files[file_count];
+}
+
+/* Which descriptor that is remembered has the same open file: -1, if none has; -2: the kernel doesn't say. */
+static int sharing(const struct opened *file)
+{
+    for (size_t i = 0; i < file_count; i++) {
+        if (files[i].device != file->device || files[i].inode != file->inode)
+            continue;
+        int same = are_on_one_file(files[i].descriptor, file->descriptor);
+        if (same != 0)
+            return same < 0 ? -2 : files[i].descriptor;
+    }
+    return -1;
+}
+
+/* Remembers what a run is to open again. A folder that is being read goes on elsewhere in a copy. */
+static bool remember(int descriptor, const char *path, int flags, const struct stat *about)
+{
+    struct opened *file = room_for_one();
+    if (!file)
+        return false;
+    *file = (struct opened){.descriptor = descriptor, .flags = flags & ~(O_CREAT | O_EXCL | O_TRUNC), .device = about->st_dev, .inode = about->st_ino};
+    file->at = flags & O_PATH ? 0 : lseek(descriptor, 0, SEEK_CUR);
+    file->shared = sharing(file);
     file->is_closed_on_exec = fcntl(descriptor, F_GETFD) & FD_CLOEXEC;
     snprintf(file->path, sizeof file->path, "%s", path);
-    return file->at >= 0;
+    if (file->at < 0 || file->shared == -2 || (S_ISDIR(about->st_mode) && file->at > 0))
+        return false;
+    file_count++;
+    return true;
+}
+
+/* Whether locks or a lease are on an open file, as /proc says: a run has none of its parent's, or waits for them. */
+static bool has_locks(int descriptor)
+{
+    char name[64], line[256];
+    snprintf(name, sizeof name, "/proc/self/fdinfo/%d", descriptor);
+    FILE *told = fopen(name, "re");
+    bool is_any = !told;
+    while (told && !is_any && fgets(line, sizeof line, told))
+        is_any = strncmp(line, "lock:", 5) == 0;
+    if (told)
+        fclose(told);
+    return is_any;
+}
+
+/* Whether this path still leads to the file. */
+static bool has_name(const char *path, const struct stat *about)
+{
+    struct stat there;
+    return lstat(path, &there) == 0 && there.st_dev == about->st_dev && there.st_ino == about->st_ino;
+}
+
+static const char *look_at_file(int descriptor, const char *path, int flags, const struct stat *about, const char *folder)
+{
+    bool is_written = S_ISREG(about->st_mode) && !(flags & O_PATH) && (flags & O_ACCMODE) != O_RDONLY;
+    if (is_written && !lies_in(path, folder))
+        return because(folder ? "descriptor %d writes to a file outside of the run's folder" : "descriptor %d writes to a file, and runs have no folder of their own (--fresh)", descriptor);
+    if (!has_name(path, about))
+        return because("descriptor %d is a file that has been removed", descriptor);
+    if (has_locks(descriptor))
+        return because("descriptor %d is a file with a lock", descriptor);
+    return remember(descriptor, path, flags, about) ? NULL : because("descriptor %d can't be opened again", descriptor);
 }
 
 static const char *look_at(int descriptor, const char *folder)
@@ -109,20 +171,12 @@ static const char *look_at(int descriptor, const char *folder)
     if (length < 0 || flags < 0 || fstat(descriptor, &about) < 0)
         return because("descriptor %d can't be looked at", descriptor);
     path[length] = '\0';
-    if (S_ISDIR(about.st_mode) || S_ISCHR(about.st_mode) || (flags & O_PATH))
-        return NULL;
-    if (!S_ISREG(about.st_mode))
-        return because("descriptor %d is no file", descriptor);
-    if ((flags & O_ACCMODE) != O_RDONLY && !lies_in(path, folder))
-        return because(folder ? "descriptor %d writes to a file outside of the run's folder" : "descriptor %d writes to a file, and runs have no folder of their own (--fresh)", descriptor);
-    if (about.st_nlink == 0)
-        return because("descriptor %d is a file that has been removed", descriptor);
-    return remember(descriptor, path, flags) ? NULL : because("descriptor %d can't be opened again", descriptor);
+    if (S_ISREG(about.st_mode) || S_ISDIR(about.st_mode))
+        return look_at_file(descriptor, path, flags, &about, folder);
+    return S_ISCHR(about.st_mode) || (flags & O_PATH) ? NULL : because("descriptor %d is no file", descriptor);
 }
 
-/* The streams 0, 1 and 2 are explore's; descriptors from 700 on are the server's. */
-enum { FIRST_OWN = 700 };
-
+/* The streams 0, 1 and 2 are explore's. */
 static const char *look_at_descriptors(const char *folder)
 {
     const char *found = NULL;
@@ -131,7 +185,7 @@ static const char *look_at_descriptors(const char *folder)
         return "its descriptors can't be listed";
     for (struct dirent *entry; !found && (entry = readdir(open_ones));) {
         int descriptor = atoi(entry->d_name);
-        if (entry->d_name[0] != '.' && descriptor > 2 && descriptor < FIRST_OWN && descriptor != dirfd(open_ones))
+        if (entry->d_name[0] != '.' && descriptor > 2 && descriptor != dirfd(open_ones) && !is_of_server(descriptor))
             found = look_at(descriptor, folder);
     }
     closedir(open_ones);
@@ -157,9 +211,13 @@ void reopen_files(void)
 {
     for (size_t i = 0; i < file_count; i++) {
         const struct opened *file = &files[i];
-        int made = open(file->path, file->flags | (file->is_closed_on_exec ? O_CLOEXEC : 0));
-        demand(made >= 0 && lseek(made, file->at, SEEK_SET) == file->at, "a file can't be opened again for a run");
-        demand(dup3(made, file->descriptor, file->is_closed_on_exec ? O_CLOEXEC : 0) >= 0, "a file can't be opened again for a run");
-        close(made);
+        int on_exec = file->is_closed_on_exec ? O_CLOEXEC : 0, made = file->shared;
+        if (made < 0) {
+            made = open(file->path, file->flags | O_CLOEXEC);
+            demand(made >= 0 && (file->at == 0 || lseek(made, file->at, SEEK_SET) == file->at), "a file can't be opened again for a run");
+        }
+        demand(dup3(made, file->descriptor, on_exec) >= 0, "a file can't be opened again for a run");
+        if (file->shared < 0)
+            close(made);
     }
 }

@@ -43,10 +43,17 @@ static bool copy_bytes(int from, int to)
     return length == 0;
 }
 
-static bool copy_file(const char *from, const char *to, mode_t mode)
+/* Its mode, whatever the process takes from modes, and its times. */
+static bool copy_rest(const struct stat *about, const char *to)
 {
-    int source = open(from, O_RDONLY | O_CLOEXEC), target = open(to, O_WRONLY | O_CREAT | O_EXCL | O_CLOEXEC, mode & 07777);
-    bool is_copied = source >= 0 && target >= 0 && copy_bytes(source, target) && fchmod(target, mode & 07777) == 0;
+    struct timespec times[2] = {about->st_atim, about->st_mtim};
+    return chmod(to, about->st_mode & 07777) == 0 && utimensat(AT_FDCWD, to, times, 0) == 0;
+}
+
+static bool copy_file(const char *from, const char *to)
+{
+    int source = open(from, O_RDONLY | O_CLOEXEC), target = open(to, O_WRONLY | O_CREAT | O_EXCL | O_CLOEXEC, 0600);
+    bool is_copied = source >= 0 && target >= 0 && copy_bytes(source, target);
     if (source >= 0)
         close(source);
     if (target >= 0)
@@ -59,11 +66,11 @@ static bool copy_any(const char *from, const char *to)
     struct stat about;
     if (lstat(from, &about) < 0)
         return false;
-    if (S_ISDIR(about.st_mode))
-        return mkdir(to, about.st_mode & 07777) == 0 && copy_folder(from, to);
     if (S_ISLNK(about.st_mode))
         return copy_link(from, to);
-    return S_ISREG(about.st_mode) && copy_file(from, to, about.st_mode);
+    if (S_ISDIR(about.st_mode))
+        return mkdir(to, 0700) == 0 && copy_folder(from, to) && copy_rest(&about, to);
+    return S_ISREG(about.st_mode) && about.st_nlink == 1 && copy_file(from, to) && copy_rest(&about, to);
 }
 
 bool copy_folder(const char *from, const char *to)

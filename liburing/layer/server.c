@@ -206,6 +206,11 @@ static void serve(void)
         _exit(0);
 }
 
+bool is_of_server(int descriptor)
+{
+    return descriptor == server.socket || descriptor == server.output;
+}
+
 /* The program's descriptors are to have the numbers that they have without a server. */
 static int move_high(int low)
 {

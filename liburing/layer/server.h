@@ -12,6 +12,7 @@
 #ifndef SERVER_H
 #define SERVER_H
 
+#include <stdbool.h>
 #include <stdint.h>
 
 struct told_run {
@@ -23,5 +24,8 @@ struct told_run {
 
 /* A ring is about to be set up: serves here, if this is where runs begin. Returns in each run. */
 void serve_at_set_up(void);
+
+/* Whether a descriptor is one of the talk, which a run hasn't. */
+bool is_of_server(int descriptor);
 
 #endif

@@ -2,7 +2,10 @@
  * says, and then writes to its file, reads another and prints what both are: the same in each run.
  *
  *   plain       opens a file for writing and one for reading, and reads part of it
- *   threads, children, timer, shared, pipe, outside
+ *   copied, high, folder, mode
+ *               the same, and reads by a copy of a descriptor, or by one of a high number, makes a file in a folder that is open, or says which
+ *               mode and time a folder has
+ *   threads, children, timer, shared, pipe, outside, locked, nameless, linked
  *               the same, and what stands against a fork at the set-up
  *   hang, die   the same, and never ends, or dies by a signal
  */
@@ -13,7 +16,9 @@
 #include <stdio.h>
 #include <stdlib.h>
 #include <string.h>
+#include <sys/file.h>
 #include <sys/mman.h>
+#include <sys/stat.h>
 #include <sys/wait.h>
 #include <unistd.h>
 
@@ -49,6 +54,60 @@ static void do_before(const char *word)
         demand(open("/dev/shm", O_TMPFILE | O_RDWR, 0600) >= 0, "a file");
 }
 
+/* A file of eight bytes, by a descriptor that is at its beginning. */
+static int make_file(const char *name)
+{
+    int file = open(name, O_RDWR | O_CREAT, 0600);
+    demand(file >= 0 && write(file, "abcdefgh", 8) == 8 && lseek(file, 0, SEEK_SET) == 0, "one more file");
+    return file;
+}
+
+/* What is open before the set-up and used after it. */
+static struct {
+    int one, other, folder;
+} kept = {-1, -1, -1};
+
+static void open_before(const char *word)
+{
+    if (strcmp(word, "copied") == 0) {
+        kept.one = make_file("copied");
+        kept.other = dup(kept.one);
+    } else if (strcmp(word, "high") == 0) {
+        int file = make_file("high");
+        kept.one = fcntl(file, F_DUPFD, 800);
+        close(file);
+    } else if (strcmp(word, "folder") == 0) {
+        demand(mkdir("folder", 0700) == 0, "a folder");
+        kept.folder = open("folder", O_RDONLY | O_DIRECTORY);
+    } else if (strcmp(word, "mode") == 0) {
+        struct timespec times[2] = {{.tv_sec = 1000}, {.tv_sec = 1000}};
+        demand(mkdir("mode", 0700) == 0 && chmod("mode", 01777) == 0 && utimensat(AT_FDCWD, "mode", times, 0) == 0, "a folder");
+    } else if (strcmp(word, "locked") == 0) {
+        demand(flock(make_file("locked"), LOCK_EX | LOCK_NB) == 0, "a lock");
+    } else if (strcmp(word, "nameless") == 0) {
+        make_file("nameless");
+        demand(link("nameless", "another") == 0 && unlink("nameless") == 0, "another name");
+    } else if (strcmp(word, "linked") == 0) {
+        close(make_file("linked"));
+        demand(link("linked", "another") == 0, "another name");
+    }
+}
+
+static void use_after(void)
+{
+    char byte = '-', next = '-';
+    struct stat about;
+    if (kept.one >= 0)
+        demand(read(kept.one, &byte, 1) == 1, "a read");
+    if (kept.other >= 0)
+        demand(read(kept.other, &next, 1) == 1, "a read by the copy");
+    if (kept.folder >= 0)
+        demand(openat(kept.folder, "made", O_RDWR | O_CREAT | O_EXCL, 0600) >= 0, "a file in the folder");
+    if (stat("mode", &about) == 0)
+        printf("mode %o of %ld\n", about.st_mode & 07777, (long)about.st_mtim.tv_sec);
+    printf("read %c and %c\n", byte, next);
+}
+
 /* Three loose requests; the order in which they end is printed. */
 static void run_three(int file, int other)
 {
@@ -81,7 +140,9 @@ int main(int argc, char **argv)
     demand(read(other, bytes, 2) == 2, "a read");
     printf("before\n");
     do_before(word);
+    open_before(word);
     run_three(file, other);
+    use_after();
     if (strcmp(word, "hang") == 0)
         pause();
     if (strcmp(word, "die") == 0)
