@@ -1,5 +1,5 @@
 use Rattle.std.proofs.Common.{◌≡◌, ◌+◌}
-use Rattle.uring_machine_tests.proofs.tests.sizes.post_promised.Given as goal
+use Rattle.uring_layer_tests.proofs.tests.rings.completions.posts_promised.Given as goal
 
 -- each post takes one of those promised
 abbrev pub invariant-loop-user_data : goal.invariant-loop-user_data
