@@ -3,13 +3,11 @@
 mod growth;
 mod recorded;
 
-use super::check_done;
+use super::{check_done, first_false};
 use std::alloc::{AllocError, Global};
 use std::test::Fail;
 use uring_entry::{Setup, Sqe};
-use uring_machine::{
-    Answer, Core, Counts, Machine, NotSubmitted, Refusal, Step, Wanted, run, same_answer,
-};
+use uring_machine::{Answer, Core, Counts, Machine, Refusal, Step, Wanted, run, same_answer};
 
 /// An entry of a call.
 #[derive(Clone, Copy)]
@@ -151,13 +149,13 @@ fn goes(alloc: Global, machine: &mut Machine, case: Case) -> bool {
     }
 }
 
-/// The first case of these, in their order, that doesn't go so on a new machine of four slots.
+/// The same on a new machine of four slots: none, or the one case that goes otherwise.
 fn goes_on_a_new_machine(alloc: Global, case: Case) -> Result<Option<usize>, Fail> {
     let setup = Setup::new(4, Some(4), 2, 0)?;
     let mut machine = Machine::new(alloc, &setup)?;
     let is_right = goes(alloc, &mut machine, case);
     drop(machine);
-    Ok(if is_right { None } else { Some(0) })
+    Ok(first_false(&[is_right]))
 }
 
 /// The cases, with their names.
@@ -191,23 +189,26 @@ fn machines_go_as_they_should(rt: HostRuntime) -> Result<(), Fail> {
     Ok(())
 }
 
-/// What a core answers to a whole call of two no-ops.
-fn submitted(alloc: Global) -> Result<Result<Answer, NotSubmitted>, Fail> {
+/// Whether a core takes a whole call of two no-ops.
+fn takes_two(core: &mut Core) -> bool {
+    let taken = Answer::Taken {
+        accepted: 2,
+        dropped: 0,
+        head: 2,
+    };
+    core.submit(&[Sqe::nop(7, 0), Sqe::nop(8, 0)]) == Ok(taken)
+}
+
+/// The same of a new core: none, or the one call that it answers otherwise.
+fn untaken(alloc: Global) -> Result<Option<usize>, Fail> {
     let setup = Setup::new(4, Some(4), 2, 0)?;
     let mut core = Core::new(alloc, &setup)?;
-    let taken = core.submit(&[Sqe::nop(7, 0), Sqe::nop(8, 0)]);
+    let is_taken = takes_two(&mut core);
     drop(core);
-    Ok(taken)
+    Ok(first_false(&[is_taken]))
 }
 
 #[test]
 fn a_whole_call_is_taken(rt: HostRuntime) -> Result<(), Fail> {
-    let wanted = Ok(Answer::Taken {
-        accepted: 2,
-        dropped: 0,
-        head: 2,
-    });
-    let is_so = submitted(rt.alloc())? == wanted;
-    assert!(rt; is_so);
-    Ok(())
+    check_done(&rt, untaken(rt.alloc()), "a whole call")
 }

@@ -4,6 +4,8 @@
 
 use super::gives;
 use std::alloc::Global;
+use std::io::Print;
+use std::process::Abort;
 use std::test::Fail;
 use uring_entry::Setup;
 use uring_machine::{Answer, Machine, Step};
@@ -44,12 +46,17 @@ fn run_four_on_a_new_machine(alloc: Global) -> Result<Ending, Fail> {
     Ok(ending)
 }
 
-#[test]
-fn a_refused_run_makes_no_step(rt: HostRuntime) -> Result<(), Fail> {
-    let ending = run_four_on_a_new_machine(rt.alloc())?;
-    assert!(rt; !matches!(ending, Ending::Wrong));
-    if matches!(ending, Ending::Refused) {
-        println!(rt; "refused")?;
+/// Asserts that all went right, and tells if memory was refused.
+fn check_and_tell(rt: &(impl Abort + Print), ending: Ending) -> Result<(), Fail> {
+    match ending {
+        Ending::Ample => {}
+        Ending::Refused => println!(rt; "refused")?,
+        Ending::Wrong => assert!(rt; false),
     }
     Ok(())
+}
+
+#[test]
+fn a_refused_run_makes_no_step(rt: HostRuntime) -> Result<(), Fail> {
+    check_and_tell(&rt, run_four_on_a_new_machine(rt.alloc())?)
 }

@@ -1,5 +1,6 @@
 //! Lists of steps with answers that were recorded elsewhere: a lawful one, and one with an end that its operation doesn't give. That each other answer is told at its place is seen of the program (`checks/program`, `checks/recorded`).
 
+use crate::tests::{check_done, first_false};
 use std::alloc::Global;
 use std::test::Fail;
 use uring_entry::{Setup, Sqe};
@@ -43,11 +44,15 @@ fn is_told(alloc: Global, res: i32, wanted: [Option<(usize, Wanted)>; 2]) -> Res
     Ok(told(alloc, res)? == wanted)
 }
 
+/// Which of the lawful end and the other one is told otherwise.
+fn first_untold(alloc: Global) -> Result<Option<usize>, Fail> {
+    let wrong = Some((7, Wanted::Only(ended(0))));
+    let is_lawful = is_told(alloc, 0, [None, None])?;
+    let is_wrong = is_told(alloc, 3, [wrong, None])?;
+    Ok(first_false(&[is_lawful, is_wrong]))
+}
+
 #[test]
 fn answers_are_followed_or_told(rt: HostRuntime) -> Result<(), Fail> {
-    let wrong = Some((7, Wanted::Only(ended(0))));
-    let is_lawful = is_told(rt.alloc(), 0, [None, None])?;
-    let is_wrong = is_told(rt.alloc(), 3, [wrong, None])?;
-    assert!(rt; is_lawful && is_wrong);
-    Ok(())
+    check_done(&rt, first_untold(rt.alloc()), "recorded answers")
 }
