@@ -1,4 +1,4 @@
-//! Tests of the public calls of entries, rings, files and dispatcher: what no contract says. They stand in a crate of their own, since a crate with tests is proved twice.
+//! Tests of the public calls of entries, rings, files, dispatcher and machine: what no contract says, and no row in a file can. They stand in a crate of their own, since a crate with tests is proved twice.
 #![tactic(auto)]
 
 #[cfg(test)]

@@ -1,8 +1,9 @@
-//! Tests of the public calls of entries, rings, files and dispatchers.
+//! Tests of the public calls of entries, rings, files and dispatchers, and of those of a machine that only Rattle makes.
 
 mod dispatch;
 mod entry;
 mod files;
+mod machine;
 mod rings;
 mod rules;
 

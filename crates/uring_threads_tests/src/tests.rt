@@ -1,24 +1,13 @@
-//! The ends over lanes and over shared words, on one thread and in threads of their own.
+//! The ends over lanes and over shared words, played by one thread. In threads of their own the program plays them.
 
-mod dice;
 mod dropped;
 mod ends;
 mod gates;
 mod growth;
-mod held;
-mod lanes;
 mod moments;
-mod no_ends;
-mod random;
-mod refusals;
-mod replay;
-mod rests;
 mod results;
-mod rounds;
 mod rows;
-mod threads;
 mod told;
-mod words;
 
 use std::fmt::Debug;
 use std::process::Abort;

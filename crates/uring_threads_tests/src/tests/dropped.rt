@@ -99,7 +99,7 @@ fn carries_out_all(kernel: &mut Kernel<KernelLanes>, workers: &mut [Worker<Open>
 /// Whether four more items are put and no more, and nothing comes back.
 fn is_full_behind_four(app: &mut AppEnd<AppLanes>) -> bool {
     let four = items(&[Nop(2), Nop(3), Nop(4), Nop(5)]);
-    app.submit(&four) == Ok(())
+    app.submit(&four[..4]) == Ok(())
         && app.submit(&four[..1]) == Err(SubmitRefusal::Full)
         && app.close() == Err(CloseRefusal::Full)
         && app.reap().is_none()

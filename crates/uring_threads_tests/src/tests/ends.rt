@@ -1,15 +1,13 @@
 //! All ends of a set-up in one value, so that they can be settled at any moment.
+ghost use Rattle.std.specs.Prelude.{◌<◌, length};
 ghost use Rattle.uring_threads.specs.Report.{AreTogether};
 
-use super::threads::{Flags, Script, run_threads, turn_at};
 use std::alloc::{AllocError, Global};
-use std::sync::Wait;
 use std::test::Fail;
-use std::thread::Threads;
 use uring_entry::{Cqe, Setup};
 use uring_threads::{
-    AppEnd, Gate, Item, Kernel, KernelLanes, KernelPort, LanesFault, Open, Report, SubmitRefusal,
-    Turn, Worked, Worker, lanes, settle, words,
+    AppEnd, CloseRefusal, Gate, Item, Kernel, KernelLanes, KernelPort, LanesFault, Open, Report,
+    SubmitRefusal, Turn, Worked, Worker, lanes, settle, words,
 };
 use uring_words::KernelWords;
 
@@ -111,20 +109,24 @@ pub fn try_ends<K: Ports>(
     }
 }
 
+/// A turn of the worker at this place, which goes on to be of the same set-up.
+fn turn_at<G: Gate>(workers: &mut [Worker<G>], k: usize) -> Worked
+    requires { k < length workers.old }
+    ensures { (app : _) (kernel : _) → AreTogether app kernel workers.old
+        → AreTogether app kernel workers.new }
+{
+    workers[k].turn()
+}
+
 impl<K: KernelPort, G: Gate> Ends<K, G> {
     /// Submits these items, or says why it can't.
-    pub fn try_submit(&mut self, items: &[Item]) -> Result<(), SubmitRefusal> {
+    pub fn submit(&mut self, items: &[Item]) -> Result<(), SubmitRefusal> {
         self.app.submit(items)
     }
 
-    /// Whether the application submits these items.
-    pub fn submit(&mut self, items: &[Item]) -> bool {
-        self.app.submit(items).is_ok()
-    }
-
-    /// Whether the application closes its end.
-    pub fn close(&mut self) -> bool {
-        self.app.close().is_ok()
+    /// Closes the application's end, or says why it can't.
+    pub fn close(&mut self) -> Result<(), CloseRefusal> {
+        self.app.close()
     }
 
     /// What the application reaps.
@@ -153,23 +155,6 @@ impl<K: KernelPort, G: Gate> Ends<K, G> {
             return None;
         }
         Some(turn_at(&mut self.workers, place))
-    }
-
-    /// Runs all ends in threads of their own, until the dispatcher is idle.
-    pub fn run<R: Threads + Wait + Sync>(&mut self, rt: &R, script: &mut Script, flags: &Flags)
-    where
-        K: Send + 'static,
-        K::App: Send + 'static,
-        G: Send,
-    {
-        run_threads(
-            rt,
-            &mut self.app,
-            &mut self.kernel,
-            &mut self.workers,
-            script,
-            flags,
-        );
     }
 
     /// What all ends leave, or the ends as they were: out of memory.

@@ -1,4 +1,4 @@
-//! A gate is passed once for each job, and shown its number, and the worker's files as they are before it is carried out.
+//! A gate is passed once for each job, and shown its number, and the worker's files as they are before it is carried out. Gate 0 is worker 0's.
 
 use super::check;
 use super::ends::{Ends, Ports};
@@ -48,7 +48,7 @@ fn was_shown(shown: &Shown, times: u64, number: u64, len: u64) -> bool {
 fn goes_through<K: KernelPort, G: Gate>(ends: &mut Ends<K, G>, shown: &Shown) -> bool {
     let first = Item::Entry(Sqe::write(1, 0, 0, 0, &[97, 98]));
     let second = Item::Entry(Sqe::write(2, 0, 0, 2, &[99, 100]));
-    let submitted = ends.submit(&[first, second]);
+    let submitted = ends.submit(&[first, second]).is_ok();
     let taken = ends.turn().is_some();
     let before = was_shown(shown, 0, 99, 99);
     let one = works(ends, shown, 0, 0);
@@ -67,10 +67,14 @@ fn works<K: KernelPort, G: Gate>(
     worked && was_shown(shown, number.wrapping_add(1), number, len)
 }
 
-/// Whether it goes so at new ends of one worker, with a gate that notes here what it is shown.
-fn is_shown_at_new_ends<K: Ports>(alloc: Global, shown: &Shown) -> Result<bool, Fail> {
+/// Whether it goes so at new ends of two workers, with gates that note here what they are shown.
+fn is_shown_at_new_ends<K: Ports>(
+    alloc: Global,
+    shown: &Shown,
+    other: &Shown,
+) -> Result<bool, Fail> {
     let setup = Setup::new(4, Some(4), 1, 0)?;
-    let gates = vec![in alloc; Noting(shown)]?;
+    let gates = vec![in alloc; Noting(shown), Noting(other)]?;
     match K::ends(alloc, &setup, gates) {
         Ok(ends) => Ok(goes_through_these(ends, shown)),
         Err(fault) => Err(Fail::from(fault)),
@@ -85,16 +89,23 @@ fn goes_through_these<K: KernelPort, G: Gate>(ends: Ends<K, G>, shown: &Shown) -
     right
 }
 
-/// The same with nothing noted yet.
-fn is_shown<K: Ports>(alloc: Global) -> Result<bool, Fail> {
-    let shown = Shown {
+/// Nothing is noted yet.
+fn nothing() -> Shown {
+    Shown {
         times: AtomicU64::new(0),
         number: AtomicU64::new(99),
         len: AtomicU64::new(99),
-    };
-    let right = is_shown_at_new_ends::<K>(alloc, &shown);
+    }
+}
+
+/// Whether worker 0's gate is shown it, and worker 1's nothing.
+fn is_shown<K: Ports>(alloc: Global) -> Result<bool, Fail> {
+    let (shown, other) = (nothing(), nothing());
+    let right = is_shown_at_new_ends::<K>(alloc, &shown, &other);
+    let is_other = was_shown(&other, 0, 99, 99);
     drop(shown);
-    right
+    drop(other);
+    Ok(right? && is_other)
 }
 
 #[test]

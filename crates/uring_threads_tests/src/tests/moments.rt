@@ -1,11 +1,10 @@
 //! What settling reports at a moment: with something on its way between any two ends, and with a call that no turn took in.
 
 use super::ends::{Ends, Ports, new_ends};
-use super::replay::{has_events, replays};
 use super::rows::Put::{Bad, Nop, Write};
 use super::rows::Row::{Submit, Turn, Work};
 use super::rows::{Row, first_wrong};
-use super::told::{Told, tell};
+use super::told::{Told, has_events, tell};
 use super::{check_none, nop};
 use std::alloc::{AllocError, Global};
 use std::test::Fail;
@@ -152,10 +151,9 @@ fn has_files(report: &Report<Open>) -> bool {
     states == [written, written, None, None] && bytes == [Some(97), Some(98), None, None]
 }
 
-/// Whether a report says all of it, and the trace is what a new machine answers.
-fn has_all(alloc: Global, report: &Report<Open>) -> Result<bool, Fail> {
-    let replayed = replays(alloc, report)?;
-    Ok(replayed && has_lists(&tell(report)) && has_trace(report) && has_files(report))
+/// Whether a report says all of it.
+fn has_all(report: &Report<Open>) -> bool {
+    has_lists(&tell(report)) && has_trace(report) && has_files(report)
 }
 
 /// Whether a report has the second call unsent, and nothing else on its way.
@@ -167,10 +165,10 @@ fn has_call(report: &Report<Open>) -> bool {
 }
 
 /// Whether a report says what is on its way.
-fn is_right(alloc: Global, report: &Report<Open>, on_its_way: OnItsWay) -> Result<bool, Fail> {
+fn is_right(report: &Report<Open>, on_its_way: OnItsWay) -> bool {
     match on_its_way {
-        OnItsWay::All => has_all(alloc, report),
-        OnItsWay::Call => Ok(has_call(report)),
+        OnItsWay::All => has_all(report),
+        OnItsWay::Call => has_call(report),
     }
 }
 
@@ -182,9 +180,9 @@ fn settles_right<K: Ports>(
 ) -> Result<bool, Fail> {
     match ends.settle(alloc) {
         Ok(report) => {
-            let right = is_right(alloc, &report, on_its_way);
+            let right = is_right(&report, on_its_way);
             drop(report);
-            right
+            Ok(right)
         }
         Err(AllocError) => Err(Fail::from(AllocError)),
     }

@@ -1,6 +1,6 @@
 //! Results that the dispatcher takes in, of requests of every standing.
 
-use super::replay::has_events;
+use super::told::has_events;
 use std::alloc::Global;
 use std::test::Fail;
 use uring_entry::{Outcome, Setup, Sqe};

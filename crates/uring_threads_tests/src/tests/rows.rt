@@ -5,7 +5,7 @@ mod plays;
 use super::ends::{Ends, Ports};
 use super::turn;
 use uring_entry::{Cqe, Sqe};
-use uring_threads::{Item, Open, SubmitRefusal, Turn, Worked};
+use uring_threads::{CloseRefusal, Item, Open, SubmitRefusal, Turn, Worked};
 
 /// An item of a call.
 #[derive(Clone, Copy)]
@@ -15,6 +15,9 @@ pub enum Put {
 
     /// One that posts no completion: its flag is IOSQE_CQE_SKIP_SUCCESS.
     Silent(u64),
+
+    /// A sync with this user data, of a file.
+    Sync(u64, i32),
 
     /// A write with this user data, of one byte to the front of a file.
     Write(u64, i32, u8),
@@ -26,16 +29,19 @@ pub enum Put {
 /// What some end does, and what should come of it.
 #[derive(Clone, Copy)]
 pub enum Row {
-    /// The application submits these items, of which there are at most four.
+    /// The application submits these items, of which there are at most five.
     Submit(&'static [Put]),
 
-    /// It submits these, and the ring is full.
-    Full(&'static [Put]),
+    /// It submits these, and is refused so.
+    Refused(&'static [Put], SubmitRefusal),
 
     /// It closes its end.
     Close,
 
-    /// It reaps the completion of a no-op with this user data, or finds none.
+    /// It closes its end, and is refused so.
+    CloseRefused(CloseRefusal),
+
+    /// It reaps the completion of a no-op or a sync with this user data, or finds none.
     Reap(Option<u64>),
 
     /// It sees this dropped word over shared words, and none over lanes.
@@ -62,14 +68,15 @@ fn item(put: Put) -> Item {
     match put {
         Put::Nop(user_data) => Item::Entry(Sqe::nop(user_data, 0)),
         Put::Silent(user_data) => Item::Entry(Sqe::nop(user_data, 64)),
+        Put::Sync(user_data, fd) => Item::Entry(Sqe::fsync(user_data, 0, fd)),
         Put::Write(user_data, fd, byte) => Item::Entry(Sqe::write(user_data, 0, fd, 0, &[byte])),
         Put::Bad(word) => Item::Bad(word),
     }
 }
 
 /// These items, and words that name no slot behind them.
-pub fn items(puts: &[Put]) -> [Item; 4] {
-    let mut items = [Item::Bad(u32::MAX); 4];
+pub fn items(puts: &[Put]) -> [Item; 5] {
+    let mut items = [Item::Bad(u32::MAX); 5];
     for (item_there, put) in items.iter_mut().zip(puts) {
         *item_there = item(*put);
     }
@@ -82,16 +89,16 @@ pub fn submits<K: Ports>(
     puts: &[Put],
     wanted: Result<(), SubmitRefusal>,
 ) -> bool {
-    let count = puts.len().min(4);
-    ends.try_submit(&items(puts)[..count]) == wanted
+    let count = puts.len().min(5);
+    ends.submit(&items(puts)[..count]) == wanted
 }
 
-/// The completion of a no-op.
+/// The completion of a no-op, or of a sync.
 pub fn completion(user_data: u64) -> Cqe {
     Cqe::new(user_data, 0, [0; 64])
 }
 
-/// Whether the application reaps the completion of this no-op, or finds none.
+/// Whether the application reaps this completion, or finds none.
 fn reaps<K: Ports>(ends: &mut Ends<K, Open>, wanted: Option<u64>) -> bool {
     ends.reap() == wanted.map(completion)
 }
@@ -115,8 +122,9 @@ fn has_job<K: Ports>(ends: &mut Ends<K, Open>, place: usize) -> bool {
 fn goes<K: Ports>(ends: &mut Ends<K, Open>, row: Row) -> bool {
     match row {
         Row::Submit(puts) => submits(ends, puts, Ok(())),
-        Row::Full(puts) => submits(ends, puts, Err(SubmitRefusal::Full)),
-        Row::Close => ends.close(),
+        Row::Refused(puts, refusal) => submits(ends, puts, Err(refusal)),
+        Row::Close => ends.close().is_ok(),
+        Row::CloseRefused(refusal) => ends.close() == Err(refusal),
         Row::Reap(wanted) => reaps(ends, wanted),
         Row::Dropped(word) => ends.dropped() == K::shown(word),
         Row::Turn(popped, issued, finished, delivered) => {

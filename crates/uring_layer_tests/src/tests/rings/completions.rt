@@ -18,9 +18,11 @@ enum Event {
     Rest(&'static [u64]),
     /// How many were posted, and how many reaped.
     Counts(u64, u64),
+    /// So many are promised to an empty ring at once, twice, and then posted.
+    Promised(u64),
 }
 
-use Event::{Counts, Flush, LoadTail, Post, Reap, Rest, StoreHead};
+use Event::{Counts, Flush, LoadTail, Post, Promised, Reap, Rest, StoreHead};
 
 fn completion(user_data: u64) -> Cqe {
     Cqe::new(user_data, 0, [0; 64])
@@ -51,6 +53,17 @@ fn posts(ring: &mut Cq, user_data: u64) -> bool {
     true
 }
 
+/// Posts so many that were promised. Whether all rest, the last behind the others.
+fn posts_promised(ring: &mut Cq, count: u64) -> Result<bool, AllocError> {
+    ring.reserve(count)?;
+    ring.reserve(count)?;
+    for user_data in 0..count {
+        ring.post(completion(user_data));
+    }
+    let last = count.saturating_sub(1);
+    Ok(ring.posted() == count && ring.rest(last) == Some(completion(last)))
+}
+
 /// Makes an event happen. Whether it went as wanted.
 fn goes(ring: &mut Cq, event: Event) -> bool {
     match event {
@@ -61,6 +74,7 @@ fn goes(ring: &mut Cq, event: Event) -> bool {
         StoreHead(wanted) => ring.store_head() == wanted,
         Rest(wanted) => is_rest(ring, wanted),
         Counts(posted, reaped) => (ring.posted(), ring.reaped()) == (posted, reaped),
+        Promised(count) => posts_promised(ring, count) == Ok(true),
     }
 }
 
@@ -117,7 +131,7 @@ const POST_BEHIND_OTHERS: &[Event] = &[
 ];
 
 /// The histories: of each its name, its ring's size and the word at which that begins, and its events.
-static HISTORIES: [(&str, u32, u32, &[Event]); 2] = [
+static HISTORIES: [(&str, u32, u32, &[Event]); 4] = [
     ("two across the wrap", 2, u32::MAX, TWO_ACROSS_THE_WRAP),
     (
         "a post stays behind those that wait",
@@ -125,6 +139,8 @@ static HISTORIES: [(&str, u32, u32, &[Event]); 2] = [
         0,
         POST_BEHIND_OTHERS,
     ),
+    ("101 posts are promised", 1, 0, &[Promised(101)]),
+    ("10,001 posts are promised", 1, 0, &[Promised(10_001)]),
 ];
 
 #[test]

@@ -75,8 +75,8 @@ impl Progress {
     /// Submits the next call, or closes behind the last one.
     fn submit(&mut self, made: &mut Lanes) {
         if self.submitted >= CALLS {
-            self.is_closed |= made.close();
-        } else if made.submit(&call(self.submitted)) {
+            self.is_closed |= made.close().is_ok();
+        } else if made.submit(&call(self.submitted)).is_ok() {
             self.submitted = self.submitted.wrapping_add(1);
         }
     }

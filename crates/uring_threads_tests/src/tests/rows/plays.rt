@@ -2,14 +2,16 @@
 
 use super::super::check_none;
 use super::super::ends::{Ends, Ports, open_ends};
-use super::Put::{Bad, Nop, Silent};
-use super::Row::{Close, Dropped, Full, IsIdle, Job, NoWorker, Reap, Submit, Turn, Work};
+use super::Put::{Bad, Nop, Silent, Sync};
+use super::Row::{
+    Close, CloseRefused, Dropped, IsIdle, Job, NoWorker, Reap, Refused, Submit, Turn, Work,
+};
 use super::{Row, first_wrong};
 use std::alloc::Global;
 use std::test::Fail;
 use uring_entry::{BadSetup, Setup};
 use uring_threads::Worked::{Done, Idle};
-use uring_threads::{KernelLanes, Open};
+use uring_threads::{CloseRefusal, KernelLanes, Open, SubmitRefusal};
 use uring_words::KernelWords;
 
 /// Which rings a play has.
@@ -91,6 +93,118 @@ const ROUND: &[Row] = &[
     Reap(None),
 ];
 
+/// Calls of one to four items, of which each second one names no slot. Ten items go round a ring of four twice and a half, so that the second time calls begin at the other places.
+const EACH_LENGTH: &[Row] = &[
+    Submit(&[Nop(1)]),
+    Turn(1, 1, 0, 0),
+    Job(0),
+    Turn(0, 0, 1, 1),
+    Reap(Some(1)),
+    Reap(None),
+    Submit(&[Nop(2), Bad(4)]),
+    Turn(2, 1, 0, 0),
+    Job(0),
+    Turn(0, 0, 1, 1),
+    Reap(Some(2)),
+    Reap(None),
+    Submit(&[Nop(3), Bad(4), Nop(4)]),
+    Turn(3, 2, 0, 0),
+    Job(0),
+    Job(0),
+    Turn(0, 0, 2, 2),
+    Reap(Some(3)),
+    Reap(Some(4)),
+    Reap(None),
+    Submit(&[Nop(5), Bad(4), Nop(6), Bad(u32::MAX)]),
+    Turn(4, 2, 0, 0),
+    Job(0),
+    Job(0),
+    Turn(0, 0, 2, 2),
+    Reap(Some(5)),
+    Reap(Some(6)),
+    Reap(None),
+];
+
+/// One to four completions, delivered at each place of the ring in turn.
+const EACH_DELIVERY: &[Row] = &[
+    Submit(&[Nop(1)]),
+    Turn(1, 1, 0, 0),
+    Job(0),
+    Turn(0, 0, 1, 1),
+    Reap(Some(1)),
+    Submit(&[Nop(2), Nop(3)]),
+    Turn(2, 2, 0, 0),
+    Job(0),
+    Job(0),
+    Turn(0, 0, 2, 2),
+    Reap(Some(2)),
+    Reap(Some(3)),
+    Submit(&[Nop(4), Nop(5), Nop(6)]),
+    Turn(3, 3, 0, 0),
+    Job(0),
+    Job(0),
+    Job(0),
+    Turn(0, 0, 3, 3),
+    Reap(Some(4)),
+    Reap(Some(5)),
+    Reap(Some(6)),
+    Submit(&[Nop(7), Nop(8), Nop(9), Nop(10)]),
+    Turn(4, 4, 0, 0),
+    Job(0),
+    Job(0),
+    Job(0),
+    Job(0),
+    Turn(0, 0, 4, 4),
+    Reap(Some(7)),
+    Reap(Some(8)),
+    Reap(Some(9)),
+    Reap(Some(10)),
+    Reap(None),
+];
+
+/// Each refusal of a submit and of a close, in their order; a place is free again once a turn took a call in.
+const REFUSALS: &[Row] = &[
+    Refused(&[], SubmitRefusal::Empty),
+    Refused(
+        &[Nop(1), Nop(2), Bad(0), Nop(4), Nop(5)],
+        SubmitRefusal::TooLong,
+    ),
+    Submit(&[Nop(1), Nop(2), Bad(4)]),
+    Refused(&[Nop(1), Bad(3)], SubmitRefusal::NotBad),
+    Refused(&[Nop(3), Nop(4)], SubmitRefusal::Full),
+    Submit(&[Nop(5)]),
+    CloseRefused(CloseRefusal::Full),
+    Turn(3, 2, 0, 0),
+    Close,
+    CloseRefused(CloseRefusal::Closed),
+    Refused(&[], SubmitRefusal::Closed),
+    Refused(&[Nop(6)], SubmitRefusal::Closed),
+    Refused(
+        &[Nop(6), Nop(7), Nop(8), Nop(9), Nop(10)],
+        SubmitRefusal::Closed,
+    ),
+    Turn(1, 1, 0, 0),
+    Job(0),
+    Job(0),
+    Job(0),
+    Turn(0, 0, 3, 3),
+    Turn(0, 0, 0, 0),
+    IsIdle(true),
+];
+
+/// Worker 0 does nothing, and worker 1's sync is delivered; worker 0's comes once it does.
+const HELD: &[Row] = &[
+    Submit(&[Sync(1, 0), Sync(2, 1)]),
+    Turn(2, 2, 0, 0),
+    Work(1, Done(1)),
+    Turn(0, 0, 1, 1),
+    Reap(Some(2)),
+    Reap(None),
+    Work(0, Done(0)),
+    Turn(0, 0, 1, 1),
+    Reap(Some(1)),
+];
+
 /// A turn that takes a call in also takes in the result of the call before it.
 const BESIDE_A_RESULT: &[Row] = &[
     Submit(&[Nop(1)]),
@@ -100,7 +214,7 @@ const BESIDE_A_RESULT: &[Row] = &[
     Turn(1, 1, 1, 1),
 ];
 
-/// Calls are taken in behind four completions that fill the ring, with one and then three that wait.
+/// Calls are taken in behind four completions that fill the ring, with one and then three that wait. Once one of the four is reaped there is room for one.
 const BEHIND_COMPLETIONS: &[Row] = &[
     Submit(&[Nop(1), Nop(2), Nop(3), Nop(4)]),
     Turn(4, 4, 0, 0),
@@ -124,6 +238,9 @@ const BEHIND_COMPLETIONS: &[Row] = &[
     Job(0),
     Job(0),
     Turn(0, 0, 3, 0),
+    Reap(Some(1)),
+    Turn(0, 0, 0, 1),
+    Turn(0, 0, 0, 0),
 ];
 
 /// The dropped word is seen at first, behind a call with one word that names no slot, behind the turn that takes it in, and once more; then behind a turn that takes in two such words, and behind one that takes in nothing.
@@ -144,7 +261,7 @@ const DROPPED: &[Row] = &[
 /// A full ring looks at the head again: there is room once a turn has popped.
 const FULL: &[Row] = &[
     Submit(&[Nop(1), Nop(2)]),
-    Full(&[Nop(3)]),
+    Refused(&[Nop(3)], SubmitRefusal::Full),
     Turn(2, 2, 0, 0),
     Submit(&[Nop(3)]),
 ];
@@ -179,7 +296,7 @@ const FIVE_ROUNDS: &[Row] = &[
 ];
 
 /// All plays.
-static PLAYS: [Play; 11] = [
+static PLAYS: [Play; 15] = [
     Play {
         name: "one no-op and a close",
         rings: Rings::OfFour,
@@ -214,6 +331,34 @@ static PLAYS: [Play; 11] = [
         workers: 8,
         times: 1000,
         rows: ROUND,
+    },
+    Play {
+        name: "calls of each length",
+        rings: Rings::OfFour,
+        workers: 1,
+        times: 250,
+        rows: EACH_LENGTH,
+    },
+    Play {
+        name: "as many completions",
+        rings: Rings::OfFour,
+        workers: 1,
+        times: 250,
+        rows: EACH_DELIVERY,
+    },
+    Play {
+        name: "refusals come in their order",
+        rings: Rings::OfFour,
+        workers: 1,
+        times: 1,
+        rows: REFUSALS,
+    },
+    Play {
+        name: "a held worker holds up no other",
+        rings: Rings::OfFour,
+        workers: 2,
+        times: 1,
+        rows: HELD,
     },
     Play {
         name: "results are taken in beside a call",
