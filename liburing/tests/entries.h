@@ -90,8 +90,9 @@ static inline void make_all(const char *folder)
     at.files[0] = at.files[1] = at.file;
     at.cells = mmap(NULL, 4096, PROT_READ | PROT_WRITE, MAP_PRIVATE | MAP_ANONYMOUS, -1, 0);
     check(at.cells != MAP_FAILED);
-    at.cells->bufs[0] = (struct io_uring_buf){.addr = (uintptr_t)at.bytes, .len = 4096, .bid = 1};
-    at.cells->tail = 1;
+    for (uint16_t i = 0; i < 2; i++)
+        at.cells->bufs[i] = (struct io_uring_buf){.addr = (uintptr_t)at.bytes, .len = 4096, .bid = i};
+    at.cells->tail = 2;
 }
 
 /* ---- an entry of each operation, as it should be ---- */

@@ -329,25 +329,30 @@ static void test_cancel(void)
     close_ring(&ring);
 }
 
-/* The completion that finds the ring full is the last. */
+/* The completion that finds the ring full is the last. (A lazy ring may have carried no more out by then.) */
 static void test_overflow(void)
 {
     struct ring ring;
     int ends[2];
+    char left[5] = "";
     make_pipe(ends, "");
     make_with(&ring, 4, BY_LIST, 8);
     begin_read(&ring, ends[0], BY_LIST);
     check(write(ends[1], "000011112222333344445555", 24) == 24);
     check(enter(&ring, 0, 4, IORING_ENTER_GETEVENTS) == 0 && count_ready(&ring) == 4);
+    bool is_full = flags_of(&ring) & IORING_SQ_CQ_OVERFLOW;
     expect_bytes(&ring, "0000", 0);
     expect_bytes(&ring, "1111", 1);
     expect_bytes(&ring, "2222", 2);
     expect_bytes(&ring, "3333", 3);
     struct seen last = next_of(&ring);
-    check(last.res == SIZE && last.flags == (IORING_CQE_F_BUFFER | (FIRST + 4u) << IORING_CQE_BUFFER_SHIFT));
-    expect_nothing(&ring);
-    char left[5] = "";
-    check(read(ends[0], left, 4) == 4 && strcmp(left, "5555") == 0);
+    check(last.res == SIZE && last.flags == (IORING_CQE_F_BUFFER | (is_full ? 0 : IORING_CQE_F_MORE) | (FIRST + 4u) << IORING_CQE_BUFFER_SHIFT));
+    if (is_full) {
+        expect_nothing(&ring);
+        check(read(ends[0], left, 4) == 4 && strcmp(left, "5555") == 0);
+    } else {
+        expect_bytes(&ring, "5555", 5);
+    }
     close_pipe(ends);
     close_ring(&ring);
 }
