@@ -304,6 +304,9 @@ static void look_at_results(void)
     demand(!wulgach_asks_shut(&going_on, -11) && !wulgach_asks_shut(&hasty, -11) && !wulgach_asks_shut(&unwilling, -11), "where that doesn't matter");
     demand(wulgach_shut_result(&read, -11, true, false) == 0 && wulgach_shut_result(&read, -11, false, false) == -11 && wulgach_shut_result(&read, 5, true, false) == 5, "a socket that was shut down");
     demand(wulgach_shut_result(&read, -11, true, true) == -11 && wulgach_shut_result(&receive, -11, true, true) == -11 && wulgach_shut_result(&hasty, -11, true, true) == 0, "one that isn't to wait");
+    struct wulgach_submission reads_on = {.opcode = 49, .off = 4096}, without_offset = {.opcode = 49, .off = UINT64_MAX};
+    demand(wulgach_offset_behind(&reads_on, 16) == 4112 && wulgach_offset_behind(&reads_on, -11) == 4096 && wulgach_offset_behind(&without_offset, 16) == UINT64_MAX && wulgach_offset_behind(&read, 16) == 0, "where a read that goes on reads next");
+    demand(wulgach_takes_for_nothing(22) && !wulgach_takes_for_nothing(49) && !wulgach_takes_for_nothing(27), "what takes a buffer at the end of its file");
     demand(wulgach_placed_result(UINT32_MAX, 7) == 7 && wulgach_placed_result(8, 7) == 0, "a file for any slot, and for one");
     struct wulgach_submission sends = {.opcode = 9}, receives = {.opcode = 10}, splice = {.opcode = 30};
     demand(wulgach_control_of(&sends, 24, 0) == 24 && wulgach_control_of(&sends, 24, 5) == 0 && wulgach_control_of(&receives, 24, 5) == 24, "control data");

@@ -280,6 +280,7 @@ static void poll_one(void)
     demand(wulgach_asks_instance(&urgent) && !wulgach_asks_instance(&readable) && wulgach_asks_instance(&edges), "an instance is asked");
     struct wulgach_poll_start start;
     demand(wulgach_instance_events(0x203b) == 0x8000203b, "it tells of edges");
+    demand(wulgach_polling_fault(0) == 0 && wulgach_polling_fault(-EPERM) == -EBADFD && wulgach_polling_fault(-EMFILE) == -EMFILE, "a read that goes on");
     wulgach_poll_starts(0x203b, true, 0, &start);
     demand(start.fault == 0 && start.goes_on, "one that goes on");
     wulgach_poll_starts(0x203b, false, -EBADF, &start);
