@@ -268,7 +268,7 @@ static void look_at_parts(void)
 static void look_at_calls(void)
 {
     for (unsigned code = 0; code < 64; code++) {
-        bool is_transfer = code == 1 || code == 2 || code == 4 || code == 5 || code == 22 || code == 23, is_sockets = code == 9 || code == 10 || code == 13 || code == 16 || code == 26 || code == 27 || code == 47 || code == 48;
+        bool is_transfer = code == 1 || code == 2 || code == 4 || code == 5 || code == 22 || code == 23 || code == 49, is_sockets = code == 9 || code == 10 || code == 13 || code == 16 || code == 26 || code == 27 || code == 47 || code == 48;
         uint32_t calls = is_transfer ? WULGACH_CALLS_OF_TRANSFER : code == 6 ? WULGACH_CALLS_OF_POLL : is_sockets || code == 30 || code == 33 ? WULGACH_CALLS_IN_TURN : WULGACH_CALLS_ONCE;
         demand(wulgach_calls_of((uint8_t)code) == calls, "by which calls");
     }

@@ -68,7 +68,7 @@ static void need_as_told(void)
     wulgach_needs_as(&read, WULGACH_FORM_TOKEN, &token);
     wulgach_needs_as(&read, WULGACH_FORM_CANCEL, &cancel);
     wulgach_needs_as(&read, WULGACH_FORM_REFUSED, &refused);
-    demand(token.needs_file && token.is_read && token.sought == 17 && token.fd == 3 && token.buffer == 4, "a token");
+    demand(token.needs_file && token.is_read && token.sought == 33 && token.fd == 3 && token.buffer == 4, "a token");
     demand(!cancel.needs_file && cancel.sought == 0 && !refused.is_read && refused.events == 0 && refused.fd == 0 && refused.second_fd == 0 && cancel.buffer == 0, "what is no token needs nothing");
     demand(wulgach_counts_as_ready(1, 1) && !wulgach_counts_as_ready(0, 0) && wulgach_counts_as_ready(-1, 0) && !wulgach_counts_as_ready(2, 0), "what a poll tells");
 }
