@@ -247,6 +247,13 @@ void wulgach_rest_of(const struct wulgach_vector *vector, uint64_t moved, struct
 bool wulgach_asks_shut(const struct wulgach_submission *entry, int32_t came_to);
 int32_t wulgach_shut_result(const struct wulgach_submission *entry, int32_t came_to, bool is_shut, bool isnt_to_wait);
 
+/* Whether an operation has taken its provided buffer though it moved nothing: a transfer at the end of its file, but a READ_MULTISHOT hasn't. */
+bool wulgach_takes_for_nothing(uint8_t code);
+
+/* The offset at which a READ_MULTISHOT reads next, behind a call that came to this: behind the bytes that it read, if it has one. Of another
+ * entry its own. */
+uint64_t wulgach_offset_behind(const struct wulgach_submission *entry, int32_t came_to);
+
 /* Returns what a file ends with that was put into this slot, where its entry asked for that one or, by 2^32 - 1
  * (IORING_FILE_INDEX_ALLOC), for any: the slot of one that asked for any, else 0. */
 int32_t wulgach_placed_result(uint32_t asked, uint32_t slot);

@@ -103,6 +103,10 @@ struct wulgach_poll_start {
  * nothing that its descriptor has. */
 void wulgach_poll_starts(uint16_t events, bool goes_on, int32_t res, struct wulgach_poll_start *start);
 
+/* With what a READ_MULTISHOT fails as it starts, where asking an instance for its descriptor came to `res`; or 0: with that error, but with -77
+ * (EBADFD) where the descriptor can't be polled (EPERM). */
+int32_t wulgach_polling_fault(int32_t res);
+
 #ifdef __cplusplus
 }
 #endif

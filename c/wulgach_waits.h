@@ -46,7 +46,8 @@ enum wulgach_need {
     WULGACH_NEEDS_SECOND = 1,   /* the one that it reads from */
     WULGACH_NEEDS_OPEN = 2,     /* that the first is open */
     WULGACH_NEEDS_BUFFER = 3,   /* its registered buffer, which has its bytes */
-    WULGACH_NEEDS_KIND = 4      /* what its descriptor is, and so whether it may have to wait for that */
+    WULGACH_NEEDS_POLLING = 4,  /* that the first can be polled */
+    WULGACH_NEEDS_KIND = 5      /* what its descriptor is, and so whether it may have to wait for that */
 };
 
 /* Writes what the operation of an entry needs, and of which kind it is. */

@@ -268,7 +268,7 @@ static void look_at_parts(void)
 static void look_at_calls(void)
 {
     for (unsigned code = 0; code < 64; code++) {
-        bool is_transfer = code == 1 || code == 2 || code == 4 || code == 5 || code == 22 || code == 23, is_sockets = code == 9 || code == 10 || code == 13 || code == 16 || code == 26 || code == 27 || code == 47 || code == 48;
+        bool is_transfer = code == 1 || code == 2 || code == 4 || code == 5 || code == 22 || code == 23 || code == 49, is_sockets = code == 9 || code == 10 || code == 13 || code == 16 || code == 26 || code == 27 || code == 47 || code == 48;
         uint32_t calls = is_transfer ? WULGACH_CALLS_OF_TRANSFER : code == 6 ? WULGACH_CALLS_OF_POLL : is_sockets || code == 30 || code == 33 ? WULGACH_CALLS_IN_TURN : WULGACH_CALLS_ONCE;
         demand(wulgach_calls_of((uint8_t)code) == calls, "by which calls");
     }
@@ -304,6 +304,9 @@ static void look_at_results(void)
     demand(!wulgach_asks_shut(&going_on, -11) && !wulgach_asks_shut(&hasty, -11) && !wulgach_asks_shut(&unwilling, -11), "where that doesn't matter");
     demand(wulgach_shut_result(&read, -11, true, false) == 0 && wulgach_shut_result(&read, -11, false, false) == -11 && wulgach_shut_result(&read, 5, true, false) == 5, "a socket that was shut down");
     demand(wulgach_shut_result(&read, -11, true, true) == -11 && wulgach_shut_result(&receive, -11, true, true) == -11 && wulgach_shut_result(&hasty, -11, true, true) == 0, "one that isn't to wait");
+    struct wulgach_submission reads_on = {.opcode = 49, .off = 4096}, without_offset = {.opcode = 49, .off = UINT64_MAX};
+    demand(wulgach_offset_behind(&reads_on, 16) == 4112 && wulgach_offset_behind(&reads_on, -11) == 4096 && wulgach_offset_behind(&without_offset, 16) == UINT64_MAX && wulgach_offset_behind(&read, 16) == 0, "where a read that goes on reads next");
+    demand(wulgach_takes_for_nothing(22) && !wulgach_takes_for_nothing(49) && !wulgach_takes_for_nothing(27), "what takes a buffer at the end of its file");
     demand(wulgach_placed_result(UINT32_MAX, 7) == 7 && wulgach_placed_result(8, 7) == 0, "a file for any slot, and for one");
     struct wulgach_submission sends = {.opcode = 9}, receives = {.opcode = 10}, splice = {.opcode = 30};
     demand(wulgach_control_of(&sends, 24, 0) == 24 && wulgach_control_of(&sends, 24, 5) == 0 && wulgach_control_of(&receives, 24, 5) == 24, "control data");

@@ -27,7 +27,7 @@ static void look_at_fields(void)
 {
     enum { NOP, READV, WRITEV, FSYNC, READ_FIXED, POLL_ADD = 6, POLL_REMOVE, TIMEOUT = 11, TIMEOUT_REMOVE, ACCEPT, CANCEL, LINK_TIMEOUT };
     demand(FORM(.opcode = NOP) == 0 && FORM(.opcode = NOP, .ioprio = 1) == -22, "a no-op");
-    demand(FORM(.opcode = 46) == -22 && FORM(.opcode = 49) == -22 && FORM(.opcode = 48, .ioprio = 9) == 0 && FORM(.opcode = 48, .ioprio = 4) == -22 && FORM(.opcode = 47, .file_index = 65535) == 0 && FORM(.opcode = 47, .file_index = 65536) == -22, "what is served");
+    demand(FORM(.opcode = 46) == -22 && FORM(.opcode = 49) == -22 && FORM(.opcode = 49, .flags = 32) == 0 && FORM(.opcode = 49, .flags = 32, .len = 1) == -22 && FORM(.opcode = 48, .ioprio = 9) == 0 && FORM(.opcode = 48, .ioprio = 4) == -22 && FORM(.opcode = 47, .file_index = 65535) == 0 && FORM(.opcode = 47, .file_index = 65536) == -22, "what is served");
     demand(FORM(.opcode = NOP, .flags = 128) == -22 && FORM(.opcode = NOP, .personality = 1) == -22 && FORM(.opcode = NOP, .flags = 127 - 32) == 0, "flags");
     demand(FORM(.opcode = READV, .len = 1024) == 0 && FORM(.opcode = WRITEV, .len = 1025) == -22 && FORM(.opcode = READ_FIXED, .ioprio = 32767) == 0 && FORM(.opcode = READ_FIXED, .ioprio = 32768) == -22, "transfers");
     demand(FORM(.opcode = FSYNC, .op_flags = 1) == 0 && FORM(.opcode = FSYNC, .op_flags = 2) == -22 && FORM(.opcode = FSYNC, .addr = 1) == -22, "an fsync");

@@ -68,7 +68,7 @@ static void need_as_told(void)
     wulgach_needs_as(&read, WULGACH_FORM_TOKEN, &token);
     wulgach_needs_as(&read, WULGACH_FORM_CANCEL, &cancel);
     wulgach_needs_as(&read, WULGACH_FORM_REFUSED, &refused);
-    demand(token.needs_file && token.is_read && token.sought == 17 && token.fd == 3 && token.buffer == 4, "a token");
+    demand(token.needs_file && token.is_read && token.sought == 33 && token.fd == 3 && token.buffer == 4, "a token");
     demand(!cancel.needs_file && cancel.sought == 0 && !refused.is_read && refused.events == 0 && refused.fd == 0 && refused.second_fd == 0 && cancel.buffer == 0, "what is no token needs nothing");
     demand(wulgach_counts_as_ready(1, 1) && !wulgach_counts_as_ready(0, 0) && wulgach_counts_as_ready(-1, 0) && !wulgach_counts_as_ready(2, 0), "what a poll tells");
 }
@@ -257,10 +257,10 @@ static void splice_ends(void)
 
 static void seek(void)
 {
-    const uint32_t file = 1u << WULGACH_NEEDS_FILE, second = 1u << WULGACH_NEEDS_SECOND, is_open = 1u << WULGACH_NEEDS_OPEN, buffer = 1u << WULGACH_NEEDS_BUFFER, kind = 1u << WULGACH_NEEDS_KIND;
+    const uint32_t file = 1u << WULGACH_NEEDS_FILE, second = 1u << WULGACH_NEEDS_SECOND, is_open = 1u << WULGACH_NEEDS_OPEN, buffer = 1u << WULGACH_NEEDS_BUFFER, polling = 1u << WULGACH_NEEDS_POLLING, kind = 1u << WULGACH_NEEDS_KIND;
     demand(NEEDS(.opcode = NOP).sought == 0 && NEEDS(.opcode = 11).sought == 0 && NEEDS(.opcode = READ).sought == (file | kind) && NEEDS(.opcode = FSYNC).sought == (file | kind), "a file");
-    demand(NEEDS(.opcode = SPLICE).sought == (file | second | kind) && NEEDS(.opcode = 4).sought == (file | buffer | kind) && NEEDS(.opcode = 6).sought == (file | is_open | kind), "what else is looked for");
-    demand(file < second && second < is_open && is_open < buffer && buffer < kind, "its order");
+    demand(NEEDS(.opcode = SPLICE).sought == (file | second | kind) && NEEDS(.opcode = 4).sought == (file | buffer | kind) && NEEDS(.opcode = 6).sought == (file | is_open | kind) && NEEDS(.opcode = 49).sought == (file | is_open | polling | kind), "what else is looked for");
+    demand(file < second && second < is_open && is_open < buffer && buffer < polling && polling < kind, "its order");
 }
 
 static void miss(void)
@@ -280,6 +280,7 @@ static void poll_one(void)
     demand(wulgach_asks_instance(&urgent) && !wulgach_asks_instance(&readable) && wulgach_asks_instance(&edges), "an instance is asked");
     struct wulgach_poll_start start;
     demand(wulgach_instance_events(0x203b) == 0x8000203b, "it tells of edges");
+    demand(wulgach_polling_fault(0) == 0 && wulgach_polling_fault(-EPERM) == -EBADFD && wulgach_polling_fault(-EMFILE) == -EMFILE, "a read that goes on");
     wulgach_poll_starts(0x203b, true, 0, &start);
     demand(start.fault == 0 && start.goes_on, "one that goes on");
     wulgach_poll_starts(0x203b, false, -EBADF, &start);

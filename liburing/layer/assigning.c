@@ -6,6 +6,7 @@
 #include "openness.h"
 #include "operations.h"
 #include "passing.h"
+#include "polls.h"
 #include "ring.h"
 #include "trying.h"
 #include "wulgach_setup.h"
@@ -150,6 +151,8 @@ static int look_for(struct ring *ring, struct request *request, enum wulgach_nee
         return counts_as_open(request->fd, needs->is_registered) ? 0 : wulgach_missing_fault(WULGACH_NO_FILE);
     case WULGACH_NEEDS_BUFFER:
         return find_buffer(ring, request);
+    case WULGACH_NEEDS_POLLING:
+        return find_polling(request);
     case WULGACH_NEEDS_KIND:
         return find_kind(request);
     }

@@ -55,6 +55,7 @@ const char *operation_name(uint8_t code)
         [IORING_OP_SEND_ZC] = "send_zc",
         [IORING_OP_SENDMSG_ZC] = "sendmsg_zc",
         /* (headers that are older than these don't name them) */
+        [49] = "read_multishot",
         [54] = "fixed_fd_install",
         [55] = "ftruncate",
         [56] = "bind",

@@ -20,11 +20,6 @@
 #include <sys/stat.h>
 #include <sys/uio.h>
 
-static bool is_transfer(const struct request *request)
-{
-    return wulgach_calls_of(request->entry.opcode) == WULGACH_CALLS_OF_TRANSFER;
-}
-
 /* (A transfer of no vectors says so, and does nothing else.) */
 bool has_offsets(const struct request *request)
 {
@@ -275,7 +270,7 @@ static int32_t call_with_buffer(struct ring *ring, struct request *request, bool
         return fault_without_buffer(request);
     uint16_t id = request->provided.id;
     int32_t res = call_into(ring, request, request->provided, is_half);
-    request->flags = wulgach_buffer_flags(res == WOULD_WAIT, (uint32_t)moved_so_far(request), res, is_transfer(request), id);
+    request->flags = wulgach_buffer_flags(res == WOULD_WAIT, (uint32_t)moved_so_far(request), res, wulgach_takes_for_nothing(request->entry.opcode), id);
     if (wulgach_buffer_is_taken(request->flags))
         take_provided(ring, request->entry.buf_group);
     return res;

@@ -37,15 +37,28 @@ static int make_instance(void)
     return epoll_create1(EPOLL_CLOEXEC);
 }
 
-/* Asks an instance. One that ends with its first event doesn't keep it. */
-static int start_by_instance(struct request *request)
+/* Asks an instance for its descriptor. */
+static int32_t ask_instance(struct request *request)
 {
     struct epoll_event event = {.events = wulgach_instance_events(events_of(request))};
-    struct wulgach_poll_start start;
     request->epoll = made_high(make_instance);
     if (request->epoll < 0)
         return -errno;
-    int32_t res = epoll_ctl(request->epoll, EPOLL_CTL_ADD, request->fd, &event) < 0 ? -errno : 0;
+    return epoll_ctl(request->epoll, EPOLL_CTL_ADD, request->fd, &event) < 0 ? -errno : 0;
+}
+
+int find_polling(struct request *request)
+{
+    int32_t res = ask_instance(request);
+    drop_instance(request);
+    return wulgach_polling_fault(res);
+}
+
+/* One that ends with its first event doesn't keep its instance. */
+static int start_by_instance(struct request *request)
+{
+    struct wulgach_poll_start start;
+    int32_t res = ask_instance(request);
     wulgach_poll_starts(events_of(request), request->needs.goes_on, res, &start);
     request->needs.goes_on = start.goes_on;
     if (!start.goes_on)

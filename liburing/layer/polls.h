@@ -13,6 +13,9 @@ bool is_poll(const struct request *request);
 /* A poll has started. Returns 0 or the negative of an error number. */
 int start_poll(const struct ring *ring, struct request *request);
 
+/* Whether the descriptor of a read that goes on can be polled: 0, or the fault with which it ends. */
+int find_polling(struct request *request);
+
 /* The descriptor by which its next event is waited for. */
 struct pollfd poll_of_poll(const struct request *request);
 

@@ -84,6 +84,7 @@ static bool brings_event(struct ring *ring, struct request *request, int32_t res
     note_poll_event(ring, request);
     post_event(ring, request, res, WULGACH_PART_EVENT);
     request->flags = wulgach_untold_behind(WULGACH_PART_EVENT, request->flags);
+    request->entry.off = wulgach_offset_behind(submission_of(&request->entry), res);
     return true;
 }
 

@@ -144,7 +144,9 @@ static void ask_with(uint8_t code, struct change one, struct change other)
     /* (a kernel may not ask whether what is to be bound is a socket) */
     int slots[8] = {code == BIND || code == LISTEN ? at.socket : at.file, at.socket, -1, -1, -1, -1, -1, -1};
     struct iovec buffer = {at.bytes, 4096};
+    struct io_uring_buf_reg cells = {.ring_addr = (uintptr_t)at.cells, .ring_entries = 2, .bgid = AT_CELLS};
     check(register_at(ring.fd, IORING_REGISTER_FILES, slots, 8) == 0 && register_at(ring.fd, IORING_REGISTER_BUFFERS, &buffer, 1) == 0);
+    check(register_at(ring.fd, IORING_REGISTER_PBUF_RING, &cells, 1) == 0);
     unsigned count = 1;
     if (code == IORING_OP_LINK_TIMEOUT) {
         put_transfer(&ring, IORING_OP_READ, 2, IOSQE_IO_LINK, at.waits, at.bytes, 1, 0);
@@ -214,9 +216,9 @@ static const struct known {
 } known[] = {
     /* RWF_HIPRI (1), RWF_NOWAIT (8) and flags that there aren't are found as a transfer is carried out, by preadv2(2) and pwritev2(2), and so is an
      * offset, where there are any; an attribute isn't served. */
-    {IORING_OP_READV, OWN, 0x209}, {IORING_OP_WRITEV, OWN, 0x209}, {IORING_OP_READ_FIXED, OWN, 0x209}, {IORING_OP_WRITE_FIXED, OWN, 0x209}, {IORING_OP_READ, OWN, 0x209}, {IORING_OP_WRITE, OWN, 0x209},
+    {IORING_OP_READV, OWN, 0x209}, {IORING_OP_WRITEV, OWN, 0x209}, {IORING_OP_READ_FIXED, OWN, 0x209}, {IORING_OP_WRITE_FIXED, OWN, 0x209}, {IORING_OP_READ, OWN, 0x209}, {IORING_OP_WRITE, OWN, 0x209}, {READ_MULTISHOT, OWN, 1},
     {IORING_OP_READV, OFF, 1ull << 63}, {IORING_OP_WRITEV, OFF, 1ull << 63}, {IORING_OP_READ_FIXED, OFF, 1ull << 63}, {IORING_OP_WRITE_FIXED, OFF, 1ull << 63}, {IORING_OP_READ, OFF, 1ull << 63}, {IORING_OP_WRITE, OFF, 1ull << 63},
-    {IORING_OP_READV, PAD, 1}, {IORING_OP_WRITEV, PAD, 1}, {IORING_OP_READ_FIXED, PAD, 1}, {IORING_OP_WRITE_FIXED, PAD, 1}, {IORING_OP_READ, PAD, 1}, {IORING_OP_WRITE, PAD, 1},
+    {IORING_OP_READV, PAD, 1}, {IORING_OP_WRITEV, PAD, 1}, {IORING_OP_READ_FIXED, PAD, 1}, {IORING_OP_WRITE_FIXED, PAD, 1}, {IORING_OP_READ, PAD, 1}, {IORING_OP_WRITE, PAD, 1}, {READ_MULTISHOT, PAD, 1},
     /* How much of a write that is longer than its buffer is moved depends on what stands behind that. */
     {IORING_OP_WRITE, LEN, 0x80000000},
     /* sendmsg(2) and recvmsg(2) refuse MSG_CMSG_COMPAT. */
@@ -276,7 +278,7 @@ static int remove_one(const char *path, const struct stat *status, int kind, str
 
 static bool is_served(uint8_t code)
 {
-    return code != IORING_OP_URING_CMD && (code <= IORING_OP_SENDMSG_ZC || code >= FIXED_FD_INSTALL);
+    return code != IORING_OP_URING_CMD && (code <= READ_MULTISHOT || code >= FIXED_FD_INSTALL);
 }
 
 /* Whether the kernel is the one of which is told what differs. */

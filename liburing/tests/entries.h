@@ -15,8 +15,8 @@
 
 /* ---- what an entry is about ---- */
 
-/* (the last four aren't in most headers) */
-enum { FIXED_FD_INSTALL = 54, FTRUNCATE, BIND, LISTEN, LAST_OPERATION = LISTEN, A_DESCRIPTOR = 777777 };
+/* (these aren't in most headers) */
+enum { READ_MULTISHOT = 49, FIXED_FD_INSTALL = 54, FTRUNCATE, BIND, LISTEN, LAST_OPERATION = LISTEN, A_DESCRIPTOR = 777777 };
 
 static struct {
     int folder, file, socket, over_network, full_pipe, empty_pipe, waits, listener, unconnected, epoll;
@@ -29,7 +29,11 @@ static struct {
     struct epoll_event event;
     struct sockaddr_un address;
     struct ring other;
+    struct io_uring_buf_ring *cells;
 } at;
+
+/* The group of provided buffers that what takes one names. */
+enum { AT_CELLS = 9 };
 
 /* A socket that sends without copies: to a port of this machine that another one has. */
 static inline int make_network_socket(void)
@@ -84,6 +88,11 @@ static inline void make_all(const char *folder)
     at.message = (struct msghdr){.msg_iov = &at.vector, .msg_iovlen = 1};
     at.time.tv_nsec = 1000000;
     at.files[0] = at.files[1] = at.file;
+    at.cells = mmap(NULL, 4096, PROT_READ | PROT_WRITE, MAP_PRIVATE | MAP_ANONYMOUS, -1, 0);
+    check(at.cells != MAP_FAILED);
+    for (uint16_t i = 0; i < 2; i++)
+        at.cells->bufs[i] = (struct io_uring_buf){.addr = (uintptr_t)at.bytes, .len = 4096, .bid = i};
+    at.cells->tail = 2;
 }
 
 /* ---- an entry of each operation, as it should be ---- */
@@ -136,6 +145,7 @@ static inline struct io_uring_sqe entry_of(uint8_t code)
     case IORING_OP_NOP: return SQE(.fd = 0);
     case IORING_OP_READV: case IORING_OP_WRITEV: return SQE(.fd = at.file, .addr = ADDRESS(&at.vector), .len = 1);
     case IORING_OP_READ_FIXED: case IORING_OP_WRITE_FIXED: case IORING_OP_READ: case IORING_OP_WRITE: return SQE(.fd = at.file, .addr = ADDRESS(at.bytes), .len = 16);
+    case READ_MULTISHOT: return SQE(.flags = IOSQE_BUFFER_SELECT, .fd = at.full_pipe, .buf_group = AT_CELLS);
     case IORING_OP_FSYNC: return SQE(.fd = at.file);
     case IORING_OP_POLL_ADD: return SQE(.fd = at.socket, .poll32_events = POLLIN);
     case IORING_OP_POLL_REMOVE: case IORING_OP_ASYNC_CANCEL: case IORING_OP_TIMEOUT_REMOVE: return SQE(.addr = 77);

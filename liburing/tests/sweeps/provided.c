@@ -2,7 +2,11 @@
 #include "sweeps.h"
 
 static char memory[8][64];
+static const char bytes[100];
 static _Alignas(4096) struct io_uring_buf list[16];
+
+/* (not in most headers) */
+enum { READ_MULTISHOT = 49 };
 
 enum { IN_MEMORY, BY_ENTRIES, MISSING, GROUPS };
 
@@ -48,18 +52,19 @@ static void try(const char *name, uint8_t code, int fd, unsigned group, unsigned
 
 static void sweep_group(unsigned group, unsigned length, unsigned flags)
 {
-    int ends[2], shut[2];
-    check(pipe(ends) == 0 && socketpair(AF_UNIX, SOCK_STREAM, 0, shut) == 0 && shutdown(shut[0], SHUT_RD) == 0);
+    int ends[2], some[2], shut[2];
+    check(pipe(ends) == 0 && pipe(some) == 0 && write(some[1], bytes, 100) == 100 && socketpair(AF_UNIX, SOCK_STREAM, 0, shut) == 0 && shutdown(shut[0], SHUT_RD) == 0);
     const struct {
         const char *name;
         uint8_t code;
         int fd;
-    } reads[] = {{"/dev/zero", IORING_OP_READ, open("/dev/zero", O_RDONLY)}, {"end to write", IORING_OP_READ, ends[1]}, {"file to write", IORING_OP_READ, open("/dev/null", O_WRONLY)}, {"folder", IORING_OP_READ, open("/tmp", O_RDONLY | O_DIRECTORY)}, {"pipe, received", IORING_OP_RECV, ends[0]}, {"empty pipe", IORING_OP_READ, ends[0]}, {"socket alone", IORING_OP_RECV, socket(AF_INET, SOCK_STREAM, 0)}, {"socket that is shut", IORING_OP_RECV, shut[0]}, {"eventfd", IORING_OP_READ, eventfd(1, 0)}, {"nothing", IORING_OP_READ, 999}};
+    } reads[] = {{"/dev/zero", IORING_OP_READ, open("/dev/zero", O_RDONLY)}, {"end to write", IORING_OP_READ, ends[1]}, {"file to write", IORING_OP_READ, open("/dev/null", O_WRONLY)}, {"folder", IORING_OP_READ, open("/tmp", O_RDONLY | O_DIRECTORY)}, {"pipe, received", IORING_OP_RECV, ends[0]}, {"empty pipe", IORING_OP_READ, ends[0]}, {"socket alone", IORING_OP_RECV, socket(AF_INET, SOCK_STREAM, 0)}, {"socket that is shut", IORING_OP_RECV, shut[0]}, {"eventfd", IORING_OP_READ, eventfd(1, 0)}, {"nothing", IORING_OP_READ, 999}, {"file, read on", READ_MULTISHOT, make_digits(O_RDONLY)}, {"pipe, read on", READ_MULTISHOT, some[0]}, {"end to write, read on", READ_MULTISHOT, dup(ends[1])}, {"socket that is shut, read on", READ_MULTISHOT, dup(shut[0])}, {"eventfd, read on", READ_MULTISHOT, eventfd(1, 0)}};
     for (unsigned i = 0; i < count_of(reads); i++) {
         try(reads[i].name, reads[i].code, reads[i].fd, group, length, flags);
         close(reads[i].fd);
     }
     close(ends[1]);
+    close(some[1]);
     close(shut[1]);
 }
 

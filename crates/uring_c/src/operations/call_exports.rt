@@ -11,7 +11,8 @@ use uring_crossing::wait_words::task;
 use uring_operations::{
     Fault, Held, Listed, Means, Submission, SystemCall, Transfer, Vectors, asks_anew, asks_end,
     asks_shut, can_have, control_of, done_result, has_begun, is_stream_type, means_of,
-    moved_so_far, placed_result, shut_result, tells_message, told_result, transfer_call,
+    moved_so_far, offset_behind, placed_result, shut_result, takes_for_nothing, tells_message,
+    told_result, transfer_call,
 };
 
 /// By what an operation is carried out: `struct wulgach_means` of the header.
@@ -224,6 +225,22 @@ pub extern "C" fn wulgach_shut_result(
     ensures { result ≡ results.shut_result entry.now came_to is_shut isnt_to_wait }
 {
     shut_result(entry, came_to, is_shut, isnt_to_wait)
+}
+
+/// Whether an operation has taken its provided buffer though it moved nothing.
+#[unsafe(no_mangle)]
+pub extern "C" fn wulgach_takes_for_nothing(code: u8) -> bool
+    ensures { result ≡ results.takes_for_nothing code }
+{
+    takes_for_nothing(code)
+}
+
+/// The offset at which the read of an entry that goes on reads next, behind a call that came to this.
+#[unsafe(no_mangle)]
+pub extern "C" fn wulgach_offset_behind(entry: &Submission, came_to: i32) -> u64
+    ensures { result ≡ results.offset_behind entry.now came_to }
+{
+    offset_behind(entry, came_to)
 }
 
 /// What a file ends with that was put into this slot, where its entry asked for that one or for any.

@@ -17,7 +17,7 @@ use uring_operations::{
     Call, Known, Nature, Needs, Patience, PollStart, Submission, Transfer, Trial, asks_instance,
     asks_listening, buffer_fault, counts_as_ready, instance_events, is_impatient, is_tried_first,
     needs_as, needs_of, next_finding, next_step, next_turn, no_buffer_fault, poll_result,
-    poll_start, present_of, start_fault,
+    poll_start, polling_fault, present_of, start_fault,
 };
 
 /// Writes what the operation of an entry needs.
@@ -157,6 +157,14 @@ pub extern "C" fn wulgach_poll_starts(events: u16, goes_on: bool, res: i32, star
     ensures { start.new ≡ instances.poll_start events goes_on res }
 {
     *start = poll_start(events, goes_on, res);
+}
+
+/// With what a read that goes on fails as it starts, where asking an instance for its descriptor came to this; or 0.
+#[unsafe(no_mangle)]
+pub extern "C" fn wulgach_polling_fault(res: i32) -> i32
+    ensures { result ≡ instances.polling_fault res }
+{
+    polling_fault(res)
 }
 
 /// With what the request of an entry ends whose buffer has this fault, where its descriptor is this.

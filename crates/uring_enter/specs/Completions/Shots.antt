@@ -1,4 +1,4 @@
--- Requests that go on, and of which completions an eventfd is told. io_uring_enter(2), IORING_POLL_ADD_MULTI, IORING_ACCEPT_MULTISHOT and IORING_RECV_MULTISHOT; io_uring_register(2), IORING_REGISTER_EVENTFD_ASYNC. io_uring_enter(2), IORING_CQE_F_MORE and IORING_CQE_F_NOTIF.
+-- Requests that go on, and of which completions an eventfd is told. io_uring_enter(2), IORING_POLL_ADD_MULTI, IORING_ACCEPT_MULTISHOT, IORING_RECV_MULTISHOT and IORING_OP_READ_MULTISHOT; io_uring_register(2), IORING_REGISTER_EVENTFD_ASYNC. io_uring_enter(2), IORING_CQE_F_MORE and IORING_CQE_F_NOTIF.
 use Rattle.std.specs.Prelude.{◌≡◌, ℕ, ℤ, pos, negsuc, ◌-◌, Bool, false, not, ◌&&◌, ◌||◌, ◌==◌, nat_lt, List, [], ◌∷◌, if◌then◌else◌}
 use Rattle.uring_operations.specs.declared.entries.submission.Submission.{Submission}
 use Rattle.uring_operations.specs.Entries.Needs as needs

@@ -1,11 +1,12 @@
 -- What a request makes of the result of a system call, where that is more than the result.
-use Rattle.std.specs.Prelude.{ℕ, ℤ, pos, ◌-◌, ◌^◌, min, Bool, not, ◌&&◌, ◌||◌, ◌==◌, if◌then◌else◌}
+use Rattle.std.specs.Prelude.{ℕ, ℤ, pos, ◌+◌, ◌-◌, ◌^◌, ◌%◌, min, Bool, not, ◌&&◌, ◌||◌, ◌==◌, if◌then◌else◌}
 use Rattle.std.specs.Ordering.{int_eq}
 use Rattle.uring_operations.specs.declared.entries.submission.Submission.{Submission}
 use Rattle.uring_entry.specs.Errors.{error, is_below}
 use Rattle.uring_operations.specs.Entries.NoOps.{signed}
 use Rattle.uring_operations.specs.Entries.Clocks.{has_some}
-use Rattle.uring_operations.specs.Entries.Needs.{fills_buffer, goes_on, is_read, is_receive}
+use Rattle.uring_operations.specs.Entries.Needs.{fills_buffer, goes_on, is_read, is_read_multishot, is_receive, is_transfer}
+use Rattle.uring_operations.specs.Calls.Advances.{moved_by}
 use Rattle.uring_operations.specs.Calls.CallTries.{is_asked}
 
 -- a connect that came to -115 (EINPROGRESS) goes on by itself, and ends as its socket does. One that came to -11 (EAGAIN), as of a local socket whose peer takes no more, hasn't begun, and is made again. connect(2), ERRORS
@@ -30,6 +31,15 @@ asks_shut e came_to =
 abbrev pub shut_result : Submission → ℤ → (is_shut isnt_to_wait : Bool) → ℤ
 shut_result e came_to is_shut isnt_to_wait =
     if int_eq came_to (error 11) && is_shut && (not isnt_to_wait || e.opcode == 27) then pos 0 else came_to
+
+-- whether an operation has taken its provided buffer though it moved nothing: a transfer has, at the end of its file, but not a READ_MULTISHOT, which ends there. What Linux 6.18 was seen to do
+abbrev pub takes_for_nothing : ℕ → Bool
+takes_for_nothing code = is_transfer code && not (is_read_multishot code)
+
+-- where a READ_MULTISHOT reads next, behind so many bytes: from there on, unless it has no offset, which is 2^64 - 1. What has none, as a pipe, passes over it. What Linux 6.18 was seen to do
+abbrev pub offset_behind : Submission → ℤ → ℕ
+offset_behind e came_to =
+    if is_read_multishot e.opcode && not (e.off == 2 ^ 64 - 1) then (e.off + moved_by came_to) % 2 ^ 64 else e.off
 
 -- a file that is put into a slot ends with 0; with the slot, in 32 bits, if its entry asked for any, by 2^32 - 1 (IORING_FILE_INDEX_ALLOC). io_uring_enter(2), IORING_OP_OPENAT and IORING_OP_ACCEPT
 abbrev pub placed_result : (asked slot : ℕ) → ℤ

@@ -14,6 +14,10 @@ instance_events events = bit_or events 2147483648
 abbrev pub can_be_polled : ℤ → Bool
 can_be_polled res = not (int_eq res (error 1))
 
+-- with what a READ_MULTISHOT fails as it starts, where asking an instance for its descriptor came to this, 0 or an error: -77 (EBADFD) if that can't be polled. io_uring_prep_read_multishot(3)
+abbrev pub polling_fault : ℤ → ℤ
+polling_fault res = if can_be_polled res then res else error 77
+
 -- with what an unpolled one fails as it starts; or 0: poll(2) finds at once what it ends with
 abbrev pub fault_of : ℤ → ℤ
 fault_of unpolled = if is_below unpolled then unpolled else pos 0

@@ -42,8 +42,8 @@ abbrev pub first_of : Submission → Option Piece
 first_of e =
     -- READV and WRITEV
     if e.opcode == 1 || e.opcode == 2 then unless (e.len == 0) Vectors e.addr (e.len * 16) else
-    -- READ_FIXED, WRITE_FIXED, READ, WRITE, SEND, RECV and SEND_ZC
-    if e.opcode == 4 || e.opcode == 5 || e.opcode == 22 || e.opcode == 23 || e.opcode == 26 || e.opcode == 27 || e.opcode == 47 then stands Buffer e.addr e.len else
+    -- READ_FIXED, WRITE_FIXED, READ, WRITE, SEND, RECV, SEND_ZC and READ_MULTISHOT
+    if e.opcode == 4 || e.opcode == 5 || e.opcode == 22 || e.opcode == 23 || e.opcode == 26 || e.opcode == 27 || e.opcode == 47 || e.opcode == 49 then stands Buffer e.addr e.len else
     -- SENDMSG, RECVMSG and SENDMSG_ZC
     if e.opcode == 9 || e.opcode == 10 || e.opcode == 48 then stands Message e.addr 56 else
     -- TIMEOUT and LINK_TIMEOUT; TIMEOUT_REMOVE, if it is an update

@@ -5,7 +5,7 @@ use Rattle.std.specs.Int.RustNames.{bit_and}
 use Rattle.uring_operations.specs.declared.entries.submission.Submission.{Submission}
 use Rattle.uring_operations.specs.declared.entries.rule.Rule.{Rule}
 use Rattle.uring_operations.specs.declared.entries.rule.Also.{Also}
-use Rattle.uring_operations.specs.declared.entries.rule.Also.TheVariants.{Nothing, Transfer, Vectors, Sync, Poll, PollRemoval, Timeout, LinkedTimeout, TimeoutRemoval, Cancel, OpenHow, Close, FilesUpdate, ProvisionRemoval, Socket, Accept, Send, SendMessage, Receive, SendZeroCopy, SendMessageZeroCopy}
+use Rattle.uring_operations.specs.declared.entries.rule.Also.TheVariants.{Nothing, Transfer, Vectors, Sync, Poll, PollRemoval, Timeout, LinkedTimeout, TimeoutRemoval, Cancel, OpenHow, Close, FilesUpdate, ProvisionRemoval, Socket, Accept, Send, SendMessage, Receive, SendZeroCopy, SendMessageZeroCopy, Selection}
 use Rattle.uring_operations.specs.declared.entries.form.Form.{Form}
 use Rattle.uring_operations.specs.declared.entries.form.Form.TheVariants as form
 use Rattle.uring_operations.specs.Entries.Rules.{rule_of, is_rule, priority, offset, address, length, own_flags, buffer, slot, third, padding}
@@ -69,10 +69,11 @@ meets SendMessage e = is_send_message e
 meets Receive e = is_receive e
 meets SendZeroCopy e = is_send_zero_copy e
 meets SendMessageZeroCopy e = is_send_message_zero_copy e
+meets Selection e = has_some e.flags 32
 
--- READV, RECVMSG, READ and RECV may take a provided buffer. IOSQE_BUFFER_SELECT
+-- READV, RECVMSG, READ and RECV may take a provided buffer, and READ_MULTISHOT does. IOSQE_BUFFER_SELECT
 abbrev pub can_select : ℕ → Bool
-can_select code = code == 1 || code == 10 || code == 22 || code == 27
+can_select code = code == 1 || code == 10 || code == 22 || code == 27 || code == 49
 
 -- there is no such operation, or no such flag (128)
 abbrev pub is_unknown : Submission → Bool

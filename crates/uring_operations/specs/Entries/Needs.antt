@@ -9,9 +9,13 @@ use Rattle.uring_operations.specs.declared.entries.form.Form.TheVariants.{Token}
 use Rattle.uring_operations.specs.Entries.Clocks.{has_some}
 use Rattle.uring_operations.specs.Entries.NoOps.{wants_file, is_of_slot, wants_buffer}
 
--- READV, READ_FIXED and READ
+-- READ_MULTISHOT, which reads whenever there is something, into a provided buffer each time. io_uring_prep_read_multishot(3)
+abbrev pub is_read_multishot : ℕ → Bool
+is_read_multishot code = code == 49
+
+-- READV, READ_FIXED, READ and READ_MULTISHOT
 abbrev pub is_read : ℕ → Bool
-is_read code = code == 1 || code == 4 || code == 22
+is_read code = code == 1 || code == 4 || code == 22 || is_read_multishot code
 
 -- WRITEV, WRITE_FIXED and WRITE
 abbrev pub is_write : ℕ → Bool
@@ -66,15 +70,15 @@ abbrev pub uses_buffer : Submission → Bool
 uses_buffer e =
     e.opcode == 4 || e.opcode == 5 || e.opcode == 47 && has_some e.ioprio 4 || wants_buffer e
 
--- a poll and a no-op ask whether their file is open: no call of theirs would say that it isn't
+-- a poll and a no-op ask whether their file is open: no call of theirs would say that it isn't. A READ_MULTISHOT does so before it asks whether that can be polled
 abbrev pub asks_file : Submission → Bool
-asks_file e = is_poll e.opcode || wants_file e
+asks_file e = is_poll e.opcode || is_read_multishot e.opcode || wants_file e
 
--- it has more than one completion: IORING_POLL_ADD_MULTI is 1, IORING_ACCEPT_MULTISHOT 1 and IORING_RECV_MULTISHOT 2. A poll hasn't that has EPOLLONESHOT (2^30) among its events: what Linux 6.18 was seen to do
+-- it has more than one completion: IORING_POLL_ADD_MULTI is 1, IORING_ACCEPT_MULTISHOT 1 and IORING_RECV_MULTISHOT 2; a READ_MULTISHOT always has. A poll hasn't that has EPOLLONESHOT (2^30) among its events: what Linux 6.18 was seen to do
 abbrev pub goes_on : Submission → Bool
 goes_on e =
     is_poll e.opcode && has_some e.len 1 && not (has_some e.op_flags 1073741824) || e.opcode == 13 && has_some e.ioprio 1
-    || is_receive e.opcode && has_some e.ioprio 2
+    || is_receive e.opcode && has_some e.ioprio 2 || is_read_multishot e.opcode
 
 -- a RECVMSG that goes on puts sizes, flags, the address and control data into its buffer, in front of the bytes. io_uring_prep_recvmsg_multishot(3)
 abbrev pub fills_buffer : Submission → Bool
@@ -107,35 +111,39 @@ pub data Need : Type 0 where
   Openness : Need
   -- its registered buffer, which has its bytes
   Buffer : Need
+  -- that the first can be polled
+  Polling : Need
   -- what its descriptor is, and so whether it may have to wait for that
   Kind : Need
 
--- the place of a need in the order in which they are looked for: files come before a buffer, as Linux 6.18 has it, and what a descriptor is comes last, since that asks it. The first that isn't there ends the request
+-- the place of a need in the order in which they are looked for: files come before a buffer, and that one can be polled before what it is open for, as Linux 6.18 has it; what a descriptor is comes last, since that asks it. The first that isn't there ends the request
 abbrev pub place : Need → ℕ
 place File = 0
 place Second = 1
 place Openness = 2
 place Buffer = 3
-place Kind = 4
+place Polling = 4
+place Kind = 5
 
 abbrev pub is_sought : Submission → Need → Bool
 is_sought e File = needs_file e.opcode || wants_file e
 is_sought e Second = is_splice e.opcode
 is_sought e Openness = asks_file e
 is_sought e Buffer = uses_buffer e
+is_sought e Polling = is_read_multishot e.opcode
 is_sought e Kind = needs_file e.opcode || wants_file e
 
 abbrev pub bit : Need → Bool → ℕ
 bit need is_sought = if is_sought then 2 ^ place need else 0
 
 -- a set of needs: the bit of each is 2 to the power of its place. Our own rule
-abbrev pub set_of : (file second openness buffer kind : Bool) → ℕ
-set_of file second openness buffer kind =
-    bit_or (bit_or (bit_or (bit_or (bit File file) (bit Second second)) (bit Openness openness)) (bit Buffer buffer)) (bit Kind kind)
+abbrev pub set_of : (file second openness buffer polling kind : Bool) → ℕ
+set_of file second openness buffer polling kind =
+    bit_or (bit_or (bit_or (bit_or (bit_or (bit File file) (bit Second second)) (bit Openness openness)) (bit Buffer buffer)) (bit Polling polling)) (bit Kind kind)
 
 abbrev pub sought_of : Submission → ℕ
 sought_of e =
-    set_of (is_sought e File) (is_sought e Second) (is_sought e Openness) (is_sought e Buffer) (is_sought e Kind)
+    set_of (is_sought e File) (is_sought e Second) (is_sought e Openness) (is_sought e Buffer) (is_sought e Polling) (is_sought e Kind)
 
 -- TIMEOUT is 11; IOSQE_FIXED_FILE is 1, SPLICE_F_FD_IN_FIXED 2^31 and IOSQE_BUFFER_SELECT 32. Its file stands in `fd`, the one that a splice reads from in `splice_fd_in`, which is `file_index` with a sign, and its registered buffer in `buf_index`
 abbrev pub needs_of : Submission → Needs

@@ -2,7 +2,7 @@
 use Rattle.std.specs.Prelude.{ℕ, ◌+◌, Bool, true, false, ◌||◌, ◌==◌, Option, Some, None, if◌then◌else◌}
 use Rattle.uring_operations.specs.declared.entries.rule.Rule.{Rule}
 use Rattle.uring_operations.specs.declared.entries.rule.Also.{Also}
-use Rattle.uring_operations.specs.declared.entries.rule.Also.TheVariants.{Nothing, Transfer, Vectors, Sync, Poll, PollRemoval, Timeout, LinkedTimeout, TimeoutRemoval, Cancel, OpenHow, Close, FilesUpdate, ProvisionRemoval, Socket, Accept, Send, SendMessage, Receive, SendZeroCopy, SendMessageZeroCopy}
+use Rattle.uring_operations.specs.declared.entries.rule.Also.TheVariants.{Nothing, Transfer, Vectors, Sync, Poll, PollRemoval, Timeout, LinkedTimeout, TimeoutRemoval, Cancel, OpenHow, Close, FilesUpdate, ProvisionRemoval, Socket, Accept, Send, SendMessage, Receive, SendZeroCopy, SendMessageZeroCopy, Selection}
 
 -- the fields of an entry, a bit each. `slot` is file_index, which also is splice_fd_in; `third` is addr3, and `padding` what stands behind it
 abbrev pub priority : ℕ
@@ -71,6 +71,8 @@ rule_of code =
     if code == 45 then row (priority + address + own_flags + buffer) any Socket else
     if code == 47 then row (third + padding) any SendZeroCopy else
     if code == 48 then row (offset + slot + third + padding) any SendMessageZeroCopy else
+    -- READ_MULTISHOT. Its buffer is a provided one
+    if code == 49 then row (priority + address + length + padding) any Selection else
     -- TIMEOUT, with ABS, BOOTTIME, REALTIME and ETIME_SUCCESS; TIMEOUT_REMOVE, with ABS, UPDATE and LINK_TIMEOUT_UPDATE; ASYNC_CANCEL, with ALL, FD, ANY and FD_FIXED; LINK_TIMEOUT
     if code == 11 then row (priority + buffer + slot + third + padding) 45 Timeout else
     if code == 12 then row (priority + length + buffer + slot + third + padding) 19 TimeoutRemoval else

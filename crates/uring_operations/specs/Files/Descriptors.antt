@@ -1,5 +1,6 @@
 -- Whether an operation may have to wait for its descriptor, by what that is. io_uring_enter(2), at each operation; open(2), O_NONBLOCK; what the kernel does, but where our own rule is named.
 use Rattle.std.specs.Prelude.{◌≡◌, ◌+◌, ◌-◌, ◌^◌, ℕ, ℤ, Bool, true, false, not, ◌&&◌, ◌||◌, ◌==◌, nat_lt, nat_le, pos, codes, List, if◌then◌else◌}
+use Rattle.std.specs.Ordering.{int_eq}
 use Rattle.std.specs.Str.{bytes_eq}
 use Rattle.std.specs.Int.RustNames.{bit_and}
 use Rattle.uring_operations.specs.declared.entries.submission.Submission.{Submission}
@@ -118,9 +119,9 @@ buffer_fault e d why =
 abbrev pub no_buffer_fault : Submission → Nature → ℤ
 no_buffer_fault e d = buffer_fault e d (if has_some e.flags 32 then error 105 else error 14)
 
--- whether it matters to what it ends with that had this fault as it started, whether its group has a buffer: of one that takes a provided buffer, whatever the fault, as -9 (EBADF) of a descriptor that is open in the wrong direction
+-- whether it matters to what it ends with that had this fault as it started, whether its group has a buffer: of one that takes a provided buffer, whatever the fault, as -9 (EBADF) of a descriptor that is open in the wrong direction; but -77 (EBADFD), of one that can't be polled, comes before
 abbrev pub fault_asks_buffer : Submission → ℤ → Bool
-fault_asks_buffer e fault = has_some e.flags 32 && is_below fault
+fault_asks_buffer e fault = has_some e.flags 32 && is_below fault && not (int_eq fault (error 77))
 
 -- what it ends with that had this fault as it started: that it finds no buffer counts before that. What Linux 6.18 was seen to do
 abbrev pub ends_at_start : Submission → ℤ → (has_buffer : Bool) → Nature → ℤ

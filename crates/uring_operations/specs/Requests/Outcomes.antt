@@ -9,16 +9,16 @@ use Rattle.uring_operations.specs.declared.requests.outcome.SoughtBehind.TheVari
 use Rattle.uring_operations.specs.declared.requests.outcome.Carried.{Carried}
 use Rattle.uring_operations.specs.declared.entries.submission.Submission.{Submission}
 use Rattle.uring_operations.specs.Entries.Clocks.{has_some}
-use Rattle.uring_operations.specs.Entries.Needs.{is_of_sockets, is_splice, is_transfer}
+use Rattle.uring_operations.specs.Entries.Needs.{is_of_sockets, is_read_multishot, is_splice, is_transfer}
 use Rattle.uring_operations.specs.Calls.Parts.{is_alone}
 use Rattle.uring_entry.specs.Errors.{error}
 use Rattle.uring_operations.specs.Entries.Timeouts.{linked_outcome}
 
--- an operation of sockets wants all of its length with MSG_WAITALL (256), but a CONNECT (16) has none; a transfer, a SPLICE and a TEE always do. recv(2); IOSQE_IO_LINK
+-- an operation of sockets wants all of its length with MSG_WAITALL (256), but a CONNECT (16) has none; a transfer, a SPLICE and a TEE always do, but a READ_MULTISHOT doesn't, whose last result is no part of anything. recv(2); IOSQE_IO_LINK; what Linux 6.18 was seen to do
 abbrev pub wants_whole : Submission → Bool → Bool
 wants_whole e has_message =
     if is_of_sockets e.opcode then has_message && not (e.opcode == 16) && has_some e.op_flags 256 else
-    is_splice e.opcode || is_transfer e.opcode
+    is_splice e.opcode || is_transfer e.opcode && not (is_read_multishot e.opcode)
 
 -- what a RECVMSG (10) or a RECV (27) has received was cut if its message says so: MSG_CTRUNC is 8, MSG_TRUNC 32. recvmsg(2); what Linux 6.18 was seen to do
 abbrev pub cuts : Submission → Carried → Bool

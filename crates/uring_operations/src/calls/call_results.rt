@@ -3,8 +3,9 @@
 ghost use Rattle.std.specs.Prelude.{◌≡◌};
 ghost use Rattle.uring_operations.specs.Calls.CallResults as spec;
 
+use crate::calls::advance::moved_by;
 use crate::calls::waiting_call::is_asked;
-use crate::entries::needs::{goes_on, is_read, is_receive};
+use crate::entries::needs::{goes_on, is_read, is_read_multishot, is_receive, is_transfer};
 use crate::entries::no_op::signed;
 use crate::entries::submission::Submission;
 
@@ -47,6 +48,24 @@ pub fn shut_result(entry: &Submission, came_to: i32, is_shut: bool, isnt_to_wait
 {
     let is_end = is_shut && (!isnt_to_wait || entry.opcode == 27);
     if came_to == -11 && is_end { 0 } else { came_to }
+}
+
+/// Whether an operation has taken its provided buffer though it moved nothing: a transfer at the end of its file, but for one that goes on.
+pub fn takes_for_nothing(code: u8) -> bool
+    ensures { result ≡ spec.takes_for_nothing code }
+{
+    is_transfer(code) && !is_read_multishot(code)
+}
+
+/// The offset at which the read of an entry that goes on reads next, behind a call that came to this; of another its own.
+pub fn offset_behind(entry: &Submission, came_to: i32) -> u64
+    ensures { result ≡ spec.offset_behind entry.now came_to }
+{
+    if is_read_multishot(entry.opcode) && entry.off != u64::MAX {
+        entry.off.wrapping_add(moved_by(came_to))
+    } else {
+        entry.off
+    }
 }
 
 /// What a file ends with that was put into this slot, where its entry asked for that one or for any.

@@ -50,6 +50,13 @@ pub fn poll_start(events: u16, goes_on: bool, res: i32) -> PollStart
     }
 }
 
+/// With what a read that goes on fails as it starts, where asking an instance for its descriptor came to this, 0 or an error; or 0.
+pub fn polling_fault(res: i32) -> i32
+    ensures { result ≡ spec.polling_fault res }
+{
+    if res != -1 { res } else { -77 }
+}
+
 fn fault_of(unpolled: i32) -> i32
     ensures { result ≡ spec.fault_of unpolled }
 {

@@ -77,7 +77,7 @@ fn first_of(entry: &Submission) -> Option<Piece>
             entry.addr,
             entry.len as u64 * 16,
         ),
-        4 | 5 | 22 | 23 | 26 | 27 | 47 => stands(What::Buffer, entry.addr, entry.len as u64),
+        4 | 5 | 22 | 23 | 26 | 27 | 47 | 49 => stands(What::Buffer, entry.addr, entry.len as u64),
         9 | 10 | 48 => stands(What::Message, entry.addr, 56),
         11 | 15 => stands(What::Time, entry.addr, 16),
         12 => unless(entry.op_flags == 0, What::Time, entry.off, 16),

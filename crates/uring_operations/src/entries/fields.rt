@@ -82,6 +82,7 @@ fn meets(also: Also, entry: &Submission) -> bool
         Also::Receive => is_receive(entry),
         Also::SendZeroCopy => is_send_zero_copy(entry),
         Also::SendMessageZeroCopy => is_send_message_zero_copy(entry),
+        Also::Selection => entry.flags & 32 != 0,
     }
 }
 

@@ -26,7 +26,7 @@ pub enum Form {
 fn can_select(code: u8) -> bool
     ensures { result ≡ spec.can_select code }
 {
-    matches!(code, 1 | 10 | 22 | 27)
+    matches!(code, 1 | 10 | 22 | 27 | 49)
 }
 
 /// Whether there is no such operation, or no such flag.

@@ -71,7 +71,7 @@ pub struct Needs {
     /// The slot of its registered buffer.
     pub buffer: u16,
 
-    /// What is looked for before it is carried out, the bit of each: its file (1), the second one (2), whether the first is open (4), its registered buffer (8), and whether it may have to wait for its descriptor (16). These are looked for by rising bits, and the first that isn't there ends its request.
+    /// What is looked for before it is carried out, the bit of each: its file (1), the second one (2), whether the first is open (4), its registered buffer (8), whether the first can be polled (16), and whether it may have to wait for its descriptor (32). These are looked for by rising bits, and the first that isn't there ends its request.
     pub sought: u32,
 }
 
@@ -102,7 +102,7 @@ pub fn needs_of(entry: &Submission) -> Needs
             fd: entry.fd,
             second_fd: entry.file_index.cast_signed(),
             buffer: entry.buf_index,
-            sought: sought(true, false, false, false),
+            sought: sought(true, false, false, false, false),
         },
         _ => needs_of_any(entry),
     }
@@ -176,6 +176,7 @@ fn needs_of_no_op(entry: &Submission) -> Needs
             false,
             wants_file(entry),
             wants_buffer(entry),
+            false,
         ),
     }
 }
@@ -219,13 +220,19 @@ fn sought_of(entry: &Submission) -> u32
         is_splice(entry.opcode),
         asks_file(entry),
         uses_buffer(entry),
+        is_read_multishot(entry.opcode),
     )
 }
 
-fn sought(file: bool, second: bool, openness: bool, buffer: bool) -> u32
-    ensures { result ≡ spec.set_of file second openness buffer file }
+fn sought(file: bool, second: bool, openness: bool, buffer: bool, polling: bool) -> u32
+    ensures { result ≡ spec.set_of file second openness buffer polling file }
 {
-    bit(1, file) | bit(2, second) | bit(4, openness) | bit(8, buffer) | bit(16, file)
+    bit(1, file)
+        | bit(2, second)
+        | bit(4, openness)
+        | bit(8, buffer)
+        | bit(16, polling)
+        | bit(32, file)
 }
 
 fn bit(weight: u32, is_sought: bool) -> u32
@@ -234,11 +241,18 @@ fn bit(weight: u32, is_sought: bool) -> u32
     if is_sought { weight } else { 0 }
 }
 
-/// READV, READ_FIXED and READ.
+/// READ_MULTISHOT.
+pub(crate) fn is_read_multishot(code: u8) -> bool
+    ensures { result ≡ spec.is_read_multishot code }
+{
+    code == 49
+}
+
+/// READV, READ_FIXED, READ and READ_MULTISHOT.
 pub(crate) fn is_read(code: u8) -> bool
     ensures { result ≡ spec.is_read code }
 {
-    matches!(code, 1 | 4 | 22)
+    matches!(code, 1 | 4 | 22 | 49)
 }
 
 /// WRITEV, WRITE_FIXED and WRITE.
@@ -252,7 +266,7 @@ pub(crate) fn is_write(code: u8) -> bool
 pub fn is_transfer(code: u8) -> bool
     ensures { result ≡ spec.is_transfer code }
 {
-    matches!(code, 1 | 2 | 4 | 5 | 22 | 23)
+    matches!(code, 1 | 2 | 4 | 5 | 22 | 23 | 49)
 }
 
 /// SENDMSG, SEND, SEND_ZC and SENDMSG_ZC.
@@ -302,7 +316,7 @@ pub(crate) fn needs_file(code: u8) -> bool
 {
     matches!(
         code,
-        1..=6 | 8..=10 | 13 | 16 | 17 | 22..=24 | 26 | 27 | 30 | 33 | 34 | 41 | 43 | 47 | 48 | 54..=57
+        1..=6 | 8..=10 | 13 | 16 | 17 | 22..=24 | 26 | 27 | 30 | 33 | 34 | 41 | 43 | 47..=49 | 54..=57
     )
 }
 
@@ -326,11 +340,11 @@ fn uses_buffer(entry: &Submission) -> bool
         || wants_buffer(entry)
 }
 
-/// A poll and a no-op find their file closed before they are carried out.
+/// A poll, a read that goes on and a no-op find their file closed before they are carried out.
 fn asks_file(entry: &Submission) -> bool
     ensures { result ≡ spec.asks_file entry.now }
 {
-    entry.opcode == 6 || wants_file(entry)
+    matches!(entry.opcode, 6 | 49) || wants_file(entry)
 }
 
 /// Among the events of a poll: it ends with the first, though it is to go on. EPOLLONESHOT.
@@ -344,6 +358,7 @@ pub fn goes_on(entry: &Submission) -> bool
         6 => entry.len & 1 != 0 && entry.op_flags & ONE_SHOT == 0,
         13 => entry.ioprio & 1 != 0,
         10 | 27 => entry.ioprio & 2 != 0,
+        49 => true,
         _ => false,
     }
 }
@@ -363,7 +378,7 @@ fn events_of(entry: &Submission) -> u32
     match entry.opcode {
         6 => entry.op_flags & 0xffff | UNASKED,
         10 | 27 => if takes_urgent(entry) { 3 } else { 1 },
-        1 | 4 | 13 | 22 => 1,
+        1 | 4 | 13 | 22 | 49 => 1,
         code => { if needs_file(code) { 4 } else { 0 } }
     }
 }

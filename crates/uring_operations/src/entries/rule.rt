@@ -82,6 +82,9 @@ pub enum Also {
     SendZeroCopy,
 
     SendMessageZeroCopy,
+
+    /// Of what takes a provided buffer, and no other.
+    Selection,
 }
 
 /// The rule of an operation.
@@ -118,6 +121,7 @@ pub fn rule_of(code: u8) -> Option<Rule>
         45 => row(PRIORITY | ADDRESS | FLAGS | BUFFER, ANY, Also::Socket),
         47 => row(THIRD | PAD, ANY, Also::SendZeroCopy),
         48 => row(OFFSET | SLOT | THIRD | PAD, ANY, Also::SendMessageZeroCopy),
+        49 => row(PRIORITY | ADDRESS | LENGTH | PAD, ANY, Also::Selection),
         11 => row(PRIORITY | BUFFER | SLOT | THIRD | PAD, 45, Also::Timeout),
         12 => row(
             PRIORITY | LENGTH | BUFFER | SLOT | THIRD | PAD,

@@ -231,7 +231,7 @@ pub fn buffer_fault(entry: &Submission, nature: &Nature, why: i32) -> i32
 pub fn fault_asks_buffer(entry: &Submission, fault: i32) -> bool
     ensures { result ≡ spec.fault_asks_buffer entry.now fault }
 {
-    entry.flags & 32 != 0 && fault < 0
+    entry.flags & 32 != 0 && fault < 0 && fault != -77
 }
 
 /// With what the request of an entry ends that had this fault as it started, where its group has a buffer, or that doesn't matter, or its descriptor is this.

@@ -4,7 +4,7 @@ ghost use Rattle.std.specs.Prelude.{◌≡◌};
 ghost use Rattle.uring_operations.specs.Requests.Outcomes.{cuts, forgives, is_forgiven, is_forgiving, is_success, is_whole, success_of_entry, wants_whole, looks_ahead, looks_for_running, looks_for_next, may_have_found, shown_of, sought_behind, CancelsOne, LooksInTime};
 
 use crate::calls::parts::is_alone;
-use crate::entries::needs::{is_of_sockets, is_splice, is_transfer};
+use crate::entries::needs::{is_of_sockets, is_read_multishot, is_splice, is_transfer};
 use crate::entries::submission::Submission;
 use crate::entries::timeout::linked_outcome;
 
@@ -106,7 +106,7 @@ fn wants_whole(entry: &Submission, has_message: bool) -> bool
     if is_of_sockets(entry.opcode) {
         has_message && entry.opcode != 16 && entry.op_flags & 256 != 0
     } else {
-        is_splice(entry.opcode) || is_transfer(entry.opcode)
+        is_splice(entry.opcode) || is_transfer(entry.opcode) && !is_read_multishot(entry.opcode)
     }
 }
 
