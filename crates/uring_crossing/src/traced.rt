@@ -50,12 +50,7 @@ fn put_event(entries: &[EntryWords], place: u32) -> Option<(Step, Answer)>
 }
 
 /// The step of this place among those that publish and take what is put in.
-fn call_event(
-    entries: &[EntryWords],
-    head: u32,
-    end: &Answer,
-    place: u32,
-) -> Option<(Step, Answer)>
+fn call_event(entries: &[EntryWords], head: u32, end: &Answer, place: u32) -> Option<(Step, Answer)>
     requires { length entries.now ≤ 4096 }
     ensures { result ≡ spec.call_event entries.now head end.now place }
 {
@@ -145,11 +140,7 @@ pub fn reaped_step(
 ) -> bool
     ensures { spec.TellsEvent (spec.reaped_event completions.now tail head place) result step.old step.new answer.old answer.new }
 {
-    tell(
-        reaped_event(completions, tail, head, place),
-        step,
-        answer,
-    )
+    tell(reaped_event(completions, tail, head, place), step, answer)
 }
 
 /// Writes a step and its answer, if there is one, and says whether there is.
