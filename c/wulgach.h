@@ -324,6 +324,16 @@ int32_t wulgach_core_submit_one(struct wulgach_core *core, const struct wulgach_
  * nothing has changed. */
 int32_t wulgach_core_reap_all(struct wulgach_core *core, struct wulgach_completion *completions, size_t room, uint64_t *count);
 
+/* The steps that a whole call stands for, by their places from 0, as a trace has them. Each writes a step and its answer, and returns true;
+ * behind the last one it writes nothing and returns false.
+ *
+ * Of a submission call of count entries: where its first LOAD_HEAD was answered with `head`, and wulgach_core_submit wrote `end`: of one whose BEGIN was
+ * refused that is the last. There are none of more than 4,096 entries, which no core's ring has. */
+bool wulgach_submitted_step(const struct wulgach_entry *entries, size_t count, uint32_t head, const struct wulgach_answer *end, uint32_t place, struct wulgach_step *step, struct wulgach_answer *answer);
+
+/* Of count completions that were reaped at once, where the completion ring's tail was `tail`, and its head is `head` behind them. */
+bool wulgach_reaped_step(const struct wulgach_completion *completions, size_t count, uint32_t tail, uint32_t head, uint32_t place, struct wulgach_step *step, struct wulgach_answer *answer);
+
 /* Ends running request number with any result and any bytes, and writes the answer: ENDED with that very outcome
  * exactly if it was running, else NOT_RUNNING. A running request succeeded if a read or a write moved all its bytes, or
  * anything else gave 0; any other result is a failure, which breaks a link. */

@@ -199,7 +199,9 @@ struct wulgach_layout {
     uint64_t name;      /* the address, */
     uint64_t control;   /* the control data, */
     uint64_t bytes;     /* and the bytes of the message, */
-    uint64_t room;      /* of which so many have room */
+    uint64_t room;      /* of which so many have room; */
+    bool has_name;      /* the call is to tell its sender, */
+    bool has_control;   /* and its control data: where there is room for them */
 };
 
 /* Writes where they stand in a buffer of this size, behind 16 bytes, with room for so many of an address and of control data; and returns

@@ -95,6 +95,10 @@ enum wulgach_missing {
 /* What it ends with that this isn't found (enum wulgach_missing). */
 int32_t wulgach_missing_fault(uint32_t what);
 
+/* The fault of looking for a file by its slot, which has one or hasn't, or by its number, or 0: a negative number has no file, -9 (EBADF). Whether
+ * another one counts as open is asked elsewhere (wulgach_counts_as_open). */
+int32_t wulgach_found_fault(bool is_of_slot, bool has_file, int32_t fd);
+
 /* ---- what counts as open ---- */
 
 /* How a descriptor is open. */

@@ -198,6 +198,10 @@ static void have_room(void)
 {
     struct wulgach_layout layout = {0};
     demand(wulgach_layout_of(4, 8, 30, &layout) && layout.name == 16 && layout.control == 20 && layout.bytes == 28 && layout.room == 2, "a buffer");
+    demand(layout.has_name && layout.has_control, "with room for both");
+    demand(wulgach_layout_of(4, 0, 30, &layout) && layout.has_name && !layout.has_control, "for an address alone");
+    demand(wulgach_layout_of(0, 8, 30, &layout) && !layout.has_name && layout.has_control, "for control data alone");
+    demand(wulgach_layout_of(4, 8, 30, &layout), "again");
     demand(wulgach_layout_filled(&layout, 1) == 29 && wulgach_layout_filled(&layout, 9) == 30, "what is filled");
     demand(!wulgach_layout_of(4, 8, 27, &layout) && !wulgach_layout_of(0, UINT64_MAX, 64, &layout) && layout.room == 2, "one that is too small");
 }

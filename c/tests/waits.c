@@ -268,6 +268,8 @@ static void miss(void)
     static const int32_t faults[] = {-EBADF, -EBADF, -EFAULT, -EFAULT, -ENOMEM, -ENAMETOOLONG, -EFAULT, -ENOBUFS, -ENOENT, 0};
     for (uint32_t what = 0; what < sizeof faults / sizeof *faults; what++)
         demand(wulgach_missing_fault(what) == faults[what], "what isn't found");
+    demand(wulgach_found_fault(false, false, 0) == 0 && wulgach_found_fault(false, true, -1) == -EBADF && wulgach_found_fault(false, false, INT32_MIN) == -EBADF, "a number");
+    demand(wulgach_found_fault(true, true, -1) == 0 && wulgach_found_fault(true, false, 3) == -EBADF, "a slot");
 }
 
 static void poll_one(void)

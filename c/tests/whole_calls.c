@@ -42,7 +42,33 @@ static struct wulgach_answer submit_by_steps(struct wulgach_core *core, const st
 
 static bool is_same_answer(const struct wulgach_answer *a, const struct wulgach_answer *b)
 {
-    return a->kind == b->kind && a->word == b->word && a->dropped == b->dropped && a->head == b->head;
+    return a->kind == b->kind && a->word == b->word && a->dropped == b->dropped && a->head == b->head && a->number == b->number && a->res == b->res
+           && memcmp(a->entry, b->entry, sizeof a->entry) == 0 && memcmp(a->bytes, b->bytes, sizeof a->bytes) == 0;
+}
+
+/* Makes the steps that a call stands for which came to this end, as they are told: each is answered so. */
+static void submit_as_told(struct wulgach_core *core, const struct wulgach_entry *entries, uint32_t count, const struct wulgach_answer *end)
+{
+    struct wulgach_step told;
+    struct wulgach_answer as_told, answer;
+    uint32_t head = step(core, WULGACH_LOAD_HEAD, 0, 0).word, place = 0;
+    for (; wulgach_submitted_step(entries, count, head, end, place, &told, &as_told); place++) {
+        check(wulgach_core_step(core, &told, &answer) == 0, "a step that is told");
+        check(is_same_answer(&answer, &as_told), "it is answered as is told");
+    }
+    check(place == 3 * count + 4 && told.kind == WULGACH_END, "all steps are told");
+}
+
+/* Of a call whose begin was refused that is the last step, and there are none of more entries than a ring can have. */
+static void steps_end(void)
+{
+    static struct wulgach_entry entries[4097];
+    struct wulgach_step told;
+    struct wulgach_answer answer;
+    const struct wulgach_answer again = {.kind = WULGACH_AGAIN};
+    check(wulgach_submitted_step(entries, 2, 0, &again, 6, &told, &answer) && told.kind == WULGACH_BEGIN && told.word == 2 && answer.kind == WULGACH_AGAIN, "a begin that was refused");
+    check(!wulgach_submitted_step(entries, 2, 0, &again, 7, &told, &answer) && told.kind == WULGACH_BEGIN, "nothing behind it");
+    check(wulgach_submitted_step(entries, 4096, 0, &again, 0, &told, &answer) && !wulgach_submitted_step(entries, 4097, 0, &again, 0, &told, &answer), "4,096 entries at most");
 }
 
 /* Takes what waits, issues and finishes all that can go on, in the order of the numbers. */
@@ -94,9 +120,12 @@ static void reap(struct wulgach_core *whole, struct wulgach_core *stepped, size_
     struct wulgach_completion places[2 * SIZE] = {{0}};
     uint64_t count = 99;
     check(wulgach_core_reap_all(whole, places, room, &count) == 0 && count <= room, "reap_all");
-    step(stepped, WULGACH_LOAD_CQ_TAIL, 0, 0);
+    struct wulgach_step told;
+    struct wulgach_answer as_told, tail = step(stepped, WULGACH_LOAD_CQ_TAIL, 0, 0);
+    check(wulgach_reaped_step(places, count, tail.word, 0, 0, &told, &as_told) && told.kind == WULGACH_LOAD_CQ_TAIL && is_same_answer(&tail, &as_told), "the tail is told");
     for (uint64_t i = 0; i < count; i++) {
         struct wulgach_answer answer = step(stepped, WULGACH_REAP, 0, 0);
+        check(wulgach_reaped_step(places, count, 0, 0, (uint32_t)i + 1, &told, &as_told) && told.kind == WULGACH_REAP && is_same_answer(&answer, &as_told), "a reap is told");
         check(answer.kind == WULGACH_REAPED && answer.number == places[i].user_data && answer.res == places[i].res, "the same is reaped");
         check(memcmp(answer.bytes, places[i].bytes, sizeof answer.bytes) == 0, "with the same bytes");
     }
@@ -104,7 +133,9 @@ static void reap(struct wulgach_core *whole, struct wulgach_core *stepped, size_
         check(step(stepped, WULGACH_REAP, 0, 0).kind == WULGACH_NOTHING, "all is reaped");
     for (size_t i = count; i < 2 * SIZE; i++)
         check(places[i].user_data == 0, "the other places are left");
-    step(stepped, WULGACH_STORE_CQ_HEAD, 0, 0);
+    struct wulgach_answer head = step(stepped, WULGACH_STORE_CQ_HEAD, 0, 0);
+    check(wulgach_reaped_step(places, count, 0, head.word, (uint32_t)count + 1, &told, &as_told) && told.kind == WULGACH_STORE_CQ_HEAD && is_same_answer(&head, &as_told), "the head is told");
+    check(!wulgach_reaped_step(places, count, 0, 0, (uint32_t)count + 2, &told, &as_told), "it is the last");
     flush(whole, stepped);
 }
 
@@ -136,8 +167,12 @@ static void side_by_side(const struct wulgach_setup *setup)
         make_entries(entries, count, 100 * round + 1, faulty);
         struct wulgach_answer answer = submit_whole(&whole, entries, count), last;
         check(answer.kind == WULGACH_TAKEN, "all is taken");
-        last = submit_by_steps(&stepped, entries, count);
-        check(is_same_answer(&answer, &last), "the same answer");
+        if (round % 2) {
+            submit_as_told(&stepped, entries, count, &answer);
+        } else {
+            last = submit_by_steps(&stepped, entries, count);
+            check(is_same_answer(&answer, &last), "the same answer");
+        }
         carry_out(&whole);
         carry_out(&stepped);
         compare(&whole, &stepped);
@@ -204,6 +239,7 @@ int main(void)
 {
     side_by_side(&going_on);
     side_by_side(&stopping);
+    steps_end();
     refusals();
     puts("whole_calls: whole calls and their steps do the same");
     return 0;

@@ -19,12 +19,10 @@
 /* Writes a descriptor, or that of a registered file, which is kept. Returns its fault, or 0. */
 static int find_fd(struct ring *ring, int *found, int fd, bool is_registered, struct file **file)
 {
-    *found = fd;
-    if (is_registered) {
+    if (is_registered)
         *file = use_file(ring, (uint32_t)fd);
-        *found = *file ? (*file)->fd : -1;
-    }
-    return *found < 0 ? wulgach_missing_fault(WULGACH_NO_FILE) : 0;
+    *found = !is_registered ? fd : *file ? (*file)->fd : -1;
+    return wulgach_found_fault(is_registered, *file, fd);
 }
 
 /* What the last descriptor was, of those that are asked one right after the other. */

@@ -149,9 +149,9 @@ static int32_t receive_into_buffer(struct request *request, uint64_t *filled)
         return wulgach_missing_fault(WULGACH_NO_ROOM);
     struct iovec bytes = {at + layout.bytes, layout.room};
     struct msghdr message = {
-        .msg_name = asked->msg_namelen ? at + layout.name : NULL,
+        .msg_name = layout.has_name ? at + layout.name : NULL,
         .msg_namelen = asked->msg_namelen,
-        .msg_control = asked->msg_controllen ? at + layout.control : NULL,
+        .msg_control = layout.has_control ? at + layout.control : NULL,
         .msg_controllen = asked->msg_controllen,
         .msg_iov = &bytes,
         .msg_iovlen = 1,

@@ -30,50 +30,17 @@ void note_entry(struct ring *ring, const struct request *request)
         write_token(&ring->entries[place - 1], before, request, ring->is_linux);
 }
 
-/* Traces a step of a whole call, with an answer that has one word at most. */
-static void trace_made(struct ring *ring, uint32_t kind, uint32_t word, uint32_t answer_kind, uint32_t answer_word)
-{
-    struct wulgach_step step;
-    step.kind = kind;
-    step.word = word;
-    trace_step(ring, &step, &(struct wulgach_answer){.kind = answer_kind, .word = answer_word});
-}
-
 /* ---- submissions ---- */
 
-static void trace_staged(struct ring *ring, uint32_t count)
-{
-    uint32_t head = ring->head + ring->own_positions;
-    trace_made(ring, WULGACH_LOAD_HEAD, 0, WULGACH_HEAD, head);
-    for (uint32_t i = 0; i < count; i++) {
-        struct wulgach_step fill = {.kind = WULGACH_FILL, .word = i};
-        memcpy(fill.entry, ring->entries[i].words, sizeof fill.entry);
-        trace_step(ring, &fill, &(struct wulgach_answer){.kind = WULGACH_FILLED});
-        trace_made(ring, WULGACH_INDEX, i, WULGACH_STAGED, 0);
-    }
-    trace_made(ring, WULGACH_STORE_TAIL, 0, WULGACH_TAIL, head + count);
-}
-
-static void trace_taken(struct ring *ring, uint32_t count, const struct wulgach_taken *taken)
-{
-    const struct wulgach_answer end = {.kind = taken->kind, .word = taken->accepted, .dropped = taken->dropped, .head = taken->head};
-    const struct wulgach_step take = {.kind = WULGACH_TAKE}, last = {.kind = WULGACH_END};
-    trace_made(ring, WULGACH_BEGIN, count, WULGACH_CALL, count);
-    for (uint32_t i = 0; i < count; i++) {
-        struct wulgach_answer entry = {.kind = WULGACH_ENTRY};
-        memcpy(entry.entry, ring->entries[i].words, sizeof entry.entry);
-        trace_step(ring, &take, &entry);
-    }
-    trace_step(ring, &last, &end);
-}
-
+/* Traces the steps of a call that the core has taken at once, or whose begin it has refused. */
 static void trace_submission(struct ring *ring, uint32_t count, const struct wulgach_taken *taken)
 {
-    trace_staged(ring, count);
-    if (taken->kind == WULGACH_TAKEN)
-        trace_taken(ring, count, taken);
-    else
-        trace_made(ring, WULGACH_BEGIN, count, taken->kind, 0);
+    const struct wulgach_answer end = {.kind = taken->kind, .word = taken->accepted, .dropped = taken->dropped, .head = taken->head};
+    uint32_t head = ring->head + ring->own_positions;
+    struct wulgach_step step;
+    struct wulgach_answer answer;
+    for (uint32_t place = 0; wulgach_submitted_step(ring->entries, count, head, &end, place, &step, &answer); place++)
+        trace_step(ring, &step, &answer);
 }
 
 /* Whether the core has none of it, and each word names a slot: behind one that doesn't nothing more is staged. */
@@ -140,13 +107,12 @@ bool submit_staged(struct ring *ring, uint32_t given, struct wulgach_taken *take
 /* So many are reaped by one call at most. */
 enum { MOST_REAPED = 32 };
 
-static void trace_reaped(struct ring *ring, const struct wulgach_posted *posted, uint32_t count, uint32_t tail, uint32_t head)
+static void trace_reaped(struct ring *ring, const struct wulgach_completion *reaped, uint32_t count, uint32_t tail, uint32_t head)
 {
-    const struct wulgach_step reap = {.kind = WULGACH_REAP};
-    trace_made(ring, WULGACH_LOAD_CQ_TAIL, 0, WULGACH_TAIL, tail);
-    for (uint32_t i = 0; i < count; i++)
-        trace_step(ring, &reap, &(struct wulgach_answer){.kind = WULGACH_REAPED, .number = posted[i].token, .res = posted[i].told});
-    trace_made(ring, WULGACH_STORE_CQ_HEAD, 0, WULGACH_HEAD, head);
+    struct wulgach_step step;
+    struct wulgach_answer answer;
+    for (uint32_t place = 0; wulgach_reaped_step(reaped, count, tail, head, place, &step, &answer); place++)
+        trace_step(ring, &step, &answer);
 }
 
 static void reap_by_steps(struct ring *ring, const struct wulgach_posted *posted, uint32_t count, uint32_t tail, uint32_t head)
@@ -171,7 +137,7 @@ static void reap_some(struct ring *ring, const struct wulgach_posted *posted, ui
     for (uint32_t i = 0; i < count; i++)
         demand(reaped[i].user_data == posted[i].token && reaped[i].res == posted[i].told, "the core's completion isn't the one that was shown");
     if (is_traced(ring))
-        trace_reaped(ring, posted, count, tail, head);
+        trace_reaped(ring, reaped, count, tail, head);
 }
 
 void reap_oldest(struct ring *ring, uint32_t count)

@@ -54,6 +54,41 @@ static void test_multishot_messages(void)
     close_ring(&ring);
 }
 
+/* Its sender and its control data are told only where there is room for them: without it the bytes stand right behind what is in front. */
+static void test_untold_sender(bool has_room)
+{
+    enum { NAME = 16, CONTROL = 64, ROOM = 8, OWN_NAME = 8 };
+    struct ring ring;
+    char memory[sizeof(struct io_uring_recvmsg_out) + NAME + CONTROL + ROOM];
+    struct msghdr message = {.msg_namelen = has_room ? NAME : 0, .msg_controllen = has_room ? CONTROL : 0};
+    struct io_uring_recvmsg_out told;
+    size_t in_front = sizeof told + message.msg_namelen + message.msg_controllen;
+    const sa_family_t family = AF_UNIX;
+    int ends[2], yes = 1;
+    check(socketpair(AF_UNIX, SOCK_DGRAM, 0, ends) == 0 && setsockopt(ends[0], SOL_SOCKET, SO_PASSCRED, &yes, sizeof yes) == 0);
+    check(bind(ends[1], (const struct sockaddr *)&family, sizeof family) == 0);
+    make_ring(&ring, 8, 0, 0);
+    struct io_uring_sqe *provide = put_plain(&ring, IORING_OP_PROVIDE_BUFFERS, 0, 1);
+    provide->addr = (uintptr_t)memory;
+    provide->len = (uint32_t)(in_front + ROOM);
+    check(result_of_one(&ring, 1) == 0);
+    put_transfer(&ring, IORING_OP_RECVMSG, 0, IOSQE_BUFFER_SELECT, ends[0], &message, 1, 0)->ioprio = IORING_RECV_MULTISHOT;
+    check(enter(&ring, 1, 0, 0) == 1 && send(ends[1], "one", 3, 0) == 3);
+    struct seen found = next_of(&ring);
+    memcpy(&told, memory, sizeof told);
+    check(found.res == (int32_t)in_front + 3 && memcmp(memory + in_front, "one", 3) == 0);
+    check(told.namelen == (has_room ? OWN_NAME : 0) && (told.controllen > 0) == has_room);
+    close(ends[0]);
+    close(ends[1]);
+    close_ring(&ring);
+}
+
+static void test_untold_senders(void)
+{
+    test_untold_sender(false);
+    test_untold_sender(true);
+}
+
 #define MESSAGE(name, name_size, vectors, count, control) {.msg_name = name, .msg_namelen = name_size, .msg_iov = vectors, .msg_iovlen = count, .msg_controllen = control}
 
 /* What is wrong with a message is a fault of its entry, and the call ends behind that: first what its address is, which only one that is sent
@@ -281,6 +316,7 @@ int main(int count, char **words)
 {
     static const struct named tests[] = {
         {"multishot messages", test_multishot_messages},
+        {"senders that aren't told", test_untold_senders},
         {"refused messages", test_refused_messages},
         {"addresses are copied", test_addresses_are_copied},
         {"told in order", test_told_in_order},

@@ -18,3 +18,4 @@ pub mod TimeForm
 pub mod CourseForm
 pub mod WaitForm
 pub mod TraceLines
+pub mod Traced

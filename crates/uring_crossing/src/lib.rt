@@ -31,6 +31,7 @@ pub mod step_words;
 pub mod taken_words;
 pub mod time_words;
 pub mod trace_lines;
+pub mod traced;
 pub mod volume_calls;
 pub mod volume_memory;
 pub mod volume_place;

@@ -34,6 +34,35 @@ impl StepWords {
         }
     }
 
+    /// The words that give this step. What its kind doesn't use is 0.
+    pub fn of(step: &Step) -> StepWords
+        ensures { step_of result ≡ Some step.now }
+    {
+        let (kind, word, number, entry) = match *step {
+            Step::Fill { slot, entry } => (0, slot, 0, entry.words()),
+            Step::Index { word } => (1, word, 0, [0; 16]),
+            Step::StoreTail => (2, 0, 0, [0; 16]),
+            Step::LoadHead => (3, 0, 0, [0; 16]),
+            Step::Begin { count } => (4, count, 0, [0; 16]),
+            Step::Take => (5, 0, 0, [0; 16]),
+            Step::End => (6, 0, 0, [0; 16]),
+            Step::Issue { number } => (7, 0, number, [0; 16]),
+            Step::Finish { number } => (8, 0, number, [0; 16]),
+            Step::Flush => (9, 0, 0, [0; 16]),
+            Step::LoadCqTail => (10, 0, 0, [0; 16]),
+            Step::Reap => (11, 0, 0, [0; 16]),
+            Step::StoreCqHead => (12, 0, 0, [0; 16]),
+            Step::Close => (13, 0, 0, [0; 16]),
+            Step::Next => (14, 0, 0, [0; 16]),
+        };
+        StepWords {
+            kind,
+            word,
+            number,
+            entry,
+        }
+    }
+
     /// The step of a core that the words give, if they give one: no finish.
     pub fn core_step(&self) -> Option<Step>
         ensures { result ≡ core_step_of self.now }

@@ -181,6 +181,7 @@ pub use rings::message::passes_what_can_be_told;
 pub use rings::message::sending_of;
 pub use rings::message::told_of;
 pub use rings::missing::Missing;
+pub use rings::missing::found_fault;
 pub use rings::missing::missing_fault;
 pub use rings::ringing::Fate;
 pub use rings::ringing::Onto;

@@ -1,12 +1,17 @@
-//! Lines of traces, for C: a function of `c/wulgach.h`.
+//! Lines of traces, and the steps that whole calls have in them, for C: functions of `c/wulgach.h`.
 ghost use Rattle.std.specs.Prelude.{◌≡◌, pos, neg_ℤ};
 ghost use Rattle.uring_entry.specs.declared.errno.TheConstants.{EINVAL, ENOMEM};
+ghost use Rattle.uring_crossing.specs.AnswerForm.{answer_of};
 ghost use Rattle.uring_crossing.specs.TraceLines.{TellsLine};
+ghost use Rattle.uring_crossing.specs.Traced.{TellsEvent, submitted_for, reaped_event};
 
 use std::alloc::Global;
 use uring_crossing::answer_words::AnswerWords;
+use uring_crossing::completion_words::CompletionWords;
 use uring_crossing::step_words::StepWords;
 use uring_crossing::trace_lines::trace_line_in;
+use uring_crossing::traced::{reaped_step, submitted_step};
+use uring_crossing::whole_call_memory::EntryWords;
 
 /// Writes a step with its answer as the line of a trace, without its end, as many bytes as there is room for, and how many there are. -22 (EINVAL) if the words give no step, or no answer, or the step has no line; -12 (ENOMEM) if memory is refused. A refusal writes nothing.
 #[unsafe(no_mangle)]
@@ -22,4 +27,34 @@ pub extern "C" fn wulgach_trace_line(
     ensures told { result ≡ pos 0 → TellsLine step.now answer.now bytes.old bytes.new len.new }
 {
     trace_line_in(&alloc, alloc, step, answer, bytes, len)
+}
+
+/// Writes the step of this place in a submission call of these entries, which began at this head and came to this answer, with its own, and returns true. False behind the last one; then nothing is written.
+#[unsafe(no_mangle)]
+pub extern "C" fn wulgach_submitted_step(
+    entries: &[EntryWords],
+    head: u32,
+    end: &AnswerWords,
+    place: u32,
+    step: &mut StepWords,
+    answer: &mut AnswerWords,
+) -> bool
+    ensures { TellsEvent (submitted_for entries.now head (answer_of end.now) place) result step.old step.new answer.old answer.new }
+{
+    submitted_step(entries, head, end, place, step, answer)
+}
+
+/// Writes the step of this place where these completions are reaped at once, with its answer, and returns true. False behind the last one; then nothing is written.
+#[unsafe(no_mangle)]
+pub extern "C" fn wulgach_reaped_step(
+    completions: &[CompletionWords],
+    tail: u32,
+    head: u32,
+    place: u32,
+    step: &mut StepWords,
+    answer: &mut AnswerWords,
+) -> bool
+    ensures { TellsEvent (reaped_event completions.now tail head place) result step.old step.new answer.old answer.new }
+{
+    reaped_step(completions, tail, head, place, step, answer)
 }

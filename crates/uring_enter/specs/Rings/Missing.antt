@@ -1,6 +1,6 @@
 -- With what it ends that something isn't found. io_uring_enter(2), ERRORS; but where the kernel is named.
-use Rattle.std.specs.Prelude.{ℤ}
-use Rattle.uring_entry.specs.Errors.{error}
+use Rattle.std.specs.Prelude.{ℤ, pos, Bool, not, if◌then◌else◌}
+use Rattle.uring_entry.specs.Errors.{error, is_below}
 use Rattle.uring_enter.specs.declared.rings.missing.Missing.{Missing}
 use Rattle.uring_enter.specs.declared.rings.missing.Missing.TheVariants as missing
 
@@ -15,3 +15,8 @@ missing_fault missing.OwnMemory = error 12
 missing_fault missing.Room = error 14
 missing_fault missing.Provided = error 105
 missing_fault missing.Request = error 2
+
+-- a file that is named by its slot is found if the slot has one, and one that is named by its number if that is one: a negative number has no file. IOSQE_FIXED_FILE; open(2)
+abbrev pub found_fault : (is_of_slot has_file : Bool) → ℤ → ℤ
+found_fault is_of_slot has_file fd =
+    if (if is_of_slot then has_file else not (is_below fd)) then pos 0 else missing_fault missing.File

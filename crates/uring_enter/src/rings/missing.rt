@@ -47,3 +47,15 @@ pub fn missing_fault(what: Missing) -> i32
         Missing::Request => -2,
     }
 }
+
+/// The fault of looking for a file by its slot, which has one or hasn't, or by its number; or 0. A negative number has none; whether another one is open is asked elsewhere.
+pub fn found_fault(is_of_slot: bool, has_file: bool, fd: i32) -> i32
+    ensures { result ≡ spec.found_fault is_of_slot has_file fd }
+{
+    let is_found = if is_of_slot { has_file } else { fd >= 0 };
+    if is_found {
+        0
+    } else {
+        missing_fault(Missing::File)
+    }
+}

@@ -1,5 +1,5 @@
 -- Where the parts of a message stand in a buffer, of a receive that goes on. io_uring_prep_recvmsg_multishot(3), struct io_uring_recvmsg_out: 16 bytes, the address, the control data, and the bytes of the message.
-use Rattle.std.specs.Prelude.{ℕ, ◌+◌, ◌-◌, min, nat_le, Option, Some, None, if◌then◌else◌}
+use Rattle.std.specs.Prelude.{ℕ, ◌+◌, ◌-◌, min, nat_le, nat_lt, Option, Some, None, if◌then◌else◌}
 use Rattle.std.specs.Int.RustNames.{bit_or}
 use Rattle.uring_operations.specs.declared.calls.layout.Layout.{Layout}
 use Rattle.uring_operations.specs.declared.entries.submission.Submission.{Submission}
@@ -13,11 +13,18 @@ in_front name control = 16 + name + control
 abbrev pub room_for : ℕ → ℕ → ℕ → Option ℕ
 room_for name control size = if nat_le (in_front name control) size then Some (size - in_front name control) else None
 
--- where each stands: the address behind the 16 bytes, the control data behind room for the address, and the bytes behind room for that
+-- where each stands: the address behind the 16 bytes, the control data behind room for the address, and the bytes behind room for that. A call is told its sender, and control data, only where there is room for them
 abbrev pub layout_by : ℕ → ℕ → Option ℕ → Option Layout
 layout_by name control None = None
 layout_by name control (Some room) =
-    Some (record { name = 16; control = 16 + name; bytes = in_front name control; room = room })
+    Some (record {
+      name = 16;
+      control = 16 + name;
+      bytes = in_front name control;
+      room = room;
+      has_name = nat_lt 0 name;
+      has_control = nat_lt 0 control;
+    })
 
 abbrev pub layout_of : ℕ → ℕ → ℕ → Option Layout
 layout_of name control size = layout_by name control (room_for name control size)

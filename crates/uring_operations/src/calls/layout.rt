@@ -21,6 +21,12 @@ pub struct Layout {
 
     /// of which so many have room.
     pub room: u64,
+
+    /// There is room for an address: the call is to tell its sender.
+    pub has_name: bool,
+
+    /// There is room for control data: the call is to tell them.
+    pub has_control: bool,
 }
 
 /// How many bytes of the message have room in a buffer of this size, behind what stands in front: 16 bytes, and room for so many bytes of an address and of control data. `None`: that has no room itself.
@@ -42,6 +48,8 @@ pub fn layout_of(name: u32, control: u64, size: u64) -> Option<Layout>
             control: 16 + name as u64,
             bytes: size - room,
             room,
+            has_name: name > 0,
+            has_control: control > 0,
         }),
     }
 }

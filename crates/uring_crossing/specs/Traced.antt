@@ -1,0 +1,82 @@
+-- The steps that a whole call of a core stands for, each with its answer, by their places in the order in which they are made: so a trace has them. What they make of a core says `WholeCalls` of `uring_core`.
+use Rattle.std.specs.Prelude.{◌≡◌, ℕ, Bool, true, false, ◌+◌, ◌-◌, ◌*◌, ◌/◌, ◌%◌, ◌^◌, ◌==◌, nat_lt, nat_le, length, slice_get, List, Option, Some, None, if◌then◌else◌}
+use Rattle.uring_core.specs.Histories.{Event}
+use Rattle.uring_core.specs.declared.answer.Answer.{Answer}
+use Rattle.uring_core.specs.declared.answer.Answer.TheVariants as answer
+use Rattle.uring_core.specs.declared.step.Step.TheVariants as step
+use Rattle.uring_crossing.specs.AnswerForm.{words_of}
+use Rattle.uring_crossing.specs.StepForm.{step_of}
+use Rattle.uring_crossing.specs.declared.answer_words.AnswerWords.{AnswerWords}
+use Rattle.uring_crossing.specs.declared.completion_words.CompletionWords.{CompletionWords}
+use Rattle.uring_crossing.specs.declared.step_words.StepWords.{StepWords}
+use Rattle.uring_crossing.specs.declared.whole_call_memory.EntryWords.{EntryWords}
+
+-- A submission call of entries, of a ring with this head.
+
+-- each entry is filled into the slot of its place
+abbrev pub filled : ℕ → Option EntryWords → Option Event
+filled slot None = None
+filled slot (Some entry) = Some (step.Fill slot entry.words, answer.Filled)
+
+-- and the slot is staged behind that
+abbrev pub put_event : List EntryWords → ℕ → Option Event
+put_event entries place =
+    if place % 2 == 0 then filled (place / 2) (slice_get entries (place / 2)) else
+    Some (step.Index (place / 2), answer.Staged)
+
+-- a call that was opened has this length; of one that was refused that is the answer
+abbrev pub begun : ℕ → Answer → Answer
+begun count (answer.Taken _ _ _) = answer.Call count
+begun count refusal = refusal
+
+-- each entry is taken, as far as the call goes which a ring may stop, and behind the last one the call is closed
+abbrev pub take_or_close : Option EntryWords → (is_accepted is_behind : Bool) → Answer → Option Event
+take_or_close (Some entry) is_accepted is_behind end =
+    Some (step.Take, if is_accepted then answer.Entry entry.words else answer.NoMore)
+take_or_close None is_accepted is_behind end = if is_behind then Some (step.End, end) else None
+
+-- of a call that was refused nothing is
+abbrev pub taken_or_end : List EntryWords → Answer → ℕ → Option Event
+taken_or_end entries (answer.Taken accepted dropped head) place =
+    take_or_close (slice_get entries place) (nat_lt place accepted) (place == length entries) (answer.Taken accepted dropped head)
+taken_or_end entries refusal place = None
+
+-- what is put in is published, and the call is opened
+abbrev pub call_event : List EntryWords → ℕ → Answer → ℕ → Option Event
+call_event entries head end place =
+    if place == 0 then Some (step.StoreTail, answer.Tail ((head + length entries) % 2 ^ 32)) else
+    if place == 1 then Some (step.Begin (length entries), begun (length entries) end) else
+    taken_or_end entries end (place - 2)
+
+-- the head is loaded first. No core's ring has more than 4,096 slots
+abbrev pub submitted_event : List EntryWords → ℕ → Answer → ℕ → Option Event
+submitted_event entries head end place =
+    if nat_lt 4096 (length entries) then None else
+    if place == 0 then Some (step.LoadHead, answer.Head head) else
+    if nat_le place (2 * length entries) then put_event entries (place - 1) else
+    call_event entries head end (place - (2 * length entries + 1))
+
+-- Completions that are reaped at once: the tail is loaded, each is reaped, and the head is stored.
+abbrev pub reap_or_store : Option CompletionWords → (is_behind : Bool) → ℕ → Option Event
+reap_or_store (Some c) is_behind head =
+    Some (step.Reap, answer.Reaped (record { user_data = c.user_data; res = c.res; payload = c.bytes }))
+reap_or_store None is_behind head =
+    if is_behind then Some (step.StoreCqHead, answer.Head head) else None
+
+abbrev pub reaped_event : List CompletionWords → (tail head place : ℕ) → Option Event
+reaped_event completions tail head place =
+    if place == 0 then Some (step.LoadCqTail, answer.Tail tail) else
+    reap_or_store (slice_get completions (place - 1)) (place - 1 == length completions) head
+
+-- What C is told.
+
+-- words that tell no answer are of no call
+abbrev pub submitted_for : List EntryWords → ℕ → Option Answer → ℕ → Option Event
+submitted_for entries head None place = None
+submitted_for entries head (Some end) place = submitted_event entries head end place
+
+-- the words of a step and of its answer, if there is one; else nothing is written
+abbrev pub TellsEvent : Option Event → (is_any : Bool) → (before after : StepWords) → (old new : AnswerWords) → Type 0
+TellsEvent None is_any before after old new = (is_any ≡ false) × (after ≡ before) × (new ≡ old)
+TellsEvent (Some (s, a)) is_any before after old new =
+    (is_any ≡ true) × (step_of after ≡ Some s) × (new ≡ words_of a)
