@@ -8,7 +8,6 @@
 
 #include <errno.h>
 #include <stdlib.h>
-#include <string.h>
 
 bool make_entries(struct ring *ring, uint32_t slots)
 {

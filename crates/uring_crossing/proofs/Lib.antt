@@ -8,3 +8,5 @@ pub mod Holding
 pub mod Cutting
 pub mod Starts
 pub mod SameSteps
+mod TracedSteps
+mod TracedPlaces

@@ -1,8 +1,11 @@
 -- The steps that a whole call of a core stands for, each with its answer, by their places in the order in which they are made: so a trace has them. What they make of a core says `WholeCalls` of `uring_core`.
-use Rattle.std.specs.Prelude.{◌≡◌, ℕ, Bool, true, false, ◌+◌, ◌-◌, ◌*◌, ◌/◌, ◌%◌, ◌^◌, ◌==◌, nat_lt, nat_le, length, slice_get, List, Option, Some, None, if◌then◌else◌}
-use Rattle.uring_core.specs.Histories.{Event}
+use Rattle.std.specs.Prelude.{◌≡◌, ℕ, Bool, true, false, ◌+◌, ◌-◌, ◌*◌, ◌/◌, ◌%◌, ◌^◌, ◌==◌, nat_lt, nat_le, ◌≤◌, length, map, option_map, reverse, slice_get, List, [], ◌∷◌, ◌++◌, Option, Some, None, if◌then◌else◌}
+use Rattle.uring_entry.specs.Setup.{Setup}
+use Rattle.uring_core.specs.Histories.{Event, History}
+use Rattle.uring_core.specs.WholeCalls.{after_published, after_taken}
 use Rattle.uring_core.specs.declared.answer.Answer.{Answer}
 use Rattle.uring_core.specs.declared.answer.Answer.TheVariants as answer
+use Rattle.uring_core.specs.declared.step.Step.{Step}
 use Rattle.uring_core.specs.declared.step.Step.TheVariants as step
 use Rattle.uring_crossing.specs.AnswerForm.{words_of}
 use Rattle.uring_crossing.specs.StepForm.{step_of}
@@ -67,6 +70,33 @@ abbrev pub reaped_event : List CompletionWords → (tail head place : ℕ) → O
 reaped_event completions tail head place =
     if place == 0 then Some (step.LoadCqTail, answer.Tail tail) else
     reap_or_store (slice_get completions (place - 1)) (place - 1 == length completions) head
+
+-- Which steps these are.
+
+-- those of a submission call that came to an end: the head is loaded; each entry is filled into the slot of its place, from this one on, and staged; what is put in is published, and the call opened; each entry is taken; and the call is closed
+abbrev pub put_steps : ℕ → List EntryWords → List Step
+put_steps slot [] = []
+put_steps slot (entry ∷ later) =
+    step.Fill slot entry.words ∷ step.Index slot ∷ put_steps (slot + 1) later
+
+abbrev pub call_steps : List EntryWords → List Step
+call_steps entries =
+    step.LoadHead ∷ (put_steps 0 entries ++ (step.StoreTail ∷ step.Begin (length entries) ∷ (map (λ _. step.Take) entries ++ (step.End ∷ []))))
+
+abbrev pub steps_of : History → List Step
+steps_of events = map (λ e. e.0) events
+
+-- they are those that the core's contract says it has made
+abbrev pub NamesTheSteps : Type 0
+NamesTheSteps = (g : Setup) (entries : List EntryWords) (end : Answer) (h : History)
+    → steps_of ((step.End, end) ∷ after_taken g (length entries) (after_published g (map (λ e. e.words) entries) h))
+    ≡ reverse (call_steps entries) ++ steps_of h
+
+-- and those that are told of it, each at its place
+abbrev pub TellsEachStep : Type 0
+TellsEachStep = (entries : List EntryWords) (head accepted dropped behind place : ℕ) → length entries ≤ 4096
+    → option_map (λ e. e.0) (submitted_event entries head (answer.Taken accepted dropped behind) place)
+    ≡ slice_get (call_steps entries) place
 
 -- What C is told.
 

@@ -2,6 +2,7 @@
 ghost use Rattle.std.specs.Prelude.{◌≡◌, ◌≤◌, length};
 ghost use Rattle.uring_crossing.specs.AnswerForm.{answer_of};
 ghost use Rattle.uring_crossing.specs.Traced as spec;
+ghost use Rattle.uring_crossing.specs.Traced.{NamesTheSteps, TellsEachStep};
 
 use crate::answer_words::{AnswerWords, answer_words};
 use crate::completion_words::CompletionWords;
@@ -111,6 +112,16 @@ pub fn reaped_event(
         None => None,
     }
 }
+
+/// The steps of a submission call are those that the core's contract says it has made.
+pub fn names_the_steps()
+    ensures { NamesTheSteps }
+{}
+
+/// They are those that are told of it, each at its place.
+pub fn tells_each_step()
+    ensures { TellsEachStep }
+{}
 
 /// What `wulgach_submitted_step` does: the words of an answer that tell none are of no call.
 pub fn submitted_step(

@@ -1,0 +1,111 @@
+-- The step that is told at each place of a submission call is the one that stands there.
+use Rattle.std.proofs.Common.{◌≡◌, ℕ, zero, suc, ◌+◌, ◌-◌, ◌*◌, ◌/◌, ◌%◌, ◌^◌, ◌==◌, nat_lt, nat_le, Bool, true, false, cond, Option, Some, None, option_map, List, [], ◌∷◌, ◌++◌, length, map, slice_get, refl, sym, ap, ◌∙◌, arith}
+use Rattle.std.proofs.lemmas.Grind.{common_steps}
+use Rattle.uring_core.specs.Histories.{Event}
+use Rattle.uring_core.specs.declared.answer.Answer.{Answer}
+use Rattle.uring_core.specs.declared.answer.Answer.TheVariants as answer
+use Rattle.uring_core.specs.declared.step.Step.{Step}
+use Rattle.uring_core.specs.declared.step.Step.TheVariants as step
+use Rattle.uring_crossing.specs.Traced.{put_steps, filled, put_event, take_or_close, taken_or_end, call_event, TellsEachStep}
+use Rattle.uring_crossing.specs.declared.whole_call_memory.EntryWords.{EntryWords}
+
+-- the step of an entry, whose slot is this: it is filled, or staged; or another one, if there is no such entry
+abbrev fill : ℕ → Option EntryWords → Option Step
+fill slot None = None
+fill slot (Some entry) = Some (step.Fill slot entry.words)
+
+abbrev pick : (is_within is_fill : Bool) → ℕ → Option EntryWords → Option Step → Option Step
+pick is_within is_fill slot entry other =
+    cond is_within (cond is_fill (fill slot entry) (Some (step.Index slot))) other
+
+same : (w w' f f' : Bool) (s s' : ℕ) (e e' : Option EntryWords) (o o' : Option Step)
+    → w ≡ w' → f ≡ f' → s ≡ s' → e ≡ e' → o ≡ o' → pick w f s e o ≡ pick w' f' s' e' o'
+same w w' f f' s s' e e' o o' ww ff ss ee oo =
+    ap (λ x. pick x f s e o) ww ∙ ap (λ x. pick w' x s e o) ff ∙ ap (λ x. pick w' f' x e o) ss
+    ∙ ap (λ x. pick w' f' s' x o) ee ∙ ap (λ x. pick w' f' s' e' x) oo
+
+-- the step of this place among those that put entries in from this slot on, and others behind them
+abbrev at : ℕ → List EntryWords → List Step → ℕ → Option Step
+at slot entries others k =
+    pick (nat_lt k (2 * length entries)) (k % 2 == 0) (slot + k / 2) (slice_get entries (k / 2)) (slice_get others (k - 2 * length entries))
+
+puts_at : (slot : ℕ) (entries : List EntryWords) (others : List Step) (k : ℕ)
+    → slice_get (put_steps slot entries ++ others) k ≡ at slot entries others k
+puts_at slot [] others k = grind (arith, common_steps)
+puts_at slot (entry ∷ later) others zero = grind (arith, common_steps)
+puts_at slot (entry ∷ later) others (suc zero) = grind (arith, common_steps)
+puts_at slot (entry ∷ later) others (suc (suc k)) =
+    puts_at (slot + 1) later others k
+    ∙ same (nat_lt k (2 * length later)) (nat_lt (suc (suc k)) (2 * suc (length later))) (k % 2 == 0) (suc (suc k) % 2 == 0)
+    (slot + 1 + k / 2) (slot + suc (suc k) / 2) (slice_get later (k / 2)) (slice_get (entry ∷ later) (suc (suc k) / 2))
+    (slice_get others (k - 2 * length later)) (slice_get others (suc (suc k) - 2 * suc (length later)))
+    (grind (arith, common_steps))
+    (ap (λ n. n == 0) (let e : k % 2 ≡ suc (suc k) % 2 = omega arith in e))
+    (omega arith)
+    (sym (ap (λ n. slice_get (entry ∷ later) n) (let e : suc (suc k) / 2 ≡ suc (k / 2) = omega arith in e)))
+    (ap (λ n. slice_get others n) (let e : k - 2 * length later ≡ suc (suc k) - 2 * suc (length later) = omega arith in e))
+
+-- the takes, and the end behind them
+takes_at : (entries : List EntryWords) (is_accepted : Bool) (end : Answer) (j : ℕ)
+    → option_map (λ e. e.0) (take_or_close (slice_get entries j) is_accepted (j == length entries) end)
+    ≡ slice_get (map (λ _. step.Take) entries ++ (step.End ∷ [])) j
+takes_at [] is_accepted end zero = refl
+takes_at [] is_accepted end (suc j) = grind (arith, common_steps)
+takes_at (entry ∷ later) is_accepted end zero = refl
+takes_at (entry ∷ later) is_accepted end (suc j) =
+    ap (λ b. option_map (λ e. e.0) (take_or_close (slice_get later j) is_accepted b end)) (let e : (suc j == suc (length later)) ≡ (j == length later) = grind (arith, common_steps) in e)
+    ∙ takes_at later is_accepted end j
+
+-- what is behind those that put entries in
+abbrev others : List EntryWords → List Step
+others entries = step.StoreTail ∷ step.Begin (length entries) ∷ (map (λ _. step.Take) entries ++ (step.End ∷ []))
+
+-- the steps of a call, as far as its tests are known
+abbrev tested : (is_tail is_begin : Bool) → List EntryWords → (head accepted dropped behind : ℕ) → ℕ → Option Step
+tested is_tail is_begin entries head accepted dropped behind j =
+    option_map (λ e. e.0) (cond is_tail (Some (step.StoreTail, answer.Tail ((head + length entries) % 2 ^ 32)))
+    (cond is_begin (Some (step.Begin (length entries), answer.Call (length entries)))
+    (taken_or_end entries (answer.Taken accepted dropped behind) j)))
+
+calls_at : (entries : List EntryWords) (head accepted dropped behind k : ℕ)
+    → option_map (λ e. e.0) (call_event entries head (answer.Taken accepted dropped behind) k) ≡ slice_get (others entries) k
+calls_at entries head accepted dropped behind zero = refl
+calls_at entries head accepted dropped behind (suc zero) = refl
+calls_at entries head accepted dropped behind (suc (suc j)) =
+    ap (λ b. tested b (suc (suc j) == 1) entries head accepted dropped behind (suc (suc j) - 2)) (let e : (suc (suc j) == 0) ≡ false = grind (arith, common_steps) in e)
+    ∙ ap (λ b. tested false b entries head accepted dropped behind (suc (suc j) - 2)) (let e : (suc (suc j) == 1) ≡ false = grind (arith, common_steps) in e)
+    ∙ ap (λ n. tested false false entries head accepted dropped behind n) (let e : suc (suc j) - 2 ≡ j = omega arith in e)
+    ∙ takes_at entries (nat_lt j accepted) (answer.Taken accepted dropped behind) j
+
+-- of an event the step
+put_at : (is_fill : Bool) (slot : ℕ) (entry : Option EntryWords)
+    → option_map (λ e. e.0) (cond is_fill (filled slot entry) (Some (step.Index slot, answer.Staged))) ≡ cond is_fill (fill slot entry) (Some (step.Index slot))
+put_at true slot None = refl
+put_at true slot (Some entry) = refl
+put_at false slot entry = refl
+
+both : (w : Bool) (x y : Option Event) (x' y' : Option Step) → option_map (λ e. e.0) x ≡ x' → option_map (λ e. e.0) y ≡ y'
+    → option_map (λ e. e.0) (cond w x y) ≡ cond w x' y'
+both true x y x' y' first second = first
+both false x y x' y' first second = second
+
+-- a submission, as far as its tests are known
+abbrev sent : (is_long is_first is_put : Bool) → List EntryWords → (head accepted dropped behind put later : ℕ) → Option Step
+sent is_long is_first is_put entries head accepted dropped behind put later =
+    option_map (λ e. e.0) (cond is_long None (cond is_first (Some (step.LoadHead, answer.Head head))
+    (cond is_put (put_event entries put) (call_event entries head (answer.Taken accepted dropped behind) later))))
+
+pub tells_each_step : TellsEachStep
+tells_each_step entries head accepted dropped behind zero few = grind (arith, common_steps)
+tells_each_step entries head accepted dropped behind (suc p) few =
+    let n : ℕ = 2 * length entries in
+    ap (λ b. sent b (suc p == 0) (nat_le (suc p) n) entries head accepted dropped behind (suc p - 1) (suc p - (n + 1))) (let e : nat_lt 4096 (length entries) ≡ false = grind (arith, common_steps, few) in e)
+    ∙ ap (λ b. sent false b (nat_le (suc p) n) entries head accepted dropped behind (suc p - 1) (suc p - (n + 1))) (let e : (suc p == 0) ≡ false = grind (arith, common_steps) in e)
+    ∙ ap (λ b. sent false false b entries head accepted dropped behind (suc p - 1) (suc p - (n + 1))) (let e : nat_le (suc p) n ≡ nat_lt p n = grind (arith, common_steps) in e)
+    ∙ ap (λ k. sent false false (nat_lt p n) entries head accepted dropped behind k (suc p - (n + 1))) (let e : suc p - 1 ≡ p = omega arith in e)
+    ∙ ap (λ k. sent false false (nat_lt p n) entries head accepted dropped behind p k) (let e : suc p - (n + 1) ≡ p - n = omega arith in e)
+    ∙ both (nat_lt p n) (put_event entries p) (call_event entries head (answer.Taken accepted dropped behind) (p - n))
+    (cond (p % 2 == 0) (fill (p / 2) (slice_get entries (p / 2))) (Some (step.Index (p / 2)))) (slice_get (others entries) (p - n))
+    (put_at (p % 2 == 0) (p / 2) (slice_get entries (p / 2))) (calls_at entries head accepted dropped behind (p - n))
+    ∙ ap (λ s. pick (nat_lt p n) (p % 2 == 0) s (slice_get entries (p / 2)) (slice_get (others entries) (p - n))) (let e : p / 2 ≡ 0 + p / 2 = omega arith in e)
+    ∙ sym (puts_at 0 entries (others entries) p)
