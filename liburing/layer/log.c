@@ -15,7 +15,7 @@
 #include <sys/syscall.h>
 #include <unistd.h>
 
-enum { HIGH = 900, PAGE = 4096, MOST_ASKED = 64 };
+enum { HIGH = 900, PAGE = 4096, MOST_ASKED = 64, IN_FRONT = 3, MOST_ALONE = MOST_RUNS - IN_FRONT };
 
 static struct {
     char path[PATH_ROOM], disk[PATH_ROOM], output[PATH_ROOM];
@@ -93,34 +93,75 @@ static size_t readable(pid_t thread, const struct iovec *bytes)
     return at - begin;
 }
 
-/* Puts into `parts` what can be read of runs of bytes, from the first on, as the kernel would write of them; returns how many bytes these are. */
-static size_t take_readable(pid_t thread, const struct iovec *bytes, size_t count, struct iovec *parts)
+/* Puts into `parts` what can be read of runs of bytes, from the first on, as the kernel would write of them. */
+static void take_readable(pid_t thread, const struct iovec *bytes, size_t count, struct iovec *parts)
 {
-    size_t length = 0;
     bool is_whole = true;
     for (size_t i = 0; i < count; i++) {
         parts[i] = (struct iovec){bytes[i].iov_base, is_whole ? readable(thread, &bytes[i]) : 0};
-        length += parts[i].iov_len;
         is_whole = is_whole && parts[i].iov_len == bytes[i].iov_len;
     }
+}
+
+static size_t length_of(const struct iovec *parts, size_t count)
+{
+    size_t length = 0;
+    for (size_t i = 0; i < count; i++)
+        length += parts[i].iov_len;
     return length;
+}
+
+/* Copies runs of bytes one behind the other, and returns how many these are. Where nobody may ask for them they can be read. */
+static size_t copy_runs(pid_t thread, const struct iovec *to, const struct iovec *runs, size_t count)
+{
+    int kept = errno;
+    ssize_t copied = process_vm_readv(thread, to, 1, runs, count, 0);
+    errno = kept;
+    if (copied >= 0)
+        return (size_t)copied;
+    char *at = to->iov_base;
+    for (size_t i = 0; i < count; at += runs[i++].iov_len)
+        memcpy(at, runs[i].iov_base, runs[i].iov_len);
+    return to->iov_len;
+}
+
+/* An event is one call, which has MOST_RUNS parts: of more runs than have room in it the last ones are one, in memory that is asked for. Returns
+ * that memory. Without it they aren't logged, and the comparison at the run's end tells of it. */
+static struct iovec join_last(pid_t thread, struct iovec *runs, size_t count)
+{
+    struct iovec *last = runs + MOST_ALONE - 1;
+    struct iovec room = {.iov_len = length_of(last, count - MOST_ALONE + 1)};
+    long at = pass_mmap(0, (long)room.iov_len, PROT_READ | PROT_WRITE, MAP_PRIVATE | MAP_ANONYMOUS, -1, 0);
+    if (at < 0)
+        room.iov_len = 0;
+    else
+        room.iov_base = (void *)at;
+    *last = (struct iovec){room.iov_base, at < 0 ? 0 : copy_runs(thread, &room, last, count - MOST_ALONE + 1)};
+    return room;
 }
 
 /* (an event of which less could be written than it says would hide all that stand behind it) */
 void log_event(struct event *event, const char *path, const char *second_path, const struct iovec *bytes, size_t count)
 {
-    struct iovec parts[count + 3];
+    struct iovec parts[IN_FRONT + count], joined = {0};
     event->process = (uint32_t)pass(SYS_getpid, 0, 0, 0, 0, 0, 0);
     event->thread = (uint32_t)pass(SYS_gettid, 0, 0, 0, 0, 0, 0);
     event->path = path ? (uint16_t)strlen(path) : 0;
     event->second_path = second_path ? (uint16_t)strlen(second_path) : 0;
-    size_t length = take_readable((pid_t)event->thread, bytes, count, parts + 3);
+    take_readable((pid_t)event->thread, bytes, count, parts + IN_FRONT);
+    if (count > MOST_ALONE) {
+        joined = join_last((pid_t)event->thread, parts + IN_FRONT, count);
+        count = MOST_ALONE;
+    }
+    size_t length = length_of(parts + IN_FRONT, count);
     event->bytes = (uint32_t)length;
     event->size = (uint32_t)(sizeof *event + event->path + event->second_path + length);
     parts[0] = (struct iovec){event, sizeof *event};
     parts[1] = (struct iovec){(void *)(uintptr_t)path, event->path};
     parts[2] = (struct iovec){(void *)(uintptr_t)second_path, event->second_path};
-    append(parts, count + 3);
+    append(parts, IN_FRONT + count);
+    if (joined.iov_base)
+        pass(SYS_munmap, (long)joined.iov_base, (long)joined.iov_len, 0, 0, 0, 0);
 }
 
 bool path_of(int fd, char path[PATH_ROOM])

@@ -50,7 +50,10 @@ struct event {
 /* Whether there is a log. The first call reads the environment. */
 bool is_logging(void);
 
-/* Appends an event; `event` needs no size and no lengths. Any of the others may be NULL or none. At most 1,000 runs of bytes. */
+/* A call has no more runs of bytes (writev(2)). */
+enum { MOST_RUNS = 1024 };
+
+/* Appends an event; `event` needs no size and no lengths. Any of the others may be NULL or none. At most MOST_RUNS runs of bytes. */
 void log_event(struct event *event, const char *path, const char *second_path, const struct iovec *bytes, size_t count);
 
 /* Whether a descriptor is of a file or a folder below the run's disk: then its path, and its inode. */

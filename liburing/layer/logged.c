@@ -6,9 +6,6 @@
 
 #include <string.h>
 
-/* Of a write in more parts the bytes aren't logged, and the comparison at the run's end tells of it. */
-enum { MOST_VECTORS = 1000 };
-
 /* What is logged of a request is the library's decision. Of most it is nothing, and they are passed over at once. */
 static uint32_t logged_of(const struct request *request)
 {
@@ -39,7 +36,7 @@ static void log_write(struct event *event, const char *path, const struct reques
     event->kind = EVENT_WRITE;
     event->length = request->length;
     wulgach_place_write(event, request->fd, request->entry.off, request->entry.rw_flags);
-    log_event(event, path, NULL, request->vectors, request->vector_count <= MOST_VECTORS ? request->vector_count : 0);
+    log_event(event, path, NULL, request->vectors, request->vector_count);
 }
 
 /* (a path's room is made only where it may be wanted) */

@@ -28,7 +28,7 @@
 #define SYS_renameat2 316
 #endif
 
-enum { MOST_VECTORS = 1000, MOST_LINES = 128, MAKES = O_CREAT | O_TRUNC | (O_TMPFILE & ~O_DIRECTORY) };
+enum { MOST_LINES = 128, MAKES = O_CREAT | O_TRUNC | (O_TMPFILE & ~O_DIRECTORY) };
 
 long end_operation(long result)
 {
@@ -87,10 +87,11 @@ static long call_write_bytes(long call, const long words[6])
     return call_write(call, words, &written);
 }
 
+/* (more runs the kernel refuses) */
 static long call_write_vectors(long call, const long words[6])
 {
     size_t count = (size_t)words[2];
-    if (count == 0 || count > MOST_VECTORS)
+    if (count == 0 || count > MOST_RUNS)
         return carry(call, words);
     struct iovec vectors[count];
     if (!read_memory((const void *)words[1], vectors, count * sizeof *vectors))

@@ -1,7 +1,7 @@
 /* A program that is linked with nothing of ours, and whose calls that change files are put into a log. It is run by uring-run, in a folder
  * that counts as the disk.
  *
- *   logged copies | bytes | places | syncs | lengths
+ *   logged copies | bytes | places | syncs | lengths | parts
  *
  * Status 0: all was as it is to be. Else a line says what wasn't.
  */
@@ -97,6 +97,9 @@ static void bytes(void)
     WANT(pwrite(file, room, SIZE, 0) == SIZE && write_by_ring(&ring, file, "behind", 6) == 6);
 }
 
+/* Where the bytes stand of the event that was found last. */
+static const char *bytes_of_event;
+
 /* The last event of the log that is of this kind, and of an operation of a ring's or a call. */
 static struct event last_event(uint16_t kind, bool is_of_ring)
 {
@@ -107,8 +110,10 @@ static struct event last_event(uint16_t kind, bool is_of_ring)
     WANT(length > 0 && length < (ssize_t)sizeof log && close(file) == 0);
     for (ssize_t at = 0; at < length; at += event.size) {
         memcpy(&event, log + at, sizeof event);
-        if (event.kind == kind && (event.operation != 0) == is_of_ring)
-            found = event;
+        if (event.kind != kind || (event.operation != 0) != is_of_ring)
+            continue;
+        found = event;
+        bytes_of_event = log + at + event.size - event.bytes;
     }
     return found;
 }
@@ -186,10 +191,32 @@ static void lengths(void)
     WANT(do_by_ring(&ring, (struct io_uring_sqe){.opcode = FTRUNCATE, .fd = file, .off = UINT64_MAX}) == -EINVAL);
 }
 
+/* All bytes of a write are in the log that has as many parts as a call may have, and of the last one as many as can be read. */
+static void parts(void)
+{
+    enum { MOST = 1024, EACH = 3, LENGTH = MOST * EACH };
+    struct ring ring = set_up(0);
+    struct iovec all[MOST + 1];
+    int file = make("parts");
+    char *room = mmap(NULL, 2 * 4096, PROT_READ | PROT_WRITE, MAP_PRIVATE | MAP_ANONYMOUS, -1, 0), *letters = room + 4096 - LENGTH;
+    WANT(room != MAP_FAILED && munmap(room + 4096, 4096) == 0);
+    for (size_t i = 0; i < LENGTH; i++)
+        letters[i] = (char)('a' + i % 23);
+    for (size_t i = 0; i <= MOST; i++)
+        all[i] = (struct iovec){letters + i * EACH, EACH};
+    WANT(do_by_ring(&ring, (struct io_uring_sqe){.opcode = IORING_OP_WRITEV, .fd = file, .addr = (uintptr_t)all, .len = MOST}) == LENGTH);
+    WANT(last_event(EVENT_WRITE, true).bytes == LENGTH && memcmp(bytes_of_event, letters, LENGTH) == 0);
+    WANT(writev(file, all, MOST) == LENGTH);
+    WANT(last_event(EVENT_WRITE, false).bytes == LENGTH && memcmp(bytes_of_event, letters, LENGTH) == 0);
+    all[MOST - 1].iov_len = EACH + 1;
+    WANT(writev(file, all, MOST) <= LENGTH && last_event(EVENT_WRITE, false).bytes == LENGTH);
+    WANT(writev(file, all, MOST + 1) == -1 && errno == EINVAL);
+}
+
 static const struct {
     const char *name;
     void (*run)(void);
-} modes[] = {{"copies", copies}, {"bytes", bytes}, {"places", places}, {"syncs", syncs}, {"lengths", lengths}};
+} modes[] = {{"copies", copies}, {"bytes", bytes}, {"places", places}, {"syncs", syncs}, {"lengths", lengths}, {"parts", parts}};
 
 int main(int argc, char **argv)
 {
