@@ -5,6 +5,7 @@
 #include "logging.h"
 #include "openness.h"
 #include "passing.h"
+#include "signals.h"
 #include "wulgach_calls.h"
 
 #include <fcntl.h>
@@ -44,4 +45,13 @@ void wulgach_place_write(struct event *event, int fd, uint64_t offset, int flags
     struct wulgach_writing writing = {.is_known = status >= 0, .status = (uint32_t)status, .flags = (uint32_t)flags, .offset = offset};
     event->offset = place_of(fd, wulgach_write_begins(&writing), offset);
     event->flags = wulgach_syncs_itself(&writing) ? SYNCS_ITS_RANGE : 0;
+}
+
+long wulgach_append(int fd, const struct iovec *parts, size_t count)
+{
+    sigset_t own;
+    hold_long_files(&own);
+    long written = pass(SYS_writev, fd, (long)parts, (long)count, 0, 0, 0);
+    let_long_files(&own, written == -EFBIG);
+    return written;
 }
