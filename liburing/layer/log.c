@@ -123,12 +123,14 @@ static size_t readable(pid_t thread, const struct iovec *bytes)
     return at - begin;
 }
 
-/* Puts into `parts` what can be read of runs of bytes, from the first on, as the kernel would write of them. */
-static void take_readable(pid_t thread, const struct iovec *bytes, size_t count, struct iovec *parts)
+/* Puts into `parts` what can be read of runs of bytes, from the first on, as the kernel would write of them: as much as one call moves beside what stands in front. */
+static void take_readable(pid_t thread, const struct iovec *bytes, size_t count, size_t front, struct iovec *parts)
 {
     bool is_whole = true;
     for (size_t i = 0; i < count; i++) {
-        parts[i] = (struct iovec){bytes[i].iov_base, is_whole ? readable(thread, &bytes[i]) : 0};
+        const struct iovec run = {bytes[i].iov_base, is_whole ? wulgach_moved(front, bytes[i].iov_len) - front : 0};
+        parts[i] = (struct iovec){run.iov_base, readable(thread, &run)};
+        front += parts[i].iov_len;
         is_whole = is_whole && parts[i].iov_len == bytes[i].iov_len;
     }
 }
@@ -178,14 +180,15 @@ void log_event(struct event *event, const char *path, const char *second_path, c
     event->thread = (uint32_t)pass(SYS_gettid, 0, 0, 0, 0, 0, 0);
     event->path = path ? (uint16_t)strlen(path) : 0;
     event->second_path = second_path ? (uint16_t)strlen(second_path) : 0;
-    take_readable((pid_t)event->thread, bytes, count, parts + IN_FRONT);
+    const size_t front = sizeof *event + event->path + event->second_path;
+    take_readable((pid_t)event->thread, bytes, count, front, parts + IN_FRONT);
     if (count > MOST_ALONE) {
         joined = join_last((pid_t)event->thread, parts + IN_FRONT, count);
         count = MOST_ALONE;
     }
     size_t length = length_of(parts + IN_FRONT, count);
     event->bytes = (uint32_t)length;
-    event->size = (uint32_t)(sizeof *event + event->path + event->second_path + length);
+    event->size = (uint32_t)(front + length);
     parts[0] = (struct iovec){event, sizeof *event};
     parts[1] = (struct iovec){(void *)(uintptr_t)path, event->path};
     parts[2] = (struct iovec){(void *)(uintptr_t)second_path, event->second_path};
@@ -207,8 +210,8 @@ bool path_of(int fd, char path[PATH_ROOM])
 
 bool is_path_on_disk(const char *path)
 {
-    char behind = strncmp(path, log_of.disk, log_of.disk_length) == 0 ? path[log_of.disk_length] : 'x';
-    return behind == '/' || behind == '\0';
+    bool begins_with_disk = strncmp(path, log_of.disk, log_of.disk_length) == 0;
+    return wulgach_is_path_below(begins_with_disk, begins_with_disk ? path[log_of.disk_length] : '\0');
 }
 
 bool is_output(const char *path)

@@ -19,6 +19,36 @@ bool wulgach_is_logged_mode(mode_t mode)
     return wulgach_is_logged_kind(&kind);
 }
 
+bool wulgach_is_path_below(bool begins_with_disk, char behind)
+{
+    return wulgach_is_on_disk(begins_with_disk, (uint8_t)behind);
+}
+
+uint32_t wulgach_logged_open(uint64_t flags, bool is_there, mode_t mode)
+{
+    return wulgach_open_logged(flags, is_there, S_ISREG(mode));
+}
+
+bool wulgach_is_synced_number(int fd)
+{
+    struct stat about;
+    if (pass(SYS_fstat, fd, (long)&about, 0, 0, 0, 0) < 0)
+        return false;
+    struct wulgach_openness openness = openness_of(fd);
+    struct wulgach_synced_kind kind = {.is_regular = S_ISREG(about.st_mode), .is_folder = S_ISDIR(about.st_mode)};
+    return wulgach_counts_as_synced(&openness, &kind);
+}
+
+bool wulgach_is_waited_msync(uint32_t flags, uint32_t *instead)
+{
+    return wulgach_unwaited(flags, instead);
+}
+
+uint64_t wulgach_moved(uint64_t length, uint64_t size)
+{
+    return wulgach_length_with(length, size);
+}
+
 bool wulgach_is_open_number(int fd)
 {
     return counts_as_open(fd, false);

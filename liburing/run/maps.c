@@ -4,7 +4,7 @@
  */
 #define _GNU_SOURCE
 #include "files.h"
-#include "../layer/log.h"
+#include "../layer/logging.h"
 #include "../layer/passing.h"
 #include "run.h"
 
@@ -305,8 +305,9 @@ static void sync_memory(uintptr_t begin, size_t length)
 /* An msync that waits is a sync of its pages, which isn't waited for: the kernel says whether it can be. (of a hole in the memory it says so, and syncs the rest) */
 static long call_msync(const long words[6])
 {
-    bool is_waited = (words[2] & ~MS_INVALIDATE) == MS_SYNC;
-    long result = pass(SYS_msync, words[0], words[1], is_waited ? (words[2] & ~MS_SYNC) | MS_ASYNC : words[2], 0, 0, 0);
+    uint32_t flags = (uint32_t)words[2];
+    bool is_waited = wulgach_is_waited_msync(flags, &flags);
+    long result = pass(SYS_msync, words[0], words[1], flags, 0, 0, 0);
     if (is_waited && (result == 0 || result == -ENOMEM))
         sync_memory((uintptr_t)words[0], (size_t)words[1]);
     return result;
