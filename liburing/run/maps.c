@@ -10,6 +10,7 @@
 
 #include <errno.h>
 #include <fcntl.h>
+#include <pthread.h>
 #include <stdatomic.h>
 #include <stdio.h>
 #include <string.h>
@@ -44,6 +45,28 @@ static void unlock(const sigset_t *before)
 {
     atomic_flag_clear(&is_looked_at);
     put_mask_back(before);
+}
+
+/* A fork holds it, so that a child can take it. */
+static sigset_t mask_of_fork;
+
+static void lock_for_fork(void)
+{
+    sigset_t before;
+    lock(&before);
+    mask_of_fork = before;
+}
+
+static void unlock_behind_fork(void)
+{
+    const sigset_t before = mask_of_fork;
+    unlock(&before);
+}
+
+static void __attribute__((constructor)) hold_in_forks(void)
+{
+    if (is_logging())
+        pthread_atfork(lock_for_fork, unlock_behind_fork, unlock_behind_fork);
 }
 
 static bool is_address(long result)

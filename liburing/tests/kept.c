@@ -1,7 +1,7 @@
 /* A program that is linked with nothing of ours: what its opens, renames and memory are in the log, and that the log takes nothing from it. It is run
  * by uring-run, in a folder that counts as the disk.
  *
- *   kept opens | names | memory | locks | handlers | numbers | unread | renamed | limits
+ *   kept opens | names | memory | locks | handlers | forks | numbers | unread | renamed | limits
  *
  * Status 0: all was as it is to be. Else a line says what wasn't.
  */
@@ -12,6 +12,7 @@
 #include <linux/filter.h>
 #include <linux/openat2.h>
 #include <linux/seccomp.h>
+#include <pthread.h>
 #include <signal.h>
 #include <stddef.h>
 #include <sys/prctl.h>
@@ -132,6 +133,31 @@ static void handlers(void)
     }
 }
 
+static void *sync_memory(void *room)
+{
+    for (int i = 0; i < 4000; i++)
+        WANT(msync(room, 4096, MS_SYNC) == 0);
+    return room;
+}
+
+/* A child that is forked while another thread compares memory compares it too. */
+static void forks(void)
+{
+    enum { LENGTH = 1 << 20, CHILDREN = 15 };
+    pthread_t thread;
+    int file = make("forked"), status;
+    WANT(ftruncate(file, LENGTH) == 0);
+    char *room = mmap(NULL, LENGTH, PROT_READ | PROT_WRITE, MAP_SHARED, file, 0);
+    memset(room, 'f', LENGTH);
+    WANT(pthread_create(&thread, NULL, sync_memory, room) == 0);
+    for (int i = 0; i < CHILDREN; i++) {
+        if (fork() == 0)
+            _exit(fsync(file));
+        WANT(wait(&status) > 0 && status == 0);
+    }
+    _exit(0);
+}
+
 /* The descriptor of the log. */
 static int find_log(void)
 {
@@ -200,7 +226,7 @@ static void limits(void)
 }
 
 static const struct mode modes[] = {
-    {"opens", opens}, {"names", names}, {"memory", memory}, {"locks", locks}, {"handlers", handlers}, {"numbers", numbers}, {"unread", unread}, {"renamed", renamed}, {"limits", limits},
+    {"opens", opens}, {"names", names}, {"memory", memory}, {"locks", locks}, {"handlers", handlers}, {"forks", forks}, {"numbers", numbers}, {"unread", unread}, {"renamed", renamed}, {"limits", limits},
 };
 
 int main(int argc, char **argv)
