@@ -67,6 +67,12 @@ static long open_path(int at, const char *path, uint64_t flags, uint64_t resolve
     return pass(SYS_openat2, at, (long)path, (long)&how, sizeof how, 0, 0);
 }
 
+static void clear_name(struct name *name)
+{
+    name->is_on_disk = name->is_link = false;
+    name->folder = name->file = 0;
+}
+
 /* What a name is in a folder that is open. */
 static void look_at_name(int folder, const char *last, struct name *name)
 {
@@ -90,8 +96,7 @@ static struct name *find_path(int at, char path[PATH_ROOM], uint64_t resolve, st
 {
     const char *folder, *last = cut(path, &folder);
     long opened = open_path(at, folder, O_DIRECTORY, resolve);
-    name->is_on_disk = name->is_link = false;
-    name->folder = name->file = 0;
+    clear_name(name);
     if (opened < 0)
         return name;
     look_at_name((int)opened, last, name);
@@ -102,7 +107,7 @@ static struct name *find_path(int at, char path[PATH_ROOM], uint64_t resolve, st
 static struct name *find_name(int at, const char *from, struct name *name)
 {
     char path[PATH_ROOM];
-    name->is_on_disk = false;
+    clear_name(name);
     return read_path(from, path) ? find_path(at, path, 0, name) : name;
 }
 
@@ -234,7 +239,9 @@ static struct name *follow(const struct opening *opening, struct name *name)
     char path[PATH_ROOM], folder[PATH_ROOM];
     for (int i = 0; i < MOST_LINKS && name->is_link && !(opening->flags & (O_EXCL | O_NOFOLLOW)); i++) {
         long length = pass(SYS_readlinkat, AT_FDCWD, (long)name->path, (long)path, PATH_ROOM - 1, 0, 0);
-        path[length < 0 ? 0 : length] = '\0';
+        if (length <= 0)
+            break;
+        path[length] = '\0';
         memcpy(folder, name->path, PATH_ROOM);
         *strrchr(folder, '/') = '\0';
         long at = pass(SYS_open, (long)(*folder ? folder : "/"), O_PATH | O_DIRECTORY | O_CLOEXEC, 0, 0, 0, 0);
