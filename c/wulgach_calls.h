@@ -356,6 +356,14 @@ struct wulgach_synced_bytes {
     uint32_t length;
 };
 
+/* What an open does to a file and its names. */
+enum wulgach_logged_open {
+    WULGACH_OPEN_PLAIN = 0,     /* nothing */
+    WULGACH_OPEN_NAMES = 1,     /* it makes a file with a name, */
+    WULGACH_OPEN_NAMELESS = 2,  /* or one without, */
+    WULGACH_OPEN_CUTS = 3       /* or takes the bytes of one that is there */
+};
+
 /* Whether what happens to a file is logged that is of this kind: a regular one, or a folder. Our own rule. */
 bool wulgach_is_logged_kind(const struct wulgach_synced_kind *kind);
 
@@ -372,6 +380,17 @@ bool wulgach_syncs_itself(const struct wulgach_writing *writing);
 /* Writes the bytes that the sync of an entry is of. False, and nothing is written: it is of the whole file, since it has neither an offset nor a
  * length. One with an offset alone is of no byte. io_uring_prep_fsync(3). */
 bool wulgach_synced_bytes(const struct wulgach_submission *entry, struct wulgach_synced_bytes *bytes);
+
+/* Whether a path is of the folder that counts as the disk, or below, by whether it begins with the folder's and the letter behind that, or 0. */
+bool wulgach_is_on_disk(bool begins_with_folder, uint8_t behind);
+
+/* What an open does (enum wulgach_logged_open) that has these flags, whose path names something, also through a symbolic link, or a regular file: O_PATH
+ * nothing; O_TMPFILE and O_CREAT make a file, the latter where nothing is; O_TRUNC cuts a regular one, but with O_EXCL. open(2). */
+uint32_t wulgach_open_logged(uint64_t flags, bool is_there, bool is_regular);
+
+/* Writes with which flags an msync(2) is made that waits for the disk, by whoever needn't wait: MS_ASYNC in the place of MS_SYNC. False, and nothing is
+ * written: it doesn't wait, or is refused, and is made as it stands. */
+bool wulgach_unwaited(uint32_t flags, uint32_t *instead);
 
 /* The number of the signal that is taken back behind an operation which ended with this, or 0: 25 (SIGXFSZ) of a write, FALLOCATE or SPLICE, with
  * -27 (EFBIG), and 13 (SIGPIPE) of a splice or a tee, or of a write that IOSQE_ASYNC gives to a worker, with -32 (EPIPE). In a kernel a worker of

@@ -4,6 +4,7 @@ import copy
 import glob
 import os
 import shutil
+import stat
 import subprocess
 import tempfile
 
@@ -27,6 +28,7 @@ class Run:
             self.status, self.said = self.call(options, place, folder)
             with open(f"{place}/log", "rb") as file:
                 self.log = Log(file.read())
+                self.is_ended = not os.fstat(file.fileno()).st_mode & stat.S_IWUSR
             self.choices = self.read_choices(place)
             self.remarks = self.compare()
         finally:
@@ -80,8 +82,8 @@ class Run:
         disk = self.begin()
         disk.advance(self.log.count)
         remarks = list(disk.remarks)
-        if self.log.is_cut:
-            remarks.append("the log ends in the middle of an event")
+        if self.log.is_cut or self.is_ended:
+            remarks.append("the log couldn't be written to the run's end: what happened behind it isn't crashed")
         names = {folder: dict(inside) for folder, inside in disk.names.items()}
         for naming in sorted(disk.namings, key=ended):
             if naming.end is not None:

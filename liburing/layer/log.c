@@ -2,6 +2,7 @@
 #define _GNU_SOURCE
 #include "log.h"
 #include "logging.h"
+#include "numbers.h"
 #include "passing.h"
 
 #include <errno.h>
@@ -11,17 +12,20 @@
 #include <stdio.h>
 #include <stdlib.h>
 #include <string.h>
+#include <sys/resource.h>
 #include <sys/stat.h>
 #include <sys/syscall.h>
 #include <unistd.h>
 
-enum { HIGH = 900, PAGE = 4096, MOST_ASKED = 64, IN_FRONT = 3, MOST_ALONE = MOST_RUNS - IN_FRONT };
+enum { PAGE = 4096, MOST_ASKED = 64, IN_FRONT = 3, MOST_ALONE = MOST_RUNS - IN_FRONT };
 
 static struct {
     char path[PATH_ROOM], disk[PATH_ROOM], output[PATH_ROOM];
     size_t disk_length;
     bool is_on;
     _Atomic int fd;
+    _Atomic dev_t device;       /* the file's own, by which it is known that the number is still the log's */
+    _Atomic ino_t inode;
 } log_of = {.fd = -1};
 
 static void copy_variable(char room[PATH_ROOM], const char *name)
@@ -46,24 +50,50 @@ bool is_logging(void)
     return log_of.is_on;
 }
 
+int copy_high(int fd)
+{
+    struct rlimit limit = {.rlim_cur = RLIM_INFINITY};
+    pass(SYS_prlimit64, 0, RLIMIT_NOFILE, 0, (long)&limit, 0, 0);
+    return (int)pass(SYS_fcntl, fd, F_DUPFD_CLOEXEC, lowest_of_own(limit.rlim_cur), 0, 0, 0);
+}
+
 /* A descriptor that a program which closes low ones doesn't close. */
-static int open_log(void)
+static int open_log(struct stat *about)
 {
     long low = pass(SYS_openat, AT_FDCWD, (long)log_of.path, O_WRONLY | O_APPEND | O_CREAT | O_CLOEXEC, 0600, 0, 0);
-    long high = low < 0 ? -1 : pass(SYS_fcntl, low, F_DUPFD_CLOEXEC, HIGH, 0, 0, 0);
+    if (low < 0 || pass(SYS_fstat, low, (long)about, 0, 0, 0, 0) < 0)
+        return -1;
+    log_of.device = about->st_dev;
+    log_of.inode = about->st_ino;
+    int high = copy_high((int)low);
     if (high < 0)
         return (int)low;
     pass(SYS_close, low, 0, 0, 0, 0, 0);
-    return (int)high;
+    return high;
 }
 
-static void append(const struct iovec *parts, size_t count)
+/* Whether the number is still the log's: the program may have closed it, or taken it for a file of its own. */
+static bool is_log(int fd, struct stat *about)
 {
+    return fd >= 0 && pass(SYS_fstat, fd, (long)about, 0, 0, 0, 0) == 0 && about->st_ino == log_of.inode && about->st_dev == log_of.device;
+}
+
+/* The log ends with what stands there, and says so by its mode: a process that can still write would write behind a part of an event. */
+static void end_log(int fd)
+{
+    static const char said[] = "wulgach: the log of what happens to files can't be written: it ends here\n";
+    pass(SYS_fchmod, fd, S_IRUSR, 0, 0, 0, 0);
+    pass(SYS_write, STDERR_FILENO, (long)said, sizeof said - 1, 0, 0, 0);
+}
+
+static void append(const struct iovec *parts, size_t count, size_t length)
+{
+    struct stat about;
     int fd = log_of.fd;
-    if (fd < 0 || pass(SYS_writev, fd, (long)parts, (long)count, 0, 0, 0) == -EBADF) {
-        fd = log_of.fd = open_log();
-        pass(SYS_writev, fd, (long)parts, (long)count, 0, 0, 0);
-    }
+    if (!is_log(fd, &about))
+        fd = log_of.fd = open_log(&about);
+    if (fd >= 0 && about.st_mode & S_IWUSR && wulgach_append(fd, parts, count) != (long)length)
+        end_log(fd);
 }
 
 /* How far memory can be read from here on, over so many pages at most: a byte of each is asked for. Where nobody may ask it can be. */
@@ -93,12 +123,14 @@ static size_t readable(pid_t thread, const struct iovec *bytes)
     return at - begin;
 }
 
-/* Puts into `parts` what can be read of runs of bytes, from the first on, as the kernel would write of them. */
-static void take_readable(pid_t thread, const struct iovec *bytes, size_t count, struct iovec *parts)
+/* Puts into `parts` what can be read of runs of bytes, from the first on, as the kernel would write of them: as much as one call moves beside what stands in front. */
+static void take_readable(pid_t thread, const struct iovec *bytes, size_t count, size_t front, struct iovec *parts)
 {
     bool is_whole = true;
     for (size_t i = 0; i < count; i++) {
-        parts[i] = (struct iovec){bytes[i].iov_base, is_whole ? readable(thread, &bytes[i]) : 0};
+        const struct iovec run = {bytes[i].iov_base, is_whole ? wulgach_moved(front, bytes[i].iov_len) - front : 0};
+        parts[i] = (struct iovec){run.iov_base, readable(thread, &run)};
+        front += parts[i].iov_len;
         is_whole = is_whole && parts[i].iov_len == bytes[i].iov_len;
     }
 }
@@ -148,18 +180,19 @@ void log_event(struct event *event, const char *path, const char *second_path, c
     event->thread = (uint32_t)pass(SYS_gettid, 0, 0, 0, 0, 0, 0);
     event->path = path ? (uint16_t)strlen(path) : 0;
     event->second_path = second_path ? (uint16_t)strlen(second_path) : 0;
-    take_readable((pid_t)event->thread, bytes, count, parts + IN_FRONT);
+    const size_t front = sizeof *event + event->path + event->second_path;
+    take_readable((pid_t)event->thread, bytes, count, front, parts + IN_FRONT);
     if (count > MOST_ALONE) {
         joined = join_last((pid_t)event->thread, parts + IN_FRONT, count);
         count = MOST_ALONE;
     }
     size_t length = length_of(parts + IN_FRONT, count);
     event->bytes = (uint32_t)length;
-    event->size = (uint32_t)(sizeof *event + event->path + event->second_path + length);
+    event->size = (uint32_t)(front + length);
     parts[0] = (struct iovec){event, sizeof *event};
     parts[1] = (struct iovec){(void *)(uintptr_t)path, event->path};
     parts[2] = (struct iovec){(void *)(uintptr_t)second_path, event->second_path};
-    append(parts, IN_FRONT + count);
+    append(parts, IN_FRONT + count, event->size);
     if (joined.iov_base)
         pass(SYS_munmap, (long)joined.iov_base, (long)joined.iov_len, 0, 0, 0, 0);
 }
@@ -177,8 +210,8 @@ bool path_of(int fd, char path[PATH_ROOM])
 
 bool is_path_on_disk(const char *path)
 {
-    char behind = strncmp(path, log_of.disk, log_of.disk_length) == 0 ? path[log_of.disk_length] : 'x';
-    return behind == '/' || behind == '\0';
+    bool begins_with_disk = strncmp(path, log_of.disk, log_of.disk_length) == 0;
+    return wulgach_is_path_below(begins_with_disk, begins_with_disk ? path[log_of.disk_length] : '\0');
 }
 
 bool is_output(const char *path)

@@ -56,6 +56,9 @@ enum { MOST_RUNS = 1024 };
 /* Appends an event; `event` needs no size and no lengths. Any of the others may be NULL or none. At most MOST_RUNS runs of bytes. */
 void log_event(struct event *event, const char *path, const char *second_path, const struct iovec *bytes, size_t count);
 
+/* A copy of a descriptor under one of the last numbers that the program may have, as the layer's own have; negative: there is none. */
+int copy_high(int fd);
+
 /* Whether a descriptor is of a file or a folder below the run's disk: then its path, and its inode. */
 enum { PATH_ROOM = 4096 };
 bool is_on_disk(int fd, char path[PATH_ROOM], uint64_t *file);

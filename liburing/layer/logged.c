@@ -40,12 +40,13 @@ static void log_write(struct event *event, const char *path, const struct reques
 }
 
 /* (a path's room is made only where it may be wanted) */
-__attribute__((noinline)) static void log_start_of(const struct ring *ring, const struct request *request, uint32_t logged)
+__attribute__((noinline)) static void log_start_of(const struct ring *ring, struct request *request, uint32_t logged)
 {
     char path[PATH_ROOM];
     uint64_t file;
     if (!is_on_disk(request->fd, path, &file))
         return;
+    request->logged_file = file;
     struct event event = {.operation = operation_of(ring, request), .file = file};
     if (logged == WULGACH_LOGS_SYNC)
         log_sync(&event, path, &request->entry);
@@ -53,31 +54,28 @@ __attribute__((noinline)) static void log_start_of(const struct ring *ring, cons
         log_write(&event, path, request);
 }
 
-void log_start(const struct ring *ring, const struct request *request)
+void log_start(const struct ring *ring, struct request *request)
 {
     uint32_t logged = logged_of(request);
     if (logged != WULGACH_LOGS_NOTHING)
         log_start_of(ring, request, logged);
 }
 
+/* (its file may have been renamed meanwhile) */
 __attribute__((noinline)) static void log_part(const struct ring *ring, const struct request *request, uint16_t kind, int64_t result)
 {
-    char path[PATH_ROOM];
-    uint64_t file;
-    if (!is_on_disk(request->fd, path, &file))
-        return;
-    struct event event = {.kind = kind, .operation = operation_of(ring, request), .file = file, .result = result};
+    struct event event = {.kind = kind, .operation = operation_of(ring, request), .file = request->logged_file, .result = result};
     log_event(&event, NULL, NULL, NULL, 0);
 }
 
 void log_carrying(const struct ring *ring, const struct request *request)
 {
-    if (logged_of(request) != WULGACH_LOGS_NOTHING)
+    if (request->logged_file != 0)
         log_part(ring, request, EVENT_CARRY, 0);
 }
 
 void log_carried(const struct ring *ring, const struct request *request, int32_t res)
 {
-    if (logged_of(request) != WULGACH_LOGS_NOTHING)
+    if (request->logged_file != 0)
         log_part(ring, request, EVENT_END, res);
 }

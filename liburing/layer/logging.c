@@ -5,6 +5,7 @@
 #include "logging.h"
 #include "openness.h"
 #include "passing.h"
+#include "signals.h"
 #include "wulgach_calls.h"
 
 #include <fcntl.h>
@@ -16,6 +17,36 @@ bool wulgach_is_logged_mode(mode_t mode)
 {
     struct wulgach_synced_kind kind = {.is_regular = S_ISREG(mode), .is_folder = S_ISDIR(mode)};
     return wulgach_is_logged_kind(&kind);
+}
+
+bool wulgach_is_path_below(bool begins_with_disk, char behind)
+{
+    return wulgach_is_on_disk(begins_with_disk, (uint8_t)behind);
+}
+
+uint32_t wulgach_logged_open(uint64_t flags, bool is_there, mode_t mode)
+{
+    return wulgach_open_logged(flags, is_there, S_ISREG(mode));
+}
+
+bool wulgach_is_synced_number(int fd)
+{
+    struct stat about;
+    if (pass(SYS_fstat, fd, (long)&about, 0, 0, 0, 0) < 0)
+        return false;
+    struct wulgach_openness openness = openness_of(fd);
+    struct wulgach_synced_kind kind = {.is_regular = S_ISREG(about.st_mode), .is_folder = S_ISDIR(about.st_mode)};
+    return wulgach_counts_as_synced(&openness, &kind);
+}
+
+bool wulgach_is_waited_msync(uint32_t flags, uint32_t *instead)
+{
+    return wulgach_unwaited(flags, instead);
+}
+
+uint64_t wulgach_moved(uint64_t length, uint64_t size)
+{
+    return wulgach_length_with(length, size);
 }
 
 bool wulgach_is_open_number(int fd)
@@ -44,4 +75,13 @@ void wulgach_place_write(struct event *event, int fd, uint64_t offset, int flags
     struct wulgach_writing writing = {.is_known = status >= 0, .status = (uint32_t)status, .flags = (uint32_t)flags, .offset = offset};
     event->offset = place_of(fd, wulgach_write_begins(&writing), offset);
     event->flags = wulgach_syncs_itself(&writing) ? SYNCS_ITS_RANGE : 0;
+}
+
+long wulgach_append(int fd, const struct iovec *parts, size_t count)
+{
+    sigset_t own;
+    hold_long_files(&own);
+    long written = pass(SYS_writev, fd, (long)parts, (long)count, 0, 0, 0);
+    let_long_files(&own, written == -EFBIG);
+    return written;
 }

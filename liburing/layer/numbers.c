@@ -15,9 +15,8 @@
 #include <sys/stat.h>
 #include <unistd.h>
 
-/* Numbers from MOST_NOTED on aren't noted: a kernel gives none by its own limit (fs.nr_open), unless that was raised. A program that may have more than
- * MANY has room for the layer's beside its own; of one that may have fewer the layer takes the last, one of SHARE. */
-enum { HIGH_NUMBER = 512, MANY = 1 << 15, SHARE = 32, MOST_NOTED = 1 << 20, BITS = 64 };
+/* Numbers from MOST_NOTED on aren't noted: a kernel gives none by its own limit (fs.nr_open), unless that was raised. */
+enum { MOST_NOTED = 1 << 20, BITS = 64 };
 
 /* Copies that are left open, since the process has locks on their files. Under the lock copies are made and noted, and closed: a fork holds it, so
  * a child knows of each. */
@@ -84,7 +83,7 @@ static int copy_below(int fd)
 {
     struct rlimit own = {.rlim_cur = RLIM_INFINITY};
     getrlimit(RLIMIT_NOFILE, &own);
-    return copy_from(fd, own.rlim_cur > MANY ? HIGH_NUMBER : (int)(own.rlim_cur - own.rlim_cur / SHARE));
+    return copy_from(fd, lowest_of_own(own.rlim_cur));
 }
 
 /* A copy under a number past the program's limit, as it is. */

@@ -7,6 +7,15 @@
 #include <stdbool.h>
 #include <sys/resource.h>
 
+/* Where a program may have more than MANY, there is room for the layer's numbers beside its own; else they are the last, one of SHARE. */
+enum { HIGH_NUMBER = 512, MANY = 1 << 15, SHARE = 32 };
+
+/* The lowest of these numbers, by how many descriptors the program may have. */
+static inline int lowest_of_own(rlim_t limit)
+{
+    return limit > MANY ? HIGH_NUMBER : (int)(limit - limit / SHARE);
+}
+
 /* A descriptor that was made just now, under such a number in the place of its own; or as it is, where there is none to be had, or it is
  * negative. */
 int moved_high(int fd);

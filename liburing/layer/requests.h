@@ -66,6 +66,7 @@ struct request {
     uint64_t token;                 /* the user data that the core has */
     uint64_t call;                  /* the number of the call that submitted it */
     uint64_t begun;                 /* how many had started before it, and itself */
+    uint64_t logged_file;           /* the file that its begin is logged of, or 0 */
     bool has_fired;                 /* a linked timeout: the request before it was cancelled by it */
     bool is_message;                /* one of the layer's own, which tells of a message or of a tag: no call has submitted it */
     bool is_of_pipe;                /* a poll for what a pipe has to be read: */

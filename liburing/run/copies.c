@@ -8,8 +8,6 @@
 #include <sys/syscall.h>
 #include <unistd.h>
 
-enum { MOST_COPIED = 1 << 20 };
-
 /* Where the bytes go to. */
 struct way {
     int to;
@@ -49,18 +47,14 @@ static void end_copy(int reader, int64_t begin, long result)
 long call_copy(long call, const long words[6])
 {
     struct way way = way_of(call, words);
-    long cut[6] = {words[0], words[1], words[2], words[3], words[4], words[5]};
     char path[PATH_ROOM];
     uint64_t file;
     if (!is_on_disk(way.to, path, &file) || !read_place(&way))
         return pass(call, words[0], words[1], words[2], words[3], words[4], words[5]);
-    /* (fewer bytes than were asked for is a lawful answer) */
-    if (cut[way.length] > MOST_COPIED)
-        cut[way.length] = MOST_COPIED;
-    struct event event = {.kind = EVENT_COPY, .file = file, .length = (uint64_t)cut[way.length]};
+    struct event event = {.kind = EVENT_COPY, .file = file, .length = wulgach_moved(0, (uint64_t)words[way.length])};
     wulgach_place_write(&event, way.to, (uint64_t)way.place, 0);
     log_event(&event, path, NULL, NULL, 0);
-    long result = pass(call, cut[0], cut[1], cut[2], cut[3], cut[4], cut[5]);
+    long result = pass(call, words[0], words[1], words[2], words[3], words[4], words[5]);
     end_copy(reader_of(file, way.to), event.offset, result);
     return result;
 }

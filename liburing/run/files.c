@@ -45,7 +45,11 @@ static long carry(long call, const long words[6])
 bool read_memory(const void *from, void *to, size_t size)
 {
     const struct iovec here = {to, size}, there = {(void *)(uintptr_t)from, size};
-    return process_vm_readv((pid_t)pass(SYS_gettid, 0, 0, 0, 0, 0, 0), &here, 1, &there, 1, 0) == (ssize_t)size;
+    ssize_t read = process_vm_readv((pid_t)pass(SYS_gettid, 0, 0, 0, 0, 0, 0), &here, 1, &there, 1, 0);
+    if (read >= 0 || (errno != ENOSYS && errno != EPERM))
+        return read == (ssize_t)size;
+    memcpy(to, from, size);
+    return true;
 }
 
 /* A write, of one run of bytes or of vectors. */
@@ -69,7 +73,7 @@ static long call_write(long call, const long words[6], const struct written *wri
     uint64_t file;
     size_t length = 0;
     for (size_t i = 0; i < written->count; i++)
-        length += written->vectors[i].iov_len;
+        length = wulgach_moved(length, written->vectors[i].iov_len);
     if (length == 0)
         return carry(call, words);
     if (!is_on_disk(written->fd, path, &file))
@@ -112,7 +116,7 @@ static long call_sync(long call, const long words[6])
 {
     char path[PATH_ROOM];
     uint64_t file;
-    if (!wulgach_is_open_number((int)words[0]) || !is_on_disk((int)words[0], path, &file))
+    if (!wulgach_is_synced_number((int)words[0]) || !is_on_disk((int)words[0], path, &file))
         return carry(call, words);
     compare_maps(file);
     struct event event = {.kind = EVENT_SYNC, .file = file};
@@ -176,7 +180,7 @@ static const struct {
 } served[] = {
     {SYS_write, call_write_bytes}, {SYS_pwrite64, call_write_bytes}, {SYS_writev, call_write_vectors}, {SYS_pwritev, call_write_vectors}, {SYS_pwritev2, call_write_vectors},
     {SYS_fsync, call_sync}, {SYS_fdatasync, call_sync}, {SYS_sync, call_sync_all}, {SYS_syncfs, call_sync_all},
-    {SYS_ftruncate, call_on_length}, {SYS_fallocate, call_on_length}, {SYS_truncate, call_truncate}, {SYS_creat, call_open},
+    {SYS_ftruncate, call_on_length}, {SYS_fallocate, call_on_length}, {SYS_truncate, call_truncate}, {SYS_creat, call_open}, {SYS_openat2, call_open},
     {SYS_rename, call_on_names}, {SYS_renameat, call_on_names}, {SYS_renameat2, call_on_names}, {SYS_link, call_on_names}, {SYS_linkat, call_on_names},
     {SYS_unlink, call_on_names}, {SYS_unlinkat, call_on_names}, {SYS_rmdir, call_on_names}, {SYS_mkdir, call_on_names}, {SYS_mkdirat, call_on_names},
     {SYS_symlink, call_on_names}, {SYS_symlinkat, call_on_names},

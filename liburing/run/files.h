@@ -19,8 +19,8 @@ long call_open(long call, const long words[6]);
 long call_copy(long call, const long words[6]);
 long call_map(long call, const long words[6]);
 
-/* Reads the program's memory, which may be where nothing is; false if it can't be read. The process is named by the thread that
- * calls: its first one may have ended. */
+/* Reads the program's memory, which may be where nothing is; false if it can't be read. Where nobody may ask it is read as it comes. The process is named
+ * by the thread that calls: its first one may have ended. */
 bool read_memory(const void *from, void *to, size_t size);
 
 /* A descriptor of our own that reads a file, and stays open; negative if there is none. */

@@ -4,12 +4,13 @@
  */
 #define _GNU_SOURCE
 #include "files.h"
-#include "../layer/log.h"
+#include "../layer/logging.h"
 #include "../layer/passing.h"
 #include "run.h"
 
 #include <errno.h>
 #include <fcntl.h>
+#include <pthread.h>
 #include <stdatomic.h>
 #include <stdio.h>
 #include <string.h>
@@ -18,7 +19,7 @@
 #include <sys/syscall.h>
 #include <unistd.h>
 
-enum { MOST_FILES = 64, MOST_MAPS = 256, PAGE = 4096, HIGH = 900 };
+enum { MOST_FILES = 64, PAGE = 4096 };
 
 /* A file that is read by a descriptor of our own; if it has been mapped, its copy has room for so many bytes. */
 struct mapped {
@@ -29,28 +30,43 @@ struct mapped {
     size_t room;
 };
 
-/* Where it was mapped. The newest one of an address counts. */
-struct map {
-    char *memory;
-    size_t length;
-    int64_t offset;
-    struct mapped *of;
-};
-
 static struct mapped files[MOST_FILES];
-static struct map maps[MOST_MAPS];
-static size_t map_count;
 static atomic_flag is_looked_at = ATOMIC_FLAG_INIT;
 
-static void lock(void)
+/* (a handler that came meanwhile would wait for itself) */
+static void lock(sigset_t *before)
 {
+    set_mask(~OPEN_IN_TRAP, before);
     while (atomic_flag_test_and_set(&is_looked_at))
         pass(SYS_sched_yield, 0, 0, 0, 0, 0, 0);
 }
 
-static void unlock(void)
+static void unlock(const sigset_t *before)
 {
     atomic_flag_clear(&is_looked_at);
+    put_mask_back(before);
+}
+
+/* A fork holds it, so that a child can take it. */
+static sigset_t mask_of_fork;
+
+static void lock_for_fork(void)
+{
+    sigset_t before;
+    lock(&before);
+    mask_of_fork = before;
+}
+
+static void unlock_behind_fork(void)
+{
+    const sigset_t before = mask_of_fork;
+    unlock(&before);
+}
+
+static void __attribute__((constructor)) hold_in_forks(void)
+{
+    if (is_logging())
+        pthread_atfork(lock_for_fork, unlock_behind_fork, unlock_behind_fork);
 }
 
 static bool is_address(long result)
@@ -84,9 +100,18 @@ static size_t next_page(const struct mapped *mapped, size_t at)
     return found < 0 ? mapped->room : (size_t)found / PAGE * PAGE;
 }
 
+/* Whether its descriptor still reads it: the program may have closed the number, or taken it for a file of its own. */
+static bool reads(const struct mapped *mapped)
+{
+    struct stat about;
+    return pass(SYS_fstat, mapped->fd, (long)&about, 0, 0, 0, 0) == 0 && about.st_ino == mapped->file;
+}
+
 static void compare(struct mapped *mapped)
 {
     char page[PAGE];
+    if (!reads(mapped))
+        return;
     for (size_t at = next_page(mapped, 0); at < mapped->room; at = next_page(mapped, at + PAGE)) {
         long length = pass(SYS_pread64, mapped->fd, (long)page, PAGE, (long)at, 0, 0);
         if (length <= 0)
@@ -97,11 +122,12 @@ static void compare(struct mapped *mapped)
 
 void compare_maps(ino_t file)
 {
-    lock();
+    sigset_t before;
+    lock(&before);
     for (struct mapped *mapped = files; mapped < files + MOST_FILES && mapped->is_used; mapped++)
         if (file == 0 || mapped->file == file)
             compare(mapped);
-    unlock();
+    unlock(&before);
 }
 
 static void read_copy(struct mapped *mapped, size_t from)
@@ -126,80 +152,187 @@ static bool make_room(struct mapped *mapped, size_t room)
     return true;
 }
 
+/* Whether anybody has a lock on a file, as another descriptor's would meet it (fcntl(2)); or it isn't known. */
+static bool may_be_locked(long fd)
+{
+    struct flock lock = {.l_type = F_WRLCK, .l_whence = SEEK_SET};
+    return pass(SYS_fcntl, fd, F_OFD_GETLK, (long)&lock, 0, 0, 0) < 0 || lock.l_type != F_UNLCK;
+}
+
+/* Under a high number; the one that it is opened by stays too, where to close it could take locks away. */
 static int open_again(int fd)
 {
     char name[40];
     snprintf(name, sizeof name, "/proc/thread-self/fd/%d", fd);
     long low = pass(SYS_open, (long)name, O_RDONLY | O_CLOEXEC, 0, 0, 0, 0);
-    long high = low < 0 ? low : pass(SYS_fcntl, low, F_DUPFD_CLOEXEC, HIGH, 0, 0, 0);
+    int high = low < 0 ? -1 : copy_high((int)low);
     if (high < 0)
         return (int)low;
-    pass(SYS_close, low, 0, 0, 0, 0, 0);
-    return (int)high;
+    if (!may_be_locked(high))
+        pass(SYS_close, low, 0, 0, 0, 0, 0);
+    return high;
 }
 
-static struct mapped *mapped_of(uint64_t file, int fd)
+static struct mapped *find_mapped(uint64_t file)
 {
     struct mapped *mapped = files;
     while (mapped < files + MOST_FILES && mapped->is_used && mapped->file != file)
         mapped++;
-    if (mapped == files + MOST_FILES)
-        return NULL;
-    if (!mapped->is_used)
-        *mapped = (struct mapped){.is_used = true, .file = file, .fd = open_again(fd)};
-    return mapped->fd < 0 ? NULL : mapped;
+    return mapped == files + MOST_FILES ? NULL : mapped;
+}
+
+static struct mapped *mapped_of(uint64_t file, int fd)
+{
+    struct mapped *mapped = find_mapped(file);
+    if (mapped && !mapped->is_used)
+        *mapped = (struct mapped){.is_used = true, .file = file, .fd = -1};
+    if (mapped && !reads(mapped))
+        mapped->fd = open_again(fd);
+    return mapped && mapped->fd >= 0 ? mapped : NULL;
 }
 
 int reader_of(uint64_t file, int fd)
 {
-    lock();
+    sigset_t before;
+    lock(&before);
     const struct mapped *mapped = mapped_of(file, fd);
-    unlock();
+    unlock(&before);
     return mapped ? mapped->fd : -1;
 }
 
-static void add_map(char *memory, size_t length, int fd, int64_t offset)
+static void add_map(size_t length, int fd, int64_t offset)
 {
     char path[PATH_ROOM];
     uint64_t file;
+    sigset_t before;
     if (!is_on_disk(fd, path, &file))
         return;
-    lock();
+    lock(&before);
     struct mapped *mapped = mapped_of(file, fd);
-    if (mapped && make_room(mapped, (size_t)offset + length))
-        maps[map_count++ % MOST_MAPS] = (struct map){memory, length, offset, mapped};
-    else
+    if (!mapped || !make_room(mapped, (size_t)offset + length))
         say("memory that is shared with this file isn't looked at", path);
-    unlock();
+    unlock(&before);
 }
 
-static const struct map *map_at(const char *memory)
+/* ---- msync ---- */
+
+/* What the kernel lists of the process's memory, from the first to the last, in a line each. */
+struct list {
+    int fd;
+    size_t at, length;
+    char room[PAGE];
+};
+
+/* A range that is shared with a file of the run's disk: the file's inode, its path, and where in it the range begins. */
+struct range {
+    uintptr_t begin, end;
+    uint64_t file;
+    int64_t offset;
+    char path[PATH_ROOM];
+};
+
+static int next_letter(struct list *list)
 {
-    for (size_t back = 1; back <= MOST_MAPS && back <= map_count; back++) {
-        const struct map *map = &maps[(map_count - back) % MOST_MAPS];
-        if (memory >= map->memory && memory < map->memory + map->length)
-            return map;
+    if (list->at == list->length) {
+        long length = pass(SYS_read, list->fd, (long)list->room, sizeof list->room, 0, 0, 0);
+        list->length = length > 0 ? (size_t)length : 0;
+        list->at = 0;
     }
-    return NULL;
+    return list->at < list->length ? (unsigned char)list->room[list->at++] : -1;
 }
 
-/* An msync that waits is a sync of its pages. */
+/* A number up to a letter that is none of its digits, which is read too. */
+static uint64_t next_number(struct list *list, unsigned base)
+{
+    uint64_t number = 0;
+    for (;;) {
+        int letter = next_letter(list);
+        unsigned digit = letter >= 'a' ? (unsigned)letter - 'a' + 10 : letter >= '0' && letter <= '9' ? (unsigned)letter - '0' : base;
+        if (digit >= base)
+            return number;
+        number = number * base + digit;
+    }
+}
+
+/* Reads the rest of a line, as much of it as there is room for, without the blanks in front. */
+static void read_rest(struct list *list, char room[PATH_ROOM])
+{
+    size_t length = 0;
+    int letter;
+    while ((letter = next_letter(list)) >= 0 && letter != '\n')
+        if (length + 1 < PATH_ROOM && (length > 0 || letter != ' '))
+            room[length++] = (char)letter;
+    room[length] = '\0';
+}
+
+/* A line: where it begins and ends, what may be done there and whether it's shared, the offset, the device and the inode, and the path (proc_pid_maps(5)). False: there
+ * is none. */
+static bool next_range(struct list *list, struct range *range, bool *is_shared)
+{
+    range->begin = next_number(list, 16);
+    range->end = next_number(list, 16);
+    for (int i = 0; i < 3; i++)
+        next_letter(list);
+    *is_shared = next_letter(list) == 's';
+    next_letter(list);
+    range->offset = (int64_t)next_number(list, 16);
+    next_number(list, 16);
+    next_number(list, 16);
+    range->file = next_number(list, 10);
+    read_rest(list, range->path);
+    return range->end != 0;
+}
+
+/* The next range that is shared with a file of the disk and has bytes in front of `end`, behind `begin`: cut to these. */
+static bool next_shared(struct list *list, uintptr_t begin, uintptr_t end, struct range *range)
+{
+    bool is_shared;
+    while (next_range(list, range, &is_shared) && range->begin < end)
+        if (is_shared && range->end > begin && range->file != 0 && is_path_on_disk(range->path)) {
+            uintptr_t first = range->begin > begin ? range->begin : begin;
+            range->offset += (int64_t)(first - range->begin);
+            range->begin = first;
+            range->end = range->end < end ? range->end : end;
+            return true;
+        }
+    return false;
+}
+
+static void sync_range(const struct range *range)
+{
+    struct mapped *mapped = find_mapped(range->file);
+    struct event event = {.kind = EVENT_SYNC, .flags = IS_OF_RANGE, .file = range->file, .offset = range->offset, .length = range->end - range->begin};
+    bool is_known = mapped && mapped->is_used && mapped->copy;
+    if (is_known)
+        compare(mapped);
+    log_event(&event, range->path, NULL, NULL, 0);
+    if (is_known)
+        compare(mapped);
+    end_operation(0);
+}
+
+/* Which files the memory is of is asked as it is synced: what was mapped there before may be gone. */
+static void sync_memory(uintptr_t begin, size_t length)
+{
+    static struct list list;
+    static struct range range;
+    sigset_t before;
+    lock(&before);
+    list = (struct list){.fd = (int)pass(SYS_open, (long)"/proc/thread-self/maps", O_RDONLY | O_CLOEXEC, 0, 0, 0, 0)};
+    while (list.fd >= 0 && next_shared(&list, begin, begin + (length + PAGE - 1) / PAGE * PAGE, &range))
+        sync_range(&range);
+    pass(SYS_close, list.fd, 0, 0, 0, 0, 0);
+    unlock(&before);
+}
+
+/* An msync that waits is a sync of its pages, which isn't waited for: the kernel says whether it can be. (of a hole in the memory it says so, and syncs the rest) */
 static long call_msync(const long words[6])
 {
-    char *memory = (char *)words[0], path[PATH_ROOM];
-    lock();
-    const struct map *map = words[2] & MS_SYNC ? map_at(memory) : NULL;
-    if (map) {
-        struct event event = {.kind = EVENT_SYNC, .file = map->of->file, .offset = map->offset + (memory - map->memory), .length = ((uint64_t)words[1] + PAGE - 1) / PAGE * PAGE};
-        compare(map->of);
-        log_event(&event, path_of(map->of->fd, path) ? path : NULL, NULL, NULL, 0);
-    }
-    long result = pass(SYS_msync, words[0], words[1], map ? MS_ASYNC : words[2], 0, 0, 0);
-    if (map) {
-        compare(map->of);
-        end_operation(result);
-    }
-    unlock();
+    uint32_t flags = (uint32_t)words[2];
+    bool is_waited = wulgach_is_waited_msync(flags, &flags);
+    long result = pass(SYS_msync, words[0], words[1], flags, 0, 0, 0);
+    if (is_waited && (result == 0 || result == -ENOMEM))
+        sync_memory((uintptr_t)words[0], (size_t)words[1]);
     return result;
 }
 
@@ -209,6 +342,6 @@ long call_map(long call, const long words[6])
         return call_msync(words);
     long memory = pass_mmap(words[0], words[1], words[2], words[3], words[4], words[5]);
     if (is_address(memory) && words[2] & PROT_WRITE && !(words[3] & MAP_ANONYMOUS))
-        add_map((char *)memory, (size_t)words[1], (int)words[4], words[5]);
+        add_map((size_t)words[1], (int)words[4], words[5]);
     return memory;
 }

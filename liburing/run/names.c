@@ -1,11 +1,13 @@
 /* Calls that change names: a file is made, linked, renamed, removed. */
 #define _GNU_SOURCE
 #include "files.h"
-#include "../layer/log.h"
+#include "../layer/logging.h"
 #include "../layer/passing.h"
+#include "../../c/wulgach_calls.h"
 
 #include <errno.h>
 #include <fcntl.h>
+#include <linux/openat2.h>
 #include <stdint.h>
 #include <stdio.h>
 #include <string.h>
@@ -16,10 +18,11 @@
 #define SYS_renameat2 316
 #endif
 
-/* A name: its folder, and its path through no link but the last. */
+/* A name: its folder, its path through no link but the last, and the file that has it, or 0. */
 struct name {
     bool is_on_disk;
-    uint64_t folder;
+    uint64_t folder, file;
+    bool is_link;
     char path[PATH_ROOM];
 };
 
@@ -55,27 +58,57 @@ static const char *cut(char path[PATH_ROOM], const char **folder)
     return slash + 1;
 }
 
+/* Opens a path alone, as an open by these rules finds it (openat2(2), RESOLVE_..). */
+static long open_path(int at, const char *path, uint64_t flags, uint64_t resolve)
+{
+    struct open_how how = {.flags = flags | O_PATH | O_CLOEXEC, .resolve = resolve};
+    if (resolve == 0)
+        return pass(SYS_openat, at, (long)path, (long)how.flags, 0, 0, 0);
+    return pass(SYS_openat2, at, (long)path, (long)&how, sizeof how, 0, 0);
+}
+
+static void clear_name(struct name *name)
+{
+    name->is_on_disk = name->is_link = false;
+    name->folder = name->file = 0;
+}
+
+/* What a name is in a folder that is open. */
+static void look_at_name(int folder, const char *last, struct name *name)
+{
+    struct stat about;
+    if (pass(SYS_newfstatat, folder, (long)last, (long)&about, AT_SYMLINK_NOFOLLOW, 0, 0) == 0) {
+        name->file = about.st_ino;
+        name->is_link = S_ISLNK(about.st_mode);
+    }
+    if (!path_of(folder, name->path) || pass(SYS_fstat, folder, (long)&about, 0, 0, 0, 0) < 0)
+        return;
+    size_t length = strlen(name->path);
+    name->folder = about.st_ino;
+    if (length + strlen(last) + 2 > PATH_ROOM || strcmp(last, ".") == 0 || strcmp(last, "..") == 0)
+        return;
+    name->is_on_disk = is_path_on_disk(name->path);
+    snprintf(name->path + length, PATH_ROOM - length, "/%s", last);
+}
+
+/* The name of a path, which is cut. */
+static struct name *find_path(int at, char path[PATH_ROOM], uint64_t resolve, struct name *name)
+{
+    const char *folder, *last = cut(path, &folder);
+    long opened = open_path(at, folder, O_DIRECTORY, resolve);
+    clear_name(name);
+    if (opened < 0)
+        return name;
+    look_at_name((int)opened, last, name);
+    pass(SYS_close, opened, 0, 0, 0, 0, 0);
+    return name;
+}
+
 static struct name *find_name(int at, const char *from, struct name *name)
 {
     char path[PATH_ROOM];
-    const char *folder, *last;
-    struct stat about;
-    name->is_on_disk = false;
-    if (!read_path(from, path))
-        return name;
-    last = cut(path, &folder);
-    long opened = pass(SYS_openat, at, (long)folder, O_PATH | O_DIRECTORY | O_CLOEXEC, 0, 0, 0);
-    if (opened < 0)
-        return name;
-    if (path_of((int)opened, name->path) && is_path_on_disk(name->path) && pass(SYS_fstat, opened, (long)&about, 0, 0, 0, 0) == 0) {
-        size_t length = strlen(name->path);
-        name->folder = about.st_ino;
-        name->is_on_disk = length + strlen(last) + 2 <= PATH_ROOM && strcmp(last, ".") != 0 && strcmp(last, "..") != 0;
-        if (name->is_on_disk)
-            snprintf(name->path + length, PATH_ROOM - length, "/%s", last);
-    }
-    pass(SYS_close, opened, 0, 0, 0, 0, 0);
-    return name;
+    clear_name(name);
+    return read_path(from, path) ? find_path(at, path, 0, name) : name;
 }
 
 static long carry(long call, const long words[6])
@@ -103,12 +136,9 @@ static long on_name(long call, const long words[6], uint16_t kind, int at, const
 
 static long on_two(long call, const long words[6], uint16_t kind, const struct name *one, const struct name *other, unsigned flags)
 {
-    struct stat about = {0};
     if (!one->is_on_disk && !other->is_on_disk)
         return carry(call, words);
-    struct event event = {.kind = kind, .flags = (uint16_t)flags, .file = one->folder, .second = other->folder};
-    if (pass(SYS_newfstatat, AT_FDCWD, (long)one->path, (long)&about, AT_SYMLINK_NOFOLLOW, 0, 0) == 0)
-        event.length = about.st_ino;
+    struct event event = {.kind = kind, .flags = (uint16_t)flags, .file = one->folder, .second = other->folder, .length = one->file};
     log_event(&event, one->is_on_disk ? one->path : NULL, other->is_on_disk ? other->path : NULL, NULL, 0);
     return end_operation(carry(call, words));
 }
@@ -157,34 +187,77 @@ long call_on_names(long call, const long words[6])
     case SYS_symlink:
         return on_name(call, words, EVENT_MAKE_LINK, AT_FDCWD, second, first);
     default:
-        return on_name(call, words, EVENT_MAKE_LINK, at, (const char *)words[2], first);
+        return on_name(call, words, EVENT_MAKE_LINK, (int)words[1], (const char *)words[2], first);
     }
 }
 
-/* A file that is there loses its bytes. */
-static long open_cut(long call, const long words[6], int at, const char *path)
-{
-    char real[PATH_ROOM];
+/* How a file is opened: its words, and what openat2 has beside them. */
+struct opening {
+    int at;
+    const char *path;
+    uint64_t flags, resolve;
+};
+
+/* The file that it finds, if it is there, and which one that is if it's on the disk. */
+struct found {
+    bool is_there, is_on_disk;
+    mode_t mode;
     uint64_t file;
-    long opened = pass(SYS_openat, at, (long)path, O_PATH | O_CLOEXEC, 0, 0, 0);
-    bool is_seen = opened >= 0 && is_on_disk((int)opened, real, &file);
-    if (opened >= 0)
-        pass(SYS_close, opened, 0, 0, 0, 0, 0);
-    if (!is_seen)
+    char path[PATH_ROOM];
+};
+
+/* (its number is free again before the program's file is opened) */
+static void find_file(const struct opening *opening, struct found *found)
+{
+    struct stat about = {0};
+    long fd = open_path(opening->at, opening->path, 0, opening->resolve);
+    found->is_there = fd >= 0;
+    found->is_on_disk = fd >= 0 && is_on_disk((int)fd, found->path, &found->file);
+    if (fd < 0)
+        return;
+    pass(SYS_fstat, fd, (long)&about, 0, 0, 0, 0);
+    pass(SYS_close, fd, 0, 0, 0, 0, 0);
+    found->mode = about.st_mode;
+}
+
+/* A file that is there loses its bytes. */
+static long open_cut(long call, const long words[6], const struct found *found)
+{
+    if (!found->is_on_disk)
         return carry(call, words);
-    struct event event = {.kind = EVENT_LENGTH, .file = file};
-    log_event(&event, real, NULL, NULL, 0);
+    struct event event = {.kind = EVENT_LENGTH, .file = found->file};
+    log_event(&event, found->path, NULL, NULL, 0);
     long result = carry(call, words);
     end_operation(result < 0 ? result : 0);
     return result;
 }
 
-/* A file that isn't there is made, with a name. */
-static long open_new(long call, const long words[6], int at, const char *path)
+/* A name that is a symbolic link leads to another, which may be one too. */
+static struct name *follow(const struct opening *opening, struct name *name)
 {
+    enum { MOST_LINKS = 40 };
+    char path[PATH_ROOM], folder[PATH_ROOM];
+    for (int i = 0; i < MOST_LINKS && name->is_link && !(opening->flags & (O_EXCL | O_NOFOLLOW)); i++) {
+        long length = pass(SYS_readlinkat, AT_FDCWD, (long)name->path, (long)path, PATH_ROOM - 1, 0, 0);
+        if (length <= 0)
+            break;
+        path[length] = '\0';
+        memcpy(folder, name->path, PATH_ROOM);
+        *strrchr(folder, '/') = '\0';
+        long at = pass(SYS_open, (long)(*folder ? folder : "/"), O_PATH | O_DIRECTORY | O_CLOEXEC, 0, 0, 0, 0);
+        find_path((int)at, path, opening->resolve, name);
+        pass(SYS_close, at, 0, 0, 0, 0, 0);
+    }
+    return name;
+}
+
+/* A file that isn't there is made, with a name. */
+static long open_new(long call, const long words[6], const struct opening *opening)
+{
+    char path[PATH_ROOM];
     struct name name;
     struct stat about;
-    if (!find_name(at, path, &name)->is_on_disk)
+    if (!read_path(opening->path, path) || !follow(opening, find_path(opening->at, path, opening->resolve, &name))->is_on_disk)
         return carry(call, words);
     struct event event = {.kind = EVENT_CREATE, .file = name.folder};
     log_event(&event, name.path, NULL, NULL, 0);
@@ -209,16 +282,46 @@ static long open_nameless(long call, const long words[6])
     return result;
 }
 
+/* The words of an open. False: the kernel refuses it, since its structure can't be read or isn't one. */
+static bool read_opening(long call, const long words[6], struct opening *opening)
+{
+    struct open_how how = {0};
+    switch (call) {
+    case SYS_creat:
+        *opening = (struct opening){AT_FDCWD, (const char *)words[0], O_CREAT | O_TRUNC | O_WRONLY, 0};
+        return true;
+    case SYS_open:
+        *opening = (struct opening){AT_FDCWD, (const char *)words[0], (uint32_t)words[1], 0};
+        return true;
+    case SYS_openat:
+        *opening = (struct opening){(int)words[0], (const char *)words[1], (uint32_t)words[2], 0};
+        return true;
+    default:
+        if ((size_t)words[3] < sizeof how || !read_memory((const void *)words[2], &how, sizeof how))
+            return false;
+        *opening = (struct opening){(int)words[0], (const char *)words[1], how.flags, how.resolve};
+        return true;
+    }
+}
+
+static long open_known(long call, const long words[6], const struct opening *opening)
+{
+    struct found found = {0};
+    find_file(opening, &found);
+    switch (wulgach_logged_open(opening->flags, found.is_there, found.mode)) {
+    case WULGACH_OPEN_NAMES:
+        return open_new(call, words, opening);
+    case WULGACH_OPEN_NAMELESS:
+        return open_nameless(call, words);
+    case WULGACH_OPEN_CUTS:
+        return open_cut(call, words, &found);
+    default:
+        return carry(call, words);
+    }
+}
+
 long call_open(long call, const long words[6])
 {
-    int at = call == SYS_openat ? (int)words[0] : AT_FDCWD;
-    const char *path = (const char *)(call == SYS_openat ? words[1] : words[0]);
-    long flags = call == SYS_creat ? O_CREAT | O_TRUNC : call == SYS_open ? words[1] : words[2];
-    struct stat about;
-    if ((flags & O_TMPFILE) == O_TMPFILE)
-        return open_nameless(call, words);
-    if (pass(SYS_newfstatat, at, (long)path, (long)&about, 0, 0, 0) < 0)
-        return flags & O_CREAT ? open_new(call, words, at, path) : carry(call, words);
-    bool is_cut = flags & O_TRUNC && S_ISREG(about.st_mode) && !(flags & O_EXCL && flags & O_CREAT);
-    return is_cut ? open_cut(call, words, at, path) : carry(call, words);
+    struct opening opening;
+    return read_opening(call, words, &opening) ? open_known(call, words, &opening) : carry(call, words);
 }

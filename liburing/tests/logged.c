@@ -6,21 +6,10 @@
  * Status 0: all was as it is to be. Else a line says what wasn't.
  */
 #define _GNU_SOURCE
-#include "../layer/log.h"
-#include "trapped.h"
+#include "logged.h"
 
-#include <errno.h>
-#include <fcntl.h>
 #include <pthread.h>
-#include <stdlib.h>
 #include <sys/uio.h>
-
-static int make(const char *name)
-{
-    int file = open(name, O_RDWR | O_CREAT | O_TRUNC, 0600);
-    WANT(file >= 0);
-    return file;
-}
 
 /* Where bytes go to may stand where nothing is. */
 static void refuse_place(int from, int to, int pipe)
@@ -49,10 +38,13 @@ static void move(int from, int to, int pipe)
 
 static void *copy(void *none)
 {
+    enum { LONG = 3 << 20 };
+    loff_t begin = 0, at = 0;
     int from = make("from"), to = make("to"), ends[2];
     WANT(pipe(ends) == 0 && write(from, "-mo", 3) == 3 && write(from, "ved", 3) == 3 && write(ends[1], "pipe", 4) == 4);
     refuse_place(from, to, ends[0]);
     move(from, to, ends[0]);
+    WANT(ftruncate(from, LONG) == 0 && copy_file_range(from, &begin, to, &at, LONG, 0) == LONG);
     exit(0);
     return none;
 }
@@ -63,16 +55,6 @@ static void copies(void)
     pthread_t thread;
     WANT(pthread_create(&thread, NULL, copy, NULL) == 0);
     pthread_exit(NULL);
-}
-
-static long do_by_ring(const struct ring *ring, struct io_uring_sqe entry)
-{
-    static uint32_t tail;
-    ring->entries[0] = entry;
-    __atomic_store_n((uint32_t *)(ring->sq + ring->params.sq_off.tail), ++tail, __ATOMIC_RELEASE);
-    WANT(enter(ring, 1, 1, NULL) == 1);
-    __atomic_store_n((uint32_t *)(ring->sq + ring->params.cq_off.head), tail, __ATOMIC_RELEASE);
-    return ((struct io_uring_cqe *)(ring->cq + ring->params.cq_off.cqes))[(tail - 1) % ring->params.cq_entries].res;
 }
 
 static long write_by_ring(const struct ring *ring, int file, const void *from, uint32_t length)
@@ -92,30 +74,10 @@ static void bytes(void)
     memcpy(last, "end", 3);
     WANT(syscall(SYS_write, file, 8, 5) == -1 && errno == EFAULT);
     WANT(write_by_ring(&ring, file, (const void *)8, 5) == -EFAULT);
+    WANT(syscall(SYS_pwrite64, file, 8, (size_t)1 << 32, 0) == -1 && errno == EFAULT && last_event(EVENT_WRITE, false).length == 0x7ffff000);
     WANT(pwrite(file, room, SIZE + 5, 0) <= SIZE && pwrite(file, last, 5, 0) <= 3);
     WANT(pwritev(file, parts, 3, 0) <= 7);
     WANT(pwrite(file, room, SIZE, 0) == SIZE && write_by_ring(&ring, file, "behind", 6) == 6);
-}
-
-/* Where the bytes stand of the event that was found last. */
-static const char *bytes_of_event;
-
-/* The last event of the log that is of this kind, and of an operation of a ring's or a call. */
-static struct event last_event(uint16_t kind, bool is_of_ring)
-{
-    static char log[1 << 24];
-    struct event found = {0}, event;
-    int file = open(getenv("WULGACH_LOG"), O_RDONLY);
-    ssize_t length = file < 0 ? -1 : read(file, log, sizeof log);
-    WANT(length > 0 && length < (ssize_t)sizeof log && close(file) == 0);
-    for (ssize_t at = 0; at < length; at += event.size) {
-        memcpy(&event, log + at, sizeof event);
-        if (event.kind != kind || (event.operation != 0) != is_of_ring)
-            continue;
-        found = event;
-        bytes_of_event = log + at + event.size - event.bytes;
-    }
-    return found;
 }
 
 /* A write of three letters by a ring, and the same by a system call: where these stand then is where the log has them. */
@@ -205,25 +167,19 @@ static void parts(void)
     for (size_t i = 0; i <= MOST; i++)
         all[i] = (struct iovec){letters + i * EACH, EACH};
     WANT(do_by_ring(&ring, (struct io_uring_sqe){.opcode = IORING_OP_WRITEV, .fd = file, .addr = (uintptr_t)all, .len = MOST}) == LENGTH);
-    WANT(last_event(EVENT_WRITE, true).bytes == LENGTH && memcmp(bytes_of_event, letters, LENGTH) == 0);
+    struct found_event found = find_event(EVENT_WRITE, true);
+    WANT(found.event.bytes == LENGTH && memcmp(found.bytes, letters, LENGTH) == 0);
     WANT(writev(file, all, MOST) == LENGTH);
-    WANT(last_event(EVENT_WRITE, false).bytes == LENGTH && memcmp(bytes_of_event, letters, LENGTH) == 0);
+    found = find_event(EVENT_WRITE, false);
+    WANT(found.event.bytes == LENGTH && memcmp(found.bytes, letters, LENGTH) == 0);
     all[MOST - 1].iov_len = EACH + 1;
     WANT(writev(file, all, MOST) <= LENGTH && last_event(EVENT_WRITE, false).bytes == LENGTH);
     WANT(writev(file, all, MOST + 1) == -1 && errno == EINVAL);
 }
 
-static const struct {
-    const char *name;
-    void (*run)(void);
-} modes[] = {{"copies", copies}, {"bytes", bytes}, {"places", places}, {"syncs", syncs}, {"lengths", lengths}, {"parts", parts}};
+static const struct mode modes[] = {{"copies", copies}, {"bytes", bytes}, {"places", places}, {"syncs", syncs}, {"lengths", lengths}, {"parts", parts}};
 
 int main(int argc, char **argv)
 {
-    for (size_t i = 0; argc > 1 && i < sizeof modes / sizeof *modes; i++)
-        if (strcmp(argv[1], modes[i].name) == 0) {
-            modes[i].run();
-            return 0;
-        }
-    return 2;
+    return run_mode(modes, sizeof modes / sizeof *modes, argc, argv);
 }

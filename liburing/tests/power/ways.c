@@ -176,6 +176,17 @@ static void by_memory(void)
     sync_file(file);
 }
 
+/* No other sync: the bytes and the length are those of memory that was synced. */
+static void by_synced_memory(void)
+{
+    int file = make("data", 0);
+    demand(ftruncate(file, SIZE) == 0, "ftruncate");
+    char *memory = mmap(NULL, SIZE, PROT_READ | PROT_WRITE, MAP_SHARED, file, 0);
+    demand(memory != MAP_FAILED, "mmap");
+    memcpy(memory, bytes, SIZE);
+    demand(msync(memory, is_synced ? SIZE : SIZE / 2, MS_SYNC) == 0, "msync");
+}
+
 static void by_rename(void)
 {
     int file = make("new", 0);
@@ -318,7 +329,7 @@ static void by_ring(void)
 const struct way ways[] = {
     {"write", by_write}, {"creat", by_creat}, {"writev", by_vectors}, {"pwritev2", by_flags}, {"dsync", by_synced_file},
     {"osync", by_wholly_synced_file}, {"direct", by_direct}, {"append", by_append}, {"stream", by_stream}, {"cut", by_cut},
-    {"length", by_length}, {"room", by_room}, {"copy", by_copy}, {"sendfile", by_sendfile}, {"memory", by_memory},
+    {"length", by_length}, {"room", by_room}, {"copy", by_copy}, {"sendfile", by_sendfile}, {"memory", by_memory}, {"msync", by_synced_memory},
     {"rename", by_rename}, {"link", by_link}, {"nameless", by_nameless}, {"symlink", by_symbolic_link},
     {"folder", by_folder}, {"exchange", by_exchange}, {"range", by_range}, {"child", by_child}, {"threads", by_threads}, {"inline", by_inline},
     {"sync", by_whole_sync}, {"syncfs", by_disk_sync}, {"splice", by_splice}, {"ring", by_ring}, {NULL, NULL},

@@ -1,13 +1,13 @@
 //! What is logged of writes and syncs, for C: functions of `c/wulgach_calls.h`.
 ghost use Rattle.std.specs.Prelude.{◌≡◌, true, false, MatchOption};
 ghost use Rattle.uring_operations.specs.Files.Logging as spec;
-ghost use Rattle.uring_c.specs.LoggingForm.{word_of_begins, word_of_logged};
+ghost use Rattle.uring_c.specs.LoggingForm.{word_of_begins, word_of_logged, word_of_open};
 ghost use Rattle.uring_c.specs.RingForm.{form_of_word};
 
 use crate::operations::entry_exports::form_by_word;
 use uring_operations::{
-    Begins, Logged, Submission, SyncedBytes, SyncedKind, Writing, is_logged_kind, logged_of,
-    synced_bytes, syncs_itself, write_begins,
+    Begins, Logged, LoggedOpen, Submission, SyncedBytes, SyncedKind, Writing, is_logged_kind,
+    is_on_disk, logged_of, open_logged, synced_bytes, syncs_itself, unwaited, write_begins,
 };
 
 /// Whether what happens to a file is logged that is of this kind.
@@ -60,5 +60,39 @@ pub extern "C" fn wulgach_synced_bytes(entry: &Submission, bytes: &mut SyncedByt
         return false;
     };
     *bytes = part;
+    true
+}
+
+/// Whether a path is of the folder that counts as the disk, or below.
+#[unsafe(no_mangle)]
+pub extern "C" fn wulgach_is_on_disk(begins_with_folder: bool, behind: u8) -> bool
+    ensures { result ≡ spec.is_on_disk begins_with_folder behind }
+{
+    is_on_disk(begins_with_folder, behind)
+}
+
+/// Returns what an open does that has these flags.
+#[unsafe(no_mangle)]
+pub extern "C" fn wulgach_open_logged(flags: u64, is_there: bool, is_regular: bool) -> u32
+    ensures { result ≡ word_of_open (spec.open_logged flags is_there is_regular) }
+{
+    match open_logged(flags, is_there, is_regular) {
+        LoggedOpen::Plain => 0,
+        LoggedOpen::Names => 1,
+        LoggedOpen::Nameless => 2,
+        LoggedOpen::Cuts => 3,
+    }
+}
+
+/// Writes with which flags an msync is made that needn't wait. False, and nothing is written: as it stands.
+#[unsafe(no_mangle)]
+pub extern "C" fn wulgach_unwaited(flags: u32, instead: &mut u32) -> bool
+    ensures { MatchOption (spec.unwaited flags) ((result ≡ false) × (instead.new ≡ instead.old))
+        (λ other. (result ≡ true) × (instead.new ≡ other)) }
+{
+    let Some(other) = unwaited(flags) else {
+        return false;
+    };
+    *instead = other;
     true
 }

@@ -1,11 +1,14 @@
 -- What is logged of writes and syncs, so that it is known what a power failure may leave. write(2), pwritev2(2), open(2), fsync(2), io_uring_prep_fsync(3); what Linux 6.18 was seen to do.
 use Rattle.std.specs.Prelude.{ℕ, Bool, not, ◌==◌, ◌&&◌, ◌||◌, Option, Some, None, if◌then◌else◌}
+use Rattle.std.specs.Int.RustNames.{bit_and}
 use Rattle.uring_operations.specs.declared.entries.form.Form.{Form}
 use Rattle.uring_operations.specs.declared.entries.form.Form.TheVariants as form
 use Rattle.uring_operations.specs.declared.files.logging.Begins.{Begins}
 use Rattle.uring_operations.specs.declared.files.logging.Begins.TheVariants.{AtOffset, AtPosition, AtEnd}
 use Rattle.uring_operations.specs.declared.files.logging.Logged.{Logged}
 use Rattle.uring_operations.specs.declared.files.logging.Logged.TheVariants.{Nothing, Write, Sync}
+use Rattle.uring_operations.specs.declared.files.logging.LoggedOpen.{LoggedOpen}
+use Rattle.uring_operations.specs.declared.files.logging.LoggedOpen.TheVariants.{Plain, Names, Nameless, Cuts}
 use Rattle.uring_operations.specs.declared.files.logging.SyncedBytes.{SyncedBytes}
 use Rattle.uring_operations.specs.declared.files.logging.Writing.{Writing}
 use Rattle.uring_operations.specs.declared.entries.submission.Submission.{Submission}
@@ -42,3 +45,19 @@ syncs_itself w = has_some w.flags 6 || (w.is_known && has_some w.status 4096)
 abbrev pub synced_bytes : Submission → Option SyncedBytes
 synced_bytes e =
     if e.off == 0 && e.len == 0 then None else Some (record { begin = e.off; length = e.len })
+
+-- whether a path is of the folder that counts as the disk, or below: it begins with the folder's, behind which it ends (0) or goes on with a slash (47). Our own rule
+abbrev pub is_on_disk : (begins_with_folder : Bool) → (behind : ℕ) → Bool
+is_on_disk begins_with_folder behind = begins_with_folder && (behind == 0 || behind == 47)
+
+-- what an open does to a file and its names: with O_PATH (2^21) nothing; with O_TMPFILE (2^22, with O_DIRECTORY, 2^16) it makes a file without a name; where nothing is, with O_CREAT (64) one with a name; and of a regular file that is there, with O_TRUNC (512), it takes the bytes, unless that one mustn't be there: O_EXCL (128) with O_CREAT. open(2)
+abbrev pub open_logged : (flags : ℕ) → (is_there is_regular : Bool) → LoggedOpen
+open_logged flags is_there is_regular =
+    if has_some flags 2097152 then Plain else
+    if bit_and flags 4259840 == 4259840 then Nameless else
+    if not is_there then (if has_some flags 64 then Names else Plain) else
+    if has_some flags 512 && is_regular && not (bit_and flags 192 == 192) then Cuts else Plain
+
+-- with which flags an msync is made that waits for the disk, by whoever needn't: with MS_ASYNC (1) in the place of MS_SYNC (4), whose faults are the same; or none: it doesn't wait, or is refused. MS_INVALIDATE (2) may stand beside either. msync(2)
+abbrev pub unwaited : ℕ → Option ℕ
+unwaited flags = if flags == 4 then Some 1 else if flags == 6 then Some 3 else None

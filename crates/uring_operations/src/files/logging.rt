@@ -59,6 +59,22 @@ pub struct SyncedBytes {
     pub length: u32,
 }
 
+/// What an open does to a file and its names.
+#[derive(Clone, Copy, Drop)]
+pub enum LoggedOpen {
+    /// Nothing.
+    Plain,
+
+    /// It makes a file with a name.
+    Names,
+
+    /// It makes one without.
+    Nameless,
+
+    /// It takes the bytes of a file that is there.
+    Cuts,
+}
+
 /// Whether what happens to a file is logged that is of this kind.
 pub fn is_logged_kind(kind: &SyncedKind) -> bool
     ensures { result ≡ spec.is_logged_kind kind.now }
@@ -115,5 +131,44 @@ pub fn synced_bytes(entry: &Submission) -> Option<SyncedBytes>
             begin: entry.off,
             length: entry.len,
         })
+    }
+}
+
+/// Whether a path is of the folder that counts as the disk, or below: whether it begins with the folder's, and the letter behind that, or 0.
+pub fn is_on_disk(begins_with_folder: bool, behind: u8) -> bool
+    ensures { result ≡ spec.is_on_disk begins_with_folder behind }
+{
+    begins_with_folder && (behind == 0 || behind == b'/')
+}
+
+/// What an open does that has these flags. open(2).
+pub fn open_logged(flags: u64, is_there: bool, is_regular: bool) -> LoggedOpen
+    ensures { result ≡ spec.open_logged flags is_there is_regular }
+{
+    if flags & 0x20_0000 != 0 {
+        LoggedOpen::Plain
+    } else if flags & 0x41_0000 == 0x41_0000 {
+        LoggedOpen::Nameless
+    } else if !is_there {
+        if flags & 64 != 0 {
+            LoggedOpen::Names
+        } else {
+            LoggedOpen::Plain
+        }
+    } else if flags & 512 != 0 && is_regular && flags & 192 != 192 {
+        LoggedOpen::Cuts
+    } else {
+        LoggedOpen::Plain
+    }
+}
+
+/// With which flags an msync(2) is made that waits for the disk, by whoever needn't wait. `None`: it doesn't, or is refused.
+pub fn unwaited(flags: u32) -> Option<u32>
+    ensures { result ≡ spec.unwaited flags }
+{
+    match flags {
+        4 => Some(1),
+        6 => Some(3),
+        _ => None,
     }
 }
