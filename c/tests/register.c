@@ -296,6 +296,7 @@ static void know_threads(void)
     demand(wulgach_known_behind(4, 5, WULGACH_CALLS, 0, false) == 4 && wulgach_known_behind(0, 5, WULGACH_CALLS, 9, true) == 0 && wulgach_known_behind(4, 5, 99, 1, false) == 4, "what doesn't");
     demand(wulgach_is_known(5, 5) && !wulgach_is_known(4, 5) && !wulgach_is_known(0, 5), "where it is");
     demand(wulgach_dismissed_rows(true, 9) == 9 && wulgach_dismissed_rows(false, 9) == 0, "rows that are taken");
+    demand(!wulgach_enrolled_go(3, 4) && wulgach_enrolled_go(4, 4), "in which round its rings go");
 }
 
 static void go_through_set_ups(void)

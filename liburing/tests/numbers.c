@@ -6,6 +6,7 @@
 #define _GNU_SOURCE
 #include "engines.h"
 
+#include <dirent.h>
 #include <fcntl.h>
 #include <pthread.h>
 #include <sys/resource.h>
@@ -228,6 +229,49 @@ static void test_lock(void)
     close_ring(&ring);
 }
 
+static size_t count_descriptors(void)
+{
+    size_t count = 0;
+    DIR *folder = opendir("/proc/self/fd");
+    while (readdir(folder))
+        count++;
+    closedir(folder);
+    return count;
+}
+
+static void hold_for_a_while(struct ring *ring, int file)
+{
+    check(register_at(ring->fd, IORING_REGISTER_FILES, &file, 1) == 0);
+    check(register_at(ring->fd, IORING_UNREGISTER_FILES, NULL, 0) == 0);
+}
+
+/* A lock of another process's, from the byte on that has this one's number: no copy of the file stays open for it. */
+static void test_others_lock(void)
+{
+    struct flock lock = {.l_type = F_WRLCK, .l_whence = SEEK_SET, .l_start = getpid(), .l_len = 1};
+    struct ring ring;
+    int file = make_file(), other = make_file(), ready[2];
+    char byte;
+    check(pipe(ready) == 0);
+    make_ring(&ring, 4, 0, 0);
+    pid_t child = fork();
+    if (child == 0) {
+        check(fcntl(file, F_SETLK, &lock) == 0 && write(ready[1], "x", 1) == 1);
+        pause();
+    }
+    check(read(ready[0], &byte, 1) == 1);
+    hold_for_a_while(&ring, other);
+    size_t before = count_descriptors();
+    hold_for_a_while(&ring, file);
+    check(count_descriptors() == before);
+    check(kill(child, SIGKILL) == 0 && waitpid(child, NULL, 0) == child);
+    close(file);
+    close(other);
+    close(ready[0]);
+    close(ready[1]);
+    close_ring(&ring);
+}
+
 int main(int count, char **words)
 {
     static const struct named tests[] = {
@@ -238,6 +282,7 @@ int main(int count, char **words)
         {"lower limit", test_lower_limit},
         {"same limit", test_same_limit},
         {"lock", test_lock},
+        {"others' lock", test_others_lock},
     };
     alarm((unsigned)(PATIENCE * patience()));
     return run_tests(tests, sizeof tests / sizeof *tests, count > 1 ? words[1] : NULL);
