@@ -1,5 +1,6 @@
 /* Tests of operations on names, attributes and tables, by direct calls: each does what the system call of its name does, and
- * a chain of them goes on in order. All hold under every policy, which the environment says. They work in a folder of their own.
+ * a chain of them goes on in order; and of what is copied of an entry. All hold under every policy, which the environment says. They work in a
+ * folder of their own.
  *
  *   paths [NAME]             with a name: that test alone
  */
