@@ -360,8 +360,8 @@ static void list_processors(void)
 
 static void take_what_is_unknown(void)
 {
-    demand(wulgach_is_taken_so(WULGACH_IS_REACHED, false, false) && wulgach_is_taken_so(WULGACH_IS_EVENTFD, false, false) && !wulgach_is_taken_so(WULGACH_IS_COUNTER, false, true) && wulgach_is_taken_so(WULGACH_IS_ONLINE, false, false) && !wulgach_is_taken_so(WULGACH_IS_SAME_FILE, false, true), "what isn't known");
-    for (uint32_t matter = WULGACH_IS_REACHED; matter <= WULGACH_IS_SAME_FILE; matter++)
+    demand(wulgach_is_taken_so(WULGACH_IS_REACHED, false, false) && wulgach_is_taken_so(WULGACH_IS_EVENTFD, false, false) && !wulgach_is_taken_so(WULGACH_IS_COUNTER, false, true) && wulgach_is_taken_so(WULGACH_IS_ONLINE, false, false) && !wulgach_is_taken_so(WULGACH_IS_SAME_FILE, false, true) && wulgach_is_taken_so(WULGACH_IS_LOCKED, false, false), "what isn't known");
+    for (uint32_t matter = WULGACH_IS_REACHED; matter <= WULGACH_IS_LOCKED; matter++)
         demand(wulgach_is_taken_so(matter, true, true) && !wulgach_is_taken_so(matter, true, false), "what is");
 }
 
