@@ -1,5 +1,5 @@
 -- Which processors a list names, as the kernel lists those that are online: `0-3,5,7-9`. cpuset(7), "Formats", list format.
-use Rattle.std.specs.Prelude.{ℕ, Bool, ◌&&◌, ◌==◌, ◌+◌, nat_le, nat_lt, List, length, if◌then◌else◌}
+use Rattle.std.specs.Prelude.{ℕ, Bool, ◌&&◌, ◌==◌, nat_le, nat_lt, List, length, if◌then◌else◌}
 use Rattle.std.specs.List.{list_any, slice_split, before_first, after_first}
 use Rattle.uring_register.specs.Texts.{is_number, position_of, value_of}
 
