@@ -237,6 +237,11 @@ struct wulgach_seen_sleep {
 bool wulgach_was_left(const struct wulgach_seen_sleep *seen);
 bool wulgach_asks_stacks(const struct wulgach_seen_sleep *seen);
 
+/* Whether a thread can be cancelled outside of its calls that calls once more (pthread_setcancelstate(3)), where it has sleeps that it hasn't left, could be
+ * as the outermost call of its sleeps began, and can be now: a call that was left by a jump hasn't allowed it again. And whether it can be at any
+ * moment (PTHREAD_CANCEL_ASYNCHRONOUS), which one that was left hasn't forbidden again. Our own rule. */
+bool wulgach_is_cancellable(bool has_sleeps, bool could_be, bool can_be);
+bool wulgach_is_cancellable_at_once(bool has_sleeps, bool could_be, bool can_be);
 
 /* ---- what an instance tells of those that are dormant ---- */
 
@@ -314,6 +319,10 @@ bool wulgach_asks_locks(bool is_regular);
 
 /* How many such copies stay open at most. */
 enum { WULGACH_MOST_LEFT = 256 };
+
+/* Whether a line of /proc/locks (proc_locks(5)), without its end, is of a lock (fcntl(2)) that this process has on the file of this inode, or waits for,
+ * and may have by the time at which the copy is closed. Its device counts for nothing: it isn't always the one that stat(2) tells. Our own rule. */
+bool wulgach_is_lock_of(const uint8_t *line, size_t length, uint32_t process, uint64_t inode);
 
 /* Whether such a copy stays open, or one that has stayed so far, beside so many others: the process has locks on the file, which it would lose
  * (fcntl(2)), and fewer than WULGACH_MOST_LEFT others stay. Our own rule. */

@@ -238,6 +238,10 @@ void wulgach_enroll(uint64_t *words, size_t count, uint32_t row, uint32_t descri
 int32_t wulgach_dismissing_fault(uint32_t row, bool has_reserved, bool has_data);
 void wulgach_dismiss(uint64_t *words, size_t count, uint32_t row);
 
+/* Whether the rings that a thread has by number go in this round of its end, of so many in which the destructors of its keys run
+ * (pthread_key_create(3), PTHREAD_DESTRUCTOR_ITERATIONS): in the last, since until then those of the program may call. Our own rule. */
+bool wulgach_enrolled_go(uint32_t round, uint32_t rounds);
+
 /* Writes the descriptor of a number, and returns 0; or returns -22 of a number past the last, and of any to a thread that isn't known, -9 of a free
  * row, and writes nothing. */
 int32_t wulgach_enrolled_named(const uint64_t *words, size_t count, bool is_known, uint32_t number, uint64_t *descriptor);

@@ -130,7 +130,8 @@ enum wulgach_matter {
     WULGACH_IS_EVENTFD = 1,     /* it is an eventfd's, as a call says */
     WULGACH_IS_COUNTER = 2,     /* one of no kind of file counts, as an eventfd or a timerfd does */
     WULGACH_IS_ONLINE = 3,      /* a processor is online */
-    WULGACH_IS_SAME_FILE = 4    /* two descriptors are on one file */
+    WULGACH_IS_SAME_FILE = 4,   /* two descriptors are on one file */
+    WULGACH_IS_LOCKED = 5       /* the process has locks on a file that another has locked */
 };
 
 /* Whether this is taken to be so (enum wulgach_matter), where it is known to be so or not, or isn't known: then all but a counter and one file are. */

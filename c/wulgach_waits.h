@@ -99,6 +99,20 @@ int32_t wulgach_missing_fault(uint32_t what);
  * another one counts as open is asked elsewhere (wulgach_counts_as_open). */
 int32_t wulgach_found_fault(bool is_of_slot, bool has_file, int32_t fd);
 
+/* How memory of the application's is copied, so that what can't be read or written is a fault, and not the end of the program. */
+enum wulgach_copying {
+    WULGACH_COPIES_BY_PROCESS = 0,  /* by process_vm_readv(2) or process_vm_writev(2), of the own process */
+    WULGACH_COPIES_BY_PIPE = 1,     /* a part at a time is written to a pipe and read from it */
+    WULGACH_COPIES_PLAINLY = 2,     /* as it comes */
+    WULGACH_COPYING_IS_DONE = 3,
+    WULGACH_COPYING_FAILS = 4,      /* it has the fault of WULGACH_NO_MEMORY */
+    WULGACH_COPYING_BEGINS = 5
+};
+
+/* Returns how a copy of so many bytes goes on (enum wulgach_copying) behind this, which copied so many, or came to this error: BEGINS at first. A part
+ * of the bytes, or -14 (EFAULT), ends it; behind any other error the next way is tried. Our own rule. */
+uint32_t wulgach_copying_next(uint32_t last, int64_t copied, uint64_t size);
+
 /* ---- what counts as open ---- */
 
 /* How a descriptor is open. */

@@ -5,6 +5,7 @@
 
 #include <stdio.h>
 #include <stdlib.h>
+#include <string.h>
 
 static void demand(bool holds, const char *what)
 {
@@ -303,6 +304,26 @@ static void keep_files(void)
     demand(wulgach_stays_open(true, WULGACH_MOST_LEFT - 1) && !wulgach_stays_open(true, WULGACH_MOST_LEFT) && !wulgach_stays_open(false, 0), "a copy of what is locked");
 }
 
+static bool is_lock(const char *line)
+{
+    return wulgach_is_lock_of((const uint8_t *)line, strlen(line), 5433, 7864448);
+}
+
+static void tell_locks(void)
+{
+    demand(is_lock("1: POSIX  ADVISORY  WRITE 5433 08:01:7864448 128 EOF") && is_lock("12: POSIX  ADVISORY  READ  5433 00:2f:7864448 0 0"), "a lock on any device");
+    demand(is_lock("1: -> POSIX  ADVISORY  WRITE 5433 08:01:7864448 128 EOF"), "one that is waited for");
+    demand(!is_lock("1: POSIX  ADVISORY  WRITE 5434 08:01:7864448 5433 EOF") && !is_lock("1: POSIX  ADVISORY  WRITE 5433 08:01:17864448 0 EOF"), "another process's, and another file's");
+    demand(!is_lock("1: FLOCK  ADVISORY  WRITE 5433 08:01:7864448 0 EOF") && !is_lock("1: OFDLCK ADVISORY  WRITE 5433 08:01:7864448 0 EOF"), "one of an open file");
+    demand(!is_lock("") && !is_lock("1: POSIX  *NOINODE* READ  5433 <none>:0 0 0") && !is_lock("1: POSIX"), "a line without an inode");
+}
+
+static void allow_cancelling(void)
+{
+    demand(wulgach_is_cancellable(false, true, false) && !wulgach_is_cancellable(true, true, false) && wulgach_is_cancellable(false, false, true) && !wulgach_is_cancellable(false, false, false), "a thread that can be cancelled");
+    demand(!wulgach_is_cancellable_at_once(false, false, true) && wulgach_is_cancellable_at_once(true, false, true) && !wulgach_is_cancellable_at_once(false, true, false) && wulgach_is_cancellable_at_once(false, true, true), "at any moment");
+}
+
 static void tell_others(void)
 {
     static const struct { bool was_readable, is_readable, has_posted, may_wait_for_edges, is_told; } rows[] = {
@@ -362,6 +383,8 @@ int main(void)
     sleep_or_not();
     jump();
     keep_files();
+    tell_locks();
+    allow_cancelling();
     tell_others();
     lie();
     miss();

@@ -296,6 +296,7 @@ static void know_threads(void)
     demand(wulgach_known_behind(4, 5, WULGACH_CALLS, 0, false) == 4 && wulgach_known_behind(0, 5, WULGACH_CALLS, 9, true) == 0 && wulgach_known_behind(4, 5, 99, 1, false) == 4, "what doesn't");
     demand(wulgach_is_known(5, 5) && !wulgach_is_known(4, 5) && !wulgach_is_known(0, 5), "where it is");
     demand(wulgach_dismissed_rows(true, 9) == 9 && wulgach_dismissed_rows(false, 9) == 0, "rows that are taken");
+    demand(!wulgach_enrolled_go(3, 4) && wulgach_enrolled_go(4, 4), "in which round its rings go");
 }
 
 static void go_through_set_ups(void)
@@ -359,8 +360,8 @@ static void list_processors(void)
 
 static void take_what_is_unknown(void)
 {
-    demand(wulgach_is_taken_so(WULGACH_IS_REACHED, false, false) && wulgach_is_taken_so(WULGACH_IS_EVENTFD, false, false) && !wulgach_is_taken_so(WULGACH_IS_COUNTER, false, true) && wulgach_is_taken_so(WULGACH_IS_ONLINE, false, false) && !wulgach_is_taken_so(WULGACH_IS_SAME_FILE, false, true), "what isn't known");
-    for (uint32_t matter = WULGACH_IS_REACHED; matter <= WULGACH_IS_SAME_FILE; matter++)
+    demand(wulgach_is_taken_so(WULGACH_IS_REACHED, false, false) && wulgach_is_taken_so(WULGACH_IS_EVENTFD, false, false) && !wulgach_is_taken_so(WULGACH_IS_COUNTER, false, true) && wulgach_is_taken_so(WULGACH_IS_ONLINE, false, false) && !wulgach_is_taken_so(WULGACH_IS_SAME_FILE, false, true) && wulgach_is_taken_so(WULGACH_IS_LOCKED, false, false), "what isn't known");
+    for (uint32_t matter = WULGACH_IS_REACHED; matter <= WULGACH_IS_LOCKED; matter++)
         demand(wulgach_is_taken_so(matter, true, true) && !wulgach_is_taken_so(matter, true, false), "what is");
 }
 

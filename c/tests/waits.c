@@ -272,6 +272,15 @@ static void miss(void)
     demand(wulgach_found_fault(true, true, -1) == 0 && wulgach_found_fault(true, false, 3) == -EBADF, "a slot");
 }
 
+static void copy(void)
+{
+    const uint32_t process = WULGACH_COPIES_BY_PROCESS, through = WULGACH_COPIES_BY_PIPE, plain = WULGACH_COPIES_PLAINLY;
+    demand(wulgach_copying_next(WULGACH_COPYING_BEGINS, 0, 8) == process, "the first way");
+    for (uint32_t way = process; way <= plain; way++)
+        demand(wulgach_copying_next(way, 8, 8) == WULGACH_COPYING_IS_DONE && wulgach_copying_next(way, 7, 8) == WULGACH_COPYING_FAILS && wulgach_copying_next(way, -EFAULT, 8) == WULGACH_COPYING_FAILS, "what came of it");
+    demand(wulgach_copying_next(process, -EPERM, 8) == through && wulgach_copying_next(process, -ENOSYS, 8) == through && wulgach_copying_next(through, -EMFILE, 8) == plain, "the next way");
+}
+
 static void poll_one(void)
 {
     int32_t res = 7;
@@ -328,6 +337,7 @@ int main(void)
     poll_one();
     seek();
     miss();
+    copy();
     printf("waits: as called for\n");
     return 0;
 }

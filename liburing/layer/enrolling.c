@@ -62,13 +62,12 @@ static void close_rows(void)
             close_row((int)fd);
 }
 
-/* The C library has the destructors of a thread's keys run in so many rounds. Until the last one those of the program may call: the rows are
- * there, as in the kernel. */
+/* A destructor that sets its key again runs in the next round too. */
 static void end_thread(void *rows)
 {
-    static __thread unsigned rounds;
+    static __thread uint32_t round;
     sigset_t signals;
-    if (++rounds < PTHREAD_DESTRUCTOR_ITERATIONS) {
+    if (!wulgach_enrolled_go(++round, PTHREAD_DESTRUCTOR_ITERATIONS)) {
         pthread_setspecific(key, rows);
         return;
     }

@@ -4,13 +4,12 @@
 #include "process.h"
 #include "wulgach.h"
 #include "wulgach_lookout.h"
+#include "wulgach_setup.h"
 
 #include <errno.h>
 #include <fcntl.h>
 #include <pthread.h>
 #include <stdint.h>
-#include <stdio.h>
-#include <string.h>
 #include <sys/resource.h>
 #include <sys/stat.h>
 #include <unistd.h>
@@ -207,28 +206,27 @@ void close_parents(void)
 
 /* ---- locks ---- */
 
-/* Reads the next line of a file, without its end, as much of it as there is room for. No memory is asked for: a handler may close. False: there is none. */
-static bool read_line(int file, char *line, size_t room)
+/* Reads the next line of a file, without its end, as much of it as there is room for, and returns how much that is. No memory is asked for: a handler may
+ * close. 0: there is none. */
+static size_t read_line(int file, uint8_t *line, size_t room)
 {
     size_t length = 0;
-    char letter;
+    uint8_t letter;
     while (read(file, &letter, 1) == 1 && letter != '\n')
-        if (length + 1 < room)
+        if (length < room)
             line[length++] = letter;
-    line[length] = 0;
-    return length > 0;
+    return length;
 }
 
 /* Whether a list of all locks has one of this process on the file of a descriptor. */
 static bool lists_lock(int locks, int fd)
 {
-    char line[256], owner[32], inode[32];
+    uint8_t line[256];
+    size_t length;
     struct stat status = {0};
     fstat(fd, &status);
-    snprintf(owner, sizeof owner, " %d ", (int)this_process());
-    snprintf(inode, sizeof inode, ":%llu ", (unsigned long long)status.st_ino);
-    while (read_line(locks, line, sizeof line))
-        if (strstr(line, " POSIX ") && strstr(line, owner) && strstr(line, inode))
+    while ((length = read_line(locks, line, sizeof line)) > 0)
+        if (wulgach_is_lock_of(line, length, (uint32_t)this_process(), status.st_ino))
             return true;
     return false;
 }
@@ -239,11 +237,13 @@ static bool is_locked(int fd)
     struct flock lock = {.l_type = F_WRLCK, .l_whence = SEEK_SET};
     if (fcntl(fd, F_OFD_GETLK, &lock) < 0 || lock.l_type == F_UNLCK)
         return false;
-    int locks = lock.l_pid == this_process() ? -1 : open("/proc/locks", O_RDONLY | O_CLOEXEC);
-    bool is_listed = locks >= 0 ? lists_lock(locks, fd) : lock.l_pid == this_process();
+    if (lock.l_pid == this_process())
+        return true;
+    int locks = open("/proc/locks", O_RDONLY | O_CLOEXEC);
+    bool is_locked = wulgach_is_taken_so(WULGACH_IS_LOCKED, locks >= 0, locks >= 0 && lists_lock(locks, fd));
     if (locks >= 0)
         close(locks);
-    return is_listed;
+    return is_locked;
 }
 
 /* Closes those that were left open and needn't be any more. */

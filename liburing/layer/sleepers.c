@@ -84,7 +84,7 @@ static void make_key(void)
     pthread_key_create(&key, leave_all);
 }
 
-/* A thread that leaves the C library's ppoll by a jump could be cancelled at any moment from then on: so how it can be is remembered. */
+/* How the thread can be cancelled is remembered, for one that leaves the C library's ppoll by a jump. */
 static void note_cancel_type(void)
 {
     pthread_setcanceltype(PTHREAD_CANCEL_DEFERRED, &own_sleeps.cancel_type);
@@ -163,6 +163,14 @@ static bool was_left(const struct sleeper *sleeper, const void *here)
     return wulgach_was_left(&seen);
 }
 
+static void go_on_with_cancel_type(void)
+{
+    int now;
+    pthread_setcanceltype(PTHREAD_CANCEL_DEFERRED, &now);
+    if (wulgach_is_cancellable_at_once(own_sleeps.innermost, own_sleeps.cancel_type == PTHREAD_CANCEL_ASYNCHRONOUS, now == PTHREAD_CANCEL_ASYNCHRONOUS))
+        pthread_setcanceltype(PTHREAD_CANCEL_ASYNCHRONOUS, NULL);
+}
+
 int leave_jumped_sleeps(const void *here, int cancel_state)
 {
     sigset_t signals;
@@ -170,8 +178,7 @@ int leave_jumped_sleeps(const void *here, int cancel_state)
     while (own_sleeps.innermost && was_left(own_sleeps.innermost, here))
         leave(own_sleeps.innermost);
     allow_signals(&signals);
-    if (own_sleeps.innermost)
-        return cancel_state;
-    pthread_setcanceltype(own_sleeps.cancel_type, NULL);
-    return own_sleeps.cancel_state;
+    go_on_with_cancel_type();
+    bool is_cancellable = wulgach_is_cancellable(own_sleeps.innermost, own_sleeps.cancel_state == PTHREAD_CANCEL_ENABLE, cancel_state == PTHREAD_CANCEL_ENABLE);
+    return is_cancellable ? PTHREAD_CANCEL_ENABLE : PTHREAD_CANCEL_DISABLE;
 }

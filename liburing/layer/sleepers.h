@@ -43,7 +43,7 @@ void leave_inner_sleeps(const struct sleeper *sleeper);
 void end_sleep(struct sleeper *sleeper);
 
 /* A call begins, with its frame here, of a thread that sleeps or has left a sleep by a jump: leaves those that were left so. Returns whether
- * the thread could be cancelled outside of its calls: by what it was told of that just now, unless it is in none any more. */
+ * the thread can be cancelled outside of its calls, which it was told just now. */
 int leave_jumped_sleeps(const void *here, int cancel_state);
 
 #endif

@@ -334,6 +334,29 @@ static void test_cancelled_behind(void)
     expect_gone(&waited);
 }
 
+static void *allow_behind(void *ring)
+{
+    int state, type;
+    check(pthread_setcancelstate(PTHREAD_CANCEL_DISABLE, NULL) == 0 && pthread_setcanceltype(PTHREAD_CANCEL_ASYNCHRONOUS, NULL) == 0);
+    leave_wait(ring, SIGUSR1);
+    check(pthread_setcancelstate(PTHREAD_CANCEL_ENABLE, NULL) == 0 && pthread_setcanceltype(PTHREAD_CANCEL_DEFERRED, NULL) == 0);
+    check(enter(ring, 0, 0, 0) == 0);
+    check(pthread_setcancelstate(PTHREAD_CANCEL_ENABLE, &state) == 0 && pthread_setcanceltype(PTHREAD_CANCEL_DEFERRED, &type) == 0);
+    check(state == PTHREAD_CANCEL_ENABLE && type == PTHREAD_CANCEL_DEFERRED);
+    return NULL;
+}
+
+/* A thread that allows it behind the jump, in its own time alone, has it so behind its next call. */
+static void test_allowed_behind(void)
+{
+    struct waited waited;
+    pthread_t thread;
+    make_waited(&waited);
+    catch(SIGUSR1, jump, 0);
+    check(pthread_create(&thread, NULL, allow_behind, &waited.ring) == 0 && pthread_join(thread, NULL) == 0);
+    expect_gone(&waited);
+}
+
 static volatile pid_t child;
 
 static void fork_and_jump(int number)
@@ -379,6 +402,7 @@ int main(int count, char **words)
         {"stack is gone", test_stack_is_gone},
         {"thread ends", test_thread_ends},
         {"cancelled behind", test_cancelled_behind},
+        {"allowed behind", test_allowed_behind},
         {"child jumps", test_child_jumps},
     };
     alarm((unsigned)(PATIENCE * patience()));

@@ -6,6 +6,7 @@
 #define _GNU_SOURCE
 #include "engines.h"
 
+#include <dirent.h>
 #include <fcntl.h>
 #include <pthread.h>
 #include <sys/resource.h>
@@ -192,13 +193,13 @@ static void test_same_limit(void)
     close_ring(&ring);
 }
 
-/* Whether another process finds the file locked. */
-static bool is_locked(const char *path)
+/* Whether another process finds a byte of the file locked, from this one on. */
+static bool is_locked(const char *path, off_t from)
 {
     int status;
     pid_t child = fork();
     if (child == 0) {
-        struct flock lock = {.l_type = F_WRLCK, .l_whence = SEEK_SET};
+        struct flock lock = {.l_type = F_WRLCK, .l_whence = SEEK_SET, .l_start = from};
         int fd = open(path, O_RDWR);
         _exit(fd >= 0 && fcntl(fd, F_SETLK, &lock) < 0 ? 1 : 0);
     }
@@ -215,15 +216,90 @@ static void test_lock(void)
     char path[64];
     snprintf(path, sizeof path, "/tmp/wulgach-locked.%d", (int)getpid());
     int fd = open(path, O_RDWR | O_CREAT | O_TRUNC, 0600);
-    check(fd >= 0 && fcntl(fd, F_SETLK, &lock) == 0 && is_locked(path));
+    check(fd >= 0 && fcntl(fd, F_SETLK, &lock) == 0 && is_locked(path, 0));
     make_ring(&ring, 4, 0, 0);
     check(register_at(ring.fd, IORING_REGISTER_FILES2, &sparse, sizeof sparse) == 0);
-    check(open_into(&ring, path, 0, O_RDONLY) == 0 && is_locked(path));
-    check(open_into(&ring, path, 0, O_RDONLY) == 0 && is_locked(path));
-    check(open_into(&ring, path, 7, O_RDONLY) == -EINVAL && is_locked(path));
-    check(register_at(ring.fd, IORING_UNREGISTER_FILES, NULL, 0) == 0 && is_locked(path));
-    check(fcntl(fd, F_SETLK, &unlock) == 0 && !is_locked(path));
+    check(open_into(&ring, path, 0, O_RDONLY) == 0 && is_locked(path, 0));
+    check(open_into(&ring, path, 0, O_RDONLY) == 0 && is_locked(path, 0));
+    check(open_into(&ring, path, 7, O_RDONLY) == -EINVAL && is_locked(path, 0));
+    check(register_at(ring.fd, IORING_UNREGISTER_FILES, NULL, 0) == 0 && is_locked(path, 0));
+    check(fcntl(fd, F_SETLK, &unlock) == 0 && !is_locked(path, 0));
     check(unlink(path) == 0);
+    close(fd);
+    close_ring(&ring);
+}
+
+static size_t count_descriptors(void)
+{
+    size_t count = 0;
+    DIR *folder = opendir("/proc/self/fd");
+    while (readdir(folder))
+        count++;
+    closedir(folder);
+    return count;
+}
+
+/* A child that has this lock until it is killed. */
+static pid_t lock_in_child(int file, struct flock lock)
+{
+    int ready[2];
+    char byte;
+    check(pipe(ready) == 0);
+    pid_t child = fork();
+    if (child == 0) {
+        check(fcntl(file, F_SETLK, &lock) == 0 && write(ready[1], "x", 1) == 1);
+        pause();
+    }
+    check(read(ready[0], &byte, 1) == 1);
+    close(ready[0]);
+    close(ready[1]);
+    return child;
+}
+
+static void hold_for_a_while(struct ring *ring, int file)
+{
+    check(register_at(ring->fd, IORING_REGISTER_FILES, &file, 1) == 0);
+    check(register_at(ring->fd, IORING_UNREGISTER_FILES, NULL, 0) == 0);
+}
+
+/* A lock of another process's, from the byte on that has this one's number: no copy of the file stays open for it. */
+static void test_others_lock(void)
+{
+    struct flock lock = {.l_type = F_WRLCK, .l_whence = SEEK_SET, .l_start = getpid(), .l_len = 1};
+    struct ring ring;
+    int file = make_file(), other = make_file();
+    make_ring(&ring, 4, 0, 0);
+    pid_t child = lock_in_child(file, lock);
+    hold_for_a_while(&ring, other);
+    size_t before = count_descriptors();
+    hold_for_a_while(&ring, file);
+    check(count_descriptors() == before);
+    check(kill(child, SIGKILL) == 0 && waitpid(child, NULL, 0) == child);
+    close(file);
+    close(other);
+    close_ring(&ring);
+}
+
+/* Such a lock beside one of its own, which stays, also where the process may open nothing more. */
+static void test_lock_beside_others(void)
+{
+    struct flock own = {.l_type = F_WRLCK, .l_whence = SEEK_SET, .l_start = 2, .l_len = 2}, others = {.l_type = F_WRLCK, .l_whence = SEEK_SET, .l_len = 1};
+    struct rlimit before;
+    struct ring ring;
+    char path[64];
+    snprintf(path, sizeof path, "/tmp/wulgach-locked.%d", (int)getpid());
+    int fd = open(path, O_RDWR | O_CREAT | O_TRUNC, 0600);
+    check(fd >= 0 && ftruncate(fd, 8) == 0);
+    pid_t child = lock_in_child(fd, others);
+    check(fcntl(fd, F_SETLK, &own) == 0);
+    make_ring(&ring, 4, 0, 0);
+    hold_for_a_while(&ring, fd);
+    check(is_locked(path, 2));
+    check(register_at(ring.fd, IORING_REGISTER_FILES, &fd, 1) == 0);
+    set_limit(1, &before);
+    check(register_at(ring.fd, IORING_UNREGISTER_FILES, NULL, 0) == 0);
+    check(setrlimit(RLIMIT_NOFILE, &before) == 0 && is_locked(path, 2));
+    check(kill(child, SIGKILL) == 0 && waitpid(child, NULL, 0) == child && unlink(path) == 0);
     close(fd);
     close_ring(&ring);
 }
@@ -238,6 +314,8 @@ int main(int count, char **words)
         {"lower limit", test_lower_limit},
         {"same limit", test_same_limit},
         {"lock", test_lock},
+        {"others' lock", test_others_lock},
+        {"lock beside others", test_lock_beside_others},
     };
     alarm((unsigned)(PATIENCE * patience()));
     return run_tests(tests, sizeof tests / sizeof *tests, count > 1 ? words[1] : NULL);

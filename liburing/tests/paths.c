@@ -1,14 +1,22 @@
 /* Tests of operations on names, attributes and tables, by direct calls: each does what the system call of its name does, and
- * a chain of them goes on in order. All hold under every policy, which the environment says. They work in a folder of their own.
+ * a chain of them goes on in order; and of what is copied of an entry. All hold under every policy, which the environment says. They work in a
+ * folder of their own.
  *
  *   paths [NAME]             with a name: that test alone
  */
 #define _GNU_SOURCE
 #include "engines.h"
 
+#include <linux/filter.h>
 #include <linux/openat2.h>
+#include <linux/seccomp.h>
+#include <stddef.h>
 #include <sys/epoll.h>
+#include <sys/mman.h>
+#include <sys/prctl.h>
 #include <sys/stat.h>
+#include <sys/uio.h>
+#include <sys/wait.h>
 #include <sys/xattr.h>
 
 static char folder[] = "/tmp/wulgach-paths-XXXXXX";
@@ -298,10 +306,68 @@ static void test_refused_names(void)
     close_ring(&ring);
 }
 
+/* From now on the calls that copy a process's memory aren't served, as in many a container. */
+static void refuse_copies(void)
+{
+    struct sock_filter lines[] = {
+        BPF_STMT(BPF_LD | BPF_W | BPF_ABS, offsetof(struct seccomp_data, nr)),
+        BPF_JUMP(BPF_JMP | BPF_JEQ | BPF_K, SYS_process_vm_readv, 1, 0),
+        BPF_JUMP(BPF_JMP | BPF_JEQ | BPF_K, SYS_process_vm_writev, 0, 1),
+        BPF_STMT(BPF_RET | BPF_K, SECCOMP_RET_ERRNO | EPERM),
+        BPF_STMT(BPF_RET | BPF_K, SECCOMP_RET_ALLOW),
+    };
+    struct sock_fprog filter = {.len = sizeof lines / sizeof *lines, .filter = lines};
+    check(prctl(PR_SET_NO_NEW_PRIVS, 1, 0, 0, 0) == 0 && prctl(PR_SET_SECCOMP, SECCOMP_MODE_FILTER, &filter) == 0);
+}
+
+/* Vectors of several pages, a path across two, what can't be read, and what can't be written. */
+static void expect_copies(void)
+{
+    enum { VECTORS = 1000 };
+    static char bytes[VECTORS];
+    struct iovec vectors[VECTORS];
+    struct ring ring;
+    char *pages = mmap(NULL, 8192, PROT_READ | PROT_WRITE, MAP_PRIVATE | MAP_ANONYMOUS, -1, 0);
+    int file = make_file();
+    for (int i = 0; i < VECTORS; i++)
+        vectors[i] = (struct iovec){bytes + i, 1};
+    make_ring(&ring, 8, 0, 0);
+    put_transfer(&ring, IORING_OP_WRITEV, 0, 0, file, vectors, VECTORS, 0);
+    check(result_of_one(&ring, 1) == VECTORS);
+    put_transfer(&ring, IORING_OP_READV, 0, 0, file, (void *)8, 2, 0);
+    check(result_of_one(&ring, 1) == -EFAULT);
+    strcpy(pages + 4094, "none");
+    put_path(&ring, IORING_OP_UNLINKAT, 0, pages + 4094);
+    check(result_of_one(&ring, 1) == -ENOENT);
+    check(mprotect(pages + 4096, 4096, PROT_NONE) == 0);
+    put_path(&ring, IORING_OP_UNLINKAT, 0, pages + 4094);
+    check(result_of_one(&ring, 1) == -EFAULT);
+    memset(pages, 0, 4096);
+    check(mprotect(pages, 4096, PROT_READ) == 0 && set_up(4, (void *)pages) == -EFAULT && set_up(4, (void *)(pages + 4096)) == -EFAULT);
+    check(munmap(pages, 8192) == 0);
+    close(file);
+    close_ring(&ring);
+}
+
+/* So it is too where these calls aren't served. */
+static void test_copies(void)
+{
+    int status;
+    expect_copies();
+    pid_t child = fork();
+    if (child == 0) {
+        refuse_copies();
+        expect_copies();
+        test_refused_names();
+        _exit(0);
+    }
+    check(waitpid(child, &status, 0) == child && status == 0);
+}
+
 int main(int count, char **words)
 {
     static const struct named tests[] = {
-        {"names", test_names}, {"refused names", test_refused_names}, {"how", test_how}, {"how at an edge", test_how_at_an_edge}, {"open into slot", test_open_into_slot}, {"chain", test_chain}, {"attributes", test_attributes}, {"epoll", test_epoll}, {"table", test_table},
+        {"names", test_names}, {"refused names", test_refused_names}, {"how", test_how}, {"how at an edge", test_how_at_an_edge}, {"open into slot", test_open_into_slot}, {"chain", test_chain}, {"attributes", test_attributes}, {"epoll", test_epoll}, {"table", test_table}, {"copies", test_copies},
     };
     check(mkdtemp(folder) && (root = open(folder, O_PATH | O_DIRECTORY)) >= 0);
     int status = run_tests(tests, sizeof tests / sizeof *tests, count > 1 ? words[1] : NULL);

@@ -10,6 +10,7 @@ pub mod DecisionForm
 pub mod DutyForm
 pub mod CancellingForm
 pub mod MissingForm
+pub mod CopyingForm
 pub mod SleepForm
 pub mod MeansForm
 pub mod OpeningForm

@@ -5,6 +5,7 @@ pub mod cancel_exports;
 pub mod cancelling_exports;
 pub mod chain_exports;
 pub mod closing_exports;
+pub mod copying_exports;
 pub mod duty_exports;
 pub mod enter_exports;
 pub mod following_exports;

@@ -5,4 +5,5 @@ pub mod Visits
 pub mod Ringing
 pub mod Mappings
 pub mod Missing
+pub mod Copying
 pub mod Closing

@@ -2,6 +2,7 @@
 
 pub mod asked_ring;
 pub mod closing;
+pub mod copying;
 pub mod mapping;
 pub mod message;
 pub mod missing;

@@ -21,5 +21,7 @@ pub mod Listing
 pub mod Lists
 pub mod Placing
 pub mod Processors
+pub mod Texts
+pub mod Locks
 pub mod Structures
 pub mod Numbering

@@ -1,17 +1,7 @@
 -- Which processors a list names, as the kernel lists those that are online: `0-3,5,7-9`. cpuset(7), "Formats", list format.
-use Rattle.std.specs.Prelude.{ℕ, Bool, not, ◌&&◌, ◌==◌, ◌+◌, ◌*◌, ◌-◌, nat_le, nat_lt, List, length, if◌then◌else◌}
-use Rattle.std.specs.List.{list_any, list_all, slice_split, position_or_len, before_first, after_first, fold}
-
--- where a byte stands first, or how many there are
-abbrev pub position_of : (byte : ℕ) → List ℕ → ℕ
-position_of byte bytes = position_or_len (λ other. other == byte) bytes
-
--- a decimal number
-abbrev pub is_number : List ℕ → Bool
-is_number digits = not (length digits == 0) && list_all (λ digit. nat_le 48 digit && nat_le digit 57) digits
-
-abbrev pub value_of : List ℕ → ℕ
-value_of digits = fold (λ value digit. value * 10 + (digit - 48)) 0 digits
+use Rattle.std.specs.Prelude.{ℕ, Bool, ◌&&◌, ◌==◌, nat_le, nat_lt, List, length, if◌then◌else◌}
+use Rattle.std.specs.List.{list_any, slice_split, before_first, after_first}
+use Rattle.uring_register.specs.Texts.{is_number, position_of, value_of}
 
 abbrev pub is_between : (first last : List ℕ) → ℕ → Bool
 is_between first last number =

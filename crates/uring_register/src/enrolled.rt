@@ -117,6 +117,13 @@ pub fn dismissed_rows(is_known: bool, count: u32) -> u32
     if is_known { count } else { 0 }
 }
 
+/// Whether the rings that a thread has by number go in this round of the destructors of its keys, of so many rounds.
+pub fn go_in_round(round: u32, rounds: u32) -> bool
+    ensures { result ≡ spec.go_in_round round rounds }
+{
+    rounds <= round
+}
+
 /// The descriptor of a number, or the fault.
 pub fn named(rows: &[u64], is_known: bool, number: u32) -> Result<u64, i32>
     ensures { (log : List Enrolling) → KeepsEnrolled log rows.now

@@ -3,7 +3,9 @@ ghost use Rattle.std.specs.Prelude.{◌≡◌};
 ghost use Rattle.uring_enter.specs.Waiting.Jumps as spec;
 ghost use Rattle.uring_c.specs.UnknownForm.{known_of};
 
-use uring_enter::{SeenSleep, asks_stacks, has_mark, was_left};
+use uring_enter::{
+    SeenSleep, asks_stacks, has_mark, is_cancellable, is_cancellable_at_once, was_left,
+};
 
 /// Whether a sleep has this mark still, where its frame can be read and this was found there, or it can't.
 #[unsafe(no_mangle)]
@@ -28,4 +30,24 @@ pub extern "C" fn wulgach_was_left(seen: &SeenSleep) -> bool
     ensures { result ≡ spec.was_left seen.now }
 {
     was_left(seen)
+}
+
+/// Whether a thread can be cancelled outside of its calls that calls once more.
+#[unsafe(no_mangle)]
+pub extern "C" fn wulgach_is_cancellable(has_sleeps: bool, could_be: bool, can_be: bool) -> bool
+    ensures { result ≡ spec.is_cancellable has_sleeps could_be can_be }
+{
+    is_cancellable(has_sleeps, could_be, can_be)
+}
+
+/// Whether it can be at any moment.
+#[unsafe(no_mangle)]
+pub extern "C" fn wulgach_is_cancellable_at_once(
+    has_sleeps: bool,
+    could_be: bool,
+    can_be: bool,
+) -> bool
+    ensures { result ≡ spec.is_cancellable_at_once has_sleeps could_be can_be }
+{
+    is_cancellable_at_once(has_sleeps, could_be, can_be)
 }

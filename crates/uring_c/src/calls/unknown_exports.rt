@@ -27,6 +27,7 @@ fn matter(word: u32) -> Matter
         1 => Matter::Eventfd,
         2 => Matter::Counter,
         4 => Matter::SameFile,
+        5 => Matter::Locked,
         _ => Matter::Processor,
     }
 }

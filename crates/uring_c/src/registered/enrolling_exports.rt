@@ -7,7 +7,7 @@ ghost use Rattle.uring_c.specs.PassageForm.{word_of_row, row_stage_of, deed_of};
 
 use uring_register::{
     Deed, RowOnto, RowStage, begin_rows, dismiss, dismissed_rows, dismissing_fault, enroll,
-    enrolling_fault, is_known, known_behind, named, next_of_row, row_for,
+    enrolling_fault, go_in_round, is_known, known_behind, named, next_of_row, row_for,
 };
 
 /// No row holds a ring.
@@ -149,6 +149,14 @@ pub extern "C" fn wulgach_dismissed_rows(is_known: bool, count: u32) -> u32
     ensures { result ≡ spec.dismissed_rows is_known count }
 {
     dismissed_rows(is_known, count)
+}
+
+/// Whether the rings that a thread has by number go in this round of its end, of so many.
+#[unsafe(no_mangle)]
+pub extern "C" fn wulgach_enrolled_go(round: u32, rounds: u32) -> bool
+    ensures { result ≡ spec.go_in_round round rounds }
+{
+    go_in_round(round, rounds)
 }
 
 /// Writes the descriptor of a number, and returns 0. Else returns the fault, and writes nothing.

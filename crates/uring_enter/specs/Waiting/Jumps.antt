@@ -30,3 +30,11 @@ asks_stacks s = s.is_marked && is_above s
 -- a sleep lasts as long as its mark stands in its frame, if no call is seen to be made from above. Another was left
 abbrev pub was_left : SeenSleep → Bool
 was_left s = not s.is_marked || (is_above s && are_on_own s && not (is_on_handlers s))
+
+-- whether a thread can be cancelled outside of its calls (pthread_setcancelstate(3)) that calls once more. A call forbids it, and one that was left by a jump hasn't allowed it again: so what was allowed as the outermost of them began is so again, unless a sleep lasts still. Where it is allowed now, the program itself has done so
+abbrev pub is_cancellable : (has_sleeps could_be can_be : Bool) → Bool
+is_cancellable has_sleeps could_be can_be = can_be || not has_sleeps && could_be
+
+-- whether it can be at any moment (PTHREAD_CANCEL_ASYNCHRONOUS, pthread_setcanceltype(3)). The C library's ppoll allows that while it lasts: so one that was left by a jump has it forbidden again, unless it was allowed as the outermost of them began, or a sleep lasts still. Where it is forbidden now, the program itself has done so
+abbrev pub is_cancellable_at_once : (has_sleeps could_be can_be : Bool) → Bool
+is_cancellable_at_once has_sleeps could_be can_be = can_be && (has_sleeps || could_be)

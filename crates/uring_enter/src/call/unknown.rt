@@ -27,6 +27,9 @@ pub enum Matter {
 
     /// Whether two descriptors are on one file.
     SameFile,
+
+    /// Whether the process has locks on a file that another has locked.
+    Locked,
 }
 
 /// Whether it is taken to be so, where this is known of it, or nothing.

@@ -55,6 +55,20 @@ pub fn was_left(seen: &SeenSleep) -> bool
     !seen.is_marked || (is_above(seen) && are_on_own(seen) && !is_on_handlers(seen))
 }
 
+/// Whether a thread can be cancelled outside of its calls that calls once more: it has sleeps that it hasn't left, could be cancelled as the outermost call of its sleeps began, and can be now.
+pub fn is_cancellable(has_sleeps: bool, could_be: bool, can_be: bool) -> bool
+    ensures { result ≡ spec.is_cancellable has_sleeps could_be can_be }
+{
+    can_be || !has_sleeps && could_be
+}
+
+/// Whether it can be at any moment: the same of that.
+pub fn is_cancellable_at_once(has_sleeps: bool, could_be: bool, can_be: bool) -> bool
+    ensures { result ≡ spec.is_cancellable_at_once has_sleeps could_be can_be }
+{
+    can_be && (has_sleeps || could_be)
+}
+
 /// Whether the call comes from where no handler does that has come in the sleep.
 fn is_above(seen: &SeenSleep) -> bool
     ensures { result ≡ spec.is_above seen.now }
