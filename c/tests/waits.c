@@ -119,12 +119,12 @@ static void look_at_descriptors(void)
     demand(wulgach_buffer_fault(&fixed, &none, -14) == -9 && wulgach_buffer_fault(&fixed, &file, -14) == -14 && wulgach_buffer_fault(&fixed, &file, -105) == -105 && wulgach_buffer_fault(&receive, &pipe, -14) == -88, "what is wrong with a buffer");
     struct wulgach_nature counter = {.is_open = true, .is_counter = true, .can_read = true};
     struct wulgach_submission writing = {.opcode = WRITE};
-    demand(wulgach_start_fault(&writing, 0, &counter) == 0 && wulgach_start_fault(&writing, 1, &counter) == -22 && wulgach_start_fault(&entry, 0, &counter) == -22 && !wulgach_asks_counter(&writing, 0, &none), "a write of no bytes to what counts");
-    demand(wulgach_start_fault(&entry, 7, &counter) == -22 && wulgach_start_fault(&entry, 8, &counter) == 0 && wulgach_start_fault(&entry, 7, &pipe) == 0 && wulgach_start_fault(&selecting, 7, &counter) == 0, "what counts");
+    demand(wulgach_start_fault(&writing, false, 0, &counter) == 0 && wulgach_start_fault(&writing, false, 1, &counter) == -22 && wulgach_start_fault(&entry, false, 0, &counter) == -22 && !wulgach_asks_counter(&writing, 0, &none), "a write of no bytes to what counts");
+    demand(wulgach_start_fault(&entry, false, 7, &counter) == -22 && wulgach_start_fault(&entry, false, 8, &counter) == 0 && wulgach_start_fault(&entry, false, 7, &pipe) == 0 && wulgach_start_fault(&selecting, false, 7, &counter) == 0, "what counts");
     struct wulgach_submission at = {.opcode = READ, .off = 7}, past = {.opcode = READ, .off = (1ull << 63) - 4}, negative = {.opcode = READ, .off = UINT64_MAX - 1}, anywhere = {.opcode = READ, .off = UINT64_MAX}, received = {.opcode = RECV, .off = 7};
-    demand(wulgach_start_fault(&at, 4, &socket) == -29 && wulgach_start_fault(&at, 4, &pipe) == 0 && wulgach_start_fault(&at, 4, &file) == 0 && wulgach_start_fault(&at, 4, &none) == 0 && wulgach_start_fault(&received, 4, &socket) == 0, "an offset");
-    demand(wulgach_start_fault(&past, 3, &pipe) == 0 && wulgach_start_fault(&past, 4, &pipe) == -22 && wulgach_start_fault(&past, 3, &socket) == -29 && wulgach_start_fault(&past, 4, &socket) == -22 && wulgach_start_fault(&past, 4, &tty) == 0, "one that bytes would pass");
-    demand(wulgach_start_fault(&negative, 0, &pipe) == -22 && wulgach_start_fault(&negative, 4, &socket) == -22 && wulgach_start_fault(&negative, 8, &counter) == -22 && wulgach_start_fault(&anywhere, 4, &socket) == 0 && wulgach_start_fault(&anywhere, 4, &pipe) == 0 && wulgach_start_fault(&entry, 4, &socket) == 0, "a negative one, and none");
+    demand(wulgach_start_fault(&at, false, 4, &socket) == -29 && wulgach_start_fault(&at, false, 4, &pipe) == 0 && wulgach_start_fault(&at, false, 4, &file) == 0 && wulgach_start_fault(&at, false, 4, &none) == 0 && wulgach_start_fault(&received, false, 4, &socket) == 0, "an offset");
+    demand(wulgach_start_fault(&past, false, 3, &pipe) == 0 && wulgach_start_fault(&past, false, 4, &pipe) == -22 && wulgach_start_fault(&past, false, 3, &socket) == -29 && wulgach_start_fault(&past, false, 4, &socket) == -22 && wulgach_start_fault(&past, false, 4, &tty) == 0, "one that bytes would pass");
+    demand(wulgach_start_fault(&negative, false, 0, &pipe) == -22 && wulgach_start_fault(&negative, false, 4, &socket) == -22 && wulgach_start_fault(&negative, false, 8, &counter) == -22 && wulgach_start_fault(&anywhere, false, 4, &socket) == 0 && wulgach_start_fault(&anywhere, false, 4, &pipe) == 0 && wulgach_start_fault(&entry, false, 4, &socket) == 0, "a negative one, and none");
     struct wulgach_directions one, other, both, neither;
     wulgach_directions_of(0100000, &one);
     wulgach_directions_of(04001, &other);
@@ -265,7 +265,7 @@ static void seek(void)
 
 static void miss(void)
 {
-    static const int32_t faults[] = {-EBADF, -EBADF, -EFAULT, -EFAULT, -ENOMEM, -ENAMETOOLONG, -EFAULT, -ENOBUFS, -ENOENT, 0};
+    static const int32_t faults[] = {-EBADF, -EFAULT, -EFAULT, -ENOMEM, -ENAMETOOLONG, -EFAULT, -ENOBUFS, -ENOENT, 0};
     for (uint32_t what = 0; what < sizeof faults / sizeof *faults; what++)
         demand(wulgach_missing_fault(what) == faults[what], "what isn't found");
 }
