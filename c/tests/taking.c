@@ -188,6 +188,7 @@ static void copy_pieces(void)
     demand(memcmp(&words, &wanted, sizeof words) == 0, "and of one that is refused");
     uint8_t code = 5;
     demand(wulgach_extra_of(true, &code) == WULGACH_FORM_REFUSED && code == 255 && wulgach_extra_of(false, &code) == WULGACH_FORM_TOKEN && code == 0, "a completion that belongs to no end");
+    demand(wulgach_told_of_end(true) == 0 && wulgach_told_of_end(false) == -9, "what it is told of an end");
     demand(wulgach_names_slot(7, 8) && !wulgach_names_slot(8, 8), "a slot");
     for (int code = 0; code < 256; code++) {
         struct wulgach_submission entry = {.opcode = (uint8_t)code, .flags = 32, .addr = 8, .len = 3};
