@@ -170,6 +170,10 @@ uint32_t wulgach_duties_before_sleep(const struct wulgach_resting *resting, bool
  * but where this was done since the call began or last slept. */
 uint32_t wulgach_duties_when_stuck(const struct wulgach_resting *resting, bool has_eventfd, bool has_shown);
 
+/* What it does before it is told what became of what it wanted: what has ended is shown where the reply counts completions that are ready (`ready`), whatever
+ * stands there still. Where nothing has ended that isn't shown, that is nothing. */
+uint32_t wulgach_duties_at_reply(const struct wulgach_reply *reply, bool has_ends);
+
 /* What it does as it falls asleep: where more wait than are looked at in passing, requests become dormant; what has ended is shown, and a descriptor
  * that polls tells of it. */
 uint32_t wulgach_duties_at_rest(const struct wulgach_resting *resting);
@@ -242,6 +246,9 @@ int32_t wulgach_last_argument_fault(const struct wulgach_argument *argument);
 
 /* The fault of a mask of this size, or 0: -22 unless it is 8, then -14 if it can't be read. It matters where the call is to sleep. */
 int32_t wulgach_mask_fault(uint64_t size, bool is_readable);
+
+/* With which mask a call sleeps that gives this one: where calls are trapped SIGSYS isn't in it, by which a handler calls that runs meanwhile. Our own rule. */
+uint64_t wulgach_slept_with(uint64_t mask, bool is_trapped);
 
 /* Whether a call that is to sleep reads its mask, behind so many sleeps, if it gives one, and its last argument has this fault, or 0: before the first,
  * and not if it has a fault. It sleeps with that mask until it returns. */

@@ -115,11 +115,12 @@ enum wulgach_what {
     WULGACH_VECTORS = 1,
     WULGACH_PATH = 2,
     WULGACH_SECOND_PATH = 3,    /* or the name of an attribute */
-    WULGACH_HOW = 4,            /* of an open: struct open_how, and what is newer than its 24 bytes */
+    WULGACH_HOW = 4,            /* of an open: struct open_how, of 24 bytes */
     WULGACH_TIME = 5,
     WULGACH_VALUE = 6,          /* bytes that the operation reads */
     WULGACH_MESSAGE = 7,        /* and behind it its vectors */
-    WULGACH_ADDRESS = 8         /* of a socket */
+    WULGACH_ADDRESS = 8,        /* of a socket */
+    WULGACH_HOW_REST = 9        /* of an open: what is newer in that structure, which has so many bytes in all. It is looked at behind these 24 bytes, and not copied */
 };
 
 /* A piece of the application's memory. */
@@ -325,6 +326,10 @@ void wulgach_core_words(const struct wulgach_core_entry *made, struct wulgach_en
 /* Returns what an entry is to the core (enum wulgach_form) whose end a completion is that belongs to no end of a request, as an event or a
  * message, and writes its operation: by Linux's rules an unknown one, which is refused, and waits for no drain; else a no-op. */
 uint32_t wulgach_extra_of(bool linux_rules, uint8_t *code);
+
+/* What the core is told of the end of a request that it let start: 0 of a success, as an extra one is that it lets start, and -9 of any failure: which it
+ * was matters to none of its rules. */
+int32_t wulgach_told_of_end(bool is_success);
 
 #ifdef __cplusplus
 }

@@ -242,6 +242,10 @@ void wulgach_dismiss(uint64_t *words, size_t count, uint32_t row);
  * (pthread_key_create(3), PTHREAD_DESTRUCTOR_ITERATIONS): in the last, since until then those of the program may call. Our own rule. */
 bool wulgach_enrolled_go(uint32_t round, uint32_t rounds);
 
+/* Whether the descriptor of a row that has this ring is closed as the row is emptied, or its thread ends: one that is open on that ring still, and not on
+ * another (`found`) or on none. Rings count in their process, from 0. Our own rule. */
+bool wulgach_closes_row(uint32_t of_row, bool is_ring, uint32_t found);
+
 /* Writes the descriptor of a number, and returns 0; or returns -22 of a number past the last, and of any to a thread that isn't known, -9 of a free
  * row, and writes nothing. */
 int32_t wulgach_enrolled_named(const uint64_t *words, size_t count, bool is_known, uint32_t number, uint64_t *descriptor);

@@ -123,6 +123,10 @@ uint32_t wulgach_looked_at_before_sleep(void);
 uint32_t wulgach_looked_at_behind(bool may_be_left, uint32_t rings, uint64_t elapsed);
 bool wulgach_asks_elapsed(bool may_be_left, uint32_t rings);
 
+/* Whether the lock of all rings is tried once more behind a close in a signal's handler, which was tried so often: a hundred times, with a moment for
+ * others between two. Who has it may wait for what the handler's own thread has. Our own rule. */
+bool wulgach_tries_rings_again(uint32_t tries);
+
 /* ---- what can't be asked, as where there is no /proc ---- */
 
 enum wulgach_matter {

@@ -82,14 +82,13 @@ void wulgach_changes_see(struct wulgach_changes *changes, const struct wulgach_s
 /* What an operation, or a call, looks for. */
 enum wulgach_missing {
     WULGACH_NO_FILE = 0,            /* a descriptor isn't open, or a slot has no file: -9 (EBADF) */
-    WULGACH_NO_DIRECTION = 1,       /* a file isn't open for reading, or for writing: -9 */
-    WULGACH_NO_BUFFER = 2,          /* a registered buffer isn't there: -14 (EFAULT) */
-    WULGACH_NO_MEMORY = 3,          /* memory of the application's can't be read, or written: -14 */
-    WULGACH_NO_MEMORY_OWN = 4,      /* there is no memory for what is kept of a ring: -12 (ENOMEM) */
-    WULGACH_NO_PATH_END = 5,        /* a path doesn't end in 4,096 bytes: -36 (ENAMETOOLONG) */
-    WULGACH_NO_ROOM = 6,            /* a buffer has no room for what stands in front of a message: -14 */
-    WULGACH_NO_PROVIDED = 7,        /* a group has no buffer: -105 (ENOBUFS) */
-    WULGACH_NO_REQUEST = 8          /* there is no request that an update or a removal names: -2 (ENOENT) */
+    WULGACH_NO_BUFFER = 1,          /* a registered buffer isn't there: -14 (EFAULT) */
+    WULGACH_NO_MEMORY = 2,          /* memory of the application's can't be read, or written: -14 */
+    WULGACH_NO_MEMORY_OWN = 3,      /* there is no memory for what is kept of a ring: -12 (ENOMEM) */
+    WULGACH_NO_PATH_END = 4,        /* a path doesn't end in 4,096 bytes: -36 (ENAMETOOLONG) */
+    WULGACH_NO_ROOM = 5,            /* a buffer has no room for what stands in front of a message: -14 */
+    WULGACH_NO_PROVIDED = 6,        /* a group has no buffer: -105 (ENOBUFS) */
+    WULGACH_NO_REQUEST = 7          /* there is no request that an update or a removal names: -2 (ENOENT) */
 };
 
 /* What it ends with that this isn't found (enum wulgach_missing). */
@@ -206,13 +205,15 @@ struct wulgach_directions {
     bool can_read, can_write;
 };
 
-/* Writes for which one is open that has these flags (fcntl(2), F_GETFL): by O_ACCMODE. */
+/* Writes for which one is open that has these flags (fcntl(2), F_GETFL): by O_ACCMODE, and for none with O_PATH. */
 void wulgach_directions_of(uint32_t flags, struct wulgach_directions *directions);
 
-/* With what the transfer of an entry, of so many bytes, fails as it starts, where its descriptor is this; or 0. First -22 (EINVAL) of fewer than 8 bytes of
- * what counts, but of a write of none. Then, of what has no offsets and is no device, though one counts for nothing there, at another offset than 2^64 - 1: -22 of one from which the
- * bytes would go past the last that 63 bits have, and -29 (ESPIPE) of a socket's but 0. */
-int32_t wulgach_start_fault(const struct wulgach_submission *entry, uint64_t length, const struct wulgach_nature *nature);
+/* With what the operation of an entry, of so many bytes, fails as it starts, where its descriptor is this; or 0. First -9 (EBADF) where that is of the wrong
+ * kind (WULGACH_KIND_WRONG). Then -11 (EAGAIN) of a message that asks for a poll first (IORING_RECVSEND_POLL_FIRST), and isn't to wait (MSG_DONTWAIT).
+ * Then, of a transfer, -9 of what isn't open, at an offset of 2^63 or more; -95 (EOPNOTSUPP) and -22 (EINVAL) of flags that what has no offsets, and is no
+ * device, doesn't take; -22 of fewer than 8 bytes of what counts, but of a write of none; and of what has no offsets, though one counts for nothing there, at
+ * another than 2^64 - 1: -22 of one from which the bytes would go past the last that 63 bits have, and -29 (ESPIPE) of a socket's but 0. */
+int32_t wulgach_start_fault(const struct wulgach_submission *entry, bool is_wrong, uint64_t length, const struct wulgach_nature *nature);
 
 /* ---- whether it can be finished ---- */
 

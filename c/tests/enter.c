@@ -160,6 +160,7 @@ static void read_arguments(void)
     check(wulgach_asks_mask(true, 0, 0) && !wulgach_asks_mask(true, 0, 1) && !wulgach_asks_mask(true, 0, UINT32_MAX) && !wulgach_asks_mask(false, 0, 0) && !wulgach_asks_mask(true, -14, 0), "when a mask is read");
     check(wulgach_sleep_fault(0, true, -14) == -14 && wulgach_sleep_fault(-22, true, -14) == -22 && wulgach_sleep_fault(0, false, -14) == 0, "which fault counts");
     check(wulgach_mask_fault(8, true) == 0 && wulgach_mask_fault(8, false) == -14 && wulgach_mask_fault(3, false) == -22, "its faults");
+    check(wulgach_slept_with(UINT64_MAX, true) == ~(1ull << 30) && wulgach_slept_with(UINT64_MAX, false) == UINT64_MAX && wulgach_slept_with(5, true) == 5, "and what it is then");
     check(wulgach_submission_with_fault(0, -14) == -14 && wulgach_submission_with_fault(2, -14) == 2 && wulgach_submission_with_fault(-11, -14) == -11 && wulgach_submission_with_fault(2, 0) == 2, "what counts");
 }
 
@@ -244,6 +245,11 @@ static void do_duties(void)
     check(wulgach_duties_before_sleep(&quiet, false) == 0 && wulgach_duties_before_sleep(&busy, false) == (FOUND | FILES | PIPES) && wulgach_duties_before_sleep(&busy, true) == (FOUND | FILES), "before it sleeps");
     check(wulgach_duties_when_stuck(&busy, true, false) == ENDS && wulgach_duties_when_stuck(&busy, false, false) == 0 && wulgach_duties_when_stuck(&busy, true, true) == 0 && wulgach_duties_when_stuck(&quiet, true, false) == 0, "where nothing can go on");
     check(wulgach_duties_at_rest(&quiet) == 0 && wulgach_duties_at_rest(&busy) == (DORMANT | ENDS | READINESS), "as it rests");
+    for (uint32_t kind = WULGACH_HEARD; kind <= WULGACH_PASSED + 1; kind++) {
+        struct wulgach_reply reply = {.kind = kind};
+        bool has_sight = kind == WULGACH_HEARD || kind == WULGACH_WAS_TAKEN || kind == WULGACH_NOT_TAKEN || kind == WULGACH_WENT_ON || kind == WULGACH_STUCK || kind == WULGACH_TIMED_OUT || kind == WULGACH_INTERRUPTED;
+        check(wulgach_duties_at_reply(&reply, true) == (has_sight ? ENDS : 0) && wulgach_duties_at_reply(&reply, false) == 0, "before a reply");
+    }
     check(at_return(&quiet) == LAST && at_return(&busy) == (FOUND | FILES | PIPES | DORMANT | ENDS | READINESS | LAST), "as it returns");
     check(wulgach_duties_before(0, true) == APPLICATION && wulgach_duties_before(22, true) == (ENDS | APPLICATION) && wulgach_duties_before(22, false) == APPLICATION, "before an operation");
     check(wulgach_duties_before_posting() == APPLICATION && wulgach_duties_behind_posting(false, false) == 0 && wulgach_duties_behind_posting(true, true) == (ENDS | READINESS), "where completions are posted");

@@ -283,6 +283,7 @@ static void enroll_rings(void)
     demand(wulgach_enrolled_place(rows, 16, UINT32_MAX, &row) == -16 && wulgach_enrolled_named(rows, 16, true, 15, &fd) == 0 && fd == 115, "all");
     demand(wulgach_dismissing_fault(16, false, false) == -22 && wulgach_dismissing_fault(3, true, false) == -22 && wulgach_dismissing_fault(3, false, true) == -22 && wulgach_dismissing_fault(15, false, false) == 0, "dismissing");
     wulgach_dismiss(rows, 16, 9);
+    demand(wulgach_closes_row(3, true, 3) && !wulgach_closes_row(3, true, 4) && !wulgach_closes_row(3, false, 3), "whose descriptor is closed");
     demand(wulgach_enrolled_named(rows, 16, true, 9, &fd) == -9 && wulgach_enrolled_place(rows, 16, UINT32_MAX, &row) == 0 && row == 9, "one that was dismissed");
 }
 
@@ -309,6 +310,7 @@ static void go_through_set_ups(void)
     demand(wulgach_ring_fate(true, 0, true, true) == WULGACH_RING_STAYS && wulgach_ring_fate(true, 0, true, false) == WULGACH_RING_GOES, "one that goes");
     demand(wulgach_may_name_ring_of(5, 5) && !wulgach_may_name_ring_of(4, 5), "whose ring a descriptor names");
     demand(wulgach_looked_at_before_sleep() == 8 && wulgach_looked_at_behind(true, 1, 0) == WULGACH_ALL_RINGS && wulgach_looked_at_behind(false, 2, 10000000) == 8 && wulgach_looked_at_behind(false, 2, 9999999) == 0 && wulgach_looked_at_behind(false, 1, UINT64_MAX) == 0, "how many are looked at");
+    demand(wulgach_tries_rings_again(0) && wulgach_tries_rings_again(99) && !wulgach_tries_rings_again(100), "how often in a handler");
     demand(wulgach_asks_elapsed(false, 2) && !wulgach_asks_elapsed(false, 1) && !wulgach_asks_elapsed(true, 2), "when the time matters");
     demand(wulgach_holding_fault(-1, false) == -9 && wulgach_holding_fault(3, true) == -9 && wulgach_holding_fault(3, false) == 0 && wulgach_telling_fault(true) == 0 && wulgach_telling_fault(false) == -14, "files");
 }

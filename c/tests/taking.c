@@ -157,8 +157,9 @@ static void copy_pieces(void)
     set.len = 65537;
     demand(next(set, 1, &piece) == -7 && NEXT(0, .opcode = CONNECT, .off = 129) == -22 && NEXT(0, .opcode = CONNECT, .off = 128) == 1 && NEXT(0, .opcode = BIND, .off = 129) == -22 && NEXT(0, .opcode = BIND, .off = 1ull << 32 | 2) == 1, "too long");
     demand(NEXT(1, .opcode = SEND_ZC, .off = 1, .file_index = 0x10080) == 1 && NEXT(1, .opcode = SEND_ZC) == 0 && NEXT(1, .opcode = SEND, .off = 1, .file_index = 16) == 1, "where a send goes");
-    demand(NEXT(0, .opcode = OPENAT2, .addr = 1, .off = 2, .len = 32) == 1 && piece.what == WULGACH_HOW && piece.from == 2 && piece.size == 32, "how a file is opened");
-    demand(NEXT(1, .opcode = OPENAT2, .addr = 1, .off = 2, .len = 32) == 1 && piece.what == WULGACH_PATH && piece.from == 1, "its path comes behind that");
+    demand(NEXT(0, .opcode = OPENAT2, .addr = 1, .off = 2, .len = 32) == 1 && piece.what == WULGACH_HOW_REST && piece.from == 2 && piece.size == 32, "what is newer in how a file is opened");
+    demand(NEXT(1, .opcode = OPENAT2, .addr = 1, .off = 2, .len = 32) == 1 && piece.what == WULGACH_HOW && piece.from == 2 && piece.size == 24, "what is known of that");
+    demand(NEXT(2, .opcode = OPENAT2, .addr = 1, .off = 2, .len = 32) == 1 && piece.what == WULGACH_PATH && piece.from == 1, "its path comes behind that");
     demand(NEXT(0, .opcode = OPENAT2, .len = 4097) == 1 && wulgach_how_fault(false) == -7 && wulgach_how_fault(true) == 0, "a longer structure");
     demand(wulgach_time_fault(0, 0) == 0 && wulgach_time_fault(-1, 5) == -22 && wulgach_time_fault(5, -1) == -22, "a time");
     struct wulgach_submission selects = {.opcode = RECVMSG, .flags = 32};
@@ -187,6 +188,7 @@ static void copy_pieces(void)
     demand(memcmp(&words, &wanted, sizeof words) == 0, "and of one that is refused");
     uint8_t code = 5;
     demand(wulgach_extra_of(true, &code) == WULGACH_FORM_REFUSED && code == 255 && wulgach_extra_of(false, &code) == WULGACH_FORM_TOKEN && code == 0, "a completion that belongs to no end");
+    demand(wulgach_told_of_end(true) == 0 && wulgach_told_of_end(false) == -9, "what it is told of an end");
     demand(wulgach_names_slot(7, 8) && !wulgach_names_slot(8, 8), "a slot");
     for (int code = 0; code < 256; code++) {
         struct wulgach_submission entry = {.opcode = (uint8_t)code, .flags = 32, .addr = 8, .len = 3};

@@ -119,19 +119,24 @@ static void look_at_descriptors(void)
     demand(wulgach_buffer_fault(&fixed, &none, -14) == -9 && wulgach_buffer_fault(&fixed, &file, -14) == -14 && wulgach_buffer_fault(&fixed, &file, -105) == -105 && wulgach_buffer_fault(&receive, &pipe, -14) == -88, "what is wrong with a buffer");
     struct wulgach_nature counter = {.is_open = true, .is_counter = true, .can_read = true};
     struct wulgach_submission writing = {.opcode = WRITE};
-    demand(wulgach_start_fault(&writing, 0, &counter) == 0 && wulgach_start_fault(&writing, 1, &counter) == -22 && wulgach_start_fault(&entry, 0, &counter) == -22 && !wulgach_asks_counter(&writing, 0, &none), "a write of no bytes to what counts");
-    demand(wulgach_start_fault(&entry, 7, &counter) == -22 && wulgach_start_fault(&entry, 8, &counter) == 0 && wulgach_start_fault(&entry, 7, &pipe) == 0 && wulgach_start_fault(&selecting, 7, &counter) == 0, "what counts");
+    demand(wulgach_start_fault(&writing, false, 0, &counter) == 0 && wulgach_start_fault(&writing, false, 1, &counter) == -22 && wulgach_start_fault(&entry, false, 0, &counter) == -22 && !wulgach_asks_counter(&writing, 0, &none), "a write of no bytes to what counts");
+    demand(wulgach_start_fault(&entry, false, 7, &counter) == -22 && wulgach_start_fault(&entry, false, 8, &counter) == 0 && wulgach_start_fault(&entry, false, 7, &pipe) == 0 && wulgach_start_fault(&selecting, false, 7, &counter) == 0, "what counts");
     struct wulgach_submission at = {.opcode = READ, .off = 7}, past = {.opcode = READ, .off = (1ull << 63) - 4}, negative = {.opcode = READ, .off = UINT64_MAX - 1}, anywhere = {.opcode = READ, .off = UINT64_MAX}, received = {.opcode = RECV, .off = 7};
-    demand(wulgach_start_fault(&at, 4, &socket) == -29 && wulgach_start_fault(&at, 4, &pipe) == 0 && wulgach_start_fault(&at, 4, &file) == 0 && wulgach_start_fault(&at, 4, &none) == 0 && wulgach_start_fault(&received, 4, &socket) == 0, "an offset");
-    demand(wulgach_start_fault(&past, 3, &pipe) == 0 && wulgach_start_fault(&past, 4, &pipe) == -22 && wulgach_start_fault(&past, 3, &socket) == -29 && wulgach_start_fault(&past, 4, &socket) == -22 && wulgach_start_fault(&past, 4, &tty) == 0, "one that bytes would pass");
-    demand(wulgach_start_fault(&negative, 0, &pipe) == -22 && wulgach_start_fault(&negative, 4, &socket) == -22 && wulgach_start_fault(&negative, 8, &counter) == -22 && wulgach_start_fault(&anywhere, 4, &socket) == 0 && wulgach_start_fault(&anywhere, 4, &pipe) == 0 && wulgach_start_fault(&entry, 4, &socket) == 0, "a negative one, and none");
+    demand(wulgach_start_fault(&at, false, 4, &socket) == -29 && wulgach_start_fault(&at, false, 4, &pipe) == 0 && wulgach_start_fault(&at, false, 4, &file) == 0 && wulgach_start_fault(&at, false, 4, &none) == 0 && wulgach_start_fault(&received, false, 4, &socket) == 0, "an offset");
+    demand(wulgach_start_fault(&past, false, 3, &pipe) == 0 && wulgach_start_fault(&past, false, 4, &pipe) == -22 && wulgach_start_fault(&past, false, 3, &socket) == -29 && wulgach_start_fault(&past, false, 4, &socket) == -22 && wulgach_start_fault(&past, false, 4, &tty) == 0, "one that bytes would pass");
+    demand(wulgach_start_fault(&negative, false, 0, &pipe) == -22 && wulgach_start_fault(&negative, false, 4, &socket) == -22 && wulgach_start_fault(&negative, false, 8, &counter) == -22 && wulgach_start_fault(&anywhere, false, 4, &socket) == 0 && wulgach_start_fault(&anywhere, false, 4, &pipe) == 0 && wulgach_start_fault(&entry, false, 4, &socket) == 0, "a negative one, and none");
+    demand(wulgach_start_fault(&entry, true, 8, &pipe) == -9 && wulgach_start_fault(&negative, false, 8, &none) == -9 && wulgach_start_fault(&negative, false, 8, &file) == 0 && kind(WRITE, 1ull << 63, plain, file) == WULGACH_KIND_WRONG && kind(READ, 1ull << 63, plain, file) == WULGACH_KIND_NEVER, "what isn't open for it");
+    struct wulgach_submission flagged = {.opcode = READ, .off = 7, .op_flags = 0x1000}, appending = {.opcode = WRITE, .op_flags = 0x70}, atomic = {.opcode = WRITE, .op_flags = 0x40}, polling = {.opcode = READ, .op_flags = 1};
+    demand(wulgach_start_fault(&flagged, false, 4, &socket) == -95 && wulgach_start_fault(&flagged, false, 4, &file) == 0 && wulgach_start_fault(&appending, false, 4, &pipe) == -22 && wulgach_start_fault(&atomic, false, 4, &pipe) == -95 && wulgach_start_fault(&polling, false, 4, &pipe) == -22, "a flag");
+    struct wulgach_submission hasty = {.opcode = RECV, .ioprio = 1, .op_flags = 64, .flags = 32}, slow = {.opcode = RECV, .ioprio = 1};
+    demand(wulgach_start_fault(&hasty, false, 4, &socket) == -11 && wulgach_start_fault(&hasty, false, 4, &pipe) == 0 && wulgach_start_fault(&slow, false, 4, &socket) == 0 && !wulgach_fault_asks_buffer(&hasty, -11) && wulgach_fault_asks_buffer(&selecting, -9), "one that is never polled");
     struct wulgach_directions one, other, both, neither;
     wulgach_directions_of(0100000, &one);
     wulgach_directions_of(04001, &other);
     wulgach_directions_of(2, &both);
     wulgach_directions_of(UINT32_MAX, &neither);
     demand(one.can_read && !one.can_write && !other.can_read && other.can_write && both.can_read && both.can_write && !neither.can_read && !neither.can_write, "directions");
-    demand(wulgach_ends_at_start(&selecting, -9, true, &pipe) == -9 && wulgach_ends_at_start(&selecting, -9, false, &pipe) == -105 && wulgach_ends_at_start(&selecting, -9, false, &none) == -9 && wulgach_ends_at_start(&receive, -9, false, &pipe) == -88 && wulgach_ends_at_start(&selecting, -29, false, &socket) == -105 && wulgach_ends_at_start(&selecting, -29, true, &socket) == -29 && wulgach_ends_at_start(&entry, -9, false, &pipe) == -9, "a fault as it started");
+    demand(wulgach_ends_at_start(&selecting, -9, true, &pipe) == -9 && wulgach_ends_at_start(&selecting, -9, false, &pipe) == -105 && wulgach_ends_at_start(&selecting, -9, false, &none) == -9 && wulgach_ends_at_start(&receive, -11, false, &socket) == -11 && wulgach_ends_at_start(&selecting, -29, false, &socket) == -105 && wulgach_ends_at_start(&selecting, -29, true, &socket) == -29 && wulgach_ends_at_start(&entry, -9, false, &pipe) == -9, "a fault as it started");
     demand(wulgach_fault_asks_buffer(&selecting, -9) && !wulgach_fault_asks_buffer(&selecting, 0) && !wulgach_fault_asks_buffer(&entry, -9), "whether a buffer matters");
     demand(wulgach_asks_counter(&entry, 7, &none) && !wulgach_asks_counter(&entry, 8, &none) && !wulgach_asks_counter(&selecting, 7, &none) && !wulgach_asks_counter(&entry, 7, &(struct wulgach_nature){.has_type = true}), "whether a name matters");
     demand(wulgach_find_kind(&entry, &plain, &nothing) == WULGACH_ASK_STATUS && wulgach_find_kind(&entry, &plain, &status) == WULGACH_ASK_OFFSETS && wulgach_find_kind(&entry, &plain, &offsets) == WULGACH_ASK_ACCESS, "what is asked");
@@ -265,7 +270,7 @@ static void seek(void)
 
 static void miss(void)
 {
-    static const int32_t faults[] = {-EBADF, -EBADF, -EFAULT, -EFAULT, -ENOMEM, -ENAMETOOLONG, -EFAULT, -ENOBUFS, -ENOENT, 0};
+    static const int32_t faults[] = {-EBADF, -EFAULT, -EFAULT, -ENOMEM, -ENAMETOOLONG, -EFAULT, -ENOBUFS, -ENOENT, 0};
     for (uint32_t what = 0; what < sizeof faults / sizeof *faults; what++)
         demand(wulgach_missing_fault(what) == faults[what], "what isn't found");
     demand(wulgach_found_fault(false, false, 0) == 0 && wulgach_found_fault(false, true, -1) == -EBADF && wulgach_found_fault(false, false, INT32_MIN) == -EBADF, "a number");

@@ -122,12 +122,10 @@ int find_kind(struct request *request)
     request->is_tried_at_once = kind == WULGACH_KIND_AT_ONCE;
     request->standing.is_stream = kind == WULGACH_KIND_STREAM;
     request->is_socket = known.nature.is_socket;
-    if (kind == WULGACH_KIND_WRONG)
-        return wulgach_missing_fault(WULGACH_NO_DIRECTION);
     /* (of what wasn't asked, or has a type, the name doesn't matter) */
     if (known.status && !known.nature.has_type && wulgach_asks_counter(submission_of(&request->entry), request->length, &known.nature))
         known.nature.is_counter = is_counter(request->fd);
-    return wulgach_start_fault(submission_of(&request->entry), request->length, &known.nature);
+    return wulgach_start_fault(submission_of(&request->entry), kind == WULGACH_KIND_WRONG, request->length, &known.nature);
 }
 
 static int find_buffer(struct ring *ring, struct request *request)

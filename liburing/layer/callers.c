@@ -1,5 +1,6 @@
 /* The addresses are found by the C library's backtrace, which needs no frame pointers, and are told as places in the files
- * that are mapped there: so whoever reads the trace can ask addr2line for lines, also where programs are loaded anywhere.
+ * that are mapped there: so whoever reads the trace can ask addr2line for lines, also where programs are loaded anywhere. A thread may have
+ * a small stack, so no path stands on it.
  */
 #define _GNU_SOURCE
 #include "callers.h"
@@ -10,10 +11,11 @@
 #include <inttypes.h>
 #include <limits.h>
 #include <link.h>
+#include <pthread.h>
 #include <string.h>
 #include <unistd.h>
 
-enum { MOST_FRAMES = 48, MOST_TOLD = 16, ROOM = 16384 };
+enum { MOST_FRAMES = 48, MOST_TOLD = 16 };
 
 static __thread const void *caller;
 
@@ -22,9 +24,19 @@ void note_caller(const void *address)
     caller = address;
 }
 
+/* The program's own path. */
+static char program[PATH_MAX];
+static pthread_once_t once = PTHREAD_ONCE_INIT;
+
+static void find_program(void)
+{
+    if (readlink("/proc/self/exe", program, sizeof program - 1) < 0)
+        program[0] = '\0';
+}
+
 struct place {
     uintptr_t address;
-    char file[PATH_MAX];
+    const char *file;
     uintptr_t offset;
 };
 
@@ -39,23 +51,13 @@ static bool holds(const struct dl_phdr_info *object, uintptr_t address)
     return false;
 }
 
-/* The program itself has no name there. */
-static void copy_name(char *file, const char *name)
-{
-    ssize_t length = *name ? -1 : readlink("/proc/self/exe", file, PATH_MAX - 1);
-    if (length < 0)
-        snprintf(file, PATH_MAX, "%s", name);
-    else
-        file[length] = '\0';
-}
-
 static int look_at_object(struct dl_phdr_info *object, size_t size, void *argument)
 {
     struct place *place = argument;
     (void)size;
     if (!holds(object, place->address))
         return 0;
-    copy_name(place->file, object->dlpi_name);
+    place->file = *object->dlpi_name ? object->dlpi_name : program;     /* (the program itself has no name there) */
     place->offset = place->address - object->dlpi_addr;
     return 1;
 }
@@ -63,18 +65,17 @@ static int look_at_object(struct dl_phdr_info *object, size_t size, void *argume
 void trace_callers(struct ring *ring)
 {
     void *frames[MOST_FRAMES];
-    char line[ROOM];
-    size_t length = 0;
     if (!ring->trace)
         return;
-    int count = backtrace(frames, MOST_FRAMES), first = 0;
+    pthread_once(&once, find_program);
+    int count = backtrace(frames, MOST_FRAMES), first = 0, told = 0;
     while (first < count && frames[first] != caller)
         first++;
-    for (int i = first == count ? 0 : first, told = 0; i < count && told < MOST_TOLD && length < ROOM; i++) {
+    for (int i = first == count ? 0 : first; i < count && told < MOST_TOLD; i++) {
         struct place place = {.address = (uintptr_t)frames[i]};
-        if (dl_iterate_phdr(look_at_object, &place) && ++told)
-            length += (size_t)snprintf(line + length, ROOM - length, "%s%s+0x%" PRIxPTR, length ? ", " : "", place.file, place.offset);
+        if (dl_iterate_phdr(look_at_object, &place))
+            fprintf(ring->trace, "%s%s+0x%" PRIxPTR, told++ ? ", " : "# called from ", place.file, place.offset);
     }
-    if (length > 0 && length < ROOM)
-        trace_note(ring, "called from %s", line);
+    if (told > 0)
+        end_trace_line(ring);
 }

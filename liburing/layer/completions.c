@@ -153,9 +153,8 @@ bool hear(struct ring *ring, enum wulgach_occasion occasion)
     return true;
 }
 
-uint32_t count_ready(struct ring *ring)
+uint32_t count_ready(const struct ring *ring)
 {
-    show_ends(ring);
     const struct wulgach_shown *at = &ring->completions.at;
     uint32_t head = load_word(&ring->memory.cq->head);
     /* (Where nothing was reaped since the head was last heard, these are all that stand in the ring.) */

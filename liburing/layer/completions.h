@@ -42,8 +42,8 @@ void show_ends(struct ring *ring);
  * has stored a head past the tail. */
 bool hear(struct ring *ring, enum wulgach_occasion occasion);
 
-/* How many completions the application can reap, all that have ended being shown. */
-uint32_t count_ready(struct ring *ring);
+/* How many completions the application can reap, of those that are shown. */
+uint32_t count_ready(const struct ring *ring);
 
 void free_completions(struct completions *completions);
 

@@ -16,6 +16,7 @@
 #include "sleep.h"
 #include "unwilling.h"
 #include "wulgach_setup.h"
+#include "wulgach_times.h"
 
 #include <errno.h>
 #include <fcntl.h>
@@ -286,11 +287,10 @@ bool let_others_go(void)
     return look_at_others(wulgach_looked_at_before_sleep());
 }
 
-/* (who has the lock may wait for what the thread of the handler has: then whoever ends a call next looks) */
+/* Tries the lock as often as the library says. */
 static bool try_rings(void)
 {
-    enum { TRIES = 100 };
-    for (int i = 0; i < TRIES; i++) {
+    for (uint32_t tries = 0; wulgach_tries_rings_again(tries); tries++) {
         if (pthread_mutex_trylock(&rings_lock) == 0)
             return true;
         sched_yield();
@@ -328,7 +328,7 @@ static uint64_t coarse_time(void)
 {
     struct timespec now = {0};
     clock_gettime(CLOCK_MONOTONIC_COARSE, &now);
-    return (uint64_t)now.tv_sec * 1000000000 + (uint64_t)now.tv_nsec;
+    return wulgach_time_of(now.tv_sec, now.tv_nsec);
 }
 
 /* Looks whether rings are closed, as the library says that a call does which ends. */
@@ -403,10 +403,18 @@ void unlock_ring(struct ring *ring)
     release_ring(ring);
 }
 
-bool is_ring(int fd)
+bool find_index(int fd, uint32_t *index)
 {
     pthread_mutex_lock(&rings_lock);
-    bool is_found = find_ring(fd) != NULL;
+    const struct ring *ring = find_ring(fd);
+    if (ring)
+        *index = ring->index;
     pthread_mutex_unlock(&rings_lock);
-    return is_found;
+    return ring;
+}
+
+bool is_ring(int fd)
+{
+    uint32_t index;
+    return find_index(fd, &index);
 }

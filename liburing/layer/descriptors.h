@@ -26,8 +26,9 @@ void call_by(struct ring *ring, int fd);
 /* Posts the messages that wait for a ring with this descriptor, unless another thread has it: that one does. */
 void visit_ring(struct ring *ring, int fd);
 
-/* Whether a descriptor is a ring's. */
+/* Whether a descriptor is a ring's; and then that one's number among the process's rings. */
 bool is_ring(int fd);
+bool find_index(int fd, uint32_t *index);
 
 /* Closes a descriptor, and frees its ring if nobody can reach it any more. Returns 0 or the negative of an error number. */
 int close_descriptor(int fd);

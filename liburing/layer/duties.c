@@ -93,13 +93,20 @@ bool do_duties_before_sleep(struct ring *ring, bool has_fault)
 
 bool do_duties_when_stuck(struct ring *ring)
 {
-    if (!ring->telling.is_registered)
+    if (!ring->telling.is_registered)   /* (nor is it then) */
         return false;
     struct wulgach_resting at = resting(ring);
     uint32_t duties = wulgach_duties_when_stuck(&at, ring->telling.is_registered, ring->has_shown);
     ring->has_shown |= duties != 0;
     do_all(ring, duties);
     return duties != 0;
+}
+
+/* (where nothing has ended that isn't shown, nothing is to be done) */
+void do_duties_at_reply(struct ring *ring, const struct wulgach_reply *reply)
+{
+    if (ring->completions.is_behind)
+        do_all(ring, wulgach_duties_at_reply(reply, true));
 }
 
 void do_duties_at_rest(struct ring *ring)

@@ -11,6 +11,9 @@ bool do_duties_before_sleep(struct ring *ring, bool has_fault);
 void do_duties_at_rest(struct ring *ring);
 void do_duties_at_return(struct ring *ring);
 
+/* Before a call is told what became of what it wanted. */
+void do_duties_at_reply(struct ring *ring, const struct wulgach_reply *reply);
+
 /* Where nothing can go on. True: something was done, so that it is to be asked once more. */
 bool do_duties_when_stuck(struct ring *ring);
 

@@ -4,12 +4,6 @@
 
 #include "ring.h"
 
-#include <errno.h>
-
-/* What a core is told of a success and of a failure. Which failure it was stays in the layer: a chain doesn't ask. The
- * failure's number is what `uring trace` gives for an fsync of a descriptor that no file has. */
-enum { TOLD_SUCCESS = 0, TOLD_FAILURE = -EBADF };
-
 /* A running request was carried out, and would have waited. */
 void note_wait(struct ring *ring, struct request *request);
 

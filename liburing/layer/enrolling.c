@@ -23,6 +23,7 @@ enum { MOST = 16 };
 
 /* The library's words of a thread that has rows, and the process in which it is known to io_uring, and has them. */
 static __thread uint64_t *table;
+static __thread uint32_t ring_of[MOST];     /* which ring a row has */
 static __thread uint32_t known_in;
 static pthread_key_t key;
 static pthread_once_t once = PTHREAD_ONCE_INIT;
@@ -46,11 +47,13 @@ static void free_table(void)
     free(rows);
 }
 
-/* A program that has closed the number itself may have it for a file of its own. */
-static void close_row(int fd)
+/* A program that has closed the number itself may have it for a file of its own, or another ring. */
+static void close_row(uint32_t row, int fd)
 {
+    uint32_t found = 0;
+    bool is_found = find_index(fd, &found);
     forget_kept(fd);
-    if (is_ring(fd))
+    if (wulgach_closes_row(ring_of[row], is_found, found))
         close_descriptor(fd);
 }
 
@@ -59,7 +62,7 @@ static void close_rows(void)
     uint64_t fd;
     for (uint32_t i = 0; i < MOST; i++)
         if (wulgach_enrolled_named(own_rows(), MOST, is_known(), i, &fd) == 0)
-            close_row((int)fd);
+            close_row(i, (int)fd);
 }
 
 /* A destructor that sets its key again runs in the next round too. */
@@ -116,6 +119,7 @@ static int enroll(int fd, uint32_t row)
     int copy = kept_copy_of(fd);
     if (copy < 0)
         return copy;
+    find_index(copy, &ring_of[row]);
     wulgach_enroll(table, MOST, row, (uint32_t)copy);
     return 0;
 }
@@ -125,7 +129,7 @@ static void dismiss(uint32_t row)
     uint64_t fd;
     if (wulgach_enrolled_named(own_rows(), MOST, is_known(), row, &fd) < 0)
         return;
-    close_row((int)fd);
+    close_row(row, (int)fd);
     wulgach_dismiss(table, MOST, row);
 }
 

@@ -24,6 +24,7 @@
 #include <linux/io_uring.h>
 #include <signal.h>
 #include <stdio.h>
+#include <string.h>
 
 /* What the application asks for. */
 struct waiting {
@@ -62,15 +63,15 @@ static int read_extended(struct waiting *waiting)
     return 0;
 }
 
-/* Reads the mask with which the call sleeps: the first 64 bits of the C library's. Where calls are trapped, a handler that
- * runs meanwhile may call too: by SIGSYS, which stays open. Returns its fault, or 0. */
+/* Reads the mask with which the call sleeps: the first 64 bits of the C library's. Returns its fault, or 0. */
 static int read_mask(struct waiting *waiting)
 {
     sigemptyset(waiting->given);
     waiting->signals = waiting->given;
-    bool is_readable = waiting->mask_size == _NSIG / 8 && copy_in(waiting->given, waiting->mask, _NSIG / 8) == 0;
-    if (waiting->is_trapped)
-        sigdelset(waiting->given, SIGSYS);
+    uint64_t mask = 0;
+    bool is_readable = waiting->mask_size == sizeof mask && copy_in(&mask, waiting->mask, sizeof mask) == 0;
+    mask = wulgach_slept_with(mask, waiting->is_trapped);
+    memcpy(waiting->given, &mask, sizeof mask);
     return wulgach_mask_fault(waiting->mask_size, is_readable);
 }
 
@@ -95,7 +96,7 @@ static void complain_of_head(struct ring *ring)
 }
 
 /* What the thread that takes entries would take: all that is published, with faults among them. */
-static int submit_published(struct ring *ring, uint32_t to_submit)
+static int64_t submit_published(struct ring *ring, uint32_t to_submit)
 {
     struct wulgach_rounds rounds;
     struct wulgach_round round;
@@ -106,7 +107,7 @@ static int submit_published(struct ring *ring, uint32_t to_submit)
         round.is_refused = submit(ring, wulgach_round_takes(&rounds)) < 0;
         round.positions = ring->head - head;
     } while (wulgach_rounds_go_on(&rounds, &round, &submitted));
-    return (int)submitted;
+    return submitted;
 }
 
 /* ---- what a call wants, and what becomes of it ---- */
@@ -115,17 +116,19 @@ static int submit_published(struct ring *ring, uint32_t to_submit)
  * where nothing was submitted; else it ends the call where that would sleep. */
 static enum wulgach_reply_kind submit_entries(struct ring *ring, struct waiting *waiting, struct wulgach_reply *reply)
 {
-    int submitted = ring->has_thread ? submit_published(ring, waiting->to_submit) : submit(ring, waiting->to_submit);
+    int64_t submitted = ring->has_thread ? submit_published(ring, waiting->to_submit) : submit(ring, waiting->to_submit);
     if (waiting->is_extended && wulgach_reads_argument(waiting->flags & IORING_ENTER_GETEVENTS, waiting->to_submit, submitted)) {
         waiting->fault = read_extended(waiting);
-        submitted = (int)wulgach_submission_with_fault(submitted, waiting->fault);
+        submitted = wulgach_submission_with_fault(submitted, waiting->fault);
     }
     if (waiting->limit.is_set)
         wulgach_times_deadline(&ring->times, &waiting->limit);
+    reply->number = (uint32_t)(submitted < 0 ? -submitted : submitted);
+    reply->kind = submitted < 0 ? WULGACH_NOT_TAKEN : WULGACH_WAS_TAKEN;
+    do_duties_at_reply(ring, reply);
     if (is_recording_ways() && wulgach_looks_in_vain(waiting->flags & IORING_ENTER_GETEVENTS, waiting->min_complete, count_ready(ring)))
         record_break();
-    reply->number = (uint32_t)(submitted < 0 ? -submitted : submitted);
-    return submitted < 0 ? WULGACH_NOT_TAKEN : WULGACH_WAS_TAKEN;
+    return reply->kind;
 }
 
 static enum wulgach_reply_kind hear_application(struct ring *ring, bool asks)
@@ -217,13 +220,14 @@ static void see(struct ring *ring, struct wulgach_reply *reply)
 {
     if (ring->left & WULGACH_LEAVES_SIGHT)
         return;
+    do_duties_at_reply(ring, reply);
     reply->ready = count_ready(ring);
     reply->expired = ring->times.expired;
     reply->is_due = has_expired(ring);
 }
 
 /* Carries a call out: what it does next, when it sleeps and what it returns is the library's decision. */
-static int carry_call_out(struct ring *ring, struct waiting *waiting, uint32_t flags)
+static int64_t carry_call_out(struct ring *ring, struct waiting *waiting, uint32_t flags)
 {
     struct wulgach_asked asked = {
         .to_submit = waiting->to_submit,
@@ -246,13 +250,13 @@ static int carry_call_out(struct ring *ring, struct waiting *waiting, uint32_t f
         see(ring, &reply);
         demand(wulgach_enter_next(&call, &reply, &command) == 0, "a call doesn't take a reply");
     }
-    return (int)command.result;
+    return command.result;
 }
 
 /* Does what the library says is done of a call that passes, by rising bits. */
-static int enter_ring(struct ring *ring, struct waiting *waiting, uint32_t steps)
+static int64_t enter_ring(struct ring *ring, struct waiting *waiting, uint32_t steps)
 {
-    int result = 0;
+    int64_t result = 0;
     for (; steps; steps &= steps - 1)
         switch (steps & -steps) {
         case WULGACH_HAS_STRUCTURE:
@@ -289,19 +293,19 @@ static int do_next(struct ring **ring, int *fd, const struct waiting *waiting, u
     }
 }
 
-static int enter_by(int fd, struct waiting *waiting)
+static int64_t enter_by(int fd, struct waiting *waiting)
 {
     struct ring *ring = NULL;
     int32_t next = wulgach_entering_next(waiting->flags, WULGACH_AT_FIRST, 0);
     while (next >= 0 && next < WULGACH_AT_FIRST)
         next = wulgach_entering_next(waiting->flags, (uint32_t)next, do_next(&ring, &fd, waiting, (uint32_t)next));
-    int result = next < 0 ? next : enter_ring(ring, waiting, (uint32_t)next);
+    int64_t result = next < 0 ? next : enter_ring(ring, waiting, (uint32_t)next);
     if (ring)
         unlock_ring(ring);
     return result;
 }
 
-int enter(int fd, uint32_t to_submit, uint32_t min_complete, uint32_t flags, const void *argument, size_t size, const sigset_t *signals)
+int64_t enter(int fd, uint32_t to_submit, uint32_t min_complete, uint32_t flags, const void *argument, size_t size, const sigset_t *signals)
 {
     sigset_t own, given;
     struct waiting waiting = {
@@ -317,7 +321,7 @@ int enter(int fd, uint32_t to_submit, uint32_t min_complete, uint32_t flags, con
     /* Operations are carried out in the call, where the kernel's would be out of a signal's reach. */
     if (!signals)
         block_signals(&own);
-    int result = enter_by(fd, &waiting);
+    int64_t result = enter_by(fd, &waiting);
     if (!signals)
         pthread_sigmask(SIG_SETMASK, &own, NULL);
     return result;

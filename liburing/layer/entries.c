@@ -82,13 +82,6 @@ static int32_t look_at_rest(uint64_t from, uint64_t end)
     return wulgach_how_fault(is_zero);
 }
 
-/* How a file is opened: at least what is known of that, and it may have more, which is looked at first, as in a kernel. */
-static int copy_how(struct request *request, const struct wulgach_piece *piece)
-{
-    int32_t fault = look_at_rest(piece->from + sizeof *request->how, piece->from + piece->size);
-    return fault < 0 ? fault : copy_of((void **)&request->how, piece->from, sizeof *request->how);
-}
-
 /* A path, or the name of an attribute. */
 static int copy_name(const struct request *request, char **to, const struct wulgach_piece *piece)
 {
@@ -118,8 +111,10 @@ static int copy_piece(struct request *request, const struct wulgach_piece *piece
         return copy_first_path(request, piece);
     case WULGACH_SECOND_PATH:
         return copy_name(request, &request->second_path, piece);
+    case WULGACH_HOW_REST:
+        return look_at_rest(piece->from + sizeof *request->how, piece->from + piece->size);
     case WULGACH_HOW:
-        return copy_how(request, piece);
+        return copy_of((void **)&request->how, piece->from, piece->size);
     case WULGACH_TIME:
         return copy_time(request, piece->from);
     case WULGACH_MESSAGE:

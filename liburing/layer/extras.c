@@ -34,9 +34,10 @@ static int32_t end_own(struct ring *ring, struct request *request, int32_t res)
     wulgach_lookout_starts(&ring->lookout, insert_request(&ring->running, request));
     demand(wulgach_course_act(&request->course, &ended) == WULGACH_ACT_CARRY_OUT, "a no-op isn't carried out");
     demand(wulgach_course_done(&request->course, res), "an operation is done that wasn't begun");
-    finish(ring, request->number, TOLD_SUCCESS);
+    ended = wulgach_told_of_end(true);
+    finish(ring, request->number, ended);
     demand(wulgach_course_end(&request->course), "a request ends that isn't to end");
-    return TOLD_SUCCESS;
+    return ended;
 }
 
 static void stage_own(struct ring *ring, const struct request *request)

@@ -148,7 +148,7 @@ static void do_step_of_finish(struct ring *ring, struct finishing *at, enum wulg
     struct request *request = at->request;
     switch (step) {
     case WULGACH_FINISH_JUDGES:
-        at->told = is_success(ring, request, at->res) ? TOLD_SUCCESS : TOLD_FAILURE;
+        at->told = wulgach_told_of_end(is_success(ring, request, at->res));
         return;
     case WULGACH_FINISH_NOTIFIES:
         at->res = notify(ring, request, at->res);

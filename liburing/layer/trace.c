@@ -34,8 +34,7 @@ static bool write_line(const struct ring *ring)
     return written == (ssize_t)ring->line_length;
 }
 
-/* Hands the line to the file, and begins another. A trace that can't be written ends with the line before. */
-static void end_line(struct ring *ring)
+void end_trace_line(struct ring *ring)
 {
     fputc('\n', ring->trace);
     fflush(ring->trace);
@@ -53,17 +52,17 @@ static void open_trace(struct ring *ring)
     ring->has_trace = true;
     if (!prefix || !*prefix)
         return;
-    char path[4096];
-    snprintf(path, sizeof path, "%s.%d.%" PRIu32, prefix, (int)ring->process, ring->index);
-    ring->trace_file = open_written(path);
+    char *path = NULL;
+    ring->trace_file = asprintf(&path, "%s.%d.%" PRIu32, prefix, (int)ring->process, ring->index) < 0 ? -1 : open_written(path);
+    free(path);
     if (ring->trace_file >= 0)
         ring->trace = open_memstream(&ring->line, &ring->line_length);
     if (!ring->trace) {
-        fprintf(stderr, "wulgach: %s can't be written\n", path);
+        fprintf(stderr, "wulgach: %s.%d.%" PRIu32 " can't be written\n", prefix, (int)ring->process, ring->index);
         return;
     }
     fprintf(ring->trace, "setup --sq %" PRIu32 " --cq %" PRIu32 " --files 1 --start 0%s", ring->memory.sq_entries, ring->memory.cq_entries, ring->is_linux ? " --linux" : "");
-    end_line(ring);
+    end_trace_line(ring);
 }
 
 void close_trace(struct ring *ring)
@@ -106,7 +105,7 @@ void trace_step(struct ring *ring, const struct wulgach_step *step, const struct
         return;
     }
     fwrite(line, 1, length, ring->trace);
-    end_line(ring);
+    end_trace_line(ring);
 }
 
 void trace_note(struct ring *ring, const char *format, ...)
@@ -118,7 +117,7 @@ void trace_note(struct ring *ring, const char *format, ...)
     fputs("# ", ring->trace);
     vfprintf(ring->trace, format, arguments);
     va_end(arguments);
-    end_line(ring);
+    end_trace_line(ring);
 }
 
 void trace_request(struct ring *ring, const struct request *request)
@@ -129,7 +128,7 @@ void trace_request(struct ring *ring, const struct request *request)
     print_operation(ring->trace, request);
     fputs(", flags ", ring->trace);
     print_flags(ring->trace, request->entry.flags);
-    end_line(ring);
+    end_trace_line(ring);
 }
 
 void trace_result(struct ring *ring, const struct request *request, int32_t res)

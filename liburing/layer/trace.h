@@ -22,6 +22,9 @@ void trace_step(struct ring *ring, const struct wulgach_step *step, const struct
 void trace_request(struct ring *ring, const struct request *request);
 void trace_result(struct ring *ring, const struct request *request, int32_t res);
 
+/* Hands the line that is being written to the file, and begins another. A trace that can't be written ends with the line before. */
+void end_trace_line(struct ring *ring);
+
 /* A line of its own behind #. */
 void trace_note(struct ring *ring, const char *format, ...) __attribute__((format(printf, 2, 3)));
 

@@ -200,6 +200,92 @@ static void test_offsets_of_streams(void)
     stop();
 }
 
+/* At an offset that no file has it counts first whether the file is open for it. */
+static void test_offsets_of_no_file(void)
+{
+    static const uint64_t bad[] = {(uint64_t)-2, (uint64_t)1 << 63};
+    begin(0);
+    int path = open("/proc/self/exe", O_PATH), to_read = open("/proc/self/exe", O_RDONLY), to_write = open("/tmp", O_TMPFILE | O_WRONLY, 0600), folder = open("/", O_RDONLY);
+    check(path >= 0 && to_read >= 0 && to_write >= 0 && folder >= 0);
+    for (int i = 0; i < 2; i++) {
+        expect_at(IORING_OP_READ, 0, 999, bad[i], -EBADF);
+        expect_at(IORING_OP_WRITE, 0, 999, bad[i], -EBADF);
+        expect_at(IORING_OP_READ, 0, path, bad[i], -EBADF);
+        expect_at(IORING_OP_WRITE, 0, path, bad[i], -EBADF);
+        expect_at(IORING_OP_READ, 0, to_write, bad[i], -EBADF);
+        expect_at(IORING_OP_WRITE, 0, to_write, bad[i], -EINVAL);
+        expect_at(IORING_OP_READ, 0, to_read, bad[i], -EINVAL);
+        expect_at(IORING_OP_WRITE, 0, to_read, bad[i], -EBADF);
+        expect_at(IORING_OP_WRITE, 0, folder, bad[i], -EBADF);
+    }
+    close(path);
+    close(to_read);
+    close(to_write);
+    close(folder);
+    stop();
+}
+
+static void expect_flagged(uint8_t code, int fd, uint64_t offset, uint32_t flags, int32_t res)
+{
+    put_transfer(&ring, code, 0, 0, fd, &byte, 1, offset)->rw_flags = (int)flags;
+    submit(1);
+    EXPECT({0, res});
+}
+
+/* A flag that what has no offsets doesn't take counts before an offset, and before it is ready. */
+static void test_flags_of_streams(void)
+{
+    static const struct {
+        uint32_t flags;
+        int32_t res;
+    } bad[] = {{0x1000, -EOPNOTSUPP}, {0x40, -EOPNOTSUPP}, {0x30, -EINVAL}, {0x70, -EINVAL}, {RWF_HIPRI, -EINVAL}};
+    int pair[2];
+    begin(0);
+    check(socketpair(AF_UNIX, SOCK_STREAM, 0, pair) == 0);
+    for (int i = 0; i < 5; i++)
+        for (int at = 0; at < 2; at++) {
+            uint64_t offset = at ? 5 : (uint64_t)-1;
+            expect_flagged(IORING_OP_READ, pair[0], offset, bad[i].flags, bad[i].res);
+            expect_flagged(IORING_OP_WRITE, pair[0], offset, bad[i].flags, bad[i].res);
+            expect_flagged(IORING_OP_READ, ends[0], offset, bad[i].flags, bad[i].res);
+            expect_flagged(IORING_OP_WRITE, ends[1], offset, bad[i].flags, bad[i].res);
+        }
+    close(pair[0]);
+    close(pair[1]);
+    stop();
+}
+
+/* A message that asks for a poll first, and isn't to wait, is never polled, whatever its socket has. */
+static void test_unpolled_messages(void)
+{
+    char bytes[4] = "abc";
+    struct iovec part = {bytes, 3};
+    struct msghdr message = {.msg_iov = &part, .msg_iovlen = 1};
+    static const uint8_t codes[] = {IORING_OP_RECV, IORING_OP_SEND, IORING_OP_RECVMSG, IORING_OP_SENDMSG};
+    int pair[2];
+    begin(0);
+    check(socketpair(AF_UNIX, SOCK_STREAM, 0, pair) == 0 && write(pair[1], "abc", 3) == 3);
+    for (int i = 0; i < 8; i++) {
+        uint8_t code = codes[i / 2];
+        bool is_plain = i < 4;
+        struct io_uring_sqe *entry = put_transfer(&ring, code, 0, i % 2 ? IOSQE_ASYNC : 0, pair[0], is_plain ? (void *)bytes : &message, is_plain ? 3 : 1, 0);
+        entry->ioprio = IORING_RECVSEND_POLL_FIRST;
+        entry->msg_flags = MSG_DONTWAIT;
+        submit(1);
+        EXPECT({0, -EAGAIN});
+    }
+    /* It takes no provided buffer, and finds none missing. */
+    struct io_uring_sqe *entry = put_transfer(&ring, IORING_OP_RECV, 0, IOSQE_BUFFER_SELECT, pair[0], NULL, 3, 0);
+    entry->ioprio = IORING_RECVSEND_POLL_FIRST;
+    entry->msg_flags = MSG_DONTWAIT;
+    entry->buf_group = 9;
+    submit(1);
+    EXPECT({0, -EAGAIN});
+    close(pair[0]);
+    close(pair[1]);
+    stop();
+}
+
 /* A poll that is to go on, and has EPOLLONESHOT among its events, ends with the first, also if its events were updated since. */
 static void test_one_shot_polls(void)
 {
@@ -357,6 +443,9 @@ int main(int count, char **words)
         {"unbuffered", test_unbuffered},
         {"short reads", test_short_reads},
         {"offsets of streams", test_offsets_of_streams},
+        {"offsets of no file", test_offsets_of_no_file},
+        {"flags of streams", test_flags_of_streams},
+        {"unpolled messages", test_unpolled_messages},
         {"one-shot polls", test_one_shot_polls},
         {"refused connects", test_refused_connects},
         {"own eventfd", test_own_eventfd},

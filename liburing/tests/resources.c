@@ -8,6 +8,7 @@
 
 #include <poll.h>
 #include <sys/eventfd.h>
+#include <sys/resource.h>
 #include <sys/socket.h>
 #include <sys/uio.h>
 #include <sys/wait.h>
@@ -330,6 +331,39 @@ static void test_known_threads(void)
         close_ring(&rings[i]);
 }
 
+static bool is_open(int fd)
+{
+    return fcntl(fd, F_GETFD) >= 0;
+}
+
+/* The layer's own descriptor of a number's ring may be closed by the program, and be another ring's by then: that stays open as its number is taken back. */
+static void test_number_of_another(void)
+{
+    enum { MOST = 256 };
+    bool was_open[MOST];
+    struct ring ring, other;
+    struct rlimit limit, least;
+    check(getrlimit(RLIMIT_NOFILE, &limit) == 0);
+    least = (struct rlimit){MOST, limit.rlim_max};
+    check(setrlimit(RLIMIT_NOFILE, &least) == 0);
+    make_ring(&ring, 4, 0, 0);
+    make_ring(&other, 4, 0, 0);
+    int own = 0;
+    for (int fd = 0; fd < MOST; fd++)
+        was_open[fd] = is_open(fd);
+    struct io_uring_rsrc_update row = {.offset = 0, .data = (uint32_t)ring.fd};
+    check(register_at(ring.fd, IORING_REGISTER_RING_FDS, &row, 1) == 1);
+    while (own < MOST && (was_open[own] || !is_open(own)))
+        own++;
+    row.data = 0;
+    check(own < MOST && dup2(other.fd, own) == own);
+    check(register_at(ring.fd, IORING_UNREGISTER_RING_FDS, &row, 1) == 1 && is_open(own));
+    close(own);
+    check(setrlimit(RLIMIT_NOFILE, &limit) == 0);
+    close_ring(&ring);
+    close_ring(&other);
+}
+
 /* A ring whose thread takes entries: it sleeps, and a call wakes it. */
 static void test_sqpoll(void)
 {
@@ -354,6 +388,8 @@ static void test_sqpoll(void)
     check(enter(&ring, 3, 0, IORING_ENTER_SQ_WAKEUP) == 3);
     check(*sq_word(&ring, ring.params.sq_off.dropped) == 2 && *sq_word(&ring, ring.params.sq_off.head) == *sq_word(&ring, ring.params.sq_off.tail));
     check(count_ready(&ring) == 1 && reap(&ring).user_data == 5);
+    /* It returns what it was asked for, also where that is more than an int holds. */
+    check(enter(&ring, UINT32_MAX, 0, 0) == (long)UINT32_MAX && enter(&ring, (uint32_t)-EINVAL, 0, 0) == (long)(uint32_t)-EINVAL);
     close_ring(&ring);
 }
 
@@ -395,6 +431,7 @@ int main(int count, char **words)
         {"restrictions", test_restrictions},
         {"rings by number", test_rings_by_number},
         {"known threads", test_known_threads},
+        {"number of another", test_number_of_another},
         {"sqpoll", test_sqpoll},
         {"large cells", test_large_cells},
     };

@@ -374,7 +374,7 @@ static void test_broken_pipe(void)
 }
 
 /* A process whose files may get no longer than its trace is isn't ended by that: the trace is. */
-static void run_below_a_trace(const char *path)
+static void run_below_a_trace(char *path)
 {
     struct rlimit limit = {100, 100};
     struct ring ring;
@@ -387,14 +387,34 @@ static void run_below_a_trace(const char *path)
     }
 }
 
-static void test_limit_below_a_trace(void)
+/* A thread with the smallest stack that there is. */
+static void *use_traced(void *path)
+{
+    struct ring ring;
+    check(setenv("WULGACH_TRACE", path, 1) == 0);
+    make_ring(&ring, 4, 0, 0);
+    put(&ring, IORING_OP_NOP, 7, 0);
+    check(enter(&ring, 1, 1, IORING_ENTER_GETEVENTS) == 1 && reap(&ring).res == 0);
+    return NULL;
+}
+
+static void run_on_a_small_stack(char *path)
+{
+    pthread_attr_t small;
+    pthread_t thread;
+    check(pthread_attr_init(&small) == 0 && pthread_attr_setstacksize(&small, (size_t)sysconf(_SC_THREAD_STACK_MIN)) == 0);
+    check(pthread_create(&thread, &small, use_traced, path) == 0 && pthread_join(thread, NULL) == 0);
+}
+
+/* Runs it in a child, with a path for its traces, and removes these. */
+static void run_with_a_trace(void (*run)(char *path))
 {
     char path[] = "/tmp/wulgach-trace-XXXXXX", names[64];
     glob_t found = {0};
     int file = mkstemp(path), status;
     pid_t child = fork();
     if (child == 0) {
-        run_below_a_trace(path);
+        run(path);
         _exit(0);
     }
     check(file >= 0 && waitpid(child, &status, 0) == child && status == 0);
@@ -403,6 +423,16 @@ static void test_limit_below_a_trace(void)
     for (size_t i = 0; i < found.gl_pathc; i++)
         unlink(found.gl_pathv[i]);
     globfree(&found);
+}
+
+static void test_limit_below_a_trace(void)
+{
+    run_with_a_trace(run_below_a_trace);
+}
+
+static void test_small_stack(void)
+{
+    run_with_a_trace(run_on_a_small_stack);
 }
 
 int main(int count, char **words)
@@ -417,6 +447,7 @@ int main(int count, char **words)
         {"too long", test_too_long},
         {"broken pipe", test_broken_pipe},
         {"limit below a trace", test_limit_below_a_trace},
+        {"small stack", test_small_stack},
     };
     static const struct named injection = {"injection", test_injection};
     if (count > 1 && strcmp(words[1], injection.name) == 0)

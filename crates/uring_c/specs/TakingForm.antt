@@ -7,7 +7,7 @@ use Rattle.uring_operations.specs.declared.requests.ways.Way.TheVariants.{Finish
 use Rattle.uring_enter.specs.declared.cancels.update.Removal.{Removal}
 use Rattle.uring_enter.specs.declared.cancels.update.Removal.TheVariants.{Cancel, Update, UpdateLinked}
 use Rattle.uring_operations.specs.declared.copies.piece.What.{What}
-use Rattle.uring_operations.specs.declared.copies.piece.What.TheVariants.{Buffer, Vectors, Path, SecondPath, How, Time, Value, Message, Address}
+use Rattle.uring_operations.specs.declared.copies.piece.What.TheVariants.{Buffer, Vectors, Path, SecondPath, How, Time, Value, Message, Address, HowRest}
 use Rattle.uring_operations.specs.declared.copies.piece.Piece.{Piece}
 use Rattle.uring_operations.specs.declared.copies.copying.Copying.{Copying}
 use Rattle.uring_operations.specs.declared.copies.copying.Copying.TheVariants.{Copies, Ends}
@@ -52,6 +52,7 @@ word_of_what Time = 5
 word_of_what Value = 6
 word_of_what Message = 7
 word_of_what Address = 8
+word_of_what HowRest = 9
 
 abbrev pub words_of_piece : Piece → PieceWords
 words_of_piece p = record { what = word_of_what p.what; from = p.from; size = p.size }

@@ -11,7 +11,7 @@ use Rattle.uring_operations.specs.declared.files.descriptor.Question.TheVariants
 use Rattle.uring_operations.specs.declared.files.descriptor.Finding.{Finding}
 use Rattle.uring_operations.specs.declared.files.descriptor.Finding.TheVariants.{Asks, Is}
 use Rattle.uring_operations.specs.Entries.Needs.{is_read, is_transfer, is_of_sockets, is_splice, is_poll}
-use Rattle.uring_operations.specs.Files.Descriptors.{may_be_tried, is_tried_at_once, is_open_for, next_of, FindsTheKind, AsksOnce}
+use Rattle.uring_operations.specs.Files.Descriptors.{has_no_place, may_be_tried, is_tried_at_once, is_open_for, next_of, FindsTheKind, AsksOnce}
 
 abbrev kind_in : Finding → Kind
 kind_in (Is kind) = kind
@@ -26,14 +26,20 @@ question_in (Asks question) = question
 question_in (Is _) = Status
 
 -- what is told, by the answers: `k` of offsets and `ka` of access say that these were asked
-abbrev by_access : Bool → Bool → Finding
-by_access ka w = if not ka then Asks Access else if w then Is Stream else Is Wrong
+abbrev by_access : Bool → Bool → Kind → Finding
+by_access ka w opened = if not ka then Asks Access else if w then Is opened else Is Wrong
 
-abbrev by_offsets : Bool → Bool → Bool → Bool → Bool → Bool → Bool → Finding
-by_offsets i m v ko h ka w =
+abbrev by_offsets : Bool → Bool → Bool → Bool → Bool → Bool → Bool → Bool → Finding
+by_offsets i m v ko h p ka w =
     if i && m then Is Tried else
     if not v && not ko then Asks Offsets else
-    if not v && h then Is Never else by_access ka w
+    if not v && h && not p then Is Never else by_access ka w (if not v && h then Never else Stream)
+
+abbrev whole_of : Bool → Bool → Bool → Bool → Bool → Bool → Kind
+whole_of i m v h p w =
+    if i && m then Tried else
+    if not v && h && not p then Never else
+    if w then (if not v && h then Never else Stream) else Wrong
 
 abbrev by_status : Bool → Bool → Bool → Finding → Finding
 by_status o x z transfer =
@@ -44,37 +50,38 @@ by_entry a b c s later =
     if a then Is Stream else if b then Is AtOnce else
     if not c then Is Never else if not s then Asks Status else later
 
-by_access_is : (ka w w' : Bool) (kind : Kind) → (ka ≡ true → w ≡ w') → by_access ka w ≡ Is kind
-    → kind ≡ (if w' then Stream else Wrong)
-by_access_is false w w' kind agree is = absurd (false≢true (ap has_kind is))
-by_access_is true true true kind agree is = sym (ap kind_in is)
-by_access_is true false false kind agree is = sym (ap kind_in is)
-by_access_is true true false kind agree is = absurd (true≢false (agree refl))
-by_access_is true false true kind agree is = absurd (false≢true (agree refl))
+by_access_is : (ka w w' : Bool) (opened kind : Kind) → (ka ≡ true → w ≡ w') → by_access ka w opened ≡ Is kind
+    → kind ≡ (if w' then opened else Wrong)
+by_access_is false w w' opened kind agree is = absurd (false≢true (ap has_kind is))
+by_access_is true true true opened kind agree is = sym (ap kind_in is)
+by_access_is true false false opened kind agree is = sym (ap kind_in is)
+by_access_is true true false opened kind agree is = absurd (true≢false (agree refl))
+by_access_is true false true opened kind agree is = absurd (false≢true (agree refl))
 
-by_offsets_is : (i m v ko h h' ka w w' : Bool) (kind : Kind) → (ko ≡ true → h ≡ h') → (ka ≡ true → w ≡ w')
-    → by_offsets i m v ko h ka w ≡ Is kind
-    → kind ≡ (if i && m then Tried else if not v && h' then Never else if w' then Stream else Wrong)
-by_offsets_is true true v ko h h' ka w w' kind one two is = sym (ap kind_in is)
-by_offsets_is true false true ko h h' ka w w' kind one two is = by_access_is ka w w' kind two is
-by_offsets_is false m true ko h h' ka w w' kind one two is = by_access_is ka w w' kind two is
-by_offsets_is true false false false h h' ka w w' kind one two is = absurd (false≢true (ap has_kind is))
-by_offsets_is false m false false h h' ka w w' kind one two is = absurd (false≢true (ap has_kind is))
-by_offsets_is true false false true true true ka w w' kind one two is = sym (ap kind_in is)
-by_offsets_is false m false true true true ka w w' kind one two is = sym (ap kind_in is)
-by_offsets_is true false false true false false ka w w' kind one two is = by_access_is ka w w' kind two is
-by_offsets_is false m false true false false ka w w' kind one two is = by_access_is ka w w' kind two is
-by_offsets_is i m false true true false ka w w' kind one two is = absurd (true≢false (one refl))
-by_offsets_is i m false true false true ka w w' kind one two is = absurd (false≢true (one refl))
+by_offsets_is : (i m v ko h h' p ka w w' : Bool) (kind : Kind) → (ko ≡ true → h ≡ h') → (ka ≡ true → w ≡ w')
+    → by_offsets i m v ko h p ka w ≡ Is kind → kind ≡ whole_of i m v h' p w'
+by_offsets_is true true v ko h h' p ka w w' kind one two is = sym (ap kind_in is)
+by_offsets_is true false true ko h h' p ka w w' kind one two is = by_access_is ka w w' Stream kind two is
+by_offsets_is false m true ko h h' p ka w w' kind one two is = by_access_is ka w w' Stream kind two is
+by_offsets_is true false false false h h' p ka w w' kind one two is = absurd (false≢true (ap has_kind is))
+by_offsets_is false m false false h h' p ka w w' kind one two is = absurd (false≢true (ap has_kind is))
+by_offsets_is true false false true true true false ka w w' kind one two is = sym (ap kind_in is)
+by_offsets_is false m false true true true false ka w w' kind one two is = sym (ap kind_in is)
+by_offsets_is true false false true true true true ka w w' kind one two is = by_access_is ka w w' Never kind two is
+by_offsets_is false m false true true true true ka w w' kind one two is = by_access_is ka w w' Never kind two is
+by_offsets_is true false false true false false p ka w w' kind one two is = by_access_is ka w w' Stream kind two is
+by_offsets_is false m false true false false p ka w w' kind one two is = by_access_is ka w w' Stream kind two is
+by_offsets_is i m false true true false p ka w w' kind one two is = absurd (true≢false (one refl))
+by_offsets_is i m false true false true p ka w w' kind one two is = absurd (false≢true (one refl))
 
-by_status_is : (o x z i m v ko h h' ka w w' : Bool) (kind : Kind) → (ko ≡ true → h ≡ h') → (ka ≡ true → w ≡ w')
-    → by_status o x z (by_offsets i m v ko h ka w) ≡ Is kind
-    → kind ≡ (if not o then Never else if x then (if i && m then Tried else if not v && h' then Never else if w' then Stream else Wrong) else if z then Stream else Never)
-by_status_is false x z i m v ko h h' ka w w' kind one two is = sym (ap kind_in is)
-by_status_is true true z i m v ko h h' ka w w' kind one two is =
-    by_offsets_is i m v ko h h' ka w w' kind one two is
-by_status_is true false true i m v ko h h' ka w w' kind one two is = sym (ap kind_in is)
-by_status_is true false false i m v ko h h' ka w w' kind one two is = sym (ap kind_in is)
+by_status_is : (o x z i m v ko h h' p ka w w' : Bool) (kind : Kind) → (ko ≡ true → h ≡ h') → (ka ≡ true → w ≡ w')
+    → by_status o x z (by_offsets i m v ko h p ka w) ≡ Is kind
+    → kind ≡ (if not o then Never else if x then whole_of i m v h' p w' else if z then Stream else Never)
+by_status_is false x z i m v ko h h' p ka w w' kind one two is = sym (ap kind_in is)
+by_status_is true true z i m v ko h h' p ka w w' kind one two is =
+    by_offsets_is i m v ko h h' p ka w w' kind one two is
+by_status_is true false true i m v ko h h' p ka w w' kind one two is = sym (ap kind_in is)
+by_status_is true false false i m v ko h h' p ka w w' kind one two is = sym (ap kind_in is)
 
 -- `later` is what it is once it was asked what it is
 by_entry_is : (a b c s : Bool) (later : Finding) (kind whole : Kind) → (s ≡ true → later ≡ Is kind → kind ≡ whole)
@@ -95,7 +102,7 @@ pub finds_the_kind : FindsTheKind
 finds_the_kind e t k d kind fits is =
     by_entry_is (is_poll e.opcode || is_splice e.opcode) (is_tried_at_once e t) (is_transfer e.opcode || is_of_sockets e.opcode) k.status _ kind _
     (λ asked later. rw (← fits.opened asked, ← fits.file asked, ← fits.device asked, ← fits.socket asked)
-    (by_status_is k.nature.is_open (is_transfer e.opcode) k.nature.is_socket k.nature.is_file (may_be_tried e t) k.nature.is_device k.offsets k.nature.has_offsets d.has_offsets k.access (is_open_for e.opcode k.nature) (is_open_for e.opcode d) kind
+    (by_status_is k.nature.is_open (is_transfer e.opcode) k.nature.is_socket k.nature.is_file (may_be_tried e t) k.nature.is_device k.offsets k.nature.has_offsets d.has_offsets (has_no_place e) k.access (is_open_for e.opcode k.nature) (is_open_for e.opcode d) kind
     fits.offsets (λ known. opens_for (is_read e.opcode) k.nature.can_read d.can_read k.nature.can_write d.can_write (fits.reads known) (fits.writes known)) later))
     is
 
@@ -105,39 +112,41 @@ was Status s ko ka = s
 was Offsets s ko ka = ko
 was Access s ko ka = ka
 
-access_asks : (s ko ka w : Bool) (question : Question) → by_access ka w ≡ Asks question → was question s ko ka ≡ false
-access_asks s ko false w question is = sym (ap (λ told. was (question_in told) s ko false) is)
-access_asks s ko true true question is = absurd (true≢false (ap has_kind is))
-access_asks s ko true false question is = absurd (true≢false (ap has_kind is))
+access_asks : (s ko ka w : Bool) (opened : Kind) (question : Question) → by_access ka w opened ≡ Asks question → was question s ko ka ≡ false
+access_asks s ko false w opened question is = sym (ap (λ told. was (question_in told) s ko false) is)
+access_asks s ko true true opened question is = absurd (true≢false (ap has_kind is))
+access_asks s ko true false opened question is = absurd (true≢false (ap has_kind is))
 
-offsets_asks : (i m v s ko h ka w : Bool) (question : Question) → by_offsets i m v ko h ka w ≡ Asks question
+offsets_asks : (i m v s ko h p ka w : Bool) (question : Question) → by_offsets i m v ko h p ka w ≡ Asks question
     → was question s ko ka ≡ false
-offsets_asks true true v s ko h ka w question is = absurd (true≢false (ap has_kind is))
-offsets_asks true false true s ko h ka w question is = access_asks s ko ka w question is
-offsets_asks false m true s ko h ka w question is = access_asks s ko ka w question is
-offsets_asks true false false s false h ka w question is = sym (ap (λ told. was (question_in told) s false ka) is)
-offsets_asks false m false s false h ka w question is = sym (ap (λ told. was (question_in told) s false ka) is)
-offsets_asks true false false s true true ka w question is = absurd (true≢false (ap has_kind is))
-offsets_asks false m false s true true ka w question is = absurd (true≢false (ap has_kind is))
-offsets_asks true false false s true false ka w question is = access_asks s true ka w question is
-offsets_asks false m false s true false ka w question is = access_asks s true ka w question is
+offsets_asks true true v s ko h p ka w question is = absurd (true≢false (ap has_kind is))
+offsets_asks true false true s ko h p ka w question is = access_asks s ko ka w Stream question is
+offsets_asks false m true s ko h p ka w question is = access_asks s ko ka w Stream question is
+offsets_asks true false false s false h p ka w question is = sym (ap (λ told. was (question_in told) s false ka) is)
+offsets_asks false m false s false h p ka w question is = sym (ap (λ told. was (question_in told) s false ka) is)
+offsets_asks true false false s true true false ka w question is = absurd (true≢false (ap has_kind is))
+offsets_asks false m false s true true false ka w question is = absurd (true≢false (ap has_kind is))
+offsets_asks true false false s true true true ka w question is = access_asks s true ka w Never question is
+offsets_asks false m false s true true true ka w question is = access_asks s true ka w Never question is
+offsets_asks true false false s true false p ka w question is = access_asks s true ka w Stream question is
+offsets_asks false m false s true false p ka w question is = access_asks s true ka w Stream question is
 
-asks : (a b c s o x z i m v ko h ka w : Bool) (question : Question)
-    → by_entry a b c s (by_status o x z (by_offsets i m v ko h ka w)) ≡ Asks question
+asks : (a b c s o x z i m v ko h p ka w : Bool) (question : Question)
+    → by_entry a b c s (by_status o x z (by_offsets i m v ko h p ka w)) ≡ Asks question
     → was question s ko ka ≡ false
-asks true b c s o x z i m v ko h ka w question is = absurd (true≢false (ap has_kind is))
-asks false true c s o x z i m v ko h ka w question is = absurd (true≢false (ap has_kind is))
-asks false false false s o x z i m v ko h ka w question is = absurd (true≢false (ap has_kind is))
-asks false false true false o x z i m v ko h ka w question is = sym (ap (λ told. was (question_in told) false ko ka) is)
-asks false false true true false x z i m v ko h ka w question is = absurd (true≢false (ap has_kind is))
-asks false false true true true true z i m v ko h ka w question is = offsets_asks i m v true ko h ka w question is
-asks false false true true true false true i m v ko h ka w question is = absurd (true≢false (ap has_kind is))
-asks false false true true true false false i m v ko h ka w question is = absurd (true≢false (ap has_kind is))
+asks true b c s o x z i m v ko h p ka w question is = absurd (true≢false (ap has_kind is))
+asks false true c s o x z i m v ko h p ka w question is = absurd (true≢false (ap has_kind is))
+asks false false false s o x z i m v ko h p ka w question is = absurd (true≢false (ap has_kind is))
+asks false false true false o x z i m v ko h p ka w question is = sym (ap (λ told. was (question_in told) false ko ka) is)
+asks false false true true false x z i m v ko h p ka w question is = absurd (true≢false (ap has_kind is))
+asks false false true true true true z i m v ko h p ka w question is = offsets_asks i m v true ko h p ka w question is
+asks false false true true true false true i m v ko h p ka w question is = absurd (true≢false (ap has_kind is))
+asks false false true true true false false i m v ko h p ka w question is = absurd (true≢false (ap has_kind is))
 
 asks_of : (e : Submission) (t : Trial) (k : Known) (question : Question) → next_of e t k ≡ Asks question
     → was question k.status k.offsets k.access ≡ false
 asks_of e t k question is =
-    asks (is_poll e.opcode || is_splice e.opcode) (is_tried_at_once e t) (is_transfer e.opcode || is_of_sockets e.opcode) k.status k.nature.is_open (is_transfer e.opcode) k.nature.is_socket k.nature.is_file (may_be_tried e t) k.nature.is_device k.offsets k.nature.has_offsets k.access (is_open_for e.opcode k.nature) question is
+    asks (is_poll e.opcode || is_splice e.opcode) (is_tried_at_once e t) (is_transfer e.opcode || is_of_sockets e.opcode) k.status k.nature.is_open (is_transfer e.opcode) k.nature.is_socket k.nature.is_file (may_be_tried e t) k.nature.is_device k.offsets k.nature.has_offsets (has_no_place e) k.access (is_open_for e.opcode k.nature) question is
 
 pub asks_once : AsksOnce
 asks_once e t k Status is = asks_of e t k Status is

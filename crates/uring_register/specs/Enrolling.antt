@@ -1,5 +1,5 @@
 -- Which rings a thread has by number, by what has happened, the newest first. io_uring_register(2), IORING_REGISTER_RING_FDS and IORING_UNREGISTER_RING_FDS; io_uring_enter(2), IORING_ENTER_REGISTERED_RING. The order of faults is what Linux 6.18 was seen to do.
-use Rattle.std.specs.Prelude.{◌≡◌, ℕ, ℤ, pos, ◌+◌, ◌<◌, ◌≤◌, Bool, true, not, ◌&&◌, ◌||◌, ◌==◌, nat_le, min, length, slice_index_or, List, [], ◌∷◌, if◌then◌else◌}
+use Rattle.std.specs.Prelude.{◌≡◌, ℕ, ℤ, pos, ◌+◌, ◌<◌, ◌≤◌, Bool, true, false, not, Option, Some, None, ◌&&◌, ◌||◌, ◌==◌, nat_le, min, length, slice_index_or, List, [], ◌∷◌, if◌then◌else◌}
 use Rattle.uring_register.specs.Tables.{IsFirstFree, NoneIsFree}
 use Rattle.uring_register.specs.declared.enrolled.Deed.{Deed}
 use Rattle.uring_register.specs.declared.enrolled.Deed.TheVariants.{SetsUp, Calls, Enrolls}
@@ -43,6 +43,11 @@ HasNoRow log asked = NoneIsFree (content log) (asked_from asked) (asked_end aske
 abbrev pub dismissing_fault : ℕ → Bool → Bool → ℤ
 dismissing_fault row reserved has_data =
     if reserved || has_data || nat_le 16 row then error 22 else pos 0
+
+-- whether the descriptor of a row is closed as that is emptied, or its thread ends: it is still open on the ring that the row has. Rings count from 0 in their process. A program may have closed the number itself, and have another file there, or another ring. Our own rule: a kernel's rows have no descriptors
+abbrev pub closes_row : (of_row : ℕ) → (found : Option ℕ) → Bool
+closes_row of_row None = false
+closes_row of_row (Some found) = found == of_row
 
 -- whether a thread becomes known to io_uring by what it does: as it makes a ring or gives rings numbers, or as it is asked to submit, whatever is published, but not on a ring whose own thread takes entries (IORING_SETUP_SQPOLL). No other call makes it known, as one that waits, cancels or registers files. What Linux 6.18 was seen to do
 abbrev pub makes_known : Deed → Bool

@@ -78,6 +78,16 @@ pub fn dismiss(rows: &mut [u64], row: u32)
     put(rows, row, 0);
 }
 
+/// Whether the descriptor of a row that has this ring is closed as it is emptied, which is open on that one by now, or on none.
+pub fn closes_row(of_row: u32, found: Option<u32>) -> bool
+    ensures { result ≡ spec.closes_row of_row found }
+{
+    match found {
+        Some(ring) => ring == of_row,
+        None => false,
+    }
+}
+
 /// What a thread does by which it may become known to io_uring.
 #[derive(Clone, Copy, Drop)]
 pub enum Deed {

@@ -51,6 +51,7 @@ pub use call_laws::can_be_allowed;
 pub use call_laws::is_made_by_right;
 pub use enrolled::Deed;
 pub use enrolled::begin_rows;
+pub use enrolled::closes_row;
 pub use enrolled::dismiss;
 pub use enrolled::dismissed_rows;
 pub use enrolled::dismissing_fault;

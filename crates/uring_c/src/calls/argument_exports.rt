@@ -6,7 +6,7 @@ ghost use Rattle.uring_c.specs.RoundForm.{goes_on, submitted_of};
 
 use uring_enter::{
     Argument, Extended, Given, Round, Rounds, argument_fault, given_by, mask_fault, reads_argument,
-    with_fault,
+    slept_with, with_fault,
 };
 
 /// Whether a call reads its last argument that is asked to submit so many entries, and whose submission came to this.
@@ -39,6 +39,14 @@ pub extern "C" fn wulgach_mask_fault(size: u64, is_readable: bool) -> i32
     ensures { result ≡ spec.mask_fault size is_readable }
 {
     mask_fault(size, is_readable)
+}
+
+/// The mask with which a call sleeps that gives this one, where calls are trapped or aren't.
+#[unsafe(no_mangle)]
+pub extern "C" fn wulgach_slept_with(mask: u64, is_trapped: bool) -> u64
+    ensures { result ≡ spec.slept_with mask is_trapped }
+{
+    slept_with(mask, is_trapped)
 }
 
 /// What a submission comes to that came to this, and behind which the call's argument has this fault, or 0.

@@ -5,7 +5,7 @@ ghost use Rattle.uring_c.specs.SleepForm.{word_of_sleep, step_of};
 
 use uring_enter::{
     BeforeSleep, Beginning, SleepOnto, asks_elapsed, looked_at_before_sleep, looked_at_behind,
-    may_name, next_before_sleep,
+    may_name, next_before_sleep, tries_again,
 };
 
 /// Whether a descriptor of this process may name a ring that was made by that one.
@@ -30,6 +30,14 @@ pub extern "C" fn wulgach_looked_at_behind(may_be_left: bool, rings: u32, elapse
     ensures { result ≡ spec.looked_at_behind may_be_left rings elapsed }
 {
     looked_at_behind(may_be_left, rings, elapsed)
+}
+
+/// Whether the lock of all rings is tried once more behind a close in a handler, which was tried so often.
+#[unsafe(no_mangle)]
+pub extern "C" fn wulgach_tries_rings_again(tries: u32) -> bool
+    ensures { result ≡ spec.tries_again tries }
+{
+    tries_again(tries)
 }
 
 /// Whether it matters to that how long ago it was.

@@ -2,14 +2,16 @@
 ghost use Rattle.std.specs.Prelude.{◌≡◌, if◌then◌else◌};
 ghost use Rattle.uring_enter.specs.GoingOn.Duties as spec;
 ghost use Rattle.uring_register.specs.Calling.{may_post as posts};
-ghost use Rattle.uring_c.specs.DutyForm.{word_of_duties};
+ghost use Rattle.uring_c.specs.DutyForm.{duties_at_reply_of, word_of_duties};
+ghost use Rattle.uring_crossing.specs.EnterForm.{reply_of};
 
 use uring_enter::{
     Duties, Resting, duties_at_begin, duties_at_register_begin, duties_at_register_return,
-    duties_at_rest, duties_at_return, duties_before, duties_before_posting, duties_before_sleep,
+    duties_at_reply, duties_at_rest, duties_at_return, duties_before, duties_before_posting, duties_before_sleep,
     duties_behind_posting, duties_behind_storing, duties_when_stuck, polls_instance, polls_writes,
 };
 use uring_register::may_post;
+use uring_crossing::enter_words::ReplyWords;
 
 /// What a call does as it begins, or has slept, as a set of duties.
 #[unsafe(no_mangle)]
@@ -37,6 +39,17 @@ pub extern "C" fn wulgach_duties_when_stuck(
     ensures { result ≡ word_of_duties (spec.when_stuck resting.now has_eventfd has_shown) }
 {
     duties_word(duties_when_stuck(resting, has_eventfd, has_shown))
+}
+
+/// What it does before it is told what became of what it wanted.
+#[unsafe(no_mangle)]
+pub extern "C" fn wulgach_duties_at_reply(reply: &ReplyWords, has_ends: bool) -> u32
+    ensures { result ≡ duties_at_reply_of (reply_of reply.now) has_ends }
+{
+    match reply.reply() {
+        Some(told) => duties_word(duties_at_reply(told, has_ends)),
+        None => 0,
+    }
 }
 
 /// What it does as it falls asleep.

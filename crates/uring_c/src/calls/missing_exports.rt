@@ -29,14 +29,13 @@ fn missing(word: u32) -> Option<Missing>
 {
     match word {
         0 => Some(Missing::File),
-        1 => Some(Missing::Direction),
-        2 => Some(Missing::Buffer),
-        3 => Some(Missing::Memory),
-        4 => Some(Missing::OwnMemory),
-        5 => Some(Missing::PathEnd),
-        6 => Some(Missing::Room),
-        7 => Some(Missing::Provided),
-        8 => Some(Missing::Request),
+        1 => Some(Missing::Buffer),
+        2 => Some(Missing::Memory),
+        3 => Some(Missing::OwnMemory),
+        4 => Some(Missing::PathEnd),
+        5 => Some(Missing::Room),
+        6 => Some(Missing::Provided),
+        7 => Some(Missing::Request),
         _ => None,
     }
 }

@@ -8,7 +8,9 @@ ghost use Rattle.uring_c.specs.RingForm.{form_of_word};
 
 use crate::operations::form_exports::form_word;
 use uring_crossing::whole_call_memory::EntryWords;
-use uring_enter::{CoreEntry, core_entry_before, core_entry_of, extra_of, is_one_chain, slot_of};
+use uring_enter::{
+    CoreEntry, core_entry_before, core_entry_of, extra_of, is_one_chain, slot_of, told_of_end,
+};
 use uring_operations::{Form, Layout, Member, Submission, layout_of, no_op_result};
 
 /// Whether an index word names a slot of a table of so many entries: the one of that number.
@@ -68,6 +70,14 @@ pub extern "C" fn wulgach_extra_of(linux_rules: bool, code: &mut u8) -> u32
     let extra = extra_of(linux_rules);
     *code = extra.code;
     form_word(extra.form)
+}
+
+/// What the core is told of the end of a request that it let start.
+#[unsafe(no_mangle)]
+pub extern "C" fn wulgach_told_of_end(is_success: bool) -> i32
+    ensures { result ≡ spec.told_of_end is_success }
+{
+    told_of_end(is_success)
 }
 
 pub(crate) fn form_by_word(word: u32) -> Form

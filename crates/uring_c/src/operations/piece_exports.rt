@@ -109,6 +109,7 @@ fn what_word(what: What) -> u32
         What::Value => 6,
         What::Message => 7,
         What::Address => 8,
+        What::HowRest => 9,
     }
 }
 

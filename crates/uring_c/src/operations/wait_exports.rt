@@ -183,10 +183,15 @@ pub extern "C" fn wulgach_no_buffer_fault(entry: &Submission, nature: &Nature) -
     no_buffer_fault(entry, nature)
 }
 
-/// With what the transfer of an entry, of so many bytes, fails as it starts, where its descriptor is this; or 0.
+/// With what the operation of an entry, of so many bytes, fails as it starts, where its descriptor is this, and is open for it, or is of the wrong kind; or 0.
 #[unsafe(no_mangle)]
-pub extern "C" fn wulgach_start_fault(entry: &Submission, length: u64, nature: &Nature) -> i32
-    ensures { result ≡ found.start_fault entry.now length nature.now }
+pub extern "C" fn wulgach_start_fault(
+    entry: &Submission,
+    is_wrong: bool,
+    length: u64,
+    nature: &Nature,
+) -> i32
+    ensures { result ≡ found.start_fault entry.now is_wrong length nature.now }
 {
-    start_fault(entry, length, nature)
+    start_fault(entry, is_wrong, length, nature)
 }

@@ -4,10 +4,11 @@ ghost use Rattle.uring_register.specs.Enrolling.{Enrolling, Enrolled, Dismissed,
 ghost use Rattle.uring_register.specs.Enrolling as spec;
 ghost use Rattle.uring_register.specs.Numbering as numbering;
 ghost use Rattle.uring_c.specs.PassageForm.{word_of_row, row_stage_of, deed_of};
+ghost use Rattle.uring_c.specs.PinningForm.{known_of};
 
 use uring_register::{
-    Deed, RowOnto, RowStage, begin_rows, dismiss, dismissed_rows, dismissing_fault, enroll,
-    enrolling_fault, go_in_round, is_known, known_behind, named, next_of_row, row_for,
+    Deed, RowOnto, RowStage, begin_rows, closes_row, dismiss, dismissed_rows, dismissing_fault,
+    enroll, enrolling_fault, go_in_round, is_known, known_behind, named, next_of_row, row_for,
 };
 
 /// No row holds a ring.
@@ -52,6 +53,14 @@ fn row_word(onto: RowOnto) -> u32
         RowOnto::Empties(_) => 6,
         RowOnto::IsDone => 7,
     }
+}
+
+/// Whether the descriptor of a row that has this ring is closed as it is emptied, which is open on a ring by now, this one, or on none.
+#[unsafe(no_mangle)]
+pub extern "C" fn wulgach_closes_row(of_row: u32, is_ring: bool, found: u32) -> bool
+    ensures { result ≡ spec.closes_row of_row (known_of is_ring found) }
+{
+    closes_row(of_row, if is_ring { Some(found) } else { None })
 }
 
 /// The fault of enrolling a ring in the row of this number, or in any, before one is looked for; or 0.

@@ -1,6 +1,7 @@
 -- The last arguments of a call. io_uring_enter(2), IORING_ENTER_GETEVENTS and IORING_ENTER_EXT_ARG; what is read when, and the order of the faults, is what Linux 6.18 does.
 use Rattle.std.specs.Prelude.{ℕ, ℤ, pos, Bool, not, ◌&&◌, ◌==◌, if◌then◌else◌}
 use Rattle.std.specs.Ordering.{int_eq}
+use Rattle.std.specs.Int.RustNames.{bit_and}
 use Rattle.uring_entry.specs.Errors.{error}
 use Rattle.uring_operations.specs.Entries.Clocks.{has_some}
 use Rattle.uring_enter.specs.Call.Replies.{is_none}
@@ -33,6 +34,10 @@ abbrev pub mask_fault : ℕ → Bool → ℤ
 mask_fault size is_readable =
     if not (size == 8) then error 22 else
     if is_readable then pos 0 else error 14
+
+-- with which mask a call sleeps that gives this one: where calls are trapped, a handler that runs meanwhile may call too, by SIGSYS (31), which stays open whatever is asked. Our own rule: a kernel's sleeps with what it gives
+abbrev pub slept_with : (mask : ℕ) → (is_trapped : Bool) → ℕ
+slept_with mask is_trapped = if is_trapped then bit_and mask 18446744072635809791 else mask
 
 -- how many entries were submitted, or why none was, stands above a fault of the argument
 abbrev pub with_fault : ℤ → ℤ → ℤ

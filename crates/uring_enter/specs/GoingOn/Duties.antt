@@ -2,6 +2,8 @@
 use Rattle.std.specs.Prelude.{◌≡◌, ℕ, Bool, true, false, not, ◌&&◌, ◌||◌, ◌==◌, nat_lt, if◌then◌else◌}
 use Rattle.uring_enter.specs.declared.going_on.duties.Duties.{Duties}
 use Rattle.uring_enter.specs.declared.going_on.duties.Resting.{Resting}
+use Rattle.uring_enter.specs.declared.call.reply.Reply.{Reply}
+use Rattle.uring_enter.specs.declared.call.reply.Reply.TheVariants as reply
 
 pub data Duty : Type 0 where
   LooksAfresh : Duty
@@ -89,6 +91,31 @@ abbrev pub when_stuck : Resting → (has_eventfd has_shown : Bool) → Duties
 when_stuck r has_eventfd has_shown = record nothing {
   shows_ends = has_eventfd && not has_shown && r.has_ends;
 }
+
+-- whether what became of what a call wanted says what is seen of its ring
+abbrev pub has_sight : Reply → Bool
+has_sight (reply.Heard _) = true
+has_sight reply.WrongHead = false
+has_sight (reply.Taken _ _) = true
+has_sight (reply.NotTaken _ _) = true
+has_sight (reply.WentOn _) = true
+has_sight reply.Chosen = false
+has_sight (reply.Stuck _) = true
+has_sight reply.Woken = false
+has_sight (reply.TimedOut _) = true
+has_sight (reply.Interrupted _) = true
+has_sight reply.Endless = false
+has_sight (reply.Failed _) = false
+has_sight reply.Passed = false
+
+-- before a call is told what became of what it wanted: what has ended is shown where it is told how many completions are ready, which are those that the application can reap. What goes on until nothing can is told once
+abbrev pub at_reply : Reply → (has_ends : Bool) → Duties
+at_reply r has_ends = record nothing { shows_ends = has_ends && has_sight r }
+
+-- nothing is to be done where nothing has ended that isn't shown, and in a ring without an eventfd as it is stuck: neither needs to be asked
+abbrev pub NeedsNoAsking : Type 0
+NeedsNoAsking = (told : Reply) (r : Resting) (has_shown : Bool)
+    → (at_reply told false ≡ nothing) × (when_stuck r false has_shown ≡ nothing)
 
 -- whether those that wait for their descriptors become dormant, of which an epoll instance tells in the place of a look at each in each call: more of them run than are looked at in passing
 abbrev pub are_many : Resting → Bool

@@ -1,5 +1,5 @@
 -- Whose ring a descriptor names, when it is looked whether rings are closed, and what a call does before it sleeps. Our own rules: a ring is of the process that made it, and not every close of a descriptor is heard.
-use Rattle.std.specs.Prelude.{◌≡◌, ℕ, ℤ, Bool, false, not, ◌&&◌, ◌==◌, nat_le, Option, Some, None, if◌then◌else◌}
+use Rattle.std.specs.Prelude.{◌≡◌, ℕ, ℤ, Bool, false, not, ◌&&◌, ◌==◌, nat_lt, nat_le, Option, Some, None, if◌then◌else◌}
 use Rattle.uring_enter.specs.Waiting.Sleeping.{beginning_of}
 use Rattle.uring_enter.specs.declared.waiting.sleeping.Beginning.TheVariants.{Wakes, Sleeps}
 use Rattle.uring_enter.specs.declared.rings.closing.BeforeSleep.{BeforeSleep}
@@ -36,6 +36,10 @@ asks_elapsed may_be_left rings = not may_be_left && nat_le 2 rings
 abbrev pub ElapsedMattersWhereAsked : Type 0
 ElapsedMattersWhereAsked = (may_be_left : Bool) (rings one other : ℕ) → asks_elapsed may_be_left rings ≡ false
     → looked_at_behind may_be_left rings one ≡ looked_at_behind may_be_left rings other
+
+-- whether the lock of all rings is tried once more behind a close in a signal's handler, which was tried so often: a hundred times, with a moment for others between two. Who has it may wait for what the handler's own thread has, so that it would never get it: then whoever ends a call next looks
+abbrev pub tries_again : (tries : ℕ) → Bool
+tries_again tries = nat_lt tries 100
 
 -- what is done before a call sleeps, in this order: rings that were closed let go what they have, and where one has, the call looks again, before any fault of its arguments counts; its mask is read; and what is due is done, behind which a fault ends it, and what a poll was told has it look again
 abbrev pub next_before_sleep : Option BeforeSleep → (has_brought : Bool) → ℤ → SleepOnto

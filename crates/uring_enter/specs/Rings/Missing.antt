@@ -4,10 +4,9 @@ use Rattle.uring_entry.specs.Errors.{error, is_below}
 use Rattle.uring_enter.specs.declared.rings.missing.Missing.{Missing}
 use Rattle.uring_enter.specs.declared.rings.missing.Missing.TheVariants as missing
 
--- -9 (EBADF): a descriptor isn't open, a slot has no file, or a file isn't open for the direction of a transfer, read(2). -14 (EFAULT): a registered buffer isn't there, or memory can't be read or written; so Linux 6.18 has it too of a buffer without room for what stands in front of a message. -12 (ENOMEM): there is no memory for what is kept of a ring, as what is registered, a message or a sleep; io_uring_setup(2) and io_uring_register(2), ERRORS. -36 (ENAMETOOLONG): a path doesn't end within 4,096 bytes, path_resolution(7). -105 (ENOBUFS): a group has no buffer. -2 (ENOENT): there is no request that an update or a removal names
+-- -9 (EBADF): a descriptor isn't open, or a slot has no file. -14 (EFAULT): a registered buffer isn't there, or memory can't be read or written; so Linux 6.18 has it too of a buffer without room for what stands in front of a message. -12 (ENOMEM): there is no memory for what is kept of a ring, as what is registered, a message or a sleep; io_uring_setup(2) and io_uring_register(2), ERRORS. -36 (ENAMETOOLONG): a path doesn't end within 4,096 bytes, path_resolution(7). -105 (ENOBUFS): a group has no buffer. -2 (ENOENT): there is no request that an update or a removal names
 abbrev pub missing_fault : Missing → ℤ
 missing_fault missing.File = error 9
-missing_fault missing.Direction = error 9
 missing_fault missing.Buffer = error 14
 missing_fault missing.Memory = error 14
 missing_fault missing.PathEnd = error 36

@@ -1,5 +1,5 @@
 -- What is read of the submission ring, and what the core is given of it. io_uring(7), Submitting I/O requests; that the core is told no more of an entry is our own rule.
-use Rattle.std.specs.Prelude.{ℕ, pos, List, Bool, not, ◌&&◌, ◌==◌, nat_lt, Option, Some, None, if◌then◌else◌}
+use Rattle.std.specs.Prelude.{ℕ, ℤ, pos, List, Bool, not, ◌&&◌, ◌==◌, nat_lt, Option, Some, None, if◌then◌else◌}
 use Rattle.uring_enter.specs.declared.taking_up.core_entry.CoreEntry.{CoreEntry}
 use Rattle.uring_enter.specs.declared.taking_up.core_entry.Extra.{Extra}
 use Rattle.uring_operations.specs.declared.entries.form.Form.{Form}
@@ -49,6 +49,10 @@ flags_before flags next linux =
 abbrev pub extra_of : (linux : Bool) → Extra
 extra_of linux =
     if linux then record { code = 255; form = Refused (error 22) } else record { code = 0; form = Token }
+
+-- what the core is told of the end of a request that it let start: 0 of a success, and -9 (EBADF) of any failure, as an fsync ends whose descriptor has no file. Which failure it was matters to none of its rules. An extra one that it lets start succeeds. Our own rule
+abbrev pub told_of_end : (is_success : Bool) → ℤ
+told_of_end is_success = if is_success then pos 0 else error 9
 
 -- the core's entry of an application's
 abbrev pub core_entry_of : Submission → Form → CoreEntry

@@ -1,7 +1,7 @@
 //! The last arguments of a call: whether they are read, and which are refused. io_uring_enter(2), IORING_ENTER_EXT_ARG.
 
 ghost use Rattle.std.specs.Prelude.{◌≡◌};
-ghost use Rattle.uring_enter.specs.Call.Arguments.{is_extended, is_read, given_by, argument_fault, mask_fault, with_fault};
+ghost use Rattle.uring_enter.specs.Call.Arguments.{is_extended, is_read, given_by, argument_fault, mask_fault, slept_with, with_fault};
 
 /// The last argument of a call, as far as it was read.
 #[repr(C)]
@@ -108,6 +108,17 @@ pub fn mask_fault(size: u64, is_readable: bool) -> i32
         0
     } else {
         -14
+    }
+}
+
+/// With which mask a call sleeps that gives this one, where calls are trapped by SIGSYS or aren't.
+pub fn slept_with(mask: u64, is_trapped: bool) -> u64
+    ensures { result ≡ slept_with mask is_trapped }
+{
+    if is_trapped {
+        mask & 0xffff_ffff_bfff_ffff
+    } else {
+        mask
     }
 }
 

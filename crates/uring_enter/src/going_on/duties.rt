@@ -2,7 +2,9 @@
 
 ghost use Rattle.std.specs.Prelude.{◌≡◌};
 ghost use Rattle.uring_enter.specs.GoingOn.Duties as spec;
-ghost use Rattle.uring_enter.specs.GoingOn.Duties.{ShowsAtLast, TellsOfWhatIsShown, WatchesWhatIsHeld, LiesBehindPipes, RegistersAsItEnters, HearsBeforeItPosts};
+ghost use Rattle.uring_enter.specs.GoingOn.Duties.{ShowsAtLast, TellsOfWhatIsShown, WatchesWhatIsHeld, LiesBehindPipes, RegistersAsItEnters, HearsBeforeItPosts, NeedsNoAsking};
+
+use crate::call::reply::Reply;
 
 /// What is to be done at a moment of a call, in the order in which it stands here.
 #[derive(Clone, Copy, Drop)]
@@ -127,6 +129,29 @@ pub fn duties_when_stuck(resting: &Resting, has_eventfd: bool, has_shown: bool) 
     }
 }
 
+/// Before a call is told what became of what it wanted.
+pub fn duties_at_reply(reply: Reply, has_ends: bool) -> Duties
+    ensures { result ≡ spec.at_reply reply has_ends }
+{
+    Duties {
+        shows_ends: has_ends && has_sight(reply),
+        ..NONE
+    }
+}
+
+/// Whether what became of what a call wanted says what is seen of its ring.
+fn has_sight(reply: Reply) -> bool
+    ensures { result ≡ spec.has_sight reply }
+{
+    match reply {
+        Reply::Heard(_) | Reply::WentOn(_) | Reply::Stuck(_) => true,
+        Reply::Taken(_, _) | Reply::NotTaken(_, _) => true,
+        Reply::TimedOut(_) | Reply::Interrupted(_) => true,
+        Reply::WrongHead | Reply::Chosen | Reply::Woken => false,
+        Reply::Endless | Reply::Failed(_) | Reply::Passed => false,
+    }
+}
+
 /// As a call falls asleep.
 pub fn duties_at_rest(resting: &Resting) -> Duties
     ensures { result ≡ spec.at_rest resting.now }
@@ -230,6 +255,11 @@ pub fn polls_instance(dormant: u64) -> bool
 {
     dormant > 0
 }
+
+/// Nothing is to be done before a reply where all is shown that has ended, nor where nothing can go on in a ring without an eventfd.
+pub fn needs_no_asking()
+    ensures { NeedsNoAsking }
+{}
 
 /// The flags are shown behind all else that a call does as it returns.
 pub fn shows_at_last()

@@ -9,9 +9,6 @@ pub enum Missing {
     /// A file: a descriptor that is open, or a slot that has one.
     File,
 
-    /// A file that is open for reading, or for writing, as is asked.
-    Direction,
-
     /// A registered buffer.
     Buffer,
 
@@ -39,7 +36,7 @@ pub fn missing_fault(what: Missing) -> i32
     ensures { result ≡ spec.missing_fault what }
 {
     match what {
-        Missing::File | Missing::Direction => -9,
+        Missing::File => -9,
         Missing::Buffer | Missing::Memory | Missing::Room => -14,
         Missing::OwnMemory => -12,
         Missing::PathEnd => -36,

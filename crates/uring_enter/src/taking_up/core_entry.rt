@@ -121,6 +121,13 @@ pub fn extra_of(linux: bool) -> Extra
     }
 }
 
+/// What the core is told of the end of a request that it let start, which has succeeded or failed: no rule of its asks which failure it was.
+pub fn told_of_end(is_success: bool) -> i32
+    ensures { result ≡ spec.told_of_end is_success }
+{
+    if is_success { 0 } else { -9 }
+}
+
 fn code_of(form: Form, entry: &Submission) -> u8
     ensures { result ≡ spec.code_of form entry.now }
 {

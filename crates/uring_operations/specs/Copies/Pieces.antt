@@ -3,7 +3,7 @@ use Rattle.std.specs.Prelude.{ℕ, ℤ, pos, ◌+◌, ◌*◌, Bool, not, ◌&&�
 use Rattle.std.specs.Int.RustNames.{bit_and}
 use Rattle.uring_operations.specs.declared.entries.submission.Submission.{Submission}
 use Rattle.uring_operations.specs.declared.copies.piece.What.{What}
-use Rattle.uring_operations.specs.declared.copies.piece.What.TheVariants.{Buffer, Vectors, Path, SecondPath, How, Time, Value, Message, Address}
+use Rattle.uring_operations.specs.declared.copies.piece.What.TheVariants.{Buffer, Vectors, Path, SecondPath, How, Time, Value, Message, Address, HowRest}
 use Rattle.uring_operations.specs.declared.copies.piece.Piece.{Piece}
 use Rattle.uring_operations.specs.Entries.Clocks.{has_some}
 use Rattle.uring_operations.specs.Files.PipeOpens.{flags_of}
@@ -51,8 +51,8 @@ first_of e =
     if e.opcode == 12 then unless (e.op_flags == 0) Time e.off 16 else
     -- CONNECT and BIND
     if e.opcode == 16 || e.opcode == 56 then stands Address e.addr (bit_and e.off 4294967295) else
-    -- OPENAT2, whose structure says its size
-    if e.opcode == 28 then stands How e.off e.len else
+    -- OPENAT2, whose entry says how long its structure is: what is newer there than the 24 bytes that are known
+    if e.opcode == 28 then stands HowRest e.off e.len else
     -- OPENAT, STATX, RENAMEAT, UNLINKAT, MKDIRAT, SYMLINKAT and LINKAT
     if e.opcode == 18 || e.opcode == 21 || nat_le 35 e.opcode && nat_le e.opcode 39 then path_at Path e.addr else
     -- EPOLL_CTL, but for EPOLL_CTL_DEL
@@ -63,8 +63,8 @@ first_of e =
 -- what is copied second
 abbrev pub second_of : Submission → Option Piece
 second_of e =
-    -- OPENAT2
-    if e.opcode == 28 then path_at Path e.addr else
+    -- OPENAT2: what is known
+    if e.opcode == 28 then stands How e.off 24 else
     -- RENAMEAT, SYMLINKAT and LINKAT
     if e.opcode == 35 || e.opcode == 38 || e.opcode == 39 then path_at SecondPath e.off else
     -- FSETXATTR and SETXATTR, if the value has a byte
@@ -74,9 +74,11 @@ second_of e =
     -- SEND and SEND_ZC
     if e.opcode == 26 || e.opcode == 47 then address_of e else None
 
--- and third: the path of a SETXATTR behind its value
+-- and third: the path of an OPENAT2, and of a SETXATTR behind its value
 abbrev pub third_of : Submission → Option Piece
-third_of e = if e.opcode == 42 && not (e.len == 0) then path_at Path e.addr3 else None
+third_of e =
+    if e.opcode == 28 then path_at Path e.addr else
+    if e.opcode == 42 && not (e.len == 0) then path_at Path e.addr3 else None
 
 abbrev pub piece_of : Submission → ℕ → Option Piece
 piece_of e place =

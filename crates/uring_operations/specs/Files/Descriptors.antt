@@ -16,35 +16,40 @@ use Rattle.uring_operations.specs.declared.files.descriptor.Finding.{Finding}
 use Rattle.uring_operations.specs.declared.files.descriptor.Finding.TheVariants.{Asks, Is}
 use Rattle.uring_operations.specs.Entries.Clocks.{has_some}
 use Rattle.uring_operations.specs.Entries.Needs.{is_read, is_write, is_transfer, is_of_sockets, is_splice, is_poll, needs_file}
+use Rattle.uring_operations.specs.Requests.Readiness.{polls_first}
 use Rattle.uring_entry.specs.Errors.{error, is_below}
 
--- whether a transfer may be made before its descriptor is asked whether it may have to wait: it moves something, at an offset, with no flags and no provided buffer; it wasn't tried before, and no choice rests on the answer. Our own rule
+-- an offset of 2^63 or more, which no file has; but 2^64 - 1 is none
+abbrev pub has_no_place : Submission → Bool
+has_no_place e = nat_le (2 ^ 63) e.off && not (e.off == 2 ^ 64 - 1)
+
+-- whether a transfer may be made before its descriptor is asked whether it may have to wait: it moves something, at an offset that a file may have, with no flags and no provided buffer; it wasn't tried before, and no choice rests on the answer. Our own rule
 abbrev pub may_be_tried : Submission → Trial → Bool
 may_be_tried e t =
-    is_transfer e.opcode && not (e.off == 2 ^ 64 - 1) && e.op_flags == 0 && not (has_some e.flags 32)
+    is_transfer e.opcode && nat_lt e.off (2 ^ 63) && e.op_flags == 0 && not (has_some e.flags 32)
     && not (t.length == 0) && not t.was_tried && not t.is_asked_before
 
 -- whether nothing at all is asked before: it is a read by the number of what was a file, which is asked not to wait
 abbrev pub is_tried_at_once : Submission → Trial → Bool
 is_tried_at_once e t = is_read e.opcode && t.was_file && may_be_tried e t
 
--- of the access mode (O_ACCMODE, 3) O_RDONLY is 0, O_WRONLY 1 and O_RDWR 2; 3 is open for neither. open(2)
+-- of the access mode (O_ACCMODE, 3) O_RDONLY is 0, O_WRONLY 1 and O_RDWR 2; 3 is open for neither, and so is what is open for its path alone (O_PATH, 2^21). open(2)
 abbrev pub directions_of : (flags : ℕ) → Directions
 directions_of flags = record {
-  can_read = bit_and flags 3 == 0 || bit_and flags 3 == 2;
-  can_write = bit_and flags 3 == 1 || bit_and flags 3 == 2;
+  can_read = not (has_some flags 2097152) && (bit_and flags 3 == 0 || bit_and flags 3 == 2);
+  can_write = not (has_some flags 2097152) && (bit_and flags 3 == 1 || bit_and flags 3 == 2);
 }
 
 -- whether a descriptor is open for a transfer's direction
 abbrev pub is_open_for : ℕ → Nature → Bool
 is_open_for code d = if is_read code then d.can_read else d.can_write
 
--- a transfer waits on what has no offsets, as a pipe, and on a device; what isn't open for it never gets ready, and so it fails. A file never waits
+-- a transfer waits on what has no offsets, as a pipe, and on a device; what isn't open for it never gets ready, and so it fails. A file never waits; but where it has no place there, its call would say that before it says that it isn't open for it
 abbrev pub transfer_on : Submission → Trial → Nature → Kind
 transfer_on e t d =
     if d.is_file && may_be_tried e t then Tried else
-    if not d.is_device && d.has_offsets then Never else
-    if is_open_for e.opcode d then Stream else Wrong
+    if not d.is_device && d.has_offsets && not (has_no_place e) then Never else
+    if is_open_for e.opcode d then (if not d.is_device && d.has_offsets then Never else Stream) else Wrong
 
 -- an operation of sockets waits on a socket; on anything else it fails at once. What isn't open fails too
 abbrev pub kind_on : Submission → Trial → Nature → Kind
@@ -65,9 +70,9 @@ abbrev pub asks_of_transfer : Submission → Trial → Known → Finding
 asks_of_transfer e t k =
     if k.nature.is_file && may_be_tried e t then Is Tried else
     if not k.nature.is_device && not k.offsets then Asks Offsets else
-    if not k.nature.is_device && k.nature.has_offsets then Is Never else
+    if not k.nature.is_device && k.nature.has_offsets && not (has_no_place e) then Is Never else
     if not k.access then Asks Access else
-    if is_open_for e.opcode k.nature then Is Stream else Is Wrong
+    if is_open_for e.opcode k.nature then Is (if not k.nature.is_device && k.nature.has_offsets then Never else Stream) else Is Wrong
 
 -- the same of a descriptor of which it was asked what it is
 abbrev pub asks_behind_status : Submission → Trial → Known → Finding
@@ -119,9 +124,9 @@ buffer_fault e d why =
 abbrev pub no_buffer_fault : Submission → Nature → ℤ
 no_buffer_fault e d = buffer_fault e d (if has_some e.flags 32 then error 105 else error 14)
 
--- whether it matters to what it ends with that had this fault as it started, whether its group has a buffer: of one that takes a provided buffer, whatever the fault, as -9 (EBADF) of a descriptor that is open in the wrong direction; but -77 (EBADFD), of one that can't be polled, comes before
+-- whether it matters to what it ends with that had this fault as it started, whether its group has a buffer: of a transfer that takes a provided buffer, whatever the fault, as -9 (EBADF) of a descriptor that is open in the wrong direction; but -77 (EBADFD), of one that can't be polled, comes before. A message takes its buffer behind all these
 abbrev pub fault_asks_buffer : Submission → ℤ → Bool
-fault_asks_buffer e fault = has_some e.flags 32 && is_below fault && not (int_eq fault (error 77))
+fault_asks_buffer e fault = is_transfer e.opcode && has_some e.flags 32 && is_below fault && not (int_eq fault (error 77))
 
 -- what it ends with that had this fault as it started: that it finds no buffer counts before that. What Linux 6.18 was seen to do
 abbrev pub ends_at_start : Submission → ℤ → (has_buffer : Bool) → Nature → ℤ
@@ -153,9 +158,30 @@ offset_fault offset length is_socket =
     if nat_le (2 ^ 63) (offset + length) then error 22 else
     if is_socket && not (offset == 0) then error 29 else pos 0
 
--- with what a transfer fails as it starts, though its descriptor might have to be waited for: -22 (EINVAL) of one that is too short for what counts (eventfd(2), timerfd_create(2)), and else by its offset, which is none where it is 2^64 - 1. 0: it doesn't
-abbrev pub start_fault : Submission → ℕ → Nature → ℤ
-start_fault e length d =
-    if not (is_transfer e.opcode) then pos 0 else
+-- the fault of a transfer's flags on what has no offsets: -95 (EOPNOTSUPP) of one that there isn't, from 2^9 on, and of RWF_ATOMIC (64) and RWF_DONTCACHE (128); -22 (EINVAL) of RWF_APPEND (16) beside RWF_NOAPPEND (32), and of RWF_HIPRI (1), in this order. preadv2(2); what Linux 6.18 was seen to do
+abbrev pub flags_fault : (flags : ℕ) → ℤ
+flags_fault flags =
+    if nat_le 512 flags then error 95 else
+    if has_some flags 16 && has_some flags 32 then error 22 else
+    if has_some flags 192 then error 95 else
+    if has_some flags 1 then error 22 else pos 0
+
+-- with what a transfer fails as it starts by its flags, where they count there; else by being too short for what counts, -22 (EINVAL; eventfd(2), timerfd_create(2)), or by its offset, which is none where it is 2^64 - 1
+abbrev pub fault_behind_flags : Submission → ℕ → Nature → ℤ → ℤ
+fault_behind_flags e length d fault =
+    if passes_offset_over d && is_below fault then fault else
     if d.is_counter && is_too_short e length then error 22 else
     if passes_offset_over d && not (e.off == 2 ^ 64 - 1) then offset_fault e.off length d.is_socket else pos 0
+
+-- a message that asks for a poll first, and isn't to wait (MSG_DONTWAIT, 64), is never polled: it ends with -11 (EAGAIN), whatever its socket has. What Linux 6.18 was seen to do
+abbrev pub is_never_polled : Submission → Nature → Bool
+is_never_polled e d = polls_first e && has_some e.op_flags 64 && d.is_socket
+
+-- with what an operation fails as it starts, though its descriptor might have to be waited for: that isn't open for it (Wrong), or isn't open at all where its call would look at the offset first, -9 (EBADF); and as above. 0: it doesn't
+abbrev pub start_fault : Submission → (is_wrong : Bool) → ℕ → Nature → ℤ
+start_fault e is_wrong length d =
+    if is_wrong then error 9 else
+    if is_never_polled e d then error 11 else
+    if not (is_transfer e.opcode) then pos 0 else
+    if has_no_place e && not d.is_open then error 9 else
+    fault_behind_flags e length d (flags_fault e.op_flags)

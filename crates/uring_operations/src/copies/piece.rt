@@ -27,7 +27,7 @@ pub enum What {
     /// The second path, or the name of an attribute.
     SecondPath,
 
-    /// How a file is opened.
+    /// How a file is opened, as far as is known.
     How,
 
     /// A time.
@@ -41,6 +41,9 @@ pub enum What {
 
     /// The address of a socket.
     Address,
+
+    /// What is newer in how a file is opened, behind the 24 bytes that are known: that is looked at, and not copied.
+    HowRest,
 }
 
 /// A piece of the application's memory.
@@ -83,7 +86,7 @@ fn first_of(entry: &Submission) -> Option<Piece>
         12 => unless(entry.op_flags == 0, What::Time, entry.off, 16),
         16 | 56 => stands(What::Address, entry.addr, entry.off & 0xffff_ffff),
         18 | 21 | 35..=39 => stands(What::Path, entry.addr, PATH_SIZE),
-        28 => stands(What::How, entry.off, entry.len as u64),
+        28 => stands(What::HowRest, entry.off, entry.len as u64),
         29 => unless(entry.len == 2, What::Value, entry.addr, 12),
         41..=44 => stands(What::SecondPath, entry.addr, NAME_SIZE),
         _ => None,
@@ -94,7 +97,7 @@ fn second_of(entry: &Submission) -> Option<Piece>
     ensures { result ≡ spec.second_of entry.now }
 {
     match entry.opcode {
-        28 => stands(What::Path, entry.addr, PATH_SIZE),
+        28 => stands(What::How, entry.off, 24),
         35 | 38 | 39 => stands(What::SecondPath, entry.off, PATH_SIZE),
         41 => value_of(entry),
         42 if entry.len != 0 => value_of(entry),
@@ -108,6 +111,7 @@ fn third_of(entry: &Submission) -> Option<Piece>
     ensures { result ≡ spec.third_of entry.now }
 {
     match entry.opcode {
+        28 => stands(What::Path, entry.addr, PATH_SIZE),
         42 => unless(entry.len == 0, What::Path, entry.addr3, PATH_SIZE),
         _ => None,
     }

@@ -6,6 +6,7 @@ ghost use Rattle.uring_operations.specs.Files.Descriptors.{AsksOnce, FindsTheKin
 
 use crate::entries::needs::{is_of_sockets, is_read, is_splice, is_transfer, is_write, needs_file};
 use crate::entries::submission::Submission;
+use crate::requests::ready::polls_first;
 
 /// What a descriptor is.
 #[repr(C)]
@@ -142,11 +143,18 @@ pub fn next_finding(entry: &Submission, trial: &Trial, known: &Known) -> Finding
     }
 }
 
+/// Whether the offset of an entry is one that no file has.
+fn has_no_place(entry: &Submission) -> bool
+    ensures { result ≡ spec.has_no_place entry.now }
+{
+    entry.off > i64::MAX as u64 && entry.off != u64::MAX
+}
+
 /// Whether a transfer may be made before its descriptor is asked whether it may have to wait.
 fn may_be_tried(entry: &Submission, trial: &Trial) -> bool
     ensures { result ≡ spec.may_be_tried entry.now trial.now }
 {
-    let is_plain = entry.off != u64::MAX && entry.op_flags == 0 && entry.flags & 32 == 0;
+    let is_plain = entry.off <= i64::MAX as u64 && entry.op_flags == 0 && entry.flags & 32 == 0;
     let is_asked = trial.length == 0 || trial.was_tried || trial.is_asked_before;
     is_transfer(entry.opcode) && is_plain && !is_asked
 }
@@ -177,18 +185,21 @@ fn of_transfer(entry: &Submission, trial: &Trial, known: &Known) -> Finding
     ensures { result ≡ spec.asks_of_transfer entry.now trial.now known.now }
 {
     let nature = known.nature;
+    let never_waits = !nature.is_device && nature.has_offsets;
     if nature.is_file && may_be_tried(entry, trial) {
         Finding::Is(Kind::Tried)
     } else if !nature.is_device && !known.offsets {
         Finding::Asks(Question::Offsets)
-    } else if !nature.is_device && nature.has_offsets {
+    } else if never_waits && !has_no_place(entry) {
         Finding::Is(Kind::Never)
     } else if !known.access {
         Finding::Asks(Question::Access)
-    } else if is_open_for(entry.opcode, &nature) {
-        Finding::Is(Kind::Stream)
-    } else {
+    } else if !is_open_for(entry.opcode, &nature) {
         Finding::Is(Kind::Wrong)
+    } else if never_waits {
+        Finding::Is(Kind::Never)
+    } else {
+        Finding::Is(Kind::Stream)
     }
 }
 
@@ -203,14 +214,15 @@ fn is_open_for(code: u8, nature: &Nature) -> bool
     }
 }
 
-/// For which directions a descriptor is open that has these flags (F_GETFL). open(2), O_ACCMODE.
+/// For which directions a descriptor is open that has these flags (F_GETFL): for none if for its path alone. open(2), O_ACCMODE, O_PATH.
 pub fn directions_of(flags: u32) -> Directions
     ensures { result ≡ spec.directions_of flags }
 {
     let access = flags & 3;
+    let has_data = flags & 0x20_0000 == 0;
     Directions {
-        can_read: access == 0 || access == 2,
-        can_write: access == 1 || access == 2,
+        can_read: has_data && (access == 0 || access == 2),
+        can_write: has_data && (access == 1 || access == 2),
     }
 }
 
@@ -227,11 +239,11 @@ pub fn buffer_fault(entry: &Submission, nature: &Nature, why: i32) -> i32
     }
 }
 
-/// Whether it matters to what the request of an entry ends with, which had this fault as it started, whether its group has a buffer.
+/// Whether it matters to what the request of an entry ends with, which had this fault as it started, whether its group has a buffer: a message takes one only behind its faults.
 pub fn fault_asks_buffer(entry: &Submission, fault: i32) -> bool
     ensures { result ≡ spec.fault_asks_buffer entry.now fault }
 {
-    entry.flags & 32 != 0 && fault < 0 && fault != -77
+    is_transfer(entry.opcode) && entry.flags & 32 != 0 && fault < 0 && fault != -77
 }
 
 /// With what the request of an entry ends that had this fault as it started, where its group has a buffer, or that doesn't matter, or its descriptor is this.
@@ -285,12 +297,53 @@ pub fn no_buffer_fault(entry: &Submission, nature: &Nature) -> i32
     }
 }
 
-/// With what the transfer of an entry, of so many bytes, fails as it starts, where its descriptor is this; or 0.
-pub fn start_fault(entry: &Submission, length: u64, nature: &Nature) -> i32
-    ensures { result ≡ spec.start_fault entry.now length nature.now }
+/// With what the operation of an entry, of so many bytes, fails as it starts, where its descriptor is this, and is open for it, or is of the wrong kind; or 0.
+pub fn start_fault(entry: &Submission, is_wrong: bool, length: u64, nature: &Nature) -> i32
+    ensures { result ≡ spec.start_fault entry.now is_wrong length nature.now }
 {
-    if !is_transfer(entry.opcode) {
+    if is_wrong {
+        -9
+    } else if is_never_polled(entry, nature) {
+        -11
+    } else if !is_transfer(entry.opcode) {
         0
+    } else if has_no_place(entry) && !nature.is_open {
+        -9
+    } else {
+        fault_behind_flags(entry, length, nature, flags_fault(entry.op_flags))
+    }
+}
+
+/// Whether a message asks for a poll first, and isn't to wait for one. IORING_RECVSEND_POLL_FIRST, MSG_DONTWAIT.
+fn is_never_polled(entry: &Submission, nature: &Nature) -> bool
+    ensures { result ≡ spec.is_never_polled entry.now nature.now }
+{
+    polls_first(entry) && entry.op_flags & 64 != 0 && nature.is_socket
+}
+
+/// The fault of a transfer's flags on what has no offsets; or 0.
+fn flags_fault(flags: u32) -> i32
+    ensures { result ≡ spec.flags_fault flags }
+{
+    if flags >= 512 {
+        -95
+    } else if flags & 16 != 0 && flags & 32 != 0 {
+        -22
+    } else if flags & 192 != 0 {
+        -95
+    } else if flags & 1 != 0 {
+        -22
+    } else {
+        0
+    }
+}
+
+/// With what the transfer of an entry fails as it starts, where its flags have this fault, if they count there.
+fn fault_behind_flags(entry: &Submission, length: u64, nature: &Nature, fault: i32) -> i32
+    ensures { result ≡ spec.fault_behind_flags entry.now length nature.now fault }
+{
+    if passes_offset_over(nature) && fault < 0 {
+        fault
     } else if nature.is_counter && is_too_short(entry, length) {
         -22
     } else if passes_offset_over(nature) && entry.off != u64::MAX {

@@ -275,11 +275,18 @@ pub fn asks_listening(needs: &Needs, is_ready: bool) -> bool
     !is_ready && !needs.is_poll && !needs.needs_second
 }
 
+/// Whether a message asks that its descriptor is polled before it is carried out. IORING_RECVSEND_POLL_FIRST.
+pub(crate) fn polls_first(entry: &Submission) -> bool
+    ensures { result ≡ spec.polls_first entry.now }
+{
+    has_message_flags(entry.opcode) && entry.ioprio & 1 != 0
+}
+
 /// Whether a request that wasn't found ready as it starts is carried out once all the same: one that writes or sends; and one that reads or receives, whose socket counts as ready with so many bytes, 0 of what is none. io_uring_enter(2), IORING_RECVSEND_POLL_FIRST; socket(7), SO_RCVLOWAT
 pub fn is_tried_first(entry: &Submission, least: u32) -> bool
     ensures { result ≡ spec.is_tried_first entry.now least }
 {
-    if has_message_flags(entry.opcode) && entry.ioprio & 1 != 0 {
+    if polls_first(entry) {
         false
     } else if is_write(entry.opcode) || is_send(entry.opcode) {
         true
