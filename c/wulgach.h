@@ -81,7 +81,7 @@ struct wulgach_setup {
     uint32_t files; /* files of a machine: 1 to 64. A core has none, and its set-up may hold any number here */
     uint32_t start; /* the index word at which both rings begin: any 32 bits */
     bool has_cq;    /* whether cq is asked for; else the completion ring is twice the submission ring */
-    bool stops;     /* whether a submission call ends behind an entry with a fault, also one with a link flag, or where Linux's rules end it, and leaves the rest to later calls; else it goes on */
+    bool stops;     /* whether a submission call ends after an entry with a fault, also one with a link flag, or where Linux's rules end it, and leaves the rest to later calls; else it goes on */
     bool linux_rules; /* whether requests are kept by Linux's rules, as 6.18 was seen to, where they differ from the manual pages'; else by the manual pages' */
 };
 
@@ -172,7 +172,7 @@ struct wulgach_entry {
     uint64_t words[16];
 };
 
-/* The bytes that an outcome carries: what a read gave, and zeros behind it; zeros for all else. */
+/* The bytes that an outcome carries: what a read gave, and zeros after it; zeros for all else. */
 struct wulgach_bytes {
     uint8_t bytes[64];
 };
@@ -301,7 +301,7 @@ int32_t wulgach_trace_line(const struct wulgach_step *step, const struct wulgach
  *
  * A refusal is written as an answer, as of the step that would be refused. CLOSED, IN_CALL, NO_SLOT (more entries than the ring
  * has slots) or BUSY (positions that were staged before wait for a call): no step was made. SPENT or AGAIN: the BEGIN was refused,
- * and all entries are published and wait for another one. A ring that stops behind an entry with a fault leaves those after it
+ * and all entries are published and wait for another one. A ring that stops after an entry with a fault leaves those after it
  * published too.
  *
  * -12 if memory for a copy of the entries was refused, which a single one doesn't need; then nothing has changed. */
@@ -325,13 +325,13 @@ int32_t wulgach_core_submit_one(struct wulgach_core *core, const struct wulgach_
 int32_t wulgach_core_reap_all(struct wulgach_core *core, struct wulgach_completion *completions, size_t room, uint64_t *count);
 
 /* The steps that a whole call stands for, by their places from 0, as a trace has them. Each writes a step and its answer, and returns true;
- * behind the last one it writes nothing and returns false.
+ * after the last one it writes nothing and returns false.
  *
  * Of a submission call of count entries: where its first LOAD_HEAD was answered with `head`, and wulgach_core_submit wrote `end`: of one whose BEGIN was
  * refused that is the last. There are none of more than 4,096 entries, which no core's ring has. */
 bool wulgach_submitted_step(const struct wulgach_entry *entries, size_t count, uint32_t head, const struct wulgach_answer *end, uint32_t place, struct wulgach_step *step, struct wulgach_answer *answer);
 
-/* Of count completions that were reaped at once, where the completion ring's tail was `tail`, and its head is `head` behind them. */
+/* Of count completions that were reaped at once, where the completion ring's tail was `tail`, and its head is `head` after them. */
 bool wulgach_reaped_step(const struct wulgach_completion *completions, size_t count, uint32_t tail, uint32_t head, uint32_t place, struct wulgach_step *step, struct wulgach_answer *answer);
 
 /* Ends running request number with any result and any bytes, and writes the answer: ENDED with that very outcome
@@ -368,7 +368,7 @@ int32_t wulgach_core_least(struct wulgach_core *core, uint64_t *number);
 
 /* The requests that can be issued: those that an ISSUE starts or ends, and no others. wulgach_core_why says of each that it is
  * doomed or may start. Writes the least of them from number from on, any number; -2 exactly if there is none. So all of them come
- * in order, from 0 on, each time from the number behind the last. It looks once at each 4,096 numbers that it passes: some
+ * in order, from 0 on, each time from the number after the last. It looks once at each 4,096 numbers that it passes: some
  * 20 ns a call. */
 int32_t wulgach_core_next_issuable(struct wulgach_core *core, uint64_t from, uint64_t *number);
 
@@ -455,7 +455,7 @@ int32_t wulgach_volume_crash(struct wulgach_volume *volume, const uint64_t *choi
 /* Writes how many images there are: how many different files a crash may leave; UINT64_MAX if there are as many or more. */
 int32_t wulgach_volume_count_images(struct wulgach_volume *volume, uint64_t *count);
 
-/* Writes the images, each once: their bytes one behind another, as many as there is room for, and the length of each. *count is how
+/* Writes the images, each once: their bytes one after another, as many as there is room for, and the length of each. *count is how
  * many images there are, and *total how many bytes. -27 if there are more images than lens has room for; then nothing is written. */
 int32_t wulgach_volume_images(struct wulgach_volume *volume, uint8_t *bytes, size_t room, uint64_t *lens, size_t most, uint64_t *count, uint64_t *total);
 
@@ -484,7 +484,7 @@ int32_t wulgach_volume_free(struct wulgach_volume *volume);
  * keeps what it had. */
 int32_t wulgach_crash_machine_new(struct wulgach_crash_machine *machine, const struct wulgach_setup *setup, uint64_t unit);
 
-/* The same with files: its first files have these bytes, given one behind another, with the length of each; the others are empty.
+/* The same with files: its first files have these bytes, given one after another, with the length of each; the others are empty.
  * count may be 0. A length that goes past the end of bytes takes those that are there.
  *
  * -22 exactly if wulgach_setup_fault isn't 0, unit is 0, or count is above the number of files; else -27 exactly if a length is above
@@ -519,7 +519,7 @@ int32_t wulgach_crash_machine_count_images(struct wulgach_crash_machine *machine
 int32_t wulgach_crash_machine_images(struct wulgach_crash_machine *machine, int32_t fd, uint8_t *bytes, size_t room, uint64_t *lens, size_t most, uint64_t *count, uint64_t *total);
 
 /* The power fails: puts the machine of the next epoch into another place, empty or not. Each file is left by a choice of its own: their
- * numbers are given one behind another, with the length of each choice. One that is missing is empty, and one too many says nothing. To
+ * numbers are given one after another, with the length of each choice. One that is missing is empty, and one too many says nothing. To
  * crash by a seed, fill the numbers with wulgach_volume_choose and give each file as many of them.
  *
  * -131 exactly if the machine is lost; -12 if memory was refused. The other place then keeps what it had. */
@@ -533,7 +533,7 @@ int32_t wulgach_crash_machine_free(struct wulgach_crash_machine *machine);
  * rules allow; if the list is all, nothing else may. Positions whose word names no slot aren't among these calls, so nothing is dropped. */
 
 /* Puts the outcomes of calls into a place, empty or not, each once: outcomes that were there are freed. The entries of all calls are given
- * one behind another, with the length of each call; those that are left over belong to none.
+ * one after another, with the length of each call; those that are left over belong to none.
  *
  * They are found by a walk over the orders of the requests, which ends after `most` paths. *is_all says whether it had ended before: if not,
  * there may be more, and their number is a lower bound. UINT64_MAX walks to the end; eight loose no-ops have 40,320 outcomes.

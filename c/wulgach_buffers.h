@@ -20,7 +20,7 @@ struct wulgach_buffer {
     uint16_t id;
 };
 
-/* Buffers that are provided at once, one behind another. */
+/* Buffers that are provided at once, one after another. */
 struct wulgach_buffers {
     uint64_t address;       /* of the first */
     uint32_t length;        /* of each */
@@ -48,7 +48,7 @@ int32_t wulgach_group_providing_fault(const struct wulgach_group *group, uint64_
 /* How many rows a list wants for so many buffers more, where it has `room`: as many, or if these are too few twice what it needs. */
 uint64_t wulgach_group_room(const struct wulgach_group *group, uint32_t more, uint64_t room);
 
-/* A list has these buffers too, behind all others, which may be moved to the first rows: the first of them, up to 65,535 with the others.
+/* A list has these buffers too, after all others, which may be moved to the first rows: the first of them, up to 65,535 with the others.
  * False: there are too few rows for them, and nothing changes. */
 bool wulgach_group_provide(struct wulgach_group *group, struct wulgach_buffer *rows, size_t room, const struct wulgach_buffers *asked);
 
@@ -95,7 +95,7 @@ uint32_t wulgach_buffer_flags(bool would_wait, uint32_t moved, int32_t res, bool
 /* Whether it has taken its buffer, by these flags: then that is taken out of its group (wulgach_group_take). */
 bool wulgach_buffer_is_taken(uint32_t flags);
 
-/* Writes where the next try of an operation begins that has put so many bytes into the buffer `had` so far, which end before 2^64: behind
+/* Writes where the next try of an operation begins that has put so many bytes into the buffer `had` so far, which end before 2^64: after
  * them, in the same one. False, and nothing is written: it has put none there, and takes the next of its group. */
 bool wulgach_buffer_further(const struct wulgach_buffer *had, uint32_t moved, struct wulgach_buffer *further);
 

@@ -123,12 +123,12 @@ struct wulgach_locked {
 enum wulgach_locking {
     WULGACH_LOCKING_TRIES = 0,
     WULGACH_LOCKING_YIELDS = 1,         /* it is tried once others have had a moment, */
-    WULGACH_LOCKING_PAUSES = 2,         /* or behind a pause */
+    WULGACH_LOCKING_PAUSES = 2,         /* or after a pause */
     WULGACH_LOCKING_HOLDS = 3,          /* it is had, or nobody can have it: the call is made, and it is given back */
     WULGACH_LOCKING_GOES_WITHOUT = 4    /* the call is made without */
 };
 
-/* Returns what is next (enum wulgach_locking): it is tried 2,000 times at most, the first twenty behind the first one without a pause, and had unless
+/* Returns what is next (enum wulgach_locking): it is tried 2,000 times at most, the first twenty after the first one without a pause, and had unless
  * a try comes to -11 (EAGAIN) or -13 (EACCES). Where the application has a lock there, or others have, no more is tried. Our own rule. */
 uint32_t wulgach_locking_next(const struct wulgach_locked *locked);
 
@@ -152,7 +152,7 @@ bool wulgach_looks_at_path(const struct wulgach_submission *entry, uint64_t how)
 uint64_t wulgach_looking_flags(const struct wulgach_submission *entry, uint64_t how);
 uint64_t wulgach_found_flags(const struct wulgach_submission *entry, uint64_t how);
 
-/* Whether its path is opened in the place of that, whose opening came to this: behind -2 (ENOENT) there is no /proc. Our own rule. */
+/* Whether its path is opened in the place of that, whose opening came to this: after -2 (ENOENT) there is no /proc. Our own rule. */
 bool wulgach_opens_by_path(int32_t res);
 
 /* A request stands so whose path was looked up as it starts, and names a pipe or doesn't: if it does, it may have to wait for its descriptor, though
@@ -174,7 +174,7 @@ uint32_t wulgach_opening_of(const struct wulgach_submission *entry, uint64_t how
  * wulgach_flags_behind has it. */
 uint64_t wulgach_unwilling_flags(uint64_t flags);
 
-/* Whether an open that was asked not to wait, and came to this, is made once more without that: behind -11 (EWOULDBLOCK), which a lease is waited
+/* Whether an open that was asked not to wait, and came to this, is made once more without that: after -11 (EWOULDBLOCK), which a lease is waited
  * for (open(2)). */
 bool wulgach_opens_again(int32_t res);
 
@@ -188,7 +188,7 @@ bool wulgach_opening_waits(const struct wulgach_submission *entry, uint64_t how,
 /* Whether a connect that came to this goes on without its call until its socket is ready: to -115 (EINPROGRESS). */
 bool wulgach_has_begun(int32_t came_to);
 
-/* Whether what belongs to a message, its sizes and flags, is told behind a call of this entry that came to this: it has received one. And
+/* Whether what belongs to a message, its sizes and flags, is told after a call of this entry that came to this: it has received one. And
  * what that ends with, where they could be told, or had not to be; or couldn't: -14 (EFAULT), though the message is gone. */
 bool wulgach_tells_message(const struct wulgach_submission *entry, int32_t came_to);
 int32_t wulgach_told_result(int32_t came_to, bool is_told);
@@ -208,7 +208,7 @@ struct wulgach_field {
     uint32_t size;      /* of which it has so many: the first ones of the value */
 };
 
-/* Writes the field of a message that is told next, behind so many. False, and nothing is written: all were told. How many bytes its address has comes first,
+/* Writes the field of a message that is told next, after so many. False, and nothing is written: all were told. How many bytes its address has comes first,
  * if there is a place for one; then its flags, and how many control data. The first that can't be told is the last: the message couldn't be. */
 bool wulgach_next_told(const struct wulgach_received *received, uint32_t told, struct wulgach_field *field);
 
@@ -229,20 +229,20 @@ struct wulgach_vector {
     uint64_t size;      /* and how many there are */
 };
 
-/* What is left behind a part of a message. */
+/* What is left after a part of a message. */
 struct wulgach_rest {
     struct wulgach_vector vector;   /* of a vector, */
-    uint64_t moved;                 /* and of the bytes that were moved, for the vectors behind it */
+    uint64_t moved;                 /* and of the bytes that were moved, for the vectors after it */
 };
 
-/* How many bytes a call of a message has moved that came to this: none, if that is an error. And what is left of a vector, of which and of those behind
- * it so many were moved: each in its turn is moved on by what the one before has left, and then the bytes that are left are those behind the ones that
+/* How many bytes a call of a message has moved that came to this: none, if that is an error. And what is left of a vector, of which and of those after
+ * it so many were moved: each in its turn is moved on by what the one before has left, and then the bytes that are left are those after the ones that
  * were moved, in their order. */
 uint64_t wulgach_moved_by(int32_t came_to);
 void wulgach_rest_of(const struct wulgach_vector *vector, uint64_t moved, struct wulgach_rest *rest);
 
-/* Whether it matters behind a call of this entry, which was asked not to wait and came to this, whether its socket was shut down for reading
- * (shutdown(2)): behind -11 (EAGAIN) of a read or a receive that may wait, and doesn't go on. And what that counts as where it was: 0, since no
+/* Whether it matters after a call of this entry, which was asked not to wait and came to this, whether its socket was shut down for reading
+ * (shutdown(2)): after -11 (EAGAIN) of a read or a receive that may wait, and doesn't go on. And what that counts as where it was: 0, since no
  * datagram comes any more; but -11 where its descriptor isn't to wait (O_NONBLOCK), unless it is a RECV. A stream's call comes to 0 by itself. */
 bool wulgach_asks_shut(const struct wulgach_submission *entry, int32_t came_to);
 int32_t wulgach_shut_result(const struct wulgach_submission *entry, int32_t came_to, bool is_shut, bool isnt_to_wait);
@@ -250,7 +250,7 @@ int32_t wulgach_shut_result(const struct wulgach_submission *entry, int32_t came
 /* Whether an operation has taken its provided buffer though it moved nothing: a transfer at the end of its file, but a READ_MULTISHOT hasn't. */
 bool wulgach_takes_for_nothing(uint8_t code);
 
-/* The offset at which a READ_MULTISHOT reads next, behind a call that came to this: behind the bytes that it read, if it has one. Of another
+/* The offset at which a READ_MULTISHOT reads next, after a call that came to this: after the bytes that it read, if it has one. Of another
  * entry its own. */
 uint64_t wulgach_offset_behind(const struct wulgach_submission *entry, int32_t came_to);
 
@@ -381,7 +381,7 @@ bool wulgach_syncs_itself(const struct wulgach_writing *writing);
  * length. One with an offset alone is of no byte. io_uring_prep_fsync(3). */
 bool wulgach_synced_bytes(const struct wulgach_submission *entry, struct wulgach_synced_bytes *bytes);
 
-/* Whether a path is of the folder that counts as the disk, or below, by whether it begins with the folder's and the letter behind that, or 0. */
+/* Whether a path is of the folder that counts as the disk, or below, by whether it begins with the folder's and the letter after that, or 0. */
 bool wulgach_is_on_disk(bool begins_with_folder, uint8_t behind);
 
 /* What an open does (enum wulgach_logged_open) that has these flags, whose path names something, also through a symbolic link, or a regular file: O_PATH
@@ -392,7 +392,7 @@ uint32_t wulgach_open_logged(uint64_t flags, bool is_there, bool is_regular);
  * written: it doesn't wait, or is refused, and is made as it stands. */
 bool wulgach_unwaited(uint32_t flags, uint32_t *instead);
 
-/* The number of the signal that is taken back behind an operation which ended with this, or 0: 25 (SIGXFSZ) of a write, FALLOCATE or SPLICE, with
+/* The number of the signal that is taken back after an operation which ended with this, or 0: 25 (SIGXFSZ) of a write, FALLOCATE or SPLICE, with
  * -27 (EFBIG), and 13 (SIGPIPE) of a splice or a tee, or of a write that IOSQE_ASYNC gives to a worker, with -32 (EPIPE). In a kernel a worker of
  * its own has the signal, and the program gets none. Whether that signal, or 0, is taken back, where this is the greatest length that the process may
  * give a file (getrlimit(2), RLIMIT_FSIZE), if that is known: SIGXFSZ may not have come at all if it is 2^64 - 1 (RLIM_INFINITY), and isn't taken

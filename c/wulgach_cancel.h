@@ -39,7 +39,7 @@ struct wulgach_outstanding {
     bool is_cancelled;  /* a cancel has chosen it before */
     bool runs;          /* it has started */
     bool is_stream;     /* it may have to wait for its descriptor */
-    bool may_start;     /* of one that doesn't run: it could start now, and isn't taken behind the cancel (wulgach_is_taken_behind) */
+    bool may_start;     /* of one that doesn't run: it could start now, and isn't taken after the cancel (wulgach_is_taken_behind) */
 };
 
 /* An entry of the submission ring: see wulgach_form.h. */
@@ -78,7 +78,7 @@ uint32_t wulgach_sought_file(const struct wulgach_sought *sought);
 enum wulgach_cancelling {
     WULGACH_CANCELLING_ROUSES = 0,  /* it is dormant no more, */
     WULGACH_CANCELLING_LOOKS = 1,   /* and is looked at again, whatever it was known to wait for; */
-    WULGACH_CANCELLING_STOPS = 2,   /* a time stops that runs no more behind that (wulgach_timing_behind_finding); */
+    WULGACH_CANCELLING_STOPS = 2,   /* a time stops that runs no more after that (wulgach_timing_behind_finding); */
     WULGACH_CANCELLING_MARKS = 3    /* and it is marked: WULGACH_FACT_CANCELLED */
 };
 
@@ -89,8 +89,8 @@ uint32_t wulgach_course_steps_at_cancel(const struct wulgach_course *course);
 /* Whether a request that runs waits for something: for its descriptor, or as a timeout. A cancel ends no other. */
 bool wulgach_is_waiting(const struct wulgach_outstanding *request);
 
-/* Whether a kernel takes the entry of the request `number` only behind the cancel `cancel`, which is carried out as its own is taken: it was
- * submitted behind it, and the cancel is behind no link, and doesn't drain. */
+/* Whether a kernel takes the entry of the request `number` only after the cancel `cancel`, which is carried out as its own is taken: it was
+ * submitted after it, and the cancel is after no link, and doesn't drain. */
 bool wulgach_is_taken_behind(uint64_t cancel, bool is_linked, bool drains, uint64_t number);
 
 /* A cancel that looks at requests, the oldest first. It is the caller's memory, and its fields are the library's. */
@@ -105,7 +105,7 @@ void wulgach_cancel_begin(struct wulgach_cancel *cancel, const struct wulgach_so
 /* Whether it matters to the cancel if the next request, which doesn't run, could start now. If not, may_start may be anything. */
 bool wulgach_cancel_asks(const struct wulgach_cancel *cancel, const struct wulgach_outstanding *request);
 
-/* Looks at the next request, and says whether it is cancelled: it fits, it is neither a cancel itself nor a timeout that is linked behind a
+/* Looks at the next request, and says whether it is cancelled: it fits, it is neither a cancel itself nor a timeout that is linked to a
  * request, none has chosen it before, and it waits for something or could start now; and the cancel is of all, or has found none before. */
 bool wulgach_cancel_sees(struct wulgach_cancel *cancel, const struct wulgach_outstanding *request);
 
@@ -125,7 +125,7 @@ struct wulgach_search {
 void wulgach_search_begin(struct wulgach_search *search, uint64_t user_data);
 
 /* Looks at the next running request, and says whether it is to be cancelled: it is the oldest of this user data, but cancels and timeouts that
- * are linked behind a request, no cancel has chosen it, and it waits for something. */
+ * are linked to a request, no cancel has chosen it, and it waits for something. */
 bool wulgach_search_sees(struct wulgach_search *search, const struct wulgach_outstanding *request);
 
 /* Whether the one that was found is cancelled, by this cancel or another. */
@@ -141,7 +141,7 @@ int32_t wulgach_search_found_by_core(const struct wulgach_search *search, int32_
 enum wulgach_removal {
     WULGACH_REMOVAL_CANCELS = 0,
     WULGACH_REMOVAL_UPDATES = 1,
-    WULGACH_REMOVAL_UPDATES_LINKED = 2  /* of a timeout that is linked behind a request */
+    WULGACH_REMOVAL_UPDATES_LINKED = 2  /* of a timeout that is linked to a request */
 };
 
 uint32_t wulgach_poll_removal(const struct wulgach_submission *entry);

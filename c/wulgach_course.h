@@ -1,5 +1,5 @@
 /* Wulgach: what becomes of a request that was accepted, as decisions, for whoever keeps a ring as the kernel does: when its operation
- * is carried out, what is shown of its end, what of a result is a success to the links behind it, and which request a linked timeout
+ * is carried out, what is shown of its end, what of a result is a success to the links after it, and which request a linked timeout
  * limits. The functions are in the library of wulgach.h, and proved as those are. The layer under liburing calls them.
  */
 #ifndef WULGACH_COURSE_H
@@ -54,7 +54,7 @@ void wulgach_course_begin(struct wulgach_course *course);
 uint32_t wulgach_course_act(struct wulgach_course *course, int32_t *res);
 
 /* Notes what has happened (enum wulgach_fact), with its result, if it has one. False: it can't have, so far; then nothing changes.
- * Nothing happens behind an end, and what becomes of an operation only while it is tried. */
+ * Nothing happens after an end, and what becomes of an operation only while it is tried. */
 bool wulgach_course_note(struct wulgach_course *course, uint32_t fact, int32_t res);
 
 /* The same of a start, of an operation that is done, and of an end. */
@@ -143,7 +143,7 @@ struct wulgach_carried {
     bool is_missing;        /* it wasn't carried out: something that it needs isn't there */
 };
 
-/* Whether a result is a success to the links behind the request of an entry that was carried out so, and to WULGACH_CQE_SKIP_SUCCESS: it
+/* Whether a result is a success to the links after the request of an entry that was carried out so, and to WULGACH_CQE_SKIP_SUCCESS: it
  * moved all of its length, if it is to and isn't a RECVMSG with room for control data, and nothing that it has received was cut. By Linux's rules so is a failure of FSYNC,
  * SYNC_FILE_RANGE, FALLOCATE, MADVISE, STATX, RENAMEAT, UNLINKAT, MKDIRAT, SYMLINKAT, LINKAT, SHUTDOWN and those of extended attributes,
  * once it was carried out, but for -88 (ENOTSOCK) of a SHUTDOWN. -62 (ETIME) is one of a timeout with IORING_TIMEOUT_ETIME_SUCCESS; and of
@@ -162,24 +162,24 @@ enum wulgach_part {
  * 0: with IORING_CQE_F_MORE where another of the same request follows, and IORING_CQE_F_NOTIF. */
 uint32_t wulgach_completion_flags(uint32_t part, uint32_t of_buffer);
 
-/* The flags of a provided buffer of which no completion has told, behind one that tells of this: 0 behind an event and behind its own end, by
+/* The flags of a provided buffer of which no completion has told, after one that tells of this: 0 after an event and after its own end, by
  * which they are told. So no later completion tells of that buffer. */
 uint32_t wulgach_untold_behind(uint32_t part, uint32_t of_buffer);
 
-/* What is done behind an operation that was carried out: a set of these has the bit 1 << DUTY of each, and they are done by rising bits. */
+/* What is done after an operation that was carried out: a set of these has the bit 1 << DUTY of each, and they are done by rising bits. */
 enum wulgach_tried_duty {
     WULGACH_TRIED_LOOKS_AFRESH = 0,   /* those that run are looked at again, */
     WULGACH_TRIED_WAITS = 1,          /* it is noted that it waits, and it goes on running, */
     WULGACH_TRIED_ASKS_GOING_ON = 2   /* or it is asked whether it goes on (wulgach_goes_on), and else it ends */
 };
 
-/* That set: others are looked at again behind one that can make them ready, whatever it came to; and what would have to wait isn't asked whether
+/* That set: others are looked at again after one that can make them ready, whatever it came to; and what would have to wait isn't asked whether
  * it goes on. */
 uint32_t wulgach_behind_try(bool can_make_ready, bool would_wait);
 
 /* Returns what the end of a send without copies tells of (enum wulgach_part) that has two completions, where the other one was posted before
  * (WULGACH_PART_NOTICE), or is put off since memory was refused for it (WULGACH_PART_SENT): then the other is the notice. So the application
- * sees the notice behind what was sent, whatever is put off. */
+ * sees the notice after what was sent, whatever is put off. */
 uint32_t wulgach_end_of_send(bool is_posted);
 
 /* A request that the core has ended by itself. */
@@ -212,11 +212,11 @@ enum wulgach_sought_behind {
  * it what can start. */
 uint32_t wulgach_sought_behind(const struct wulgach_ended_cancel *cancel, int32_t res);
 
-/* Whether a cancel looks for a request that hasn't started and could before the core ends it: behind its end others could start, which it doesn't find. */
+/* Whether a cancel looks for a request that hasn't started and could before the core ends it: after its end others could start, which it doesn't find. */
 bool wulgach_looks_ahead(bool is_cancel, bool linux_rules);
 
 /* What is shown of a request that the core has ended with this result: 0 of a cancel that has cancelled a request, an
- * entry's own error in the place of -22 (EINVAL), of a linked timeout what it ends with behind its request; else the same. */
+ * entry's own error in the place of -22 (EINVAL), of a linked timeout what it ends with after its request; else the same. */
 int32_t wulgach_shown_of(const struct wulgach_ended_early *request, int32_t res);
 
 /* ---- chains ---- */
@@ -238,7 +238,7 @@ struct wulgach_member {
 /* Writes the request of a call's first entry, which has this number. */
 void wulgach_member_first(struct wulgach_member *member, uint64_t number, const struct wulgach_link *entry);
 
-/* Writes the request of the entry behind that of `before` in its call, which has this number, the next. */
+/* Writes the request of the entry after that of `before` in its call, which has this number, the next. */
 void wulgach_member_next(struct wulgach_member *member, const struct wulgach_member *before, uint64_t number, const struct wulgach_link *entry);
 
 /* Whether a request is a linked timeout that limits the request `before`: the one right before it, if that links it. */

@@ -97,7 +97,7 @@ enum wulgach_passage {
     WULGACH_RETURNS_CALL = 64       /* what any call does as it returns, whatever it came to */
 };
 
-/* Returns what comes next of a call of io_uring_enter(2) with these flags (enum wulgach_passage), behind `last`, which came to `res`, 0 at first: what is
+/* Returns what comes next of a call of io_uring_enter(2) with these flags (enum wulgach_passage), after `last`, which came to `res`, 0 at first: what is
  * looked at; or the steps of one that passes, the last three, and the first with IORING_ENTER_EXT_ARG; or the error with which it is refused, and then nothing is done besides. -22 of a flag that isn't served comes first: IORING_ENTER_GETEVENTS, _SQ_WAKEUP, _SQ_WAIT, _EXT_ARG and _REGISTERED_RING
  * are. With the last the ring is named by a number, which is looked at before the descriptor for which it stands. A call counts once its ring is
  * found, whoever calls, by which an eventfd is told of what has ended in a later one. */
@@ -116,7 +116,7 @@ int32_t wulgach_no_ring_fault(bool is_open);
  * A call hears the application first, and submits once. It waits only if it gets events, for one at least, and all was submitted;
  * then it sleeps only where nothing can go on and there isn't enough, and ends only if there is enough, its sleep has failed, or
  * the application's head is wrong. A lazy one that wakes a thread which takes entries, and gets no events, goes on in order, since the
- * application may look at memory alone behind it. */
+ * application may look at memory alone after it. */
 int32_t wulgach_enter_begin(struct wulgach_enter *call, const struct wulgach_asked *asked, struct wulgach_command *command);
 
 /* Takes a reply, and writes what the call wants then. -22 exactly if the reply doesn't answer what it wanted; then nothing is
@@ -188,12 +188,12 @@ uint32_t wulgach_duties_at_register_begin(uint32_t code, bool is_time_real);
 uint32_t wulgach_duties_at_register_return(uint32_t code, const struct wulgach_resting *resting);
 
 /* What is done before a completion is posted that no operation has just ended with, as an event, a message, a tag or the end of a request that was
- * cancelled: the application is heard. And what is done behind those that were posted outside a call: what has ended and isn't shown is, and a
+ * cancelled: the application is heard. And what is done after those that were posted outside a call: what has ended and isn't shown is, and a
  * descriptor that polls tells of it. */
 uint32_t wulgach_duties_before_posting(void);
 uint32_t wulgach_duties_behind_posting(bool has_ends, bool is_polled);
 
-/* What is done behind completions that were stored into ring memory with their tail, of so many of which a registered eventfd is told
+/* What is done after completions that were stored into ring memory with their tail, of so many of which a registered eventfd is told
  * (wulgach_tells): the flags are shown, and then it is told, if of any. So whoever is woken by it sees the flags. */
 uint32_t wulgach_duties_behind_storing(uint64_t told);
 
@@ -250,14 +250,14 @@ int32_t wulgach_mask_fault(uint64_t size, bool is_readable);
 /* With which mask a call sleeps that gives this one: where calls are trapped SIGSYS isn't in it, by which a handler calls that runs meanwhile. Our own rule. */
 uint64_t wulgach_slept_with(uint64_t mask, bool is_trapped);
 
-/* Whether a call that is to sleep reads its mask, behind so many sleeps, if it gives one, and its last argument has this fault, or 0: before the first,
+/* Whether a call that is to sleep reads its mask, after so many sleeps, if it gives one, and its last argument has this fault, or 0: before the first,
  * and not if it has a fault. It sleeps with that mask until it returns. */
 bool wulgach_asks_mask(bool has_mask, int32_t argument, uint32_t sleeps);
 
 /* With which fault a call that is to sleep fails, or 0: that of its last argument, else that of its mask, if that was read. */
 int32_t wulgach_sleep_fault(int32_t argument, bool has_read, int32_t mask);
 
-/* What a submission comes to that came to this, and behind which the argument has this fault, or 0: the fault counts where nothing was
+/* What a submission comes to that came to this, and after which the argument has this fault, or 0: the fault counts where nothing was
  * submitted. */
 int64_t wulgach_submission_with_fault(int64_t submitted, int32_t fault);
 

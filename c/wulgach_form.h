@@ -99,13 +99,13 @@ uint16_t wulgach_probed_flags(uint8_t code);
  * began, or since its last event. */
 bool wulgach_comes_of_ring(bool is_ring, bool has_waited, bool was_told);
 
-/* Whether the request of an entry, which has started as one that goes on or hasn't (wulgach_needs, and behind a poll's start wulgach_poll_start), and
- * has moved so many bytes (`done`), goes on behind this result, which then has a completion of its own; else it ends with it: it isn't one that goes on,
+/* Whether the request of an entry, which has started as one that goes on or hasn't (wulgach_needs, and after a poll's start wulgach_poll_start), and
+ * has moved so many bytes (`done`), goes on after this result, which then has a completion of its own; else it ends with it: it isn't one that goes on,
  * or it ends with an error, with nothing more to come, since its completion finds the ring of so many entries full, or since what a poll has found comes of a ring (`is_of_ring`). */
 bool wulgach_goes_on(const struct wulgach_shown *shown, bool started, const struct wulgach_submission *entry, uint64_t done, bool is_of_ring, int32_t res, uint32_t entries);
 
-/* Whether an eventfd is told of a completion, where it is registered for all, or only for what ends behind the call that submitted
- * it: in another call on the ring. A message comes behind them all. */
+/* Whether an eventfd is told of a completion, where it is registered for all, or only for what ends after the call that submitted
+ * it: in another call on the ring. A message comes after them all. */
 bool wulgach_tells(const struct wulgach_posted *posted, bool is_async_alone);
 
 /* ---- what an entry points to ---- */
@@ -118,9 +118,9 @@ enum wulgach_what {
     WULGACH_HOW = 4,            /* of an open: struct open_how, of 24 bytes */
     WULGACH_TIME = 5,
     WULGACH_VALUE = 6,          /* bytes that the operation reads */
-    WULGACH_MESSAGE = 7,        /* and behind it its vectors */
+    WULGACH_MESSAGE = 7,        /* and after it its vectors */
     WULGACH_ADDRESS = 8,        /* of a socket */
-    WULGACH_HOW_REST = 9        /* of an open: what is newer in that structure, which has so many bytes in all. It is looked at behind these 24 bytes, and not copied */
+    WULGACH_HOW_REST = 9        /* of an open: what is newer in that structure, which has so many bytes in all. It is looked at after these 24 bytes, and not copied */
 };
 
 /* A piece of the application's memory. */
@@ -141,7 +141,7 @@ struct wulgach_copied {
 
 /* Writes the piece that is copied next of an entry when it is submitted, and returns 1. Else nothing more is copied, and it returns the fault
  * of the entry, or 0. That is the first of those of its pieces, in their order, where one that is too long (an address, a value) isn't
- * copied; -22 (EINVAL) if it takes a provided buffer and hasn't one vector; and -22 of a linked timeout, but behind an entry that links it
+ * copied; -22 (EINVAL) if it takes a provided buffer and hasn't one vector; and -22 of a linked timeout, but after an entry that links it
  * and is none itself. */
 int32_t wulgach_next_piece(const struct wulgach_submission *entry, const struct wulgach_copied *copied, struct wulgach_piece *piece);
 
@@ -169,7 +169,7 @@ struct wulgach_header {
     uint32_t name_size;         /* of the address, in bytes: 31 bits, else it is negative */
 };
 
-/* Writes the piece that is copied next of an entry's message (WULGACH_ADDRESS or WULGACH_VECTORS), behind so many of which the last has this
+/* Writes the piece that is copied next of an entry's message (WULGACH_ADDRESS or WULGACH_VECTORS), after so many of which the last has this
  * fault, or 0, and returns 1. Else nothing more is copied, and it returns the fault of the message, or 0. These come in this order: -22 (EINVAL) of
  * an address whose length is negative; that of the address, which only a message that is sent has copied; -90 (EMSGSIZE) of more than 1,024
  * vectors; -22 of more than one where it takes a provided buffer; that of the vectors; and -75 (EOVERFLOW) of a RECVMSG that goes on, if
@@ -183,14 +183,14 @@ bool wulgach_is_address_alone(uint8_t code);
 /* How many vectors the message of an entry has that has so many: none count as an empty one, where it takes a provided buffer. */
 uint64_t wulgach_message_vectors(const struct wulgach_submission *entry, uint64_t vectors);
 
-/* The fault of vectors with one more, behind others that have the fault `before`, or 0: -22 if the length of one is negative, else -14 (EFAULT) if
+/* The fault of vectors with one more, after others that have the fault `before`, or 0: -22 if the length of one is negative, else -14 (EFAULT) if
  * no program can have one. Of a lone one no more is looked at than a transfer moves; of an entry that takes a provided buffer nothing is. */
 int32_t wulgach_vector_fault(const struct wulgach_submission *entry, int32_t before, uint64_t from, uint64_t size, bool is_lone);
 
 /* How many bytes a transfer moves at most of buffers with so many bytes and one more: 0x7ffff000 and no more. */
 uint64_t wulgach_length_with(uint64_t length, uint64_t size);
 
-/* The fault of how a file is opened, -7 (E2BIG) if what is newer isn't all 0; and of an entry behind its first path: -22 of an open that goes to a slot and
+/* The fault of how a file is opened, -7 (E2BIG) if what is newer isn't all 0; and of an entry after its first path: -22 of an open that goes to a slot and
  * has O_CLOEXEC, be it by its entry's flags or by those of its structure (`how`). Each is 0 if there is none. */
 int32_t wulgach_how_fault(bool is_rest_zero);
 int32_t wulgach_open_fault(const struct wulgach_submission *entry, uint64_t how);
@@ -205,11 +205,11 @@ struct wulgach_layout {
     bool has_control;   /* and its control data: where there is room for them */
 };
 
-/* Writes where they stand in a buffer of this size, behind 16 bytes, with room for so many of an address and of control data; and returns
+/* Writes where they stand in a buffer of this size, after 16 bytes, with room for so many of an address and of control data; and returns
  * true. False: what stands in front of the bytes has no room itself. */
 bool wulgach_layout_of(uint32_t name, uint64_t control, uint64_t size, struct wulgach_layout *layout);
 
-/* How much of the buffer has something behind a message of so many bytes. */
+/* How much of the buffer has something after a message of so many bytes. */
 uint64_t wulgach_layout_filled(const struct wulgach_layout *layout, uint32_t came);
 
 /* What a no-op ends with that has found the file and the buffer that it looks for: the number that it is to inject, or 0. */
@@ -284,18 +284,18 @@ bool wulgach_told_of(const struct wulgach_submission *entry, int32_t res, struct
  * rule. */
 bool wulgach_posts_message(bool is_there, bool may_post);
 
-/* Whether a ring that another thread may have sent messages to is visited by who can have its lock, and once more behind each visit: messages are there,
+/* Whether a ring that another thread may have sent messages to is visited by who can have its lock, and once more after each visit: messages are there,
  * and the last visit has left none (as before the first), or one that could be posted as it ended. Our own rule. */
 bool wulgach_visits_again(bool is_there, bool was_left, bool could_post);
 
-/* What the sender of a message does behind it. */
+/* What the sender of a message does after it. */
 enum wulgach_visit {
     WULGACH_VISITS_NOBODY = 0,
     WULGACH_POSTS_OWN = 1,      /* it posts what its own ring was sent */
     WULGACH_VISITS_OTHER = 2    /* it posts what the other ring was sent, if nobody is in a call on that; else who is does */
 };
 
-/* Returns what the sender of a message to this ring does behind one that has come to this result (enum wulgach_visit): of one that failed
+/* Returns what the sender of a message to this ring does after one that has come to this result (enum wulgach_visit): of one that failed
  * nothing. */
 uint32_t wulgach_visit_of(const struct wulgach_receiver *to, int32_t res);
 

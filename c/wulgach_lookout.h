@@ -18,7 +18,7 @@ extern "C" {
 struct wulgach_lookout {
     uint64_t count;             /* so many of the first requests that run, by number, are passed over: they are known to wait */
     uint64_t moment;            /* how often a descriptor may have become ready, from 1 on */
-    uint64_t round;             /* how often something has happened behind which none is passed over, from 1 on */
+    uint64_t round;             /* how often something has happened after which none is passed over, from 1 on */
     uint64_t release;           /* how often those that had to wait were let go, from 1 on */
     bool have_to_wait;          /* one was carried out and would have waited, and isn't to be carried out again yet */
     bool may_be_own;            /* what was written to a pipe since it was last heard may be the ring's own */
@@ -43,18 +43,18 @@ void wulgach_lookout_leaves(struct wulgach_lookout *lookout, uint64_t place);
 void wulgach_lookout_touches(struct wulgach_lookout *lookout, uint64_t place);
 
 /* An update has changed the one at this place, which was asked again then: it can be finished, or waits. One that waits is passed over as
- * before, and so are those behind it. */
+ * before, and so are those after it. */
 void wulgach_lookout_updates(struct wulgach_lookout *lookout, uint64_t place, bool finishes);
 
 /* An operation was carried out that can make a descriptor ready. */
 void wulgach_lookout_moves(struct wulgach_lookout *lookout);
 
-/* A call begins, or sleeps no longer; or a request has ended: those that had to wait needn't now. Behind an end that wasn't told to let others
+/* A call begins, or sleeps no longer; or a request has ended: those that had to wait needn't now. After an end that wasn't told to let others
  * be finished, none can be that couldn't before. */
 void wulgach_lookout_opens(struct wulgach_lookout *lookout);
 void wulgach_lookout_ends(struct wulgach_lookout *lookout, const struct wulgach_end_of_one *end);
 
-/* What was written to pipes was heard, as a call began or slept no longer. Behind an operation that was carried out since, what is written
+/* What was written to pipes was heard, as a call began or slept no longer. After an operation that was carried out since, what is written
  * may be the ring's own (`may_be_own`), and isn't told. */
 void wulgach_lookout_hears(struct wulgach_lookout *lookout);
 
@@ -89,7 +89,7 @@ enum wulgach_hearing {
     WULGACH_HEARING_COUNTS = 6          /* they count as heard (wulgach_lookout_hears) */
 };
 
-/* Returns what is next (enum wulgach_hearing) behind this, where so many pipes are watched by then: as a call begins, or has slept, and as one returns,
+/* Returns what is next (enum wulgach_hearing) after this, where so many pipes are watched by then: as a call begins, or has slept, and as one returns,
  * or is to sleep. Where none is watched nothing is read. */
 uint32_t wulgach_hearing_at_begin(uint32_t last, uint64_t watched);
 uint32_t wulgach_hearing_at_rest(uint32_t last, uint64_t watched);
@@ -148,7 +148,7 @@ uint32_t wulgach_steps_at_start(const struct wulgach_submission *entry, uint64_t
  * so that its issue ends it. */
 bool wulgach_lets_start(uint32_t why);
 
-/* Behind that, where its files were found without a fault, 0, or with this one: a poll asks for its events, unless it has failed; the descriptor of one
+/* After that, where its files were found without a fault, 0, or with this one: a poll asks for its events, unless it has failed; the descriptor of one
  * that may have to wait is looked at; and so is its group, if it is to take a provided buffer. Another looks for one as it is carried out. */
 uint32_t wulgach_steps_behind_files(const struct wulgach_standing *standing, const struct wulgach_needs *needs, int32_t fault);
 
@@ -280,7 +280,7 @@ uint32_t wulgach_waiter_gone(const struct wulgach_waiter *waiter, bool knows, bo
 
 /* ---- what an end makes of others ---- */
 
-/* What is done behind the end of a request: a set of these has the bit 1 << DUTY of each, and they are done by rising bits. */
+/* What is done after the end of a request: a set of these has the bit 1 << DUTY of each, and they are done by rising bits. */
 enum wulgach_end_duty {
     WULGACH_END_KEEPS = 0,              /* its completion is kept, if it has one, to be shown */
     WULGACH_END_COUNTS = 1,             /* it counts for the timeouts that wait for so many completions */
@@ -308,7 +308,7 @@ bool wulgach_keeps_before_close(uint64_t number, int32_t fd, uint64_t closing, i
  * copy of his own. */
 bool wulgach_shares_copy(const struct wulgach_standing *standing, int32_t fd, bool has_copy, int32_t copied);
 
-/* Whether others are looked at again behind the end of a request, of which so many run: the end has closed a descriptor, and that may have been the last
+/* Whether others are looked at again after the end of a request, of which so many run: the end has closed a descriptor, and that may have been the last
  * one of a file that the request has kept, if it has kept one. It was a slot's, or the number that the entry names isn't open on the same file: `is_same`
  * matters only if others run, and to a file that isn't a slot's. */
 bool wulgach_may_close_last(uint64_t others, bool was_closed, bool has_file, bool is_of_slot, bool is_same);
@@ -330,7 +330,7 @@ bool wulgach_stays_open(bool is_locked, uint64_t others);
 
 /* ---- what others hear ---- */
 
-/* Whether a pipe counts as written to behind an event: events were dropped, or it tells of a write to this pipe. */
+/* Whether a pipe counts as written to after an event: events were dropped, or it tells of a write to this pipe. */
 bool wulgach_counts_as_written(bool is_dropped, bool is_write, bool is_own);
 
 /* Whether whoever polls a ring's descriptor is told anew: that it is readable now, or isn't any more; or that more was posted while it was, where

@@ -137,10 +137,10 @@ void wulgach_lists_of_files(const struct wulgach_files_form *form, uint32_t coun
 /* A row of lists. */
 struct wulgach_list_row {
     uint64_t at, tag_at;    /* where its descriptor or vector stands, and where its tag */
-    uint32_t slot;          /* its slot: they go one behind the other, from the first on */
+    uint32_t slot;          /* its slot: they go one after the other, from the first on */
 };
 
-/* Writes the row behind so many others: a descriptor takes 4 bytes, a tag 8; else it is a vector (`struct iovec`), or the row of a ring
+/* Writes the row after so many others: a descriptor takes 4 bytes, a tag 8; else it is a vector (`struct iovec`), or the row of a ring
  * (`struct io_uring_rsrc_update`), of 16. */
 void wulgach_row_of(const struct wulgach_lists *lists, uint32_t index, bool is_of_descriptors, struct wulgach_list_row *row);
 
@@ -183,7 +183,7 @@ struct wulgach_eventfd {
 void wulgach_eventfd_begin(struct wulgach_eventfd *eventfd);
 
 /* The fault of registering one, or 0: -16 (EBUSY) if there is one, -14 if its number couldn't be read, -9 if it isn't open, -22 if it is
- * none. Each of the three is false behind one that is. And that is done. */
+ * none. Each of the three is false after one that is. And that is done. */
 int32_t wulgach_eventfd_registering_fault(const struct wulgach_eventfd *eventfd, bool is_read, bool is_open, bool is_eventfd);
 void wulgach_eventfd_register(struct wulgach_eventfd *eventfd, bool is_async);
 
@@ -221,7 +221,7 @@ enum wulgach_enrolling {
     WULGACH_ENROLLING_BEGINS = 8
 };
 
-/* Returns what is done behind this (enum wulgach_enrolling), which came to `res`: BEGINS, and 0, at first. The first fault ends it. */
+/* Returns what is done after this (enum wulgach_enrolling), which came to `res`: BEGINS, and 0, at first. The first fault ends it. */
 uint32_t wulgach_enrolling_next(uint32_t last, int32_t res);
 
 /* The fault of enrolling a ring, before a row is looked for, or 0: -22 of a reserved field, and of a number past the last, unless any is

@@ -62,7 +62,7 @@ enum wulgach_stage {
     WULGACH_SET_UP_BEGINS = 7
 };
 
-/* Returns what a set-up does behind this (enum wulgach_stage), which came to `res`: BEGINS, and 0, at first. The first fault ends it. */
+/* Returns what a set-up does after this (enum wulgach_stage), which came to `res`: BEGINS, and 0, at first. The first fault ends it. */
 uint32_t wulgach_set_up_next(uint32_t last, int32_t res);
 
 /* ---- the memory of a ring, and its end ---- */
@@ -123,7 +123,7 @@ uint32_t wulgach_looked_at_before_sleep(void);
 uint32_t wulgach_looked_at_behind(bool may_be_left, uint32_t rings, uint64_t elapsed);
 bool wulgach_asks_elapsed(bool may_be_left, uint32_t rings);
 
-/* Whether the lock of all rings is tried once more behind a close in a signal's handler, which was tried so often: a hundred times, with a moment for
+/* Whether the lock of all rings is tried once more after a close in a signal's handler, which was tried so often: a hundred times, with a moment for
  * others between two. Who has it may wait for what the handler's own thread has. Our own rule. */
 bool wulgach_tries_rings_again(uint32_t tries);
 

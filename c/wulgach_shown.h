@@ -89,7 +89,7 @@ enum wulgach_occasion {
     WULGACH_HEARS_FOR_CALL = 0,             /* a call says so, which doesn't ask for what has overflowed, */
     WULGACH_HEARS_FOR_CALL_THAT_ASKS = 1,   /* or does: the flag of WULGACH_HEAR */
     WULGACH_HEARS_BEHIND_STEP = 2,          /* something has gone on in a call */
-    WULGACH_HEARS_TO_POST = 3               /* a completion may be posted behind it: an operation is carried out, or what no operation ends with is told */
+    WULGACH_HEARS_TO_POST = 3               /* a completion may be posted after it: an operation is carried out, or what no operation ends with is told */
 };
 
 /* Whether what has overflowed is asked for there: by a call that asks for it alone. */
@@ -105,7 +105,7 @@ enum wulgach_heard_step {
 /* The bit 1 << STEP of each, where so many were reaped since it was last heard: they are done by rising bits. */
 uint32_t wulgach_heard_steps(uint32_t reaped, bool is_asked);
 
-/* Whether the ring is shown anew behind so many completions that have moved into it: else the tail and the flags are as they were shown. */
+/* Whether the ring is shown anew after so many completions that have moved into it: else the tail and the flags are as they were shown. */
 bool wulgach_shows_again(uint64_t moved);
 
 /* ---- a descriptor that polls ---- */
@@ -133,7 +133,7 @@ void wulgach_watched_add(struct wulgach_watched *watched, uint32_t events, uint6
 /* Returns what is changed (enum wulgach_watch) of a descriptor that was polled for so, or wasn't, and is to be so, or isn't. */
 uint32_t wulgach_watch_of(const struct wulgach_watched *before, bool was_watched, const struct wulgach_watched *after, bool is_watched);
 
-/* Whether a descriptor is added whose renewal came to this: behind -2 (ENOENT, epoll_ctl(2)) its number was another file's. */
+/* Whether a descriptor is added whose renewal came to this: after -2 (ENOENT, epoll_ctl(2)) its number was another file's. */
 bool wulgach_watch_adds_behind(int32_t res);
 
 /* What a ring's descriptor polls for beside what its requests wait for, as a set of bits. */

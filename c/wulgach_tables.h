@@ -83,7 +83,7 @@ int32_t wulgach_table_closing_fault(const struct wulgach_table *table, const uin
 
 /* Writes the slot for a file of an entry with this `file_index`, and returns 0; else returns the fault, and writes nothing. Of one slot it
  * is -6 if there is no table, and -22 if it hasn't that slot. A file that asks for any (IORING_FILE_INDEX_ALLOC) gets the first free one
- * of those that are given out: from the one on behind which the last was filled, or which was emptied last, and then from their first on.
+ * of those that are given out: from the one on after which the last was filled, or which was emptied last, and then from their first on.
  * -23 (ENFILE) if none is free. */
 int32_t wulgach_table_place(const struct wulgach_table *table, const uint64_t *words, size_t count, uint32_t file_index, uint32_t *slot);
 
@@ -209,7 +209,7 @@ enum wulgach_placing {
     WULGACH_PLACING_BEGINS = 7
 };
 
-/* Returns what is done behind this (enum wulgach_placing), which came to `res`: BEGINS, and 0, at first. The first fault ends it. */
+/* Returns what is done after this (enum wulgach_placing), which came to `res`: BEGINS, and 0, at first. The first fault ends it. */
 uint32_t wulgach_placing_next(uint32_t last, int32_t res);
 
 /* What a call returns that has changed so many slots, and ended with this fault or 0: how many, or of none the fault. */

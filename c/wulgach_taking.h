@@ -64,7 +64,7 @@ struct wulgach_taking {
 };
 
 /* Begins a call that has taken nothing. Returns how many it takes at most: those that are published, and no more than it is asked for, but
- * all that the core was given before. What comes next, `next`, is the head of the ring behind what it has taken.
+ * all that the core was given before. What comes next, `next`, is the head of the ring after what it has taken.
  * Unless that is 0, the cell is written where the word of its first position stands. */
 uint32_t wulgach_taking_begin(struct wulgach_taking *taking, const struct wulgach_submitting *asked, uint32_t *cell);
 
@@ -78,7 +78,7 @@ enum wulgach_onward {
  * it, and an entry with a fault, unless the ring submits all or the entry links the next. */
 uint32_t wulgach_taking_took(struct wulgach_taking *taking, const struct wulgach_item *item, uint32_t *cell);
 
-/* The fault of a call that memory was refused behind so many positions that it has staged, or 0: then it submits these. Refused for the next
+/* The fault of a call that memory was refused after so many positions that it has staged, or 0: then it submits these. Refused for the next
  * position, it is -11 (EAGAIN) if there are none. By the core, which was given them, it is -11: they stay staged, and the next call goes on
  * with them. */
 int32_t wulgach_refusal_fault(uint32_t staged, bool is_core);
@@ -148,7 +148,7 @@ bool wulgach_drains_accept(struct wulgach_drains *drains, const struct wulgach_c
 void wulgach_drains_end(struct wulgach_drains *drains, bool is_draining);
 
 /* Whether the oldest outstanding request can start, if it hasn't. Else the core is to be asked which can: by Linux's rules a drain, and what
- * comes behind one, waits for a turn of its own. */
+ * comes after one, waits for a turn of its own. */
 bool wulgach_oldest_starts(const struct wulgach_drains *drains, bool linux_rules);
 
 /* Whether it may be kept which requests the core lets start: no drain was ever accepted. Then one can start as soon as what links it has ended,
@@ -163,7 +163,7 @@ bool wulgach_lets_others_start(bool linux_rules, bool has_failed, bool is_cancel
  * that drains is outstanding; and there is memory for it. */
 bool wulgach_drains_may_post(const struct wulgach_drains *drains, uint64_t staged, bool linux_rules, bool has_memory);
 
-/* ---- behind a completion that was put off ---- */
+/* ---- after a completion that was put off ---- */
 
 /* What is to come in a ring. */
 enum wulgach_coming {

@@ -161,7 +161,7 @@ void wulgach_times_wait(const struct wulgach_times *times, const struct wulgach_
 /* Writes what has come when it has waited. */
 void wulgach_times_woken(const struct wulgach_times *times, const struct wulgach_timeout *rows, size_t room, const struct wulgach_limit *limit, struct wulgach_woken *woken);
 
-/* How a timeout ends that is linked behind a request which has ended: with -62 (ETIME) if it has cancelled it, else with -125
+/* How a timeout ends that is linked to a request which has ended: with -62 (ETIME) if it has cancelled it, else with -125
  * (ECANCELED). */
 int32_t wulgach_timeout_linked_outcome(bool has_cancelled);
 
@@ -188,7 +188,7 @@ struct wulgach_span {
 /* Writes so many nanoseconds as ppoll(2) takes them. */
 void wulgach_span_of(uint64_t nanoseconds, struct wulgach_span *span);
 
-/* Writes to when time moves on behind such a sleep, where nothing has woken it; no limit: it was a nap, and only what a clock says has
+/* Writes to when time moves on after such a sleep, where nothing has woken it; no limit: it was a nap, and only what a clock says has
  * passed. To be asked before the sleep. */
 void wulgach_times_comes_to(const struct wulgach_times *times, const struct wulgach_limit *until, bool can_be_woken, struct wulgach_limit *end);
 

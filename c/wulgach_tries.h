@@ -40,8 +40,8 @@ enum wulgach_try {
     WULGACH_CALL_UNWILLING = 8      /* or as the entry says, and its descriptor is asked not to wait meanwhile: O_NONBLOCK */
 };
 
-/* Returns what is next of a transfer (enum wulgach_try), behind what was done last, which came to `res`, and writes what it ends with, if it
- * ends. `last` is 0 at first; behind WULGACH_TRY_FINDS the transfer is as was found, and `res` that of the call before. Each call is
+/* Returns what is next of a transfer (enum wulgach_try), after what was done last, which came to `res`, and writes what it ends with, if it
+ * ends. `last` is 0 at first; after WULGACH_TRY_FINDS the transfer is as was found, and `res` that of the call before. Each call is
  * asked not to wait, by itself or by its descriptor; a transfer ends with what the last call came to, or with its fault; and what a stream gave is told. */
 uint32_t wulgach_transfer_next(const struct wulgach_transfer *transfer, uint32_t last, int32_t res, int32_t *end);
 
@@ -70,11 +70,11 @@ enum wulgach_turn {
     WULGACH_TURN_ASKS_ERROR = 7 /* its socket is asked for its error, which is what that came to: 0 if it has none */
 };
 
-/* Returns what is next of an operation of sockets or of a splice (enum wulgach_turn), behind what was done last, which came to `res`, and
- * writes what it ends with, if it ends with an error, or with what its call gave. `last` is 0 at first; behind a call, `done` has what that
+/* Returns what is next of an operation of sockets or of a splice (enum wulgach_turn), after what was done last, which came to `res`, and
+ * writes what it ends with, if it ends with an error, or with what its call gave. `last` is 0 at first; after a call, `done` has what that
  * has moved. A connection is accepted only on a socket that was found ready just before, where it might wait; a connect that was begun is made
  * again once its socket is ready and has no error; a call ends with what came last, or with -11 (EAGAIN), or 0 of a connect that is found
- * made; and bytes that were moved are told. A connect that comes to -103 (ECONNABORTED) is made once more: the one call behind a call. */
+ * made; and bytes that were moved are told. A connect that comes to -103 (ECONNABORTED) is made once more: the one call after a call. */
 uint32_t wulgach_call_next(const struct wulgach_submission *entry, const struct wulgach_call *call, uint32_t last, int32_t res, int32_t *end);
 
 /* Which events a poll finds there, where poll(2) or epoll_wait(2), which doesn't wait, came to this and shows these: none of a call that

@@ -60,17 +60,17 @@ void wulgach_needs_as(const struct wulgach_submission *entry, uint32_t form, str
 enum wulgach_found {
     WULGACH_FOUND_AT_START = 0,     /* when it starts */
     WULGACH_FOUND_BY_CALL = 1,      /* by the call that has taken it */
-    WULGACH_FOUND_IN_TURN = 2,      /* by that call, as it starts, or before one behind it does, or the call sleeps or returns */
+    WULGACH_FOUND_IN_TURN = 2,      /* by that call, as it starts, or before one after it does, or the call sleeps or returns */
     WULGACH_ASKS_START = 3          /* by the call, if the core lets it start: that is asked */
 };
 
 /* Returns when those of a request are found that a call has taken just now (enum wulgach_found), as far as it is known whether the core lets
  * it start. The call finds them if nothing links it, and no drain was ever accepted; or nothing that drains is outstanding, itself among that,
- * unless the ring goes by Linux's rules, and the core lets it start. Those of another may be what those before it open. Behind one of its
+ * unless the ring goes by Linux's rules, and the core lets it start. Those of another may be what those before it open. After one of its
  * call that may change slots it finds them in its turn. */
 uint32_t wulgach_drains_find_file(const struct wulgach_drains *drains, const struct wulgach_member *request, bool linux_rules, bool behind_change, bool knows_start, bool may_start);
 
-/* The entries of a call, one behind the other, as far as they were seen. */
+/* The entries of a call, one after the other, as far as they were seen. */
 struct wulgach_changes {
     bool may_change_slots;      /* the operation of one may change what the slots of its ring's table of files hold */
 };
@@ -108,8 +108,8 @@ enum wulgach_copying {
     WULGACH_COPYING_BEGINS = 5
 };
 
-/* Returns how a copy of so many bytes goes on (enum wulgach_copying) behind this, which copied so many, or came to this error: BEGINS at first. A part
- * of the bytes, or -14 (EFAULT), ends it; behind any other error the next way is tried. Our own rule. */
+/* Returns how a copy of so many bytes goes on (enum wulgach_copying) after this, which copied so many, or came to this error: BEGINS at first. A part
+ * of the bytes, or -14 (EFAULT), ends it; after any other error the next way is tried. Our own rule. */
 uint32_t wulgach_copying_next(uint32_t last, int64_t copied, uint64_t size);
 
 /* ---- what counts as open ---- */
@@ -320,15 +320,15 @@ enum wulgach_beginning {
  * meanwhile, as by a signal's handler, and leaves its parent's ring as it is. Our own rule. */
 int32_t wulgach_sleep_came_to(int32_t res, bool is_child);
 
-/* Whether more requests become dormant behind a sleep that came to this: to -22 (EINVAL), since it polls more descriptors than the process may have
- * (ppoll(2)). And what that sleep counts as, before which so many were dormant, and behind which so many are: where more are, as one that a descriptor
+/* Whether more requests become dormant after a sleep that came to this: to -22 (EINVAL), since it polls more descriptors than the process may have
+ * (ppoll(2)). And what that sleep counts as, before which so many were dormant, and after which so many are: where more are, as one that a descriptor
  * has ended (1), so that the call looks and sleeps again; else what it came to. Our own rule. */
 bool wulgach_lets_more_lie(int32_t came);
 int32_t wulgach_sleep_counted_as(int32_t came, uint64_t before, uint64_t behind);
 
 /* What is left undone with a ring, as a set of bits. */
 enum wulgach_left {
-    WULGACH_LEAVES_LOCK = 1,    /* its lock isn't taken again behind a sleep */
+    WULGACH_LEAVES_LOCK = 1,    /* its lock isn't taken again after a sleep */
     WULGACH_LEAVES_SLEEP = 2,   /* a sleep isn't taken out of its list, and what wakes that isn't closed */
     WULGACH_LEAVES_DUTIES = 4,  /* whatever is due at a moment isn't done (enum wulgach_duty) */
     WULGACH_LEAVES_SIGHT = 8,   /* it isn't looked at for what a call is told: nothing can be reaped, and no timeout is over */
@@ -340,12 +340,12 @@ enum wulgach_left {
  * child that was forked while a call slept on its parent's ring, and is back from that sleep. Our own rule. */
 uint32_t wulgach_left_of(uint32_t maker, uint32_t process);
 
-/* Returns what comes next of a call that is to sleep (enum wulgach_beginning), behind `last`, which has brought what may let something go on, as the end
+/* Returns what comes next of a call that is to sleep (enum wulgach_beginning), after `last`, which has brought what may let something go on, as the end
  * of another ring's files, or what a poll was told; and whose arguments have this fault, or 0, once its mask was read. Where a ring has let go what it had,
  * the call looks again before a fault counts. */
 uint32_t wulgach_sleep_next(uint32_t last, bool has_brought, int32_t fault);
 
-/* What is known behind a wait. */
+/* What is known after a wait. */
 struct wulgach_waited {
     int32_t result;             /* what the sleep came to: an error number's negative, or how many descriptors have ended it */
     bool is_never;              /* there was nothing to wait for, and it didn't sleep */
@@ -366,7 +366,7 @@ struct wulgach_slept_for {
 
 /* Writes what a sleep does for a request that was carried out so often in vain, and of whose socket poll(2) doesn't tell that it was shut down for writing
  * (`asks_broken`), or does. It polls the descriptor of each that may have to wait for it, and naps beside that if `asks_broken`. For one it naps
- * alone: it has no descriptor, as the open of a named pipe; or it was carried out twice or more in vain, once right behind the other though its
+ * alone: it has no descriptor, as the open of a named pipe; or it was carried out twice or more in vain, once right after the other though its
  * descriptor showed ready, and shows ready still. What was in vain counts no more once it doesn't. */
 void wulgach_slept_for(const struct wulgach_standing *standing, const struct wulgach_needs *needs, uint32_t vain, bool is_ready, bool asks_broken, struct wulgach_slept_for *slept);
 
@@ -387,7 +387,7 @@ struct wulgach_poll_row {
  * nothing else, and each is of another descriptor, in the order of their numbers. */
 size_t wulgach_join_polled(struct wulgach_poll_row *rows, size_t count);
 
-/* Whether a timeout fires behind a wait, if its time is over: not behind a sleep that a signal or an error ended. */
+/* Whether a timeout fires after a wait, if its time is over: not after a sleep that a signal or an error ended. */
 bool wulgach_fires_behind(const struct wulgach_waited *waited);
 
 #ifdef __cplusplus

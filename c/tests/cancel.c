@@ -14,7 +14,7 @@ static void demand(bool holds, const char *what)
     }
 }
 
-/* Looks at three requests with user data 1, 1 and 2, of which the first is behind a link. */
+/* Looks at three requests with user data 1, 1 and 2, of which the first is after a link. */
 static int32_t look(const struct wulgach_sought *sought, const bool *wanted)
 {
     static const struct wulgach_outstanding requests[] = {

@@ -71,7 +71,7 @@ static void look_at_barred_fields(void)
     demand(FORM(.opcode = 15, .len = 1, .off = 1ull << 32) == 0 && FORM(.opcode = 45, .off = 0x1000) == -22 && FORM(.opcode = 45, .off = 1ull << 32) == 0 && FORM(.opcode = 16, .off = 1ull << 32) == 0, "what counts 32 bits");
 }
 
-/* A slot where no file is looked for, and what goes before and behind. */
+/* A slot where no file is looked for, and what goes before and after. */
 static void look_at_slots(void)
 {
     static const uint8_t of_paths[] = {18, 19, 21, 35, 36, 37, 38, 39, 42, 44};

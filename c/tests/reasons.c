@@ -198,7 +198,7 @@ static void made_over(void)
     }
 }
 
-/* The bytes of a write stand in its last eight words, eight in each, the first in the lowest byte of the first; behind them are zeros. */
+/* The bytes of a write stand in its last eight words, eight in each, the first in the lowest byte of the first; after them are zeros. */
 static void bytes_of_writes(void)
 {
     uint8_t bytes[64];

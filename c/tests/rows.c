@@ -57,7 +57,7 @@ static void one_request(void)
     check(wulgach_core_free(&core) == 0, "free");
 }
 
-/* Two requests in a whole call are reaped in order, and a third place is left alone; none is reaped behind them. */
+/* Two requests in a whole call are reaped in order, and a third place is left alone; none is reaped after them. */
 static void two_requests(void)
 {
     struct wulgach_core core = {0};
@@ -84,7 +84,7 @@ static void two_requests(void)
     check(wulgach_core_free(&core) == 0, "free");
 }
 
-/* A ring that stops takes up to the entry with a fault, and the rest waits. A whole call of more entries than slots, one behind a
+/* A ring that stops takes up to the entry with a fault, and the rest waits. A whole call of more entries than slots, one after a
  * word that is staged, one beside an open call, and one of a closed ring are refused before any step. */
 static void whole_calls(void)
 {
@@ -190,7 +190,7 @@ static void a_write_reaches_its_file(void)
     check(wulgach_machine_free(&machine) == 0, "free");
 }
 
-/* A call of so many no-ops, all by the entry of one slot, with the head behind it. */
+/* A call of so many no-ops, all by the entry of one slot, with the head after it. */
 static void large_call(struct wulgach_machine *machine, uint32_t count, uint32_t head)
 {
     struct wulgach_step fill = {.kind = WULGACH_FILL};

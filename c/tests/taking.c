@@ -126,7 +126,7 @@ static void search_and_update(void)
     demand(relative.opcode == 11 && relative.user_data == 7, "and nothing else");
 }
 
-/* What comes behind so many pieces of an entry, none of which has a fault, and which hold one vector. */
+/* What comes after so many pieces of an entry, none of which has a fault, and which hold one vector. */
 static int32_t next(struct wulgach_submission entry, uint32_t count, struct wulgach_piece *piece)
 {
     return wulgach_next_piece(&entry, &(struct wulgach_copied){.count = count, .vectors = 1}, piece);
@@ -225,7 +225,7 @@ static void look_at_names(void)
     }
 }
 
-/* The same of messages, without their faults of memory: what is copied behind what, and what that ends with. */
+/* The same of messages, without their faults of memory: what is copied after what, and what that ends with. */
 static void look_at_messages(void)
 {
     enum { SENDMSG = 9, RECVMSG, SENDMSG_ZC = 48, SELECT = 32, GOES_ON = 2, ADDRESS = 1000, VECTORS = 2000 };
@@ -256,7 +256,7 @@ static void look_at_messages(void)
     }
 }
 
-/* The fault of an entry behind its pieces, of which the last has one. */
+/* The fault of an entry after its pieces, of which the last has one. */
 static int32_t last(struct wulgach_submission entry, struct wulgach_copied copied)
 {
     struct wulgach_piece piece;

@@ -144,7 +144,7 @@ static void folded(void)
     check(wulgach_volume_free(&volume) == 0, "free");
 }
 
-/* Room for fewer bytes than there are: those are written, and nothing behind them. */
+/* Room for fewer bytes than there are: those are written, and nothing after them. */
 static void little_room(void)
 {
     struct wulgach_volume volume = made(4096, "first");

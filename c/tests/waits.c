@@ -193,7 +193,7 @@ static void be_impatient(void)
     demand(impatient(CONNECT, 0, fresh) && !impatient(CONNECT, 0, begun) && impatient(SPLICE, 0, fresh) && !impatient(SPLICE, 0, begun) && !impatient(POLL_ADD, 0, fresh), "a connect, a splice");
 }
 
-/* What is next of a transfer; what it ends with comes behind as itself. */
+/* What is next of a transfer; what it ends with comes after as itself. */
 static int32_t next(struct wulgach_transfer transfer, uint32_t last, int32_t res)
 {
     int32_t end = 777;

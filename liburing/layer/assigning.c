@@ -1,5 +1,5 @@
 /* What a request is carried out on. The kernel finds a file when it begins a request; one that is linked, or drains, or comes
- * after one that does, begins behind others, and may use a file that these open.
+ * after one that does, begins after others, and may use a file that these open.
  */
 #define _GNU_SOURCE
 #include "files.h"

@@ -121,7 +121,7 @@ static void drop_tags(const uint64_t *words, uint32_t count)
             wulgach_uses_drop_tag(&buffer_of(words[i])->uses);
 }
 
-/* Its slots go one behind the other, as the library says. */
+/* Its slots go one after the other, as the library says. */
 static void free_words(uint64_t *words, uint32_t count)
 {
     uint32_t slot;

@@ -2,7 +2,7 @@
  * io_uring, and hands on all others. liburing's sources call wulgach_polled_syscall, wulgach_mmap and wulgach_close. A program
  * that maps its rings by mmap itself calls wulgach_syscall: its descriptors are memory, and don't poll. Where a call was trapped,
  * all signals are blocked already: wulgach_blocked_enter is told which the thread has blocked else. Whoever hears of a program's closes asks
- * wulgach_may_name_ring before one, and calls wulgach_look_for_closed behind it.
+ * wulgach_may_name_ring before one, and calls wulgach_look_for_closed after it.
  */
 #define _GNU_SOURCE
 #include "callers.h"

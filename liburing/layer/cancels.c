@@ -75,7 +75,7 @@ static void compare(struct wulgach_outstanding *seen, const struct request *requ
     seen->is_same = same > 0;
 }
 
-/* Has the cancel of a seeker, or of a call of io_uring_register(2), which comes behind all (NULL), look at a request. Whether that is carried out on the
+/* Has the cancel of a seeker, or of a call of io_uring_register(2), which comes after all (NULL), look at a request. Whether that is carried out on the
  * file of this descriptor, and whether the core lets it start, is asked only where it matters. */
 static bool look_for(struct ring *ring, struct wulgach_cancel *cancel, const struct request *seeker, const struct request *request, int on)
 {

@@ -2,7 +2,7 @@
  * it any more and that no call is on it: a set-up, a close that is heard, a call on another ring that sleeps, and once in a while any call. What is left
  * when the process ends isn't freed: threads may use it to the last.
  *
- * A close that the layer is told of may stand in a signal's handler, amid whatever the thread does (signal-safety(7)): behind it nothing is asked of the C
+ * A close that the layer is told of may stand in a signal's handler, amid whatever the thread does (signal-safety(7)): after it nothing is asked of the C
  * library's memory, and no lock is waited for long.
  */
 #define _GNU_SOURCE
@@ -107,7 +107,7 @@ static bool is_reached(struct ring *ring)
     return true;
 }
 
-/* Whether a ring is to be freed now. A call begins under the list's lock. It ends without: behind that it doesn't touch the ring. */
+/* Whether a ring is to be freed now. A call begins under the list's lock. It ends without: after that it doesn't touch the ring. */
 static bool is_gone(struct ring *ring)
 {
     bool is_of_process = is_own(ring);
@@ -261,7 +261,7 @@ void free_closed(void)
     allow_signals(&own);
 }
 
-/* The one behind the last in the list, round and round. */
+/* The one after the last in the list, round and round. */
 static struct ring *next_to_look_at(void)
 {
     looked_at = looked_at && looked_at->next ? looked_at->next : rings;

@@ -49,7 +49,7 @@ static void make_directory(struct ring *ring)
         put_last(directory, ring->requests.rows[i]);
 }
 
-/* Puts a request before the first one behind it, from the end on: the last one mostly. */
+/* Puts a request before the first one after it, from the end on: the last one mostly. */
 static void put_in_turn(struct directory *directory, struct request *request)
 {
     struct drawer *drawer = drawer_of(directory, request->entry.user_data);

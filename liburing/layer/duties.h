@@ -21,11 +21,11 @@ bool do_duties_when_stuck(struct ring *ring);
 void do_duties_at_register_begin(struct ring *ring, uint32_t code);
 void do_duties_at_register_return(struct ring *ring, uint32_t code);
 
-/* Before a completion is posted that no operation has just ended with, and behind those that were posted outside a call. */
+/* Before a completion is posted that no operation has just ended with, and after those that were posted outside a call. */
 void do_duties_before_posting(struct ring *ring);
 void do_duties_behind_posting(struct ring *ring);
 
-/* Behind completions that were stored into ring memory, of so many of which an eventfd is told. */
+/* After completions that were stored into ring memory, of so many of which an eventfd is told. */
 void do_duties_behind_storing(struct ring *ring, uint64_t told);
 
 /* Before the operation of a request is carried out. */

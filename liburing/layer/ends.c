@@ -53,7 +53,7 @@ static bool may_close(uint64_t others, bool was_closed, const struct kept *kept)
     return wulgach_may_close_last(others, was_closed, kept->has_file, kept->is_of_slot, kept->is_same);
 }
 
-/* A request that has files lets them go. Others may go on behind it, as who reads a pipe whose other end it has closed. */
+/* A request that has files lets them go. Others may go on after it, as who reads a pipe whose other end it has closed. */
 static void leave_files(struct ring *ring, struct request *request)
 {
     const struct wulgach_needs *needs = &request->needs;

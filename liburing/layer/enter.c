@@ -29,7 +29,7 @@
 /* What the application asks for. */
 struct waiting {
     uint32_t to_submit, min_complete;
-    struct wulgach_limit limit;     /* how long it waits at most, in nanoseconds; behind the submission, until when in the ring's time */
+    struct wulgach_limit limit;     /* how long it waits at most, in nanoseconds; after the submission, until when in the ring's time */
     bool is_trapped;
     const sigset_t *signals;        /* the thread's mask, while the call sleeps, */
     uint64_t mask;                  /* unless the call gives one, at this address */
@@ -38,7 +38,7 @@ struct waiting {
     uint32_t sleeps;                /* how often the call has begun to sleep */
     uint32_t flags;
     bool is_extended;               /* the last argument is a structure */
-    int fault;                      /* of the last argument, read behind the submission; 0: none */
+    int fault;                      /* of the last argument, read after the submission; 0: none */
 };
 
 /* Reads the structure that a call gives as its last argument, which has this size. Returns its fault, or 0. */
@@ -112,7 +112,7 @@ static int64_t submit_published(struct ring *ring, uint32_t to_submit)
 
 /* ---- what a call wants, and what becomes of it ---- */
 
-/* Submits, and says what came of it. Behind that the last argument is read, and the caller's time counts from then on. A fault of the argument counts only
+/* Submits, and says what came of it. After that the last argument is read, and the caller's time counts from then on. A fault of the argument counts only
  * where nothing was submitted; else it ends the call where that would sleep. */
 static enum wulgach_reply_kind submit_entries(struct ring *ring, struct waiting *waiting, struct wulgach_reply *reply)
 {

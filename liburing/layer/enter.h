@@ -1,4 +1,4 @@
-/* The three calls behind the system calls io_uring_setup(2), io_uring_enter(2) and io_uring_register(2). Each returns
+/* The three calls after the system calls io_uring_setup(2), io_uring_enter(2) and io_uring_register(2). Each returns
  * what the system call does, or the negative of an error number: of entries a call may take more than an int holds. A ring's descriptor is memory, which mmap maps, or polls
  * and is mapped by map_file.
  */

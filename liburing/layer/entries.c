@@ -63,7 +63,7 @@ static int copy_time(struct request *request, uint64_t from)
 _Static_assert(sizeof(struct iovec) == 16 && sizeof(struct msghdr) == 56 && sizeof(struct __kernel_timespec) == 16, "a piece is as long as it is here");
 _Static_assert(sizeof(struct open_how) == 24 && sizeof(struct epoll_event) == 12 && sizeof(struct sockaddr_storage) == 128, "a piece is as long as it is here");
 
-/* Looks at what a structure of an open has behind what is known of it, page by page, since what comes behind a byte that isn't 0 needn't be there. Returns
+/* Looks at what a structure of an open has after what is known of it, page by page, since what comes after a byte that isn't 0 needn't be there. Returns
  * its fault, or 0. */
 static int32_t look_at_rest(uint64_t from, uint64_t end)
 {

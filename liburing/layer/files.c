@@ -167,7 +167,7 @@ struct file *share_file(struct file *file)
     return file;
 }
 
-/* Its slots go one behind the other, as the library says. */
+/* Its slots go one after the other, as the library says. */
 static void free_words(uint64_t *words, uint32_t count)
 {
     uint32_t slot;

@@ -15,7 +15,7 @@ struct request *issuable_behind(struct ring *ring, uint32_t place, const struct 
 /* The least of them, or NULL. */
 struct request *first_issuable(struct ring *ring);
 
-/* Requests were accepted, this number and those behind it. Room was reserved. */
+/* Requests were accepted, this number and those after it. Room was reserved. */
 void note_issuable(struct ring *ring, uint64_t first);
 
 /* One was issued. */

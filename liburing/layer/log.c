@@ -78,7 +78,7 @@ static bool is_log(int fd, struct stat *about)
     return fd >= 0 && pass(SYS_fstat, fd, (long)about, 0, 0, 0, 0) == 0 && about->st_ino == log_of.inode && about->st_dev == log_of.device;
 }
 
-/* The log ends with what stands there, and says so by its mode: a process that can still write would write behind a part of an event. */
+/* The log ends with what stands there, and says so by its mode: a process that can still write would write after a part of an event. */
 static void end_log(int fd)
 {
     static const char said[] = "wulgach: the log of what happens to files can't be written: it ends here\n";
@@ -143,7 +143,7 @@ static size_t length_of(const struct iovec *parts, size_t count)
     return length;
 }
 
-/* Copies runs of bytes one behind the other, and returns how many these are. Where nobody may ask for them they can be read. */
+/* Copies runs of bytes one after the other, and returns how many these are. Where nobody may ask for them they can be read. */
 static size_t copy_runs(pid_t thread, const struct iovec *to, const struct iovec *runs, size_t count)
 {
     int kept = errno;
@@ -172,7 +172,7 @@ static struct iovec join_last(pid_t thread, struct iovec *runs, size_t count)
     return room;
 }
 
-/* (an event of which less could be written than it says would hide all that stand behind it) */
+/* (an event of which less could be written than it says would hide all that stand after it) */
 void log_event(struct event *event, const char *path, const char *second_path, const struct iovec *bytes, size_t count)
 {
     struct iovec parts[IN_FRONT + count], joined = {0};

@@ -32,9 +32,9 @@ enum event_kind {
 /* The flag of a write that a sync of its range follows, and that of a sync which is of its range alone. */
 enum { SYNCS_ITS_RANGE = 1, IS_OF_RANGE = 2 };
 
-/* Behind it stand its path, its second path and its bytes. */
+/* After it stand its path, its second path and its bytes. */
 struct event {
-    uint32_t size;              /* with all that stands behind it */
+    uint32_t size;              /* with all that stands after it */
     uint16_t kind, flags;
     uint32_t process, thread;
     uint64_t operation;         /* of a ring: which; of a call: 0 */

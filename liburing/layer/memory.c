@@ -18,7 +18,7 @@
 #include <sys/mman.h>
 #include <unistd.h>
 
-/* Where the array and the completions stand in their mappings: behind the words, on a cache line of their own. */
+/* Where the array and the completions stand in their mappings: after the words, on a cache line of their own. */
 enum { BEHIND_WORDS = 64 };
 
 static void *map(int fd, size_t size, uint64_t offset)

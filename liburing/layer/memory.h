@@ -29,7 +29,7 @@ struct memory {
     uint32_t entry_cells, completion_cells; /* how many cells an entry and a completion take: 1, or 2 where they are large */
     uint32_t sq_entries, cq_entries;    /* as the layer made them: the application can write to the words */
     size_t sq_size, cq_size, entries_size;  /* in bytes */
-    bool is_single;                     /* both rings stand in one mapping, the completion ring behind the other */
+    bool is_single;                     /* both rings stand in one mapping, the completion ring after the other */
 };
 
 /* A memfd. Returns it, or the negative of an error number. */
@@ -46,7 +46,7 @@ void *map_again(const struct memory *memory, const struct wulgach_mapping *asked
 
 void free_memory(struct memory *memory);
 
-/* The words are shared with the application: one side stores behind what it wrote, the other loads before it reads. */
+/* The words are shared with the application: one side stores after what it wrote, the other loads before it reads. */
 static inline uint32_t load_word(const uint32_t *word)
 {
     return __atomic_load_n(word, __ATOMIC_ACQUIRE);

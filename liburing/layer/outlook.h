@@ -9,7 +9,7 @@
  *                       it without starting it, `f3` finishes it, `b3` does both, and `r` returns
  *   silent RING NUMBER  a request has ended without a completion
  *   break               time passes; or a peek begins that finds nothing, and returns once anything has gone on. What could
- *                       go on before means something else behind it
+ *                       go on before means something else after it
  */
 #ifndef OUTLOOK_H
 #define OUTLOOK_H

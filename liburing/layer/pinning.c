@@ -36,7 +36,7 @@ static bool can_ask(uintptr_t page)
     return ask_for((uintptr_t)&here, 1, page);
 }
 
-/* Reads a file to its end, with a 0 behind it. NULL: it can't be read, or there is no memory for it. */
+/* Reads a file to its end, with a 0 after it. NULL: it can't be read, or there is no memory for it. */
 static char *read_file(const char *path)
 {
     size_t length = 0, room = 0;

@@ -55,7 +55,7 @@ bool can_finish(struct ring *ring, struct request *request)
     return look == WULGACH_LOOK_FINISHES;
 }
 
-/* Whether a request goes on behind this result. */
+/* Whether a request goes on after this result. */
 static bool goes_on_behind(const struct ring *ring, const struct request *request, int32_t res)
 {
     return wulgach_goes_on(&ring->completions.at, request->needs.goes_on, submission_of(&request->entry), request->done, comes_of_ring(ring, request), res, ring->memory.cq_entries);
@@ -88,7 +88,7 @@ static bool brings_event(struct ring *ring, struct request *request, int32_t res
     return true;
 }
 
-/* Does what is due behind an operation. True: it ends. */
+/* Does what is due after an operation. True: it ends. */
 static bool do_try_duty(struct ring *ring, struct request *request, int32_t res, enum wulgach_tried_duty duty)
 {
     switch (duty) {

@@ -121,7 +121,7 @@ size_t place_of(const struct requests *requests, uint64_t number)
     return place;
 }
 
-/* The rows before it, or behind it, are moved: where there is room on both sides, the fewer. */
+/* The rows before it, or after it, are moved: where there is room on both sides, the fewer. */
 size_t insert_request(struct requests *requests, struct request *request)
 {
     size_t count = requests->count, place = count;
@@ -177,7 +177,7 @@ static bool free_parts(const struct request *request)
     return is_closed;
 }
 
-/* The rows on the side that has fewer are moved: behind a few that wait, a long chain ends from its beginning on. */
+/* The rows on the side that has fewer are moved: after a few that wait, a long chain ends from its beginning on. */
 __attribute__((noinline)) static size_t take_from_between(struct requests *requests, const struct request *request)
 {
     size_t at = place_of(requests, request->number), behind = requests->count - at - 1;

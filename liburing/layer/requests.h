@@ -37,8 +37,8 @@ struct request {
     int fd, second_fd;              /* their descriptors, or those that the entry names */
     struct buffer *buffer;          /* the registered buffer that it uses, or NULL */
     struct wulgach_needs needs;     /* what its operation needs, and of which kind it is: as zeros, but of a token */
-    bool is_assigned;               /* these are known: when it is accepted, or, behind a link or beside a drain, when it starts */
-    bool is_due;                    /* these are found in its turn: before one behind it starts, or the call sleeps or returns */
+    bool is_assigned;               /* these are known: when it is accepted, or, after a link or beside a drain, when it starts */
+    bool is_due;                    /* these are found in its turn: before one after it starts, or the call sleeps or returns */
     bool is_tried;                  /* whether it may have to wait isn't known: it is tried first, */
     bool is_tried_at_once;          /* and nothing was asked of its descriptor, */
     bool was_tried;                 /* or it was */
@@ -56,7 +56,7 @@ struct request {
     bool is_opened;                 /* a named pipe was opened to read, by this descriptor, and waits for who writes; */
     int opened;
     uint32_t vain;                  /* so often since its descriptor was last found not to be ready as a sleep began */
-    bool is_draining;               /* a member of its chain drains, or it does: those behind wait until all of them have ended */
+    bool is_draining;               /* a member of its chain drains, or it does: those after wait until all of them have ended */
     uint64_t wanted;                /* of one that takes a provided buffer: how many bytes at most, or 0 */
     uint64_t done;                  /* the bytes that a transfer of sockets has moved so far, */
     struct wulgach_buffer provided; /* into the provided buffer that it took, as much of it as it has */
@@ -101,7 +101,7 @@ bool reserve_request(struct requests *requests);
 /* Makes sure that this many more can be added; false if memory was refused. */
 bool reserve_requests(struct requests *requests, size_t more);
 
-/* Adds a request behind all others. Room was reserved. */
+/* Adds a request after all others. Room was reserved. */
 void add_request(struct requests *requests, struct request *request);
 
 /* Puts a request where its number belongs, and returns its place. Room was reserved. */

@@ -1,12 +1,12 @@
 /* Serves runs to `explore`: the program is started once, and each run is a fork of it, made before main or at the first
  * set-up of a ring. So a run costs no new process image, and, at a set-up, nothing of what the program did before.
  *
- *   WULGACH_SERVER    SOCKET:OUTPUT:main or SOCKET:OUTPUT:ring, and :fresh behind it if each run is to find the working
+ *   WULGACH_SERVER    SOCKET:OUTPUT:main or SOCKET:OUTPUT:ring, and :fresh after it if each run is to find the working
  *                     folder as it was at the fork. SOCKET is a descriptor of a stream to `explore`, OUTPUT one of a file that
  *                     takes what the program prints.
  *
  * The server says 'ok PID', or 'no', and why a fork wouldn't be the same as a new process. Then it is asked for runs: a length
- * of 32 bits and so many bytes, which are the seconds that the run may take and variables as NAME=VALUE, each with a zero behind
+ * of 32 bits and so many bytes, which are the seconds that the run may take and variables as NAME=VALUE, each with a zero after
  * it. It answers each with a struct told_run and what the run printed.
  */
 #ifndef SERVER_H

@@ -11,7 +11,7 @@
 
 struct ring;
 
-/* A thread that sleeps in a call on a ring. It stands in memory of the layer's: the call's stack is gone behind a jump. */
+/* A thread that sleeps in a call on a ring. It stands in memory of the layer's: the call's stack is gone after a jump. */
 struct sleeper {
     int wake;                   /* an eventfd that another's call writes to; or negative */
     struct sleeper *next;       /* of the same ring */

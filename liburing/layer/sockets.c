@@ -1,4 +1,4 @@
-/* Sockets and splices: each call is made so that it doesn't wait, and again once the descriptor is ready. What is next behind each is the
+/* Sockets and splices: each call is made so that it doesn't wait, and again once the descriptor is ready. What is next after each is the
  * library's decision. */
 #define _GNU_SOURCE
 #include "sockets.h"
@@ -91,7 +91,7 @@ int copy_address(struct request *request, uint64_t from, size_t size)
     return copy_in(&addressed->address, from, size);
 }
 
-/* Moves the vectors on behind a call that came to this. */
+/* Moves the vectors on after a call that came to this. */
 static void advance(struct request *request, int32_t came_to)
 {
     uint64_t moved = wulgach_moved_by(came_to);
@@ -138,7 +138,7 @@ int32_t move_message(struct request *request, const struct wulgach_means *means)
     return res;
 }
 
-/* One that goes on: sizes and flags stand in the buffer, and behind them the address, the control data and the bytes. Writes how much of the buffer has
+/* One that goes on: sizes and flags stand in the buffer, and after them the address, the control data and the bytes. Writes how much of the buffer has
  * something. */
 static int32_t receive_into_buffer(struct request *request, uint64_t *filled)
 {
@@ -216,7 +216,7 @@ static int32_t call_once(struct ring *ring, struct request *request, uint64_t *f
     return filled ? receive_into_buffer(request, filled) : carry_out_by_means(ring, request);
 }
 
-/* Makes the call, and behind one that finds nothing once more where no more can come: a datagram may have come just before that. */
+/* Makes the call, and after one that finds nothing once more where no more can come: a datagram may have come just before that. */
 static int32_t call_unless_shut(struct ring *ring, struct request *request, uint64_t *filled)
 {
     int32_t res = call_once(ring, request, filled);

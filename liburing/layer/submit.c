@@ -169,7 +169,7 @@ static void do_taken_step(struct ring *ring, const struct wulgach_taken *taken, 
     }
 }
 
-/* Has the core take what is staged, behind which this head stands; it has the first `given` of it already. Returns how many requests it has
+/* Has the core take what is staged, after which this head stands; it has the first `given` of it already. Returns how many requests it has
  * accepted, or the fault of a call that it refused for want of memory. */
 static int take_staged(struct ring *ring, uint32_t given, uint32_t head)
 {

@@ -1,9 +1,9 @@
 /* Time is virtual, and a ring's begins when it is made: an absolute time of a real clock counts by what is left of it now. Which
  * timeouts run, who ends next and how is the library's decision.
  *
- * A linked timeout is a member of its chain to the core, behind the request that it limits. Time runs for it while that
+ * A linked timeout is a member of its chain to the core, after the request that it limits. Time runs for it while that
  * request runs, and over, cancels it. If the request succeeds, the core lets the timeout start: it ends with -125, as a
- * success, so that the chain goes on behind it. If the request fails, the core ends the timeout; the application sees
+ * success, so that the chain goes on after it. If the request fails, the core ends the timeout; the application sees
  * -62 if it was the timeout that cancelled it.
  */
 #define _GNU_SOURCE
@@ -104,7 +104,7 @@ struct request *timeout_behind(const struct ring *ring, const struct request *re
     return next && wulgach_member_limits(&next->member, &request->member) ? next : NULL;
 }
 
-/* What happens to a request matters to itself, if it is a timeout, and to the linked one behind it. */
+/* What happens to a request matters to itself, if it is a timeout, and to the linked one after it. */
 void note_started(struct ring *ring, const struct request *request)
 {
     const struct request *behind = timeout_behind(ring, request);

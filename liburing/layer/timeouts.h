@@ -1,4 +1,4 @@
-/* Timeouts: when they end, those with a count, and those that are linked behind a request. */
+/* Timeouts: when they end, those with a count, and those that are linked to a request. */
 #ifndef TIMEOUTS_H
 #define TIMEOUTS_H
 
@@ -17,10 +17,10 @@ bool reserve_timeouts(struct ring *ring, size_t count);
 /* A running timeout ends. Returns its result. */
 int32_t end_timeout(struct ring *ring, const struct request *timeout);
 
-/* The timeout that is linked behind a request, or NULL. */
+/* The timeout that is linked to a request, or NULL. */
 struct request *timeout_behind(const struct ring *ring, const struct request *request);
 
-/* A request has started, was found by a cancel, or has ended: what that makes of its time, and of that of a timeout which is linked behind it, is
+/* A request has started, was found by a cancel, or has ended: what that makes of its time, and of that of a timeout which is linked to it, is
  * the library's decision. */
 void note_started(struct ring *ring, const struct request *request);
 void note_found(struct ring *ring, const struct request *request);

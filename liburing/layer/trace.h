@@ -1,5 +1,5 @@
 /* The trace of a ring: a file PREFIX.PID.INDEX for each ring on which a step was made, if WULGACH_TRACE gives a PREFIX.
- * It begins with the set-up, has a line STEP = ANSWER for each step in the language of `uring trace`, and behind # what
+ * It begins with the set-up, has a line STEP = ANSWER for each step in the language of `uring trace`, and after # what
  * a reader wants to know: what a request really asks for, its real result, and what was chosen. A line is in the file as
  * soon as it is known, so a program that dies leaves its trace.
  */
@@ -25,7 +25,7 @@ void trace_result(struct ring *ring, const struct request *request, int32_t res)
 /* Hands the line that is being written to the file, and begins another. A trace that can't be written ends with the line before. */
 void end_trace_line(struct ring *ring);
 
-/* A line of its own behind #. */
+/* A line of its own after #. */
 void trace_note(struct ring *ring, const char *format, ...) __attribute__((format(printf, 2, 3)));
 
 #endif

@@ -177,7 +177,7 @@ static struct request *highest_way(struct ring *ring, const struct ways *ways)
     return highest.way;
 }
 
-/* The place of a way; that of returning is behind all others. */
+/* The place of a way; that of returning is after all others. */
 static uint32_t place_of_way(struct ring *ring, const struct ways *ways, const struct request *way)
 {
     if (!way)

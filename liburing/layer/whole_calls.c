@@ -42,7 +42,7 @@ static void trace_submission(struct ring *ring, uint32_t count, const struct wul
         trace_step(ring, &step, &answer);
 }
 
-/* Whether the core has none of it, and each word names a slot: behind one that doesn't nothing more is staged. */
+/* Whether the core has none of it, and each word names a slot: after one that doesn't nothing more is staged. */
 static bool can_be_whole(const struct ring *ring, uint32_t given)
 {
     return given == 0 && ring->staged.rows[ring->staged.count - 1];

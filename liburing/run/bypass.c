@@ -171,7 +171,7 @@ void write_bypass(uint8_t *page, const uint8_t *number, const uint8_t *call)
     at = put(at, &offset, sizeof offset);
     at = put(at, "\xe3\x1c", 2);                        /* jrcxz: to the last jump */
     at = put(at, "\x48\x8d\x64\x24\x80", 5);            /* lea -128(%rsp), %rsp */
-    at = put_address(at, "\x48\xb9", call + 2);         /* movabs $behind, %rcx */
+    at = put_address(at, "\x48\xb9", call + 2);         /* movabs $after, %rcx */
     at = put(at, "\x51", 1);                            /* push %rcx */
     at = put_address(at, "\x48\xb8", bypass_all);       /* movabs $bypass_all, %rax */
     at = put(at, "\xff\xe0", 2);                        /* jmp *%rax */

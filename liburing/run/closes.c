@@ -1,11 +1,11 @@
-/* The program's calls by which a ring's descriptor may be closed: behind one the rings that nobody can reach any more let go what they have registered and
+/* The program's calls by which a ring's descriptor may be closed: after one the rings that nobody can reach any more let go what they have registered and
  * what waits in them, as the kernel has it with the last descriptor. Any other close costs a look whether the number may be a
  * ring's.
  *
  * A close by a system call of the program's own isn't heard, since no filter can tell a ring's number from others; nor is that of the real
  * liburing.
  *
- * A program may close in a signal's handler, amid malloc or free (signal-safety(7)). So what the layer frees behind a close is kept, and freed when it next
+ * A program may close in a signal's handler, amid malloc or free (signal-safety(7)). So what the layer frees after a close is kept, and freed when it next
  * frees anything in a call.
  */
 #define _GNU_SOURCE
@@ -45,7 +45,7 @@ static void want_real(void)
         find_real();
 }
 
-/* Whether the thread looks behind a close now. */
+/* Whether the thread looks after a close now. */
 static __thread bool is_behind __attribute__((tls_model("initial-exec")));
 
 /* A block of memory that is to be freed, and the next (malloc's smallest has room for that). */

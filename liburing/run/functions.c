@@ -19,7 +19,7 @@ struct sought {
     const uint8_t *function;
 };
 
-/* The last one that doesn't begin behind the address. */
+/* The last one that doesn't begin after the address. */
 static const uint8_t *look_up(const struct table *table, uintptr_t address)
 {
     intptr_t wanted = (intptr_t)(address - (uintptr_t)table);

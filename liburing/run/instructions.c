@@ -6,7 +6,7 @@
 #include <string.h>
 
 /* What follows an opcode: nothing (.), a byte (b), two (w), three (e), four (j), four or with a prefix two (z), such or with REX.W eight
- * (q), an address (o); and behind the bytes that name registers or memory nothing (m), a byte (M), four or two (Z), or these only for a
+ * (q), an address (o); and after the bytes that name registers or memory nothing (m), a byte (M), four or two (Z), or these only for a
  * test (t, T). An opcode that isn't known or isn't one: -. */
 static const char of_one_byte[] =
     "mmmmbz--mmmmbz--" "mmmmbz--mmmmbz--" "mmmmbz--mmmmbz--" "mmmmbz--mmmmbz--"
@@ -14,7 +14,7 @@ static const char of_one_byte[] =
     "MZ-Mmmmmmmmmmmmm" "..........-....." "oooo....bz......" "bbbbbbbbqqqqqqqq"
     "MMw.--MZe.w..b-." "mmmm---.mmmmmmmm" "bbbbbbbbjj-b...." "-.--..tT......mm";
 
-/* The same of those behind 0x0f. */
+/* The same of those after 0x0f. */
 static const char of_two_bytes[] =
     "mmmm-.....-.-m.M" "mmmmmmmmmmmmmmmm" "mmmm----mmmmmmmm" "........--------"
     "mmmmmmmmmmmmmmmm" "mmmmmmmmmmmmmmmm" "mmmmmmmmmmmmmmmm" "MMMMmmm.--mmmmmm"

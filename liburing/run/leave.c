@@ -23,7 +23,7 @@ static bool has_shadow_stack(void)
     return top != 0;
 }
 
-/* The state of the vector registers is one that xrstor reads, behind a call all that is restored was saved, and nothing else is to be. */
+/* The state of the vector registers is one that xrstor reads, after a call all that is restored was saved, and nothing else is to be. */
 static bool is_plain(const ucontext_t *at)
 {
     const greg_t *registers = at->uc_mcontext.gregs;
@@ -35,7 +35,7 @@ static bool is_plain(const ucontext_t *at)
     return mark == EXTENDED_STATE && is_behind_call && !(registers[REG_EFL] & STEPS) && !((uint32_t)at->uc_stack.ss_flags & AUTODISARM) && !has_shadow_stack();
 }
 
-/* rcx has where the call returns to, as behind any call. The last registers are taken from the frame with the stack in it, since signals
+/* rcx has where the call returns to, as after any call. The last registers are taken from the frame with the stack in it, since signals
  * may come again: their frames lie below the stack, and so below what is still to be read. */
 _Static_assert(offsetof(ucontext_t, uc_mcontext.gregs) == 40, "the registers stand where they are read");
 _Static_assert(REG_RSI == REG_RDI + 1 && REG_RBP == REG_RDI + 2 && REG_RBX == REG_RDI + 3 && REG_RDX == REG_RDI + 4 && REG_RAX == REG_RDI + 5 && REG_RCX == REG_RDI + 6 && REG_RSP == REG_RDI + 7, "the last ones stand in this order");

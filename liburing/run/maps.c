@@ -283,7 +283,7 @@ static bool next_range(struct list *list, struct range *range, bool *is_shared)
     return range->end != 0;
 }
 
-/* The next range that is shared with a file of the disk and has bytes in front of `end`, behind `begin`: cut to these. */
+/* The next range that is shared with a file of the disk and has bytes in front of `end`, after `begin`: cut to these. */
 static bool next_shared(struct list *list, uintptr_t begin, uintptr_t end, struct range *range)
 {
     bool is_shared;

@@ -9,7 +9,7 @@
  * - where they aren't a file's, mapped privately and not to be written, the page can't be made writable for a moment, or none within
  *   2 GB below is free;
  * - where the processor can't save its vectors in parts (xsavec);
- * - behind the 64th place that was trapped; and everywhere, if WULGACH_REWRITING is `no`.
+ * - after the 64th place that was trapped; and everywhere, if WULGACH_REWRITING is `no`.
  *
  * A thread bypasses from its first trap at such a place on, and not from within a call, as in a signal's handler.
  */

@@ -8,7 +8,7 @@
 #include <stdint.h>
 #include <ucontext.h>
 
-/* mov $426, %eax, and how many bytes at most stand between it and behind what is moved with it. */
+/* mov $426, %eax, and how many bytes at most stand between it and after what is moved with it. */
 #define NUMBER "\xb8\xaa\x01\x00\x00"
 enum { NUMBER_LENGTH = 5, MOST_MOVED = 64 };
 

@@ -16,7 +16,7 @@
 /* Says a line on standard error: of what, if it is of something, and what is to be said of it. */
 void say(const char *message, const char *of);
 
-/* The C library's calls behind those that are preloaded. */
+/* The C library's calls after those that are preloaded. */
 int real_sigaction(int number, const struct sigaction *action, struct sigaction *before);
 int real_sigmask(int how, const sigset_t *set, sigset_t *before);
 

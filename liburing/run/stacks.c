@@ -29,7 +29,7 @@ static void unmap(void *memory)
     munmap(memory, WHOLE);
 }
 
-/* A thread that ends has none; if it calls behind this, it is trapped, and has another. */
+/* A thread that ends has none; if it calls after this, it is trapped, and has another. */
 static void end_thread(void *memory)
 {
     if (spare)

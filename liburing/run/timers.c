@@ -1,7 +1,7 @@
 /* Timers that call a function in a thread of its own (SIGEV_THREAD). The C library may start that thread with all signals blocked, SIGSYS
  * among them, as 2.36 does: SIGSYS is opened before the program's function is called.
  *
- * Which function that is, and what it is given, is kept until the process ends, since a thread may come behind the end of its timer; the
+ * Which function that is, and what it is given, is kept until the process ends, since a thread may come after the end of its timer; the
  * same two are kept once, unless two threads bring them at a time.
  */
 #define _GNU_SOURCE

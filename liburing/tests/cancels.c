@@ -9,7 +9,7 @@
 #include <poll.h>
 #include <time.h>
 
-/* A read that nobody feeds is limited by a timeout: the chain behind them is cancelled. One that is fed isn't, and the chain
+/* A read that nobody feeds is limited by a timeout: the chain after them is cancelled. One that is fed isn't, and the chain
  * goes on. */
 static void test_linked_timeout(void)
 {
@@ -216,7 +216,7 @@ static void test_cancels_of_any(void)
     close_ring(&ring);
 }
 
-/* By the manual pages' rules a cancel ends a member in the middle of a chain before the one in front of it has ended; once that has, the one behind
+/* By the manual pages' rules a cancel ends a member in the middle of a chain before the one in front of it has ended; once that has, the one after
  * starts. */
 static void test_cancelled_middle(void)
 {
@@ -316,7 +316,7 @@ static bool is_in_order(void)
     return !policy || strcmp(policy, "order") == 0 || strcmp(policy, "lazy") == 0;
 }
 
-/* What was submitted behind a cancel or a removal, also in one call with it, isn't found unless it has started: in order it never has. */
+/* What was submitted after a cancel or a removal, also in one call with it, isn't found unless it has started: in order it never has. */
 static void test_behind_a_cancel(void)
 {
     struct ring ring;

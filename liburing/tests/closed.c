@@ -84,7 +84,7 @@ static void test_last_end(void)
     }
 }
 
-/* A poll that goes on keeps its file open: it is told of what comes behind the close of the program's own descriptor. */
+/* A poll that goes on keeps its file open: it is told of what comes after the close of the program's own descriptor. */
 static void test_kept_by_a_poll(void)
 {
     struct ring ring;
@@ -199,7 +199,7 @@ static void test_closed_behind_a_submission(void)
     }
 }
 
-/* A read that waits keeps the pipe that an entry behind it closes. */
+/* A read that waits keeps the pipe that an entry after it closes. */
 static void test_closed_by_an_entry(void)
 {
     struct ring ring;

@@ -1,5 +1,5 @@
 /* What a call costs, in nanoseconds of the clock: the least of many rounds. Linked with the layer, or, compiled with -DRAW, by
- * inline assembler: then it is the kernel's, or, under uring-run, the layer's behind a trap or where it is rewritten. tests/costs prints all
+ * inline assembler: then it is the kernel's, or, under uring-run, the layer's after a trap or where it is rewritten. tests/costs prints all
  * four.
  *
  *   cost                     NANOSECONDS of a call that does nothing, of one with a no-op, and of a no-op in batches of 32

@@ -70,7 +70,7 @@ static long enter_with(const struct ring *ring, unsigned to_submit, unsigned min
     return result < 0 ? -errno : result;
 }
 
-/* The last argument is read behind the submission, by a call that gets events and has submitted all; and a mask where the call sleeps. */
+/* The last argument is read after the submission, by a call that gets events and has submitted all; and a mask where the call sleeps. */
 static void test_last_argument(void)
 {
     enum { GETS = IORING_ENTER_GETEVENTS, EXTENDED = IORING_ENTER_GETEVENTS | IORING_ENTER_EXT_ARG };

@@ -40,7 +40,7 @@ static int count_told(int loop, int patience)
     return epoll_wait(loop, &found, 1, patience);
 }
 
-/* It is told of what there is as it begins to wait, once, and then of each call that posts, where a completion is reaped behind each, as `is_reaping`
+/* It is told of what there is as it begins to wait, once, and then of each call that posts, where a completion is reaped after each, as `is_reaping`
  * says, and where none is. */
 static void hear_calls(struct ring *ring, int loop, bool is_reaping)
 {
@@ -113,7 +113,7 @@ static void test_nested(void)
     close_ring(&ring);
 }
 
-/* Behind a call by which it isn't readable any more, each is told that it is. */
+/* After a call by which it isn't readable any more, each is told that it is. */
 static void test_readable_again(void)
 {
     struct ring ring;

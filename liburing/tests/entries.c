@@ -112,7 +112,7 @@ static bool gives_descriptor(uint8_t code)
     return code == IORING_OP_ACCEPT || code == IORING_OP_OPENAT || code == IORING_OP_OPENAT2 || code == IORING_OP_SOCKET || code == FIXED_FD_INSTALL;
 }
 
-/* Puts a result behind those of lower user data: which of a chain's members posts first isn't asked here, nor what else a send without
+/* Puts a result after those of lower user data: which of a chain's members posts first isn't asked here, nor what else a send without
  * copies posts. */
 static void insert(uint64_t user_data, int32_t res)
 {
@@ -135,7 +135,7 @@ static void note(struct ring *ring, uint8_t code)
     }
 }
 
-/* Asks with one entry; a linked timeout stands behind what it limits, a read that waits. A worker of the kernel's may take its time. */
+/* Asks with one entry; a linked timeout stands after what it limits, a read that waits. A worker of the kernel's may take its time. */
 static void ask_with(uint8_t code, struct change one, struct change other)
 {
     struct ring ring;
@@ -219,7 +219,7 @@ static const struct known {
     {IORING_OP_READV, OWN, 0x209}, {IORING_OP_WRITEV, OWN, 0x209}, {IORING_OP_READ_FIXED, OWN, 0x209}, {IORING_OP_WRITE_FIXED, OWN, 0x209}, {IORING_OP_READ, OWN, 0x209}, {IORING_OP_WRITE, OWN, 0x209}, {READ_MULTISHOT, OWN, 1},
     {IORING_OP_READV, OFF, 1ull << 63}, {IORING_OP_WRITEV, OFF, 1ull << 63}, {IORING_OP_READ_FIXED, OFF, 1ull << 63}, {IORING_OP_WRITE_FIXED, OFF, 1ull << 63}, {IORING_OP_READ, OFF, 1ull << 63}, {IORING_OP_WRITE, OFF, 1ull << 63},
     {IORING_OP_READV, PAD, 1}, {IORING_OP_WRITEV, PAD, 1}, {IORING_OP_READ_FIXED, PAD, 1}, {IORING_OP_WRITE_FIXED, PAD, 1}, {IORING_OP_READ, PAD, 1}, {IORING_OP_WRITE, PAD, 1}, {READ_MULTISHOT, PAD, 1},
-    /* How much of a write that is longer than its buffer is moved depends on what stands behind that. */
+    /* How much of a write that is longer than its buffer is moved depends on what stands after that. */
     {IORING_OP_WRITE, LEN, 0x80000000},
     /* sendmsg(2) and recvmsg(2) refuse MSG_CMSG_COMPAT. */
     {IORING_OP_SENDMSG, OWN, 1u << 31}, {IORING_OP_RECVMSG, OWN, 1u << 31}, {IORING_OP_SEND, OWN, 1u << 31}, {IORING_OP_RECV, OWN, 1u << 31}, {IORING_OP_SEND_ZC, OWN, 1u << 31}, {IORING_OP_SENDMSG_ZC, OWN, 1u << 31},
@@ -231,7 +231,7 @@ static const struct known {
     {IORING_OP_SENDMSG_ZC, PRIORITY, 4},
     /* A send without copies is served by any socket, also one that refuses it there. */
     {IORING_OP_SEND_ZC, SLOT_OF, 1}, {IORING_OP_SENDMSG_ZC, SLOT_OF, 1},
-    /* A structure of an open has 4,096 bytes at most, and is copied behind what else is wrong with its entry. */
+    /* A structure of an open has 4,096 bytes at most, and is copied after what else is wrong with its entry. */
     {IORING_OP_OPENAT2, OFF, 0}, {IORING_OP_OPENAT2, LEN, 0},
     /* A failure that skips its success posts nothing there. */
     {IORING_OP_FSYNC, FLAGS, IOSQE_CQE_SKIP_SUCCESS}, {IORING_OP_SYNC_FILE_RANGE, FLAGS, IOSQE_CQE_SKIP_SUCCESS}, {IORING_OP_FALLOCATE, FLAGS, IOSQE_CQE_SKIP_SUCCESS}, {IORING_OP_MADVISE, FLAGS, IOSQE_CQE_SKIP_SUCCESS},

@@ -322,7 +322,7 @@ static int32_t connect_to(int fd, const struct sockaddr_in *address)
     return result_of_one(&ring, 1);
 }
 
-/* A connect behind one that was refused, on the same socket, is a new one: it is refused too, or succeeds if somebody listens by then. */
+/* A connect after one that was refused, on the same socket, is a new one: it is refused too, or succeeds if somebody listens by then. */
 static void test_refused_connects(void)
 {
     struct sockaddr_in address = {.sin_family = AF_INET, .sin_addr.s_addr = htonl(INADDR_LOOPBACK)};

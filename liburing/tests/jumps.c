@@ -1,4 +1,4 @@
-/* Tests by direct calls: a signal's handler that leaves a wait by a jump, or calls in it, and how a thread ends behind that. All hold under
+/* Tests by direct calls: a signal's handler that leaves a wait by a jump, or calls in it, and how a thread ends after that. All hold under
  * every policy, and on a real ring. A test that hangs ends by an alarm.
  */
 #define _GNU_SOURCE
@@ -294,7 +294,7 @@ static void *leave_and_end(void *ring)
     return NULL;
 }
 
-/* The thread ends behind the jump, or in the handler, and makes no other call. */
+/* The thread ends after the jump, or in the handler, and makes no other call. */
 static void test_thread_ends(void)
 {
     void (*const handlers[])(int) = {jump, end_thread};
@@ -319,7 +319,7 @@ static void *leave_and_stay(void *ring)
     return NULL;
 }
 
-/* Behind its next call such a thread can be cancelled as it could before. */
+/* After its next call such a thread can be cancelled as it could before. */
 static void test_cancelled_behind(void)
 {
     struct waited waited;
@@ -346,7 +346,7 @@ static void *allow_behind(void *ring)
     return NULL;
 }
 
-/* A thread that allows it behind the jump, in its own time alone, has it so behind its next call. */
+/* A thread that allows it after the jump, in its own time alone, has it so after its next call. */
 static void test_allowed_behind(void)
 {
     struct waited waited;

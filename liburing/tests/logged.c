@@ -62,7 +62,7 @@ static long write_by_ring(const struct ring *ring, int file, const void *from, u
     return do_by_ring(ring, (struct io_uring_sqe){.opcode = IORING_OP_WRITE, .fd = file, .addr = (uintptr_t)from, .len = length});
 }
 
-/* Bytes that can't be read, none or not all of them, are written as far as they can: what stands in the log behind these isn't lost. */
+/* Bytes that can't be read, none or not all of them, are written as far as they can: what stands in the log after these isn't lost. */
 static void bytes(void)
 {
     enum { SIZE = 70 * 4096 };

@@ -87,7 +87,7 @@ static struct io_uring_sqe *put_cancel(struct ring *ring, uint64_t user_data, ui
     return entry;
 }
 
-/* What waits is found by cancels, and by the timeout that is linked behind it. */
+/* What waits is found by cancels, and by the timeout that is linked to it. */
 static void test_cancelled(void)
 {
     struct ring ring;

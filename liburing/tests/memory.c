@@ -121,7 +121,7 @@ static void test_refused_reaps(void)
     }
 }
 
-/* A message is refused memory at each place, where so many requests wait on the other ring: it is sent or not, and posted once, behind
+/* A message is refused memory at each place, where so many requests wait on the other ring: it is sent or not, and posted once, after
  * what comes before it. */
 static bool send_refused(unsigned outstanding, long allowed, long refused)
 {
@@ -184,7 +184,7 @@ static bool tell_refused(unsigned polls, long allowed, long refused, bool is_can
     for (unsigned ended = 0; ended < polls;) {
         struct seen found = next_of(&ring);
         unsigned bit = 1u << found.user_data;
-        /* Of one that was cancelled no event comes behind its end. */
+        /* Of one that was cancelled no event comes after its end. */
         check(!(seen & bit) && (found.res == POLLIN) == (found.flags == IORING_CQE_F_MORE) && (is_cancelled || found.res == POLLIN));
         if (found.res == POLLIN && is_cancelled)
             continue;

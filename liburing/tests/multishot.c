@@ -171,7 +171,7 @@ static int32_t end_on(int fd, int count)
     return res;
 }
 
-/* What can't be polled fails before a buffer is looked for; what isn't open for reading behind that. */
+/* What can't be polled fails before a buffer is looked for; what isn't open for reading after that. */
 static void test_files(void)
 {
     for (int count = 1; count <= 2; count++) {
@@ -243,7 +243,7 @@ static void test_offsets(void)
     }
 }
 
-/* What has offsets and can be polled is read on behind what was read. */
+/* What has offsets and can be polled is read on after what was read. */
 static void test_mounts(void)
 {
     struct ring ring;
@@ -357,7 +357,7 @@ static void test_overflow(void)
     close_ring(&ring);
 }
 
-/* An end of the file is a success to what is linked behind it; what finds no buffer isn't. */
+/* An end of the file is a success to what is linked to it; what finds no buffer isn't. */
 static void test_links(void)
 {
     for (int count = 1; count <= 2; count++) {

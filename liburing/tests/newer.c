@@ -16,10 +16,10 @@
 /* As <linux/io_uring.h> has them. */
 enum { FIXED_FD_INSTALL = 54, FTRUNCATE, BIND, LISTEN, NO_CLOEXEC = 1 };
 
-/* What a failure leaves of the member behind it: it is carried out, or ends with -125. By the manual pages' rules each failure breaks a link. */
+/* What a failure leaves of the member after it: it is carried out, or ends with -125. By the manual pages' rules each failure breaks a link. */
 enum behind { GOES_ON, IS_CANCELLED };
 
-/* Submits the one entry, links a no-op behind it, and wants this result. */
+/* Submits the one entry, links a no-op after it, and wants this result. */
 static void want(struct ring *ring, struct io_uring_sqe *entry, int32_t res, enum behind behind)
 {
     int32_t results[2];

@@ -148,7 +148,7 @@ static void __attribute__((noinline)) want_registers(const struct ring *ring, ui
     WANT(reap(ring) == salt);
 }
 
-/* What the processor's own call leaves in rcx and r11, and how it rounds: those of a call behind which the direction is down. */
+/* What the processor's own call leaves in rcx and r11, and how it rounds: those of a call after which the direction is down. */
 static void want_words(const struct ring *ring)
 {
     static uint32_t rounding = 0x9f80, later;
@@ -345,7 +345,7 @@ static void *call_for_ever(void *none)
     return none;
 }
 
-/* A thread is cancelled behind its call. */
+/* A thread is cancelled after its call. */
 static void cancel(void)
 {
     for (int i = 0; i < 50; i++) {

@@ -1,4 +1,4 @@
-/* Tests of messages that are moved in parts, with MSG_WAITALL, by direct calls: their provided buffers, a cancel or a timeout behind a part,
+/* Tests of messages that are moved in parts, with MSG_WAITALL, by direct calls: their provided buffers, a cancel or a timeout after a part,
  * and control data. All hold under every policy, which the environment says. Expected is what a ring of Linux 6.18 was seen to do.
  *
  *   parts [NAME]     with a name: that test alone
@@ -48,7 +48,7 @@ static struct io_uring_sqe *put_receive(struct ring *ring, uint64_t user_data, u
     return entry;
 }
 
-/* A provided buffer that has a part is the request's, and the rest goes behind that. */
+/* A provided buffer that has a part is the request's, and the rest goes after that. */
 static void test_parts_in_a_buffer(void)
 {
     struct iovec piece = {NULL, ALL};

@@ -81,7 +81,7 @@ static void test_names(void)
     close_ring(&ring);
 }
 
-/* A chain makes a folder, opens a file in it and takes both away; by the manual pages' rules the first that fails ends it, and Linux goes on behind
+/* A chain makes a folder, opens a file in it and takes both away; by the manual pages' rules the first that fails ends it, and Linux goes on after
  * a folder that is there already. */
 static void test_chain(void)
 {
@@ -240,7 +240,7 @@ static void test_how_at_an_edge(void)
     close_ring(&ring);
 }
 
-/* What a slot has isn't closed by exec: an open into one that says so is refused, but behind its path. */
+/* What a slot has isn't closed by exec: an open into one that says so is refused, but after its path. */
 static void test_open_into_slot(void)
 {
     struct ring ring;
@@ -261,7 +261,7 @@ static void test_open_into_slot(void)
     close_ring(&ring);
 }
 
-/* What is wrong with a path or a name is a fault of its entry, and the call ends behind that; seen at a ring of Linux 6.18. */
+/* What is wrong with a path or a name is a fault of its entry, and the call ends after that; seen at a ring of Linux 6.18. */
 static void test_refused_names(void)
 {
     enum { NO_FAULT = 1 };

@@ -284,7 +284,7 @@ static void test_file_limit(void)
     check(waitpid(child, &status, 0) == child && status == 0);
 }
 
-/* A poll of a ring by another that goes on ends with the first event for which it has waited, but not with what is there as it starts. (behind that it
+/* A poll of a ring by another that goes on ends with the first event for which it has waited, but not with what is there as it starts. (after that it
  * waits for an edge) */
 static void test_by_another(void)
 {

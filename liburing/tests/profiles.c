@@ -33,7 +33,7 @@ static void test_refused_drain(void)
     }
 }
 
-/* Behind a member that fails and skips success the others post nothing; nor does the fault behind a first one that skips. */
+/* After a member that fails and skips success the others post nothing; nor does the fault after a first one that skips. */
 static void test_silent_members(void)
 {
     begin(0);
@@ -113,7 +113,7 @@ static void test_cancels(void)
     stop();
 }
 
-/* By Linux's rules a later request waits for what was accepted beside a drain, and behind a drain that isn't the first of its chain. */
+/* By Linux's rules a later request waits for what was accepted beside a drain, and after a drain that isn't the first of its chain. */
 static void test_drains(void)
 {
     begin(0);
@@ -212,7 +212,7 @@ static void test_linked_timeouts(void)
     }
 }
 
-/* A cancel of what has the user data of a linked timeout doesn't find that, whatever has become of its request, and the chain goes on behind it; it finds
+/* A cancel of what has the user data of a linked timeout doesn't find that, whatever has become of its request, and the chain goes on after it; it finds
  * what else has the same. (by the manual pages' rules one without flags may find it) */
 static void test_cancels_of_linked_timeouts(void)
 {

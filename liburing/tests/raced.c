@@ -1,5 +1,5 @@
 /* Tests of a ring's descriptor that polls, beside what others do while a call looks or sleeps. All hold under every policy. They are run with
- * WULGACH_TEST_POLLED. The layer's calls of poll, epoll_wait and ppoll go through the wrapped ones of this program, behind and before which it does what
+ * WULGACH_TEST_POLLED. The layer's calls of poll, epoll_wait and ppoll go through the wrapped ones of this program, after and before which it does what
  * another thread might do just then.
  *
  *   raced [NAME]             with a name: that test alone
@@ -58,12 +58,12 @@ static void test_come_and_gone(void)
     close_ring(&ring);
 }
 
-/* The pipe that another thread seems to use: it is written to behind the first look of the layer that finds nothing after so many, and read
- * behind the first that finds something after so many. A negative number: it isn't. */
+/* The pipe that another thread seems to use: it is written to after the first look of the layer that finds nothing after so many, and read
+ * after the first that finds something after so many. A negative number: it isn't. */
 static const int *raced;
 static int until_write, until_read;
 
-/* And the edges by which another thread seems to be told of a ring are taken behind each look. */
+/* And the edges by which another thread seems to be told of a ring are taken after each look. */
 static bool is_taking_edges;
 static unsigned count_edges(void);
 
@@ -103,7 +103,7 @@ int __wrap_epoll_wait(int fd, struct epoll_event *events, int most, int patience
     return use_pipe(__real_epoll_wait(fd, events, most, patience));
 }
 
-/* Whatever look of a call it is behind which a pipe is read that was written to, before the call or in it: the poll ends, and until it has the
+/* Whatever look of a call it is after which a pipe is read that was written to, before the call or in it: the poll ends, and until it has the
  * descriptor is readable. Beside so many that wait it is the same. */
 static void gone_behind_a_look(unsigned others)
 {
@@ -236,7 +236,7 @@ static void test_two_descriptors(void)
     }
 }
 
-/* A completion is posted behind the look of another thread that was told of the call by an edge: it is told by another. */
+/* A completion is posted after the look of another thread that was told of the call by an edge: it is told by another. */
 static int told_by_edges = -1;
 
 static unsigned count_edges(void)

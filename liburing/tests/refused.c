@@ -128,7 +128,7 @@ static bool open_refused(struct ring *ring, bool is_polled)
     return true;
 }
 
-/* The requests, and the polls beside them where many wait, which have the user data behind theirs. */
+/* The requests, and the polls beside them where many wait, which have the user data after theirs. */
 enum { REQUESTS = 9, CROWD = 36 };
 
 static unsigned reap_refused(struct ring *ring, uint64_t *seen)

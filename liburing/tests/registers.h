@@ -1,4 +1,4 @@
-/* A call of io_uring_enter with known values in all registers, and what is in them behind it. */
+/* A call of io_uring_enter with known values in all registers, and what is in them after it. */
 #ifndef REGISTERS_H
 #define REGISTERS_H
 
@@ -6,7 +6,7 @@
 #include <stdint.h>
 #include <sys/syscall.h>
 
-/* What a call has in its registers, before and behind it. The upper halves of the vectors count where there are any. */
+/* What a call has in its registers, before and after it. The upper halves of the vectors count where there are any. */
 static struct {
     uint64_t vectors[16][4], vectors_behind[16][4];
     uint64_t arguments[6];

@@ -376,12 +376,12 @@ static void test_sqpoll(void)
     check(enter(&ring, 2, 2, IORING_ENTER_GETEVENTS | IORING_ENTER_SQ_WAKEUP) == 2);
     reap_all(&ring, 2, results);
     check(results[0] == 0 && results[1] == 0 && flags_of(&ring) & IORING_SQ_NEED_WAKEUP);
-    /* Behind a call that wakes it, memory alone is looked at. */
+    /* After a call that wakes it, memory alone is looked at. */
     put(&ring, IORING_OP_NOP, 0, IOSQE_IO_LINK);
     put(&ring, IORING_OP_NOP, 1, 0);
     check(enter(&ring, 0, 0, IORING_ENTER_SQ_WAKEUP) == 0);
     check(count_ready(&ring) == 2 && reap(&ring).user_data == 0 && reap(&ring).user_data == 1);
-    /* What is published behind words that name no slot is taken too. */
+    /* What is published after words that name no slot is taken too. */
     publish(&ring, 99);
     publish(&ring, 99);
     put(&ring, IORING_OP_NOP, 5, 0);
@@ -393,7 +393,7 @@ static void test_sqpoll(void)
     close_ring(&ring);
 }
 
-/* Entries and completions of twice the size: each stands behind the other by so much. */
+/* Entries and completions of twice the size: each stands after the other by so much. */
 static void test_large_cells(void)
 {
     struct ring ring;

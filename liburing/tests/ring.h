@@ -44,7 +44,7 @@ static inline void check_at(bool is_so, const char *what, int line)
 
 #define check(is_so) check_at(is_so, #is_so, __LINE__)
 
-/* The seconds behind which a test that hangs is ended by an alarm, if it sets one. */
+/* The seconds after which a test that hangs is ended by an alarm, if it sets one. */
 enum { PATIENCE = 60 };
 
 /* How many times as patient the test is as on a quiet machine. */

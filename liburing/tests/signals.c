@@ -96,7 +96,7 @@ static void submit_from_signal(int number)
     submit_nop(called, 7);
 }
 
-/* A handler's stack may lie in the thread's own: a sleep goes on behind a handler that calls there. */
+/* A handler's stack may lie in the thread's own: a sleep goes on after a handler that calls there. */
 static void test_stack_in_a_stack(void)
 {
     char room[65536];

@@ -210,7 +210,7 @@ static void results_of_two(struct ring *ring, int32_t results[2])
     }
 }
 
-/* A slot is found by a request in its turn: in order behind those of its call that change slots, and always before those behind it. */
+/* A slot is found by a request in its turn: in order after those of its call that change slots, and always before those after it. */
 static void test_turns(void)
 {
     struct ring ring;

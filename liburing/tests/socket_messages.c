@@ -54,7 +54,7 @@ static void test_multishot_messages(void)
     close_ring(&ring);
 }
 
-/* Its sender and its control data are told only where there is room for them: without it the bytes stand right behind what is in front. */
+/* Its sender and its control data are told only where there is room for them: without it the bytes stand right after what is in front. */
 static void test_untold_sender(bool has_room)
 {
     enum { NAME = 16, CONTROL = 64, ROOM = 8, OWN_NAME = 8 };
@@ -91,7 +91,7 @@ static void test_untold_senders(void)
 
 #define MESSAGE(name, name_size, vectors, count, control) {.msg_name = name, .msg_namelen = name_size, .msg_iov = vectors, .msg_iovlen = count, .msg_controllen = control}
 
-/* What is wrong with a message is a fault of its entry, and the call ends behind that: first what its address is, which only one that is sent
+/* What is wrong with a message is a fault of its entry, and the call ends after that: first what its address is, which only one that is sent
  * has read, then its vectors, then what stands in front of the bytes of one that goes on. Seen at a ring of Linux 6.18. */
 static void test_refused_messages(void)
 {
@@ -282,7 +282,7 @@ static void test_send_to_full(void)
     close_ring(&ring);
 }
 
-/* What is told of a message: how many bytes its address has, where there is a place for one; then its flags; and then how many control data. What stands behind
+/* What is told of a message: how many bytes its address has, where there is a place for one; then its flags; and then how many control data. What stands after
  * a field that can't be written stays as it was. Seen at a ring of Linux 6.18. */
 static void test_told_in_order(void)
 {

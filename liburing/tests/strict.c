@@ -60,7 +60,7 @@ static void submit(struct ring *ring, unsigned count, unsigned completions)
         told(results[i]);
 }
 
-/* Drains behind, beside and before a success that is skipped. */
+/* Drains after, beside and before a success that is skipped. */
 static void ask_drains(void)
 {
     static const uint8_t rows[][2] = {
@@ -110,7 +110,7 @@ static void ask_entry(struct ring *ring, struct io_uring_sqe entry)
     told(res);
 }
 
-/* Which fault of an entry's operation, flags and fields comes first, and whether a drain is taken behind it. */
+/* Which fault of an entry's operation, flags and fields comes first, and whether a drain is taken after it. */
 static void ask_flags(void)
 {
     static const uint8_t codes[] = {IORING_OP_NOP, 200, IORING_OP_READ, IORING_OP_FSYNC};

@@ -63,7 +63,7 @@ static void test_cancelled_among_many(void)
     close_ring(&ring);
 }
 
-/* An operation's code doesn't count without its flag; what stands behind it is reserved. */
+/* An operation's code doesn't count without its flag; what stands after it is reserved. */
 static void test_code(void)
 {
     struct ring ring;

@@ -195,7 +195,7 @@ static void test_interrupted(void)
     close_ring(&ring);
 }
 
-/* Reads until it is cancelled, which is asked for behind each call alone. */
+/* Reads until it is cancelled, which is asked for after each call alone. */
 struct reader {
     struct ring *ring;
     int file;

@@ -1,5 +1,5 @@
 /* Tests of calls that would sleep within the layer, with its lock and with all signals blocked: each test is a process of its own, which is
- * killed if it does. Behind the layer's calls of poll, which go through the wrapped one of this program, what was there is taken as another process
+ * killed if it does. After the layer's calls of poll, which go through the wrapped one of this program, what was there is taken as another process
  * might take it just then. All hold under every policy.
  *
  *   unwilling [NAME]         with a name: that test alone
@@ -12,7 +12,7 @@
 #include <sys/eventfd.h>
 #include <sys/prctl.h>
 
-/* The descriptor of which others take what there is, behind so many looks that find it ready: bytes of a pipe, or a connection. Or -1. */
+/* The descriptor of which others take what there is, after so many looks that find it ready: bytes of a pipe, or a connection. Or -1. */
 static int shared = -1;
 static unsigned until_taken;
 
@@ -66,7 +66,7 @@ int __wrap_fcntl(int fd, int code, ...)
     return result;
 }
 
-/* A request waits for what another process takes once it was seen, behind whichever look: it waits for the next. Its descriptor is as it was. */
+/* A request waits for what another process takes once it was seen, after whichever look: it waits for the next. Its descriptor is as it was. */
 static void wait_for_taken(struct ring *ring, int fd, void (*bring)(void))
 {
     for (unsigned looks = 0; looks < 3; looks++) {

@@ -180,7 +180,7 @@ static void test_come_and_gone(void)
     close_ring(&ring);
 }
 
-/* One that starts behind a write and a read of its pipe isn't told of them, though another was running before. */
+/* One that starts after a write and a read of its pipe isn't told of them, though another was running before. */
 static void test_gone_before(void)
 {
     struct ring ring;

@@ -5,7 +5,7 @@ use Rattle.uring_enter.specs.declared.rings.copying.Way.TheVariants as way
 use Rattle.uring_enter.specs.declared.rings.copying.CopyOnto.{CopyOnto}
 use Rattle.uring_enter.specs.declared.rings.copying.CopyOnto.TheVariants as copy
 
--- ways count in the order of `Way`, from 0, and what ends a copy behind them. Our own rule
+-- ways count in the order of `Way`, from 0, and what ends a copy after them. Our own rule
 abbrev pub word_of_copy : CopyOnto → ℕ
 word_of_copy (copy.Goes way.Process) = 0
 word_of_copy (copy.Goes way.Pipe) = 1

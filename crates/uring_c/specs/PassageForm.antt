@@ -21,7 +21,7 @@ use Rattle.uring_enter.specs.declared.waiting.lying.Answered.TheVariants as answ
 use Rattle.uring_enter.specs.declared.waiting.missed.Gone.{Gone}
 use Rattle.uring_enter.specs.declared.waiting.missed.Gone.TheVariants as gone
 
--- the bit of a step of a call is 2 to the power of its place, behind the numbers of checks, which have three bits: so steps are done by rising bits. Our own rule
+-- the bit of a step of a call is 2 to the power of its place, after the numbers of checks, which have three bits: so steps are done by rising bits. Our own rule
 abbrev pub bit : CallSteps → CallStep → ℕ
 bit s step = if is_done s step then 2 ^ (3 + place step) else 0
 

@@ -15,7 +15,7 @@ word_of_beginning Fails = 0
 word_of_beginning Wakes = 1
 word_of_beginning Sleeps = 2
 
--- and behind them what is done before a sleep, in the order of `BeforeSleep`
+-- and after them what is done before a sleep, in the order of `BeforeSleep`
 abbrev pub word_of_sleep : SleepOnto → ℕ
 word_of_sleep (Begins beginning) = word_of_beginning beginning
 word_of_sleep (Does LetsOthersGo) = 3

@@ -53,7 +53,7 @@ pub(crate) fn kind_of(is_count: bool, is_all: bool, is_holds: bool) -> Kind {
     }
 }
 
-/// Which crash is asked for: of this file, in these units, behind so many lines, and by which seed.
+/// Which crash is asked for: of this file, in these units, after so many lines, and by which seed.
 pub(crate) fn asked_of(file: u32, unit: u32, at: Option<u32>, seed: Option<u32>) -> Asked
     ensures { 0 < result.unit }
 {
@@ -71,7 +71,7 @@ pub(crate) fn asked_of(file: u32, unit: u32, at: Option<u32>, seed: Option<u32>)
     }
 }
 
-/// What a crash behind the trace that standard input has leaves of a file, or what is asked of all images; with `is_each` behind each line in turn.
+/// What a crash after the trace that standard input has leaves of a file, or what is asked of all images; with `is_each` after each line in turn.
 pub(crate) fn run_crash(
     rt: &HostRuntime,
     setup: &Setup,
@@ -113,7 +113,7 @@ fn question_of(
     }
 }
 
-/// Answers behind each line of the trace that standard input has, up to that of the crash.
+/// Answers after each line of the trace that standard input has, up to that of the crash.
 fn run_each(
     rt: &HostRuntime,
     setup: &Setup,
@@ -129,7 +129,7 @@ fn run_each(
     told
 }
 
-/// Answers behind each line of a trace, below a line with its number, up to the first bad one. The status is that of the last.
+/// Answers after each line of a trace, below a line with its number, up to the first bad one. The status is that of the last.
 fn tell_each(
     rt: &HostRuntime,
     trace: &[u8],
@@ -158,7 +158,7 @@ fn tell_each(
     Ok(status)
 }
 
-/// How many lines a text has. What stands behind the last end counts as one.
+/// How many lines a text has. What stands after the last end counts as one.
 fn count_lines(text: &[u8]) -> u64 {
     let mut count = 0u64;
     let mut is_ended = true;
@@ -185,16 +185,16 @@ fn write_head(rt: &HostRuntime, line: u64) -> Result<(), Fault> {
     unless_closed(&output, written)
 }
 
-/// The line that stands above the answer behind this line.
+/// The line that stands above the answer after this line.
 fn head_of(alloc: Global, line: u64) -> Result<String, AllocError> {
     let mut head = String::new(alloc);
-    push_text(&alloc, &mut head, "behind line ")?;
+    push_text(&alloc, &mut head, "after line ")?;
     push_number(&alloc, &mut head, line)?;
     push_text(&alloc, &mut head, ":\n")?;
     Ok(head)
 }
 
-/// What is asked behind the lines of a trace that count.
+/// What is asked after the lines of a trace that count.
 fn run_once<R: Read>(
     rt: &HostRuntime,
     input: &mut R,
@@ -261,7 +261,7 @@ fn run_question<R: Read>(
     }
 }
 
-/// The bytes that are asked for, by the two words behind `--`.
+/// The bytes that are asked for, by the two words after `--`.
 fn wanted(alloc: Global, words: &[&str], most: u32) -> Result<Question, Fault> {
     let [off, digits] = words else {
         return Err(Fault::NoBytes);

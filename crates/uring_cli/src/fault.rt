@@ -19,7 +19,7 @@ pub enum Fault {
     /// The set-up has no file of this number, but so many.
     NoFile(u32, u32),
 
-    /// The line of this number behind `--`, counted from 1, is none of an outcome; 0: a claim has no line.
+    /// The line of this number after `--`, counted from 1, is none of an outcome; 0: a claim has no line.
     NoLine(u64),
 
     /// There is no outcome of this number, but so many.
@@ -31,7 +31,7 @@ pub enum Fault {
     /// No history was found that comes to the outcome.
     NoHistory,
 
-    /// The words behind `--` are no offset and bytes.
+    /// The words after `--` are no offset and bytes.
     NoBytes,
 
     /// A crash may leave more images than so many.

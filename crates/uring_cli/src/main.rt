@@ -295,7 +295,7 @@ fn run_timeline(rt: &HostRuntime, setup: &Setup) -> Result<u8, Fault> {
     Ok(status_behind(unless_closed(&output, drawn)?))
 }
 
-/// The exit status behind lines of which some may have been bad.
+/// The exit status after lines of which some may have been bad.
 pub(crate) fn status_behind(has_bad: bool) -> u8 {
     if has_bad { BAD_LINE } else { DONE }
 }

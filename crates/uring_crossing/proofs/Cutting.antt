@@ -15,7 +15,7 @@ drop_plus (suc n) m (x ∷ xs) =
     ap (λ (k : ℕ). drop k (x ∷ xs)) (let same : suc n + m ≡ suc (n + m) = omega arith in same)
     ∙ drop_plus n m xs
 
--- the part that begins here, and what is left behind it
+-- the part that begins here, and what is left after it
 pub cut_next : {X : Type 0} (lens : List ℕ) (values : List X) (i j from to len : ℕ) → i < length lens
     → j ≡ suc i → len ≡ get_or lens i 0 → to ≡ from + min len (length values - from)
     → cut (drop i lens) (drop from values)

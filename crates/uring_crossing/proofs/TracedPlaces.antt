@@ -24,7 +24,7 @@ same w w' f f' s s' e e' o o' ww ff ss ee oo =
     ap (λ x. pick x f s e o) ww ∙ ap (λ x. pick w' x s e o) ff ∙ ap (λ x. pick w' f' x e o) ss
     ∙ ap (λ x. pick w' f' s' x o) ee ∙ ap (λ x. pick w' f' s' e' x) oo
 
--- the step of this place among those that put entries in from this slot on, and others behind them
+-- the step of this place among those that put entries in from this slot on, and others after them
 abbrev at : ℕ → List EntryWords → List Step → ℕ → Option Step
 at slot entries others k =
     pick (nat_lt k (2 * length entries)) (k % 2 == 0) (slot + k / 2) (slice_get entries (k / 2)) (slice_get others (k - 2 * length entries))
@@ -45,7 +45,7 @@ puts_at slot (entry ∷ later) others (suc (suc k)) =
     (sym (ap (λ n. slice_get (entry ∷ later) n) (let e : suc (suc k) / 2 ≡ suc (k / 2) = omega arith in e)))
     (ap (λ n. slice_get others n) (let e : k - 2 * length later ≡ suc (suc k) - 2 * suc (length later) = omega arith in e))
 
--- the takes, and the end behind them
+-- the takes, and the end after them
 takes_at : (entries : List EntryWords) (is_accepted : Bool) (end : Answer) (j : ℕ)
     → option_map (λ e. e.0) (take_or_close (slice_get entries j) is_accepted (j == length entries) end)
     ≡ slice_get (map (λ _. step.Take) entries ++ (step.End ∷ [])) j
@@ -56,7 +56,7 @@ takes_at (entry ∷ later) is_accepted end (suc j) =
     ap (λ b. option_map (λ e. e.0) (take_or_close (slice_get later j) is_accepted b end)) (let e : (suc j == suc (length later)) ≡ (j == length later) = grind (arith, common_steps) in e)
     ∙ takes_at later is_accepted end j
 
--- what is behind those that put entries in
+-- what is after those that put entries in
 abbrev others : List EntryWords → List Step
 others entries = step.StoreTail ∷ step.Begin (length entries) ∷ (map (λ _. step.Take) entries ++ (step.End ∷ []))
 

@@ -10,7 +10,7 @@ use Rattle.uring_core.specs.declared.step.Step.TheVariants as step
 use Rattle.uring_crossing.specs.Traced.{put_steps, call_steps, steps_of, NamesTheSteps}
 use Rattle.uring_crossing.specs.declared.whole_call_memory.EntryWords.{EntryWords}
 
--- steps one behind the other, onto those before, the newest first
+-- steps one after the other, onto those before, the newest first
 abbrev onto : List Step → List Step → List Step
 onto [] before = before
 onto (s ∷ later) before = onto later (s ∷ before)
@@ -28,7 +28,7 @@ takes : (g : Setup) (entries : List EntryWords) (h : History)
 takes g [] h = refl
 takes g (entry ∷ later) h = ap (λ xs. step.Take ∷ xs) (takes g later h)
 
--- a take behind others is as one before them
+-- a take after others is as one before them
 take_last : (entries : List EntryWords) (before : List Step)
     → onto (map (λ _. step.Take) entries) before ≡ map (λ _. step.Take) entries ++ before
 take_last [] before = refl

@@ -9,7 +9,7 @@ use Rattle.uring_crossing.specs.declared.set_up_words.SetupWords.{SetupWords}
 use Rattle.uring_crossing.specs.declared.completion_words.CompletionWords.{CompletionWords}
 use Rattle.uring_crossing.specs.declared.outcome_list.OutcomeList.{OutcomeList}
 
--- a ring of this set-up takes calls of these lengths in whole, and keeps the manual pages' rules: it goes on behind an entry with a fault, and has a slot for each entry of a call
+-- a ring of this set-up takes calls of these lengths in whole, and keeps the manual pages' rules: it goes on after an entry with a fault, and has a slot for each entry of a call
 abbrev pub TakesWhole : Setup → List ℕ → Type 0
 TakesWhole s lens = (s.stops ≡ false) × (s.linux ≡ false) × All (λ len. len ≤ s.sq) lens
 
@@ -29,7 +29,7 @@ pub record AreFound (w : SetupWords) (calls : List (List Sqe)) (found : OutcomeL
   pub asked : IsAskedFor w setup
   pub found_of : AreOf setup calls found
 
--- Room for completions holds as many of these as it has room for, and what was there behind them; and their number is told.
+-- Room for completions holds as many of these as it has room for, and what was there after them; and their number is told.
 pub record ArePosted (posted : List Cqe) (old new : List CompletionWords) (count : ℕ) : Type 0 where
   pub total : count ≡ length posted
   pub told : take (min (length posted) (length old)) new ≡ map words_of_completion (take (min (length posted) (length old)) posted)

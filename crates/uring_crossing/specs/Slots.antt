@@ -1,4 +1,4 @@
--- Glue. What a slot behind a C program's handle owns.
+-- Glue. What a slot after a C program's handle owns.
 use base.Fml.{Fml, ftrue}
 use denote.RattleType.{RattleType}
 use denote.RawPtr.{Ptr}

@@ -10,7 +10,7 @@ use Rattle.uring_crossing.specs.declared.step_words.StepWords.{StepWords}
 use Rattle.uring_trace.specs.Exchanges.{answer_text}
 use Rattle.uring_trace.specs.Spelling.{IsStep}
 
--- the text is a line which is read as this step, and behind it the answer, as a trace is written with its steps
+-- the text is a line which is read as this step, and after it the answer, as a trace is written with its steps
 pub record IsLineOf (text : List ℕ) (s : Step) (a : Answer) : Type 0 where
   pub line : List ℕ
   pub is_step : IsStep line s

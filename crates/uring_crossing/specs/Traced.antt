@@ -21,7 +21,7 @@ abbrev pub filled : ℕ → Option EntryWords → Option Event
 filled slot None = None
 filled slot (Some entry) = Some (step.Fill slot entry.words, answer.Filled)
 
--- and the slot is staged behind that
+-- and the slot is staged after that
 abbrev pub put_event : List EntryWords → ℕ → Option Event
 put_event entries place =
     if place % 2 == 0 then filled (place / 2) (slice_get entries (place / 2)) else
@@ -32,7 +32,7 @@ abbrev pub begun : ℕ → Answer → Answer
 begun count (answer.Taken _ _ _) = answer.Call count
 begun count refusal = refusal
 
--- each entry is taken, as far as the call goes which a ring may stop, and behind the last one the call is closed
+-- each entry is taken, as far as the call goes which a ring may stop, and after the last one the call is closed
 abbrev pub take_or_close : Option EntryWords → (is_accepted is_behind : Bool) → Answer → Option Event
 take_or_close (Some entry) is_accepted is_behind end =
     Some (step.Take, if is_accepted then answer.Entry entry.words else answer.NoMore)

@@ -5,7 +5,7 @@ use Rattle.uring_volume.specs.Choices.{IsLeftBy}
 use Rattle.uring_volume.specs.Listing.{AreTheImages}
 use Rattle.uring_volume.specs.Volume.{Volume, IsShown}
 
--- Room for bytes holds as many of these as it has room for, and what was there behind them; and their number is told.
+-- Room for bytes holds as many of these as it has room for, and what was there after them; and their number is told.
 pub record IsGiven (now old new : List ℕ) (len : ℕ) : Type 0 where
   pub total : len ≡ length now
   pub bytes : (k : ℕ) → k < length now → k < length new → slice_index new k ≡ slice_index now k
@@ -30,12 +30,12 @@ pub record TellsCount (v : Volume) (count : ℕ) : Type 0 where
   pub images : AreTheImages v.unit v.first v.history all
   pub told : count ≡ min (length all) (2 ^ 64 - 1)
 
--- lists of bytes, one behind another
+-- lists of bytes, one after another
 abbrev pub laid_out : List (List ℕ) → List ℕ
 laid_out [] = []
 laid_out (bytes ∷ more) = bytes ++ laid_out more
 
--- the images of a volume were given, one behind another, and the length of each
+-- the images of a volume were given, one after another, and the length of each
 pub record TellsImages (v : Volume) (old new lens_old lens_new : List ℕ) (count total : ℕ) : Type 0 where
   pub all : List (List ℕ)
   pub images : AreTheImages v.unit v.first v.history all

@@ -20,7 +20,7 @@ use Rattle.uring_operations.specs.declared.calls.waiting_call.Doing.TheVariants 
 use Rattle.uring_operations.specs.declared.calls.waiting_call.Turn.{Turn}
 use Rattle.uring_operations.specs.declared.calls.waiting_call.Turn.TheVariants as turn
 
--- kinds count in the order of `Kind`, from 0, and questions in the order of `Question` behind them. Our own rule
+-- kinds count in the order of `Kind`, from 0, and questions in the order of `Question` after them. Our own rule
 abbrev pub word_of_finding : Finding → ℕ
 word_of_finding (finding.Is Never) = 0
 word_of_finding (finding.Is AtOnce) = 1
@@ -31,7 +31,7 @@ word_of_finding (finding.Asks Status) = 5
 word_of_finding (finding.Asks Offsets) = 6
 word_of_finding (finding.Asks Access) = 7
 
--- 0 and 1 say whether it can be finished, and what is asked counts in the order of `Wanted` behind them. Our own rule
+-- 0 and 1 say whether it can be finished, and what is asked counts in the order of `Wanted` after them. Our own rule
 abbrev pub word_of_look : Look → ℕ
 word_of_look look.Waits = 0
 word_of_look look.Finishes = 1
@@ -77,7 +77,7 @@ task_of word =
     if word == 7 then Some (Calls how.Nonblocking) else
     if word == 8 then Some (Calls how.Unwilling) else None
 
--- ends are 0 and 1, a wait 2, and what is done counts in the order of `Doing` behind them. Our own rule
+-- ends are 0 and 1, a wait 2, and what is done counts in the order of `Doing` after them. Our own rule
 abbrev pub word_of_turn : Turn → ℕ
 word_of_turn (turn.Ends _) = 0
 word_of_turn turn.EndsWithDone = 1

@@ -24,7 +24,7 @@ pub struct SetupWords {
     /// Whether `cq` is asked for. Else the completion ring is twice the submission ring.
     pub has_cq: bool,
 
-    /// Whether a submission call stops behind an entry with a fault.
+    /// Whether a submission call stops after an entry with a fault.
     pub stops: bool,
 
     /// Whether requests are kept by Linux's rules. Else they are by the manual pages'.

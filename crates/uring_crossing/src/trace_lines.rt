@@ -151,7 +151,7 @@ fn push_flags<M: TextMemory>(memory: &M, text: &mut String, flags: u8) -> Result
     push_text(memory, text, if flags & 64 != 0 { "S" } else { "" })
 }
 
-/// Appends what the form of an entry's operation has behind its flags.
+/// Appends what the form of an entry's operation has after its flags.
 fn push_fields<M: TextMemory>(memory: &M, text: &mut String, entry: &Sqe) -> Result<(), AllocError>
     ensures granted { ((n : ℕ) → M.grants memory.now n) → IsOk result }
 {

@@ -11,7 +11,7 @@ use crate::whole_call_memory::EntryWords;
 use uring_entry::{Cqe, Sqe};
 use uring_machine::{Answer, Step};
 
-/// The step of this place, from 0, in a submission call of these entries, which began at this head and came to this answer, with its own. `None` behind the last one, and of a call of more entries than any ring has slots.
+/// The step of this place, from 0, in a submission call of these entries, which began at this head and came to this answer, with its own. `None` after the last one, and of a call of more entries than any ring has slots.
 pub fn submitted_event(
     entries: &[EntryWords],
     head: u32,
@@ -73,7 +73,7 @@ fn begun(count: u32, end: &Answer) -> Answer
     }
 }
 
-/// The take of the entry of this place, or behind the last one the end of the call.
+/// The take of the entry of this place, or after the last one the end of the call.
 fn taken_or_end(entries: &[EntryWords], end: &Answer, place: usize) -> Option<(Step, Answer)>
     ensures { result ≡ spec.taken_or_end entries.now end.now place }
 {
@@ -90,7 +90,7 @@ fn taken_or_end(entries: &[EntryWords], end: &Answer, place: usize) -> Option<(S
     }
 }
 
-/// The step of this place, from 0, where these completions are reaped at once, with its answer: the ring's tail is this, and its head behind them. `None` behind the last one.
+/// The step of this place, from 0, where these completions are reaped at once, with its answer: the ring's tail is this, and its head after them. `None` after the last one.
 pub fn reaped_event(
     completions: &[CompletionWords],
     tail: u32,

@@ -212,7 +212,7 @@ fn give_numbers(now: &[u64], numbers: &mut [u64]) -> u64
     now.len() as u64
 }
 
-/// These lists of bytes one behind another.
+/// These lists of bytes one after another.
 fn laid_out<M: Memory>(memory: &M, alloc: Global, lists: &[Vec<u8>]) -> Result<Vec<u8>, AllocError>
     ensures bytes { IfOk result (λ all. all.items ≡ spec.laid_out (map (λ b. b.items) lists.now)) }
     ensures granted { ((n : ℕ) → M.grants memory.now n) → IsOk result }
@@ -239,7 +239,7 @@ fn lengths<M: Memory>(memory: &M, alloc: Global, lists: &[Vec<u8>]) -> Result<Ve
     Ok(lengths)
 }
 
-/// Gives C these images, as much as it has room for: their bytes, one behind another, and the length of each, and how many there are of both. `AllocError`: out of memory, and nothing is given.
+/// Gives C these images, as much as it has room for: their bytes, one after another, and the length of each, and how many there are of both. `AllocError`: out of memory, and nothing is given.
 pub fn give_images<M: Memory>(
     memory: &M,
     alloc: Global,

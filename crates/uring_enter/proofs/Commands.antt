@@ -54,7 +54,7 @@ going_else p rest a log b sight =
     if_false p (waits a log) _ _ (waiting_else p rest a log sight)
     (if_false p (looks a log) _ _ (looking_else p rest a log b sight) (leaving_else p rest a log))
 
--- behind a reply that nothing can go on, for a test that a hearing and passing time don't pass either
+-- after a reply that nothing can go on, for a test that a hearing and passing time don't pass either
 pub stuck_else : (p : Command → Bool) → ((v : ℤ) → p (command.Return v) ≡ false)
     → p (command.Hear true) ≡ false → p command.PassTime ≡ false
     → (a : Asked) (log : List Reply) (sight : Sight) → p (stuck a log sight) ≡ false

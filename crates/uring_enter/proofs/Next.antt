@@ -1,4 +1,4 @@
--- What comes next, behind some replies.
+-- What comes next, after some replies.
 use Rattle.std.proofs.Common.{◌≡◌, ℕ, pos, true, false, List, [], ◌∷◌, refl}
 use Rattle.uring_enter.specs.declared.call.asked.Asked.{Asked}
 use Rattle.uring_enter.specs.declared.call.command.Command.TheVariants as command
@@ -10,7 +10,7 @@ use Rattle.uring_enter.specs.Call.Replies.{is_enough}
 use Rattle.uring_enter.specs.Call.Due.{hearing, ended, due, going}
 use Rattle.uring_enter.specs.Call.After.{before_of}
 
--- the application was heard behind anything but a sleep
+-- the application was heard after anything but a sleep
 pub heard_enough : (a : Asked) (log : List Reply) (sight : Sight)
     → Other ≡ before_of log → is_enough a log sight ≡ true
     → hearing a log sight ≡ ended log (pos 0)

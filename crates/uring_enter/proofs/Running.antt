@@ -52,7 +52,7 @@ few_of : (b : Bool) (log : List Reply) (v : ℤ)
 few_of true log v is = cc
 few_of false log v is = refl
 
--- behind which replies the application is heard, but for a first time
+-- after which replies the application is heard, but for a first time
 heard_behind : (a : Asked) (sight : Sight) (last : Reply) (log : List Reply)
     → is_reply_to (due a (last ∷ log)) (Heard sight) ≡ true
     → due a (Heard sight ∷ last ∷ log) ≡ command.Sleep → IsInVain a (Heard sight ∷ last ∷ log)

@@ -64,7 +64,7 @@ ends_in_time log t run = (
   ],
 )
 
--- none of a number runs, nor behind events that don't start it
+-- none of a number runs, nor after events that don't start it
 abbrev IsNot : ℕ → Timeout → Type 0
 IsNot number t = t.number ≡ number → ⊥
 

@@ -10,7 +10,7 @@ same from from' size size' moved moved' later is_from is_size is_moved =
     ∙ ap (λ n. places_from from' n ++ drop moved later) is_size
     ∙ ap (λ n. places_from from' size' ++ drop n later) is_moved
 
--- the bytes of one vector and of others behind it
+-- the bytes of one vector and of others after it
 behind_one : (from size moved : ℕ) (later : List ℕ)
     → drop moved (places_from from size ++ later)
     ≡ places_from (from + min moved size) (size - min moved size) ++ drop (moved - min moved size) later

@@ -1,4 +1,4 @@
-//! Which request is linked behind which, and which one limits another.
+//! Which request is linked to which, and which one limits another.
 
 pub mod chain_laws;
 pub mod member;

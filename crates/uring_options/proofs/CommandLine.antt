@@ -19,7 +19,7 @@ map_twice : {A B C : Type 0} (f : A → B) (g : B → C) (o : Option A)
 map_twice f g None = refl
 map_twice f g (Some x) = refl
 
--- a command has a name and what is given behind it
+-- a command has a name and what is given after it
 both_given : (sub : Option (Text × List Row)) (name : Option Text) (rows : Option (List Row))
     → option_map (λ p. p.0) sub ≡ name → option_map (λ p. p.1) sub ≡ rows
     → (o : Option (Text × List Row)) → option_map (λ p. p.0) o ≡ name

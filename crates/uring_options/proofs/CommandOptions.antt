@@ -53,7 +53,7 @@ taken_for words run passes =
     let rows = rows_of_rules (shape_for run) fit.plain fit.once words passes in
     (options_taken _ _ setup_options fit.setup rows, options_taken _ _ (own_options run) fit.own rows)
 
--- what the words behind a command give, if they are without a fault
+-- what the words after a command give, if they are without a fault
 abbrev TakesAt : List Text → Shape → Type 0
 TakesAt words s =
     level_fault s [] nothing_held words false [] ≡ [] → TakesNamed (Some (rows_at s words))

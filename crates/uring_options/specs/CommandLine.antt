@@ -231,7 +231,7 @@ abbrev pub IsDrawnCheck : List Row → Type 0
 IsDrawnCheck rows = IsGiven rows (codes "all") false × IsGiven rows (codes "apart") false
     × IsGiven rows (codes "results") false
 
--- what a command runs, over the set-up that these rows and numbers give: `uring explain` the graph if `--graph` is given, behind the line that `--at` gives, else the timeline if `--timeline` is, else the page if `--page` is, else its data if `--json` is, and else the answers; `uring check` whether effects at any moment explain the trace with `--early-effects`, else the verdict with `--all`, `--apart` or `--results`, else the page if `--page` is given, else its data if `--json` is, and else the verdict; `uring play` a play over shared words if `--shared` is given, and else one over lanes; `uring crash` what is left of file 0 if none is given, in units of one byte if none is given
+-- what a command runs, over the set-up that these rows and numbers give: `uring explain` the graph if `--graph` is given, after the line that `--at` gives, else the timeline if `--timeline` is, else the page if `--page` is, else its data if `--json` is, and else the answers; `uring check` whether effects at any moment explain the trace with `--early-effects`, else the verdict with `--all`, `--apart` or `--results`, else the page if `--page` is given, else its data if `--json` is, and else the verdict; `uring play` a play over shared words if `--shared` is given, and else one over lanes; `uring crash` what is left of file 0 if none is given, in units of one byte if none is given
 abbrev pub IsRunOver : Run → List Row → Numbers → Options → Type 0
 IsRunOver run rows n (Trace s echo strict) = (run ≡ Traces) × IsTracedOver rows n s
     × IsGiven rows (codes "echo") echo × IsGiven rows (codes "strict") strict

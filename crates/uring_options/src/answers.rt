@@ -25,7 +25,7 @@ pub enum Options {
     /// `uring explain --graph`: the graph of the outstanding requests of a trace over this set-up.
     Graph {
         setup: Setup,
-        /// Behind which line they are drawn (`--at`).
+        /// After which line they are drawn (`--at`).
         at: Option<u32>,
     },
 
@@ -41,7 +41,7 @@ pub enum Options {
     /// `uring check`: the check of a recorded trace over this set-up.
     Check {
         setup: Setup,
-        /// Whether the lines behind a wrong one are looked at too (`--all`).
+        /// Whether the lines after a wrong one are looked at too (`--all`).
         is_all: bool,
         /// Whether a running request may end with any result, and gives no bytes (`--apart`).
         is_apart: bool,
@@ -67,14 +67,14 @@ pub enum Options {
     /// `uring play --shared`: the same play, whose application and dispatcher share words in place of lanes.
     Shared(Setup, u32),
 
-    /// `uring crash`: what a crash behind a trace over this set-up leaves of a file.
+    /// `uring crash`: what a crash after a trace over this set-up leaves of a file.
     Crash {
         setup: Setup,
         /// The descriptor of the file, 0 to 63 (`--file`).
         file: u32,
         /// How many bytes are left by themselves, 1 to 65,536 (`--unit`).
         unit: u32,
-        /// Behind how many lines the power fails (`--at`).
+        /// After how many lines the power fails (`--at`).
         at: Option<u32>,
         /// By which seed an image is chosen (`--seed`).
         seed: Option<u32>,
@@ -86,7 +86,7 @@ pub enum Options {
         most: Option<u32>,
         /// Whether it is asked if each has some bytes (`--holds`).
         is_holds: bool,
-        /// Whether it is asked behind each line (`--each`).
+        /// Whether it is asked after each line (`--each`).
         is_each: bool,
     },
 

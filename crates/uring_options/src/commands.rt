@@ -37,7 +37,7 @@ static TRACE: CommandRow = CommandRow {
 /// `uring explain`.
 static EXPLAIN: CommandRow = CommandRow {
     name: "explain",
-    about: "Do as trace does, and write behind an answer its reason",
+    about: "Do as trace does, and write the reason after each answer",
     after_help: REASONS,
     options: &[
         SQ, CQ, FILES, START, STOP, LINUX, GRAPH, GRAPH_AT, TIMELINE, PAGE, JSON,

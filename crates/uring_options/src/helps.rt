@@ -39,7 +39,7 @@ and RAW 128 bytes, in lower case hexadecimal.";
 
 /// The reasons of `uring explain`, for its help.
 pub(crate) const REASONS: &str = "\
-Steps and answers are those of trace. Behind an answer to issue, and behind
+Steps and answers are those of trace. After an answer to issue, and after
 not running, stand two spaces, # and the reason. The answer running has none.
 The reasons:
   never accepted, has ended, waits for nobody
@@ -67,7 +67,7 @@ Lines that ask how things stand, and their answers:
 With one of these no answers are written; of several the first listed counts:
   --graph        when the input ends, the outstanding requests as a graph for
                  Graphviz's dot: an ellipse runs, an octagon is doomed, a box
-                 waits, a diamond may start; with --at N as they were behind
+                 waits, a diamond may start; with --at N as they were after
                  line N
   --timeline     when the input ends, a row for each request: the lines at which
                  it was accepted, started and ended, and its completion posted
@@ -95,9 +95,9 @@ The status is 0, 3 and 4 in this order.
 
 The first line may say the set-up, which then counts in place of the options:
   # setup --sq N --cq N --files N --start N
-and --stop, --linux or both behind it. One that begins with # setup and is no such line is bad.
+and --stop, --linux or both after it. One that begins with # setup and is no such line is bad.
 
-With --all the lines behind a wrong one are looked at too, and each wrong one is
+With --all the lines after a wrong one are looked at too, and each wrong one is
 told: the one answer that was called for counts as given, and if there are more
 than one, the step counts as not made. A bad line ends the check even so.
 
@@ -171,8 +171,8 @@ With one of these another thing is written; of several the first listed counts:
                  not kept at OFFSET: HEX, an image that hasn't, and its writes,
                  and the status is 1
 
-With --each it is written behind each line in turn, below a line
-  behind line K:
+With --each it is written after each line in turn, below a line
+  after line K:
 and the status is that of the last. Each is found anew, from the first line on.
 
 A bad line is told on standard error with its number, and nothing is written;
@@ -189,10 +189,10 @@ sorted by their bytes, and then comes how many they are:
 With --contents the files follow, each as it is left:
   file FD len N writes N synced N data HEX
 With --results an outcome is what a program sees that sorts its completions, and
-how many orders it has stands behind it:
+how many orders it has stands after it:
   cqe 1 0 -, cqe 2 0 -  # orders 2
 
-A LINE behind -- is completions, and files, as above. An outcome shows it if its
+A LINE after -- is completions, and files, as above. An outcome shows it if its
 completions and files have these among them, in this order.
   uring outcomes --never -- LINE ..            no outcome shows any LINE
   uring outcomes --always -- LINE ..           each outcome shows some LINE
@@ -225,7 +225,7 @@ requests have ended at the end, and all their completions were reaped:
   length or an error; -125 is nobody's own error
 The history is written as check --apart reads it, and the status is 0.
 
-If there is none the status is 1. One that comes far is written, and behind it the
+If there is none the status is 1. One that comes far is written, and after it the
 first line that it doesn't show, or the end:
   # none shows: STEP = ANSWER
 With --most N the search gives up after N histories. What came furthest by then is

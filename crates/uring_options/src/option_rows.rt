@@ -35,7 +35,7 @@ pub(crate) const START: OptionRow = OptionRow {
 
 pub(crate) const STOP: OptionRow = OptionRow {
     id: "stop",
-    help: "End a submission call behind the first entry with a fault that it takes; the rest is left to later calls",
+    help: "End a submission call after the first entry with a fault that it takes; the rest is left to later calls",
     numbers: None,
 };
 
@@ -65,7 +65,7 @@ pub(crate) const GRAPH: OptionRow = OptionRow {
 
 pub(crate) const GRAPH_AT: OptionRow = OptionRow {
     id: "at",
-    help: "Draw the graph of the moment behind so many lines [default: behind the last]",
+    help: "Draw the graph of the moment after so many lines [default: after the last]",
     numbers: Some((0, 4_294_967_295)),
 };
 
@@ -89,7 +89,7 @@ pub(crate) const JSON: OptionRow = OptionRow {
 
 pub(crate) const ALL: OptionRow = OptionRow {
     id: "all",
-    help: "Go on behind a wrong line, as though the one answer that was called for had been given",
+    help: "Go on after a wrong line, as though the one answer that was called for had been given",
     numbers: None,
 };
 
@@ -143,7 +143,7 @@ pub(crate) const UNIT: OptionRow = OptionRow {
 
 pub(crate) const AT: OptionRow = OptionRow {
     id: "at",
-    help: "Let the power fail behind so many lines [default: behind the last]",
+    help: "Let the power fail after so many lines [default: after the last]",
     numbers: Some((0, 4_294_967_295)),
 };
 
@@ -173,13 +173,13 @@ pub(crate) const LISTED: OptionRow = OptionRow {
 
 pub(crate) const HOLDS: OptionRow = OptionRow {
     id: "holds",
-    help: "Tell whether each crash leaves the bytes HEX at OFFSET, both behind --",
+    help: "Tell whether each crash leaves the bytes HEX at OFFSET, both after --",
     numbers: None,
 };
 
 pub(crate) const EACH: OptionRow = OptionRow {
     id: "each",
-    help: "Write it behind each line in turn, up to that of --at",
+    help: "Write it after each line in turn, up to that of --at",
     numbers: None,
 };
 
@@ -191,7 +191,7 @@ pub(crate) const RESULTS: OptionRow = OptionRow {
 
 pub(crate) const CONTENTS: OptionRow = OptionRow {
     id: "contents",
-    help: "Write the files of each outcome behind its completions",
+    help: "Write the files of each outcome after its completions",
     numbers: None,
 };
 
@@ -221,12 +221,12 @@ pub(crate) const NUMBER: OptionRow = OptionRow {
 
 pub(crate) const NEVER: OptionRow = OptionRow {
     id: "never",
-    help: "Tell whether no outcome shows any of the lines behind --",
+    help: "Tell whether no outcome shows any of the lines after --",
     numbers: None,
 };
 
 pub(crate) const ALWAYS: OptionRow = OptionRow {
     id: "always",
-    help: "Tell whether each outcome shows some of the lines behind --",
+    help: "Tell whether each outcome shows some of the lines after --",
     numbers: None,
 };

@@ -17,7 +17,7 @@ last Given (e ∷ log) run gone = grind (arith, gone, run.1)
 last Dropped [] run gone = grind (arith, gone)
 last Dropped (e ∷ log) run gone = grind (arith, gone, run.1)
 
--- what a run has behind so much is a run
+-- what a run has after so much is a run
 earlier_runs : (next : Use) (log : List Use) → IsUsing (next ∷ log) → IsUsing log
 earlier_runs Put log run = run.0
 earlier_runs Taken log run = run.0

@@ -24,7 +24,7 @@ has_taken res is_transfer = int_lt (pos 0) res || int_eq res (pos 0) && is_trans
 abbrev pub flags_of : ℤ → Bool → ℕ → ℕ
 flags_of res is_transfer id = if has_taken res is_transfer then 1 + id * 2 ^ 16 else 0
 
--- one that would have to wait has taken its buffer if it moved bytes, and keeps it: what it moves next goes behind them. recv(2), MSG_WAITALL; what Linux 6.18 was seen to do
+-- one that would have to wait has taken its buffer if it moved bytes, and keeps it: what it moves next goes after them. recv(2), MSG_WAITALL; what Linux 6.18 was seen to do
 abbrev pub flags_so_far : ℕ → ℕ → ℕ
 flags_so_far moved id = flags_of (pos moved) false id
 
@@ -33,7 +33,7 @@ abbrev pub flags_behind : (would_wait : Bool) → (moved : ℕ) → ℤ → Bool
 flags_behind would_wait moved res is_transfer id =
     if would_wait then flags_so_far moved id else flags_of res is_transfer id
 
--- where it goes on: behind so many bytes of the buffer that it has. None: it has none, and takes the next
+-- where it goes on: after so many bytes of the buffer that it has. None: it has none, and takes the next
 abbrev pub further_in : Buffer → (moved : ℕ) → Option Buffer
 further_in had moved =
     if moved == 0 then None else

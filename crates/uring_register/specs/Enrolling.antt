@@ -73,7 +73,7 @@ naming_fault log known number =
 abbrev pub dismissed_rows : Bool → ℕ → ℕ
 dismissed_rows known count = if known then count else 0
 
--- whether the rings that a thread has by number go in this round of its end, of so many in which the destructors of its keys run (pthread_key_create(3), PTHREAD_DESTRUCTOR_ITERATIONS): in the last, since until then those of the program may call by these numbers. In a kernel they go behind all of them
+-- whether the rings that a thread has by number go in this round of its end, of so many in which the destructors of its keys run (pthread_key_create(3), PTHREAD_DESTRUCTOR_ITERATIONS): in the last, since until then those of the program may call by these numbers. In a kernel they go after all of them
 abbrev pub go_in_round : (round rounds : ℕ) → Bool
 go_in_round round rounds = nat_le rounds round
 

@@ -1,4 +1,4 @@
--- What becomes of a list of files or buffers, by what its rows have come to, and in which order the slots of a table go. io_uring_register(2), IORING_REGISTER_FILES2, IORING_REGISTER_FILES_UPDATE2 and IORING_UNREGISTER_FILES; that none is registered behind a fault, and which slot goes first, is what Linux 6.18 was seen to do.
+-- What becomes of a list of files or buffers, by what its rows have come to, and in which order the slots of a table go. io_uring_register(2), IORING_REGISTER_FILES2, IORING_REGISTER_FILES_UPDATE2 and IORING_UNREGISTER_FILES; that none is registered after a fault, and which slot goes first, is what Linux 6.18 was seen to do.
 use Rattle.std.specs.Prelude.{◌≡◌, ◌+◌, ◌-◌, ◌<◌, ◌≤◌, ℕ, ℤ, Bool, true, false, not, ◌&&◌, nat_lt, Option, Some, None, if◌then◌else◌}
 use Rattle.uring_register.specs.declared.listing.Listing.{Listing}
 use Rattle.uring_register.specs.declared.listing.Listing.TheVariants.{Takes, Puts, Drops}
@@ -18,11 +18,11 @@ takes_next done count fault = not (is_below fault) && nat_lt done count
 abbrev pub next_to_go : (count gone : ℕ) → Option ℕ
 next_to_go count gone = if nat_lt gone count then Some (count - 1 - gone) else None
 
--- a table is registered only if no row has a fault, and behind all of them
+-- a table is registered only if no row has a fault, and after all of them
 abbrev pub PutsWholeLists : Type 0
 PutsWholeLists = (taken count : ℕ) (fault : ℤ) → listing_of taken count true fault ≡ Puts
     → (is_below fault ≡ false) × (count ≤ taken)
 
--- a slot is the one that goes next exactly where as many have gone as stand behind it
+-- a slot is the one that goes next exactly where as many have gone as stand after it
 abbrev pub EachSlotGoesOnce : Type 0
 EachSlotGoesOnce = (count slot : ℕ) → slot < count → next_to_go count (count - 1 - slot) ≡ Some slot

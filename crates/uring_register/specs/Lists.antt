@@ -26,7 +26,7 @@ lists_of_files f count = record { rows = f.fds; tags = 0; count = count; from = 
 abbrev pub bytes_of_row : (is_of_descriptors : Bool) → ℕ
 bytes_of_row is_of_descriptors = if is_of_descriptors then 4 else 16
 
--- the rows of a list stand one behind the other, and so do tags, of 8 bytes each. Addresses and slots wrap, which no list in memory comes to, and no row of a table
+-- the rows of a list stand one after the other, and so do tags, of 8 bytes each. Addresses and slots wrap, which no list in memory comes to, and no row of a table
 abbrev pub row_of : Lists → (index : ℕ) → (is_of_descriptors : Bool) → ListRow
 row_of l index is_of_descriptors = record {
   at = (l.rows + index * bytes_of_row is_of_descriptors) % 2 ^ 64;
@@ -34,7 +34,7 @@ row_of l index is_of_descriptors = record {
   slot = (l.from + index) % 2 ^ 32;
 }
 
--- of lists that reach no further than slots do, the row behind so many others is of the slot that stands as far behind the first
+-- of lists that reach no further than slots do, the row after so many others is of the slot that stands as far after the first
 abbrev pub EachRowHasItsSlot : Type 0
 EachRowHasItsSlot = (l : Lists) (index : ℕ) (is_of_descriptors : Bool) → l.from + index < 2 ^ 32
     → (row_of l index is_of_descriptors).slot ≡ l.from + index

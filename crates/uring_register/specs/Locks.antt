@@ -5,7 +5,7 @@ use Rattle.std.specs.Option.{unwrap_or}
 use Rattle.std.specs.Str.{bytes_eq}
 use Rattle.uring_register.specs.Texts.{is_number, position_of, value_of}
 
--- words have blanks between them: a line's first one, and what stands behind that
+-- words have blanks between them: a line's first one, and what stands after that
 abbrev pub first_word : List ℕ → List ℕ
 first_word line = before_first (λ byte. byte == 32) line
 
@@ -15,7 +15,7 @@ blanks_of text = position_or_len (λ byte. not (byte == 32)) text
 abbrev pub behind_word : List ℕ → List ℕ
 behind_word line = let rest = drop (position_of 32 line) line in drop (blanks_of rest) rest
 
--- what a line says of its lock, behind its number. The arrow of one that is waited for, `1: -> POSIX ..`, is passed over: who waits may have the lock before the descriptor is closed, and one that is lost is worse than a descriptor that stays. Our own rule
+-- what a line says of its lock, after its number. The arrow of one that is waited for, `1: -> POSIX ..`, is passed over: who waits may have the lock before the descriptor is closed, and one that is lost is worse than a descriptor that stays. Our own rule
 abbrev pub lock_of : List ℕ → List ℕ
 lock_of line =
     let rest = behind_word line in
@@ -31,7 +31,7 @@ names digits number = is_number digits && value_of digits == number
 abbrev pub part_of : (word : List ℕ) → (place : ℕ) → List ℕ
 part_of word place = unwrap_or (slice_get (slice_split (λ byte. byte == 58) word) place) []
 
--- a line is of a process by its fourth word, and of a file by the inode behind the two numbers of a device. The device itself says nothing: it isn't always the one that stat(2) tells, as on btrfs and overlayfs. So a lock on a file of the same inode on another device counts too, by which a descriptor stays that needn't
+-- a line is of a process by its fourth word, and of a file by the inode after the two numbers of a device. The device itself says nothing: it isn't always the one that stat(2) tells, as on btrfs and overlayfs. So a lock on a file of the same inode on another device counts too, by which a descriptor stays that needn't
 abbrev pub is_lock_of : (line : List ℕ) → (process inode : ℕ) → Bool
 is_lock_of line process inode =
     let lock = lock_of line in

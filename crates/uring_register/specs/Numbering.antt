@@ -6,7 +6,7 @@ use Rattle.uring_register.specs.declared.numbering.RowOnto.{RowOnto}
 use Rattle.uring_register.specs.declared.numbering.RowOnto.TheVariants.{Does, Fails, Empties, IsDone}
 use Rattle.uring_entry.specs.Errors.{is_below}
 
--- what is done behind this, once that went well: the row is read, -14 (EFAULT), and looked at with its descriptor, -22, -9 and -95; a number is looked for, -16 (EBUSY), and the ring gets it, -24 (EMFILE), which is told in the row
+-- what is done after this, once that went well: the row is read, -14 (EFAULT), and looked at with its descriptor, -22, -9 and -95; a number is looked for, -16 (EBUSY), and the ring gets it, -24 (EMFILE), which is told in the row
 abbrev pub behind_row : Option RowStage → RowOnto
 behind_row None = Does Reads
 behind_row (Some Reads) = Does Judges

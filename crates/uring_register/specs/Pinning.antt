@@ -15,7 +15,7 @@ has_byte_of from size start end = nat_lt from end && nat_lt start (from + size)
 abbrev pub is_missing : Memory → Bool
 is_missing m = m.is_asked && not m.is_there
 
--- it is shared with a file that the kernel writes back, as such pages may not be written behind the file system. Where it isn't known with what it is shared, it is taken to be shared with none, which is our own rule
+-- it is shared with a file that the kernel writes back, as such pages may not be written after the file system. Where it isn't known with what it is shared, it is taken to be shared with none, which is our own rule
 abbrev pub is_of_a_file : Memory → Bool
 is_of_a_file m = m.is_listed && m.is_written_back
 

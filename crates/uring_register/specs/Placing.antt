@@ -6,7 +6,7 @@ use Rattle.uring_register.specs.declared.placing.PlacingOnto.{PlacingOnto}
 use Rattle.uring_register.specs.declared.placing.PlacingOnto.TheVariants.{Does, Fails, TakesOut, IsDone}
 use Rattle.uring_entry.specs.Errors.{is_below}
 
--- what is done behind this, once that went well: the row is read, -14 (EFAULT), and the file of its descriptor made, -9 (EBADF); a slot gets it, -23 (ENFILE), which is told in the row, -14
+-- what is done after this, once that went well: the row is read, -14 (EFAULT), and the file of its descriptor made, -9 (EBADF); a slot gets it, -23 (ENFILE), which is told in the row, -14
 abbrev pub behind_stage : Option PlacingStage → PlacingOnto
 behind_stage None = Does Reads
 behind_stage (Some Reads) = Does Makes

@@ -61,7 +61,7 @@ taken (Unregistered ∷ earlier) = 0
 taken (Took ∷ earlier) = if is_ring earlier then taken earlier + 1 else taken earlier
 taken (_ ∷ earlier) = taken earlier
 
--- buffers stand one behind another, and so do their numbers, of 16 bits
+-- buffers stand one after another, and so do their numbers, of 16 bits
 abbrev pub made : Buffers → ℕ → Buffer
 made asked place = record {
   address = (asked.address + place * asked.length) % 2 ^ 64;
@@ -87,7 +87,7 @@ next_of log = if nat_lt (gone log) (provided log) then Some (nth log (gone log))
 abbrev pub IsTold : List Change → ℕ → ℕ → Type 0
 IsTold log tail n = (n % 2 ^ 16 ≡ tail) × (taken log ≤ n) × (n < taken log + 2 ^ 16)
 
--- of a ring, the cell of the position behind those that were taken, of 16 bits; none, if the tail tells no more
+-- of a ring, the cell of the position after those that were taken, of 16 bits; none, if the tail tells no more
 abbrev pub cell_of : List Change → ℕ → Option ℕ
 cell_of log n = if n == taken log then None else Some (taken log % 2 ^ 16 % entries log)
 

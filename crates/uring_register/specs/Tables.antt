@@ -50,7 +50,7 @@ range_end (Unregistered ∷ earlier) = 0
 range_end (Filled at word ∷ earlier) = range_end earlier
 range_end (Ranged from len ∷ earlier) = from + len
 
--- a slot that was filled or emptied moves the search behind it or to it; one that got another word doesn't
+-- a slot that was filled or emptied moves the search after it or to it; one that got another word doesn't
 abbrev pub hint_behind : ℕ → ℕ → ℕ → ℕ → ℕ
 hint_behind before slot word hint =
     if before == 0 then (if word == 0 then hint else slot + 1) else

@@ -43,7 +43,7 @@ fn flags_of(res: i32, is_transfer: bool, id: u16) -> u32
     }
 }
 
-/// Where the next try of an operation begins that has put so many bytes into the provided buffer `had` so far: behind them, in the same one. `None`: it has put none there, and takes the next of its group.
+/// Where the next try of an operation begins that has put so many bytes into the provided buffer `had` so far: after them, in the same one. `None`: it has put none there, and takes the next of its group.
 pub fn further_in(had: &Buffer, moved: u32) -> Option<Buffer>
     ensures { had.now.address + moved < 2 ^ 64 → result ≡ spec.further_in had.now moved }
 {

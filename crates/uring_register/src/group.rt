@@ -21,7 +21,7 @@ pub struct Buffer {
 #[repr(C)]
 #[derive(Clone, Copy, Drop)]
 pub struct Buffers {
-    /// Of the first; the others stand behind it.
+    /// Of the first; the others stand after it.
     pub address: u64,
 
     /// Of each.
@@ -93,7 +93,7 @@ impl Group {
         if needed <= room { room } else { 2 * needed }
     }
 
-    /// The list has these buffers too, behind all others, as many as it may have. `false`: there are too few rows, and nothing changes.
+    /// The list has these buffers too, after all others, as many as it may have. `false`: there are too few rows, and nothing changes.
     pub fn provide(&mut self, rows: &mut [Buffer], asked: &Buffers) -> bool
         ensures room { (log : List Change) → KeepsGroup log self.old rows.old
             → result ≡ nat_le (left log + (spec.taken_up log asked.now).count) (min (length rows.old) (2 ^ 32 - 1)) }

@@ -48,7 +48,7 @@ pub fn next_to_go(count: u32, gone: u32) -> Option<u32>
     }
 }
 
-/// A table is registered only behind all rows of its lists, and if none has a fault.
+/// A table is registered only after all rows of its lists, and if none has a fault.
 pub fn puts_whole_lists()
     ensures { PutsWholeLists }
 {}

@@ -85,7 +85,7 @@ pub fn lists_of_files(form: &FilesForm, count: u32) -> Lists
     }
 }
 
-/// The row behind so many others, of descriptors or of what takes 16 bytes: vectors, or rows of rings.
+/// The row after so many others, of descriptors or of what takes 16 bytes: vectors, or rows of rings.
 pub fn row_of(lists: &Lists, index: u32, is_of_descriptors: bool) -> ListRow
     ensures { result ≡ spec.row_of lists.now index is_of_descriptors }
 {
@@ -97,7 +97,7 @@ pub fn row_of(lists: &Lists, index: u32, is_of_descriptors: bool) -> ListRow
     }
 }
 
-/// The rows of lists are of slots one behind the other, from the first on.
+/// The rows of lists are of slots one after the other, from the first on.
 pub fn each_row_has_its_slot()
     ensures { EachRowHasItsSlot }
 {}

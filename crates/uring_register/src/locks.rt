@@ -17,7 +17,7 @@ pub fn is_lock_of(line: &[u8], process: u32, inode: u64) -> bool
         && names(part_of(first_word(file), 2), inode)
 }
 
-/// What a line says of its lock: what stands behind its number, and behind the arrow of one that is waited for.
+/// What a line says of its lock: what stands after its number, and after the arrow of one that is waited for.
 fn lock_of(line: &[u8]) -> &[u8]
     ensures { result.now ≡ spec.lock_of line.now }
 {
@@ -35,7 +35,7 @@ fn first_word(line: &[u8]) -> &[u8]
     &line[..position_of(line, b' ')]
 }
 
-/// What stands behind the first word, and the blanks that follow it.
+/// What stands after the first word, and the blanks that follow it.
 fn behind_word(line: &[u8]) -> &[u8]
     ensures { result.now ≡ spec.behind_word line.now }
 {

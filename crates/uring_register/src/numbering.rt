@@ -36,7 +36,7 @@ pub enum RowOnto {
     IsDone,
 }
 
-/// What a row does behind this, which came to `res`. `None`: at first.
+/// What a row does after this, which came to `res`. `None`: at first.
 pub fn next_of_row(last: Option<RowStage>, res: i32) -> RowOnto
     ensures { result ≡ spec.next_of_row last res }
 {

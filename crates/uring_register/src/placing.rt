@@ -33,7 +33,7 @@ pub enum PlacingOnto {
     IsDone,
 }
 
-/// What a row does behind this, which came to `res`. `None`: at first.
+/// What a row does after this, which came to `res`. `None`: at first.
 pub fn next_of_placing(last: Option<PlacingStage>, res: i32) -> PlacingOnto
     ensures { result ≡ spec.next_of_placing last res }
 {

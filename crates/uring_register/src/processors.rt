@@ -27,7 +27,7 @@ fn has_number(part: &[u8], number: u32) -> bool
     }
 }
 
-/// Whether it is none before the one, and none behind the other.
+/// Whether it is none before the one, and none after the other.
 fn is_between(first: &[u8], last: &[u8], number: u32) -> bool
     ensures { result ≡ spec.is_between first.now last.now number }
 {

@@ -37,7 +37,7 @@ fn has_tag(tag: u64) -> bool
     tag != 0
 }
 
-/// How a list of so many restrictions is registered: the ring and the length of the list are looked at (1), the list is read, if it has rows (2), and its rows are taken, one behind the other (4).
+/// How a list of so many restrictions is registered: the ring and the length of the list are looked at (1), the list is read, if it has rows (2), and its rows are taken, one after the other (4).
 pub fn restricting_steps(count: u32) -> u32
     ensures { result ≡ spec.restricting_steps count }
 {

@@ -165,7 +165,7 @@ pub(crate) fn first_free(rows: &[u64], from: u32, end: u32) -> Option<u32>
     None
 }
 
-/// The word of a slot. 0 behind the last.
+/// The word of a slot. 0 after the last.
 pub(crate) fn word_at(rows: &[u64], slot: u32) -> u64
     ensures { result ≡ slice_index_or rows.now slot 0 }
 {

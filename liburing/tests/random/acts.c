@@ -38,7 +38,7 @@ static bool is_ever_found(const struct request *request)
     return request->action->code != IORING_OP_ASYNC_CANCEL && request->action->code != IORING_OP_LINK_TIMEOUT;
 }
 
-/* What a cancel is to find by Linux's rules, of what it may: what has started, which all does before it that can; nothing that is doomed. One behind
+/* What a cancel is to find by Linux's rules, of what it may: what has started, which all does before it that can; nothing that is doomed. One after
  * it may have started. */
 static bool is_to_be_found(const struct model *model, const struct request *cancel, const struct request *target)
 {
@@ -167,7 +167,7 @@ static bool is_sought(const struct request *cancel, const struct request *reques
 
 enum finding { NOT_FOUND, MAY_BE_FOUND, FOUND };
 
-/* Whether a cancel finds what it looks for: what waits, or could start now, but one behind it only if it has started. One that doesn't wait may run just now, and isn't found then; one
+/* Whether a cancel finds what it looks for: what waits, or could start now, but one after it only if it has started. One that doesn't wait may run just now, and isn't found then; one
  * that isn't loose has its file only when it runs; and whether one has the file that is taken out and put in again isn't known. */
 static enum finding finding_of(const struct model *model, const struct request *cancel, const struct request *request)
 {

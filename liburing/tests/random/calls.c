@@ -152,7 +152,7 @@ static void judge_flags(struct model *model)
 }
 
 /* Whether a request can certainly go on without waiting. Beside a read that waits for its pipe, time is real; whether one that is linked
- * behind a skipped success has begun, or one that is silent has ended, isn't known. */
+ * after a skipped success has begun, or one that is silent has ended, isn't known. */
 static bool can_go_on(const struct model *model, const struct request *request)
 {
     if (request->is_ended || request->is_silent || request->action->flags & IOSQE_CQE_SKIP_SUCCESS || !can_start(model, request))

@@ -166,7 +166,7 @@ static void choose_registered(struct action *action, uint16_t index, bool is_pla
     }
 }
 
-/* Behind a link there may be a timeout for the request before it, short where that waits for what is real. */
+/* After a link there may be a timeout for the request before it, short where that waits for what is real. */
 static uint8_t code_behind(const struct action *before, uint8_t code)
 {
     bool is_linked = before && before->flags & (IOSQE_IO_LINK | IOSQE_IO_HARDLINK);

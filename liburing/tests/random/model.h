@@ -56,7 +56,7 @@ struct request {
     uint32_t tally_least, tally_most;   /* from so many completions on, at least and at most */
 };
 
-/* A call, and what the application sees behind it. */
+/* A call, and what the application sees after it. */
 struct call {
     uint32_t to_submit, min_complete;
     bool is_getting;
@@ -83,7 +83,7 @@ struct model {
     uint32_t count;
     bool has_drain[MOST_ACTIONS], has_fault[MOST_ACTIONS];     /* of groups */
     bool is_linux;                      /* Linux's rules: */
-    bool is_deferred[MOST_ACTIONS];     /* groups that are held back, and whether one drains as those behind see it, */
+    bool is_deferred[MOST_ACTIONS];     /* groups that are held back, and whether one drains as those after see it, */
     bool drains[MOST_ACTIONS];
     bool is_draining, owes_drain, has_skipped;  /* and how the ring stands */
     uint32_t group_count;
@@ -99,12 +99,12 @@ struct model {
     struct model *others[MOST_RINGS];   /* the models of all rings, which send messages to one another */
     struct message *messages;           /* by the sender's action */
     bool is_late;                       /* what is seen next may have ended before this call */
-    bool is_at_rest;                    /* behind the last call all ran that could */
+    bool is_at_rest;                    /* after the last call all ran that could */
     bool has_overflowed;                /* completions that aren't seen yet are outside of the ring */
     struct call *call;
     struct things *things;
     const struct vectors *data;         /* the application's */
-    const uint8_t *provided;            /* the application's too, one buffer behind the other */
+    const uint8_t *provided;            /* the application's too, one buffer after the other */
 };
 
 enum { LINKS = IOSQE_IO_LINK | IOSQE_IO_HARDLINK };
@@ -138,7 +138,7 @@ uint32_t count_awaited(const struct model *model);
 bool has_pipe_reads(const struct model *model, bool is_started);
 bool is_pipe_read(const struct model *model, const struct request *request);
 
-/* Whether a timeout runs, or one that is linked behind a request that runs. */
+/* Whether a timeout runs, or one that is linked to a request that runs. */
 bool has_timeouts(const struct model *model);
 bool has_linked_timeouts(const struct model *model);
 
@@ -200,14 +200,14 @@ void note_group(struct model *model, uint16_t group);
 /* Deferred groups go on that may. */
 void let_deferred_go_on(struct model *model);
 
-/* Doom the members of a group with a fault, or those behind one that failed. */
+/* Doom the members of a group with a fault, or those after one that failed. */
 void doom_group(struct model *model, uint16_t group);
 void doom_behind(struct model *model, const struct request *failed);
 
-/* Whether the failure of a request is told to the core behind a hard link: a linked timeout ends its chain behind it. */
+/* Whether the failure of a request is told to the core after a hard link: a linked timeout ends its chain after it. */
 bool is_before_last_timeout(const struct model *model, const struct request *request);
 
-/* A timeout that is linked behind it may have cancelled it, unseen. */
+/* A timeout that is linked to it may have cancelled it, unseen. */
 bool may_have_been_cancelled(const struct model *model, const struct request *request);
 
 /* The policy is one that goes by the order of submission. */

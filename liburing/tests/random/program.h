@@ -89,7 +89,7 @@ struct fault {
 
 enum { NO_FAULT, FAULT_EIO, FAULT_ENOSPC, FAULT_SHORT };
 
-/* The eventfd that is registered: it is told of all completions, or of what ends behind the call that submitted it. */
+/* The eventfd that is registered: it is told of all completions, or of what ends after the call that submitted it. */
 enum telling { NO_EVENTFD, OF_ALL, OF_LATER };
 
 struct ring_options {

@@ -85,7 +85,7 @@ static void note_starts(struct model *model)
     note_tallies(model);
 }
 
-/* One that is behind no link and no drain finds its file at once. */
+/* One that is after no link and no drain finds its file at once. */
 static void note_loose(struct model *model, uint32_t first)
 {
     bool has_drain = false;
@@ -186,7 +186,7 @@ bool has_linked_timeouts(const struct model *model)
     return false;
 }
 
-/* The timeout that is linked behind a request, while neither has ended; or NULL. */
+/* The timeout that is linked to a request, while neither has ended; or NULL. */
 static struct request *timeout_behind(struct model *model, const struct request *request)
 {
     struct request *next = &model->requests[request - model->requests + 1];
@@ -256,7 +256,7 @@ void force(struct model *model, struct request *request, const char *why)
     end(model, request, carry_out(model, request, unseen_result(model, request)));
 }
 
-/* A timeout that is linked behind it may have cancelled it, unseen. */
+/* A timeout that is linked to it may have cancelled it, unseen. */
 bool may_have_been_cancelled(const struct model *model, const struct request *request)
 {
     const struct request *next = request + 1;
@@ -323,7 +323,7 @@ static void end_doomed(struct model *model, struct request *request, int32_t res
     end(model, request, false);
 }
 
-/* Whether the timeout that is linked behind a request has cancelled it. */
+/* Whether the timeout that is linked to a request has cancelled it. */
 static bool is_cut_off(struct model *model, struct request *request)
 {
     struct request *timeout = timeout_behind(model, request);
@@ -357,7 +357,7 @@ static bool has_acted(struct model *model, const struct request *request, int32_
 static void see_end(struct model *model, uint64_t user_data, int32_t res)
 {
     struct request *request = outstanding(model, user_data);
-    /* (behind a message to its own ring the sender ends at once) */
+    /* (after a message to its own ring the sender ends at once) */
     bool has_sent = request->action->code == IORING_OP_MSG_RING && model->messages && model->messages[request->index].is_seen && receiver_of(model, request) == model;
     model->tally -= has_sent;
     if (is_in_order(model) && request->action->code != IORING_OP_TIMEOUT && !is_pipe_read(model, request))

@@ -28,7 +28,7 @@ static uint32_t count_pending(const struct world *world)
 }
 
 /* By Linux's rules what is deferred depends on what has ended. So a ring that drains shows all: no entry is published whose success would be
- * skipped behind a drain, or whose failure would end others unseen; nor one that drains, if a completion could overflow, unless it is refused. */
+ * skipped after a drain, or whose failure would end others unseen; nor one that drains, if a completion could overflow, unless it is refused. */
 static bool hides(const struct world *world, const struct action *action)
 {
     bool has_skipped = action->flags & IOSQE_CQE_SKIP_SUCCESS && counts(action), has_drained = false;

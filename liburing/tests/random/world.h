@@ -41,7 +41,7 @@ void judge_world(struct world *world);
 /* Writes an entry of an action. */
 void write_entry(struct world *world, struct io_uring_sqe *entry, unsigned index);
 
-/* Carries an action out; and goes on until nothing is outstanding, behind which a wait for one more is in vain. */
+/* Carries an action out; and goes on until nothing is outstanding, after which a wait for one more is in vain. */
 void act(struct world *world, unsigned index);
 void finish(struct world *world);
 
@@ -54,7 +54,7 @@ bool provide(struct world *world, unsigned buffer);
 /* Takes OTHER_LOG out of the registered files, or puts it in again. */
 void update_files(struct world *world);
 
-/* How often the eventfd was told behind a call; and has it told nothing, or again. */
+/* How often the eventfd was told after a call; and has it told nothing, or again. */
 void look_at_telling(struct world *world);
 void silence(struct world *world);
 

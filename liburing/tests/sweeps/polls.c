@@ -1,4 +1,4 @@
-/* Polls of streams, with each kind of events, behind what makes them ready; their updates; and polls of rings and of their eventfds. */
+/* Polls of streams, with each kind of events, after what makes them ready; their updates; and polls of rings and of their eventfds. */
 #include "sweeps.h"
 
 #include <poll.h>
@@ -92,7 +92,7 @@ static void sweep_updates(struct ring *ring)
                     try_update(ring, events[from], flags, events[to], update);
 }
 
-/* A poll of a ring's descriptor, or of its eventfd, behind completions there. */
+/* A poll of a ring's descriptor, or of its eventfd, after completions there. */
 static void try_ring(const char *name, bool is_own, bool has_eventfd, uint32_t events, uint32_t flags)
 {
     struct ring own, other;

@@ -84,7 +84,7 @@ static int descriptor_of(enum kind kind, bool is_source)
     }
 }
 
-/* Where a file stands behind it. */
+/* Where a file stands after it. */
 static long position(enum kind kind, int fd)
 {
     return kind == DIGITS || kind == APPENDED || kind == READ_ONLY ? (long)lseek(fd, 0, SEEK_CUR) : 0;

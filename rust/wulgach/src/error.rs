@@ -35,7 +35,7 @@ pub enum Error {
     /// Memory was refused for a step of a crash machine, and so each further one is, and each crash.
     Lost,
 
-    /// Outcomes aren't told of a ring of this set-up: it stops behind an entry with a fault, it keeps Linux's rules, or a call has more entries than its submission ring.
+    /// Outcomes aren't told of a ring of this set-up: it stops after an entry with a fault, it keeps Linux's rules, or a call has more entries than its submission ring.
     NotTakenWhole,
 }
 

@@ -22,7 +22,7 @@ pub struct Setup {
     pub files: u32,
     /// The index word at which both rings begin.
     pub start: u32,
-    /// Whether a submission call ends behind an entry with a fault, also one with a link flag, or where Linux's rules end it, and leaves the rest to later calls. Else it goes on.
+    /// Whether a submission call ends after an entry with a fault, also one with a link flag, or where Linux's rules end it, and leaves the rest to later calls. Else it goes on.
     pub stops: bool,
     /// Whether requests are kept by Linux's rules, as 6.18 was seen to, where they differ from the manual pages'. Else by the manual pages'.
     pub linux: bool,

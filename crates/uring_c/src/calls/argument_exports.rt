@@ -49,7 +49,7 @@ pub extern "C" fn wulgach_slept_with(mask: u64, is_trapped: bool) -> u64
     slept_with(mask, is_trapped)
 }
 
-/// What a submission comes to that came to this, and behind which the call's argument has this fault, or 0.
+/// What a submission comes to that came to this, and after which the call's argument has this fault, or 0.
 #[unsafe(no_mangle)]
 pub extern "C" fn wulgach_submission_with_fault(submitted: i64, fault: i32) -> i64
     ensures { result ≡ spec.with_fault submitted fault }

@@ -62,7 +62,7 @@ pub extern "C" fn wulgach_is_waiting(request: &Outstanding) -> bool
     is_waiting(request)
 }
 
-/// Whether a kernel takes the entry of the request of this number only behind a cancel of that number.
+/// Whether a kernel takes the entry of the request of this number only after a cancel of that number.
 #[unsafe(no_mangle)]
 pub extern "C" fn wulgach_is_taken_behind(
     cancel: u64,

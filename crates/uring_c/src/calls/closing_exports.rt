@@ -32,7 +32,7 @@ pub extern "C" fn wulgach_looked_at_behind(may_be_left: bool, rings: u32, elapse
     looked_at_behind(may_be_left, rings, elapsed)
 }
 
-/// Whether the lock of all rings is tried once more behind a close in a handler, which was tried so often.
+/// Whether the lock of all rings is tried once more after a close in a handler, which was tried so often.
 #[unsafe(no_mangle)]
 pub extern "C" fn wulgach_tries_rings_again(tries: u32) -> bool
     ensures { result ≡ spec.tries_again tries }
@@ -48,7 +48,7 @@ pub extern "C" fn wulgach_asks_elapsed(may_be_left: bool, rings: u32) -> bool
     asks_elapsed(may_be_left, rings)
 }
 
-/// Returns what comes next of a call that is to sleep, behind this, which has brought what may let something go on, or hasn't.
+/// Returns what comes next of a call that is to sleep, after this, which has brought what may let something go on, or hasn't.
 #[unsafe(no_mangle)]
 pub extern "C" fn wulgach_sleep_next(last: u32, has_brought: bool, fault: i32) -> u32
     ensures { result ≡ word_of_sleep (spec.next_before_sleep (step_of last) has_brought fault) }

@@ -5,7 +5,7 @@ ghost use Rattle.uring_c.specs.CopyingForm.{way_of, word_of_copy};
 
 use uring_enter::{CopyOnto, Way, next_way};
 
-/// Returns how a copy of so many bytes goes on behind this, which copied so many, or came to this error.
+/// Returns how a copy of so many bytes goes on after this, which copied so many, or came to this error.
 #[unsafe(no_mangle)]
 pub extern "C" fn wulgach_copying_next(last: u32, copied: i64, size: u64) -> u32
     ensures { result ≡ word_of_copy (spec.next_way (way_of last) copied size) }

@@ -110,7 +110,7 @@ pub extern "C" fn wulgach_duties_before_posting() -> u32
     duties_word(duties_before_posting())
 }
 
-/// What is done behind completions that were posted outside a call.
+/// What is done after completions that were posted outside a call.
 #[unsafe(no_mangle)]
 pub extern "C" fn wulgach_duties_behind_posting(has_ends: bool, is_polled: bool) -> u32
     ensures { result ≡ word_of_duties (spec.behind_posting has_ends is_polled) }
@@ -118,7 +118,7 @@ pub extern "C" fn wulgach_duties_behind_posting(has_ends: bool, is_polled: bool)
     duties_word(duties_behind_posting(has_ends, is_polled))
 }
 
-/// What is done behind completions that were stored, of so many of which a registered eventfd is told.
+/// What is done after completions that were stored, of so many of which a registered eventfd is told.
 #[unsafe(no_mangle)]
 pub extern "C" fn wulgach_duties_behind_storing(told: u64) -> u32
     ensures { result ≡ word_of_duties (spec.behind_storing told) }

@@ -6,7 +6,7 @@ ghost use Rattle.uring_c.specs.FollowingForm.{word_of_end};
 use crate::calls::duty_exports::bit;
 use uring_enter::{BehindEnd, duties_behind_end};
 
-/// What is done behind the end of a request, as a set of duties.
+/// What is done after the end of a request, as a set of duties.
 #[unsafe(no_mangle)]
 pub extern "C" fn wulgach_duties_behind_end(
     has_file: bool,

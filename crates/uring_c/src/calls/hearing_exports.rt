@@ -8,7 +8,7 @@ use uring_enter::{
     Hearing, Occasion, PipePoll, Telling, asks_overflow, next_at_begin, next_at_rest, telling_of,
 };
 
-/// Returns what is next so that writes to pipes are heard, behind this, as a call begins, or has slept, where so many pipes are watched.
+/// Returns what is next so that writes to pipes are heard, after this, as a call begins, or has slept, where so many pipes are watched.
 #[unsafe(no_mangle)]
 pub extern "C" fn wulgach_hearing_at_begin(last: u32, watched: u64) -> u32
     ensures { result ≡ word_of_hearing (spec.next_at_begin (hearing_of last) watched) }

@@ -12,7 +12,7 @@ use uring_enter::{
     next_of_registering, sleep_fault,
 };
 
-/// Returns what comes next of a call of io_uring_enter(2) with these flags, behind a check that came to `res`, or the steps of one that passes, or the error with which it is refused.
+/// Returns what comes next of a call of io_uring_enter(2) with these flags, after a check that came to `res`, or the steps of one that passes, or the error with which it is refused.
 #[unsafe(no_mangle)]
 pub extern "C" fn wulgach_entering_next(flags: u32, last: u32, res: i32) -> i32
     ensures { result ≡ word_of_passage (spec.next_of_entering flags (check_of last) res) (arguments.is_extended flags) }
@@ -67,7 +67,7 @@ fn call_word(steps: CallSteps) -> u32
         | bit(64, steps.returns)
 }
 
-/// Whether a call that is to sleep reads its signal mask, behind so many sleeps, where its last argument has this fault, or 0.
+/// Whether a call that is to sleep reads its signal mask, after so many sleeps, where its last argument has this fault, or 0.
 #[unsafe(no_mangle)]
 pub extern "C" fn wulgach_asks_mask(has_mask: bool, argument: i32, sleeps: u32) -> bool
     ensures { result ≡ slept.asks_mask has_mask argument sleeps }

@@ -55,7 +55,7 @@ pub extern "C" fn wulgach_mapping_protection(asked: &Mapping) -> u32
     protection_of(asked)
 }
 
-/// Returns what a set-up does behind this, which came to `res`.
+/// Returns what a set-up does after this, which came to `res`.
 #[unsafe(no_mangle)]
 pub extern "C" fn wulgach_set_up_next(last: u32, res: i32) -> u32
     ensures { result ≡ word_of_onto (spec.next_of (stage_of last) res) }

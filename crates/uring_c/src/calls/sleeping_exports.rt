@@ -26,7 +26,7 @@ pub extern "C" fn wulgach_sleep_came_to(res: i32, is_child: bool) -> i32
     came_to(res, is_child)
 }
 
-/// Whether more requests become dormant behind a sleep that came to this.
+/// Whether more requests become dormant after a sleep that came to this.
 #[unsafe(no_mangle)]
 pub extern "C" fn wulgach_lets_more_lie(came: i32) -> bool
     ensures { result ≡ sleeping.lets_more_lie came }
@@ -34,7 +34,7 @@ pub extern "C" fn wulgach_lets_more_lie(came: i32) -> bool
     lets_more_lie(came)
 }
 
-/// What a sleep counts as that came to this, before which so many requests were dormant, and behind which so many are.
+/// What a sleep counts as that came to this, before which so many requests were dormant, and after which so many are.
 #[unsafe(no_mangle)]
 pub extern "C" fn wulgach_sleep_counted_as(came: i32, before: u64, behind: u64) -> i32
     ensures { result ≡ sleeping.counted_as came before behind }
@@ -87,7 +87,7 @@ pub extern "C" fn wulgach_can_be_woken(has_descriptor: bool, naps: bool) -> bool
     can_be_woken(has_descriptor, naps)
 }
 
-/// Whether a timeout fires behind a wait, if its time is over.
+/// Whether a timeout fires after a wait, if its time is over.
 #[unsafe(no_mangle)]
 pub extern "C" fn wulgach_fires_behind(waited: &Waited) -> bool
     ensures { result ≡ sleeping.fires_behind waited.now }

@@ -25,7 +25,7 @@ pub extern "C" fn wulgach_heard_steps(reaped: u32, is_asked: bool) -> u32
     heard_steps(reaped, is_asked)
 }
 
-/// Whether the ring is shown anew behind so many completions that have moved into it.
+/// Whether the ring is shown anew after so many completions that have moved into it.
 #[unsafe(no_mangle)]
 pub extern "C" fn wulgach_shows_again(moved: u64) -> bool
     ensures { result ≡ storing.shows_again moved }

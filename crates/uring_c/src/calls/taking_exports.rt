@@ -42,7 +42,7 @@ pub extern "C" fn wulgach_taking_took(taking: &mut Taking, item: &Item, cell: &m
     next_word(next)
 }
 
-/// The fault of a call that memory was refused behind so many positions that it has staged, by the core or for the next one; 0: it submits these.
+/// The fault of a call that memory was refused after so many positions that it has staged, by the core or for the next one; 0: it submits these.
 #[unsafe(no_mangle)]
 pub extern "C" fn wulgach_refusal_fault(staged: u32, is_core: bool) -> i32
     ensures { result ≡ refused staged is_core }

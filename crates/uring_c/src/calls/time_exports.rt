@@ -269,7 +269,7 @@ pub extern "C" fn wulgach_times_woken(
     *woken = woken_words(times.woken(rows, limit.limit()));
 }
 
-/// How a timeout ends that is linked behind a request which has ended.
+/// How a timeout ends that is linked to a request which has ended.
 #[unsafe(no_mangle)]
 pub extern "C" fn wulgach_timeout_linked_outcome(has_cancelled: bool) -> i32
     ensures { result ≡ linked_outcome has_cancelled }
@@ -321,7 +321,7 @@ pub extern "C" fn wulgach_times_sleeps_for(
     *limit = limit_words(times.sleeps_for(until.limit(), can_be_woken));
 }
 
-/// Writes to when time moves on behind such a sleep, where nothing has woken it, or that it doesn't.
+/// Writes to when time moves on after such a sleep, where nothing has woken it, or that it doesn't.
 #[unsafe(no_mangle)]
 pub extern "C" fn wulgach_times_comes_to(
     times: &Times,

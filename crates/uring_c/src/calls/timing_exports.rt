@@ -85,7 +85,7 @@ fn timing_word(timing: Timing) -> u32
     }
 }
 
-/// Returns what the sender of a message to this ring does behind one that has come to this result.
+/// Returns what the sender of a message to this ring does after one that has come to this result.
 #[unsafe(no_mangle)]
 pub extern "C" fn wulgach_visit_of(to: &Receiver, res: i32) -> u32
     ensures { result ≡ word_of_visit (visits.visit_of to.now res) }
@@ -105,7 +105,7 @@ pub extern "C" fn wulgach_posts_message(is_there: bool, may_post: bool) -> bool
     posts_message(is_there, may_post)
 }
 
-/// Whether a ring is visited, and once more behind each visit.
+/// Whether a ring is visited, and once more after each visit.
 #[unsafe(no_mangle)]
 pub extern "C" fn wulgach_visits_again(is_there: bool, was_left: bool, could_post: bool) -> bool
     ensures { result ≡ visits.visits_again is_there was_left could_post }

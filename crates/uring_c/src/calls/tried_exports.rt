@@ -6,7 +6,7 @@ ghost use Rattle.uring_c.specs.TriedForm.{word_of_try};
 use crate::calls::duty_exports::bit;
 use uring_enter::{BehindTry, behind_try};
 
-/// What is done behind an operation that was carried out, as a set of duties.
+/// What is done after an operation that was carried out, as a set of duties.
 #[unsafe(no_mangle)]
 pub extern "C" fn wulgach_behind_try(can_make_ready: bool, would_wait: bool) -> u32
     ensures { result ≡ word_of_try (spec.behind_try can_make_ready would_wait) }

@@ -65,7 +65,7 @@ pub extern "C" fn wulgach_crash_machine_count_images(
     crash_machine_count_images_in(&alloc, alloc, place, fd, count)
 }
 
-/// Writes the images of the file of a descriptor, each once and one behind another, as much as there is room for; the length of each; how many there are, and how many bytes in all. It refuses as `wulgach_crash_machine_image`, and with -27 (EFBIG) exactly if there are more images than lengths have room for (or than 2^32 - 1), unless memory is refused.
+/// Writes the images of the file of a descriptor, each once and one after another, as much as there is room for; the length of each; how many there are, and how many bytes in all. It refuses as `wulgach_crash_machine_image`, and with -27 (EFBIG) exactly if there are more images than lengths have room for (or than 2^32 - 1), unless memory is refused.
 #[unsafe(no_mangle)]
 pub extern "C" fn wulgach_crash_machine_images(
     alloc: Global,

@@ -52,7 +52,7 @@ pub extern "C" fn wulgach_crash_machine_new(
     crash_machine_on_in(&alloc, alloc, place, setup, unit, &[], &[])
 }
 
-/// Puts a new machine into a place, whose first files have these bytes, which are given one behind another with the length of each, and whose others are empty; what was there is freed. A crash leaves each unit of so many bytes by itself. -22 (EINVAL) exactly if the set-up is refused, a unit has no byte, or there are more lengths than files; else -27 (EFBIG) exactly if a length is above 65,536; -12 (ENOMEM) if memory is refused. Then the place keeps what it had.
+/// Puts a new machine into a place, whose first files have these bytes, which are given one after another with the length of each, and whose others are empty; what was there is freed. A crash leaves each unit of so many bytes by itself. -22 (EINVAL) exactly if the set-up is refused, a unit has no byte, or there are more lengths than files; else -27 (EFBIG) exactly if a length is above 65,536; -12 (ENOMEM) if memory is refused. Then the place keeps what it had.
 #[unsafe(no_mangle)]
 pub extern "C" fn wulgach_crash_machine_on(
     alloc: Global,
@@ -101,7 +101,7 @@ pub extern "C" fn wulgach_crash_machine_step(
     crash_machine_step_in(&alloc, alloc, place, step, answer)
 }
 
-/// The power fails: puts a machine into another place that begins on what is left of the files, by a choice for each, which are given one behind another with the length of each; one that is missing is empty. What was there is freed, and the machine stays as it is. -131 (ENOTRECOVERABLE) exactly if it is lost; -12 (ENOMEM) if memory is refused. Then the other place keeps what it had.
+/// The power fails: puts a machine into another place that begins on what is left of the files, by a choice for each, which are given one after another with the length of each; one that is missing is empty. What was there is freed, and the machine stays as it is. -131 (ENOTRECOVERABLE) exactly if it is lost; -12 (ENOMEM) if memory is refused. Then the other place keeps what it had.
 #[unsafe(no_mangle)]
 pub extern "C" fn wulgach_crash_machine_crash(
     alloc: Global,

@@ -29,7 +29,7 @@ pub extern "C" fn wulgach_trace_line(
     trace_line_in(&alloc, alloc, step, answer, bytes, len)
 }
 
-/// Writes the step of this place in a submission call of these entries, which began at this head and came to this answer, with its own, and returns true. False behind the last one; then nothing is written.
+/// Writes the step of this place in a submission call of these entries, which began at this head and came to this answer, with its own, and returns true. False after the last one; then nothing is written.
 #[unsafe(no_mangle)]
 pub extern "C" fn wulgach_submitted_step(
     entries: &[EntryWords],
@@ -44,7 +44,7 @@ pub extern "C" fn wulgach_submitted_step(
     submitted_step(entries, head, end, place, step, answer)
 }
 
-/// Writes the step of this place where these completions are reaped at once, with its answer, and returns true. False behind the last one; then nothing is written.
+/// Writes the step of this place where these completions are reaped at once, with its answer, and returns true. False after the last one; then nothing is written.
 #[unsafe(no_mangle)]
 pub extern "C" fn wulgach_reaped_step(
     completions: &[CompletionWords],

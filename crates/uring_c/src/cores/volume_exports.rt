@@ -263,7 +263,7 @@ pub extern "C" fn wulgach_volume_count_images(
     volume_count_images_in(&alloc, alloc, place, count)
 }
 
-/// Writes the images, each once and one behind another, as much as there is room for; the length of each; how many there are, and how many bytes in all. -27 (EFBIG) exactly if there are more than lengths have room for (or than 2^32 - 1), unless memory is refused; -12 (ENOMEM) if memory is refused. A refusal writes nothing. The volume stays as it is.
+/// Writes the images, each once and one after another, as much as there is room for; the length of each; how many there are, and how many bytes in all. -27 (EFBIG) exactly if there are more than lengths have room for (or than 2^32 - 1), unless memory is refused; -12 (ENOMEM) if memory is refused. A refusal writes nothing. The volume stays as it is.
 #[unsafe(no_mangle)]
 pub extern "C" fn wulgach_volume_images(
     alloc: Global,

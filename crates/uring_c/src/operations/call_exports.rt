@@ -190,7 +190,7 @@ pub extern "C" fn wulgach_control_of(entry: &Submission, control: u64, done: u64
     control_of(entry, control, done)
 }
 
-/// Whether what belongs to a message is told behind a call of this entry that came to this.
+/// Whether what belongs to a message is told after a call of this entry that came to this.
 #[unsafe(no_mangle)]
 pub extern "C" fn wulgach_tells_message(entry: &Submission, came_to: i32) -> bool
     ensures { result ≡ results.tells_message entry.now came_to }
@@ -198,7 +198,7 @@ pub extern "C" fn wulgach_tells_message(entry: &Submission, came_to: i32) -> boo
     tells_message(entry, came_to)
 }
 
-/// What a call ends with that came to this, and behind which that could be told, or couldn't.
+/// What a call ends with that came to this, and after which that could be told, or couldn't.
 #[unsafe(no_mangle)]
 pub extern "C" fn wulgach_told_result(came_to: i32, is_told: bool) -> i32
     ensures { result ≡ results.told_result came_to is_told }
@@ -206,7 +206,7 @@ pub extern "C" fn wulgach_told_result(came_to: i32, is_told: bool) -> i32
     told_result(came_to, is_told)
 }
 
-/// Whether it matters behind a call of this entry that came to this whether its socket was shut down for reading.
+/// Whether it matters after a call of this entry that came to this whether its socket was shut down for reading.
 #[unsafe(no_mangle)]
 pub extern "C" fn wulgach_asks_shut(entry: &Submission, came_to: i32) -> bool
     ensures { result ≡ results.asks_shut entry.now came_to }
@@ -235,7 +235,7 @@ pub extern "C" fn wulgach_takes_for_nothing(code: u8) -> bool
     takes_for_nothing(code)
 }
 
-/// The offset at which the read of an entry that goes on reads next, behind a call that came to this.
+/// The offset at which the read of an entry that goes on reads next, after a call that came to this.
 #[unsafe(no_mangle)]
 pub extern "C" fn wulgach_offset_behind(entry: &Submission, came_to: i32) -> u64
     ensures { result ≡ results.offset_behind entry.now came_to }

@@ -135,7 +135,7 @@ pub extern "C" fn wulgach_notice_of(entry: &Submission, may_post: bool, res: &mu
     true
 }
 
-/// Whether a result is a success to the links behind the request of an entry that was carried out so, and to who posts, by Linux's rules or the manual pages'.
+/// Whether a result is a success to the links after the request of an entry that was carried out so, and to who posts, by Linux's rules or the manual pages'.
 #[unsafe(no_mangle)]
 pub extern "C" fn wulgach_has_succeeded(
     entry: &Submission,
@@ -156,7 +156,7 @@ pub extern "C" fn wulgach_completion_flags(of: u32, of_buffer: u32) -> u32
     completion_flags(part(of), of_buffer)
 }
 
-/// The flags of a provided buffer of which no completion has told, behind one of this part, where they were `of_buffer`, or 0.
+/// The flags of a provided buffer of which no completion has told, after one of this part, where they were `of_buffer`, or 0.
 #[unsafe(no_mangle)]
 pub extern "C" fn wulgach_untold_behind(of: u32, of_buffer: u32) -> u32
     ensures { result ≡ shots.untold_behind (part_of of) of_buffer }
@@ -211,7 +211,7 @@ pub extern "C" fn wulgach_member_first(member: &mut Member, number: u64, entry: 
     *member = Member::first(number, *entry);
 }
 
-/// Writes the request of the entry behind that of `before` in its call, which has this number.
+/// Writes the request of the entry after that of `before` in its call, which has this number.
 #[unsafe(no_mangle)]
 pub extern "C" fn wulgach_member_next(
     member: &mut Member,

@@ -105,7 +105,7 @@ pub extern "C" fn wulgach_counts_as_synced(openness: &Openness, kind: &SyncedKin
     counts_as_synced(openness, kind)
 }
 
-/// The number of the signal that is taken back behind an operation which ended with this, or 0.
+/// The number of the signal that is taken back after an operation which ended with this, or 0.
 #[unsafe(no_mangle)]
 pub extern "C" fn wulgach_signal_behind(entry: &Submission, res: i32) -> u32
     ensures { result ≡ signals.signal_behind entry.now res }

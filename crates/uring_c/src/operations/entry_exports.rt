@@ -113,7 +113,7 @@ pub extern "C" fn wulgach_layout_of(name: u32, control: u64, size: u64, layout: 
     }
 }
 
-/// How much of the buffer has something behind a message of so many bytes.
+/// How much of the buffer has something after a message of so many bytes.
 #[unsafe(no_mangle)]
 pub extern "C" fn wulgach_layout_filled(layout: &Layout, came: u32) -> u64
     ensures { layout.now.bytes + layout.now.room < 2 ^ 64 → result ≡ layouts.filled layout.now came }

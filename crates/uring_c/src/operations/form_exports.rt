@@ -89,7 +89,7 @@ pub extern "C" fn wulgach_comes_of_ring(is_ring: bool, has_waited: bool, was_tol
     comes_of_ring(is_ring, has_waited, was_told)
 }
 
-/// Whether the request of an entry, which has started as one that goes on or hasn't, and has moved so many bytes, goes on behind this result, in a ring of so many entries; else it ends with it.
+/// Whether the request of an entry, which has started as one that goes on or hasn't, and has moved so many bytes, goes on after this result, in a ring of so many entries; else it ends with it.
 #[unsafe(no_mangle)]
 pub extern "C" fn wulgach_goes_on(
     shown: &Shown,

@@ -49,7 +49,7 @@ pub extern "C" fn wulgach_may_close_last(
     may_close_last(others, was_closed, has_file, is_of_slot, is_same)
 }
 
-/// Whether a pipe counts as written to behind an event.
+/// Whether a pipe counts as written to after an event.
 #[unsafe(no_mangle)]
 pub extern "C" fn wulgach_counts_as_written(is_dropped: bool, is_write: bool, is_own: bool) -> bool
     ensures { result ≡ keeping.counts_as_written is_dropped is_write is_own }

@@ -121,7 +121,7 @@ pub extern "C" fn wulgach_time_fault(seconds: i64, nanoseconds: i64) -> i32
     time_fault(seconds, nanoseconds)
 }
 
-/// The fault of how a file is opened, or 0: whether what it has behind the fields that are known is all 0.
+/// The fault of how a file is opened, or 0: whether what it has after the fields that are known is all 0.
 #[unsafe(no_mangle)]
 pub extern "C" fn wulgach_how_fault(is_rest_zero: bool) -> i32
     ensures { result ≡ spec.how_fault is_rest_zero }
@@ -129,7 +129,7 @@ pub extern "C" fn wulgach_how_fault(is_rest_zero: bool) -> i32
     how_fault(is_rest_zero)
 }
 
-/// The fault of an entry behind its first path, or 0. `how`: the flags of its structure of an open, if it has one.
+/// The fault of an entry after its first path, or 0. `how`: the flags of its structure of an open, if it has one.
 #[unsafe(no_mangle)]
 pub extern "C" fn wulgach_open_fault(entry: &Submission, how: u64) -> i32
     ensures { result ≡ spec.open_fault entry.now how }
@@ -145,7 +145,7 @@ pub extern "C" fn wulgach_message_vectors(entry: &Submission, vectors: u64) -> u
     message_vectors(entry, vectors)
 }
 
-/// Writes the piece that is copied next of an entry's message, behind so many of which the last has this fault, or 0, and returns 1. Else nothing more is copied: returns the fault of the message, or 0.
+/// Writes the piece that is copied next of an entry's message, after so many of which the last has this fault, or 0, and returns 1. Else nothing more is copied: returns the fault of the message, or 0.
 #[unsafe(no_mangle)]
 pub extern "C" fn wulgach_next_message_piece(
     entry: &Submission,
@@ -187,7 +187,7 @@ pub extern "C" fn wulgach_name_fault(
     name_fault(entry, is_second, length, has_end)
 }
 
-/// The fault of a vector of an entry, behind others that have the fault `before`, or 0.
+/// The fault of a vector of an entry, after others that have the fault `before`, or 0.
 #[unsafe(no_mangle)]
 pub extern "C" fn wulgach_vector_fault(
     entry: &Submission,

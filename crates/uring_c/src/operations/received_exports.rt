@@ -1,4 +1,4 @@
-//! What is told of a message that was received, and what is next behind a part of one, for C: functions of `c/wulgach_calls.h`.
+//! What is told of a message that was received, and what is next after a part of one, for C: functions of `c/wulgach_calls.h`.
 ghost use Rattle.std.specs.Prelude.{◌≡◌, ◌+◌, ◌^◌, ◌<◌, is_some, unwrap_or};
 ghost use Rattle.uring_operations.specs.Calls.Advances as advances;
 ghost use Rattle.uring_operations.specs.Copies.Receipts as receipts;
@@ -7,7 +7,7 @@ use uring_operations::{
     Field, Front, Received, Rest, Vector, front_of, moved_by, next_told, rest_of,
 };
 
-/// Writes the field of a message that is told next, behind so many. False, and nothing is written: all were told.
+/// Writes the field of a message that is told next, after so many. False, and nothing is written: all were told.
 #[unsafe(no_mangle)]
 pub extern "C" fn wulgach_next_told(received: &Received, told: u32, field: &mut Field) -> bool
     ensures is_told { result ≡ is_some (receipts.next_told received.now told) }
@@ -38,7 +38,7 @@ pub extern "C" fn wulgach_moved_by(came_to: i32) -> u64
     moved_by(came_to)
 }
 
-/// Writes what is left of a vector, of which and of those behind it so many bytes were moved.
+/// Writes what is left of a vector, of which and of those after it so many bytes were moved.
 #[unsafe(no_mangle)]
 pub extern "C" fn wulgach_rest_of(vector: &Vector, moved: u64, rest: &mut Rest)
     ensures { vector.now.from + vector.now.size < 2 ^ 64 → rest.new ≡ advances.rest_of vector.now moved }

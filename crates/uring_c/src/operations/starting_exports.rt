@@ -16,7 +16,7 @@ pub extern "C" fn wulgach_steps_at_start(entry: &Submission, how: u64, is_sought
     starting_word(steps_at_start(entry, how, is_sought))
 }
 
-/// What is done behind that, where its files were found without a fault, 0, or with this one.
+/// What is done after that, where its files were found without a fault, 0, or with this one.
 #[unsafe(no_mangle)]
 pub extern "C" fn wulgach_steps_behind_files(standing: &Standing, needs: &Needs, fault: i32) -> u32
     ensures { result ≡ word_of_starting (starts.behind_files standing.now needs.now fault) }

@@ -76,7 +76,7 @@ pub extern "C" fn wulgach_is_tried_first(entry: &Submission, least: u32) -> bool
     is_tried_first(entry, least)
 }
 
-/// Returns what is next of a transfer, behind what was done last, which came to `res`, and writes what it ends with, if it ends.
+/// Returns what is next of a transfer, after what was done last, which came to `res`, and writes what it ends with, if it ends.
 #[unsafe(no_mangle)]
 pub extern "C" fn wulgach_transfer_next(
     transfer: &Transfer,
@@ -92,7 +92,7 @@ pub extern "C" fn wulgach_transfer_next(
     step_word(step)
 }
 
-/// Returns what is next of an operation of sockets or of a splice, behind what was done last, which came to `res`, and writes what it ends with, if that is known.
+/// Returns what is next of an operation of sockets or of a splice, after what was done last, which came to `res`, and writes what it ends with, if that is known.
 #[unsafe(no_mangle)]
 pub extern "C" fn wulgach_call_next(
     entry: &Submission,

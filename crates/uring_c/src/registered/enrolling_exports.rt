@@ -19,7 +19,7 @@ pub extern "C" fn wulgach_enrolled_begin(rows: &mut [u64])
     begin_rows(rows);
 }
 
-/// Returns what a row that gives a ring a number does behind this, which came to `res`.
+/// Returns what a row that gives a ring a number does after this, which came to `res`.
 #[unsafe(no_mangle)]
 pub extern "C" fn wulgach_enrolling_next(last: u32, res: i32) -> u32
     ensures { result ≡ word_of_row (numbering.next_of_row (row_stage_of last) res) }

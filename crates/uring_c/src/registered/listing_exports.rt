@@ -43,7 +43,7 @@ pub extern "C" fn wulgach_next_to_go(count: u32, gone: u32, slot: &mut u32) -> b
     }
 }
 
-/// Returns what a row that puts a file where there is room does behind this, which came to `res`.
+/// Returns what a row that puts a file where there is room does after this, which came to `res`.
 #[unsafe(no_mangle)]
 pub extern "C" fn wulgach_placing_next(last: u32, res: i32) -> u32
     ensures { result ≡ word_of_placing (placing.next_of_placing (placing_stage_of last) res) }

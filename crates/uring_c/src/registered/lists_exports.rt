@@ -39,7 +39,7 @@ pub extern "C" fn wulgach_lists_of_files(form: &FilesForm, count: u32, lists: &m
     *lists = lists_of_files(form, count);
 }
 
-/// Writes the row behind so many others, of descriptors or of what takes 16 bytes.
+/// Writes the row after so many others, of descriptors or of what takes 16 bytes.
 #[unsafe(no_mangle)]
 pub extern "C" fn wulgach_row_of(
     lists: &Lists,

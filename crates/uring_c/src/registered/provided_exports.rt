@@ -38,7 +38,7 @@ pub extern "C" fn wulgach_group_room(group: &Group, more: u32, room: u64) -> u64
     group.room_for(more, room)
 }
 
-/// The list has these buffers too, behind all others, as many as it may have. `false`: there are too few rows, and nothing changes.
+/// The list has these buffers too, after all others, as many as it may have. `false`: there are too few rows, and nothing changes.
 #[unsafe(no_mangle)]
 pub extern "C" fn wulgach_group_provide(
     group: &mut Group,

@@ -13,7 +13,7 @@ use Rattle.uring_enter.specs.declared.call.argument.Given.{Given}
 abbrev pub is_extended : ℕ → Bool
 is_extended flags = has_some flags 8
 
--- a call reads its argument behind its submission, if it gets events and all was submitted. Else nothing of it is refused
+-- a call reads its argument after its submission, if it gets events and all was submitted. Else nothing of it is refused
 abbrev pub is_read : Bool → ℕ → ℤ → Bool
 is_read gets to_submit submitted = gets && int_eq submitted (pos to_submit)
 

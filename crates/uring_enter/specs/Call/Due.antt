@@ -15,7 +15,7 @@ abbrev pub is_lazy : Policy → Bool
 is_lazy Lazy = true
 is_lazy _ = false
 
--- behind a call that wakes the thread which takes entries, and gets no events, the application may look at memory alone: so it isn't lazy. Our own rule
+-- after a call that wakes the thread which takes entries, and gets no events, the application may look at memory alone: so it isn't lazy. Our own rule
 abbrev pub policy_of : Policy → Bool → Bool → Policy
 policy_of Lazy has_thread gets = if has_thread && not gets then InOrder else Lazy
 policy_of policy has_thread gets = policy
@@ -85,7 +85,7 @@ stuck a log sight =
     if looks a log && not (nat_lt 0 sight.ready) then PassTime else
     ended log (pos 0)
 
--- the application was heard: at first the entries are submitted; behind a sleep the call goes on; and where nothing could go on it sleeps, unless there is enough
+-- the application was heard: at first the entries are submitted; after a sleep the call goes on; and where nothing could go on it sleeps, unless there is enough
 abbrev pub hearing : Asked → List Reply → Sight → Command
 hearing a [] sight = Submit
 hearing a (Woken ∷ earlier) sight = going a earlier true sight

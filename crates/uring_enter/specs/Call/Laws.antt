@@ -13,7 +13,7 @@ abbrev pub is_run : Asked → List Reply → Bool
 is_run a [] = true
 is_run a (reply ∷ earlier) = is_reply_to (due a earlier) reply && is_run a earlier
 
--- the application was heard behind the reply that nothing can go on, in a call that waits, and there isn't enough
+-- the application was heard after the reply that nothing can go on, in a call that waits, and there isn't enough
 abbrev pub IsInVain : Asked → List Reply → Type 0
 IsInVain a (Heard sight ∷ Stuck _ ∷ earlier) =
     (waits a earlier ≡ true) × (is_enough a earlier sight ≡ false)
@@ -50,7 +50,7 @@ abbrev pub EndsForAReason : Type 0
 EndsForAReason = (a : Asked) (log : List Reply) (result : ℤ) → is_run a log ≡ true
     → waits a log ≡ true → due a log ≡ command.Return result → MayEnd a log
 
--- entries are submitted once, right behind the first hearing
+-- entries are submitted once, right after the first hearing
 abbrev pub SubmitsOnce : Type 0
 SubmitsOnce = (a : Asked) (log : List Reply) → is_run a log ≡ true
     → due a log ≡ command.Submit → (sight : Sight) × (log ≡ Heard sight ∷ [])

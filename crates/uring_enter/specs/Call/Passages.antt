@@ -94,7 +94,7 @@ RefusedDoesNothing = (flags : ℕ) (has_ring is_extended : Bool) (last : Option 
 abbrev pub comes_before : CallSteps → CallStep → CallStep → Bool
 comes_before s first second = is_done s first && is_done s second && nat_lt (place first) (place second)
 
--- a call that is carried out is so behind what any does as it begins, and before what any does as it returns
+-- a call that is carried out is so after what any does as it begins, and before what any does as it returns
 abbrev pub MadeBetweenDuties : Type 0
 MadeBetweenDuties = (next : Passage) (is_extended : Bool) → is_done (call_steps next is_extended) IsMade ≡ true
     → (comes_before (call_steps next is_extended) Begins IsMade ≡ true)

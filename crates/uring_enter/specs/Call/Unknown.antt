@@ -3,7 +3,7 @@ use Rattle.std.specs.Prelude.{ℕ, Bool, true, false, not, ◌&&◌, ◌||◌, �
 use Rattle.uring_enter.specs.declared.call.unknown.Matter.{Matter}
 use Rattle.uring_enter.specs.declared.call.unknown.Matter.TheVariants.{Reached, Eventfd, Counter, Processor, SameFile, Locked}
 
--- a ring stays as long as a descriptor may be open on it, and a program means what it says of an eventfd and of a processor: nothing is taken away and nothing refused for what isn't known; nor is a lock lost that a process may have. A descriptor is one that counts only if that is known: of another a short transfer waits, and the system call refuses it then. Two descriptors are on one file only if that is known: so others are looked at again behind an end that may have closed the last descriptor of a file, and no poll counts as one of the ring's own eventfd
+-- a ring stays as long as a descriptor may be open on it, and a program means what it says of an eventfd and of a processor: nothing is taken away and nothing refused for what isn't known; nor is a lock lost that a process may have. A descriptor is one that counts only if that is known: of another a short transfer waits, and the system call refuses it then. Two descriptors are on one file only if that is known: so others are looked at again after an end that may have closed the last descriptor of a file, and no poll counts as one of the ring's own eventfd
 abbrev pub unless_known : Matter → Bool
 unless_known Reached = true
 unless_known Eventfd = true

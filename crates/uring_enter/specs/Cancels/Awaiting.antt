@@ -14,7 +14,7 @@ abbrev pub is_waited_for : Awaited → Bool
 is_waited_for NotAwaited = false
 is_waited_for _ = true
 
--- the number behind that of the last one
+-- the number after that of the last one
 abbrev pub next_of : List Look → ℕ
 next_of [] = 0
 next_of (HasSeen number _ ∷ earlier) = number + 1
@@ -26,7 +26,7 @@ is_open [] = false
 is_open (HasSeen _ awaited ∷ earlier) = is_waited_for awaited
 is_open (HasEnded ∷ earlier) = false
 
--- whether the request of this number is looked at: it was accepted behind those that were, and none of these is waited for that hasn't ended. So they end by rising numbers, one behind the other
+-- whether the request of this number is looked at: it was accepted after those that were, and none of these is waited for that hasn't ended. So they end by rising numbers, one after the other
 abbrev pub may_see : List Look → ℕ → Bool
 may_see log number = not (is_open log) && nat_le (next_of log) number
 

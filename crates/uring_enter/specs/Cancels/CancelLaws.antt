@@ -20,7 +20,7 @@ CancelsTheOldest = (s : Sought) (earlier : List Outstanding) → is_of_all s ≡
     → ((r : Outstanding) → is_cancelled s earlier r ≡ true → finds_any s earlier ≡ false)
     × (count_of s earlier ≤ 1)
 
--- no cancel cancels another, nor a timeout that is linked behind a request, whatever it looks for
+-- no cancel cancels another, nor a timeout that is linked to a request, whatever it looks for
 abbrev pub PassesOverLinked : Type 0
 PassesOverLinked = (s : Sought) (earlier : List Outstanding) (r : Outstanding) → is_ever_found r ≡ false
     → (is_cancelled s earlier r ≡ false)
@@ -36,7 +36,7 @@ abbrev pub AsksFileWhereItMatters : Type 0
 AsksFileWhereItMatters = (s : Sought) (r : Outstanding) (compared same compared_else same_else : Bool) → asks_file s r ≡ false
     → fits s (record r { is_compared = compared; is_same = same }) ≡ fits s (record r { is_compared = compared_else; is_same = same_else })
 
--- by user data a request with other user data is never cancelled, and changes nothing for those behind it: so a cancel need be shown those alone that have its own
+-- by user data a request with other user data is never cancelled, and changes nothing for those after it: so a cancel need be shown those alone that have its own
 abbrev pub PassesOverOthers : Type 0
 PassesOverOthers = (s : Sought) (earlier : List Outstanding) (r : Outstanding) → goes_by_user_data s ≡ true
     → (r.user_data == s.user_data) ≡ false

@@ -37,7 +37,7 @@ fits s r =
     if s.is_by_fd then fits_fd s r else
     r.user_data == s.user_data
 
--- whether any cancel finds a request of this operation, of these that are carried out outside of the core: none finds another cancel (14), nor a timeout that is linked behind a request (15). What Linux 6.18 does
+-- whether any cancel finds a request of this operation, of these that are carried out outside of the core: none finds another cancel (14), nor a timeout that is linked to a request (15). What Linux 6.18 does
 abbrev pub is_ever_found : Outstanding → Bool
 is_ever_found r = not (r.code == 14 || r.code == 15)
 
@@ -49,11 +49,11 @@ is_free r = r.is_token && not r.is_cancelled && is_ever_found r
 abbrev pub is_waiting : Outstanding → Bool
 is_waiting r = r.is_stream || r.code == 11
 
--- whether a kernel takes the entry of a request only behind a cancel that is carried out as its own is taken: one that was submitted behind it, where the cancel is behind no link and doesn't drain. What Linux 6.18 does
+-- whether a kernel takes the entry of a request only after a cancel that is carried out as its own is taken: one that was submitted after it, where the cancel is after no link and doesn't drain. What Linux 6.18 does
 abbrev pub is_taken_behind : (cancel : ℕ) → (is_linked drains : Bool) → (number : ℕ) → Bool
 is_taken_behind cancel is_linked drains number = not is_linked && not drains && nat_lt cancel number
 
--- whether a request can be found at all: it waits for something, or could start now, before the cancel. One behind a link or a drain can't; what the kernel does
+-- whether a request can be found at all: it waits for something, or could start now, before the cancel. One after a link or a drain can't; what the kernel does
 abbrev pub can_be_found : Outstanding → Bool
 can_be_found r = is_free r && (if r.runs then is_waiting r else r.may_start)
 
@@ -62,7 +62,7 @@ abbrev pub finds_any : Sought → List Outstanding → Bool
 finds_any s [] = false
 finds_any s (r ∷ earlier) = (fits s r && can_be_found r) || finds_any s earlier
 
--- whether a request is cancelled, behind those that were looked at before: it fits and can be found, and the cancel is of all, or found none before
+-- whether a request is cancelled, after those that were looked at before: it fits and can be found, and the cancel is of all, or found none before
 abbrev pub is_cancelled : Sought → List Outstanding → Outstanding → Bool
 is_cancelled s earlier r = (is_of_all s || not (finds_any s earlier)) && fits s r && can_be_found r
 

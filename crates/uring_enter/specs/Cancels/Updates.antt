@@ -32,7 +32,7 @@ abbrev pub changes_any : ℕ → List Linked → Bool
 changes_any user_data [] = false
 changes_any user_data (seen ∷ earlier) = updates_linked user_data seen || changes_any user_data earlier
 
--- it changes the oldest of which that is so, and no other: behind those that it has looked at before. What the kernel does
+-- it changes the oldest of which that is so, and no other: after those that it has looked at before. What the kernel does
 abbrev pub is_changed : ℕ → List Linked → Linked → Bool
 is_changed user_data earlier seen = not (changes_any user_data earlier) && updates_linked user_data seen
 

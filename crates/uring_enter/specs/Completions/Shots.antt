@@ -50,7 +50,7 @@ untold_behind Sent of_buffer = of_buffer
 untold_behind Notice of_buffer = of_buffer
 untold_behind Own of_buffer = 0
 
--- what is told behind an event is told as by a request that has taken no buffer
+-- what is told after an event is told as by a request that has taken no buffer
 abbrev pub TellsABufferOnce : Type 0
 TellsABufferOnce = (later : Part) (of_buffer : ℕ)
     → completion_flags later (untold_behind Event of_buffer) ≡ completion_flags later 0
@@ -64,7 +64,7 @@ abbrev pub other_of_send : Part → Part
 other_of_send Notice = Sent
 other_of_send part = Notice
 
--- both, in the order in which the application sees them: what was posted before the end stands before it, and what was put off behind it
+-- both, in the order in which the application sees them: what was posted before the end stands before it, and what was put off after it
 abbrev pub parts_of_send : (is_posted : Bool) → List Part
 parts_of_send is_posted =
     if is_posted then other_of_send (end_of_send is_posted) ∷ end_of_send is_posted ∷ []
@@ -74,10 +74,10 @@ parts_of_send is_posted =
 abbrev pub NotifiesAtLast : Type 0
 NotifiesAtLast = (is_posted : Bool) → parts_of_send is_posted ≡ (Sent ∷ Notice ∷ [])
 
--- a completion comes behind the call that submitted its request if the request ends in another call on the ring, be that one of io_uring_register(2): a cancel, by which what it finds ends. No call on the ring has submitted a message of another ring, or the tag of what is registered: such a one comes behind them all. That a message does is our own rule
+-- a completion comes after the call that submitted its request if the request ends in another call on the ring, be that one of io_uring_register(2): a cancel, by which what it finds ends. No call on the ring has submitted a message of another ring, or the tag of what is registered: such a one comes after them all. That a message does is our own rule
 abbrev pub is_behind : Posted → Bool
 is_behind end = end.is_message || not (end.call == end.ended)
 
--- an eventfd is told of each completion, or only of those that come behind the call that submitted their request
+-- an eventfd is told of each completion, or only of those that come after the call that submitted their request
 abbrev pub tells : Posted → Bool → Bool
 tells end is_async_alone = is_behind end || not is_async_alone

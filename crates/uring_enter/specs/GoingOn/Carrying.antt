@@ -29,7 +29,7 @@ source_of code started given =
     if is_below started then source.Start else
     if code == 0 then source.Entry else unless_given given
 
--- a short fault leaves the first half of the bytes, rounded down, in whichever vectors they stand: of one behind so many others, those that are left of the half there. Our own rule
+-- a short fault leaves the first half of the bytes, rounded down, in whichever vectors they stand: of one after so many others, those that are left of the half there. Our own rule
 abbrev pub half_in : (all before length : ℕ) → ℕ
 half_in all before length = min length (all / 2 - before)
 
@@ -44,7 +44,7 @@ calls_of code =
     if is_poll code then OfPoll else
     if is_of_sockets code || is_splice code then InTurn else Once
 
--- what is done with the result of a request that was carried out, or that a cancel has found: a set has the bit 2 to the power of its place of each step that is done, and they are done by rising places. A link behind a send without copies goes by what the send has come to, and not by the notice that its memory is free: so success is judged before that takes its place. The notice comes before the end, of which the core is told before anything is made of it. io_uring_enter(2), IORING_OP_SEND_ZC and IOSQE_IO_LINK; else our own rule
+-- what is done with the result of a request that was carried out, or that a cancel has found: a set has the bit 2 to the power of its place of each step that is done, and they are done by rising places. A link after a send without copies goes by what the send has come to, and not by the notice that its memory is free: so success is judged before that takes its place. The notice comes before the end, of which the core is told before anything is made of it. io_uring_enter(2), IORING_OP_SEND_ZC and IOSQE_IO_LINK; else our own rule
 abbrev pub finish_steps : (is_zero_copy : Bool) → ℕ
 finish_steps is_zero_copy =
     bit_or (bit_or (bit_or (step_bit 0 true) (step_bit 1 is_zero_copy)) (step_bit 2 true)) (step_bit 3 true)

@@ -69,7 +69,7 @@ nothing = record {
   tells_eventfd = false;
 }
 
--- as a call begins, or has slept: others may have made descriptors ready meanwhile, so all that runs is looked at again, and then what they wrote to pipes is heard, before the ring writes anything itself, which isn't told. Where time is real, timeouts end that are over, before entries are submitted; behind a sleep one ends as the sleep says
+-- as a call begins, or has slept: others may have made descriptors ready meanwhile, so all that runs is looked at again, and then what they wrote to pipes is heard, before the ring writes anything itself, which isn't told. Where time is real, timeouts end that are over, before entries are submitted; after a sleep one ends as the sleep says
 abbrev pub at_begin : (is_time_real has_slept : Bool) → Duties
 at_begin is_time_real has_slept = record nothing {
   looks_afresh = true;
@@ -86,7 +86,7 @@ before_sleep r has_fault = record nothing {
   watches_pipes = not has_fault && (r.runs || r.has_watches);
 }
 
--- where nothing can go on, in a ring whose eventfd is registered: a request may wait for that, as a poll of it does. So what has ended is shown, of which the eventfd is told; once as a call begins and once behind each sleep, since of what such a poll ends with it is told too. A kernel tells it the moment that something ends
+-- where nothing can go on, in a ring whose eventfd is registered: a request may wait for that, as a poll of it does. So what has ended is shown, of which the eventfd is told; once as a call begins and once after each sleep, since of what such a poll ends with it is told too. A kernel tells it the moment that something ends
 abbrev pub when_stuck : Resting → (has_eventfd has_shown : Bool) → Duties
 when_stuck r has_eventfd has_shown = record nothing {
   shows_ends = has_eventfd && not has_shown && r.has_ends;
@@ -121,14 +121,14 @@ NeedsNoAsking = (told : Reply) (r : Resting) (has_shown : Bool)
 abbrev pub are_many : Resting → Bool
 are_many r = nat_lt r.looked_at r.waiting
 
--- behind completions that were posted outside a call, as another ring's message or a tag: other threads see what has ended, however long nothing else comes, and whoever polls the ring's descriptor is told by what they see
+-- after completions that were posted outside a call, as another ring's message or a tag: other threads see what has ended, however long nothing else comes, and whoever polls the ring's descriptor is told by what they see
 abbrev pub behind_posting : (has_ends is_polled : Bool) → Duties
 behind_posting has_ends is_polled = record nothing {
   shows_ends = has_ends;
   tells_readiness = is_polled;
 }
 
--- as a call falls asleep, behind the pipes: of many that wait those become dormant that wait for nothing else; then it is as behind completions that were posted
+-- as a call falls asleep, after the pipes: of many that wait those become dormant that wait for nothing else; then it is as after completions that were posted
 abbrev pub at_rest : Resting → Duties
 at_rest r = record (behind_posting r.has_ends r.is_polled) { lets_lie = are_many r }
 
@@ -155,7 +155,7 @@ at_register_return may_post r = if may_post then at_return r else nothing
 abbrev pub before_posting : Duties
 before_posting = record nothing { hears_application = true }
 
--- behind completions that were stored into ring memory with their tail: the flags say whether some have overflowed, and whether a call may bring something, and a registered eventfd is told, if it is to be told of any of them
+-- after completions that were stored into ring memory with their tail: the flags say whether some have overflowed, and whether a call may bring something, and a registered eventfd is told, if it is to be told of any of them
 abbrev pub behind_storing : (told : ℕ) → Duties
 behind_storing told = record nothing { shows_flags = true; tells_eventfd = nat_lt 0 told }
 
@@ -185,14 +185,14 @@ abbrev pub TellsOfWhatIsShown : Type 0
 TellsOfWhatIsShown = (told : ℕ) → is_due (behind_storing told) TellsEventfd ≡ true
     → comes_before (behind_storing told) ShowsFlags TellsEventfd ≡ true
 
--- where requests run as a call returns, their files are kept behind those that are found then and those of what was accepted, and before pipes are watched for them
+-- where requests run as a call returns, their files are kept after those that are found then and those of what was accepted, and before pipes are watched for them
 abbrev pub WatchesWhatIsHeld : Type 0
 WatchesWhatIsHeld = (r : Resting) → r.runs ≡ true
     → (comes_before (at_return r) HoldsFiles WatchesPipes ≡ true)
     × (r.has_due ≡ true → comes_before (at_return r) FindsFiles HoldsFiles ≡ true)
     × (r.has_new ≡ true → comes_before (at_return r) KeepsNew HoldsFiles ≡ true)
 
--- where many requests wait as a call returns, they become dormant behind the pipes that are watched: so none does that was told of a write
+-- where many requests wait as a call returns, they become dormant after the pipes that are watched: so none does that was told of a write
 abbrev pub LiesBehindPipes : Type 0
 LiesBehindPipes = (r : Resting) → r.runs ≡ true → are_many r ≡ true
     → comes_before (at_return r) WatchesPipes LetsLie ≡ true
@@ -204,7 +204,7 @@ RegistersAsItEnters = (is_time_real : Bool) (r : Resting) (duty : Duty)
     → is_due (at_register_begin true is_time_real) duty ≡ true)
     × (is_due (at_return r) duty ≡ true → is_due (at_register_return true r) duty ≡ true)
 
--- the head is heard in each moment behind which a completion may be posted
+-- the head is heard in each moment after which a completion may be posted
 abbrev pub HearsBeforeItPosts : Type 0
 HearsBeforeItPosts = (code : ℕ) (is_time_real has_ends : Bool)
     → (is_due (at_register_begin true is_time_real) HearsApplication ≡ true)

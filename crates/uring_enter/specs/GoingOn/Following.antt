@@ -42,7 +42,7 @@ is_end_due d EndsDrain = d.ends_drain
 is_end_due d Leaves = d.leaves
 is_end_due d HasEnds = d.has_ends
 
--- behind each end all of this is done, but that only what was polled for is polled for no more, only of one that may have had to wait for its descriptor anything tells, and only one that drains ends to do so
+-- after each end all of this is done, but that only what was polled for is polled for no more, only of one that may have had to wait for its descriptor anything tells, and only one that drains ends to do so
 abbrev pub behind_end : (has_file has_instance is_stream is_draining : Bool) → BehindEnd
 behind_end has_file has_instance is_stream is_draining = record {
   keeps_completion = true;

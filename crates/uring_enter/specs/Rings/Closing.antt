@@ -37,11 +37,11 @@ abbrev pub ElapsedMattersWhereAsked : Type 0
 ElapsedMattersWhereAsked = (may_be_left : Bool) (rings one other : ℕ) → asks_elapsed may_be_left rings ≡ false
     → looked_at_behind may_be_left rings one ≡ looked_at_behind may_be_left rings other
 
--- whether the lock of all rings is tried once more behind a close in a signal's handler, which was tried so often: a hundred times, with a moment for others between two. Who has it may wait for what the handler's own thread has, so that it would never get it: then whoever ends a call next looks
+-- whether the lock of all rings is tried once more after a close in a signal's handler, which was tried so often: a hundred times, with a moment for others between two. Who has it may wait for what the handler's own thread has, so that it would never get it: then whoever ends a call next looks
 abbrev pub tries_again : (tries : ℕ) → Bool
 tries_again tries = nat_lt tries 100
 
--- what is done before a call sleeps, in this order: rings that were closed let go what they have, and where one has, the call looks again, before any fault of its arguments counts; its mask is read; and what is due is done, behind which a fault ends it, and what a poll was told has it look again
+-- what is done before a call sleeps, in this order: rings that were closed let go what they have, and where one has, the call looks again, before any fault of its arguments counts; its mask is read; and what is due is done, after which a fault ends it, and what a poll was told has it look again
 abbrev pub next_before_sleep : Option BeforeSleep → (has_brought : Bool) → ℤ → SleepOnto
 next_before_sleep None has_brought fault = Does LetsOthersGo
 next_before_sleep (Some LetsOthersGo) has_brought fault = if has_brought then Begins Wakes else Does ReadsMask

@@ -14,7 +14,7 @@ names_descriptor flags = not (has_some flags 32)
 abbrev pub is_none : Mapping → Bool
 is_none m = has_some m.offset 4095 || has_some m.flags 262144 || m.size == 0
 
--- an address is asked for: as one that counts (MAP_FIXED 16, MAP_FIXED_NOREPLACE 1048576) any but 0, else one behind the first page, since it is rounded down to a page's
+-- an address is asked for: as one that counts (MAP_FIXED 16, MAP_FIXED_NOREPLACE 1048576) any but 0, else one after the first page, since it is rounded down to a page's
 abbrev pub is_placed : Mapping → Bool
 is_placed m = if has_some m.flags 1048592 then not (m.at == 0) else nat_le 4096 m.at
 

@@ -100,7 +100,7 @@ message_steps s = record { has_memory = is_sent s; finds_file = passes s; passes
 abbrev pub comes_before : MessageSteps → MessageStep → MessageStep → Bool
 comes_before s first second = is_done s first && is_done s second && nat_lt (place first) (place second)
 
--- where a file is passed, it was found before, there is memory for what the other ring is told of it, and that is told behind
+-- where a file is passed, it was found before, there is memory for what the other ring is told of it, and that is told after
 abbrev pub PassesWhatCanBeTold : Type 0
 PassesWhatCanBeTold = (s : Sending) → is_done (message_steps s) PassesFile ≡ true
     → (comes_before (message_steps s) HasMemory PassesFile ≡ true)

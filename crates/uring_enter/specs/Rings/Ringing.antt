@@ -26,7 +26,7 @@ abbrev pub is_region : Option Region → Bool
 is_region (Some _) = true
 is_region None = false
 
--- what a set-up does behind this, once that went well: it reads the parameters, asks the kernel where the ring is strict, makes the ring, and tells its parameters. Our own rule, but that the parameters are read first and told last
+-- what a set-up does after this, once that went well: it reads the parameters, asks the kernel where the ring is strict, makes the ring, and tells its parameters. Our own rule, but that the parameters are read first and told last
 abbrev pub behind_stage : Option Stage → Onto
 behind_stage None = Does Reads
 behind_stage (Some Reads) = Does AsksKernel

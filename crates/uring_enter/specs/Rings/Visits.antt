@@ -16,7 +16,7 @@ visit_of to res =
     if to.is_sender then Posts else
     if to.is_ring then Visits else Nothing
 
--- whether a ring that another thread may have sent messages to is visited by who can have its lock, and once more behind each visit: messages are there, which may have come since the last visit looked; and that has left none, or one that could be posted as it ended. What can't be posted then, for a drain or for want of memory, is posted by who is in a call once it can
+-- whether a ring that another thread may have sent messages to is visited by who can have its lock, and once more after each visit: messages are there, which may have come since the last visit looked; and that has left none, or one that could be posted as it ended. What can't be posted then, for a drain or for want of memory, is posted by who is in a call once it can
 abbrev pub visits_again : (is_there was_left could_post : Bool) → Bool
 visits_again is_there was_left could_post = is_there && (not was_left || could_post)
 

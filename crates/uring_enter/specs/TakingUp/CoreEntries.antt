@@ -40,7 +40,7 @@ abbrev pub target_of : Form → Submission → ℕ
 target_of Cancel e = e.addr
 target_of _ e = 0
 
--- the flags of an entry with these before the next entry of its call. By Linux's rules, where a linked timeout (15) ends the chain behind it, IO_LINK (4) is told as IO_HARDLINK (8). So the timeout ends by itself whatever becomes of the request that it limits, and posts as its own flags say, which Linux 6.18 was seen to do
+-- the flags of an entry with these before the next entry of its call. By Linux's rules, where a linked timeout (15) ends the chain after it, IO_LINK (4) is told as IO_HARDLINK (8). So the timeout ends by itself whatever becomes of the request that it limits, and posts as its own flags say, which Linux 6.18 was seen to do
 abbrev pub flags_before : ℕ → Submission → (linux : Bool) → ℕ
 flags_before flags next linux =
     if linux && has_some flags 4 && not (has_some flags 8) && (next.opcode == 15 && not (has_some next.flags 12)) then bit_or flags 8 else flags

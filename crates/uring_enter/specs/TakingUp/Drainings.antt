@@ -28,7 +28,7 @@ outstanding (Accepted members ∷ earlier) =
 outstanding (Ended is_draining ∷ earlier) =
     if is_draining then outstanding earlier - 1 else outstanding earlier
 
--- whether a drain was ever accepted: else nobody waits but behind a link
+-- whether a drain was ever accepted: else nobody waits but after a link
 abbrev pub has_drained : List Drainage → Bool
 has_drained [] = false
 has_drained (Accepted members ∷ earlier) = drains members || has_drained earlier
@@ -43,7 +43,7 @@ abbrev pub finds_file : List Drainage → Member → (linux may_start : Bool) �
 finds_file log request linux may_start =
     not request.is_linked && (not (has_drained log) || (linux || outstanding log == 0) && may_start)
 
--- by the call, but behind a request of it that may change slots each in its turn: the kernel begins the requests of a call in their order, and carries out at once what need not wait. So behind a close of a slot in one call none finds its file, and behind an update one finds the new one
+-- by the call, but after a request of it that may change slots each in its turn: the kernel begins the requests of a call in their order, and carries out at once what need not wait. So after a close of a slot in one call none finds its file, and after an update one finds the new one
 abbrev pub by_call : (behind_change : Bool) → WhenFound
 by_call behind_change = if behind_change then InItsTurn else ByTheCall
 
@@ -67,7 +67,7 @@ FindsInTime = (log : List Drainage) (request : Member) (linux behind_change may_
     → (when_found log request linux behind_change true may_start ≡ (if finds_file log request linux may_start then by_call behind_change else AtItsStart))
     × ((known : Bool) → when_found log request linux behind_change false known ≡ AsksStart ⊎ when_found log request linux behind_change false known ≡ when_found log request linux behind_change true may_start)
 
--- whether the oldest request that is outstanding can start, if it hasn't: it waits for none before it. By Linux's rules a drain, and what comes behind one, is put off, and waits for a turn of its own: so once one was accepted the core is asked which request can start
+-- whether the oldest request that is outstanding can start, if it hasn't: it waits for none before it. By Linux's rules a drain, and what comes after one, is put off, and waits for a turn of its own: so once one was accepted the core is asked which request can start
 abbrev pub oldest_starts : List Drainage → (linux : Bool) → Bool
 oldest_starts log linux = not linux || not (has_drained log)
 
@@ -75,7 +75,7 @@ oldest_starts log linux = not linux || not (has_drained log)
 abbrev pub keeps_startable : List Drainage → Bool
 keeps_startable log = not (has_drained log)
 
--- whether the end of a request may let others start than the next of its chain: by the manual pages' rules a failure dooms all behind it in its chain, and a cancel those that it finds, and what is doomed can be issued at once. By Linux's it ends in its turn
+-- whether the end of a request may let others start than the next of its chain: by the manual pages' rules a failure dooms all after it in its chain, and a cancel those that it finds, and what is doomed can be issued at once. By Linux's it ends in its turn
 abbrev pub lets_others_start : (linux has_failed is_cancel : Bool) → Bool
 lets_others_start linux has_failed is_cancel = not linux && (has_failed || is_cancel)
 

@@ -16,7 +16,7 @@ abbrev pub has_taken : List Round → Bool
 has_taken [] = false
 has_taken (round ∷ earlier) = takes_any round || has_taken earlier
 
--- what the submission comes to. Behind a round that took a position there is one more, since what is published behind it is taken too; and the call returns what it was asked to submit, whatever was taken: both are what the kernel does. That -11 (EAGAIN) comes only if memory was refused before any was taken is our own rule: the kernel's thread tries again
+-- what the submission comes to. After a round that took a position there is one more, since what is published after it is taken too; and the call returns what it was asked to submit, whatever was taken: both are what the kernel does. That -11 (EAGAIN) comes only if memory was refused before any was taken is our own rule: the kernel's thread tries again
 abbrev pub returned : ℕ → List Round → Option ℤ
 returned to_submit [] = None
 returned to_submit (round ∷ earlier) =

@@ -28,7 +28,7 @@ has_ended submits_all (i ∷ earlier) = ends submits_all i || has_ended submits_
 abbrev pub takes_more : Submitting → List Item → Bool
 takes_more a taken = not (has_ended a.submits_all taken) && nat_lt (length taken) (most a)
 
--- the cell of the word at the position behind those: positions are taken from the head on, each once
+-- the cell of the word at the position after those: positions are taken from the head on, each once
 abbrev pub cell_of : Submitting → List Item → ℕ
 cell_of a taken = bit_and ((a.head + length taken) % 2 ^ 32) (a.entries - 1)
 

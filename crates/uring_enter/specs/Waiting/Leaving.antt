@@ -4,7 +4,7 @@ use Rattle.uring_enter.specs.declared.waiting.leaving.Left.{Left}
 
 -- what is done with a ring, but by the operations of its requests
 pub data Deed : Type 0 where
-  -- its lock is taken again behind a sleep
+  -- its lock is taken again after a sleep
   LocksAgain : Deed
   -- a sleep is taken out of its list, and what wakes that is closed
   EndsSleep : Deed

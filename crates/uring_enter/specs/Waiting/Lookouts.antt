@@ -65,7 +65,7 @@ waits (Opened ∷ earlier) place = false
 waits (Ended end ∷ earlier) place = not (lets_others earlier end) && waits earlier place
 waits (_ ∷ earlier) place = waits earlier place
 
--- how many of the first ones are passed over: one more for each that is looked at, in their turn; of those that have been, only those before one that starts, leaves, is touched, or can be finished behind an update; and none behind what can have changed any
+-- how many of the first ones are passed over: one more for each that is looked at, in their turn; of those that have been, only those before one that starts, leaves, is touched, or can be finished after an update; and none after what can have changed any
 abbrev pub passed : List Happening → ℕ
 passed [] = 0
 passed (Found _ ∷ earlier) = passed earlier + 1
@@ -79,7 +79,7 @@ passed (Opened ∷ earlier) = 0
 passed (Ended end ∷ earlier) = if lets_others earlier end then 0 else passed earlier
 passed (_ ∷ earlier) = passed earlier
 
--- whether something happens behind which none is passed over, whatever was found of it before
+-- whether something happens after which none is passed over, whatever was found of it before
 abbrev pub renews : List Happening → Happening → Bool
 renews earlier Moved = true
 renews earlier Told = true
@@ -87,7 +87,7 @@ renews earlier Opened = true
 renews earlier (Ended end) = lets_others earlier end
 renews earlier _ = false
 
--- how often such a thing has happened, from 1 on: behind each a new round begins, in which every request is asked again
+-- how often such a thing has happened, from 1 on: after each a new round begins, in which every request is asked again
 abbrev pub rounds : List Happening → ℕ
 rounds [] = 1
 rounds (h ∷ earlier) = if renews earlier h then rounds earlier + 1 else rounds earlier
@@ -154,7 +154,7 @@ pub record IsBehindEnd (log : List Happening) (drainages : List Drainage) (stage
   pub buffer : before.has_found_buffer || m.has_buffer ≡ true → after.has_found_buffer || l.has_buffer ≡ true
   pub ready : l.is_ready ≡ m.is_ready
 
--- an end that isn't told to let others be finished lets none: who couldn't be finished before can't be behind it. So no request is passed over that could go on
+-- an end that isn't told to let others be finished lets none: who couldn't be finished before can't be after it. So no request is passed over that could go on
 abbrev pub EndLetsNone : Type 0
 EndLetsNone = (log : List Happening) (drainages : List Drainage) (staged : ℕ) (linux has_memory is_draining : Bool) (end : EndOfOne)
     (had_to_wait has_to_wait : Bool) (before after : Standing) (n : Needs) (is_cancelled : Bool) (m l : Moment)
@@ -189,6 +189,6 @@ has_heard [] = false
 has_heard (Heard ∷ earlier) = true
 has_heard (_ ∷ earlier) = has_heard earlier
 
--- behind an operation that was carried out, what was written may be the ring's own until it was heard
+-- after an operation that was carried out, what was written may be the ring's own until it was heard
 abbrev pub TakesItsOwn : Type 0
 TakesItsOwn = (newer earlier : List Happening) → has_heard newer ≡ false → may_be_own (newer ++ Moved ∷ earlier) ≡ true

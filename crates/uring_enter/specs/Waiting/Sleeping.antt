@@ -38,7 +38,7 @@ beginning_of fault is_told =
 abbrev pub unless_message : Bool → Outcome
 unless_message can_post = if can_post then Woken else Endless
 
--- a timeout whose time is over fires behind a sleep only if that came to its end: where a signal or an error ended it the call returns with that, and the timeout fires in the next. Our own rule
+-- a timeout whose time is over fires after a sleep only if that came to its end: where a signal or an error ended it the call returns with that, and the timeout fires in the next. Our own rule
 abbrev pub fires_behind : Waited → Bool
 fires_behind w = not w.is_never && not (is_error w.result)
 

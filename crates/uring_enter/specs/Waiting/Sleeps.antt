@@ -1,4 +1,4 @@
--- How long a call sleeps at most, and what time it is behind a sleep that came to its end. Our own rules: where no descriptor is left by which another thread could wake the sleeper, it naps, and looks again.
+-- How long a call sleeps at most, and what time it is after a sleep that came to its end. Our own rules: where no descriptor is left by which another thread could wake the sleeper, it naps, and looks again.
 use Rattle.std.specs.Prelude.{◌≡◌, ◌<◌, ℕ, ℤ, pos, ◌+◌, ◌*◌, ◌-◌, Bool, ◌||◌, nat_le, min, Option, Some, None, List, ◌∷◌, if◌then◌else◌}
 use Rattle.std.specs.Ordering.{int_eq}
 use Rattle.uring_enter.specs.declared.waiting.sleeps.Span.{Span}
@@ -8,7 +8,7 @@ use Rattle.uring_operations.specs.Entries.Timeouts.{Event, Clock, Slept, time}
 abbrev pub nap : ℕ
 nap = 10000000
 
--- how much is left until then, behind this log. What is over has nothing left
+-- how much is left until then, after this log. What is over has nothing left
 abbrev pub left : List Event → ℕ → ℕ
 left log at = at - time log
 
@@ -18,7 +18,7 @@ lasts_at_most log None can_be_woken = if can_be_woken then None else Some nap
 lasts_at_most log (Some at) can_be_woken =
     Some (if can_be_woken then left log at else min (left log at) nap)
 
--- to when time moves on behind a sleep that came to its end: to then, exactly if all that was left was slept. A nap that was cut adds only what a clock says
+-- to when time moves on after a sleep that came to its end: to then, exactly if all that was left was slept. A nap that was cut adds only what a clock says
 abbrev pub comes_to : List Event → Option ℕ → Bool → Option ℕ
 comes_to log None can_be_woken = None
 comes_to log (Some at) can_be_woken =
@@ -32,7 +32,7 @@ behind_end log (Some at) = Clock at ∷ log
 abbrev pub reached : Option ℕ → ℤ → Option ℕ
 reached end came = if int_eq came (pos 0) then end else None
 
--- what has happened behind a sleep
+-- what has happened after a sleep
 abbrev pub behind_sleep : List Event → Option ℕ → ℤ → List Event
 behind_sleep log end came = behind_end log (reached end came)
 

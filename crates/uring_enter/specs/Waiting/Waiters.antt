@@ -50,7 +50,7 @@ has_to_wait (HeardWrite p is_there ∷ earlier) = false
 has_to_wait (Around h ∷ earlier) = not (lets_go h) && has_to_wait earlier
 has_to_wait (_ ∷ earlier) = has_to_wait earlier
 
--- whether it is known to wait: it was found so, and since then no cancel has found it, no update has changed it, it has heard of no write, and nothing has happened to its ring behind which none is passed over
+-- whether it is known to wait: it was found so, and since then no cancel has found it, no update has changed it, it has heard of no write, and nothing has happened to its ring after which none is passed over
 abbrev pub is_known : List Encounter → Bool
 is_known [] = false
 is_known (FoundWaiting ∷ earlier) = true
@@ -65,7 +65,7 @@ abbrev pub look_of : List Encounter → Standing → Needs → (is_cancelled : B
 look_of log s n is_cancelled m =
     if is_known log then look.Waits else ready.look_of s n (has_to_wait log) is_cancelled m
 
--- what has happened behind that
+-- what has happened after that
 abbrev pub behind_look : List Encounter → Look → List Encounter
 behind_look log look.Waits = FoundWaiting ∷ log
 behind_look log _ = log

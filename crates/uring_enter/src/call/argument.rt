@@ -122,7 +122,7 @@ pub fn slept_with(mask: u64, is_trapped: bool) -> u64
     }
 }
 
-/// What a submission comes to that came to this, and behind which the call's argument has this fault, or 0.
+/// What a submission comes to that came to this, and after which the call's argument has this fault, or 0.
 pub fn with_fault(submitted: i64, fault: i32) -> i64
     ensures { result ≡ with_fault submitted fault }
 {

@@ -17,7 +17,7 @@ pub enum Policy {
 }
 
 impl Policy {
-    /// What goes on while a call is made whose ring has a thread that takes entries, or hasn't, and that gets events or doesn't. Behind one that wakes that thread the application may look at memory alone, so such a call isn't lazy.
+    /// What goes on while a call is made whose ring has a thread that takes entries, or hasn't, and that gets events or doesn't. After one that wakes that thread the application may look at memory alone, so such a call isn't lazy.
     pub fn of_call(self, has_thread: bool, gets: bool) -> Policy
         ensures { result ≡ policy_of self has_thread gets }
     {

@@ -66,7 +66,7 @@ pub fn call_steps(next: Passage, is_extended: bool) -> CallSteps
     }
 }
 
-/// What comes next of a call of io_uring_enter(2) with these flags, behind a check that came to `res`. `None`: at first.
+/// What comes next of a call of io_uring_enter(2) with these flags, after a check that came to `res`. `None`: at first.
 pub fn next_of_entering(flags: u32, last: Option<Check>, res: i32) -> Passage
     ensures { result ≡ spec.next_of_entering flags last res }
 {
@@ -92,7 +92,7 @@ fn first_of_entering(flags: u32) -> Passage
     }
 }
 
-/// What comes next of a call of io_uring_register(2), behind a check that came to `res`, where its descriptor was found a ring's or not. `None`: at first.
+/// What comes next of a call of io_uring_register(2), after a check that came to `res`, where its descriptor was found a ring's or not. `None`: at first.
 pub fn next_of_registering(has_ring: bool, last: Option<Check>, res: i32) -> Passage
     ensures { result ≡ spec.next_of_registering has_ring last res }
 {

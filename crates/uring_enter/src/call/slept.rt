@@ -5,7 +5,7 @@ ghost use Rattle.uring_enter.specs.Call.Slept as spec;
 
 use crate::call::unknown::reads_mask;
 
-/// Whether a call that is to sleep reads its signal mask, behind so many sleeps: it gives one, and its last argument has no fault.
+/// Whether a call that is to sleep reads its signal mask, after so many sleeps: it gives one, and its last argument has no fault.
 pub fn asks_mask(has_mask: bool, argument: i32, sleeps: u32) -> bool
     ensures { result ≡ spec.asks_mask has_mask argument sleeps }
 {

@@ -52,7 +52,7 @@ pub fn may_have_others(links: Option<u64>) -> bool
     }
 }
 
-/// Whether a call that is to sleep reads its signal mask, behind so many sleeps.
+/// Whether a call that is to sleep reads its signal mask, after so many sleeps.
 pub fn reads_mask(sleeps: u32) -> bool
     ensures { result ≡ spec.reads_mask sleeps }
 {

@@ -72,7 +72,7 @@ fn is_waited_for(awaited: Awaited) -> bool
     !matches!(awaited, Awaited::NotAwaited)
 }
 
-/// Whoever such a cancel waits for ends behind all with lesser numbers that it waits for.
+/// Whoever such a cancel waits for ends after all with lesser numbers that it waits for.
 pub fn ends_in_order()
     ensures { EndsInOrder }
 {}

@@ -74,7 +74,7 @@ pub struct Outstanding {
     /// It may have to wait for its descriptor.
     pub is_stream: bool,
 
-    /// Of one that doesn't run: it could start now, and isn't taken only behind the cancel.
+    /// Of one that doesn't run: it could start now, and isn't taken only after the cancel.
     pub may_start: bool,
 }
 
@@ -190,7 +190,7 @@ pub fn asks_file(sought: &Sought, request: &Outstanding) -> bool
     sought.is_by_fd && !sought.is_any && request.needs_file && request.is_assigned
 }
 
-/// Whether any cancel finds a request of this operation: none finds another, nor a timeout that is linked behind a request.
+/// Whether any cancel finds a request of this operation: none finds another, nor a timeout that is linked to a request.
 pub(crate) fn is_ever_found(request: &Outstanding) -> bool
     ensures { result ≡ is_ever_found request.now }
 {
@@ -218,7 +218,7 @@ pub fn is_waiting(request: &Outstanding) -> bool
     request.is_stream || request.code == 11
 }
 
-/// Whether a kernel takes the entry of the request of this number only behind a cancel of that number, which is behind a link or isn't, and drains or doesn't.
+/// Whether a kernel takes the entry of the request of this number only after a cancel of that number, which is after a link or isn't, and drains or doesn't.
 pub fn is_taken_behind(cancel: u64, is_linked: bool, drains: bool, number: u64) -> bool
     ensures { result ≡ spec.is_taken_behind cancel is_linked drains number }
 {

@@ -27,7 +27,7 @@ pub fn asks_file_where_it_matters()
     ensures { AsksFileWhereItMatters }
 {}
 
-/// Another cancel, and a timeout that is linked behind a request, are passed over, whatever is looked for.
+/// Another cancel, and a timeout that is linked to a request, are passed over, whatever is looked for.
 pub fn passes_over_linked()
     ensures { PassesOverLinked }
 {}

@@ -31,7 +31,7 @@ pub enum Removal {
     /// It is changed.
     Update,
 
-    /// Of timeouts: one that is linked behind a request is changed.
+    /// Of timeouts: one that is linked to a request is changed.
     UpdateLinked,
 }
 
@@ -121,7 +121,7 @@ fn updates_linked(user_data: u64, seen: &Linked) -> bool
     seen.is_linked && seen.runs && seen.user_data == user_data
 }
 
-/// A poll's entry behind an update by this one: its user data and its events are the update's, as far as that gives them. One that goes on still does, and another doesn't, whatever the update says.
+/// A poll's entry after an update by this one: its user data and its events are the update's, as far as that gives them. One that goes on still does, and another doesn't, whatever the update says.
 pub fn updated_poll(poll: &Submission, update: &Submission) -> Submission
     ensures { result ≡ spec.updated_poll poll.now update.now }
 {
@@ -140,7 +140,7 @@ pub fn updated_poll(poll: &Submission, update: &Submission) -> Submission
     }
 }
 
-/// A timeout's entry behind an update by this one: whether its time is absolute is the update's, and its clock stays. It has no count any more, whether or not it has started.
+/// A timeout's entry after an update by this one: whether its time is absolute is the update's, and its clock stays. It has no count any more, whether or not it has started.
 pub fn updated_timeout(timeout: &Submission, update: &Submission) -> Submission
     ensures { result ≡ spec.updated_timeout timeout.now update.now }
 {

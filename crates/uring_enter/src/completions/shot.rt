@@ -28,7 +28,7 @@ pub struct Shot {
 }
 
 impl Shown {
-    /// Whether the request of an entry, which has started as one that goes on or hasn't, and has moved so many bytes, goes on behind this result, which then has a completion of its own; else the request ends with it. The event of a poll comes of a ring, or doesn't; the ring has so many entries.
+    /// Whether the request of an entry, which has started as one that goes on or hasn't, and has moved so many bytes, goes on after this result, which then has a completion of its own; else the request ends with it. The event of a poll comes of a ring, or doesn't; the ring has so many entries.
     pub fn goes_on(
         &self,
         started: bool,
@@ -113,7 +113,7 @@ pub fn completion_flags(part: Part, of_buffer: u32) -> u32
     }
 }
 
-/// The flags of a provided buffer of which no completion has told, behind one of this part, where they were `of_buffer`, or 0.
+/// The flags of a provided buffer of which no completion has told, after one of this part, where they were `of_buffer`, or 0.
 pub fn untold_behind(part: Part, of_buffer: u32) -> u32
     ensures { result ≡ untold_behind part of_buffer }
 {
@@ -123,7 +123,7 @@ pub fn untold_behind(part: Part, of_buffer: u32) -> u32
     }
 }
 
-/// Behind an event that told of a buffer no completion of its request tells of it again.
+/// After an event that told of a buffer no completion of its request tells of it again.
 pub fn tells_a_buffer_once()
     ensures { TellsABufferOnce }
 {}
@@ -141,14 +141,14 @@ pub fn notifies_at_last()
 {}
 
 impl Posted {
-    /// Whether an eventfd is told of this completion, where it is registered for all, or only for what ends behind the call that submitted it.
+    /// Whether an eventfd is told of this completion, where it is registered for all, or only for what ends after the call that submitted it.
     pub fn tells(&self, is_async_alone: bool) -> bool
         ensures { result ≡ tells self.now is_async_alone }
     {
         self.is_behind() || !is_async_alone
     }
 
-    /// Whether it comes behind the call that submitted its request.
+    /// Whether it comes after the call that submitted its request.
     fn is_behind(&self) -> bool
         ensures { result ≡ is_behind self.now }
     {

@@ -155,14 +155,14 @@ fn flags_of(overflows: bool, may_bring: bool, has_thread: bool) -> u32
     need_wakeup + cq_overflow + taskrun
 }
 
-/// The position so many behind this one. Positions run freely, and wrap at 32 bits.
+/// The position so many after this one. Positions run freely, and wrap at 32 bits.
 fn after(position: u32, count: u32) -> u32
     ensures { result ≡ (position + count) % 2 ^ 32 }
 {
     position.wrapping_add(count)
 }
 
-/// How far a position is behind another.
+/// How far a position is after another.
 fn distance(from: u32, to: u32) -> u32
     ensures { (from + result) % 2 ^ 32 ≡ to }
 {

@@ -27,7 +27,7 @@ pub enum Occasion {
     /// Something has gone on in a call.
     Step,
 
-    /// A completion may be posted behind it: an operation is carried out, or what no operation ends with is told.
+    /// A completion may be posted after it: an operation is carried out, or what no operation ends with is told.
     Posting,
 }
 
@@ -41,7 +41,7 @@ pub fn asks_overflow(occasion: Occasion) -> bool
     }
 }
 
-/// Whether the ring is shown anew behind so many completions that have moved into it.
+/// Whether the ring is shown anew after so many completions that have moved into it.
 pub fn shows_again(moved: u64) -> bool
     ensures { result ≡ spec.shows_again moved }
 {

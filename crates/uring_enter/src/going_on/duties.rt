@@ -210,7 +210,7 @@ pub fn duties_before_posting() -> Duties
     }
 }
 
-/// Behind completions that were posted outside a call.
+/// After completions that were posted outside a call.
 pub fn duties_behind_posting(has_ends: bool, is_polled: bool) -> Duties
     ensures { result ≡ spec.behind_posting has_ends is_polled }
 {
@@ -221,7 +221,7 @@ pub fn duties_behind_posting(has_ends: bool, is_polled: bool) -> Duties
     }
 }
 
-/// Behind completions that were stored into ring memory with their tail, of so many of which a registered eventfd is told.
+/// After completions that were stored into ring memory with their tail, of so many of which a registered eventfd is told.
 pub fn duties_behind_storing(told: u64) -> Duties
     ensures { result ≡ spec.behind_storing told }
 {
@@ -261,17 +261,17 @@ pub fn needs_no_asking()
     ensures { NeedsNoAsking }
 {}
 
-/// The flags are shown behind all else that a call does as it returns.
+/// The flags are shown after all else that a call does as it returns.
 pub fn shows_at_last()
     ensures { ShowsAtLast }
 {}
 
-/// Where a call watches pipes for what runs, it has kept their files before, behind those of what was accepted, and found them.
+/// Where a call watches pipes for what runs, it has kept their files before, after those of what was accepted, and found them.
 pub fn watches_what_is_held()
     ensures { WatchesWhatIsHeld }
 {}
 
-/// Of many that wait those become dormant behind the pipes that are watched.
+/// Of many that wait those become dormant after the pipes that are watched.
 pub fn lies_behind_pipes()
     ensures { LiesBehindPipes }
 {}

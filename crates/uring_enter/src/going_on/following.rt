@@ -3,7 +3,7 @@
 ghost use Rattle.std.specs.Prelude.{◌≡◌};
 ghost use Rattle.uring_enter.specs.GoingOn.Following as spec;
 
-/// What is done behind the end of a request, in the order in which it stands here.
+/// What is done after the end of a request, in the order in which it stands here.
 #[derive(Clone, Copy, Drop)]
 pub struct BehindEnd {
     /// Its completion is kept, if it has one, to be shown.
@@ -40,7 +40,7 @@ pub struct BehindEnd {
     pub has_ends: bool,
 }
 
-/// Behind the end of a request, which keeps a file or none, has an epoll instance that tells of its events or none, may have had to wait for its descriptor, and drains or doesn't.
+/// After the end of a request, which keeps a file or none, has an epoll instance that tells of its events or none, may have had to wait for its descriptor, and drains or doesn't.
 pub fn duties_behind_end(
     has_file: bool,
     has_instance: bool,

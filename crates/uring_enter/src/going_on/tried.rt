@@ -3,7 +3,7 @@
 ghost use Rattle.std.specs.Prelude.{◌≡◌};
 ghost use Rattle.uring_enter.specs.GoingOn.Tried as spec;
 
-/// What is done behind an operation that was carried out, in the order in which it stands here.
+/// What is done after an operation that was carried out, in the order in which it stands here.
 #[derive(Clone, Copy, Drop)]
 pub struct BehindTry {
     /// Those that run are looked at again.
@@ -16,7 +16,7 @@ pub struct BehindTry {
     pub asks_going_on: bool,
 }
 
-/// Behind an operation that can make others ready, or can't, and that would have to wait, or came to a result. Our own rule.
+/// After an operation that can make others ready, or can't, and that would have to wait, or came to a result. Our own rule.
 pub fn behind_try(can_make_ready: bool, would_wait: bool) -> BehindTry
     ensures { result ≡ spec.behind_try can_make_ready would_wait }
 {

@@ -68,14 +68,14 @@ pub fn asks_elapsed(may_be_left: bool, rings: u32) -> bool
     !may_be_left && rings >= 2
 }
 
-/// Whether the lock of all rings is tried once more behind a close in a signal's handler, which was tried so often: who has it may wait for what the handler's own thread has.
+/// Whether the lock of all rings is tried once more after a close in a signal's handler, which was tried so often: who has it may wait for what the handler's own thread has.
 pub fn tries_again(tries: u32) -> bool
     ensures { result ≡ spec.tries_again tries }
 {
     tries < 100
 }
 
-/// What comes next of a call that is to sleep, behind this, which has brought what may let something go on, or hasn't. `None`: at first. `fault`: that of its arguments, once its mask was read.
+/// What comes next of a call that is to sleep, after this, which has brought what may let something go on, or hasn't. `None`: at first. `fault`: that of its arguments, once its mask was read.
 pub fn next_before_sleep(last: Option<BeforeSleep>, has_brought: bool, fault: i32) -> SleepOnto
     ensures { result ≡ spec.next_before_sleep last has_brought fault }
 {

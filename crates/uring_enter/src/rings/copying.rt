@@ -26,7 +26,7 @@ pub enum CopyOnto {
     Fails,
 }
 
-/// How a copy of so many bytes goes on behind this way, which copied so many, or came to this error. `None`: at first.
+/// How a copy of so many bytes goes on after this way, which copied so many, or came to this error. `None`: at first.
 pub fn next_way(last: Option<Way>, copied: i64, size: u64) -> CopyOnto
     ensures { result ≡ spec.next_way last copied size }
 {

@@ -66,7 +66,7 @@ pub fn region_of(offset: u64) -> Option<Region>
     }
 }
 
-/// What a set-up does behind this, which came to `res`. `None`: at first.
+/// What a set-up does after this, which came to `res`. `None`: at first.
 pub fn next_stage(last: Option<Stage>, res: i32) -> Onto
     ensures { result ≡ spec.next_of last res }
 {

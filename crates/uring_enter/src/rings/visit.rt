@@ -6,7 +6,7 @@ ghost use Rattle.uring_enter.specs.Rings.Visits.{StopsWhereNoneCanBePosted};
 
 use crate::rings::message::Receiver;
 
-/// What the sender of a message does behind it.
+/// What the sender of a message does after it.
 #[derive(Clone, Copy, Drop)]
 pub enum Visit {
     Nothing,
@@ -25,14 +25,14 @@ pub fn posts_message(is_there: bool, may_post: bool) -> bool
     is_there && may_post
 }
 
-/// Whether a ring is visited, and once more behind each visit, by who can have its lock: messages are there, and the last visit has left none, or one that could be posted as it ended.
+/// Whether a ring is visited, and once more after each visit, by who can have its lock: messages are there, and the last visit has left none, or one that could be posted as it ended.
 pub fn visits_again(is_there: bool, was_left: bool, could_post: bool) -> bool
     ensures { result ≡ spec.visits_again is_there was_left could_post }
 {
     is_there && (!was_left || could_post)
 }
 
-/// What the sender of a message to this ring does behind one that has come to this result.
+/// What the sender of a message to this ring does after one that has come to this result.
 pub fn visit_of(to: Receiver, res: i32) -> Visit
     ensures { result ≡ spec.visit_of to res }
 {

@@ -9,7 +9,7 @@ ghost use Rattle.uring_operations.specs.declared.entries.submission.Submission.{
 use crate::taking_up::core_entry::is_drain;
 use uring_operations::{Member, Submission};
 
-/// The members of a chain, as they are seen one behind the other.
+/// The members of a chain, as they are seen one after the other.
 #[repr(C)]
 #[derive(Clone, Copy, Drop)]
 pub struct Chain {
@@ -50,7 +50,7 @@ pub enum WhenFound {
     /// By the call that has taken it.
     ByTheCall,
 
-    /// By that call, each in its turn: as it starts, or before one behind it does, or the call sleeps or returns, whatever comes first.
+    /// By that call, each in its turn: as it starts, or before one after it does, or the call sleeps or returns, whatever comes first.
     InItsTurn,
 
     /// By the call, if the core lets it start: that is asked.
@@ -153,7 +153,7 @@ impl Drains {
     }
 }
 
-/// The entries of a call, as they are seen one behind the other: what they may change.
+/// The entries of a call, as they are seen one after the other: what they may change.
 #[repr(C)]
 #[derive(Clone, Copy, Drop)]
 pub struct Changes {

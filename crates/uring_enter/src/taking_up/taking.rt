@@ -20,7 +20,7 @@ pub struct Submitting {
     /// How many positions from the head on an earlier call has given the core, which couldn't take them.
     pub given: u32,
 
-    /// The call goes on behind an entry with a fault. IORING_SETUP_SUBMIT_ALL.
+    /// The call goes on after an entry with a fault. IORING_SETUP_SUBMIT_ALL.
     pub submits_all: bool,
 }
 
@@ -113,14 +113,14 @@ impl Taking {
     }
 }
 
-/// The fault of a call that memory was refused behind so many positions that it has staged: by the core, which was given these, or for the next one. 0: it has none, and submits what it has staged.
+/// The fault of a call that memory was refused after so many positions that it has staged: by the core, which was given these, or for the next one. 0: it has none, and submits what it has staged.
 pub fn refusal_fault(staged: u32, is_core: bool) -> i32
     ensures { result ≡ refusal_fault staged is_core }
 {
     if is_core || staged == 0 { -11 } else { 0 }
 }
 
-/// Whether a call takes no more behind this.
+/// Whether a call takes no more after this.
 fn ends(submits_all: bool, item: Item) -> bool
     ensures { result ≡ ends submits_all item }
 {

@@ -28,7 +28,7 @@ pub enum Hearing {
     CountsAsHeard,
 }
 
-/// What is next as a call begins, or has slept, behind this, where so many pipes are watched. `None`: nothing was done, or is left.
+/// What is next as a call begins, or has slept, after this, where so many pipes are watched. `None`: nothing was done, or is left.
 pub fn next_at_begin(last: Option<Hearing>, watched: u64) -> Option<Hearing>
     ensures { result ≡ spec.next_at_begin last watched }
 {
@@ -45,7 +45,7 @@ pub fn next_at_begin(last: Option<Hearing>, watched: u64) -> Option<Hearing>
     }
 }
 
-/// What is next as a call returns, or is to sleep, behind this, where so many pipes are watched by then. `None`: nothing was done, or is left.
+/// What is next as a call returns, or is to sleep, after this, where so many pipes are watched by then. `None`: nothing was done, or is left.
 pub fn next_at_rest(last: Option<Hearing>, watched: u64) -> Option<Hearing>
     ensures { result ≡ spec.next_at_rest last watched }
 {

@@ -46,7 +46,7 @@ fn join_neighbours(rows: &mut [PollRow]) -> usize
     kept
 }
 
-/// Puts a row behind the first so many, or joins it to the last of them, if that has its descriptor.
+/// Puts a row after the first so many, or joins it to the last of them, if that has its descriptor.
 fn put(rows: &mut [PollRow], kept: usize, row: PollRow) -> usize
     requires { kept < length rows.old }
     ensures joins { (p : PollRow → Bool) → spec.Joins p

@@ -7,7 +7,7 @@ ghost use Rattle.uring_enter.specs.Waiting.Leaving.{LeavesParents, LeavesNothing
 /// What is left undone.
 #[derive(Clone, Copy, Drop)]
 pub struct Left {
-    /// Its lock isn't taken again behind a sleep.
+    /// Its lock isn't taken again after a sleep.
     pub lock: bool,
 
     /// A sleep isn't taken out of its list, and what wakes that isn't closed.

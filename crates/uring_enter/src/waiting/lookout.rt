@@ -14,7 +14,7 @@ pub struct Lookout {
     /// How often a descriptor may have become ready, from 1 on: at each of these moments it is looked at once.
     pub moment: u64,
 
-    /// How often something has happened behind which none is passed over, from 1 on: in each of these rounds one that waits is asked once.
+    /// How often something has happened after which none is passed over, from 1 on: in each of these rounds one that waits is asked once.
     pub round: u64,
 
     /// How often those that had to wait were let go, from 1 on.
@@ -91,7 +91,7 @@ impl Lookout {
         }
     }
 
-    /// An update has changed the one at this place, which was asked again, and can be finished or waits. One that waits is passed over as before, and so are those behind it.
+    /// An update has changed the one at this place, which was asked again, and can be finished or waits. One that waits is passed over as before, and so are those after it.
     pub fn updates(&mut self, place: u64, finishes: bool)
         ensures { (log : List Happening) → KeepsLookout log self.old
             → KeepsLookout (Updated place finishes ∷ log) self.new }
@@ -190,7 +190,7 @@ impl Lookout {
     }
 }
 
-/// Who couldn't be finished before an end that isn't told to let others be finished can't be behind it.
+/// Who couldn't be finished before an end that isn't told to let others be finished can't be after it.
 pub fn end_lets_none()
     ensures { EndLetsNone }
 {}
@@ -205,7 +205,7 @@ pub fn wakes_for_each()
     ensures { WakesForEach }
 {}
 
-/// What was written behind an operation that was carried out is taken for the ring's own.
+/// What was written after an operation that was carried out is taken for the ring's own.
 pub fn takes_its_own()
     ensures { TakesItsOwn }
 {}

@@ -18,7 +18,7 @@ pub enum Beginning {
     Sleeps,
 }
 
-/// What is known behind a wait.
+/// What is known after a wait.
 #[repr(C)]
 #[derive(Clone, Copy, Drop)]
 pub struct Waited {
@@ -57,7 +57,7 @@ pub enum Outcome {
     Failed,
 }
 
-/// Whether a timeout fires behind a wait, if its time is over.
+/// Whether a timeout fires after a wait, if its time is over.
 pub fn fires_behind(waited: &Waited) -> bool
     ensures { result ≡ spec.fires_behind waited.now }
 {
@@ -71,14 +71,14 @@ pub fn came_to(res: i32, is_child: bool) -> i32
     if is_child { -4 } else { res }
 }
 
-/// Whether more requests become dormant behind a sleep that came to this, so that it polls fewer descriptors. ppoll(2), EINVAL.
+/// Whether more requests become dormant after a sleep that came to this, so that it polls fewer descriptors. ppoll(2), EINVAL.
 pub fn lets_more_lie(came: i32) -> bool
     ensures { result ≡ spec.lets_more_lie came }
 {
     came == -22
 }
 
-/// What a sleep counts as that came to this, before which so many requests were dormant, and behind which so many are. Our own rule.
+/// What a sleep counts as that came to this, before which so many requests were dormant, and after which so many are. Our own rule.
 pub fn counted_as(came: i32, before: u64, behind: u64) -> i32
     ensures { result ≡ spec.counted_as came before behind }
 {
@@ -102,7 +102,7 @@ pub fn beginning_of(fault: i32, is_told: bool) -> Beginning
     }
 }
 
-/// Whether a sleep naps for a request that may have to wait, and polls its descriptor not: it has none; or it was carried out so often in vain, once right behind the other though its descriptor showed ready each time, and shows ready still.
+/// Whether a sleep naps for a request that may have to wait, and polls its descriptor not: it has none; or it was carried out so often in vain, once right after the other though its descriptor showed ready each time, and shows ready still.
 fn naps_for(needs: &Needs, vain: u32, is_ready: bool) -> bool
     ensures { result ≡ spec.naps_for needs.now vain is_ready }
 {
@@ -149,7 +149,7 @@ pub fn slept_for(
     }
 }
 
-/// How often a request was carried out in vain, as far as that counts behind a look at its descriptor.
+/// How often a request was carried out in vain, as far as that counts after a look at its descriptor.
 fn vain_behind(needs: &Needs, vain: u32, is_ready: bool) -> u32
     ensures { result ≡ spec.vain_behind needs.now vain is_ready }
 {

@@ -1,4 +1,4 @@
-//! How long a call sleeps at most, and what time it is behind a sleep that came to its end.
+//! How long a call sleeps at most, and what time it is after a sleep that came to its end.
 
 ghost use Rattle.std.specs.Prelude.{◌≡◌, List, ◌∷◌};
 ghost use Rattle.uring_operations.specs.declared.entries.timeout.Timeout.{Timeout};
@@ -47,7 +47,7 @@ impl Times {
         }
     }
 
-    /// To when time moves on behind such a sleep, where nothing has woken it. `None`: it was a nap, and only what a clock says has passed. To be asked before the sleep.
+    /// To when time moves on after such a sleep, where nothing has woken it. `None`: it was a nap, and only what a clock says has passed. To be asked before the sleep.
     pub fn comes_to(&self, until: Option<u64>, can_be_woken: bool) -> Option<u64>
         ensures { (log : List Event) (rows : List Timeout) → KeepsTime log self.now rows
             → result ≡ comes_to log until can_be_woken }

@@ -48,7 +48,7 @@ impl Waiter {
         }
     }
 
-    /// Whether it has to wait: it would have waited, and nothing has come since behind which it needn't.
+    /// Whether it has to wait: it would have waited, and nothing has come since after which it needn't.
     pub fn has_to_wait(&self, lookout: &Lookout) -> bool
         ensures { (log : List Encounter) → KeepsLookout (around log) lookout.now → KeepsWaiter log self.now
             → result ≡ spec.has_to_wait log }

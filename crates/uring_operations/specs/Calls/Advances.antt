@@ -1,4 +1,4 @@
--- Which bytes of a message's vectors are next, behind a part of them: those that weren't moved, in their order. readv(2), struct iovec; recv(2), MSG_WAITALL.
+-- Which bytes of a message's vectors are next, after a part of them: those that weren't moved, in their order. readv(2), struct iovec; recv(2), MSG_WAITALL.
 use Rattle.std.specs.Prelude.{◌≡◌, ℕ, zero, suc, ℤ, pos, negsuc, ◌+◌, ◌-◌, min, List, [], ◌∷◌, ◌++◌, drop}
 use Rattle.uring_operations.specs.declared.calls.advance.Vector.{Vector}
 use Rattle.uring_operations.specs.declared.calls.advance.Rest.{Rest}
@@ -12,7 +12,7 @@ moved_by (negsuc _) = 0
 abbrev pub part_of : Vector → (moved : ℕ) → ℕ
 part_of v moved = min moved v.size
 
--- what is left of a vector behind those that are its own, and how many are left for the ones behind it
+-- what is left of a vector after those that are its own, and how many are left for the ones after it
 abbrev pub rest_of : Vector → (moved : ℕ) → Rest
 rest_of v moved = record {
   vector = record { from = v.from + part_of v moved; size = v.size - part_of v moved };

@@ -13,7 +13,7 @@ use Rattle.uring_operations.specs.Calls.CallTries.{is_asked}
 abbrev pub has_begun : ℤ → Bool
 has_begun came_to = int_eq came_to (error 115)
 
--- behind a RECVMSG (10) that has received a message its sizes and flags are told, where its entry has them told. recvmsg(2)
+-- after a RECVMSG (10) that has received a message its sizes and flags are told, where its entry has them told. recvmsg(2)
 abbrev pub tells_message : Submission → ℤ → Bool
 tells_message e came_to = e.opcode == 10 && not (is_below came_to)
 
@@ -21,7 +21,7 @@ tells_message e came_to = e.opcode == 10 && not (is_below came_to)
 abbrev pub told_result : ℤ → (is_told : Bool) → ℤ
 told_result came_to is_told = if is_told then came_to else error 14
 
--- a socket of datagrams that was shut down for reading has no more, and a receive or a read that waits ends with 0; but one that is asked not to wait is told -11 (EAGAIN) there too. So behind that it matters whether a socket was shut down, unless the entry asks it not to wait, by its flags of a message or RWF_NOWAIT (8), or goes on. shutdown(2), SHUT_RD; what Linux 6.18 was seen to do
+-- a socket of datagrams that was shut down for reading has no more, and a receive or a read that waits ends with 0; but one that is asked not to wait is told -11 (EAGAIN) there too. So after that it matters whether a socket was shut down, unless the entry asks it not to wait, by its flags of a message or RWF_NOWAIT (8), or goes on. shutdown(2), SHUT_RD; what Linux 6.18 was seen to do
 abbrev pub asks_shut : Submission → ℤ → Bool
 asks_shut e came_to =
     int_eq came_to (error 11) && not (goes_on e)
@@ -36,7 +36,7 @@ shut_result e came_to is_shut isnt_to_wait =
 abbrev pub takes_for_nothing : ℕ → Bool
 takes_for_nothing code = is_transfer code && not (is_read_multishot code)
 
--- where a READ_MULTISHOT reads next, behind so many bytes: from there on, unless it has no offset, which is 2^64 - 1. What has none, as a pipe, passes over it. What Linux 6.18 was seen to do
+-- where a READ_MULTISHOT reads next, after so many bytes: from there on, unless it has no offset, which is 2^64 - 1. What has none, as a pipe, passes over it. What Linux 6.18 was seen to do
 abbrev pub offset_behind : Submission → ℤ → ℕ
 offset_behind e came_to =
     if is_read_multishot e.opcode && not (e.off == 2 ^ 64 - 1) then (e.off + moved_by came_to) % 2 ^ 64 else e.off
@@ -50,6 +50,6 @@ abbrev pub done_result : Submission → (done filled : ℕ) → ℤ
 done_result e done filled =
     if fills_buffer e then pos (min filled (2 ^ 31 - 1)) else pos (min done (2 ^ 31 - 1))
 
--- SOCK_STREAM (1) and SOCK_SEQPACKET (5): of these a receive that waits for all its bytes, with MSG_WAITALL, goes on behind a part. recv(2), and what Linux 6.18 does
+-- SOCK_STREAM (1) and SOCK_SEQPACKET (5): of these a receive that waits for all its bytes, with MSG_WAITALL, goes on after a part. recv(2), and what Linux 6.18 does
 abbrev pub is_stream_type : ℕ → Bool
 is_stream_type kind = kind == 1 || kind == 5

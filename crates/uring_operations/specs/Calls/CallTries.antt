@@ -1,4 +1,4 @@
--- What becomes of an operation of sockets, of a splice and of a poll that is carried out: which call is made, and behind each what is done next. io_uring_enter(2), at each of them; recv(2), MSG_WAITALL; but where our own rule is named.
+-- What becomes of an operation of sockets, of a splice and of a poll that is carried out: which call is made, and after each what is done next. io_uring_enter(2), at each of them; recv(2), MSG_WAITALL; but where our own rule is named.
 use Rattle.std.specs.Prelude.{◌≡◌, ℕ, ℤ, pos, negsuc, Bool, true, false, not, ◌&&◌, ◌||◌, ◌==◌, nat_lt, Option, Some, None, ◌⊎◌, if◌then◌else◌}
 use Rattle.std.specs.Ordering.{int_eq}
 use Rattle.std.specs.Int.RustNames.{bit_and}
@@ -50,7 +50,7 @@ behind_message e c (pos n) = if not (n == 0) && waits_for_all e c then Does Asks
 abbrev pub is_connected : Call → ℤ → Bool
 is_connected c res = c.has_begun && (int_eq res (error 106) || int_eq res (error 77))
 
--- a connect that came to -103 (ECONNABORTED), as one does behind another that was refused on its socket, is made once more, and no more often. What Linux 6.18 does
+-- a connect that came to -103 (ECONNABORTED), as one does after another that was refused on its socket, is made once more, and no more often. What Linux 6.18 does
 abbrev pub is_repeated : Call → ℤ → Bool
 is_repeated c res = not c.was_repeated && int_eq res (error 103)
 
@@ -77,7 +77,7 @@ behind_poll e is_ready =
 abbrev pub behind_error : Submission → ℤ → Turn
 behind_error e res = if e.opcode == 16 && int_eq res (pos 0) then Does Calls else Ends res
 
--- what is done next, behind what was done last, which came to `res`: a question to a number that is 0 for no. Behind a call, `done` has what it has moved too
+-- what is done next, after what was done last, which came to `res`: a question to a number that is 0 for no. After a call, `done` has what it has moved too
 abbrev pub behind : Submission → Call → Doing → ℤ → Turn
 behind e c Calls res = behind_call e c res
 behind e c Polls res = behind_poll e (not (int_eq res (pos 0)))
@@ -104,7 +104,7 @@ abbrev pub repeats : Call → Option Doing → ℤ → Bool
 repeats c (Some Calls) res = is_repeated c res
 repeats c _ res = false
 
--- a connection is accepted only right behind its socket was found ready, and a connect that was begun is made again only right behind its socket was found to have no error, or once more
+-- a connection is accepted only right after its socket was found ready, and a connect that was begun is made again only right after its socket was found to have no error, or once more
 abbrev pub AcceptsWhatCame : Type 0
 AcceptsWhatCame = (e : Submission) (c : Call) (last : Option Doing) (res : ℤ) → polls_first e c ≡ true
     → next_of e c last res ≡ Does Calls

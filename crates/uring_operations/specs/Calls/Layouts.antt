@@ -13,7 +13,7 @@ in_front name control = 16 + name + control
 abbrev pub room_for : ℕ → ℕ → ℕ → Option ℕ
 room_for name control size = if nat_le (in_front name control) size then Some (size - in_front name control) else None
 
--- where each stands: the address behind the 16 bytes, the control data behind room for the address, and the bytes behind room for that. A call is told its sender, and control data, only where there is room for them
+-- where each stands: the address after the 16 bytes, the control data after room for the address, and the bytes after room for that. A call is told its sender, and control data, only where there is room for them
 abbrev pub layout_by : ℕ → ℕ → Option ℕ → Option Layout
 layout_by name control None = None
 layout_by name control (Some room) =
@@ -29,7 +29,7 @@ layout_by name control (Some room) =
 abbrev pub layout_of : ℕ → ℕ → ℕ → Option Layout
 layout_of name control size = layout_by name control (room_for name control size)
 
--- how much of the buffer has something behind a message of so many bytes, which may have been cut to the room that there was: what stands in front, and those that came
+-- how much of the buffer has something after a message of so many bytes, which may have been cut to the room that there was: what stands in front, and those that came
 abbrev pub filled : Layout → ℕ → ℕ
 filled l came = l.bytes + min came l.room
 

@@ -16,7 +16,7 @@ abbrev pub may_break : Submission → ℤ → Bool
 may_break e res =
     (is_splice e.opcode || is_write e.opcode && has_some e.flags 16) && int_eq res (error 32)
 
--- the number of the signal that is taken back behind such an end, as signal(7) has it: SIGXFSZ is 25 and SIGPIPE 13. 0: none is
+-- the number of the signal that is taken back after such an end, as signal(7) has it: SIGXFSZ is 25 and SIGPIPE 13. 0: none is
 abbrev pub signal_behind : Submission → ℤ → ℕ
 signal_behind e res = if may_signal e res then 25 else if may_break e res then 13 else 0
 

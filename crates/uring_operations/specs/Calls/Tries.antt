@@ -1,4 +1,4 @@
--- What becomes of a transfer that is carried out: which call is made, and behind each what is done next. io_uring_enter(2), IORING_OP_READ; preadv2(2), RWF_NOWAIT; but where our own rule is named.
+-- What becomes of a transfer that is carried out: which call is made, and after each what is done next. io_uring_enter(2), IORING_OP_READ; preadv2(2), RWF_NOWAIT; but where our own rule is named.
 use Rattle.std.specs.Prelude.{◌≡◌, ℕ, ℤ, pos, negsuc, suc, Bool, true, false, not, ◌&&◌, ◌||◌, ◌==◌, Option, Some, None, ◌⊎◌, if◌then◌else◌}
 use Rattle.std.specs.Ordering.{int_eq}
 use Rattle.uring_operations.specs.declared.calls.transfer.Transfer.{Transfer}
@@ -44,7 +44,7 @@ behind_asking t res = if int_eq res (error 95) then Does Polls else unless_waiti
 abbrev pub unless : Bool → ℤ → Step
 unless is_end res = if is_end then Ends res else Does Finds
 
--- what is done next, behind a task that came to `res`; of what is found out about the descriptor, `res` is that of the call before. A read that was made at once and hasn't moved all is made once more, unless a stream gave what it moved; so is what was tried at an offset, on what has none (-29, ESPIPE)
+-- what is done next, after a task that came to `res`; of what is found out about the descriptor, `res` is that of the call before. A read that was made at once and hasn't moved all is made once more, unless a stream gave what it moved; so is what was tried at an offset, on what has none (-29, ESPIPE)
 abbrev pub behind : Transfer → Task → ℤ → Step
 behind t (Calls AtOnce) res = unless (is_all res t.length) res
 behind t (Calls Tried) res = unless (not (int_eq res (error 29))) res
@@ -88,7 +88,7 @@ abbrev pub TellsWhatCame : Type 0
 TellsWhatCame = (t : Transfer) (last : Option Task) (res end : ℤ) → next_of t last res ≡ Ends end
     → (end ≡ res) ⊎ ((end ≡ t.fault) × (is_below end ≡ true))
 
--- what a stream has given is told: no call is made behind that
+-- what a stream has given is told: no call is made after that
 abbrev pub LosesNothing : Type 0
 LosesNothing = (t : Transfer) (task : Task) (n : ℕ) (how : How) → t.is_stream ≡ true
     → behind t task (pos (suc n)) ≡ Does (Calls how) → task ≡ Polls

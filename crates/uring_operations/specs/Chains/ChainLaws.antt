@@ -25,7 +25,7 @@ abbrev pub ChainsHold : Type 0
 ChainsHold = (first : ℕ) (newer earlier : List Entry) → all_link newer ≡ true
     → chain_of first (newer ++ earlier) ≡ chain_of first earlier
 
--- and a chain begins behind one that doesn't link, with a number that none before it has
+-- and a chain begins after one that doesn't link, with a number that none before it has
 abbrev pub ChainsEnd : Type 0
 ChainsEnd = (first : ℕ) (before : Entry) (earlier : List Entry) → before.links ≡ false
     → chain_of first (before ∷ earlier) ≡ first + length (before ∷ earlier)

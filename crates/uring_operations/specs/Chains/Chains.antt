@@ -1,9 +1,9 @@
--- Chains: which request is linked behind which, and which one a linked timeout limits. io_uring_enter(2), IOSQE_IO_LINK and IORING_OP_LINK_TIMEOUT.
+-- Chains: which request is linked to which, and which one a linked timeout limits. io_uring_enter(2), IOSQE_IO_LINK and IORING_OP_LINK_TIMEOUT.
 use Rattle.std.specs.Prelude.{ℕ, ◌+◌, Bool, false, not, ◌&&◌, ◌||◌, ◌==◌, length, Option, Some, None, List, [], ◌∷◌, if◌then◌else◌}
 use Rattle.uring_operations.specs.declared.chains.member.Entry.{Entry}
 use Rattle.uring_operations.specs.declared.chains.member.Member.{Member}
 
--- an entry is linked behind the one before it in its call, if that says so. No chain goes past a call
+-- an entry is linked to the one before it in its call, if that says so. No chain goes past a call
 abbrev pub is_linked : List Entry → Bool
 is_linked [] = false
 is_linked (before ∷ earlier) = before.links
@@ -11,13 +11,13 @@ is_linked (before ∷ earlier) = before.links
 abbrev pub chain_behind : Bool → ℕ → ℕ → ℕ
 chain_behind links chain number = if links then chain else number
 
--- the number of the first member of the chain to which an entry belongs, behind those before it in its call, the newest first, whose numbers begin with `first`
+-- the number of the first member of the chain to which an entry belongs, after those before it in its call, the newest first, whose numbers begin with `first`
 abbrev pub chain_of : ℕ → List Entry → ℕ
 chain_of first [] = first
 chain_of first (before ∷ earlier) =
     chain_behind before.links (chain_of first earlier) (first + length (before ∷ earlier))
 
--- the request of an entry behind these
+-- the request of an entry after these
 abbrev pub member_of : ℕ → Entry → List Entry → Member
 member_of first entry earlier = record {
   number = first + length earlier;

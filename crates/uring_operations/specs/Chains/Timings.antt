@@ -35,7 +35,7 @@ runs timeout (IsFound request ∷ earlier) =
 runs timeout (Ends request ∷ earlier) =
     runs timeout earlier && not (is_timed_by timeout request || request.number == timeout.number)
 
--- whether it runs behind what is to be done
+-- whether it runs after what is to be done
 abbrev pub runs_behind : Timing → Bool → Bool
 runs_behind Stays runs = runs
 runs_behind Begins _ = true

@@ -1,4 +1,4 @@
--- What is copied next of what an entry points to, and which fault the whole of it has: the first of those of its pieces, in their order, and behind them all -22 (EINVAL) of a provided buffer for other than one vector, and of a linked timeout that stands where it may not. io_uring_enter(2), CQE ERRORS. The order is what the kernel does.
+-- What is copied next of what an entry points to, and which fault the whole of it has: the first of those of its pieces, in their order, and after them all -22 (EINVAL) of a provided buffer for other than one vector, and of a linked timeout that stands where it may not. io_uring_enter(2), CQE ERRORS. The order is what the kernel does.
 use Rattle.std.specs.Prelude.{ℕ, ℤ, pos, Bool, not, ◌&&◌, ◌||◌, ◌==◌, Option, Some, None, if◌then◌else◌}
 use Rattle.std.specs.Ordering.{int_eq}
 use Rattle.uring_operations.specs.declared.entries.submission.Submission.{Submission}
@@ -29,7 +29,7 @@ abbrev pub piece_or : Option Piece → ℤ → Copying
 piece_or (Some p) fault = unless_too_long p
 piece_or None fault = Ends fault
 
--- behind so many pieces, of which the last has this fault, or 0
+-- after so many pieces, of which the last has this fault, or 0
 abbrev pub next_of : Submission → ℕ → ℤ → ℕ → Option Entry → Copying
 next_of e copied fault vectors before =
     if is_below fault then Ends fault else piece_or (piece_of e copied) (last_fault e vectors before)

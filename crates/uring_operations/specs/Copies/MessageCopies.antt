@@ -1,4 +1,4 @@
--- What is copied next of a message, behind its header, and which fault it has: of the address that is sent first, then of the vectors, then of the room of one that goes on. sendmsg(2) and recvmsg(2); io_uring_enter(2), IORING_RECV_MULTISHOT. The order is what Linux 6.18 does.
+-- What is copied next of a message, after its header, and which fault it has: of the address that is sent first, then of the vectors, then of the room of one that goes on. sendmsg(2) and recvmsg(2); io_uring_enter(2), IORING_RECV_MULTISHOT. The order is what Linux 6.18 does.
 use Rattle.std.specs.Prelude.{ℕ, ℤ, pos, ◌+◌, ◌*◌, Bool, not, ◌&&◌, ◌||◌, ◌==◌, min, nat_le, if◌then◌else◌}
 use Rattle.uring_operations.specs.declared.entries.submission.Submission.{Submission}
 use Rattle.uring_operations.specs.declared.copies.message_copying.Header.{Header}
@@ -42,17 +42,17 @@ has_no_room h = not (nat_le h.name_size 2147483647) || not (nat_le (16 + h.name_
 abbrev pub room_fault : Submission → Header → ℤ
 room_fault e h = if e.opcode == 10 && has_some e.ioprio 2 && has_no_room h then error 75 else pos 0
 
--- behind the address, or where there is none
+-- after the address, or where there is none
 abbrev pub next_vectors : Submission → Header → Copying
 next_vectors e h =
     if is_below (count_fault e h) then Ends (count_fault e h) else
     if h.vector_count == 0 then Ends (room_fault e h) else Copies (vectors_of h)
 
--- the vectors are copied behind so many pieces
+-- the vectors are copied after so many pieces
 abbrev pub before_vectors : Submission → Header → ℕ
 before_vectors e h = if is_addressed e h then 1 else 0
 
--- behind so many pieces, of which the last has this fault, or 0
+-- after so many pieces, of which the last has this fault, or 0
 abbrev pub next_of_message : Submission → Header → ℕ → ℤ → Copying
 next_of_message e h copied fault =
     if is_below fault then Ends fault else

@@ -74,7 +74,7 @@ second_of e =
     -- SEND and SEND_ZC
     if e.opcode == 26 || e.opcode == 47 then address_of e else None
 
--- and third: the path of an OPENAT2, and of a SETXATTR behind its value
+-- and third: the path of an OPENAT2, and of a SETXATTR after its value
 abbrev pub third_of : Submission → Option Piece
 third_of e =
     if e.opcode == 28 then path_at Path e.addr else
@@ -104,7 +104,7 @@ time_fault seconds nanoseconds =
 abbrev pub how_fault : Bool → ℤ
 how_fault is_rest_zero = if is_rest_zero then pos 0 else error 7
 
--- what a slot has isn't closed by exec: O_CLOEXEC is 2^19. That comes behind the path of an OPENAT and an OPENAT2, and is no fault of another entry with a path. `how`: the flags of the structure of an OPENAT2
+-- what a slot has isn't closed by exec: O_CLOEXEC is 2^19. That comes after the path of an OPENAT and an OPENAT2, and is no fault of another entry with a path. `how`: the flags of the structure of an OPENAT2
 abbrev pub open_fault : Submission → (how : ℕ) → ℤ
 open_fault e how =
     if (e.opcode == 18 || e.opcode == 28) && not (e.file_index == 0) && has_some (flags_of e how) 524288 then error 22 else pos 0

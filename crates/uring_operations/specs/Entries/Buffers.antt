@@ -4,7 +4,7 @@ use Rattle.uring_operations.specs.declared.entries.submission.Submission.{Submis
 use Rattle.uring_operations.specs.Entries.Clocks.{has_some}
 use Rattle.uring_entry.specs.Errors.{error, is_below}
 
--- behind the last address that a program of 64 bits may have on x86-64
+-- after the last address that a program of 64 bits may have on x86-64
 abbrev pub no_address : ℕ
 no_address = 2 ^ 47 - 4096
 
@@ -24,7 +24,7 @@ is_out_of_reach from size = is_past_all from (min size most)
 abbrev pub is_vector_out_of_reach : ℕ → ℕ → Bool → Bool
 is_vector_out_of_reach from size is_lone = if is_lone then is_out_of_reach from size else is_past_all from size
 
--- the fault of vectors, or 0, with one more behind those that have the fault `before`: -22 (EINVAL) if the length of one is negative in 64 bits, else -14 (EFAULT) if no program can have one. Where a provided buffer takes their place (IOSQE_BUFFER_SELECT, 32) they have none
+-- the fault of vectors, or 0, with one more after those that have the fault `before`: -22 (EINVAL) if the length of one is negative in 64 bits, else -14 (EFAULT) if no program can have one. Where a provided buffer takes their place (IOSQE_BUFFER_SELECT, 32) they have none
 abbrev pub vector_fault : Submission → ℤ → ℕ → ℕ → Bool → ℤ
 vector_fault e before from size is_lone =
     if has_some e.flags 32 then pos 0 else

@@ -4,7 +4,7 @@ use Rattle.uring_operations.specs.declared.entries.rule.Rule.{Rule}
 use Rattle.uring_operations.specs.declared.entries.rule.Also.{Also}
 use Rattle.uring_operations.specs.declared.entries.rule.Also.TheVariants.{Nothing, Transfer, Vectors, Sync, Poll, PollRemoval, Timeout, LinkedTimeout, TimeoutRemoval, Cancel, OpenHow, Close, FilesUpdate, ProvisionRemoval, Socket, Accept, Send, SendMessage, Receive, SendZeroCopy, SendMessageZeroCopy, Selection}
 
--- the fields of an entry, a bit each. `slot` is file_index, which also is splice_fd_in; `third` is addr3, and `padding` what stands behind it
+-- the fields of an entry, a bit each. `slot` is file_index, which also is splice_fd_in; `third` is addr3, and `padding` what stands after it
 abbrev pub priority : ℕ
 priority = 1
 

@@ -1,4 +1,4 @@
--- What a ring that goes by a kernel refuses of its entries, by those that it was asked about, the newest first. io_uring_enter(2), IOSQE_CQE_SKIP_SUCCESS: behind one that skips its success a drain couldn't tell when all before it have ended, so the kernel refuses drains for good.
+-- What a ring that goes by a kernel refuses of its entries, by those that it was asked about, the newest first. io_uring_enter(2), IOSQE_CQE_SKIP_SUCCESS: after one that skips its success a drain couldn't tell when all before it have ended, so the kernel refuses drains for good.
 use Rattle.std.specs.Prelude.{◌≡◌, ℕ, ℤ, pos, Bool, false, not, ◌&&◌, ◌||◌, List, [], ◌∷◌, if◌then◌else◌}
 use Rattle.std.specs.Int.RustNames.{bit_and}
 use Rattle.uring_operations.specs.declared.entries.strict.Strict.{Strict}
@@ -45,7 +45,7 @@ abbrev pub refusal_by : List Looked → Submission → (is_strict linux is_serve
 refusal_by log e is_strict linux is_served knows_skip =
     if goes_by_kernel is_strict linux then refusal_of log e (not is_strict || is_served) (not is_strict || knows_skip) else pos 0
 
--- what it was asked about behind that
+-- what it was asked about after that
 abbrev pub looked_by : List Looked → Submission → (is_strict linux is_served knows_skip : Bool) → List Looked
 looked_by log e is_strict linux is_served knows_skip =
     if goes_by_kernel is_strict linux then Looks e (not is_strict || is_served) (not is_strict || knows_skip) ∷ log else log

@@ -70,7 +70,7 @@ expired (_ ∷ earlier) = expired earlier
 abbrev pub enough_after : ℕ → ℕ → ℕ
 enough_after now count = if count == 0 then 0 else counted now count
 
--- a timeout that starts behind this log
+-- a timeout that starts after this log
 abbrev pub started : List Event → Start → Timeout
 started log s = record {
   number = s.number;
@@ -141,7 +141,7 @@ outcome log t =
     if has_counted log t then Some (pos 0) else
     if is_over log t then Some (error 62) else None
 
--- how a linked timeout ends behind its request: -62 (ETIME) if it has cancelled it, else -125 (ECANCELED)
+-- how a linked timeout ends after its request: -62 (ETIME) if it has cancelled it, else -125 (ECANCELED)
 abbrev pub linked_outcome : Bool → ℤ
 linked_outcome has_cancelled = if has_cancelled then error 62 else error 125
 

@@ -38,7 +38,7 @@ TakesBackWhatItAsked = (flags asked : ℕ) → flags < 2 ^ 32
 abbrev pub has_lock : ℤ → Bool
 has_lock came_to = not (int_eq came_to (error 11) || int_eq came_to (error 13))
 
--- it is tried at once, twenty times more behind a moment for others, and then behind pauses, as often as two thousand times: whoever has it so long has been stopped, maybe. None is tried, and the call is made without, where the application has a lock on that byte, which ours would take off; and none more where another has one that means something else, as that of a whole file
+-- it is tried at once, twenty times more after a moment for others, and then after pauses, as often as two thousand times: whoever has it so long has been stopped, maybe. None is tried, and the call is made without, where the application has a lock on that byte, which ours would take off; and none more where another has one that means something else, as that of a whole file
 abbrev pub next_of_locking : Locked → Locking
 next_of_locking l =
     if l.is_of_application then GoesWithout else

@@ -124,7 +124,7 @@ buffer_fault e d why =
 abbrev pub no_buffer_fault : Submission → Nature → ℤ
 no_buffer_fault e d = buffer_fault e d (if has_some e.flags 32 then error 105 else error 14)
 
--- whether it matters to what it ends with that had this fault as it started, whether its group has a buffer: of a transfer that takes a provided buffer, whatever the fault, as -9 (EBADF) of a descriptor that is open in the wrong direction; but -77 (EBADFD), of one that can't be polled, comes before. A message takes its buffer behind all these
+-- whether it matters to what it ends with that had this fault as it started, whether its group has a buffer: of a transfer that takes a provided buffer, whatever the fault, as -9 (EBADF) of a descriptor that is open in the wrong direction; but -77 (EBADFD), of one that can't be polled, comes before. A message takes its buffer after all these
 abbrev pub fault_asks_buffer : Submission → ℤ → Bool
 fault_asks_buffer e fault = is_transfer e.opcode && has_some e.flags 32 && is_below fault && not (int_eq fault (error 77))
 

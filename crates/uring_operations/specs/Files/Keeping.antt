@@ -7,7 +7,7 @@ use Rattle.uring_operations.specs.declared.requests.ready.Standing.{Standing}
 abbrev pub keeps_before_close : (number : ℕ) → (fd : ℤ) → (closing : ℕ) → (closed : ℤ) → Bool
 keeps_before_close number fd closing closed = nat_lt number closing && int_eq fd closed
 
--- whether a request is given the copy of its file that was made for another right before: that one's was copied, and by the same number, which is one file's while copies are made one right behind the other; and it hasn't to wait for its descriptor. Who waits has a copy of his own, by which an epoll instance tells of him alone
+-- whether a request is given the copy of its file that was made for another right before: that one's was copied, and by the same number, which is one file's while copies are made one right after the other; and it hasn't to wait for its descriptor. Who waits has a copy of his own, by which an epoll instance tells of him alone
 abbrev pub shares_copy : Standing → (fd : ℤ) → (copied : Option ℤ) → Bool
 shares_copy s fd None = false
 shares_copy s fd (Some other) = int_eq other fd && not s.is_stream
@@ -23,7 +23,7 @@ AsksWhereItMatters = (others : ℕ) (was_closed has_file is_same : Bool)
     → (may_close_last 0 was_closed has_file false is_same ≡ false)
     × (may_close_last others was_closed has_file true true ≡ may_close_last others was_closed has_file true false)
 
--- whether a pipe counts as written to behind an event: it tells of a write to that pipe, or that events were dropped, among which there may have been such a one
+-- whether a pipe counts as written to after an event: it tells of a write to that pipe, or that events were dropped, among which there may have been such a one
 abbrev pub counts_as_written : (is_dropped is_write is_own : Bool) → Bool
 counts_as_written is_dropped is_write is_own = is_dropped || is_write && is_own
 

@@ -41,12 +41,12 @@ write_begins w =
 abbrev pub syncs_itself : Writing → Bool
 syncs_itself w = has_some w.flags 6 || (w.is_known && has_some w.status 4096)
 
--- the bytes that the sync of an entry is of, or none: it is of the whole file if it has neither an offset nor a length. io_uring_prep_fsync(3). One with an offset alone is of no byte: Linux 6.18 was seen to sync the page at the offset, and to leave what stands behind it
+-- the bytes that the sync of an entry is of, or none: it is of the whole file if it has neither an offset nor a length. io_uring_prep_fsync(3). One with an offset alone is of no byte: Linux 6.18 was seen to sync the page at the offset, and to leave what stands after it
 abbrev pub synced_bytes : Submission → Option SyncedBytes
 synced_bytes e =
     if e.off == 0 && e.len == 0 then None else Some (record { begin = e.off; length = e.len })
 
--- whether a path is of the folder that counts as the disk, or below: it begins with the folder's, behind which it ends (0) or goes on with a slash (47). Our own rule
+-- whether a path is of the folder that counts as the disk, or below: it begins with the folder's, after which it ends (0) or goes on with a slash (47). Our own rule
 abbrev pub is_on_disk : (begins_with_folder : Bool) → (behind : ℕ) → Bool
 is_on_disk begins_with_folder behind = begins_with_folder && (behind == 0 || behind == 47)
 

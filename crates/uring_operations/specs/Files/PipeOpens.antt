@@ -39,7 +39,7 @@ looking_flags e how = bit_or 2621440 (bit_and (flags_of e how) 131072)
 abbrev pub found_flags : Submission → (how : ℕ) → ℕ
 found_flags e how = bit_or (bit_and (flags_of e how) (2 ^ 64 - 1 - 131072)) 2048
 
--- behind -2 (ENOENT) there is no /proc, since what was found is there as long as its descriptor: then its path is opened, which may name another by now. Our own rule
+-- after -2 (ENOENT) there is no /proc, since what was found is there as long as its descriptor: then its path is opened, which may name another by now. Our own rule
 abbrev pub opens_by_path : ℤ → Bool
 opens_by_path res = int_eq res (error 2)
 

@@ -54,7 +54,7 @@ at_update log = changing_by (begins_afresh log)
 abbrev pub comes_before : Changing → ChangingStep → ChangingStep → Bool
 comes_before s first second = is_done s first && is_done s second && nat_lt (place first) (place second)
 
--- a poll that is begun afresh asks for the events that it has got: what told of its old ones is gone by then, and its descriptor is looked at behind
+-- a poll that is begun afresh asks for the events that it has got: what told of its old ones is gone by then, and its descriptor is looked at after
 abbrev pub AsksWhatWasChanged : Type 0
 AsksWhatWasChanged = (begins_afresh : Bool) → is_done (changing_by begins_afresh) AsksEvents ≡ true
     → (comes_before (changing_by begins_afresh) Delists Changes ≡ true)

@@ -31,7 +31,7 @@ returns (_ ∷ earlier) = returns earlier
 abbrev pub TriesOnce : Type 0
 TriesOnce = (log : List Fact) → is_run log ≡ true → tries log ≤ returns log + 1
 
--- behind its end nothing is to be done, and nothing happens
+-- after its end nothing is to be done, and nothing happens
 abbrev pub EndsForGood : Type 0
 EndsForGood = (log : List Fact) → has_ended log ≡ true
     → (act log ≡ Nothing) × ((fact : Fact) → fits log fact ≡ false)

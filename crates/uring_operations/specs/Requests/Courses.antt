@@ -109,7 +109,7 @@ can_be log (Done _) = is_tried log
 can_be log (Notified _) = is_known (ending log)
 can_be log Ended = is_ending (act log)
 
--- whether this can have happened: nothing does behind its end
+-- whether this can have happened: nothing does after its end
 abbrev pub fits : List Fact → Fact → Bool
 fits log fact = not (has_ended log) && can_be log fact
 
@@ -117,7 +117,7 @@ fits log fact = not (has_ended log) && can_be log fact
 abbrev pub behind_act : List Fact → List Fact
 behind_act log = if is_carrying_out (act log) then Tried ∷ log else log
 
--- a run: each thing can have happened behind those before it
+-- a run: each thing can have happened after those before it
 abbrev pub is_run : List Fact → Bool
 is_run [] = true
 is_run (fact ∷ earlier) = fits earlier fact && is_run earlier

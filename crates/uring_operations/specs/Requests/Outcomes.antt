@@ -1,4 +1,4 @@
--- What of a request's result is a success to the links behind it, and what is shown of one that the core ends by itself. io_uring_enter(2), IOSQE_IO_LINK, but where another section or our own rule is named.
+-- What of a request's result is a success to the links after it, and what is shown of one that the core ends by itself. io_uring_enter(2), IOSQE_IO_LINK, but where another section or our own rule is named.
 use Rattle.std.specs.Prelude.{◌≡◌, ℕ, ℤ, pos, negsuc, Bool, true, false, not, ◌&&◌, ◌||◌, ◌==◌, if◌then◌else◌}
 use Rattle.std.specs.Ordering.{int_eq}
 use Rattle.uring_operations.specs.declared.requests.outcome.Success.{Success}
@@ -66,7 +66,7 @@ abbrev pub success_of : Success → ℤ → Bool
 success_of a (negsuc below) = is_time a (negsuc below) || is_forgiven a (negsuc below)
 success_of a (pos count) = not a.is_whole || is_whole a (pos count)
 
--- whether it is a success to the links behind it, and to IOSQE_CQE_SKIP_SUCCESS: no error but one that isn't marked, and of a transfer that wants all of its length no less. A chain goes on behind a linked timeout whatever that ends with, unless it was cancelled itself
+-- whether it is a success to the links after it, and to IOSQE_CQE_SKIP_SUCCESS: no error but one that isn't marked, and of a transfer that wants all of its length no less. A chain goes on after a linked timeout whatever that ends with, unless it was cancelled itself
 abbrev pub is_success : Success → ℤ → Bool
 is_success a res =
     if a.is_linked_timeout then not a.is_cancelled else success_of a res
@@ -79,7 +79,7 @@ looks_for_running is_cancel res = is_cancel && int_eq res (error 114)
 abbrev pub looks_for_next : Bool → ℤ → (linux : Bool) → Bool
 looks_for_next is_cancel res linux = linux && is_cancel && int_eq res (error 2)
 
--- what a cancel looks for once the core has ended it: first for the requests that run; then for the one that could start, by what it ends with behind those, and only where it has cancelled none of them. So it cancels one, and one that runs comes first, as in the kernel
+-- what a cancel looks for once the core has ended it: first for the requests that run; then for the one that could start, by what it ends with after those, and only where it has cancelled none of them. So it cancels one, and one that runs comes first, as in the kernel
 abbrev pub sought_behind : EndedCancel → ℤ → SoughtBehind
 sought_behind c res =
     if not c.has_looked && looks_for_running c.is_cancel res then Running else
@@ -89,7 +89,7 @@ sought_behind c res =
 abbrev pub CancelsOne : Type 0
 CancelsOne = (c : EndedCancel) (res : ℤ) → c.has_looked ≡ true → c.has_cancelled ≡ true → sought_behind c res ≡ Nothing
 
--- a cancel looks for such a request before the core ends it: others could start behind its end, which the kernel's cancel doesn't find
+-- a cancel looks for such a request before the core ends it: others could start after its end, which the kernel's cancel doesn't find
 abbrev pub looks_ahead : Bool → (linux : Bool) → Bool
 looks_ahead is_cancel linux = linux && is_cancel
 

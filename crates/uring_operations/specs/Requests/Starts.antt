@@ -48,7 +48,7 @@ nothing = record {
   seeks_buffer = false;
 }
 
--- as the core has let it start: those accepted before it find their files, whose turn that is, since what it opens or closes comes behind them; then it finds its own, if these weren't looked for as it was accepted; the time begins that is told by its start; and the path that it opens is looked up, if that may name a pipe for which it waits
+-- as the core has let it start: those accepted before it find their files, whose turn that is, since what it opens or closes comes after them; then it finds its own, if these weren't looked for as it was accepted; the time begins that is told by its start; and the path that it opens is looked up, if that may name a pipe for which it waits
 abbrev pub at_start : Submission → (how : ℕ) → (is_sought : Bool) → Starting
 at_start e how is_sought = record nothing {
   finds_earlier = true;
@@ -65,7 +65,7 @@ starts_poll n fault = n.is_poll && int_eq fault (pos 0)
 abbrev pub seeks_buffer_at_start : Standing → Needs → Bool
 seeks_buffer_at_start s n = n.selects && s.is_stream
 
--- behind that, with the fault of its files, or 0: a poll asks for its events; the descriptor of one that may have to wait is looked at, so that what is there is known to have been there; and its buffer is looked for
+-- after that, with the fault of its files, or 0: a poll asks for its events; the descriptor of one that may have to wait is looked at, so that what is there is known to have been there; and its buffer is looked for
 abbrev pub behind_files : Standing → Needs → (fault : ℤ) → Starting
 behind_files s n fault = record nothing {
   asks_events = starts_poll n fault;

@@ -18,7 +18,7 @@ abbrev pub issues : List ℕ → List Going
 issues [] = []
 issues (number ∷ later) = Issues number ∷ issues later
 
--- the ways of a choice: the requests that run and needn't wait, and behind them those that the core lets start, both by number; that the call returns comes last. Way 0 is what goes on first in order
+-- the ways of a choice: the requests that run and needn't wait, and after them those that the core lets start, both by number; that the call returns comes last. Way 0 is what goes on first in order
 abbrev pub ways : List ℕ → List ℕ → Bool → List Going
 ways ready issuable may_return =
     finishes ready ++ (issues issuable ++ (if may_return then Returns ∷ [] else []))

@@ -1,4 +1,4 @@
-//! Which bytes of a message's vectors are next, behind a part of them. readv(2), `struct iovec`; recv(2), MSG_WAITALL.
+//! Which bytes of a message's vectors are next, after a part of them. readv(2), `struct iovec`; recv(2), MSG_WAITALL.
 
 ghost use Rattle.std.specs.Prelude.{◌≡◌, ◌+◌, ◌-◌, ◌^◌, ◌<◌};
 ghost use Rattle.uring_operations.specs.Calls.Advances as spec;
@@ -15,14 +15,14 @@ pub struct Vector {
     pub size: u64,
 }
 
-/// What is left behind a part.
+/// What is left after a part.
 #[repr(C)]
 #[derive(Clone, Copy, Drop)]
 pub struct Rest {
     /// Of a vector,
     pub vector: Vector,
 
-    /// and of the bytes that were moved, for the vectors behind that.
+    /// and of the bytes that were moved, for the vectors after that.
     pub moved: u64,
 }
 
@@ -33,7 +33,7 @@ pub fn moved_by(came_to: i32) -> u64
     if came_to < 0 { 0 } else { came_to as u64 }
 }
 
-/// What is left of a vector, of which and of those behind it so many bytes were moved. It ends in a memory of 64 bits.
+/// What is left of a vector, of which and of those after it so many bytes were moved. It ends in a memory of 64 bits.
 pub fn rest_of(vector: &Vector, moved: u64) -> Rest
     ensures { vector.now.from + vector.now.size < 2 ^ 64 → result ≡ spec.rest_of vector.now moved }
 {
@@ -47,7 +47,7 @@ pub fn rest_of(vector: &Vector, moved: u64) -> Rest
     }
 }
 
-/// Where each vector is moved on in turn, the bytes that are left are those behind the ones that were moved.
+/// Where each vector is moved on in turn, the bytes that are left are those after the ones that were moved.
 pub fn leaves_what_is_behind()
     ensures { LeavesWhatIsBehind }
 {}

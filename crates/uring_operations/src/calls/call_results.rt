@@ -16,21 +16,21 @@ pub fn has_begun(came_to: i32) -> bool
     came_to == -115
 }
 
-/// Whether what belongs to a message, its sizes and flags, is told behind a call of this entry that came to this.
+/// Whether what belongs to a message, its sizes and flags, is told after a call of this entry that came to this.
 pub fn tells_message(entry: &Submission, came_to: i32) -> bool
     ensures { result ≡ spec.tells_message entry.now came_to }
 {
     entry.opcode == 10 && came_to >= 0
 }
 
-/// What a call ends with that came to this, and behind which that could be told, or had not to be; or couldn't.
+/// What a call ends with that came to this, and after which that could be told, or had not to be; or couldn't.
 pub fn told_result(came_to: i32, is_told: bool) -> i32
     ensures { result ≡ spec.told_result came_to is_told }
 {
     if is_told { came_to } else { -14 }
 }
 
-/// Whether it matters behind a call of this entry that came to this whether its socket was shut down for reading.
+/// Whether it matters after a call of this entry that came to this whether its socket was shut down for reading.
 pub fn asks_shut(entry: &Submission, came_to: i32) -> bool
     ensures { result ≡ spec.asks_shut entry.now came_to }
 {
@@ -57,7 +57,7 @@ pub fn takes_for_nothing(code: u8) -> bool
     is_transfer(code) && !is_read_multishot(code)
 }
 
-/// The offset at which the read of an entry that goes on reads next, behind a call that came to this; of another its own.
+/// The offset at which the read of an entry that goes on reads next, after a call that came to this; of another its own.
 pub fn offset_behind(entry: &Submission, came_to: i32) -> u64
     ensures { result ≡ spec.offset_behind entry.now came_to }
 {

@@ -29,7 +29,7 @@ pub struct Layout {
     pub has_control: bool,
 }
 
-/// How many bytes of the message have room in a buffer of this size, behind what stands in front: 16 bytes, and room for so many bytes of an address and of control data. `None`: that has no room itself.
+/// How many bytes of the message have room in a buffer of this size, after what stands in front: 16 bytes, and room for so many bytes of an address and of control data. `None`: that has no room itself.
 pub fn room_for(name: u32, control: u64, size: u64) -> Option<u64>
     ensures { result ≡ spec.room_for name control size }
 {
@@ -55,7 +55,7 @@ pub fn layout_of(name: u32, control: u64, size: u64) -> Option<Layout>
 }
 
 impl Layout {
-    /// How much of the buffer has something behind a message of so many bytes.
+    /// How much of the buffer has something after a message of so many bytes.
     pub fn filled(&self, came: u32) -> u64
         ensures { self.now.bytes + self.now.room < 2 ^ 64 → result ≡ spec.filled self.now came }
     {

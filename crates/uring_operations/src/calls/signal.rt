@@ -1,4 +1,4 @@
-//! Behind which results a signal is taken back, SIGXFSZ or SIGPIPE, and which signal is the call's. setrlimit(2), RLIMIT_FSIZE; pipe(7).
+//! After which results a signal is taken back, SIGXFSZ or SIGPIPE, and which signal is the call's. setrlimit(2), RLIMIT_FSIZE; pipe(7).
 
 ghost use Rattle.std.specs.Prelude.{◌≡◌};
 ghost use Rattle.uring_operations.specs.Calls.Signals as spec;
@@ -6,7 +6,7 @@ ghost use Rattle.uring_operations.specs.Calls.Signals as spec;
 use crate::entries::needs::{is_splice, is_write};
 use crate::entries::submission::Submission;
 
-/// The number of the signal that is taken back behind an operation which ended with this, SIGXFSZ (25) or SIGPIPE (13), or 0.
+/// The number of the signal that is taken back after an operation which ended with this, SIGXFSZ (25) or SIGPIPE (13), or 0.
 pub fn signal_behind(entry: &Submission, res: i32) -> u32
     ensures { result ≡ spec.signal_behind entry.now res }
 {

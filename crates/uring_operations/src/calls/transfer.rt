@@ -1,4 +1,4 @@
-//! What becomes of a transfer that is carried out: which call is made, and behind each what is done next. preadv2(2), RWF_NOWAIT.
+//! What becomes of a transfer that is carried out: which call is made, and after each what is done next. preadv2(2), RWF_NOWAIT.
 
 ghost use Rattle.std.specs.Prelude.{◌≡◌};
 ghost use Rattle.uring_operations.specs.Calls.Tries as spec;
@@ -80,7 +80,7 @@ pub enum Step {
     Ends(i32),
 }
 
-/// What is next, where the last thing that was done is this, and came to `res`. `None`: nothing was done. Behind `Finds`, `res` is what the call before came to.
+/// What is next, where the last thing that was done is this, and came to `res`. `None`: nothing was done. After `Finds`, `res` is what the call before came to.
 pub fn next_step(transfer: &Transfer, last: Option<Task>, res: i32) -> Step
     ensures { result ≡ spec.next_of transfer.now last res }
 {
@@ -158,7 +158,7 @@ fn is_all(res: i32, length: u64) -> bool
     if res < 0 { false } else { res as u64 == length }
 }
 
-/// Behind a call that is asked not to wait, on what may have to.
+/// After a call that is asked not to wait, on what may have to.
 fn behind_asking(transfer: &Transfer, res: i32) -> Step
     ensures { result ≡ spec.behind_asking transfer.now res }
 {
@@ -201,7 +201,7 @@ pub fn tells_what_came()
     ensures { TellsWhatCame }
 {}
 
-/// What a stream has given is told: no call is made behind that.
+/// What a stream has given is told: no call is made after that.
 pub fn loses_nothing()
     ensures { LosesNothing }
 {}

@@ -255,7 +255,7 @@ pub fn unpolled_result(events: u16) -> i32
     if present == 0 { -22 } else { present as i32 }
 }
 
-/// A connection is accepted only right behind its socket was found ready, and a connect that was begun is made again only right behind it was found to have no error, or once more.
+/// A connection is accepted only right after its socket was found ready, and a connect that was begun is made again only right after it was found to have no error, or once more.
 pub fn accepts_what_came()
     ensures { AcceptsWhatCame }
 {}

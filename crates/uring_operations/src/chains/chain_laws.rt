@@ -17,7 +17,7 @@ pub fn chains_hold()
     ensures { ChainsHold }
 {}
 
-/// A chain begins behind one that doesn't link.
+/// A chain begins after one that doesn't link.
 pub fn chains_end()
     ensures { ChainsEnd }
 {}

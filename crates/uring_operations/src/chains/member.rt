@@ -1,4 +1,4 @@
-//! Chains: which request is linked behind which, and which one a linked timeout limits. io_uring_enter(2), IOSQE_IO_LINK and IORING_OP_LINK_TIMEOUT.
+//! Chains: which request is linked to which, and which one a linked timeout limits. io_uring_enter(2), IOSQE_IO_LINK and IORING_OP_LINK_TIMEOUT.
 
 ghost use Rattle.std.specs.Prelude.{◌≡◌, ◌+◌, ℕ, length, List, [], ◌∷◌};
 ghost use Rattle.uring_operations.specs.declared.chains.member.Entry.{Entry};
@@ -8,7 +8,7 @@ ghost use Rattle.uring_operations.specs.Chains.Chains.{member_of, chain_behind, 
 #[repr(C)]
 #[derive(Clone, Copy, Drop)]
 pub struct Entry {
-    /// IOSQE_IO_LINK or IOSQE_IO_HARDLINK: the next entry of the call is linked behind it.
+    /// IOSQE_IO_LINK or IOSQE_IO_HARDLINK: the next entry of the call is linked to it.
     pub links: bool,
 
     /// It is a timeout that limits the request before it. IORING_OP_LINK_TIMEOUT.
@@ -44,7 +44,7 @@ impl Member {
         }
     }
 
-    /// The request of the entry behind this one's in its call, which has this number.
+    /// The request of the entry after this one's in its call, which has this number.
     pub fn next(&self, number: u64, entry: Entry) -> Member
         ensures { (first : ℕ) (before : Entry) (earlier : List Entry)
             → self.now ≡ member_of first before earlier → number ≡ first + length (before ∷ earlier)
@@ -58,7 +58,7 @@ impl Member {
         }
     }
 
-    /// The chain of the request of this number right behind this one.
+    /// The chain of the request of this number right after this one.
     fn chain_behind(&self, number: u64) -> u64
         ensures { result ≡ chain_behind self.now.entry.links self.now.chain number }
     {
@@ -76,7 +76,7 @@ impl Member {
     }
 }
 
-/// Whether an entry may stand behind this one, or first in its call: a linked timeout stands behind one that links it, and that is none itself.
+/// Whether an entry may stand after this one, or first in its call: a linked timeout stands after one that links it, and that is none itself.
 pub(crate) fn has_its_place(entry: Entry, before: Option<Entry>) -> bool
     ensures { result ≡ has_its_place entry before }
 {

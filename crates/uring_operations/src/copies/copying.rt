@@ -20,7 +20,7 @@ pub enum Copying {
     Ends(i32),
 }
 
-/// What goes on behind so many pieces of an entry, of which the last has this fault, or 0, and which hold so many vectors. `before` is the entry before it in its call.
+/// What goes on after so many pieces of an entry, of which the last has this fault, or 0, and which hold so many vectors. `before` is the entry before it in its call.
 pub fn next_piece(
     entry: &Submission,
     copied: u32,

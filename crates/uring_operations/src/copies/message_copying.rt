@@ -1,4 +1,4 @@
-//! What is copied next of a message, behind its header, and which fault it has. sendmsg(2), recvmsg(2).
+//! What is copied next of a message, after its header, and which fault it has. sendmsg(2), recvmsg(2).
 
 ghost use Rattle.std.specs.Prelude.{◌≡◌, ◌*◌, ◌^◌, ◌<◌};
 ghost use Rattle.uring_operations.specs.Copies.MessageCopies as spec;
@@ -34,7 +34,7 @@ pub fn is_address_alone(code: u8) -> bool
     code == 16 || code == 56
 }
 
-/// What goes on behind so many pieces of an entry's message, of which the last has this fault, or 0.
+/// What goes on after so many pieces of an entry's message, of which the last has this fault, or 0.
 pub fn next_message_piece(entry: &Submission, header: &Header, copied: u32, fault: i32) -> Copying
     ensures { result ≡ spec.next_of_message entry.now header.now copied fault }
 {
@@ -66,7 +66,7 @@ fn address_fault(header: &Header) -> i32
     }
 }
 
-/// Behind how many pieces the vectors are copied.
+/// After how many pieces the vectors are copied.
 fn before_vectors(entry: &Submission, header: &Header) -> u32
     ensures { result ≡ spec.before_vectors entry.now header.now }
 {

@@ -36,13 +36,13 @@ pub enum What {
     /// Bytes that the operation reads.
     Value,
 
-    /// A message, and behind it its vectors.
+    /// A message, and after it its vectors.
     Message,
 
     /// The address of a socket.
     Address,
 
-    /// What is newer in how a file is opened, behind the 24 bytes that are known: that is looked at, and not copied.
+    /// What is newer in how a file is opened, after the 24 bytes that are known: that is looked at, and not copied.
     HowRest,
 }
 
@@ -183,14 +183,14 @@ pub fn time_fault(seconds: i64, nanoseconds: i64) -> i32
     }
 }
 
-/// The fault of how a file is opened, or 0: whether what it has behind the fields that are known is all 0.
+/// The fault of how a file is opened, or 0: whether what it has after the fields that are known is all 0.
 pub fn how_fault(is_rest_zero: bool) -> i32
     ensures { result ≡ spec.how_fault is_rest_zero }
 {
     if is_rest_zero { 0 } else { -7 }
 }
 
-/// The fault of an entry behind its first path, or 0: what a slot has isn't closed by exec. `how`: the flags of its `struct open_how`, if it has one.
+/// The fault of an entry after its first path, or 0: what a slot has isn't closed by exec. `how`: the flags of its `struct open_how`, if it has one.
 pub fn open_fault(entry: &Submission, how: u64) -> i32
     ensures { result ≡ spec.open_fault entry.now how }
 {
@@ -213,7 +213,7 @@ pub fn message_vectors(entry: &Submission, vectors: u64) -> u64
     }
 }
 
-/// The fault of an entry that has so many vectors, behind those of its pieces, or 0: one that takes a provided buffer has one.
+/// The fault of an entry that has so many vectors, after those of its pieces, or 0: one that takes a provided buffer has one.
 pub(crate) fn selection_fault(entry: &Submission, vectors: u32) -> i32
     ensures { result ≡ spec.selection_fault entry.now vectors }
 {

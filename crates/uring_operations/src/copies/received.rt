@@ -47,7 +47,7 @@ pub struct Front {
     pub flags: u32,
 }
 
-/// The field that is told next, behind so many. `None`: all were told.
+/// The field that is told next, after so many. `None`: all were told.
 pub fn next_told(received: &Received, told: u32) -> Option<Field>
     ensures { result ≡ spec.next_told received.now told }
 {
@@ -60,7 +60,7 @@ pub fn next_told(received: &Received, told: u32) -> Option<Field>
     }
 }
 
-/// The one that is told next, behind so many others than the size of the address.
+/// The one that is told next, after so many others than the size of the address.
 fn behind_name(received: &Received, told: u32) -> Option<Field>
     ensures { result ≡ spec.nth (spec.behind_name received.now) told }
 {

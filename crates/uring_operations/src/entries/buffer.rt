@@ -5,7 +5,7 @@ ghost use Rattle.uring_operations.specs.Entries.Buffers as spec;
 
 use crate::entries::submission::Submission;
 
-/// Behind the last address that a program of 64 bits may have on x86-64.
+/// After the last address that a program of 64 bits may have on x86-64.
 pub(crate) const NO_ADDRESS: u64 = 0x7fff_ffff_f000;
 
 /// The most bytes that a transfer moves.
@@ -28,7 +28,7 @@ pub(crate) fn is_out_of_reach(from: u64, size: u64) -> bool
     is_past_all(from, size.min(MOST))
 }
 
-/// The fault of a vector of an entry, behind others that have the fault `before`, or 0: one of a negative length goes before one that no program can have. Of a lone one no more is looked at than a transfer moves.
+/// The fault of a vector of an entry, after others that have the fault `before`, or 0: one of a negative length goes before one that no program can have. Of a lone one no more is looked at than a transfer moves.
 pub fn vector_fault(entry: &Submission, before: i32, from: u64, size: u64, is_lone: bool) -> i32
     ensures { result ≡ spec.vector_fault entry.now before from size is_lone }
 {

@@ -81,7 +81,7 @@ impl Timeout {
     }
 }
 
-/// How a timeout ends that is linked behind a request which has ended: with -62 if it has cancelled it, else with -125. io_uring_enter(2), IORING_OP_LINK_TIMEOUT.
+/// How a timeout ends that is linked to a request which has ended: with -62 if it has cancelled it, else with -125. io_uring_enter(2), IORING_OP_LINK_TIMEOUT.
 pub fn linked_outcome(has_cancelled: bool) -> i32
     ensures { result ≡ linked_outcome has_cancelled }
 {

@@ -13,7 +13,7 @@ pub enum Locking {
     /// It is tried once others have had a moment.
     Yields,
 
-    /// It is tried behind a pause.
+    /// It is tried after a pause.
     Pauses,
 
     /// It is had, or nobody can have it: the call is made, and it is given back.
@@ -73,7 +73,7 @@ pub fn flags_behind(was_asked: bool, is_known: bool, flags: u32) -> Option<u32>
     }
 }
 
-/// An open file that was asked not to wait has its flags again behind the call, and one that wasn't stays as it is.
+/// An open file that was asked not to wait has its flags again after the call, and one that wasn't stays as it is.
 pub fn takes_back_what_it_asked()
     ensures { TakesBackWhatItAsked }
 {}

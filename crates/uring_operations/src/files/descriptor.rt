@@ -239,7 +239,7 @@ pub fn buffer_fault(entry: &Submission, nature: &Nature, why: i32) -> i32
     }
 }
 
-/// Whether it matters to what the request of an entry ends with, which had this fault as it started, whether its group has a buffer: a message takes one only behind its faults.
+/// Whether it matters to what the request of an entry ends with, which had this fault as it started, whether its group has a buffer: a message takes one only after its faults.
 pub fn fault_asks_buffer(entry: &Submission, fault: i32) -> bool
     ensures { result ≡ spec.fault_asks_buffer entry.now fault }
 {

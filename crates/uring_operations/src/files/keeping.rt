@@ -41,7 +41,7 @@ pub fn asks_whether_same()
     ensures { AsksWhereItMatters }
 {}
 
-/// Whether a pipe counts as written to behind an event that tells of dropped events, or of a write, to this pipe or another.
+/// Whether a pipe counts as written to after an event that tells of dropped events, or of a write, to this pipe or another.
 pub fn counts_as_written(is_dropped: bool, is_write: bool, is_own: bool) -> bool
     ensures { result ≡ spec.counts_as_written is_dropped is_write is_own }
 {

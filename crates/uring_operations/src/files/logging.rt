@@ -134,7 +134,7 @@ pub fn synced_bytes(entry: &Submission) -> Option<SyncedBytes>
     }
 }
 
-/// Whether a path is of the folder that counts as the disk, or below: whether it begins with the folder's, and the letter behind that, or 0.
+/// Whether a path is of the folder that counts as the disk, or below: whether it begins with the folder's, and the letter after that, or 0.
 pub fn is_on_disk(begins_with_folder: bool, behind: u8) -> bool
     ensures { result ≡ spec.is_on_disk begins_with_folder behind }
 {

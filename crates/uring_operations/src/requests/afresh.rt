@@ -101,7 +101,7 @@ pub fn ends_at_once()
     ensures { EndsAtOnce }
 {}
 
-/// A poll that is begun afresh asks for the events that it has got, behind all that told of those which it had, and is looked at last.
+/// A poll that is begun afresh asks for the events that it has got, after all that told of those which it had, and is looked at last.
 pub fn asks_what_was_changed()
     ensures { AsksWhatWasChanged }
 {}

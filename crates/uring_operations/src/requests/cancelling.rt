@@ -45,7 +45,7 @@ impl Course {
     }
 }
 
-/// A request is marked behind all else: it is roused, and its time has stopped, as one that no cancel has found yet.
+/// A request is marked after all else: it is roused, and its time has stopped, as one that no cancel has found yet.
 pub fn marks_at_last()
     ensures { MarksAtLast }
 {}

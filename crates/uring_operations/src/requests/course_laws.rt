@@ -17,7 +17,7 @@ pub fn tries_once()
     ensures { TriesOnce }
 {}
 
-/// Behind its end nothing is to be done, and nothing happens.
+/// After its end nothing is to be done, and nothing happens.
 pub fn ends_for_good()
     ensures { EndsForGood }
 {}

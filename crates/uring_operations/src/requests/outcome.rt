@@ -1,4 +1,4 @@
-//! What of a request's result is a success to the links behind it, and what is shown of one that the core ends by itself.
+//! What of a request's result is a success to the links after it, and what is shown of one that the core ends by itself.
 
 ghost use Rattle.std.specs.Prelude.{◌≡◌};
 ghost use Rattle.uring_operations.specs.Requests.Outcomes.{cuts, forgives, is_forgiven, is_forgiving, is_success, is_whole, success_of_entry, wants_whole, looks_ahead, looks_for_running, looks_for_next, may_have_found, shown_of, sought_behind, CancelsOne, LooksInTime};
@@ -27,7 +27,7 @@ pub struct Success {
     /// It is a timeout that ends well when its time is over. IORING_TIMEOUT_ETIME_SUCCESS.
     pub takes_time: bool,
 
-    /// It is a timeout that is linked behind a request.
+    /// It is a timeout that is linked to a request.
     pub is_linked_timeout: bool,
 
     /// A cancel has found it.
@@ -117,7 +117,7 @@ fn cuts(entry: &Submission, carried: &Carried) -> bool
     matches!(entry.opcode, 10 | 27) && carried.has_message && carried.message_flags & 40 != 0
 }
 
-/// Whether a result is a success to the links behind the request of an entry, and to who posts.
+/// Whether a result is a success to the links after the request of an entry, and to who posts.
 pub fn has_succeeded(entry: &Submission, carried: &Carried, linux: bool, res: i32) -> bool
     ensures { result ≡ is_success (success_of_entry entry.now carried.now linux) res }
 {
@@ -140,7 +140,7 @@ fn has_read_all(entry: &Submission, carried: &Carried, linux: bool, res: i32) ->
     }
 }
 
-/// Whether a result is a success to the links behind the request, and to who posts.
+/// Whether a result is a success to the links after the request, and to who posts.
 pub fn is_success(asked: Success, res: i32) -> bool
     ensures { result ≡ is_success asked res }
 {
@@ -186,7 +186,7 @@ pub struct EndedEarly {
     /// That has found a request which runs or could start, and which it could cancel.
     pub has_cancelled: bool,
 
-    /// It is a timeout that is linked behind a request.
+    /// It is a timeout that is linked to a request.
     pub is_linked_timeout: bool,
 
     /// That has cancelled this request.
@@ -260,7 +260,7 @@ pub fn cancels_one()
     ensures { CancelsOne }
 {}
 
-/// Whether a cancel looks, before the core ends it, for a request which hasn't started and could: behind its end others could start, which it doesn't find.
+/// Whether a cancel looks, before the core ends it, for a request which hasn't started and could: after its end others could start, which it doesn't find.
 pub fn looks_ahead(is_cancel: bool, linux: bool) -> bool
     ensures { result ≡ looks_ahead is_cancel linux }
 {

@@ -57,7 +57,7 @@ pub fn steps_at_start(entry: &Submission, how: u64, is_sought: bool) -> Starting
     }
 }
 
-/// Behind that, where its files were found without a fault, 0, or with this one.
+/// After that, where its files were found without a fault, 0, or with this one.
 pub fn steps_behind_files(standing: &Standing, needs: &Needs, fault: i32) -> Starting
     ensures { result ≡ spec.behind_files standing.now needs.now fault }
 {
