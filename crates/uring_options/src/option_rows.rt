@@ -65,7 +65,7 @@ pub(crate) const GRAPH: OptionRow = OptionRow {
 
 pub(crate) const GRAPH_AT: OptionRow = OptionRow {
     id: "at",
-    help: "Draw the graph of the moment after so many lines [default: after the last]",
+    help: "Draw the graph of the moment after line N [default: after the last]",
     numbers: Some((0, 4_294_967_295)),
 };
 
@@ -143,7 +143,7 @@ pub(crate) const UNIT: OptionRow = OptionRow {
 
 pub(crate) const AT: OptionRow = OptionRow {
     id: "at",
-    help: "Let the power fail after so many lines [default: after the last]",
+    help: "Let the power fail after line N [default: after the last]",
     numbers: Some((0, 4_294_967_295)),
 };
 
