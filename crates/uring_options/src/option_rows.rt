@@ -113,7 +113,7 @@ pub(crate) const EARLY: OptionRow = OptionRow {
 
 pub(crate) const MOVES: OptionRow = OptionRow {
     id: "most",
-    help: "With --early-effects: give up after so many moves [default: never]",
+    help: "With --early-effects: give up after N moves [default: never]",
     numbers: Some((1, 4_294_967_295)),
 };
 
@@ -167,7 +167,7 @@ pub(crate) const LIST: OptionRow = OptionRow {
 
 pub(crate) const LISTED: OptionRow = OptionRow {
     id: "most",
-    help: "List no more than so many images; with more, end with status 3 [default: 1000]",
+    help: "List no more than N images; with more, end with status 3 [default: 1000]",
     numbers: Some((1, 4_294_967_295)),
 };
 
@@ -203,13 +203,13 @@ pub(crate) const POWER: OptionRow = OptionRow {
 
 pub(crate) const MOST: OptionRow = OptionRow {
     id: "most",
-    help: "Stop after so many paths, and say that these are not known to be all",
+    help: "Stop after N paths, and say that these are not known to be all",
     numbers: Some((1, 4_294_967_295)),
 };
 
 pub(crate) const HISTORIES: OptionRow = OptionRow {
     id: "most",
-    help: "Give up after so many histories [default: never]",
+    help: "Give up after N histories [default: never]",
     numbers: Some((1, 4_294_967_295)),
 };
 
