@@ -155,10 +155,7 @@ bool hear(struct ring *ring, enum wulgach_occasion occasion)
 
 uint32_t count_ready(const struct ring *ring)
 {
-    const struct wulgach_shown *at = &ring->completions.at;
-    uint32_t head = load_word(&ring->memory.cq->head);
-    /* (Where nothing was reaped since the head was last heard, these are all that stand in the ring.) */
-    return head == at->head ? at->shown : wulgach_shown_ready(at, head);
+    return wulgach_shown_ready(&ring->completions.at, load_word(&ring->memory.cq->head));
 }
 
 void free_completions(struct completions *completions)

@@ -23,8 +23,8 @@ enum { MOST = 16 };
 
 /* The library's words of a thread that has rows, and the process in which it is known to io_uring, and has them. */
 static __thread uint64_t *table;
-static __thread uint32_t ring_of[MOST];     /* which ring a row has */
 static __thread uint32_t known_in;
+static __thread uint32_t ring_of[MOST];     /* which ring each row has, by its number in the process */
 static pthread_key_t key;
 static pthread_once_t once = PTHREAD_ONCE_INIT;
 

@@ -1,5 +1,5 @@
 /* The three calls after the system calls io_uring_setup(2), io_uring_enter(2) and io_uring_register(2). Each returns
- * what the system call does, or the negative of an error number: of entries a call may take more than an int holds. A ring's descriptor is memory, which mmap maps, or polls
+ * what the system call does, or the negative of an error number. A ring's descriptor is memory, which mmap maps, or polls
  * and is mapped by map_file.
  */
 #ifndef ENTER_H
@@ -13,7 +13,8 @@
 struct io_uring_params;
 
 int setup(uint32_t entries, struct io_uring_params *params, bool is_polled);
-/* `signals`: NULL, or all signals are blocked already, and these are what the thread has blocked else. */
+/* `signals`: NULL, or all signals are blocked already, and these are what the thread has blocked else. (the entries that it takes may be more than an int
+ * holds, where the ring has a thread) */
 int64_t enter(int fd, uint32_t to_submit, uint32_t min_complete, uint32_t flags, const void *argument, size_t size, const sigset_t *signals);
 int register_at(int fd, uint32_t code, void *argument, uint32_t count);
 

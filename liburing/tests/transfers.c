@@ -387,7 +387,13 @@ static void run_below_a_trace(char *path)
     }
 }
 
-/* A thread with the smallest stack that there is. */
+/* A sanitizer's frames are larger, and it can't have a thread with the smallest stack that there is. */
+#if defined __SANITIZE_ADDRESS__ || defined __SANITIZE_THREAD__
+enum { STACKS = 64 };
+#else
+enum { STACKS = 1 };
+#endif
+
 static void *use_traced(void *path)
 {
     struct ring ring;
@@ -398,11 +404,12 @@ static void *use_traced(void *path)
     return NULL;
 }
 
+/* A thread with the smallest stack has a trace. */
 static void run_on_a_small_stack(char *path)
 {
     pthread_attr_t small;
     pthread_t thread;
-    check(pthread_attr_init(&small) == 0 && pthread_attr_setstacksize(&small, (size_t)sysconf(_SC_THREAD_STACK_MIN)) == 0);
+    check(pthread_attr_init(&small) == 0 && pthread_attr_setstacksize(&small, STACKS * (size_t)sysconf(_SC_THREAD_STACK_MIN)) == 0);
     check(pthread_create(&thread, &small, use_traced, path) == 0 && pthread_join(thread, NULL) == 0);
 }
 

@@ -5,13 +5,14 @@ ghost use Rattle.uring_register.specs.Calling.{may_post as posts};
 ghost use Rattle.uring_c.specs.DutyForm.{duties_at_reply_of, word_of_duties};
 ghost use Rattle.uring_crossing.specs.EnterForm.{reply_of};
 
+use uring_crossing::enter_words::ReplyWords;
 use uring_enter::{
     Duties, Resting, duties_at_begin, duties_at_register_begin, duties_at_register_return,
-    duties_at_reply, duties_at_rest, duties_at_return, duties_before, duties_before_posting, duties_before_sleep,
-    duties_behind_posting, duties_behind_storing, duties_when_stuck, polls_instance, polls_writes,
+    duties_at_reply, duties_at_rest, duties_at_return, duties_before, duties_before_posting,
+    duties_before_sleep, duties_behind_posting, duties_behind_storing, duties_when_stuck,
+    polls_instance, polls_writes,
 };
 use uring_register::may_post;
-use uring_crossing::enter_words::ReplyWords;
 
 /// What a call does as it begins, or has slept, as a set of duties.
 #[unsafe(no_mangle)]
