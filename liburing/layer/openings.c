@@ -2,6 +2,7 @@
  * opened: so a sleep naps for such a request. */
 #define _GNU_SOURCE
 #include "openings.h"
+#include "glance.h"
 #include "means.h"
 #include "numbers.h"
 #include "operations.h"
@@ -9,7 +10,6 @@
 #include <errno.h>
 #include <fcntl.h>
 #include <linux/openat2.h>
-#include <poll.h>
 #include <stdio.h>
 #include <sys/stat.h>
 #include <sys/syscall.h>
@@ -92,7 +92,7 @@ static bool has_writer_now(int fd)
 static bool has_writer(int fd)
 {
     struct pollfd at = {.fd = fd, .events = POLLIN};
-    return poll(&at, 1, 0) > 0 || has_writer_now(fd);
+    return poll_now(&at, 1) > 0 || has_writer_now(fd);
 }
 
 /* Takes back that a file isn't to wait, if one was opened. */

@@ -112,12 +112,12 @@ int32_t make_unwilling_call(const struct wulgach_system_call *call, int fd, int 
 /* A descriptor on what is open by this one, which is opened once more and isn't to wait, and which nobody else has; or -1. */
 static int open_anew(int fd)
 {
-    char name[sizeof "/proc/self/fd/" + 11];
+    char name[sizeof "/proc/thread-self/fd/" + 11];
     uint32_t flags;
     int access = fcntl(fd, F_GETFL);
     if (access < 0 || !wulgach_asks_anew(is_pipe(fd), (uint32_t)access & O_ACCMODE, &flags))
         return -1;
-    snprintf(name, sizeof name, "/proc/self/fd/%d", fd);
+    snprintf(name, sizeof name, "/proc/thread-self/fd/%d", fd);
     return open(name, (int)flags);
 }
 
