@@ -237,7 +237,7 @@ static void tell_through(int outer, int inner)
     check(enter(&ring, 1, 0, 0) == 1 && write(counter, &one, sizeof one) == sizeof one);
     struct pollfd at = {.fd = top, .events = POLLIN};
     check(poll(&at, 1, 2000 * patience()) == 1);
-    check(enter(&ring, 0, 0, IORING_ENTER_GETEVENTS) == 0 && count_ready(&ring) == 1);
+    check(enter(&ring, 0, 1, IORING_ENTER_GETEVENTS) == 0 && count_ready(&ring) == 1);
     close_ring(&ring);
 }
 
