@@ -128,6 +128,10 @@ enum wulgach_locking {
     WULGACH_LOCKING_GOES_WITHOUT = 4    /* the call is made without */
 };
 
+/* The byte that is locked. Whether a lock of so many bytes from a start on is such a one: else it means something else, as that of a whole file. Our own rule. */
+#define WULGACH_LOCKED_BYTE (INT64_C(1) << 62)
+bool wulgach_is_layers_lock(uint64_t start, uint64_t length);
+
 /* Returns what is next (enum wulgach_locking): it is tried 2,000 times at most, the first twenty after the first one without a pause, and had unless
  * a try comes to -11 (EAGAIN) or -13 (EACCES). Where the application has a lock there, or others have, no more is tried. Our own rule. */
 uint32_t wulgach_locking_next(const struct wulgach_locked *locked);
@@ -182,6 +186,10 @@ bool wulgach_opens_again(int32_t res);
  * whether that open waits, with O_NONBLOCK: if it came to -6 (ENXIO), and is to write; and if it is to read, until a writer was found. */
 bool wulgach_asks_writer(const struct wulgach_submission *entry, uint64_t how, int32_t res);
 bool wulgach_opening_waits(const struct wulgach_submission *entry, uint64_t how, int32_t res, bool has_writer);
+
+/* Whether someone has it open to write, or has had since: poll(2) shows something of it; or a tee(2) of a byte that isn't to wait, if one can be made (`knows`),
+ * came to this, bytes or an error number's negative, and not to 0. */
+bool wulgach_has_writer(bool shows, bool knows, int32_t teed);
 
 /* ---- what a call came to ---- */
 

@@ -55,11 +55,12 @@ enum wulgach_stage {
     WULGACH_SET_UP_READS = 0,       /* it reads the parameters, */
     WULGACH_SET_UP_ASKS = 1,        /* asks the kernel, where the ring is strict, */
     WULGACH_SET_UP_MAKES = 2,       /* makes the ring, */
-    WULGACH_SET_UP_TELLS = 3,       /* and tells the parameters */
-    WULGACH_SET_UP_FAILS = 4,       /* it fails with what the last came to, */
-    WULGACH_SET_UP_DROPS = 5,       /* and the ring is dropped */
-    WULGACH_SET_UP_IS_DONE = 6,
-    WULGACH_SET_UP_BEGINS = 7
+    WULGACH_SET_UP_TELLS = 3,       /* tells the parameters, */
+    WULGACH_SET_UP_OPENS = 4,       /* and opens the ring's descriptor */
+    WULGACH_SET_UP_FAILS = 5,       /* it fails with what the last came to, */
+    WULGACH_SET_UP_DROPS = 6,       /* and the ring is dropped */
+    WULGACH_SET_UP_IS_DONE = 7,
+    WULGACH_SET_UP_BEGINS = 8
 };
 
 /* Returns what a set-up does after this (enum wulgach_stage), which came to `res`: BEGINS, and 0, at first. The first fault ends it. */
@@ -135,7 +136,7 @@ enum wulgach_matter {
     WULGACH_IS_COUNTER = 2,     /* one of no kind of file counts, as an eventfd or a timerfd does */
     WULGACH_IS_ONLINE = 3,      /* a processor is online */
     WULGACH_IS_SAME_FILE = 4,   /* two descriptors are on one file */
-    WULGACH_IS_LOCKED = 5       /* the process has locks on a file that another has locked */
+    WULGACH_IS_LOCKED = 5       /* the process has a lock on a file */
 };
 
 /* Whether this is taken to be so (enum wulgach_matter), where it is known to be so or not, or isn't known: then all but a counter and one file are. */

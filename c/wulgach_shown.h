@@ -136,6 +136,16 @@ uint32_t wulgach_watch_of(const struct wulgach_watched *before, bool was_watched
 /* Whether a descriptor is added whose renewal came to this: after -2 (ENOENT, epoll_ctl(2)) its number was another file's. */
 bool wulgach_watch_adds_behind(int32_t res);
 
+/* What an epoll instance makes of a descriptor that it is given. */
+enum wulgach_enlisted {
+    WULGACH_INSTANCE_TELLS = 0,     /* it tells of it, */
+    WULGACH_IS_READY_AT_ONCE = 1,   /* needn't, since poll(2) shows it at once, */
+    WULGACH_INSTANCE_CANT_TELL = 2  /* or can't: a sleep is by poll(2) then, and a ring's descriptor stays readable. Our own rule */
+};
+
+/* Returns that (enum wulgach_enlisted), where its addition came to this: 0, or an error number's negative (epoll_ctl(2)). */
+uint32_t wulgach_enlisted_as(int32_t res);
+
 /* What a ring's descriptor polls for beside what its requests wait for, as a set of bits. */
 enum wulgach_besides {
     WULGACH_POLLS_WRITES = 1,   /* what tells of writes to pipes */

@@ -153,6 +153,9 @@ bool wulgach_times_asks_threads(const struct wulgach_times *times, bool has_stre
 /* Whether it matters to such a call, which has a mask to sleep with or none, whether a signal waits. */
 bool wulgach_asks_signals(bool has_mask, bool has_streams);
 
+/* Whether one of the signals that wait comes to a call that has this mask, caught or ignored: each is a set of bits, of a signal's number less 1. */
+bool wulgach_comes_by_mask(uint64_t waiting, uint64_t mask);
+
 /* Writes how a call waits that has this limit, where nothing can go on. It sleeps while a descriptor is waited for; while another
  * thread may call, if no timeout runs; and where time passes by itself. Else one for which a signal waits sleeps until now, and the signal ends it
  * (io_uring_enter(2), EINTR); or time moves on at once. Neither goes past the limit or the time of a timeout. */
@@ -185,14 +188,14 @@ struct wulgach_span {
     uint64_t nanoseconds;       /* fewer than a second has */
 };
 
-/* Writes so many nanoseconds as ppoll(2) takes them. */
+/* Writes so many nanoseconds as a sleep's system call takes them. */
 void wulgach_span_of(uint64_t nanoseconds, struct wulgach_span *span);
 
 /* Writes to when time moves on after such a sleep, where nothing has woken it; no limit: it was a nap, and only what a clock says has
  * passed. To be asked before the sleep. */
 void wulgach_times_comes_to(const struct wulgach_times *times, const struct wulgach_limit *until, bool can_be_woken, struct wulgach_limit *end);
 
-/* The sleep is over, and ppoll(2) has returned this: time moves on so if that is 0, and else not, since something has ended the sleep
+/* The sleep is over, and its system call has come to this: time moves on so if that is 0, and else not, since something has ended the sleep
  * before. */
 void wulgach_times_wake(struct wulgach_times *times, const struct wulgach_limit *end, int32_t came);
 

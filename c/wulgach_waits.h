@@ -316,15 +316,15 @@ enum wulgach_beginning {
     WULGACH_SLEEP_AT_FIRST = 6
 };
 
-/* What a sleep came to, where its ppoll(2) came to this (0 or more, or an error number's negative): that; but -4 (EINTR) in a child that was forked
+/* What a sleep came to, where its system call came to this (0 or more, or an error number's negative): that; but -4 (EINTR) in a child that was forked
  * meanwhile, as by a signal's handler, and leaves its parent's ring as it is. Our own rule. */
 int32_t wulgach_sleep_came_to(int32_t res, bool is_child);
 
-/* Whether more requests become dormant after a sleep that came to this: to -22 (EINVAL), since it polls more descriptors than the process may have
- * (ppoll(2)). And what that sleep counts as, before which so many were dormant, and after which so many are: where more are, as one that a descriptor
- * has ended (1), so that the call looks and sleeps again; else what it came to. Our own rule. */
-bool wulgach_lets_more_lie(int32_t came);
-int32_t wulgach_sleep_counted_as(int32_t came, uint64_t before, uint64_t behind);
+/* Whether a sleep is by poll(2) whose epoll_pwait2(2) came to this: to -38 (ENOSYS), since the kernel hasn't that call, or to -1 (EPERM), since a filter
+ * refuses it. And whether select(2) is asked in the place of a poll(2) that came to this: to -22 (EINVAL), since it was asked of more descriptors than the
+ * process may have open. Our own rule. */
+bool wulgach_sleeps_by_poll(int32_t came);
+bool wulgach_asks_select(int32_t came);
 
 /* What is left undone with a ring, as a set of bits. */
 enum wulgach_left {

@@ -228,6 +228,8 @@ static void look_at_opens(void)
     demand(file.is_stream && file.has_found_buffer, "one that names a pipe");
     demand(wulgach_asks_writer(&reads, 0, 3) && !wulgach_asks_writer(&reads, 0, -2) && !wulgach_asks_writer(&writes, 0, 3), "whose writer is asked for");
     demand(wulgach_opening_waits(&writes, 0, -6, false) && !wulgach_opening_waits(&writes, 0, 3, false) && wulgach_opening_waits(&reads, 1, 3, false) && !wulgach_opening_waits(&reads, 0, 3, true) && !wulgach_opening_waits(&reads, 0, -2, false), "which open waits");
+    demand(wulgach_has_writer(true, false, 0) && wulgach_has_writer(false, true, -11) && wulgach_has_writer(false, true, 1) && !wulgach_has_writer(false, true, 0) && !wulgach_has_writer(false, false, -11), "who has a pipe open to write");
+    demand(wulgach_is_layers_lock(WULGACH_LOCKED_BYTE, 1) && !wulgach_is_layers_lock(WULGACH_LOCKED_BYTE, 0) && !wulgach_is_layers_lock(0, 1), "whose lock a layer's is");
 }
 
 static bool is_told(const struct wulgach_received *received, uint32_t behind, uint64_t value, size_t offset, size_t size)

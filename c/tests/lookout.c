@@ -267,8 +267,8 @@ static void sleep_or_not(void)
     demand(wulgach_sleep_next(WULGACH_SLEEP_AT_FIRST, true, -14) == WULGACH_LETS_OTHERS_GO && wulgach_sleep_next(WULGACH_LETS_OTHERS_GO, true, -14) == WULGACH_SLEEP_WAKES && wulgach_sleep_next(WULGACH_LETS_OTHERS_GO, false, 0) == WULGACH_READS_MASK && wulgach_sleep_next(WULGACH_READS_MASK, true, -14) == WULGACH_DOES_DUTIES, "what comes before a sleep");
     demand(wulgach_sleep_next(WULGACH_DOES_DUTIES, true, -14) == WULGACH_SLEEP_FAILS && wulgach_sleep_next(WULGACH_DOES_DUTIES, true, 0) == WULGACH_SLEEP_WAKES && wulgach_sleep_next(WULGACH_DOES_DUTIES, false, 0) == WULGACH_SLEEPS, "whether a sleep begins");
     demand(wulgach_sleep_came_to(2, false) == 2 && wulgach_sleep_came_to(-12, false) == -12 && wulgach_sleep_came_to(2, true) == -4, "a child leaves a sleep");
-    demand(wulgach_lets_more_lie(-22) && !wulgach_lets_more_lie(-4) && !wulgach_lets_more_lie(1), "behind which sleep more become dormant");
-    demand(wulgach_sleep_counted_as(-22, 3, 4) == 1 && wulgach_sleep_counted_as(-22, 3, 3) == -22 && wulgach_sleep_counted_as(-12, 3, 4) == -12 && wulgach_sleep_counted_as(0, 3, 4) == 0, "what that counts as");
+    demand(wulgach_sleeps_by_poll(-38) && wulgach_sleeps_by_poll(-1) && !wulgach_sleeps_by_poll(-4) && !wulgach_sleeps_by_poll(0), "which sleep is by poll(2)");
+    demand(wulgach_asks_select(-22) && !wulgach_asks_select(-4) && !wulgach_asks_select(1), "in the place of which poll select(2) is asked");
     demand(wulgach_left_of(7, 7) == 0 && wulgach_left_of(7, 8) == 63, "a child leaves its parent's ring");
     demand(waited((struct wulgach_waited){0}) == WULGACH_WOKEN && waited((struct wulgach_waited){.result = 2}) == WULGACH_WOKEN && waited((struct wulgach_waited){.is_over = true}) == WULGACH_TIMED_OUT, "a sleep that ends");
     demand(waited((struct wulgach_waited){.result = -4, .is_over = true}) == WULGACH_INTERRUPTED && waited((struct wulgach_waited){.result = -12}) == WULGACH_FAILED, "a sleep that fails");

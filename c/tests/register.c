@@ -303,8 +303,8 @@ static void know_threads(void)
 static void go_through_set_ups(void)
 {
     demand(wulgach_set_up_next(WULGACH_SET_UP_BEGINS, 0) == WULGACH_SET_UP_READS && wulgach_set_up_next(WULGACH_SET_UP_READS, 0) == WULGACH_SET_UP_ASKS && wulgach_set_up_next(WULGACH_SET_UP_ASKS, 0) == WULGACH_SET_UP_MAKES, "a set-up");
-    demand(wulgach_set_up_next(WULGACH_SET_UP_MAKES, 0) == WULGACH_SET_UP_TELLS && wulgach_set_up_next(WULGACH_SET_UP_TELLS, 0) == WULGACH_SET_UP_IS_DONE, "its end");
-    demand(wulgach_set_up_next(WULGACH_SET_UP_READS, -14) == WULGACH_SET_UP_FAILS && wulgach_set_up_next(WULGACH_SET_UP_TELLS, -14) == WULGACH_SET_UP_DROPS, "its faults");
+    demand(wulgach_set_up_next(WULGACH_SET_UP_MAKES, 0) == WULGACH_SET_UP_TELLS && wulgach_set_up_next(WULGACH_SET_UP_TELLS, 0) == WULGACH_SET_UP_OPENS && wulgach_set_up_next(WULGACH_SET_UP_OPENS, 0) == WULGACH_SET_UP_IS_DONE, "its end");
+    demand(wulgach_set_up_next(WULGACH_SET_UP_READS, -14) == WULGACH_SET_UP_FAILS && wulgach_set_up_next(WULGACH_SET_UP_TELLS, -14) == WULGACH_SET_UP_DROPS && wulgach_set_up_next(WULGACH_SET_UP_OPENS, -24) == WULGACH_SET_UP_DROPS, "its faults");
     demand(wulgach_region_of(0) == WULGACH_RINGS && wulgach_region_of(0x8001000) == WULGACH_RINGS && wulgach_region_of(0x10000000) == WULGACH_ENTRIES && wulgach_region_of(0x18000000) == WULGACH_NO_REGION, "what is mapped");
     demand(wulgach_ring_fate(false, 0, true, false) == WULGACH_RING_STAYS && wulgach_ring_fate(true, 1, true, false) == WULGACH_RING_STAYS && wulgach_ring_fate(true, 0, false, false) == WULGACH_RING_ASKS, "rings that stay");
     demand(wulgach_ring_fate(true, 0, true, true) == WULGACH_RING_STAYS && wulgach_ring_fate(true, 0, true, false) == WULGACH_RING_GOES, "one that goes");

@@ -4,13 +4,13 @@
 #define _GNU_SOURCE
 #include "eventfds.h"
 #include "copying.h"
+#include "glance.h"
 #include "numbers.h"
 #include "openness.h"
 #include "ring.h"
 #include "wulgach_setup.h"
 
 #include <fcntl.h>
-#include <poll.h>
 #include <unistd.h>
 
 /* The kernel says what a descriptor is open on, where there is a /proc. */
@@ -51,7 +51,7 @@ int unregister_eventfd(struct ring *ring)
 static bool has_room(const struct ring *ring)
 {
     struct pollfd at = {.fd = ring->eventfd, .events = POLLOUT};
-    return poll(&at, 1, 0) > 0 && at.revents & POLLOUT;
+    return poll_now(&at, 1) > 0 && at.revents & POLLOUT;
 }
 
 void tell_eventfd(struct ring *ring, uint64_t told)

@@ -90,26 +90,30 @@ static size_t round_to_line(size_t size)
     return (size + BEHIND_WORDS - 1) / BEHIND_WORDS * BEHIND_WORDS;
 }
 
-int make_memory(struct memory *memory, int fd, uint32_t sq_entries, uint32_t cq_entries, struct io_uring_params *params)
+void plan_memory(struct memory *memory, bool is_single, uint32_t sq_entries, uint32_t cq_entries, struct io_uring_params *params)
 {
     memory->sq_entries = sq_entries;
     memory->cq_entries = cq_entries;
-    memory->is_single = fd < 0;
+    memory->is_single = is_single;
     memory->sq_size = BEHIND_WORDS + round_to_line(sq_entries * sizeof(uint32_t));
     memory->entry_cells = wulgach_entry_cells(params->flags);
     memory->completion_cells = wulgach_completion_cells(params->flags);
     memory->cq_size = BEHIND_WORDS + cq_entries * memory->completion_cells * sizeof(struct io_uring_cqe);
     memory->entries_size = sq_entries * memory->entry_cells * sizeof(struct io_uring_sqe);
+    tell_offsets(params, memory);
+}
+
+int make_memory(struct memory *memory, int fd)
+{
     int result = fd < 0 ? 0 : lengthen(fd, IORING_OFF_SQES + memory->entries_size);
     if (result == 0)
         result = map_all(memory, fd);
     if (result < 0)
         return result;
-    memory->sq->mask = sq_entries - 1;
-    memory->sq->entries = sq_entries;
-    memory->cq->mask = cq_entries - 1;
-    memory->cq->entries = cq_entries;
-    tell_offsets(params, memory);
+    memory->sq->mask = memory->sq_entries - 1;
+    memory->sq->entries = memory->sq_entries;
+    memory->cq->mask = memory->cq_entries - 1;
+    memory->cq->entries = memory->cq_entries;
     return 0;
 }
 

@@ -35,9 +35,11 @@ struct memory {
 /* A memfd. Returns it, or the negative of an error number. */
 int make_file(void);
 
-/* Makes the memory of rings of these sizes, both powers of two, in a memfd, or without a file and in a single mapping if `fd`
- * is negative, and tells the parameters where everything stands. Returns 0 or the negative of an error number. */
-int make_memory(struct memory *memory, int fd, uint32_t sq_entries, uint32_t cq_entries, struct io_uring_params *params);
+/* Plans the memory of rings of these sizes, both powers of two, in a single mapping or one for each, and writes into the parameters where everything stands. */
+void plan_memory(struct memory *memory, bool is_single, uint32_t sq_entries, uint32_t cq_entries, struct io_uring_params *params);
+
+/* Makes it in a memfd, or without a file if `fd` is negative. Returns 0 or the negative of an error number. */
+int make_memory(struct memory *memory, int fd);
 
 struct wulgach_mapping;
 

@@ -235,15 +235,15 @@ static bool lists_lock(int locks, int fd)
 static bool is_locked(int fd)
 {
     struct flock lock = {.l_type = F_WRLCK, .l_whence = SEEK_SET};
-    if (fcntl(fd, F_OFD_GETLK, &lock) < 0 || lock.l_type == F_UNLCK)
-        return false;
-    if (lock.l_pid == this_process())
-        return true;
+    bool knows = fcntl(fd, F_OFD_GETLK, &lock) >= 0;
+    bool is_ours = knows && lock.l_type != F_UNLCK && lock.l_pid == this_process();
+    if (knows && (lock.l_type == F_UNLCK || is_ours))
+        return is_ours;
     int locks = open("/proc/locks", O_RDONLY | O_CLOEXEC);
-    bool is_locked = wulgach_is_taken_so(WULGACH_IS_LOCKED, locks >= 0, locks >= 0 && lists_lock(locks, fd));
+    bool is_so = wulgach_is_taken_so(WULGACH_IS_LOCKED, locks >= 0, locks >= 0 && lists_lock(locks, fd));
     if (locks >= 0)
         close(locks);
-    return is_locked;
+    return is_so;
 }
 
 /* Closes those that were left open and needn't be any more. */

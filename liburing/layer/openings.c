@@ -2,6 +2,7 @@
  * opened: so a sleep naps for such a request. */
 #define _GNU_SOURCE
 #include "openings.h"
+#include "glance.h"
 #include "means.h"
 #include "numbers.h"
 #include "operations.h"
@@ -9,7 +10,6 @@
 #include <errno.h>
 #include <fcntl.h>
 #include <linux/openat2.h>
-#include <poll.h>
 #include <stdio.h>
 #include <sys/stat.h>
 #include <sys/syscall.h>
@@ -76,23 +76,25 @@ static int32_t open_found(const struct request *request, const struct wulgach_sy
     return wulgach_opens_by_path(res) ? open_unwilling(request, *call) : res;
 }
 
-/* Whether a tee would wait for more: one of what nobody writes to comes to its end at once, and none takes anything out. */
-static bool has_writer_now(int fd)
+/* What a tee comes to of it, which takes nothing out. False: no pipe can be made for that. */
+static bool tee_now(int fd, int32_t *came)
 {
     int ends[2];
     if (pipe2(ends, O_CLOEXEC) < 0)
         return false;
-    bool is_written = tee(fd, ends[1], 1, SPLICE_F_NONBLOCK) != 0;
+    *came = (int32_t)tee(fd, ends[1], 1, SPLICE_F_NONBLOCK);
     close(ends[0]);
     close(ends[1]);
-    return is_written;
+    return true;
 }
 
 /* Whether someone has what is read open to write, or has had since it was opened. */
 static bool has_writer(int fd)
 {
     struct pollfd at = {.fd = fd, .events = POLLIN};
-    return poll(&at, 1, 0) > 0 || has_writer_now(fd);
+    int32_t teed = 0;
+    bool shows = poll_now(&at, 1) > 0, knows = !shows && tee_now(fd, &teed);
+    return wulgach_has_writer(shows, knows, teed);
 }
 
 /* Takes back that a file isn't to wait, if one was opened. */

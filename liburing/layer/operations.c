@@ -1,6 +1,7 @@
 /* Carries operations out, each by the system call that the library says, when its request is finished. */
 #define _GNU_SOURCE
 #include "operations.h"
+#include "glance.h"
 #include "groups.h"
 #include "means.h"
 #include "openness.h"
@@ -15,7 +16,6 @@
 
 #include <errno.h>
 #include <fcntl.h>
-#include <poll.h>
 #include <sys/socket.h>
 #include <sys/stat.h>
 #include <sys/uio.h>
@@ -52,7 +52,7 @@ bool is_impatient(const struct request *request)
 
 bool shows_ready(struct pollfd at)
 {
-    int came = poll(&at, 1, 0);
+    int came = poll_now(&at, 1);
     return wulgach_counts_as_ready(came, (uint16_t)at.revents);
 }
 
@@ -73,7 +73,7 @@ bool is_ready(const struct request *request)
     bool is_hasty = is_impatient(request);
     struct pollfd at = poll_of(request);
     /* (what the descriptor of a hasty one shows makes no difference) */
-    int came = is_hasty ? 0 : poll(&at, 1, 0);
+    int came = is_hasty ? 0 : poll_now(&at, 1);
     return is_glanced_ready(request, wulgach_glance_of(is_hasty, false, came, (uint16_t)at.revents));
 }
 

@@ -70,7 +70,7 @@ static bool is_written_back(unsigned major, const char *path)
     return wulgach_is_written_back(major, knows, knows ? (uint64_t)(uint32_t)status.f_type : 0);
 }
 
-/* Whether a line of /proc/self/maps is of memory that is shared with a file which is written back, and where that is. */
+/* Whether a line of the thread's list of memory is of memory that is shared with a file which is written back, and where that is. */
 static bool is_of_a_file(const char *line, struct span *span)
 {
     char rights[8];
@@ -80,12 +80,12 @@ static bool is_of_a_file(const char *line, struct span *span)
     return is_read && rights[3] == 's' && is_written_back(major, line + path);
 }
 
-/* Notes the memory of each line. Returns false if there is no room. */
+/* Notes the memory of each line. Returns false if there is no room, or no line. */
 static bool note_lines(struct known_memory *known, char *text)
 {
-    size_t room = 0;
+    size_t room = 0, lines = 0;
     char *rest = NULL;
-    for (char *line = strtok_r(text, "\n", &rest); line; line = strtok_r(NULL, "\n", &rest)) {
+    for (char *line = strtok_r(text, "\n", &rest); line; line = strtok_r(NULL, "\n", &rest), lines++) {
         if (known->count == room) {
             struct span *more = realloc(known->spans, (room = 2 * room + 8) * sizeof *more);
             if (!more)
@@ -94,12 +94,12 @@ static bool note_lines(struct known_memory *known, char *text)
         }
         known->count += is_of_a_file(line, &known->spans[known->count]);
     }
-    return true;
+    return lines > 0;
 }
 
 static void look_up(struct known_memory *known)
 {
-    char *text = read_file("/proc/self/maps");
+    char *text = read_file("/proc/thread-self/maps");
     known->is_looked_up = true;
     known->is_listed = text && note_lines(known, text);
     free(text);

@@ -5,6 +5,7 @@
 #include "polls.h"
 #include "descriptors.h"
 #include "eventfds.h"
+#include "glance.h"
 #include "numbers.h"
 #include "operations.h"
 #include "pipes.h"
@@ -89,7 +90,7 @@ static uint16_t present_events(const struct request *request)
     struct epoll_event event = {0};
     struct pollfd at = {.fd = request->fd, .events = (short)events_of(request)};
     bool is_by_instance = request->epoll >= 0;
-    int came = is_by_instance ? epoll_wait(request->epoll, &event, 1, 0) : poll(&at, 1, 0);
+    int came = is_by_instance ? epoll_wait(request->epoll, &event, 1, 0) : poll_now(&at, 1);
     return wulgach_present_of(came, is_by_instance ? (uint16_t)event.events : (uint16_t)at.revents);
 }
 

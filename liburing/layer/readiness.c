@@ -151,35 +151,43 @@ static int32_t watch(struct ring *ring, int change, const struct watched *watche
     return change_polled(ring, change, watched->fd, &event) < 0 ? -errno : 0;
 }
 
+/* Adds a descriptor, and notes whether it can be told of. */
+static void add_watched(struct ring *ring, struct watched *watched)
+{
+    watched->is_untold = wulgach_enlisted_as(watch(ring, EPOLL_CTL_ADD, watched)) == WULGACH_INSTANCE_CANT_TELL;
+}
+
 /* Changes what is watched of one descriptor, or two lists' first: NULL where one has it not. A number that is closed and opened again
- * isn't watched. */
-static void watch_change(struct ring *ring, const struct watched *before, const struct watched *after)
+ * isn't watched. What couldn't be told of is tried again. */
+static void watch_change(struct ring *ring, const struct watched *before, struct watched *after)
 {
     static const struct watched nothing;
     switch (wulgach_watch_of(before ? &before->at : &nothing.at, before, after ? &after->at : &nothing.at, after)) {
     case WULGACH_WATCH_ADDS:
-        watch(ring, EPOLL_CTL_ADD, after);
+        add_watched(ring, after);
         return;
     case WULGACH_WATCH_REMOVES:
         watch(ring, EPOLL_CTL_DEL, before);
         return;
     case WULGACH_WATCH_RENEWS:
         if (wulgach_watch_adds_behind(watch(ring, EPOLL_CTL_MOD, after)))
-            watch(ring, EPOLL_CTL_ADD, after);
+            add_watched(ring, after);
         return;
     default:
-        return;
+        if (before && before->is_untold)
+            add_watched(ring, after);
     }
 }
 
 /* Changes what is watched from one list to another. */
-static void watch_changes(struct ring *ring, const struct watched *before, size_t before_count, const struct watched *after, size_t after_count)
+static void watch_changes(struct ring *ring, const struct watched *before, size_t before_count, struct watched *after, size_t after_count)
 {
     size_t i = 0, j = 0;
     while (i < before_count || j < after_count) {
         bool is_before = j == after_count || (i < before_count && before[i].fd <= after[j].fd);
         bool is_after = i == before_count || (j < after_count && after[j].fd <= before[i].fd);
         watch_change(ring, is_before ? &before[i] : NULL, is_after ? &after[j] : NULL);
+        ring->is_untold |= is_after && after[j].is_untold;
         i += is_before;
         j += is_after;
     }
@@ -205,6 +213,7 @@ static void watch_streams(struct ring *ring)
     if (!watched)
         return;
     size_t count = list_watched(ring, watched);
+    ring->is_untold = false;
     watch_changes(ring, ring->watched, ring->watched_count, watched, count);
     free(ring->watched);
     ring->watched = watched;
@@ -237,7 +246,7 @@ static bool is_readable_now(struct ring *ring)
     uint32_t told, head = load_word(&ring->memory.cq->head);
     while ((told = wulgach_shown_readable(&ring->completions.at, head, &known)) > WULGACH_IS_READABLE)
         look_ahead(ring, told, &known);
-    return told == WULGACH_IS_READABLE;
+    return told == WULGACH_IS_READABLE || ring->is_untold;
 }
 
 void show_readiness(struct ring *ring)

@@ -32,6 +32,7 @@
 struct watched {
     int fd;
     struct wulgach_watched at;
+    bool is_untold;                     /* the descriptor can't tell of it */
 };
 
 struct ring {
@@ -48,6 +49,7 @@ struct ring {
     uint32_t told_posted;               /* last when so many completions were posted, in a count that wraps */
     struct watched *watched;            /* the streams that the descriptor polls for */
     size_t watched_count;
+    bool is_untold;                     /* it can't tell of one of them */
     uint32_t index;                     /* its number among the process's rings, from 0 */
     uint32_t flags;                     /* IORING_SETUP_.. */
     bool has_thread;                    /* by which the kernel's would take its entries */

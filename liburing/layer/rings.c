@@ -88,7 +88,7 @@ static struct wulgach_asked_ring asked_ring(uint32_t entries, const struct io_ur
     return asked;
 }
 
-/* Makes the core and the memory, and returns the descriptor. */
+/* Makes the core and what the ring has of it. */
 static int fill_ring(struct ring *ring, const struct wulgach_setup *setup, struct io_uring_params *params, bool is_polled)
 {
     int result = wulgach_core_new(&ring->core, setup);
@@ -97,21 +97,29 @@ static int fill_ring(struct ring *ring, const struct wulgach_setup *setup, struc
     note_ring();
     if (!make_entries(ring, setup->sq))
         return wulgach_missing_fault(WULGACH_NO_MEMORY_OWN);
-    int fd = is_polled ? make_polled(ring) : make_file();
-    if (fd < 0)
-        return fd;
-    struct stat status;
-    result = fstat(fd, &status) < 0 ? -errno : make_memory(&ring->memory, is_polled ? -1 : fd, setup->sq, setup->cq, params);
-    if (result < 0) {
-        close(fd);
-        return result;
-    }
-    ring->device = status.st_dev;
-    ring->inode = status.st_ino;
-    return fd;
+    plan_memory(&ring->memory, is_polled, setup->sq, setup->cq, params);
+    return is_polled ? make_memory(&ring->memory, -1) : 0;
 }
 
-/* Makes a ring as the parameters say, and fills them in. Its descriptor is in it. */
+/* Opens the ring's descriptor, and makes the memory that it names. */
+static int open_ring(struct ring *ring, bool is_polled)
+{
+    struct stat status;
+    ring->fd = is_polled ? make_polled(ring) : make_file();
+    if (ring->fd < 0)
+        return ring->fd;
+    int result = fstat(ring->fd, &status) < 0 ? -errno : 0;
+    if (result == 0 && !is_polled)
+        result = make_memory(&ring->memory, ring->fd);
+    if (result < 0)
+        return result;
+    ring->device = status.st_dev;
+    ring->inode = status.st_ino;
+    show(ring);
+    return 0;
+}
+
+/* Makes a ring as the parameters say, but its descriptor, and fills them in. */
 static int make_ring(struct ring **made, uint32_t entries, struct io_uring_params *params, bool is_polled)
 {
     struct wulgach_setup sizes;
@@ -135,9 +143,9 @@ static int make_ring(struct ring **made, uint32_t entries, struct io_uring_param
     ring->is_linux = sizes.linux_rules;
     ring->ready_fd = -1;
     wulgach_eventfd_begin(&ring->telling);
-    ring->fd = fill_ring(ring, &sizes, params, is_polled);
-    if (ring->fd < 0) {
-        result = ring->fd;
+    ring->fd = -1;
+    result = fill_ring(ring, &sizes, params, is_polled);
+    if (result < 0) {
         free_ring(ring);
         return result;
     }
@@ -148,7 +156,6 @@ static int make_ring(struct ring **made, uint32_t entries, struct io_uring_param
     wulgach_strict_begin(&ring->strict);
     wulgach_issuer_begin(&ring->issuer, (uint32_t)this_thread(), ring->flags, is_strict());
     params->features = wulgach_features(is_polled);
-    show(ring);
     *made = ring;
     return 0;
 }
@@ -172,9 +179,19 @@ static int do_stage(struct making *making, uint32_t stage)
         return ask_set_up(making->entries, &making->params);
     case WULGACH_SET_UP_MAKES:
         return make_ring(&making->ring, making->entries, &making->params, making->is_polled);
-    default:
+    case WULGACH_SET_UP_TELLS:
         return copy_out(making->at, &making->params, sizeof making->params);
+    default:
+        return open_ring(making->ring, making->is_polled);
     }
+}
+
+/* Frees a ring of which nobody was told, and closes its descriptor, if it has one. */
+static void drop_ring(struct ring *ring)
+{
+    if (ring->fd >= 0)
+        close(ring->fd);
+    free_ring(ring);
 }
 
 /* Makes a ring, and returns its descriptor, or the negative of an error number. */
@@ -183,12 +200,10 @@ static int set_up(uint32_t entries, struct io_uring_params *params, bool is_poll
     struct making making = {.entries = entries, .is_polled = is_polled, .at = (uintptr_t)params};
     uint32_t stage = WULGACH_SET_UP_BEGINS;
     int result = 0;
-    while ((stage = wulgach_set_up_next(stage, result)) <= WULGACH_SET_UP_TELLS)
+    while ((stage = wulgach_set_up_next(stage, result)) <= WULGACH_SET_UP_OPENS)
         result = do_stage(&making, stage);
-    if (stage == WULGACH_SET_UP_DROPS) {
-        close(making.ring->fd);
-        free_ring(making.ring);
-    }
+    if (stage == WULGACH_SET_UP_DROPS)
+        drop_ring(making.ring);
     if (stage != WULGACH_SET_UP_IS_DONE)
         return result;
     int fd = making.ring->fd;

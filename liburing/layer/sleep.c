@@ -1,20 +1,21 @@
-/* Sleeps by ppoll on the streams that running requests wait for, and on an eventfd that is this sleeper's. It is made for
- * one sleep, so that a ring keeps no descriptor for it. A process with one thread has it too: another thread may have ended
- * just now, and left a message.
+/* Sleeps on the streams that running requests wait for, and on an eventfd that is this sleeper's: by an epoll instance, which any signal ends, or by poll(2)
+ * where that can't be. Both descriptors are made for one sleep, so that a ring keeps none for it. A process with one thread has them too: another thread may
+ * have ended just now, and left a message.
  */
 #define _GNU_SOURCE
 #include "sleep.h"
 #include "clock.h"
 #include "descriptors.h"
 #include "ends.h"
+#include "glance.h"
 #include "operations.h"
 #include "process.h"
 #include "sleepers.h"
 #include "sockets.h"
 
 #include <errno.h>
-#include <poll.h>
 #include <stddef.h>
+#include <sys/epoll.h>
 #include <sys/stat.h>
 #include <time.h>
 #include <unistd.h>
@@ -34,7 +35,7 @@ static void add_slept(struct ring *ring, uint64_t start)
 
 _Static_assert(sizeof(struct pollfd) == sizeof(struct wulgach_poll_row) && offsetof(struct pollfd, fd) == offsetof(struct wulgach_poll_row, fd) && offsetof(struct pollfd, events) == offsetof(struct wulgach_poll_row, events) && offsetof(struct pollfd, revents) == offsetof(struct wulgach_poll_row, found), "a row is what poll(2) takes");
 
-/* Joins what is asked of one descriptor: the kernel takes no more entries than a process may have descriptors. */
+/* Joins what is asked of one descriptor: an instance takes each once, and poll(2) no more than a process may have. */
 static nfds_t join_polled(struct pollfd *polled, nfds_t count)
 {
     return wulgach_join_polled((struct wulgach_poll_row *)polled, count);
@@ -68,6 +69,38 @@ static nfds_t list_streams(const struct ring *ring, struct pollfd *streams, bool
     return count;
 }
 
+/* Gives the sleep's instance what it polls. Returns what that made of it, as far as any can be told of (enum wulgach_enlisted). */
+static uint32_t enlist(const struct sleeper *self, nfds_t count)
+{
+    uint32_t all = WULGACH_INSTANCE_TELLS;
+    for (const struct pollfd *at = self->polled; at < self->polled + count && all != WULGACH_INSTANCE_CANT_TELL; at++) {
+        struct epoll_event event = {.events = (uint16_t)at->events};
+        int32_t came = at->fd >= 0 && epoll_ctl(self->instance, EPOLL_CTL_ADD, at->fd, &event) < 0 ? -errno : 0;
+        uint32_t enlisted = wulgach_enlisted_as(came);
+        all = all < enlisted ? enlisted : all;
+    }
+    return all;
+}
+
+/* Sleeps until a descriptor shows something or the time is over. Returns how many do, or the negative of an error number. */
+static int sleep_on(struct sleeper *self, nfds_t count, const struct timespec *time, const sigset_t *signals)
+{
+    /* (where no time may pass at all the kernel doesn't look for signals) */
+    static const struct timespec now, moment = {.tv_nsec = 1};
+    struct epoll_event told;
+    uint32_t enlisted = self->instance < 0 ? WULGACH_INSTANCE_CANT_TELL : enlist(self, count);
+    bool is_ready = enlisted == WULGACH_IS_READY_AT_ONCE, has_none = time && time->tv_sec == 0 && time->tv_nsec == 0;
+    if (enlisted != WULGACH_INSTANCE_CANT_TELL) {
+        int came = epoll_pwait2(self->instance, &told, 1, is_ready ? &now : has_none ? &moment : time, signals);
+        if (came >= 0)
+            return is_ready ? 1 : came;
+        if (!wulgach_sleeps_by_poll(-errno))
+            return -errno;
+    }
+    int came = poll_until(self->polled, count, time, signals);
+    return came < 0 ? -errno : came;
+}
+
 /* Polls without the ring's lock. Handlers of signals run meanwhile. */
 static int poll_unlocked(struct ring *ring, struct sleeper *self, nfds_t count, const struct wulgach_limit *limit, const sigset_t *signals)
 {
@@ -78,9 +111,7 @@ static int poll_unlocked(struct ring *ring, struct sleeper *self, nfds_t count, 
     pthread_mutex_unlock(&ring->lock);
     /* A message that came before that is posted, and wakes this thread. */
     visit_ring(ring, fd);
-    int came = ppoll(self->polled, count, limit->is_set ? &time : NULL, signals);
-    if (came < 0)
-        came = -errno;
+    int came = sleep_on(self, count, limit->is_set ? &time : NULL, signals);
     leave_inner_sleeps(self);
     ring->left = what_is_left(ring);
     if (!(ring->left & WULGACH_LEAVES_LOCK)) {
@@ -88,15 +119,6 @@ static int poll_unlocked(struct ring *ring, struct sleeper *self, nfds_t count, 
         call_by(ring, fd);
     }
     return wulgach_sleep_came_to(came, ring->process != this_process());
-}
-
-/* What a sleep counts as that came to this: where the process may have fewer descriptors than are polled, more requests become dormant. */
-static int let_more_lie(struct ring *ring, int came)
-{
-    size_t before = ring->dormant.count;
-    if (wulgach_lets_more_lie(came))
-        let_lie(ring);
-    return wulgach_sleep_counted_as(came, before, ring->dormant.count);
 }
 
 /* (it has a frame of its own, below that of the call: by this a sleep that was left is known) */
@@ -120,7 +142,6 @@ __attribute__((noinline)) int sleep_until(struct ring *ring, const struct wulgac
     int result = poll_unlocked(ring, self, join_polled(self->polled, count), &limit, signals);
     end_sleep(self);
     place = 0;
-    result = let_more_lie(ring, result);
     add_slept(ring, start);
     wulgach_times_wake(&ring->times, &end, result);
     return result;

@@ -13,6 +13,7 @@
 #include "wulgach_lookout.h"
 
 #include <stdlib.h>
+#include <sys/epoll.h>
 #include <sys/eventfd.h>
 #include <unistd.h>
 
@@ -53,6 +54,8 @@ void end_sleep(struct sleeper *sleeper)
     take_out(sleeper);
     if (sleeper->wake >= 0)
         close(sleeper->wake);
+    if (sleeper->instance >= 0)
+        close(sleeper->instance);
     forget(sleeper);
 }
 
@@ -84,7 +87,7 @@ static void make_key(void)
     pthread_key_create(&key, leave_all);
 }
 
-/* How the thread can be cancelled is remembered, for one that leaves the C library's ppoll by a jump. */
+/* How the thread can be cancelled is remembered, for one that leaves the C library's sleep by a jump. */
 static void note_cancel_type(void)
 {
     pthread_setcanceltype(PTHREAD_CANCEL_DEFERRED, &own_sleeps.cancel_type);
@@ -94,6 +97,11 @@ static void note_cancel_type(void)
 static int make_eventfd(void)
 {
     return eventfd(0, EFD_CLOEXEC | EFD_NONBLOCK);
+}
+
+static int make_instance(void)
+{
+    return epoll_create1(EPOLL_CLOEXEC);
 }
 
 struct sleeper *begin_sleep(struct ring *ring, size_t most, volatile uint64_t *place)
@@ -107,6 +115,7 @@ struct sleeper *begin_sleep(struct ring *ring, size_t most, volatile uint64_t *p
         note_cancel_type();
     *sleeper = (struct sleeper){.next = ring->sleepers, .outer = own_sleeps.innermost, .ring = ring, .place = place, .mark = next_mark(), .from = caller ? caller : (const volatile void *)place};
     sleeper->wake = made_high(make_eventfd);
+    sleeper->instance = made_high(make_instance);
     sigaltstack(NULL, &sleeper->for_handlers);
     *place = sleeper->mark;
     ring->sleepers = own_sleeps.innermost = sleeper;

@@ -14,6 +14,7 @@ struct ring;
 /* A thread that sleeps in a call on a ring. It stands in memory of the layer's: the call's stack is gone after a jump. */
 struct sleeper {
     int wake;                   /* an eventfd that another's call writes to; or negative */
+    int instance;               /* an epoll instance by which it sleeps; or negative */
     struct sleeper *next;       /* of the same ring */
     struct sleeper *outer;      /* of the same thread: the sleep in which a handler came that has called; or NULL */
     struct ring *ring;

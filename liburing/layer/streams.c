@@ -1,12 +1,13 @@
 /* Descriptors are looked at by few calls for all, once between two things that can change them. */
+#define _GNU_SOURCE
 #include "streams.h"
 #include "files.h"
+#include "glance.h"
 #include "operations.h"
 #include "pipes.h"
 #include "sockets.h"
 #include "unwilling.h"
 
-#include <poll.h>
 #include <sys/socket.h>
 
 void look_at(const struct ring *ring, struct request *request)
@@ -54,7 +55,7 @@ enum { MOST_AT_ONCE = 64 };
 /* Looks at these, and notes what was found. */
 static void look_at_some(const struct ring *ring, struct request **requests, struct pollfd *polled, nfds_t count)
 {
-    int came = poll(polled, count, 0);
+    int came = poll_now(polled, count);
     for (nfds_t i = 0; i < count; i++) {
         uint32_t glance = wulgach_glance_of(is_impatient(requests[i]), true, came, (uint16_t)polled[i].revents);
         note_look(ring, requests[i], glance == WULGACH_GLANCE_ASKS_ALONE ? is_ready(requests[i]) : is_glanced_ready(requests[i], glance));

@@ -59,6 +59,8 @@ static void open_trace(struct ring *ring)
         ring->trace = open_memstream(&ring->line, &ring->line_length);
     if (!ring->trace) {
         fprintf(stderr, "wulgach: %s.%d.%" PRIu32 " can't be written\n", prefix, (int)ring->process, ring->index);
+        if (ring->trace_file >= 0)
+            close(ring->trace_file);
         return;
     }
     fprintf(ring->trace, "setup --sq %" PRIu32 " --cq %" PRIu32 " --files 1 --start 0%s", ring->memory.sq_entries, ring->memory.cq_entries, ring->is_linux ? " --linux" : "");

@@ -18,8 +18,6 @@
 /* Between two tries of a lock, in microseconds. */
 enum { PAUSE = 50 };
 
-static const off_t PLACE = (off_t)1 << 62;
-
 static pthread_mutex_t only = PTHREAD_MUTEX_INITIALIZER;    /* the locks of a process don't keep its threads from each other */
 
 void lock_unwilling(void)
@@ -34,21 +32,21 @@ void unlock_unwilling(void)
 
 static int32_t set_lock(int fd, short type)
 {
-    struct flock lock = {.l_type = type, .l_whence = SEEK_SET, .l_start = PLACE, .l_len = 1};
+    struct flock lock = {.l_type = type, .l_whence = SEEK_SET, .l_start = WULGACH_LOCKED_BYTE, .l_len = 1};
     return fcntl(fd, F_SETLK, &lock) < 0 ? -errno : 0;
 }
 
 /* Whether another has it by a lock that means something else, as that of a whole file. */
 static bool is_of_others(int fd)
 {
-    struct flock lock = {.l_type = F_WRLCK, .l_whence = SEEK_SET, .l_start = PLACE, .l_len = 1};
-    return fcntl(fd, F_GETLK, &lock) >= 0 && lock.l_type != F_UNLCK && !(lock.l_start == PLACE && lock.l_len == 1);
+    struct flock lock = {.l_type = F_WRLCK, .l_whence = SEEK_SET, .l_start = WULGACH_LOCKED_BYTE, .l_len = 1};
+    return fcntl(fd, F_GETLK, &lock) >= 0 && lock.l_type != F_UNLCK && !wulgach_is_layers_lock((uint64_t)lock.l_start, (uint64_t)lock.l_len);
 }
 
 /* Whether the process has it by a lock of the application's, which ours would take off there. */
 static bool is_of_application(int fd)
 {
-    struct flock lock = {.l_type = F_WRLCK, .l_whence = SEEK_SET, .l_start = PLACE, .l_len = 1};
+    struct flock lock = {.l_type = F_WRLCK, .l_whence = SEEK_SET, .l_start = WULGACH_LOCKED_BYTE, .l_len = 1};
     return fcntl(fd, F_OFD_GETLK, &lock) >= 0 && lock.l_type != F_UNLCK && lock.l_pid == getpid();
 }
 
@@ -112,12 +110,12 @@ int32_t make_unwilling_call(const struct wulgach_system_call *call, int fd, int 
 /* A descriptor on what is open by this one, which is opened once more and isn't to wait, and which nobody else has; or -1. */
 static int open_anew(int fd)
 {
-    char name[sizeof "/proc/self/fd/" + 11];
+    char name[sizeof "/proc/thread-self/fd/" + 11];
     uint32_t flags;
     int access = fcntl(fd, F_GETFL);
     if (access < 0 || !wulgach_asks_anew(is_pipe(fd), (uint32_t)access & O_ACCMODE, &flags))
         return -1;
-    snprintf(name, sizeof name, "/proc/self/fd/%d", fd);
+    snprintf(name, sizeof name, "/proc/thread-self/fd/%d", fd);
     return open(name, (int)flags);
 }
 

@@ -8,6 +8,8 @@
 #include "sleep.h"
 #include "timeouts.h"
 
+#include <string.h>
+
 bool has_expired(const struct ring *ring)
 {
     struct wulgach_timeout timeout;
@@ -34,16 +36,19 @@ static bool is_streaming(const struct ring *ring)
     return false;
 }
 
+/* The kernel's set, which the C library's begins with. */
+static uint64_t word_of(const sigset_t *set)
+{
+    uint64_t word;
+    memcpy(&word, set, sizeof word);
+    return word;
+}
+
 /* Whether a signal waits that comes as soon as the call has this mask. */
 static bool has_signal(const sigset_t *mask)
 {
     sigset_t waiting;
-    if (sigpending(&waiting) < 0)
-        return false;
-    for (int number = 1; number < NSIG; number++)
-        if (sigismember(&waiting, number) > 0 && sigismember(mask, number) == 0)
-            return true;
-    return false;
+    return sigpending(&waiting) == 0 && wulgach_comes_by_mask(word_of(&waiting), word_of(mask));
 }
 
 /* By what a call of this ring may be woken, if it has a mask to sleep with. Of other threads, and of signals, it is asked where the library says that it

@@ -157,9 +157,13 @@ static void look_at_file(int file, const char *name)
         say("it changes its user and can't be reached: SIGSYS ends it if it calls io_uring, or writes to memory that it shares with a file", name);
 }
 
+/* (what opens something else waits, as for the other end of a named pipe, or does something, as of a device) */
 static void look_below(int folder, const char *path)
 {
-    int kept = errno, file = openat(folder, path, O_RDONLY | O_CLOEXEC);
+    struct stat about;
+    int kept = errno, file = -1;
+    if (fstatat(folder, path, &about, 0) == 0 && S_ISREG(about.st_mode))
+        file = openat(folder, path, O_RDONLY | O_NONBLOCK | O_CLOEXEC);
     if (file >= 0) {
         look_at_file(file, path);
         close(file);

@@ -1,5 +1,5 @@
 /* Tests of a ring's descriptor that polls, beside what others do while a call looks or sleeps. All hold under every policy. They are run with
- * WULGACH_TEST_POLLED. The layer's calls of poll, epoll_wait and ppoll go through the wrapped ones of this program, after and before which it does what
+ * WULGACH_TEST_POLLED. The layer's calls of poll, epoll_wait and epoll_pwait2 go through the wrapped ones of this program, after and before which it does what
  * another thread might do just then.
  *
  *   raced [NAME]             with a name: that test alone
@@ -153,14 +153,14 @@ static void test_gone_behind_a_look(void)
 static sem_t begins, may_begin;
 static bool is_held;
 
-int __real_ppoll(struct pollfd *polled, nfds_t count, const struct timespec *time, const sigset_t *signals);
-int __wrap_ppoll(struct pollfd *polled, nfds_t count, const struct timespec *time, const sigset_t *signals)
+int __real_epoll_pwait2(int fd, struct epoll_event *events, int most, const struct timespec *time, const sigset_t *signals);
+int __wrap_epoll_pwait2(int fd, struct epoll_event *events, int most, const struct timespec *time, const sigset_t *signals)
 {
     if (__atomic_exchange_n(&is_held, false, __ATOMIC_ACQ_REL)) {
         check(sem_post(&begins) == 0);
         check(sem_wait(&may_begin) == 0);
     }
-    return __real_ppoll(polled, count, time, signals);
+    return __real_epoll_pwait2(fd, events, most, time, signals);
 }
 
 static void *wait_long(void *ring)

@@ -1,7 +1,7 @@
 /* A program that is linked with nothing of ours and calls io_uring by the processor's own instruction. Run by uring-run
  * its rings are the layer's, which it sees by their descriptors: those are epoll instances.
  *
- *   trapped begins | nop | shared | blocked | signals | registers | issuers | threads | fork | vfork | exec | list | spawn | shell | preload | sqpoll | filter | static PROGRAM
+ *   trapped begins | nop | shared | blocked | signals | registers | issuers | threads | fork | vfork | exec | list | spawn | shell | preload | fifo | sqpoll | filter | static PROGRAM
  *
  * Status 0: all was as it is to be. Else a line says what wasn't.
  */
@@ -26,6 +26,7 @@
 #include <sys/epoll.h>
 #include <sys/mman.h>
 #include <sys/prctl.h>
+#include <sys/stat.h>
 #include <sys/syscall.h>
 #include <sys/time.h>
 #include <sys/wait.h>
@@ -308,6 +309,19 @@ static void preloaded(const char *self)
     }
 }
 
+/* A named pipe isn't started, and nobody waits for it. */
+static void started_fifo(void)
+{
+    char name[] = "/tmp/trapped-XXXXXX", *const words[] = {name, NULL};
+    pid_t child;
+    int made = mkstemp(name);
+    WANT(made >= 0 && close(made) == 0 && unlink(name) == 0 && mkfifo(name, 0700) == 0);
+    alarm(20);
+    WANT(execve(name, words, no_surrounding) < 0 && errno == EACCES);
+    WANT(posix_spawn(&child, name, NULL, NULL, words, no_surrounding) == EACCES);
+    WANT(unlink(name) == 0);
+}
+
 static void sqpoll(void)
 {
     struct io_uring_params params = {.flags = IORING_SETUP_SQPOLL};
@@ -356,6 +370,8 @@ int main(int argc, char **argv)
         execve(self, nop_words, no_surrounding);
     else if (strcmp(name, "list") == 0)
         execle(self, "trapped", "nop", NULL, no_surrounding);
+    else if (strcmp(name, "fifo") == 0)
+        started_fifo();
     else if (strcmp(name, "spawn") == 0)
         spawned(self, no_surrounding);
     else if (strcmp(name, "shell") == 0) {

@@ -3,7 +3,7 @@ use Rattle.std.specs.Prelude.{ℕ, pos, Bool, Option, Some, None, ◌==◌, if�
 use Rattle.uring_enter.specs.declared.rings.ringing.Region.{Region}
 use Rattle.uring_enter.specs.declared.rings.ringing.Region.TheVariants.{Rings, Entries}
 use Rattle.uring_enter.specs.declared.rings.ringing.Stage.{Stage}
-use Rattle.uring_enter.specs.declared.rings.ringing.Stage.TheVariants.{Reads, AsksKernel, Makes, Tells}
+use Rattle.uring_enter.specs.declared.rings.ringing.Stage.TheVariants.{Reads, AsksKernel, Makes, Tells, Opens}
 use Rattle.uring_enter.specs.declared.rings.ringing.Onto.{Onto}
 use Rattle.uring_enter.specs.declared.rings.ringing.Onto.TheVariants.{Does, Fails, Drops, IsDone}
 use Rattle.uring_enter.specs.declared.rings.ringing.Fate.{Fate}
@@ -29,9 +29,10 @@ word_of_onto (Does Reads) = 0
 word_of_onto (Does AsksKernel) = 1
 word_of_onto (Does Makes) = 2
 word_of_onto (Does Tells) = 3
-word_of_onto (Fails _) = 4
-word_of_onto (Drops _) = 5
-word_of_onto IsDone = 6
+word_of_onto (Does Opens) = 4
+word_of_onto (Fails _) = 5
+word_of_onto (Drops _) = 6
+word_of_onto IsDone = 7
 
 -- what it has done, by that word; None: nothing
 abbrev pub stage_of : ℕ → Option Stage
@@ -39,7 +40,8 @@ stage_of word =
     if word == 0 then Some Reads else
     if word == 1 then Some AsksKernel else
     if word == 2 then Some Makes else
-    if word == 3 then Some Tells else None
+    if word == 3 then Some Tells else
+    if word == 4 then Some Opens else None
 
 -- kinds count in the order of `Fate`, from 0. Our own rule
 abbrev pub word_of_fate : Fate → ℕ

@@ -71,6 +71,7 @@ fn stage(word: u32) -> Option<Stage>
         1 => Some(Stage::AsksKernel),
         2 => Some(Stage::Makes),
         3 => Some(Stage::Tells),
+        4 => Some(Stage::Opens),
         _ => None,
     }
 }
@@ -83,9 +84,10 @@ fn onto_word(onto: Onto) -> u32
         Onto::Does(Stage::AsksKernel) => 1,
         Onto::Does(Stage::Makes) => 2,
         Onto::Does(Stage::Tells) => 3,
-        Onto::Fails(_) => 4,
-        Onto::Drops(_) => 5,
-        Onto::IsDone => 6,
+        Onto::Does(Stage::Opens) => 4,
+        Onto::Fails(_) => 5,
+        Onto::Drops(_) => 6,
+        Onto::IsDone => 7,
     }
 }
 

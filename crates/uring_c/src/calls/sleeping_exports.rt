@@ -5,8 +5,8 @@ ghost use Rattle.uring_enter.specs.Waiting.Sleeping as sleeping;
 ghost use Rattle.uring_c.specs.SleepForm.{word_of_outcome};
 
 use uring_enter::{
-    Outcome, PipePoll, SleptFor, Waited, asks_before_nap, came_to, can_be_woken, counted_as,
-    fires_behind, lets_more_lie, outcome_of, slept_for,
+    Outcome, PipePoll, SleptFor, Waited, asks_before_nap, asks_select, came_to, can_be_woken,
+    fires_behind, outcome_of, sleeps_by_poll, slept_for,
 };
 use uring_operations::{Needs, Standing};
 
@@ -18,7 +18,7 @@ pub extern "C" fn wulgach_awaits_writes(poll: &PipePoll) -> bool
     poll.awaits()
 }
 
-/// What a sleep came to, where its ppoll(2) came to this: in the process that began it, or in a child that was forked meanwhile.
+/// What a sleep came to, where its system call came to this: in the process that began it, or in a child that was forked meanwhile.
 #[unsafe(no_mangle)]
 pub extern "C" fn wulgach_sleep_came_to(res: i32, is_child: bool) -> i32
     ensures { result ≡ sleeping.came_to res is_child }
@@ -26,20 +26,20 @@ pub extern "C" fn wulgach_sleep_came_to(res: i32, is_child: bool) -> i32
     came_to(res, is_child)
 }
 
-/// Whether more requests become dormant after a sleep that came to this.
+/// Whether a sleep is by poll(2) whose epoll_pwait2(2) came to this.
 #[unsafe(no_mangle)]
-pub extern "C" fn wulgach_lets_more_lie(came: i32) -> bool
-    ensures { result ≡ sleeping.lets_more_lie came }
+pub extern "C" fn wulgach_sleeps_by_poll(came: i32) -> bool
+    ensures { result ≡ sleeping.sleeps_by_poll came }
 {
-    lets_more_lie(came)
+    sleeps_by_poll(came)
 }
 
-/// What a sleep counts as that came to this, before which so many requests were dormant, and after which so many are.
+/// Whether select(2) is asked in the place of a poll(2) that came to this.
 #[unsafe(no_mangle)]
-pub extern "C" fn wulgach_sleep_counted_as(came: i32, before: u64, behind: u64) -> i32
-    ensures { result ≡ sleeping.counted_as came before behind }
+pub extern "C" fn wulgach_asks_select(came: i32) -> bool
+    ensures { result ≡ sleeping.asks_select came }
 {
-    counted_as(came, before, behind)
+    asks_select(came)
 }
 
 /// Returns what came of a wait, as the reply to a call that wants to sleep.

@@ -8,7 +8,9 @@ ghost use Rattle.uring_enter.specs.TakingUp.Rounds.{most_of_a_round};
 ghost use Rattle.uring_enter.specs.Call.Unknown as unknown;
 ghost use Rattle.uring_c.specs.UnknownForm.{known_of, matter_of};
 
-use uring_enter::{Matter, Rounds, Times, asks_signals, is_taken_so, may_have_others};
+use uring_enter::{
+    Matter, Rounds, Times, asks_signals, comes_by_mask, is_taken_so, may_have_others,
+};
 
 /// Whether something is taken to be so, where it is known, or isn't.
 #[unsafe(no_mangle)]
@@ -61,6 +63,14 @@ pub extern "C" fn wulgach_asks_signals(has_mask: bool, has_streams: bool) -> boo
     ensures { result ≡ unknown.asks_signals has_mask has_streams }
 {
     asks_signals(has_mask, has_streams)
+}
+
+/// Whether one of the signals that wait comes to a call that has this mask.
+#[unsafe(no_mangle)]
+pub extern "C" fn wulgach_comes_by_mask(waiting: u64, mask: u64) -> bool
+    ensures { result ≡ unknown.comes_by_mask waiting mask }
+{
+    comes_by_mask(waiting, mask)
 }
 
 /// Returns how many positions the next round takes at most.

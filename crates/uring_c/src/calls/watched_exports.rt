@@ -2,10 +2,10 @@
 ghost use Rattle.std.specs.Prelude.{◌≡◌, List, [], ◌∷◌};
 ghost use Rattle.uring_enter.specs.Waiting.Watching.{Waiting, Waits, KeepsWatched, change_of};
 ghost use Rattle.uring_enter.specs.Waiting.Watching as spec;
-ghost use Rattle.uring_c.specs.MessageForm.{word_of_besides, word_of_watch, watched_of};
+ghost use Rattle.uring_c.specs.MessageForm.{word_of_besides, word_of_enlisted, word_of_watch, watched_of};
 
 use crate::calls::duty_exports::bit;
-use uring_enter::{Watch, Watched, adds_behind, polls_besides, watch_of};
+use uring_enter::{Enlisted, Watch, Watched, adds_behind, enlisted_as, polls_besides, watch_of};
 
 /// Begins a descriptor for which nobody waits.
 #[unsafe(no_mangle)]
@@ -62,6 +62,18 @@ pub extern "C" fn wulgach_watch_adds_behind(res: i32) -> bool
     ensures { result ≡ spec.adds_behind res }
 {
     adds_behind(res)
+}
+
+/// Returns what an epoll instance makes of a descriptor whose addition came to this.
+#[unsafe(no_mangle)]
+pub extern "C" fn wulgach_enlisted_as(res: i32) -> u32
+    ensures { result ≡ word_of_enlisted (spec.enlisted_as res) }
+{
+    match enlisted_as(res) {
+        Enlisted::Tells => 0,
+        Enlisted::IsReady => 1,
+        Enlisted::CantTell => 2,
+    }
 }
 
 /// Returns what a ring's descriptor polls for beside what its requests wait for, where so many pipes are watched, and the ring has an epoll instance for those that are dormant, or none.

@@ -8,7 +8,7 @@ ghost use Rattle.uring_c.specs.MeansForm.{fault_of_word};
 use crate::operations::call_exports::fault_of;
 use uring_enter::{Calls, Source, calls_of, finish_steps, half_in, left_of_buffer, source_of};
 use uring_operations::{
-    Locked, Locking, asked_descriptors, asked_flags, flags_behind, next_of_locking,
+    Locked, Locking, asked_descriptors, asked_flags, flags_behind, is_layers_lock, next_of_locking,
 };
 
 /// Returns where the result of the operation of this code comes from, whose start has found this error, or 0, and which is given this fault, or none, and writes the result of a fault that it is given. Else nothing is written.
@@ -103,6 +103,14 @@ pub extern "C" fn wulgach_finish_steps(is_zero_copy: bool) -> u32
     ensures { result ≡ spec.finish_steps is_zero_copy }
 {
     finish_steps(is_zero_copy)
+}
+
+/// Whether a lock of so many bytes from a start on is one by which layers keep each other from such calls.
+#[unsafe(no_mangle)]
+pub extern "C" fn wulgach_is_layers_lock(start: u64, length: u64) -> bool
+    ensures { result ≡ asking.is_layers_lock start length }
+{
+    is_layers_lock(start, length)
 }
 
 /// Returns what is next for the lock by which processes keep each other from calls whose descriptors are asked not to wait.

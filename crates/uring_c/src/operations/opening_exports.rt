@@ -2,10 +2,12 @@
 ghost use Rattle.std.specs.Prelude.{◌≡◌};
 ghost use Rattle.uring_operations.specs.Files.PipeOpens as opens;
 ghost use Rattle.uring_c.specs.OpeningForm.{word_of_opening};
+ghost use Rattle.uring_c.specs.PinningForm.{known_of};
 
 use uring_operations::{
-    Opening, Standing, Submission, asks_writer, found_flags, looking_flags, looks_at_path,
-    opening_of, opening_waits, opens_again, opens_by_path, standing_behind_path, unwilling_flags,
+    Opening, Standing, Submission, asks_writer, found_flags, has_writer, looking_flags,
+    looks_at_path, opening_of, opening_waits, opens_again, opens_by_path, standing_behind_path,
+    unwilling_flags,
 };
 
 /// Whether the path of an entry is looked up as its request starts, whether it names a pipe.
@@ -82,6 +84,15 @@ pub extern "C" fn wulgach_asks_writer(entry: &Submission, how: u64, res: i32) ->
     ensures { result ≡ opens.asks_writer entry.now how res }
 {
     asks_writer(entry, how, res)
+}
+
+/// Whether someone has a pipe open to write that was opened to read, or has had since.
+#[unsafe(no_mangle)]
+pub extern "C" fn wulgach_has_writer(shows: bool, knows: bool, teed: i32) -> bool
+    ensures { result ≡ opens.has_writer shows (known_of knows teed) }
+{
+    let teed = if knows { Some(teed) } else { None };
+    has_writer(shows, teed)
 }
 
 /// Whether the open of a named pipe waits that came to this without waiting.

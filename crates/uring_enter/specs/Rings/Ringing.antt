@@ -4,7 +4,7 @@ use Rattle.std.specs.Int.RustNames.{bit_and}
 use Rattle.uring_enter.specs.declared.rings.ringing.Region.{Region}
 use Rattle.uring_enter.specs.declared.rings.ringing.Region.TheVariants.{Rings, Entries}
 use Rattle.uring_enter.specs.declared.rings.ringing.Stage.{Stage}
-use Rattle.uring_enter.specs.declared.rings.ringing.Stage.TheVariants.{Reads, AsksKernel, Makes, Tells}
+use Rattle.uring_enter.specs.declared.rings.ringing.Stage.TheVariants.{Reads, AsksKernel, Makes, Tells, Opens}
 use Rattle.uring_enter.specs.declared.rings.ringing.Onto.{Onto}
 use Rattle.uring_enter.specs.declared.rings.ringing.Onto.TheVariants.{Does, Fails, Drops, IsDone}
 use Rattle.uring_enter.specs.declared.rings.ringing.Fate.{Fate}
@@ -26,19 +26,21 @@ abbrev pub is_region : Option Region → Bool
 is_region (Some _) = true
 is_region None = false
 
--- what a set-up does after this, once that went well: it reads the parameters, asks the kernel where the ring is strict, makes the ring, and tells its parameters. Our own rule, but that the parameters are read first and told last
+-- what a set-up does after this, once that went well: it reads the parameters, asks the kernel where the ring is strict, makes the ring, tells its parameters, and opens its descriptor. Our own rule, but that the parameters are read first, and that they are told before there is a descriptor, as Linux 6.18 was seen to do
 abbrev pub behind_stage : Option Stage → Onto
 behind_stage None = Does Reads
 behind_stage (Some Reads) = Does AsksKernel
 behind_stage (Some AsksKernel) = Does Makes
 behind_stage (Some Makes) = Does Tells
-behind_stage (Some Tells) = IsDone
+behind_stage (Some Tells) = Does Opens
+behind_stage (Some Opens) = IsDone
 
 abbrev pub has_made : Option Stage → Bool
 has_made (Some Tells) = true
+has_made (Some Opens) = true
 has_made _ = false
 
--- the first fault ends it; a ring whose parameters can't be told is dropped
+-- the first fault ends it; a ring whose parameters can't be told, or that can't have a descriptor, is dropped
 abbrev pub next_of : Option Stage → ℤ → Onto
 next_of last res =
     if not (is_below res) then behind_stage last else

@@ -16,17 +16,17 @@ abbrev pub is_error : ℤ → Bool
 is_error (negsuc _) = true
 is_error (pos _) = false
 
--- what a sleep came to, by its ppoll(2): a child that was forked in it, as by a signal's handler, and returns from it leaves its parent's ring as it is. To it a signal has ended the sleep, -4 (EINTR). Our own rule
+-- what a sleep came to, by its system call: a child that was forked in it, as by a signal's handler, and returns from it leaves its parent's ring as it is. To it a signal has ended the sleep, -4 (EINTR). Our own rule
 abbrev pub came_to : ℤ → (is_child : Bool) → ℤ
 came_to res is_child = if is_child then error 4 else res
 
--- a sleep that polls more descriptors than the process may have open is refused, with -22 (EINVAL). ppoll(2). Then more requests become dormant, for whom the ring's epoll instance is polled alone: our own rule
-abbrev pub lets_more_lie : ℤ → Bool
-lets_more_lie came = int_eq came (error 22)
+-- a sleep is by an epoll instance, since whatever signal comes ends that, as it does a call on a kernel's ring, and so does a stop: poll(2) would go on where no handler ran (signal(7), interruption of system calls by stop signals). It is by poll(2) where the kernel has no such call (-38, ENOSYS), or a filter refuses it (-1, EPERM). Our own rule
+abbrev pub sleeps_by_poll : ℤ → Bool
+sleeps_by_poll came = int_eq came (error 38) || int_eq came (error 1)
 
--- where more have become so, it counts as one that a descriptor has ended (1): no time has passed, nothing has failed, and the call looks again and sleeps again. Else it has failed. Our own rule
-abbrev pub counted_as : ℤ → (before behind : ℕ) → ℤ
-counted_as came before behind = if lets_more_lie came && nat_lt before behind then pos 1 else came
+-- poll(2) is refused with -22 (EINVAL) that is asked of more descriptors than the process may have open: select(2) has no such limit, and is asked in its place. Our own rule
+abbrev pub asks_select : ℤ → Bool
+asks_select came = int_eq came (error 22)
 
 -- a call whose last argument is at fault doesn't sleep, and fails with that; nor does one before whose sleep a poll was told of what another has written to its pipe, since that goes on
 abbrev pub beginning_of : ℤ → Bool → Beginning

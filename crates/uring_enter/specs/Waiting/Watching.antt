@@ -1,11 +1,13 @@
 -- What a ring's descriptor polls for, by the requests that wait for one descriptor. epoll_ctl(2): a number that is closed and opened again is another file, which isn't polled for. That a descriptor is polled for afresh once another request waits for it is our own rule.
-use Rattle.std.specs.Prelude.{◌≡◌, ℕ, ℤ, max, Bool, true, ◌&&◌, ◌==◌, List, [], ◌∷◌, Option, Some, None, if◌then◌else◌}
+use Rattle.std.specs.Prelude.{◌≡◌, ℕ, ℤ, max, Bool, true, not, ◌&&◌, ◌||◌, ◌==◌, List, [], ◌∷◌, Option, Some, None, if◌then◌else◌}
 use Rattle.std.specs.Ordering.{int_eq}
 use Rattle.std.specs.Int.RustNames.{bit_or}
-use Rattle.uring_entry.specs.Errors.{error}
+use Rattle.uring_entry.specs.Errors.{error, is_below}
 use Rattle.uring_enter.specs.GoingOn.Duties.{polls_writes, polls_instance}
 use Rattle.uring_enter.specs.declared.waiting.watched.Besides.{Besides}
 use Rattle.uring_enter.specs.declared.waiting.watched.Watched.{Watched}
+use Rattle.uring_enter.specs.declared.waiting.watched.Enlisted.{Enlisted}
+use Rattle.uring_enter.specs.declared.waiting.watched.Enlisted.TheVariants.{Tells, IsReady, CantTell}
 use Rattle.uring_enter.specs.declared.waiting.watched.Watch.{Watch}
 use Rattle.uring_enter.specs.declared.waiting.watched.Watch.TheVariants.{Stays, Adds, Removes, Renews}
 
@@ -39,6 +41,12 @@ change_of (Some before) (Some after) =
 -- a renewal that comes to -2 (ENOENT) is of a number that isn't polled for any more, since it was closed, and is another file's: that one is added
 abbrev pub adds_behind : ℤ → Bool
 adds_behind res = int_eq res (error 2)
+
+-- an epoll instance tells of a descriptor that it takes, or has (-17, EEXIST). One that can't be polled (-1, EPERM) or isn't open (-9, EBADF) poll(2) shows at once. Of any other that it refuses it can't tell, as of an instance in too many others (-40, ELOOP), or where no more are watched (-28, ENOSPC): a sleep polls then by poll(2), and a ring's descriptor stays readable, so that whoever waits by it looks. epoll_ctl(2), errors; what is done then is our own rule
+abbrev pub enlisted_as : ℤ → Enlisted
+enlisted_as res =
+    if not (is_below res) || int_eq res (error 17) then Tells else
+    if int_eq res (error 1) || int_eq res (error 9) then IsReady else CantTell
 
 -- beside what its requests wait for, a ring's descriptor polls for what tells of writes to pipes where any are watched, as a sleep does; and for the epoll instance of those that are dormant as long as there is one, whether any are: so nothing is changed of it as requests become dormant and are roused. Our own rule
 abbrev pub polls_besides : (watched : ℕ) → (has_instance : Bool) → Besides

@@ -28,7 +28,7 @@ pub enum Matter {
     /// Whether two descriptors are on one file.
     SameFile,
 
-    /// Whether the process has locks on a file that another has locked.
+    /// Whether the process has a lock on a file.
     Locked,
 }
 
@@ -64,6 +64,13 @@ pub fn asks_signals(has_mask: bool, has_streams: bool) -> bool
     ensures { result ≡ spec.asks_signals has_mask has_streams }
 {
     has_mask && !has_streams
+}
+
+/// Whether one of the signals that wait comes to a call that has this mask, each a set of bits. io_uring_enter(2), EINTR.
+pub fn comes_by_mask(waiting: u64, mask: u64) -> bool
+    ensures { result ≡ spec.comes_by_mask waiting mask }
+{
+    waiting & mask != waiting
 }
 
 impl Times {

@@ -27,6 +27,9 @@ pub enum Stage {
 
     /// It tells the parameters.
     Tells,
+
+    /// It opens the ring's descriptor.
+    Opens,
 }
 
 /// How a set-up goes on.
@@ -89,14 +92,15 @@ fn behind_stage(last: Option<Stage>) -> Onto
         Some(Stage::Reads) => Onto::Does(Stage::AsksKernel),
         Some(Stage::AsksKernel) => Onto::Does(Stage::Makes),
         Some(Stage::Makes) => Onto::Does(Stage::Tells),
-        Some(Stage::Tells) => Onto::IsDone,
+        Some(Stage::Tells) => Onto::Does(Stage::Opens),
+        Some(Stage::Opens) => Onto::IsDone,
     }
 }
 
 fn has_made(last: Option<Stage>) -> bool
     ensures { result ≡ spec.has_made last }
 {
-    matches!(last, Some(Stage::Tells))
+    matches!(last, Some(Stage::Tells | Stage::Opens))
 }
 
 /// What becomes of a ring with so many calls on it, of this process or another, once one of its descriptors is closed or another ring is made. `known`: whether a descriptor of the process is open on it, if that was asked.

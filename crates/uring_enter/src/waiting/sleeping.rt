@@ -22,7 +22,7 @@ pub enum Beginning {
 #[repr(C)]
 #[derive(Clone, Copy, Drop)]
 pub struct Waited {
-    /// What the sleep came to, by its ppoll(2): an error number's negative, or how many descriptors have ended it.
+    /// What the sleep came to, by its system call: an error number's negative, or how many descriptors have ended it.
     pub result: i32,
 
     /// There was nothing to wait for, and it didn't sleep.
@@ -64,29 +64,25 @@ pub fn fires_behind(waited: &Waited) -> bool
     !waited.is_never && waited.result >= 0
 }
 
-/// What a sleep came to, where its ppoll(2) came to this: in the process that began it, or in a child that was forked meanwhile. Our own rule, of a child.
+/// What a sleep came to, where its system call came to this: in the process that began it, or in a child that was forked meanwhile. Our own rule, of a child.
 pub fn came_to(res: i32, is_child: bool) -> i32
     ensures { result ≡ spec.came_to res is_child }
 {
     if is_child { -4 } else { res }
 }
 
-/// Whether more requests become dormant after a sleep that came to this, so that it polls fewer descriptors. ppoll(2), EINVAL.
-pub fn lets_more_lie(came: i32) -> bool
-    ensures { result ≡ spec.lets_more_lie came }
+/// Whether a sleep is by poll(2) whose epoll_pwait2(2) came to this: the kernel hasn't that, or a filter refuses it. Our own rule.
+pub fn sleeps_by_poll(came: i32) -> bool
+    ensures { result ≡ spec.sleeps_by_poll came }
 {
-    came == -22
+    came == -38 || came == -1
 }
 
-/// What a sleep counts as that came to this, before which so many requests were dormant, and after which so many are. Our own rule.
-pub fn counted_as(came: i32, before: u64, behind: u64) -> i32
-    ensures { result ≡ spec.counted_as came before behind }
+/// Whether select(2) is asked in the place of a poll(2) that came to this: it was asked of more descriptors than the process may have. poll(2), EINVAL.
+pub fn asks_select(came: i32) -> bool
+    ensures { result ≡ spec.asks_select came }
 {
-    if lets_more_lie(came) && before < behind {
-        1
-    } else {
-        came
-    }
+    came == -22
 }
 
 /// Whether a sleep begins whose arguments have this fault, or 0, and before which a poll was told, or none.

@@ -40,6 +40,32 @@ pub fn adds_behind(res: i32) -> bool
     res == -2
 }
 
+/// What an epoll instance makes of a descriptor that it is given.
+#[derive(Clone, Copy, Drop)]
+pub enum Enlisted {
+    /// It tells of it.
+    Tells,
+
+    /// It needn't: poll(2) shows it at once.
+    IsReady,
+
+    /// It can't tell of it.
+    CantTell,
+}
+
+/// What an instance makes of a descriptor whose addition came to this. epoll_ctl(2), errors.
+pub fn enlisted_as(res: i32) -> Enlisted
+    ensures { result ≡ spec.enlisted_as res }
+{
+    if res >= 0 || res == -17 {
+        Enlisted::Tells
+    } else if res == -1 || res == -9 {
+        Enlisted::IsReady
+    } else {
+        Enlisted::CantTell
+    }
+}
+
 /// What a ring's descriptor polls for beside what its requests wait for.
 #[derive(Clone, Copy, Drop)]
 pub struct Besides {

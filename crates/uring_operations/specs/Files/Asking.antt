@@ -38,6 +38,10 @@ TakesBackWhatItAsked = (flags asked : ℕ) → flags < 2 ^ 32
 abbrev pub has_lock : ℤ → Bool
 has_lock came_to = not (int_eq came_to (error 11) || int_eq came_to (error 13))
 
+-- the lock that layers keep each other out by is of one byte, 2^62. Any other that covers it, as one of a whole file, means something else
+abbrev pub is_layers_lock : (start length : ℕ) → Bool
+is_layers_lock start length = start == 4611686018427387904 && length == 1
+
 -- it is tried at once, twenty times more after a moment for others, and then after pauses, as often as two thousand times: whoever has it so long has been stopped, maybe. None is tried, and the call is made without, where the application has a lock on that byte, which ours would take off; and none more where another has one that means something else, as that of a whole file
 abbrev pub next_of_locking : Locked → Locking
 next_of_locking l =

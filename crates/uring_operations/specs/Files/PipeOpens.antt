@@ -1,5 +1,5 @@
 -- How a path is opened, so that nobody sleeps until the other end of a named pipe is open. fifo(7); open(2), O_NONBLOCK; but where our own rule is named.
-use Rattle.std.specs.Prelude.{◌≡◌, ℕ, ℤ, ◌-◌, ◌^◌, Bool, true, false, not, ◌&&◌, ◌||◌, ◌==◌, nat_lt, if◌then◌else◌}
+use Rattle.std.specs.Prelude.{◌≡◌, ℕ, ℤ, pos, ◌-◌, ◌^◌, Option, Some, None, Bool, true, false, not, ◌&&◌, ◌||◌, ◌==◌, nat_lt, if◌then◌else◌}
 use Rattle.std.specs.Ordering.{int_eq}
 use Rattle.std.specs.Int.RustNames.{bit_and, bit_or}
 use Rattle.uring_operations.specs.declared.files.pipe_open.Opening.{Opening}
@@ -65,6 +65,11 @@ is_to_write e how = bit_and (flags_of e how) 3 == 1
 abbrev pub opening_waits : Submission → (how : ℕ) → ℤ → (has_writer : Bool) → Bool
 opening_waits e how res has_writer =
     if is_to_write e how then int_eq res (error 6) else not (is_below res) && not has_writer
+
+-- someone has it open to write, or has had since it was opened to read, if poll(2) shows something, which are bytes or that the last has closed it; or if a tee(2) that isn't to wait, of a byte of it, came to something else than its end, 0. None: nothing could be teed into, and nobody is known to have
+abbrev pub has_writer : (shows : Bool) → Option ℤ → Bool
+has_writer shows None = shows
+has_writer shows (Some teed) = shows || not (int_eq teed (pos 0))
 
 -- so whether someone has is asked of what was opened to read
 abbrev pub asks_writer : Submission → (how : ℕ) → ℤ → Bool

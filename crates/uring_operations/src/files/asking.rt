@@ -85,6 +85,13 @@ fn has_lock(came_to: i32) -> bool
     came_to != -11 && came_to != -13
 }
 
+/// Whether a lock of so many bytes from a start on is one by which layers keep each other from such calls. Our own rule.
+pub fn is_layers_lock(start: u64, length: u64) -> bool
+    ensures { result ≡ spec.is_layers_lock start length }
+{
+    start == 0x4000_0000_0000_0000 && length == 1
+}
+
 /// What is next for the lock. Our own rule.
 pub fn next_of_locking(locked: &Locked) -> Locking
     ensures { result ≡ spec.next_of_locking locked.now }

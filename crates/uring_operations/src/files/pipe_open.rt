@@ -118,6 +118,16 @@ pub fn asks_writer(entry: &Submission, how: u64, res: i32) -> bool
     flags_of(entry, how) & 3 != 1 && res >= 0
 }
 
+/// Whether someone has a pipe open to write that was opened to read, or has had since: poll(2) shows something of it or nothing, and a tee(2) of it came to this. `None`: none could be made. tee(2), RETURN VALUE.
+pub fn has_writer(shows: bool, teed: Option<i32>) -> bool
+    ensures { result ≡ spec.has_writer shows teed }
+{
+    match teed {
+        None => shows,
+        Some(came) => shows || came != 0,
+    }
+}
+
 /// Whether the open of a named pipe waits that came to this without waiting; `has_writer`: its other end was found open, or to have been.
 pub fn opening_waits(entry: &Submission, how: u64, res: i32, has_writer: bool) -> bool
     ensures { result ≡ spec.opening_waits entry.now how res has_writer }

@@ -1,0 +1,118 @@
+/* poll(2) takes no more entries than the process may have descriptors (RLIMIT_NOFILE), which a sandbox sets to 0 once it has opened all that it needs.
+ * select(2) looks at whatever is open, and tells less: of the end of a stream that it can be read, and of an error that it can be read and written.
+ */
+#define _GNU_SOURCE
+#include "glance.h"
+#include "wulgach_waits.h"
+
+#include <errno.h>
+#include <fcntl.h>
+#include <limits.h>
+#include <stdbool.h>
+#include <stdlib.h>
+#include <sys/select.h>
+
+enum { BITS = CHAR_BIT * sizeof(fd_mask) };
+
+/* The sets of select(2), of as many descriptors as there are. */
+struct sets {
+    fd_mask *readable, *writable, *urgent;
+    int end;
+};
+
+/* What a set may stand for, the likely first: the rest is told where nothing else of it was asked. */
+static const short READABLE = POLLIN | POLLRDNORM, READABLE_TOO = POLLRDBAND | POLLRDHUP, WRITABLE = POLLOUT | POLLWRNORM, WRITABLE_TOO = POLLWRBAND;
+
+static void add(fd_mask *set, int fd)
+{
+    set[fd / BITS] |= (fd_mask)(1ul << fd % BITS);
+}
+
+static bool has(const fd_mask *set, int fd)
+{
+    return (unsigned long)set[fd / BITS] >> fd % BITS & 1;
+}
+
+/* Begins sets that are empty. False: there is no memory for them. */
+static bool begin_sets(struct sets *sets, const struct pollfd *polled, nfds_t count)
+{
+    for (nfds_t i = 0; i < count; i++)
+        if (sets->end <= polled[i].fd)
+            sets->end = polled[i].fd + 1;
+    size_t words = (size_t)sets->end / BITS + 1;
+    sets->readable = calloc(3 * words, sizeof *sets->readable);
+    if (!sets->readable)
+        return false;
+    sets->writable = sets->readable + words;
+    sets->urgent = sets->writable + words;
+    return true;
+}
+
+/* Adds what is asked of each. Returns how many aren't open, which shows at once. */
+static int ask_sets(struct sets *sets, struct pollfd *polled, nfds_t count)
+{
+    int closed = 0;
+    for (struct pollfd *at = polled; at < polled + count; at++) {
+        bool is_closed = at->fd >= 0 && fcntl(at->fd, F_GETFD) < 0;
+        at->revents = is_closed ? POLLNVAL : 0;
+        closed += is_closed;
+        if (at->fd < 0 || is_closed)
+            continue;
+        if (at->events & (READABLE | READABLE_TOO))
+            add(sets->readable, at->fd);
+        if (at->events & (WRITABLE | WRITABLE_TOO))
+            add(sets->writable, at->fd);
+        if (at->events & POLLPRI)
+            add(sets->urgent, at->fd);
+    }
+    return closed;
+}
+
+static short told_as(const fd_mask *set, const struct pollfd *at, short likely, short rest)
+{
+    if (!has(set, at->fd))
+        return 0;
+    return at->events & likely ? at->events & likely : at->events & rest;
+}
+
+/* Tells what was found of each. Returns how many show something. */
+static int tell_found(const struct sets *sets, struct pollfd *polled, nfds_t count)
+{
+    int found = 0;
+    for (struct pollfd *at = polled; at < polled + count; at++) {
+        if (at->fd >= 0 && at->revents == 0)
+            at->revents = told_as(sets->readable, at, READABLE, READABLE_TOO) | told_as(sets->writable, at, WRITABLE, WRITABLE_TOO) | told_as(sets->urgent, at, POLLPRI, 0);
+        found += at->revents != 0;
+    }
+    return found;
+}
+
+static int ask_select(struct pollfd *polled, nfds_t count, const struct timespec *time, const sigset_t *signals)
+{
+    static const struct timespec now;
+    struct sets sets = {0};
+    if (!begin_sets(&sets, polled, count))
+        return -1;
+    if (ask_sets(&sets, polled, count) > 0)
+        time = &now;
+    int came = pselect(sets.end, (fd_set *)sets.readable, (fd_set *)sets.writable, (fd_set *)sets.urgent, time, signals);
+    if (came >= 0)
+        came = tell_found(&sets, polled, count);
+    int error = errno;
+    free(sets.readable);
+    errno = error;
+    return came;
+}
+
+int poll_now(struct pollfd *polled, nfds_t count)
+{
+    static const struct timespec now;
+    int came = poll(polled, count, 0);
+    return came < 0 && wulgach_asks_select(-errno) ? ask_select(polled, count, &now, NULL) : came;
+}
+
+int poll_until(struct pollfd *polled, nfds_t count, const struct timespec *time, const sigset_t *signals)
+{
+    int came = ppoll(polled, count, time, signals);
+    return came < 0 && wulgach_asks_select(-errno) ? ask_select(polled, count, time, signals) : came;
+}
