@@ -109,7 +109,7 @@ uint32_t wulgach_asked_descriptors(uint8_t code);
  * is over, where it was asked, and has these by then: the same without. False, and nothing is written: it stays as it is, since it isn't to wait
  * anyway, or its flags aren't known, or it wasn't asked, or is to wait by then. Our own rule. */
 bool wulgach_asked_flags(bool is_known, uint32_t flags, uint32_t *asked);
-bool wulgach_flags_behind(bool was_asked, bool is_known, uint32_t flags, uint32_t *behind);
+bool wulgach_flags_after(bool was_asked, bool is_known, uint32_t flags, uint32_t *behind);
 
 /* What is known of the lock of a byte that no file has (fcntl(2), F_SETLK), by which processes that have one open file keep each other from such calls. */
 struct wulgach_locked {
@@ -161,7 +161,7 @@ bool wulgach_opens_by_path(int32_t res);
 
 /* A request stands so whose path was looked up as it starts, and names a pipe or doesn't: if it does, it may have to wait for its descriptor, though
  * it has none. Our own rule. */
-void wulgach_standing_behind_path(struct wulgach_standing *standing, bool names_pipe);
+void wulgach_standing_after_path(struct wulgach_standing *standing, bool names_pipe);
 
 /* How the call of an operation is made that may open a path. */
 enum wulgach_opening {
@@ -175,7 +175,7 @@ enum wulgach_opening {
 uint32_t wulgach_opening_of(const struct wulgach_submission *entry, uint64_t how, bool names_pipe);
 
 /* Returns with which flags a path is opened that is asked not to wait, whose open has these: O_NONBLOCK besides. Of its file that is taken back as
- * wulgach_flags_behind has it. */
+ * wulgach_flags_after has it. */
 uint64_t wulgach_unwilling_flags(uint64_t flags);
 
 /* Whether an open that was asked not to wait, and came to this, is made once more without that: after -11 (EWOULDBLOCK), which a lease is waited
@@ -260,7 +260,7 @@ bool wulgach_takes_for_nothing(uint8_t code);
 
 /* The offset at which a READ_MULTISHOT reads next, after a call that came to this: after the bytes that it read, if it has one. Of another
  * entry its own. */
-uint64_t wulgach_offset_behind(const struct wulgach_submission *entry, int32_t came_to);
+uint64_t wulgach_offset_after(const struct wulgach_submission *entry, int32_t came_to);
 
 /* Returns what a file ends with that was put into this slot, where its entry asked for that one or, by 2^32 - 1
  * (IORING_FILE_INDEX_ALLOC), for any: the slot of one that asked for any, else 0. */
@@ -320,7 +320,7 @@ enum wulgach_finish_step {
     WULGACH_FINISH_JUDGES = 0,      /* whether it is a success is judged (wulgach_has_succeeded), */
     WULGACH_FINISH_NOTIFIES = 1,    /* before a completion of its own tells it, and the notice of wulgach_notice_of takes its place; */
     WULGACH_FINISH_TELLS = 2,       /* the core is told of the end; */
-    WULGACH_FINISH_ENDS = 3         /* and that is shown, and makes of others what wulgach_duties_behind_end says */
+    WULGACH_FINISH_ENDS = 3         /* and that is shown, and makes of others what wulgach_duties_after_end says */
 };
 
 /* What is done, of a send without copies (IORING_OP_SEND_ZC, SENDMSG_ZC) or of another, which has no notice. */
@@ -406,7 +406,7 @@ bool wulgach_unwaited(uint32_t flags, uint32_t *instead);
  * give a file (getrlimit(2), RLIMIT_FSIZE), if that is known: SIGXFSZ may not have come at all if it is 2^64 - 1 (RLIM_INFINITY), and isn't taken
  * where it isn't known; SIGPIPE is taken whatever it is. And whether a signal that was taken is the call's, by its code (si_code), and by whether this
  * process is told as its sender (si_pid): another is to be pending again. */
-uint32_t wulgach_signal_behind(const struct wulgach_submission *entry, int32_t res);
+uint32_t wulgach_signal_after(const struct wulgach_submission *entry, int32_t res);
 bool wulgach_is_taken_back(uint32_t signal, bool knows, uint64_t most);
 bool wulgach_is_signal_of_call(int32_t code, bool is_own);
 

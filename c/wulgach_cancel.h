@@ -39,7 +39,7 @@ struct wulgach_outstanding {
     bool is_cancelled;  /* a cancel has chosen it before */
     bool runs;          /* it has started */
     bool is_stream;     /* it may have to wait for its descriptor */
-    bool may_start;     /* of one that doesn't run: it could start now, and isn't taken after the cancel (wulgach_is_taken_behind) */
+    bool may_start;     /* of one that doesn't run: it could start now, and isn't taken after the cancel (wulgach_is_taken_after) */
 };
 
 /* An entry of the submission ring: see wulgach_form.h. */
@@ -78,7 +78,7 @@ uint32_t wulgach_sought_file(const struct wulgach_sought *sought);
 enum wulgach_cancelling {
     WULGACH_CANCELLING_ROUSES = 0,  /* it is dormant no more, */
     WULGACH_CANCELLING_LOOKS = 1,   /* and is looked at again, whatever it was known to wait for; */
-    WULGACH_CANCELLING_STOPS = 2,   /* a time stops that runs no more after that (wulgach_timing_behind_finding); */
+    WULGACH_CANCELLING_STOPS = 2,   /* a time stops that runs no more after that (wulgach_timing_after_finding); */
     WULGACH_CANCELLING_MARKS = 3    /* and it is marked: WULGACH_FACT_CANCELLED */
 };
 
@@ -91,7 +91,7 @@ bool wulgach_is_waiting(const struct wulgach_outstanding *request);
 
 /* Whether a kernel takes the entry of the request `number` only after the cancel `cancel`, which is carried out as its own is taken: it was
  * submitted after it, and the cancel is after no link, and doesn't drain. */
-bool wulgach_is_taken_behind(uint64_t cancel, bool is_linked, bool drains, uint64_t number);
+bool wulgach_is_taken_after(uint64_t cancel, bool is_linked, bool drains, uint64_t number);
 
 /* A cancel that looks at requests, the oldest first. It is the caller's memory, and its fields are the library's. */
 struct wulgach_cancel {

@@ -164,7 +164,7 @@ uint32_t wulgach_completion_flags(uint32_t part, uint32_t of_buffer);
 
 /* The flags of a provided buffer of which no completion has told, after one that tells of this: 0 after an event and after its own end, by
  * which they are told. So no later completion tells of that buffer. */
-uint32_t wulgach_untold_behind(uint32_t part, uint32_t of_buffer);
+uint32_t wulgach_untold_after(uint32_t part, uint32_t of_buffer);
 
 /* What is done after an operation that was carried out: a set of these has the bit 1 << DUTY of each, and they are done by rising bits. */
 enum wulgach_tried_duty {
@@ -175,7 +175,7 @@ enum wulgach_tried_duty {
 
 /* That set: others are looked at again after one that can make them ready, whatever it came to; and what would have to wait isn't asked whether
  * it goes on. */
-uint32_t wulgach_behind_try(bool can_make_ready, bool would_wait);
+uint32_t wulgach_after_try(bool can_make_ready, bool would_wait);
 
 /* Returns what the end of a send without copies tells of (enum wulgach_part) that has two completions, where the other one was posted before
  * (WULGACH_PART_NOTICE), or is put off since memory was refused for it (WULGACH_PART_SENT): then the other is the notice. So the application
@@ -201,16 +201,16 @@ struct wulgach_ended_cancel {
     bool linux_rules;
 };
 
-enum wulgach_sought_behind {
+enum wulgach_sought_after {
     WULGACH_SEEKS_RUNNING = 0,  /* the requests that run */
     WULGACH_SEEKS_NEXT = 1,     /* the one that could start */
     WULGACH_SEEKS_NO_MORE = 2
 };
 
-/* Returns what it looks for next (enum wulgach_sought_behind), which ends with this: the requests that run, if the core has found one; then, unless it has
+/* Returns what it looks for next (enum wulgach_sought_after), which ends with this: the requests that run, if the core has found one; then, unless it has
  * cancelled one, the request that could start. By Linux's rules the core finds only what has started, and the kernel starts in the call that takes
  * it what can start. */
-uint32_t wulgach_sought_behind(const struct wulgach_ended_cancel *cancel, int32_t res);
+uint32_t wulgach_sought_after(const struct wulgach_ended_cancel *cancel, int32_t res);
 
 /* Whether a cancel looks for a request that hasn't started and could before the core ends it: after its end others could start, which it doesn't find. */
 bool wulgach_looks_ahead(bool is_cancel, bool linux_rules);
@@ -265,9 +265,9 @@ bool wulgach_is_timed(uint8_t code);
 /* Returns what becomes of a timeout's time (enum wulgach_timing) when a request starts, when a cancel finds one, and when one has ended. The
  * time of a linked timeout runs while the request runs that it limits. That of another runs from its own start on, unless a cancel has found
  * it before (`is_found`), until it ends or a cancel finds it. */
-uint32_t wulgach_timing_behind_start(const struct wulgach_member *timeout, const struct wulgach_member *request, bool is_found);
-uint32_t wulgach_timing_behind_finding(const struct wulgach_member *timeout, const struct wulgach_member *request);
-uint32_t wulgach_timing_behind_end(const struct wulgach_member *timeout, const struct wulgach_member *request);
+uint32_t wulgach_timing_after_start(const struct wulgach_member *timeout, const struct wulgach_member *request, bool is_found);
+uint32_t wulgach_timing_after_finding(const struct wulgach_member *timeout, const struct wulgach_member *request);
+uint32_t wulgach_timing_after_end(const struct wulgach_member *timeout, const struct wulgach_member *request);
 
 #ifdef __cplusplus
 }

@@ -191,11 +191,11 @@ uint32_t wulgach_duties_at_register_return(uint32_t code, const struct wulgach_r
  * cancelled: the application is heard. And what is done after those that were posted outside a call: what has ended and isn't shown is, and a
  * descriptor that polls tells of it. */
 uint32_t wulgach_duties_before_posting(void);
-uint32_t wulgach_duties_behind_posting(bool has_ends, bool is_polled);
+uint32_t wulgach_duties_after_posting(bool has_ends, bool is_polled);
 
 /* What is done after completions that were stored into ring memory with their tail, of so many of which a registered eventfd is told
  * (wulgach_tells): the flags are shown, and then it is told, if of any. So whoever is woken by it sees the flags. */
-uint32_t wulgach_duties_behind_storing(uint64_t told);
+uint32_t wulgach_duties_after_storing(uint64_t told);
 
 /* What it does before the operation of this code is carried out: what has ended and isn't shown is, but before a no-op, and the application is
  * heard. */

@@ -133,8 +133,8 @@ uint32_t wulgach_can_finish(struct wulgach_waiter *waiter, const struct wulgach_
 enum wulgach_step_of_start {
     WULGACH_FINDS_EARLIER = 0,  /* those that were accepted before it find their files whose turn to do so hasn't come */
     WULGACH_FINDS_OWN = 1,      /* it finds its own files */
-    WULGACH_BEGINS_TIME = 2,    /* the time of a timeout begins that runs from this start on (wulgach_timing_behind_start) */
-    WULGACH_LOOKS_UP = 3,       /* the path that it opens is looked up, whether that names a pipe (wulgach_standing_behind_path) */
+    WULGACH_BEGINS_TIME = 2,    /* the time of a timeout begins that runs from this start on (wulgach_timing_after_start) */
+    WULGACH_LOOKS_UP = 3,       /* the path that it opens is looked up, whether that names a pipe (wulgach_standing_after_path) */
     WULGACH_ASKS_EVENTS = 4,    /* a poll asks for its events */
     WULGACH_LOOKS = 5,          /* its descriptor is looked at */
     WULGACH_SEEKS_BUFFER = 6    /* a provided buffer is looked for */
@@ -150,7 +150,7 @@ bool wulgach_lets_start(uint32_t why);
 
 /* After that, where its files were found without a fault, 0, or with this one: a poll asks for its events, unless it has failed; the descriptor of one
  * that may have to wait is looked at; and so is its group, if it is to take a provided buffer. Another looks for one as it is carried out. */
-uint32_t wulgach_steps_behind_files(const struct wulgach_standing *standing, const struct wulgach_needs *needs, int32_t fault);
+uint32_t wulgach_steps_after_files(const struct wulgach_standing *standing, const struct wulgach_needs *needs, int32_t fault);
 
 /* Whether a request that runs becomes dormant, so that an epoll instance tells of it in the place of a look in each call: its descriptor was found
  * unready, the instance hasn't refused it, and it waits for that descriptor alone. So does one that may have to wait for it and for no second one,
@@ -296,7 +296,7 @@ enum wulgach_end_duty {
 };
 
 /* That set, for a request which keeps a file or none, has an epoll instance or none, may have had to wait for its descriptor, and drains or doesn't. */
-uint32_t wulgach_duties_behind_end(bool has_file, bool has_instance, bool is_stream, bool is_draining);
+uint32_t wulgach_duties_after_end(bool has_file, bool has_instance, bool is_stream, bool is_draining);
 
 /* ---- files that are kept ---- */
 

@@ -259,7 +259,7 @@ enum wulgach_deed {
 
 /* Returns in which process a thread is known that has done this (enum wulgach_deed) in `process`, and was known in `before`; 0 is none. What is asked for
  * matters to a call alone. And whether it is known in `process`: not by what the thread did that has forked it, whose rows it hasn't either. */
-uint32_t wulgach_known_behind(uint32_t before, uint32_t process, uint32_t deed, uint32_t to_submit, bool has_thread);
+uint32_t wulgach_known_after(uint32_t before, uint32_t process, uint32_t deed, uint32_t to_submit, bool has_thread);
 bool wulgach_is_known(uint32_t before, uint32_t process);
 
 /* How many rows are taken of a list of so many, by which rings lose their numbers: none of a thread that isn't known, whatever they say. */

@@ -121,7 +121,7 @@ enum { WULGACH_ALL_RINGS = 0x7fffffff };
  * ring may have been closed while a call was on it, or once in ten milliseconds, where there are so many rings in all. Where one is closed, all that are
  * let go what they have. And whether it matters how long ago it was last looked, in nanoseconds: else that may be anything. Our own rule. */
 uint32_t wulgach_looked_at_before_sleep(void);
-uint32_t wulgach_looked_at_behind(bool may_be_left, uint32_t rings, uint64_t elapsed);
+uint32_t wulgach_looked_at_after(bool may_be_left, uint32_t rings, uint64_t elapsed);
 bool wulgach_asks_elapsed(bool may_be_left, uint32_t rings);
 
 /* Whether the lock of all rings is tried once more after a close in a signal's handler, which was tried so often: a hundred times, with a moment for

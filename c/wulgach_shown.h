@@ -134,7 +134,7 @@ void wulgach_watched_add(struct wulgach_watched *watched, uint32_t events, uint6
 uint32_t wulgach_watch_of(const struct wulgach_watched *before, bool was_watched, const struct wulgach_watched *after, bool is_watched);
 
 /* Whether a descriptor is added whose renewal came to this: after -2 (ENOENT, epoll_ctl(2)) its number was another file's. */
-bool wulgach_watch_adds_behind(int32_t res);
+bool wulgach_watch_adds_after(int32_t res);
 
 /* What an epoll instance makes of a descriptor that it is given. */
 enum wulgach_enlisted {

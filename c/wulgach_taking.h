@@ -182,7 +182,7 @@ enum wulgach_order {
 /* Returns whether this comes now (enum wulgach_coming, enum wulgach_order), where a completion that the core was given, and refused memory for, is put off,
  * or none is; and memory was refused for it again just before, or wasn't. Where none is put off, what comes does so now. Else the core is given that
  * once more; and if memory is refused still, only an end comes. So nothing is submitted or posted until it is posted. Our own rule. */
-uint32_t wulgach_order_behind(uint32_t what, bool is_put_off, bool is_refused);
+uint32_t wulgach_order_after(uint32_t what, bool is_put_off, bool is_refused);
 
 #ifdef __cplusplus
 }

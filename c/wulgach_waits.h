@@ -68,7 +68,7 @@ enum wulgach_found {
  * it start. The call finds them if nothing links it, and no drain was ever accepted; or nothing that drains is outstanding, itself among that,
  * unless the ring goes by Linux's rules, and the core lets it start. Those of another may be what those before it open. After one of its
  * call that may change slots it finds them in its turn. */
-uint32_t wulgach_drains_find_file(const struct wulgach_drains *drains, const struct wulgach_member *request, bool linux_rules, bool behind_change, bool knows_start, bool may_start);
+uint32_t wulgach_drains_find_file(const struct wulgach_drains *drains, const struct wulgach_member *request, bool linux_rules, bool after_change, bool knows_start, bool may_start);
 
 /* The entries of a call, one after the other, as far as they were seen. */
 struct wulgach_changes {
@@ -388,7 +388,7 @@ struct wulgach_poll_row {
 size_t wulgach_join_polled(struct wulgach_poll_row *rows, size_t count);
 
 /* Whether a timeout fires after a wait, if its time is over: not after a sleep that a signal or an error ended. */
-bool wulgach_fires_behind(const struct wulgach_waited *waited);
+bool wulgach_fires_after(const struct wulgach_waited *waited);
 
 #ifdef __cplusplus
 }

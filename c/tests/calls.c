@@ -221,10 +221,10 @@ static void look_at_opens(void)
     demand(wulgach_opens_by_path(-2) && !wulgach_opens_by_path(-6) && !wulgach_opens_by_path(3), "where there is no /proc");
     demand(wulgach_unwilling_flags(O_RDWR | O_CREAT) == (O_RDWR | O_CREAT | O_NONBLOCK) && wulgach_unwilling_flags((uint64_t)1 << 63) == ((uint64_t)1 << 63 | O_NONBLOCK), "how an open is asked not to wait");
     struct wulgach_standing file = {.has_found_buffer = true}, stream = {.is_stream = true};
-    wulgach_standing_behind_path(&file, false);
-    wulgach_standing_behind_path(&stream, false);
+    wulgach_standing_after_path(&file, false);
+    wulgach_standing_after_path(&stream, false);
     demand(!file.is_stream && stream.is_stream, "a path that names no pipe");
-    wulgach_standing_behind_path(&file, true);
+    wulgach_standing_after_path(&file, true);
     demand(file.is_stream && file.has_found_buffer, "one that names a pipe");
     demand(wulgach_asks_writer(&reads, 0, 3) && !wulgach_asks_writer(&reads, 0, -2) && !wulgach_asks_writer(&writes, 0, 3), "whose writer is asked for");
     demand(wulgach_opening_waits(&writes, 0, -6, false) && !wulgach_opening_waits(&writes, 0, 3, false) && wulgach_opening_waits(&reads, 1, 3, false) && !wulgach_opening_waits(&reads, 0, 3, true) && !wulgach_opening_waits(&reads, 0, -2, false), "which open waits");
@@ -287,8 +287,8 @@ static void ask_descriptors(void)
     demand(LOCKING(.tries = 20, .came_to = -11) == WULGACH_LOCKING_YIELDS && LOCKING(.tries = 21, .came_to = -13) == WULGACH_LOCKING_PAUSES && LOCKING(.tries = 2000, .came_to = -11) == WULGACH_LOCKING_GOES_WITHOUT && LOCKING(.tries = 1, .came_to = -11, .is_of_others = true) == WULGACH_LOCKING_GOES_WITHOUT, "one that another has");
     demand(!wulgach_asked_flags(false, 2, &flags) && !wulgach_asked_flags(true, O_NONBLOCK | 2, &flags) && flags == 7, "what isn't to wait anyway");
     demand(wulgach_asked_flags(true, O_APPEND | 2, &flags) && flags == (O_APPEND | O_NONBLOCK | 2), "what is asked");
-    demand(!wulgach_flags_behind(false, true, O_NONBLOCK, &flags) && !wulgach_flags_behind(true, false, O_NONBLOCK, &flags) && !wulgach_flags_behind(true, true, 2, &flags) && flags == (O_APPEND | O_NONBLOCK | 2), "what isn't taken back");
-    demand(wulgach_flags_behind(true, true, flags, &flags) && flags == (O_APPEND | 2), "what is taken back");
+    demand(!wulgach_flags_after(false, true, O_NONBLOCK, &flags) && !wulgach_flags_after(true, false, O_NONBLOCK, &flags) && !wulgach_flags_after(true, true, 2, &flags) && flags == (O_APPEND | O_NONBLOCK | 2), "what isn't taken back");
+    demand(wulgach_flags_after(true, true, flags, &flags) && flags == (O_APPEND | 2), "what is taken back");
 }
 
 static void look_at_results(void)
@@ -307,16 +307,16 @@ static void look_at_results(void)
     demand(wulgach_shut_result(&read, -11, true, false) == 0 && wulgach_shut_result(&read, -11, false, false) == -11 && wulgach_shut_result(&read, 5, true, false) == 5, "a socket that was shut down");
     demand(wulgach_shut_result(&read, -11, true, true) == -11 && wulgach_shut_result(&receive, -11, true, true) == -11 && wulgach_shut_result(&hasty, -11, true, true) == 0, "one that isn't to wait");
     struct wulgach_submission reads_on = {.opcode = 49, .off = 4096}, without_offset = {.opcode = 49, .off = UINT64_MAX};
-    demand(wulgach_offset_behind(&reads_on, 16) == 4112 && wulgach_offset_behind(&reads_on, -11) == 4096 && wulgach_offset_behind(&without_offset, 16) == UINT64_MAX && wulgach_offset_behind(&read, 16) == 0, "where a read that goes on reads next");
+    demand(wulgach_offset_after(&reads_on, 16) == 4112 && wulgach_offset_after(&reads_on, -11) == 4096 && wulgach_offset_after(&without_offset, 16) == UINT64_MAX && wulgach_offset_after(&read, 16) == 0, "where a read that goes on reads next");
     demand(wulgach_takes_for_nothing(22) && !wulgach_takes_for_nothing(49) && !wulgach_takes_for_nothing(27), "what takes a buffer at the end of its file");
     demand(wulgach_placed_result(UINT32_MAX, 7) == 7 && wulgach_placed_result(8, 7) == 0, "a file for any slot, and for one");
     struct wulgach_submission sends = {.opcode = 9}, receives = {.opcode = 10}, splice = {.opcode = 30};
     demand(wulgach_control_of(&sends, 24, 0) == 24 && wulgach_control_of(&sends, 24, 5) == 0 && wulgach_control_of(&receives, 24, 5) == 24, "control data");
     demand(wulgach_moved_so_far(&sends, 5) == 5 && wulgach_moved_so_far(&receives, 1ull << 40) == INT32_MAX && wulgach_moved_so_far(&splice, 1) == 0, "what was moved so far");
     demand(wulgach_done_result(&(struct wulgach_submission){.opcode = 10}, 7, 30) == 7 && wulgach_done_result(&(struct wulgach_submission){.opcode = 10, .ioprio = 2}, 7, 30) == 30 && wulgach_done_result(&(struct wulgach_submission){.opcode = 27, .ioprio = 2}, 7, 30) == 7 && wulgach_done_result(&(struct wulgach_submission){.opcode = 26}, 1ull << 40, 0) == INT32_MAX, "what was moved");
-    demand(wulgach_signal_behind(&(struct wulgach_submission){.opcode = 23}, -27) == SIGXFSZ && wulgach_signal_behind(&(struct wulgach_submission){.opcode = 17}, -27) == SIGXFSZ && wulgach_signal_behind(&splice, -27) == SIGXFSZ && wulgach_signal_behind(&(struct wulgach_submission){.opcode = 22}, -27) == 0 && wulgach_signal_behind(&(struct wulgach_submission){.opcode = 23}, -28) == 0, "what may bring a signal");
+    demand(wulgach_signal_after(&(struct wulgach_submission){.opcode = 23}, -27) == SIGXFSZ && wulgach_signal_after(&(struct wulgach_submission){.opcode = 17}, -27) == SIGXFSZ && wulgach_signal_after(&splice, -27) == SIGXFSZ && wulgach_signal_after(&(struct wulgach_submission){.opcode = 22}, -27) == 0 && wulgach_signal_after(&(struct wulgach_submission){.opcode = 23}, -28) == 0, "what may bring a signal");
     struct wulgach_submission put_off = {.opcode = 23, .flags = 16}, write = {.opcode = 23};
-    demand(wulgach_signal_behind(&splice, -32) == SIGPIPE && wulgach_signal_behind(&put_off, -32) == SIGPIPE && wulgach_signal_behind(&write, -32) == 0, "what breaks a pipe unheard");
+    demand(wulgach_signal_after(&splice, -32) == SIGPIPE && wulgach_signal_after(&put_off, -32) == SIGPIPE && wulgach_signal_after(&write, -32) == 0, "what breaks a pipe unheard");
     static const struct wulgach_openness open = {.is_open = true}, path = {true, true};
     static const struct wulgach_synced_kind regular = {.is_regular = true}, folder = {.is_folder = true}, pipe = {0};
     demand(wulgach_counts_as_synced(&open, &regular) && wulgach_counts_as_synced(&open, &folder) && !wulgach_counts_as_synced(&open, &pipe) && !wulgach_counts_as_synced(&path, &regular) && !wulgach_counts_as_synced(&(struct wulgach_openness){0}, &regular), "what is synced");

@@ -78,7 +78,7 @@ static void compare(void)
 /* What a cancel comes before. */
 static void order(void)
 {
-    demand(wulgach_is_taken_behind(3, false, false, 4) && !wulgach_is_taken_behind(4, false, false, 3) && !wulgach_is_taken_behind(3, true, false, 4) && !wulgach_is_taken_behind(3, false, true, 4), "what is taken behind a cancel");
+    demand(wulgach_is_taken_after(3, false, false, 4) && !wulgach_is_taken_after(4, false, false, 3) && !wulgach_is_taken_after(3, true, false, 4) && !wulgach_is_taken_after(3, false, true, 4), "what is taken behind a cancel");
 }
 
 int main(void)

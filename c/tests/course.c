@@ -67,10 +67,10 @@ static void time_two(void)
     struct wulgach_member read = {.number = 3, .chain = 3, .entry = {.links = true}}, linked = {.number = 4, .chain = 3, .is_linked = true, .entry = {.is_linked_timeout = true}}, plain = {.number = 9, .chain = 9};
     demand(wulgach_is_timeout(11) && !wulgach_is_timeout(15) && wulgach_is_linked_timeout(15) && !wulgach_is_linked_timeout(11) && !wulgach_is_timeout(12), "which are timeouts");
     demand(wulgach_is_timed(11) && wulgach_is_timed(15) && !wulgach_is_timed(12), "what is timed");
-    demand(wulgach_timing_behind_start(&linked, &read, false) == WULGACH_TIMING_BEGINS && wulgach_timing_behind_start(&linked, &linked, false) == WULGACH_TIMING_STAYS, "a linked timeout");
-    demand(wulgach_timing_behind_start(&plain, &plain, false) == WULGACH_TIMING_BEGINS && wulgach_timing_behind_start(&plain, &plain, true) == WULGACH_TIMING_STAYS, "another, and one that a cancel has found");
-    demand(wulgach_timing_behind_end(&linked, &read) == WULGACH_TIMING_STOPS && wulgach_timing_behind_end(&linked, &linked) == WULGACH_TIMING_STOPS && wulgach_timing_behind_end(&linked, &plain) == WULGACH_TIMING_STAYS, "an end");
-    demand(wulgach_timing_behind_finding(&plain, &plain) == WULGACH_TIMING_STOPS && wulgach_timing_behind_finding(&linked, &linked) == WULGACH_TIMING_STAYS, "a cancel");
+    demand(wulgach_timing_after_start(&linked, &read, false) == WULGACH_TIMING_BEGINS && wulgach_timing_after_start(&linked, &linked, false) == WULGACH_TIMING_STAYS, "a linked timeout");
+    demand(wulgach_timing_after_start(&plain, &plain, false) == WULGACH_TIMING_BEGINS && wulgach_timing_after_start(&plain, &plain, true) == WULGACH_TIMING_STAYS, "another, and one that a cancel has found");
+    demand(wulgach_timing_after_end(&linked, &read) == WULGACH_TIMING_STOPS && wulgach_timing_after_end(&linked, &linked) == WULGACH_TIMING_STOPS && wulgach_timing_after_end(&linked, &plain) == WULGACH_TIMING_STAYS, "an end");
+    demand(wulgach_timing_after_finding(&plain, &plain) == WULGACH_TIMING_STOPS && wulgach_timing_after_finding(&linked, &linked) == WULGACH_TIMING_STAYS, "a cancel");
     demand(wulgach_is_one_chain(&read, &linked) && !wulgach_is_one_chain(&read, &plain), "one chain");
 }
 
@@ -145,9 +145,9 @@ static void judge_results(void)
     demand(wulgach_has_succeeded(&shutdown, &plainly, true, -107) && !wulgach_has_succeeded(&shutdown, &plainly, true, -88) && !wulgach_has_succeeded(&advice, &plainly, true, -22), "a socket, and an advice");
     demand(wulgach_completion_flags(WULGACH_PART_EVENT, 1) == 3 && wulgach_completion_flags(WULGACH_PART_SENT, 0) == 2 && wulgach_completion_flags(WULGACH_PART_NOTICE, 0) == 8, "more follow, or memory is free");
     demand(wulgach_completion_flags(WULGACH_PART_OWN, 1) == 1, "an end");
-    demand(wulgach_untold_behind(WULGACH_PART_EVENT, 65537) == 0 && wulgach_untold_behind(WULGACH_PART_OWN, 65537) == 0 && wulgach_untold_behind(WULGACH_PART_SENT, 65537) == 65537, "a buffer that was told");
-    demand(wulgach_behind_try(false, true) == 1 << WULGACH_TRIED_WAITS && wulgach_behind_try(false, false) == 1 << WULGACH_TRIED_ASKS_GOING_ON, "behind what would wait, and what came to a result");
-    demand(wulgach_behind_try(true, true) == (1 << WULGACH_TRIED_LOOKS_AFRESH | 1 << WULGACH_TRIED_WAITS), "behind what makes others ready");
+    demand(wulgach_untold_after(WULGACH_PART_EVENT, 65537) == 0 && wulgach_untold_after(WULGACH_PART_OWN, 65537) == 0 && wulgach_untold_after(WULGACH_PART_SENT, 65537) == 65537, "a buffer that was told");
+    demand(wulgach_after_try(false, true) == 1 << WULGACH_TRIED_WAITS && wulgach_after_try(false, false) == 1 << WULGACH_TRIED_ASKS_GOING_ON, "behind what would wait, and what came to a result");
+    demand(wulgach_after_try(true, true) == (1 << WULGACH_TRIED_LOOKS_AFRESH | 1 << WULGACH_TRIED_WAITS), "behind what makes others ready");
     struct wulgach_ended_early faulty = {.is_faulty = true, .fault = -14}, cancel = {.is_cancel = true, .has_cancelled = true}, late = {.is_cancel = true};
     struct wulgach_ended_early fired = {.is_linked_timeout = true, .has_fired = true}, idle = {.is_linked_timeout = true};
     demand(wulgach_shown_of(&faulty, -22) == -14 && wulgach_shown_of(&faulty, -125) == -125, "an entry with a fault");
@@ -156,17 +156,17 @@ static void judge_results(void)
     demand(wulgach_shown_of(&fired, -125) == -62 && wulgach_shown_of(&idle, -125) == -125 && wulgach_shown_of(&idle, -22) == -22, "a linked timeout's end");
 }
 
-static void look_behind_cancels(void)
+static void look_after_cancels(void)
 {
     struct wulgach_ended_cancel cancel = {.is_cancel = true, .has_next = true, .linux_rules = true}, other = {.has_next = true, .linux_rules = true};
-    demand(wulgach_sought_behind(&cancel, -114) == WULGACH_SEEKS_RUNNING && wulgach_sought_behind(&other, -114) == WULGACH_SEEKS_NO_MORE, "what runs");
-    demand(wulgach_sought_behind(&cancel, -2) == WULGACH_SEEKS_NEXT && wulgach_sought_behind(&other, -2) == WULGACH_SEEKS_NO_MORE, "what could start");
+    demand(wulgach_sought_after(&cancel, -114) == WULGACH_SEEKS_RUNNING && wulgach_sought_after(&other, -114) == WULGACH_SEEKS_NO_MORE, "what runs");
+    demand(wulgach_sought_after(&cancel, -2) == WULGACH_SEEKS_NEXT && wulgach_sought_after(&other, -2) == WULGACH_SEEKS_NO_MORE, "what could start");
     cancel.has_looked = true;
-    demand(wulgach_sought_behind(&cancel, -114) == WULGACH_SEEKS_NO_MORE && wulgach_sought_behind(&cancel, -2) == WULGACH_SEEKS_NEXT, "what comes behind those that run");
+    demand(wulgach_sought_after(&cancel, -114) == WULGACH_SEEKS_NO_MORE && wulgach_sought_after(&cancel, -2) == WULGACH_SEEKS_NEXT, "what comes behind those that run");
     cancel.linux_rules = false;
-    demand(wulgach_sought_behind(&cancel, -2) == WULGACH_SEEKS_NO_MORE, "by the manual pages' rules");
+    demand(wulgach_sought_after(&cancel, -2) == WULGACH_SEEKS_NO_MORE, "by the manual pages' rules");
     cancel.linux_rules = cancel.has_cancelled = true;
-    demand(wulgach_sought_behind(&cancel, -2) == WULGACH_SEEKS_NO_MORE, "one is cancelled");
+    demand(wulgach_sought_after(&cancel, -2) == WULGACH_SEEKS_NO_MORE, "one is cancelled");
 }
 
 static void link_requests(void)
@@ -193,7 +193,7 @@ int main(void)
     notify();
     show_ends();
     judge_results();
-    look_behind_cancels();
+    look_after_cancels();
     link_requests();
     printf("course: as called for\n");
     return 0;

@@ -252,8 +252,8 @@ static void do_duties(void)
     }
     check(at_return(&quiet) == LAST && at_return(&busy) == (FOUND | FILES | PIPES | DORMANT | ENDS | READINESS | LAST), "as it returns");
     check(wulgach_duties_before(0, true) == APPLICATION && wulgach_duties_before(22, true) == (ENDS | APPLICATION) && wulgach_duties_before(22, false) == APPLICATION, "before an operation");
-    check(wulgach_duties_before_posting() == APPLICATION && wulgach_duties_behind_posting(false, false) == 0 && wulgach_duties_behind_posting(true, true) == (ENDS | READINESS), "where completions are posted");
-    check(wulgach_duties_behind_storing(0) == LAST && wulgach_duties_behind_storing(3) == (LAST | BIT(WULGACH_TELLS_EVENTFD)) && LAST < BIT(WULGACH_TELLS_EVENTFD), "where completions were stored");
+    check(wulgach_duties_before_posting() == APPLICATION && wulgach_duties_after_posting(false, false) == 0 && wulgach_duties_after_posting(true, true) == (ENDS | READINESS), "where completions are posted");
+    check(wulgach_duties_after_storing(0) == LAST && wulgach_duties_after_storing(3) == (LAST | BIT(WULGACH_TELLS_EVENTFD)) && LAST < BIT(WULGACH_TELLS_EVENTFD), "where completions were stored");
     check(FIRST < TIME && BIT(WULGACH_LOOKS_AFRESH) < BIT(WULGACH_HEARS_PIPES) && FOUND < NEW && NEW < FILES && FILES < PIPES && PIPES < DORMANT && DORMANT < ENDS && ENDS < READINESS && ENDS < APPLICATION && READINESS < LAST, "their order");
     check(wulgach_polls_writes(1) && !wulgach_polls_writes(0), "a sleep beside pipes");
     check(wulgach_polls_instance(1) && !wulgach_polls_instance(0), "a sleep beside those that are dormant");

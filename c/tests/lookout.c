@@ -110,8 +110,8 @@ static void ask_again(void)
     demand(wulgach_steps_at_start(&receive, 64, true) == (EARLIER | TIME) && wulgach_steps_at_start(&receive, 64, false) == (EARLIER | OWN | TIME) && EARLIER < OWN && OWN < TIME && TIME < UP && UP < EVENTS && EVENTS < LOOKS && LOOKS < BUFFER, "what is done as one starts");
     demand(wulgach_lets_start(WULGACH_MAY_START) && wulgach_lets_start(WULGACH_DOOMED) && !wulgach_lets_start(WULGACH_WAITS) && !wulgach_lets_start(WULGACH_RUNS) && !wulgach_lets_start(WULGACH_HAS_ENDED) && !wulgach_lets_start(WULGACH_NEVER_ACCEPTED), "whom the core lets start");
     demand(wulgach_steps_at_start(&open, 64, true) == (EARLIER | TIME | UP) && wulgach_steps_at_start(&open, 0, true) == (EARLIER | TIME), "a path is looked up");
-    demand(wulgach_steps_behind_files(&none, &(struct wulgach_needs){.is_poll = true}, 0) == EVENTS && wulgach_steps_behind_files(&stream, &(struct wulgach_needs){.is_poll = true}, -9) == LOOKS && wulgach_steps_behind_files(&none, &no_needs, 0) == 0, "a poll that hasn't failed asks for its events");
-    demand(wulgach_steps_behind_files(&stream, &(struct wulgach_needs){.selects = true}, 0) == (LOOKS | BUFFER) && wulgach_steps_behind_files(&none, &(struct wulgach_needs){.selects = true}, 0) == 0, "and what may wait looks for its buffer");
+    demand(wulgach_steps_after_files(&none, &(struct wulgach_needs){.is_poll = true}, 0) == EVENTS && wulgach_steps_after_files(&stream, &(struct wulgach_needs){.is_poll = true}, -9) == LOOKS && wulgach_steps_after_files(&none, &no_needs, 0) == 0, "a poll that hasn't failed asks for its events");
+    demand(wulgach_steps_after_files(&stream, &(struct wulgach_needs){.selects = true}, 0) == (LOOKS | BUFFER) && wulgach_steps_after_files(&none, &(struct wulgach_needs){.selects = true}, 0) == 0, "and what may wait looks for its buffer");
     demand(!wulgach_lies_down(&stream, &(struct wulgach_needs){.selects = true}, &runs, true, false) && !wulgach_lies_down(&stream, &(struct wulgach_needs){.is_timeout = true}, &runs, true, false) && !wulgach_lies_down(&stream, &(struct wulgach_needs){.needs_second = true}, &runs, true, false), "and one that doesn't");
     wulgach_waiter_waits(&other, &lookout);
     demand(ask(&other, &lookout, &ready) == WULGACH_LOOK_WAITS, "one that would have waited");
@@ -263,7 +263,7 @@ static void sleep_for_requests(void)
 
 static void sleep_or_not(void)
 {
-    demand(wulgach_fires_behind(&(struct wulgach_waited){0}) && wulgach_fires_behind(&(struct wulgach_waited){.result = 2}) && !wulgach_fires_behind(&(struct wulgach_waited){.result = -4}) && !wulgach_fires_behind(&(struct wulgach_waited){.is_never = true}), "behind which sleep a timeout fires");
+    demand(wulgach_fires_after(&(struct wulgach_waited){0}) && wulgach_fires_after(&(struct wulgach_waited){.result = 2}) && !wulgach_fires_after(&(struct wulgach_waited){.result = -4}) && !wulgach_fires_after(&(struct wulgach_waited){.is_never = true}), "behind which sleep a timeout fires");
     demand(wulgach_sleep_next(WULGACH_SLEEP_AT_FIRST, true, -14) == WULGACH_LETS_OTHERS_GO && wulgach_sleep_next(WULGACH_LETS_OTHERS_GO, true, -14) == WULGACH_SLEEP_WAKES && wulgach_sleep_next(WULGACH_LETS_OTHERS_GO, false, 0) == WULGACH_READS_MASK && wulgach_sleep_next(WULGACH_READS_MASK, true, -14) == WULGACH_DOES_DUTIES, "what comes before a sleep");
     demand(wulgach_sleep_next(WULGACH_DOES_DUTIES, true, -14) == WULGACH_SLEEP_FAILS && wulgach_sleep_next(WULGACH_DOES_DUTIES, true, 0) == WULGACH_SLEEP_WAKES && wulgach_sleep_next(WULGACH_DOES_DUTIES, false, 0) == WULGACH_SLEEPS, "whether a sleep begins");
     demand(wulgach_sleep_came_to(2, false) == 2 && wulgach_sleep_came_to(-12, false) == -12 && wulgach_sleep_came_to(2, true) == -4, "a child leaves a sleep");
@@ -365,9 +365,9 @@ static void miss(void)
 static void follow(void)
 {
     const uint32_t always = BIT(WULGACH_END_KEEPS) | BIT(WULGACH_END_COUNTS) | BIT(WULGACH_END_STOPS_TIMEOUT) | BIT(WULGACH_END_LOOKS_AT_COUNTS) | BIT(WULGACH_END_LOOKS_BEHIND) | BIT(WULGACH_END_LETS_START) | BIT(WULGACH_END_LEAVES) | BIT(WULGACH_END_HAS_ENDS);
-    demand(wulgach_duties_behind_end(false, false, false, false) == always, "behind each end");
-    demand(wulgach_duties_behind_end(true, false, false, false) == (always | BIT(WULGACH_END_UNWATCHES)) && wulgach_duties_behind_end(false, true, false, false) == (always | BIT(WULGACH_END_UNWATCHES)), "behind that of one with a file");
-    demand(wulgach_duties_behind_end(false, false, true, false) == (always | BIT(WULGACH_END_FORGETS)) && wulgach_duties_behind_end(false, false, false, true) == (always | BIT(WULGACH_END_ENDS_DRAIN)), "behind others");
+    demand(wulgach_duties_after_end(false, false, false, false) == always, "behind each end");
+    demand(wulgach_duties_after_end(true, false, false, false) == (always | BIT(WULGACH_END_UNWATCHES)) && wulgach_duties_after_end(false, true, false, false) == (always | BIT(WULGACH_END_UNWATCHES)), "behind that of one with a file");
+    demand(wulgach_duties_after_end(false, false, true, false) == (always | BIT(WULGACH_END_FORGETS)) && wulgach_duties_after_end(false, false, false, true) == (always | BIT(WULGACH_END_ENDS_DRAIN)), "behind others");
 }
 
 int main(void)

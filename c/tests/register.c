@@ -293,8 +293,8 @@ static void know_threads(void)
     wulgach_enrolled_begin(rows, 16);
     wulgach_enroll(rows, 16, 3, 7);
     demand(wulgach_enrolled_named(rows, 16, false, 3, &fd) == -22 && wulgach_enrolled_named(rows, 16, false, 4, &fd) == -22 && fd == 99, "numbers of a thread that isn't known");
-    demand(wulgach_known_behind(0, 5, WULGACH_SETS_UP, 0, true) == 5 && wulgach_known_behind(4, 5, WULGACH_ENROLLS, 0, false) == 5 && wulgach_known_behind(4, 5, WULGACH_CALLS, 1, false) == 5, "what makes one known");
-    demand(wulgach_known_behind(4, 5, WULGACH_CALLS, 0, false) == 4 && wulgach_known_behind(0, 5, WULGACH_CALLS, 9, true) == 0 && wulgach_known_behind(4, 5, 99, 1, false) == 4, "what doesn't");
+    demand(wulgach_known_after(0, 5, WULGACH_SETS_UP, 0, true) == 5 && wulgach_known_after(4, 5, WULGACH_ENROLLS, 0, false) == 5 && wulgach_known_after(4, 5, WULGACH_CALLS, 1, false) == 5, "what makes one known");
+    demand(wulgach_known_after(4, 5, WULGACH_CALLS, 0, false) == 4 && wulgach_known_after(0, 5, WULGACH_CALLS, 9, true) == 0 && wulgach_known_after(4, 5, 99, 1, false) == 4, "what doesn't");
     demand(wulgach_is_known(5, 5) && !wulgach_is_known(4, 5) && !wulgach_is_known(0, 5), "where it is");
     demand(wulgach_dismissed_rows(true, 9) == 9 && wulgach_dismissed_rows(false, 9) == 0, "rows that are taken");
     demand(!wulgach_enrolled_go(3, 4) && wulgach_enrolled_go(4, 4), "in which round its rings go");
@@ -309,7 +309,7 @@ static void go_through_set_ups(void)
     demand(wulgach_ring_fate(false, 0, true, false) == WULGACH_RING_STAYS && wulgach_ring_fate(true, 1, true, false) == WULGACH_RING_STAYS && wulgach_ring_fate(true, 0, false, false) == WULGACH_RING_ASKS, "rings that stay");
     demand(wulgach_ring_fate(true, 0, true, true) == WULGACH_RING_STAYS && wulgach_ring_fate(true, 0, true, false) == WULGACH_RING_GOES, "one that goes");
     demand(wulgach_may_name_ring_of(5, 5) && !wulgach_may_name_ring_of(4, 5), "whose ring a descriptor names");
-    demand(wulgach_looked_at_before_sleep() == 8 && wulgach_looked_at_behind(true, 1, 0) == WULGACH_ALL_RINGS && wulgach_looked_at_behind(false, 2, 10000000) == 8 && wulgach_looked_at_behind(false, 2, 9999999) == 0 && wulgach_looked_at_behind(false, 1, UINT64_MAX) == 0, "how many are looked at");
+    demand(wulgach_looked_at_before_sleep() == 8 && wulgach_looked_at_after(true, 1, 0) == WULGACH_ALL_RINGS && wulgach_looked_at_after(false, 2, 10000000) == 8 && wulgach_looked_at_after(false, 2, 9999999) == 0 && wulgach_looked_at_after(false, 1, UINT64_MAX) == 0, "how many are looked at");
     demand(wulgach_tries_rings_again(0) && wulgach_tries_rings_again(99) && !wulgach_tries_rings_again(100), "how often in a handler");
     demand(wulgach_asks_elapsed(false, 2) && !wulgach_asks_elapsed(false, 1) && !wulgach_asks_elapsed(true, 2), "when the time matters");
     demand(wulgach_holding_fault(-1, false) == -9 && wulgach_holding_fault(3, true) == -9 && wulgach_holding_fault(3, false) == 0 && wulgach_telling_fault(true) == 0 && wulgach_telling_fault(false) == -14, "files");

@@ -26,7 +26,7 @@ static void watch(void)
     demand(wulgach_watch_of(&before, false, &after, true) == WULGACH_WATCH_ADDS && wulgach_watch_of(&before, true, &after, false) == WULGACH_WATCH_REMOVES, "one comes or goes");
     wulgach_watched_add(&after, 1, 6);
     demand(wulgach_watch_of(&before, true, &after, true) == WULGACH_WATCH_RENEWS, "another waits");
-    demand(wulgach_watch_adds_behind(-2) && !wulgach_watch_adds_behind(0) && !wulgach_watch_adds_behind(-1), "a number that another file has");
+    demand(wulgach_watch_adds_after(-2) && !wulgach_watch_adds_after(0) && !wulgach_watch_adds_after(-1), "a number that another file has");
     demand(wulgach_enlisted_as(0) == WULGACH_INSTANCE_TELLS && wulgach_enlisted_as(-17) == WULGACH_INSTANCE_TELLS && wulgach_enlisted_as(-1) == WULGACH_IS_READY_AT_ONCE && wulgach_enlisted_as(-9) == WULGACH_IS_READY_AT_ONCE && wulgach_enlisted_as(-40) == WULGACH_INSTANCE_CANT_TELL, "what an instance is given");
     demand(wulgach_polls_besides(0, false) == 0 && wulgach_polls_besides(2, false) == WULGACH_POLLS_WRITES && wulgach_polls_besides(0, true) == WULGACH_POLLS_INSTANCE, "what is polled for besides");
 }

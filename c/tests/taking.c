@@ -84,8 +84,8 @@ static void post(void)
 static void put_off(void)
 {
     for (uint32_t what = WULGACH_SUBMISSION_COMES; what <= WULGACH_END_COMES; what++)
-        demand(wulgach_order_behind(what, false, false) == WULGACH_COMES_NOW && wulgach_order_behind(what, true, false) == WULGACH_POSTS_FIRST, "what was put off comes first");
-    demand(wulgach_order_behind(WULGACH_SUBMISSION_COMES, true, true) == WULGACH_WAITS_BEHIND && wulgach_order_behind(WULGACH_POSTING_COMES, true, true) == WULGACH_WAITS_BEHIND && wulgach_order_behind(WULGACH_END_COMES, true, true) == WULGACH_COMES_NOW, "memory is refused still");
+        demand(wulgach_order_after(what, false, false) == WULGACH_COMES_NOW && wulgach_order_after(what, true, false) == WULGACH_POSTS_FIRST, "what was put off comes first");
+    demand(wulgach_order_after(WULGACH_SUBMISSION_COMES, true, true) == WULGACH_WAITS_BEHIND && wulgach_order_after(WULGACH_POSTING_COMES, true, true) == WULGACH_WAITS_BEHIND && wulgach_order_after(WULGACH_END_COMES, true, true) == WULGACH_COMES_NOW, "memory is refused still");
 }
 
 static void search_and_update(void)

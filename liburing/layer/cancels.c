@@ -82,7 +82,7 @@ static bool look_for(struct ring *ring, struct wulgach_cancel *cancel, const str
     struct wulgach_outstanding seen = seen_of(request);
     if (wulgach_asks_file(&cancel->sought, &seen))
         compare(&seen, request, on);
-    bool is_behind = seeker && wulgach_is_taken_behind(seeker->number, seeker->member.is_linked, seeker->is_draining, request->number);
+    bool is_behind = seeker && wulgach_is_taken_after(seeker->number, seeker->member.is_linked, seeker->is_draining, request->number);
     seen.may_start = wulgach_cancel_asks(cancel, &seen) && !is_behind && can_issue(ring, request->number);
     return wulgach_cancel_sees(cancel, &seen);
 }

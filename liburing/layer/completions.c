@@ -99,7 +99,7 @@ void show(struct ring *ring)
     ring->completions.told = wulgach_shown_overflows(at) ? store_shown(ring) : 0;
     if (wulgach_shown_overflows(at) && !(load_word(&ring->memory.sq->flags) & IORING_SQ_CQ_OVERFLOW))
         note_rule(COMPLETION_OVERFLOWS);
-    do_duties_behind_storing(ring, ring->completions.told);
+    do_duties_after_storing(ring, ring->completions.told);
 }
 
 void show_ends(struct ring *ring)

@@ -337,7 +337,7 @@ static void look_behind_call(void)
     bool may_be_left = __atomic_load_n(&is_left_in_call, __ATOMIC_SEQ_CST);
     uint32_t rings = __atomic_load_n(&ring_count, __ATOMIC_RELAXED);
     uint64_t now = wulgach_asks_elapsed(may_be_left, rings) ? coarse_time() : 0;
-    uint32_t most = wulgach_looked_at_behind(may_be_left, rings, now - __atomic_load_n(&last_look, __ATOMIC_RELAXED));
+    uint32_t most = wulgach_looked_at_after(may_be_left, rings, now - __atomic_load_n(&last_look, __ATOMIC_RELAXED));
     if (most == 0)
         return;
     if (most == WULGACH_ALL_RINGS) {
@@ -380,7 +380,7 @@ __attribute__((noinline)) static void visit_with_messages(struct ring *ring, int
         post_messages(ring);
         is_left = has_messages(ring);
         may_post = is_left && can_post_extra(ring);
-        do_duties_behind_posting(ring);
+        do_duties_after_posting(ring);
         wake_sleepers(ring);
         pthread_mutex_unlock(&ring->lock);
     }

@@ -137,14 +137,14 @@ void do_duties_before_posting(struct ring *ring)
     do_all(ring, wulgach_duties_before_posting());
 }
 
-void do_duties_behind_posting(struct ring *ring)
+void do_duties_after_posting(struct ring *ring)
 {
-    do_all(ring, wulgach_duties_behind_posting(ring->completions.is_behind, ring->ready_fd >= 0));
+    do_all(ring, wulgach_duties_after_posting(ring->completions.is_behind, ring->ready_fd >= 0));
 }
 
-void do_duties_behind_storing(struct ring *ring, uint64_t told)
+void do_duties_after_storing(struct ring *ring, uint64_t told)
 {
-    do_all(ring, wulgach_duties_behind_storing(told));
+    do_all(ring, wulgach_duties_after_storing(told));
 }
 
 void do_duties_before(struct ring *ring, const struct request *request)

@@ -23,10 +23,10 @@ void do_duties_at_register_return(struct ring *ring, uint32_t code);
 
 /* Before a completion is posted that no operation has just ended with, and after those that were posted outside a call. */
 void do_duties_before_posting(struct ring *ring);
-void do_duties_behind_posting(struct ring *ring);
+void do_duties_after_posting(struct ring *ring);
 
 /* After completions that were stored into ring memory, of so many of which an eventfd is told. */
-void do_duties_behind_storing(struct ring *ring, uint64_t told);
+void do_duties_after_storing(struct ring *ring, uint64_t told);
 
 /* Before the operation of a request is carried out. */
 void do_duties_before(struct ring *ring, const struct request *request);

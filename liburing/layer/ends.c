@@ -125,7 +125,7 @@ static void do_duty(struct ring *ring, struct end_of_request *end, enum wulgach_
         look_behind(ring, request);
         return;
     case WULGACH_END_LETS_START:
-        note_issuable_behind(ring, request, end->told);
+        note_issuable_after(ring, request, end->told);
         return;
     case WULGACH_END_ENDS_DRAIN:
         wulgach_drains_end(&ring->drains, true);
@@ -145,18 +145,18 @@ void end_of(struct ring *ring, struct request *request, int32_t res, int32_t tol
     trace_result(ring, request, res);
     note_outcome(request, told);
     struct end_of_request end = {.request = request, .told = told};
-    uint32_t duties = wulgach_duties_behind_end(request->file || request->second_file, request->epoll >= 0, request->standing.is_stream, request->is_draining);
+    uint32_t duties = wulgach_duties_after_end(request->file || request->second_file, request->epoll >= 0, request->standing.is_stream, request->is_draining);
     for (; duties; duties &= duties - 1)
         do_duty(ring, &end, (enum wulgach_end_duty)__builtin_ctz(duties));
 }
 
 /* A request of the core's has ended so: cancels what it has found all the same, if it is a cancel, and says whether there is one. Of a core that has found what no cancel
  * finds the result is put right. */
-static bool cancel_behind(struct ring *ring, const struct request *cancel, struct request *next, int32_t *res)
+static bool cancel_after(struct ring *ring, const struct request *cancel, struct request *next, int32_t *res)
 {
     struct wulgach_ended_cancel ended = {.is_cancel = cancel->mapping == CANCEL, .has_next = next, .linux_rules = ring->is_linux};
     for (;;)
-        switch ((enum wulgach_sought_behind)wulgach_sought_behind(&ended, *res)) {
+        switch ((enum wulgach_sought_after)wulgach_sought_after(&ended, *res)) {
         case WULGACH_SEEKS_RUNNING:
             ended.has_cancelled = cancel_running(ring, wulgach_target_of(submission_of(&cancel->entry)), res);
             ended.has_looked = true;
@@ -176,7 +176,7 @@ int32_t shown_of(struct ring *ring, const struct request *request, struct reques
         .fault = request->fault,
         .is_faulty = request->mapping == REFUSED,
         .is_cancel = request->mapping == CANCEL,
-        .has_cancelled = cancel_behind(ring, request, next, &res),
+        .has_cancelled = cancel_after(ring, request, next, &res),
         .is_linked_timeout = is_linked_timeout(request),
         .has_fired = request->has_fired,
     };

@@ -98,7 +98,7 @@ static void leave_parents_table(void)
 void note_deed(enum wulgach_deed deed, uint32_t to_submit, bool has_thread)
 {
     leave_parents_table();
-    known_in = wulgach_known_behind(known_in, (uint32_t)this_process(), deed, to_submit, has_thread);
+    known_in = wulgach_known_after(known_in, (uint32_t)this_process(), deed, to_submit, has_thread);
 }
 
 static int make_table(void)

@@ -92,7 +92,7 @@ bool comes_now(struct ring *ring, enum wulgach_coming what)
 {
     uint32_t order;
     bool is_refused = false;
-    while ((order = wulgach_order_behind(what, ring->unposted, is_refused)) == WULGACH_POSTS_FIRST)
+    while ((order = wulgach_order_after(what, ring->unposted, is_refused)) == WULGACH_POSTS_FIRST)
         is_refused = !post_unposted(ring);
     return order == WULGACH_COMES_NOW;
 }

@@ -37,7 +37,7 @@ struct request *issuable_at(struct ring *ring, uint32_t place)
     return is_kept(ring) ? kept_ones(ring)->rows[place] : request_of(&ring->requests, nth_issuable(ring, place));
 }
 
-struct request *issuable_behind(struct ring *ring, uint32_t place, const struct request *before)
+struct request *issuable_after(struct ring *ring, uint32_t place, const struct request *before)
 {
     return is_kept(ring) ? issuable_at(ring, place) : request_of(&ring->requests, next_issuable(ring, before ? before->number + 1 : 0));
 }
@@ -97,7 +97,7 @@ void note_issued(struct ring *ring, const struct request *request)
         take_request(&ring->issuable, request);
 }
 
-void note_issuable_behind(struct ring *ring, const struct request *ended, int32_t told)
+void note_issuable_after(struct ring *ring, const struct request *ended, int32_t told)
 {
     if (wulgach_lets_others_start(ring->is_linux, told < 0, ended->mapping == CANCEL))
         forget_all(ring);

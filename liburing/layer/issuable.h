@@ -10,7 +10,7 @@ struct request *issuable_at(struct ring *ring, uint32_t place);
 uint32_t place_of_issuable(struct ring *ring, const struct request *request);
 
 /* As `issuable_at`, of one after the other, of which this stands before it, or NULL. */
-struct request *issuable_behind(struct ring *ring, uint32_t place, const struct request *before);
+struct request *issuable_after(struct ring *ring, uint32_t place, const struct request *before);
 
 /* The least of them, or NULL. */
 struct request *first_issuable(struct ring *ring);
@@ -22,6 +22,6 @@ void note_issuable(struct ring *ring, uint64_t first);
 void note_issued(struct ring *ring, const struct request *request);
 
 /* One has ended, of which the core was told this: what that makes of others. */
-void note_issuable_behind(struct ring *ring, const struct request *ended, int32_t told);
+void note_issuable_after(struct ring *ring, const struct request *ended, int32_t told);
 
 #endif

@@ -57,7 +57,7 @@ void look_for_pipe(struct request *request)
     } else if (fd >= 0) {
         close(fd);
     }
-    wulgach_standing_behind_path(&request->standing, request->has_found_pipe);
+    wulgach_standing_after_path(&request->standing, request->has_found_pipe);
 }
 
 static uint64_t found_flags_of(const struct request *request)
@@ -102,7 +102,7 @@ static void let_wait(int32_t fd)
 {
     int flags = fd >= 0 ? fcntl(fd, F_GETFL) : -1;
     uint32_t behind;
-    if (wulgach_flags_behind(fd >= 0, flags >= 0, (uint32_t)flags, &behind))
+    if (wulgach_flags_after(fd >= 0, flags >= 0, (uint32_t)flags, &behind))
         fcntl(fd, F_SETFL, (int)behind);
 }
 

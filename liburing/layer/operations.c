@@ -283,7 +283,7 @@ static int32_t call_for(struct ring *ring, struct request *request, bool is_half
         shorten(request);
     int32_t res = request->needs.selects ? call_with_buffer(ring, request, is_half) : call_or_wait(ring, request);
     if (res < 0)
-        take_back_signal(wulgach_signal_behind(submission_of(&request->entry), res));
+        take_back_signal(wulgach_signal_after(submission_of(&request->entry), res));
     return res;
 }
 

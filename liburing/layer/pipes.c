@@ -141,7 +141,7 @@ static void wait_by(struct pipes *pipes, struct request *request, int number)
         watch = add_watch(pipes, number);
     pipes->idle -= !watch->polls;
     request->watch = number;
-    request->watched_behind = watch->polls;
+    request->watched_after = watch->polls;
     if (watch->polls)
         watch->polls->watched_before = request;
     watch->polls = request;
@@ -153,14 +153,14 @@ void leave_pipe(struct ring *ring, struct request *request)
     if (!watch)
         return;
     if (request->watched_before)
-        request->watched_before->watched_behind = request->watched_behind;
+        request->watched_before->watched_after = request->watched_after;
     else
-        watch->polls = request->watched_behind;
-    if (request->watched_behind)
-        request->watched_behind->watched_before = request->watched_before;
+        watch->polls = request->watched_after;
+    if (request->watched_after)
+        request->watched_after->watched_before = request->watched_before;
     ring->pipes.idle += !watch->polls;
     request->watch = 0;
-    request->watched_before = request->watched_behind = NULL;
+    request->watched_before = request->watched_after = NULL;
 }
 
 /* Sees that each running poll has its watch: a dormant one had it before. Those that were submitted together wait for the same pipe, mostly. */
@@ -214,7 +214,7 @@ static void tell(struct ring *ring, struct request *request, bool is_there)
 static bool tell_of_write(struct ring *ring, const struct watch *watch)
 {
     bool is_known = false, is_there = false;
-    for (struct request *request = watch->polls; request; request = request->watched_behind) {
+    for (struct request *request = watch->polls; request; request = request->watched_after) {
         struct wulgach_pipe_poll seen = seen_of(request);
         uint32_t telling;
         while ((telling = wulgach_telling_of(&seen, (uint32_t)watch->number, is_known)) == WULGACH_TELLING_ASKS) {

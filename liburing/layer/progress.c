@@ -56,7 +56,7 @@ bool can_finish(struct ring *ring, struct request *request)
 }
 
 /* Whether a request goes on after this result. */
-static bool goes_on_behind(const struct ring *ring, const struct request *request, int32_t res)
+static bool goes_on_after(const struct ring *ring, const struct request *request, int32_t res)
 {
     return wulgach_goes_on(&ring->completions.at, request->needs.goes_on, submission_of(&request->entry), request->done, comes_of_ring(ring, request), res, ring->memory.cq_entries);
 }
@@ -78,13 +78,13 @@ static void note_vain(struct ring *ring, struct request *request)
 /* Whether an operation has brought something and goes on: then that is told. */
 static bool brings_event(struct ring *ring, struct request *request, int32_t res)
 {
-    if (!goes_on_behind(ring, request, res))
+    if (!goes_on_after(ring, request, res))
         return false;
     note_fact(request, WULGACH_FACT_WENT_ON, 0);
     note_poll_event(ring, request);
     post_event(ring, request, res, WULGACH_PART_EVENT);
-    request->flags = wulgach_untold_behind(WULGACH_PART_EVENT, request->flags);
-    request->entry.off = wulgach_offset_behind(submission_of(&request->entry), res);
+    request->flags = wulgach_untold_after(WULGACH_PART_EVENT, request->flags);
+    request->entry.off = wulgach_offset_after(submission_of(&request->entry), res);
     return true;
 }
 
@@ -112,7 +112,7 @@ static bool try_operation(struct ring *ring, struct request *request, int32_t *r
     *res = carry_out(ring, request, injected(ring, request));
     log_carried(ring, request, *res);
     bool ends = false;
-    for (uint32_t duties = wulgach_behind_try(request->needs.can_make_ready, *res == WOULD_WAIT); duties; duties &= duties - 1)
+    for (uint32_t duties = wulgach_after_try(request->needs.can_make_ready, *res == WOULD_WAIT); duties; duties &= duties - 1)
         ends = do_try_duty(ring, request, *res, (enum wulgach_tried_duty)__builtin_ctz(duties));
     if (!ends)
         return false;
@@ -225,7 +225,7 @@ static void start(struct ring *ring, struct request *request)
     wulgach_lookout_starts(&ring->lookout, insert_request(&ring->running, request));
     do_steps(ring, request, wulgach_steps_at_start(submission_of(&request->entry), how_flags(request), request->is_assigned));
     log_start(ring, request);
-    do_steps(ring, request, wulgach_steps_behind_files(&request->standing, &request->needs, request->started));
+    do_steps(ring, request, wulgach_steps_after_files(&request->standing, &request->needs, request->started));
     note_running(ring, request);
 }
 

@@ -170,7 +170,7 @@ static void watch_change(struct ring *ring, const struct watched *before, struct
         watch(ring, EPOLL_CTL_DEL, before);
         return;
     case WULGACH_WATCH_RENEWS:
-        if (wulgach_watch_adds_behind(watch(ring, EPOLL_CTL_MOD, after)))
+        if (wulgach_watch_adds_after(watch(ring, EPOLL_CTL_MOD, after)))
             add_watched(ring, after);
         return;
     default:

@@ -71,7 +71,7 @@ struct request {
     bool is_message;                /* one of the layer's own, which tells of a message or of a tag: no call has submitted it */
     bool is_of_pipe;                /* a poll for what a pipe has to be read: */
     int watch;                      /* the number by which writes to that are told, or 0, */
-    struct request *watched_before, *watched_behind;    /* and the polls that stand beside it among those of the same number, or NULL */
+    struct request *watched_before, *watched_after;    /* and the polls that stand beside it among those of the same number, or NULL */
     int epoll;                      /* what tells of the events of a poll that goes on; or negative */
     /* What the entry points to, copied when it is submitted: the application may reuse it at once. */
     struct iovec *vectors, one;     /* (one stands here) */

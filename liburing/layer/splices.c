@@ -8,7 +8,7 @@
 #include <sys/socket.h>
 
 /* What is polled where what it reads from was found ready, or wasn't. */
-static struct pollfd poll_behind(const struct request *request, bool is_source_ready)
+static struct pollfd poll_after(const struct request *request, bool is_source_ready)
 {
     struct wulgach_splice_poll asked;
     wulgach_splice_polls(is_source_ready, &asked);
@@ -17,8 +17,8 @@ static struct pollfd poll_behind(const struct request *request, bool is_source_r
 
 struct pollfd poll_of_splice(const struct request *request)
 {
-    struct pollfd source = poll_behind(request, false);
-    return shows_ready(source) ? poll_behind(request, true) : source;
+    struct pollfd source = poll_after(request, false);
+    return shows_ready(source) ? poll_after(request, true) : source;
 }
 
 /* A number that a socket has, or 0. */
@@ -32,7 +32,7 @@ static uint32_t number_of_socket(int fd, int name)
 bool is_unwilling_splice(const struct request *request)
 {
     struct wulgach_splice_poll asked;
-    wulgach_splice_polls(shows_ready(poll_behind(request, false)), &asked);
+    wulgach_splice_polls(shows_ready(poll_after(request, false)), &asked);
     int fd = asked.is_of_source ? request->second_fd : request->fd, other = asked.is_of_source ? request->fd : request->second_fd;
     struct wulgach_splice_ends ends = {
         .domain = number_of_socket(fd, SO_DOMAIN),

@@ -98,7 +98,7 @@ void note_counts(struct ring *ring)
     ring->is_count_reached = ring->may_count && wulgach_times_reached(&ring->times, ring->timeouts, ring->timeouts_room, &timeout) == 0;
 }
 
-struct request *timeout_behind(const struct ring *ring, const struct request *request)
+struct request *timeout_after(const struct ring *ring, const struct request *request)
 {
     struct request *next = request->member.entry.links ? request_or_none(&ring->requests, request->number + 1) : NULL;
     return next && wulgach_member_limits(&next->member, &request->member) ? next : NULL;
@@ -107,26 +107,26 @@ struct request *timeout_behind(const struct ring *ring, const struct request *re
 /* What happens to a request matters to itself, if it is a timeout, and to the linked one after it. */
 void note_started(struct ring *ring, const struct request *request)
 {
-    const struct request *behind = timeout_behind(ring, request);
+    const struct request *behind = timeout_after(ring, request);
     if (is_timed(request))
-        clock_timeout(ring, request, wulgach_timing_behind_start(&request->member, &request->member, request->course.is_cancelled));
+        clock_timeout(ring, request, wulgach_timing_after_start(&request->member, &request->member, request->course.is_cancelled));
     if (behind)
-        clock_timeout(ring, behind, wulgach_timing_behind_start(&behind->member, &request->member, behind->course.is_cancelled));
+        clock_timeout(ring, behind, wulgach_timing_after_start(&behind->member, &request->member, behind->course.is_cancelled));
 }
 
 void note_found(struct ring *ring, const struct request *request)
 {
     if (is_timed(request))
-        clock_timeout(ring, request, wulgach_timing_behind_finding(&request->member, &request->member));
+        clock_timeout(ring, request, wulgach_timing_after_finding(&request->member, &request->member));
 }
 
 void note_ended(struct ring *ring, const struct request *request)
 {
-    const struct request *behind = timeout_behind(ring, request);
+    const struct request *behind = timeout_after(ring, request);
     if (is_timed(request))
-        clock_timeout(ring, request, wulgach_timing_behind_end(&request->member, &request->member));
+        clock_timeout(ring, request, wulgach_timing_after_end(&request->member, &request->member));
     if (behind)
-        clock_timeout(ring, behind, wulgach_timing_behind_end(&behind->member, &request->member));
+        clock_timeout(ring, behind, wulgach_timing_after_end(&behind->member, &request->member));
 }
 
 /* The running request of a number, dormant or not; or NULL. */

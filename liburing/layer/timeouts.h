@@ -18,7 +18,7 @@ bool reserve_timeouts(struct ring *ring, size_t count);
 int32_t end_timeout(struct ring *ring, const struct request *timeout);
 
 /* The timeout that is linked to a request, or NULL. */
-struct request *timeout_behind(const struct ring *ring, const struct request *request);
+struct request *timeout_after(const struct ring *ring, const struct request *request);
 
 /* A request has started, was found by a cancel, or has ended: what that makes of its time, and of that of a timeout which is linked to it, is
  * the library's decision. */

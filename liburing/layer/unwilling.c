@@ -90,7 +90,7 @@ static void take_back(struct asked asked)
 {
     int flags = asked.is_changed ? fcntl(asked.fd, F_GETFL) : -1;
     uint32_t behind;
-    if (wulgach_flags_behind(asked.is_changed, flags >= 0, (uint32_t)flags, &behind))
+    if (wulgach_flags_after(asked.is_changed, flags >= 0, (uint32_t)flags, &behind))
         fcntl(asked.fd, F_SETFL, (int)behind);
     if (asked.is_locked)
         set_lock(asked.fd, F_UNLCK);

@@ -89,7 +89,7 @@ enum wulgach_reply_kind wait_for_any(struct ring *ring, const struct wulgach_lim
     struct wulgach_wait wait;
     wulgach_times_wait(&ring->times, ring->timeouts, ring->timeouts_room, &sources, deadline, &wait);
     struct wulgach_waited waited = wait_as(ring, &wait, signals);
-    if (wulgach_fires_behind(&waited)) {
+    if (wulgach_fires_after(&waited)) {
         struct wulgach_woken woken;
         wulgach_times_woken(&ring->times, ring->timeouts, ring->timeouts_room, deadline, &woken);
         if (woken.kind == WULGACH_WOKEN_OVER)

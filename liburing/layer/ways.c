@@ -171,7 +171,7 @@ static struct request *highest_way(struct ring *ring, const struct ways *ways)
     }
     struct request *request = NULL;
     for (uint32_t place = 0; place < ways->of.issuable; place++) {
-        request = issuable_behind(ring, place, request);
+        request = issuable_after(ring, place, request);
         look_at_way(&highest, ring, request);
     }
     return highest.way;

@@ -36,7 +36,7 @@ static size_t length_of_names(const uint8_t *at)
     return length;
 }
 
-static size_t length_behind(char kind, const uint8_t *at, bool is_short, bool is_wide)
+static size_t length_after(char kind, const uint8_t *at, bool is_short, bool is_wide)
 {
     size_t number = is_short && !is_wide ? 2 : 4;
     switch (kind) {
@@ -67,7 +67,7 @@ static size_t length_of_vectors(const uint8_t *at)
 {
     size_t prefix = *at == 0xc5 ? 2 : *at == 0xc4 ? 3 : 4;
     char kind = kind_of(*at == 0xc5 ? 1 : at[1] & (*at == 0xc4 ? 31 : 7), at[prefix]);
-    return kind == '-' ? 0 : prefix + 1 + length_behind(kind, at + prefix + 1, false, false);
+    return kind == '-' ? 0 : prefix + 1 + length_after(kind, at + prefix + 1, false, false);
 }
 
 static bool is_prefix(uint8_t byte)
@@ -94,7 +94,7 @@ size_t length_of(const uint8_t *start)
         at += *at == 0x38 || *at == 0x3a;
     }
     at++;
-    return kind == '-' ? 0 : (size_t)(at - start) + length_behind(kind, at, is_short, is_wide);
+    return kind == '-' ? 0 : (size_t)(at - start) + length_after(kind, at, is_short, is_wide);
 }
 
 /* One that can be carried out anywhere, and leaves rax and the stack: a register's value or a number goes into a register, or two are

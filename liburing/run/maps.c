@@ -57,7 +57,7 @@ static void lock_for_fork(void)
     mask_of_fork = before;
 }
 
-static void unlock_behind_fork(void)
+static void unlock_after_fork(void)
 {
     const sigset_t before = mask_of_fork;
     unlock(&before);
@@ -66,7 +66,7 @@ static void unlock_behind_fork(void)
 static void __attribute__((constructor)) hold_in_forks(void)
 {
     if (is_logging())
-        pthread_atfork(lock_for_fork, unlock_behind_fork, unlock_behind_fork);
+        pthread_atfork(lock_for_fork, unlock_after_fork, unlock_after_fork);
 }
 
 static bool is_address(long result)

@@ -284,12 +284,12 @@ static void handlers(void)
     }
 }
 
-static sigjmp_buf behind_sleep;
+static sigjmp_buf after_sleep;
 
 static void jump_in_handler(int number)
 {
     (void)number;
-    siglongjmp(behind_sleep, 1);
+    siglongjmp(after_sleep, 1);
 }
 
 static volatile sig_atomic_t has_left;
@@ -299,7 +299,7 @@ static void *jump_and_wait(void *of)
 {
     static volatile int jumps;
     stack_t signals;
-    if (sigsetjmp(behind_sleep, 1) != 0)
+    if (sigsetjmp(after_sleep, 1) != 0)
         jumps++;
     if (jumps < 3)
         enter(of, 0, 1, NULL);

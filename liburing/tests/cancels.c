@@ -317,7 +317,7 @@ static bool is_in_order(void)
 }
 
 /* What was submitted after a cancel or a removal, also in one call with it, isn't found unless it has started: in order it never has. */
-static void test_behind_a_cancel(void)
+static void test_after_a_cancel(void)
 {
     struct ring ring;
     int32_t results[2];
@@ -389,7 +389,7 @@ int main(int count, char **words)
         {"timeouts", test_timeouts},
         {"cancels", test_cancels},
         {"cancels of any", test_cancels_of_any},
-        {"behind a cancel", test_behind_a_cancel},
+        {"behind a cancel", test_after_a_cancel},
         {"cancel by an unused descriptor", test_cancel_by_unused_descriptor},
         {"cancel by a file", test_cancel_by_file},
         {"cancelled middle", test_cancelled_middle},

@@ -166,7 +166,7 @@ static int make_named(const char *bytes)
     return fd;
 }
 
-static void test_closed_behind_a_submission(void)
+static void test_closed_after_a_submission(void)
 {
     for (unsigned way = 0; way < WAYS; way++) {
         struct ring ring;
@@ -291,7 +291,7 @@ static void test_locks(void)
 }
 
 /* So does one that a splice has waited for. */
-static void test_locks_behind_a_splice(void)
+static void test_locks_after_a_splice(void)
 {
     struct ring ring;
     struct flock lock = {.l_type = F_WRLCK, .l_whence = SEEK_SET};
@@ -316,11 +316,11 @@ int main(int count, char **words)
         {"last end", test_last_end},
         {"kept by a poll", test_kept_by_a_poll},
         {"closed in a sleep", test_closed_in_a_sleep},
-        {"closed behind a submission", test_closed_behind_a_submission},
+        {"closed behind a submission", test_closed_after_a_submission},
         {"closed by an entry", test_closed_by_an_entry},
         {"closed ring", test_closed_ring},
         {"locks", test_locks},
-        {"locks behind a splice", test_locks_behind_a_splice},
+        {"locks behind a splice", test_locks_after_a_splice},
     };
     alarm((unsigned)(PATIENCE * patience()));
     return run_tests(tests, sizeof tests / sizeof *tests, count > 1 ? words[1] : NULL);

@@ -320,7 +320,7 @@ static void *leave_and_stay(void *ring)
 }
 
 /* After its next call such a thread can be cancelled as it could before. */
-static void test_cancelled_behind(void)
+static void test_cancelled_after(void)
 {
     struct waited waited;
     pthread_t thread;
@@ -334,7 +334,7 @@ static void test_cancelled_behind(void)
     expect_gone(&waited);
 }
 
-static void *allow_behind(void *ring)
+static void *allow_after(void *ring)
 {
     int state, type;
     check(pthread_setcancelstate(PTHREAD_CANCEL_DISABLE, NULL) == 0 && pthread_setcanceltype(PTHREAD_CANCEL_ASYNCHRONOUS, NULL) == 0);
@@ -347,13 +347,13 @@ static void *allow_behind(void *ring)
 }
 
 /* A thread that allows it after the jump, in its own time alone, has it so after its next call. */
-static void test_allowed_behind(void)
+static void test_allowed_after(void)
 {
     struct waited waited;
     pthread_t thread;
     make_waited(&waited);
     catch(SIGUSR1, jump, 0);
-    check(pthread_create(&thread, NULL, allow_behind, &waited.ring) == 0 && pthread_join(thread, NULL) == 0);
+    check(pthread_create(&thread, NULL, allow_after, &waited.ring) == 0 && pthread_join(thread, NULL) == 0);
     expect_gone(&waited);
 }
 
@@ -401,8 +401,8 @@ int main(int count, char **words)
         {"other stack", test_other_stack},
         {"stack is gone", test_stack_is_gone},
         {"thread ends", test_thread_ends},
-        {"cancelled behind", test_cancelled_behind},
-        {"allowed behind", test_allowed_behind},
+        {"cancelled behind", test_cancelled_after},
+        {"allowed behind", test_allowed_after},
         {"child jumps", test_child_jumps},
     };
     alarm((unsigned)(PATIENCE * patience()));

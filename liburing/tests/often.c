@@ -144,7 +144,7 @@ static void __attribute__((noinline)) want_registers(const struct ring *ring, ui
     publish(ring, (struct io_uring_sqe){.opcode = IORING_OP_NOP, .user_data = salt});
     call_with_registers(is_whole);
     WANT(memcmp(seen.behind, arguments, sizeof arguments) == 0 && seen.behind[6] == seen.frame && memcmp(seen.behind + 7, others, sizeof others) == 0);
-    WANT(memcmp(seen.vectors, seen.vectors_behind, sizeof seen.vectors) == 0);
+    WANT(memcmp(seen.vectors, seen.vectors_after, sizeof seen.vectors) == 0);
     WANT(reap(ring) == salt);
 }
 

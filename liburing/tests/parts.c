@@ -79,7 +79,7 @@ static void test_parts_in_a_buffer(void)
 }
 
 /* The last completion names the buffer that has a part, if its peer closes, and if a cancel finds it. */
-static void test_end_behind_a_part(void)
+static void test_end_after_a_part(void)
 {
     for (int is_cancelled = 0; is_cancelled < 2; is_cancelled++) {
         struct ring ring;
@@ -104,7 +104,7 @@ static void test_end_behind_a_part(void)
 }
 
 /* What a cancel or a linked timeout ends that has moved bytes tells how many, and breaks its chain all the same. */
-static void test_cancel_behind_a_part(void)
+static void test_cancel_after_a_part(void)
 {
     struct ring ring;
     struct __kernel_timespec soon = {.tv_nsec = 1000000};
@@ -262,8 +262,8 @@ int main(int count, char **words)
 {
     static const struct named tests[] = {
         {"parts in a buffer", test_parts_in_a_buffer},
-        {"end behind a part", test_end_behind_a_part},
-        {"cancel behind a part", test_cancel_behind_a_part},
+        {"end behind a part", test_end_after_a_part},
+        {"cancel behind a part", test_cancel_after_a_part},
         {"cancelled sends", test_cancelled_sends},
         {"cancelled zero copy", test_cancelled_zero_copy},
         {"descriptor passed once", test_descriptor_passed_once},

@@ -105,7 +105,7 @@ int __wrap_epoll_wait(int fd, struct epoll_event *events, int most, int patience
 
 /* Whatever look of a call it is after which a pipe is read that was written to, before the call or in it: the poll ends, and until it has the
  * descriptor is readable. Beside so many that wait it is the same. */
-static void gone_behind_a_look(unsigned others)
+static void gone_after_a_look(unsigned others)
 {
     struct ring ring;
     int ends[2], quiet[2];
@@ -143,10 +143,10 @@ static void gone_behind_a_look(unsigned others)
     close_ring(&ring);
 }
 
-static void test_gone_behind_a_look(void)
+static void test_gone_after_a_look(void)
 {
-    gone_behind_a_look(0);
-    gone_behind_a_look(40);
+    gone_after_a_look(0);
+    gone_after_a_look(40);
 }
 
 /* A sleep that is to begin: it is held until it may. */
@@ -340,7 +340,7 @@ int main(int count, char **words)
 {
     static const struct named tests[] = {
         {"come and gone", test_come_and_gone},
-        {"gone behind a look", test_gone_behind_a_look},
+        {"gone behind a look", test_gone_after_a_look},
         {"heard by another", test_heard_by_another},
         {"two descriptors", test_two_descriptors},
         {"edges", test_edges},

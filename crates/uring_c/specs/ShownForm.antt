@@ -4,8 +4,8 @@ use Rattle.uring_enter.specs.declared.completions.readable.Readable.{Readable}
 use Rattle.uring_enter.specs.declared.completions.readable.Readable.TheVariants as readable
 use Rattle.uring_enter.specs.declared.completions.shot.Part.{Part}
 use Rattle.uring_enter.specs.declared.completions.shot.Part.TheVariants as part
-use Rattle.uring_operations.specs.declared.requests.outcome.SoughtBehind.{SoughtBehind}
-use Rattle.uring_operations.specs.declared.requests.outcome.SoughtBehind.TheVariants as sought
+use Rattle.uring_operations.specs.declared.requests.outcome.SoughtAfter.{SoughtAfter}
+use Rattle.uring_operations.specs.declared.requests.outcome.SoughtAfter.TheVariants as sought
 use Rattle.uring_enter.specs.declared.completions.showing.Store.{Store}
 use Rattle.uring_enter.specs.declared.completions.showing.Store.TheVariants.{Cell, Tail}
 use Rattle.uring_c.specs.declared.calls.shown_exports.StoreWords.{StoreWords}
@@ -28,8 +28,8 @@ word_of_part part.Sent = 1
 word_of_part part.Notice = 2
 word_of_part part.Own = 3
 
--- what a cancel looks for counts in the order of `SoughtBehind`, from 0. Our own rule
-abbrev pub word_of_sought : SoughtBehind → ℕ
+-- what a cancel looks for counts in the order of `SoughtAfter`, from 0. Our own rule
+abbrev pub word_of_sought : SoughtAfter → ℕ
 word_of_sought sought.Running = 0
 word_of_sought sought.Next = 1
 word_of_sought sought.Nothing = 2

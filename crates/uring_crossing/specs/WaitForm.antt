@@ -41,8 +41,8 @@ word_of_look (look.Asks Buffer) = 4
 word_of_look (look.Asks Readiness) = 5
 
 -- what has happened to a request that was asked so: of one that can't be finished, that it was found to wait
-abbrev pub behind_look : List Encounter → ℕ → List Encounter
-behind_look log word = if word == 0 then FoundWaiting ∷ log else log
+abbrev pub after_look : List Encounter → ℕ → List Encounter
+after_look log word = if word == 0 then FoundWaiting ∷ log else log
 
 -- 0 and 1 say whether a descriptor is ready, and 2 that it is to be looked at. Our own rule
 abbrev pub word_of_sighting : Sighting → ℕ

@@ -4,7 +4,7 @@ use Rattle.std.proofs.lemmas.Bool.{false≢true}
 use Rattle.uring_enter.specs.declared.going_on.putting_off.Coming.TheVariants.{Submission, Posting, End}
 use Rattle.uring_enter.specs.declared.going_on.putting_off.Order.{Order}
 use Rattle.uring_enter.specs.declared.going_on.putting_off.Order.TheVariants.{Comes, PostsFirst, Waits}
-use Rattle.uring_enter.specs.GoingOn.PuttingOff.{PutOff, IsPosted, IsRefused, HasCome, is_put_off, is_refused, order_behind, NothingOvertakes, EndsBehindATry}
+use Rattle.uring_enter.specs.GoingOn.PuttingOff.{PutOff, IsPosted, IsRefused, HasCome, is_put_off, is_refused, order_behind, NothingOvertakes, EndsAfterATry}
 
 abbrev is_now : Order → Bool
 is_now Comes = true
@@ -37,5 +37,5 @@ ended true true comes is = refl
 ended true false comes is = absurd (false≢true (ap is_now comes))
 ended false refused comes is = absurd (false≢true is)
 
-pub ends_behind_a_try : EndsBehindATry
-ends_behind_a_try log (run, comes) is = ended (is_put_off log) (is_refused log) comes is
+pub ends_after_a_try : EndsAfterATry
+ends_after_a_try log (run, comes) is = ended (is_put_off log) (is_refused log) comes is

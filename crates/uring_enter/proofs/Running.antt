@@ -53,37 +53,37 @@ few_of true log v is = cc
 few_of false log v is = refl
 
 -- after which replies the application is heard, but for a first time
-heard_behind : (a : Asked) (sight : Sight) (last : Reply) (log : List Reply)
+heard_after : (a : Asked) (sight : Sight) (last : Reply) (log : List Reply)
     → is_reply_to (due a (last ∷ log)) (Heard sight) ≡ true
     → due a (Heard sight ∷ last ∷ log) ≡ command.Sleep → IsInVain a (Heard sight ∷ last ∷ log)
 unfolding sleeps
-heard_behind a s (Stuck t) log answers is = (
+heard_after a s (Stuck t) log answers is = (
   stuck_unless_waiting (λ c. is_reply_to c (Heard s)) (hearing_is_else s) refl a log t answers,
   few_of (is_enough a log s) (Stuck t ∷ log) (pos 0) is,
 )
-heard_behind a s Woken log answers is = absurd (no_sleep _ (going_else sleeps sleeping_is_else a log true s) is)
-heard_behind a s (Heard t) log answers is =
+heard_after a s Woken log answers is = absurd (no_sleep _ (going_else sleeps sleeping_is_else a log true s) is)
+heard_after a s (Heard t) log answers is =
     absurd (against _ (hearing_else (λ c. is_reply_to c (Heard s)) (hearing_is_else s) refl refl a log t) answers)
-heard_behind a s (Taken n t) log answers is =
+heard_after a s (Taken n t) log answers is =
     absurd (against _ (going_else (λ c. is_reply_to c (Heard s)) (hearing_is_else s) a (Taken n t ∷ log) false t) answers)
-heard_behind a s (NotTaken n t) log answers is =
+heard_after a s (NotTaken n t) log answers is =
     absurd (against _ (going_else (λ c. is_reply_to c (Heard s)) (hearing_is_else s) a (NotTaken n t ∷ log) false t) answers)
-heard_behind a s (WentOn t) log answers is =
+heard_after a s (WentOn t) log answers is =
     absurd (against _ (going_else (λ c. is_reply_to c (Heard s)) (hearing_is_else s) a log true t) answers)
-heard_behind a s WrongHead log answers is = cc
-heard_behind a s Chosen log answers is = cc
-heard_behind a s (TimedOut t) log answers is = cc
-heard_behind a s (Interrupted t) log answers is = cc
-heard_behind a s Endless log answers is = cc
-heard_behind a s (Failed n) log answers is = cc
-heard_behind a s Passed log answers is = cc
+heard_after a s WrongHead log answers is = cc
+heard_after a s Chosen log answers is = cc
+heard_after a s (TimedOut t) log answers is = cc
+heard_after a s (Interrupted t) log answers is = cc
+heard_after a s Endless log answers is = cc
+heard_after a s (Failed n) log answers is = cc
+heard_after a s Passed log answers is = cc
 
 pub sleeps_in_vain : SleepsInVain
 unfolding sleeps
 sleeps_in_vain a [] run is = cc
 sleeps_in_vain a (Heard s ∷ []) run is = cc
 sleeps_in_vain a (Heard s ∷ last ∷ log) run is =
-    heard_behind a s last log (and_parts _ _ run).0 is
+    heard_after a s last log (and_parts _ _ run).0 is
 sleeps_in_vain a (Taken n t ∷ log) run is =
     absurd (no_sleep _ (going_else sleeps sleeping_is_else a (Taken n t ∷ log) false t) is)
 sleeps_in_vain a (NotTaken n t ∷ log) run is =

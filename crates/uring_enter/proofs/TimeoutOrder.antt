@@ -37,8 +37,8 @@ later_is_not x y late =
     (le-ltb x.expiry y.expiry (omega arith))
     (and_left (eqb x.expiry y.expiry) (ltb x.number y.number) (ne_eqb x.expiry y.expiry (λ same. omega arith)))
 
-behind_is_not : (x y : Timeout) → y.expiry ≡ x.expiry → y.number ≤ x.number → ends_before x y ≡ false
-behind_is_not x y same behind =
+after_is_not : (x y : Timeout) → y.expiry ≡ x.expiry → y.number ≤ x.number → ends_before x y ≡ false
+after_is_not x y same behind =
     or_from (ltb x.expiry y.expiry) (eqb x.expiry y.expiry && ltb x.number y.number)
     (le-ltb x.expiry y.expiry (omega arith))
     (and_right (eqb x.expiry y.expiry) (ltb x.number y.number) (le-ltb x.number y.number behind))
@@ -52,18 +52,18 @@ before_chain x y z one two = elim (not_before x y one) [
   ]
   | inr same ↦ elim (not_before y z two) [
     | inl later ↦ later_is_not x z (omega (arith, same.0))
-    | inr too ↦ behind_is_not x z (too.0 ∙ same.0) (omega (arith, too.1, same.1))
+    | inr too ↦ after_is_not x z (too.0 ∙ same.0) (omega (arith, too.1, same.1))
   ]
 ]
 
 pub before_one_way : (x y : Timeout) → ends_before x y ≡ true → ends_before y x ≡ false
 before_one_way x y is = elim (before_is x y is) [
   | inl sooner ↦ later_is_not y x sooner
-  | inr same ↦ behind_is_not y x same.0 (omega (arith, same.1))
+  | inr same ↦ after_is_not y x same.0 (omega (arith, same.1))
 ]
 
 pub before_itself : (x : Timeout) → ends_before x x ≡ false
-before_itself x = behind_is_not x x refl (omega arith)
+before_itself x = after_is_not x x refl (omega arith)
 
 pub next_alone : (t : Timeout) → IsNext (t ∷ []) t
 next_alone t = (

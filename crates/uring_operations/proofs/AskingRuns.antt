@@ -3,7 +3,7 @@ use Rattle.std.proofs.Common.{◌≡◌, ℕ, ◌+◌, ◌^◌, ◌<◌, Bool, t
 use Rattle.std.specs.Int.RustNames.{bit_and, bit_or}
 use Rattle.std.proofs.lemmas.Bool.{eqb-true, false≢true}
 use Rattle.std.proofs.lemmas.Nat.{and_comm, and_or_self, or_disjoint, or_lt, and-not}
-use Rattle.uring_operations.specs.Files.Asking.{TakesBackWhatItAsked, flags_behind}
+use Rattle.uring_operations.specs.Files.Asking.{TakesBackWhatItAsked, flags_after}
 
 -- a bit that is set and cleared again leaves the others
 back : (flags : ℕ) → flags < 2 ^ 32 → bit_and flags 2048 ≡ 0 → bit_and (bit_or flags 2048) 4294965247 ≡ flags
@@ -19,7 +19,7 @@ back flags below none =
 is_set : (flags : ℕ) → (bit_and (bit_or flags 2048) 2048 == 0) ≡ false
 is_set flags = ap (λ bits. bits == 0) (and_or_self 2048 flags)
 
-behind : (flags : ℕ) → flags < 2 ^ 32 → bit_and flags 2048 ≡ 0 → flags_behind true true (bit_or flags 2048) ≡ Some flags
+behind : (flags : ℕ) → flags < 2 ^ 32 → bit_and flags 2048 ≡ 0 → flags_after true true (bit_or flags 2048) ≡ Some flags
 behind flags below none =
     ap (λ bits. if not bits then Some (bit_and (bit_or flags 2048) 4294965247) else None) (is_set flags)
     ∙ ap (λ n. Some n) (back flags below none)
@@ -33,9 +33,9 @@ flags_in (Some flags) = flags
 flags_in None = 0
 
 taken_back : (flags asked : ℕ) (is_none : Bool) → flags < 2 ^ 32 → (bit_and flags 2048 == 0) ≡ is_none
-    → (if not (not is_none) then Some (bit_or flags 2048) else None) ≡ Some asked → flags_behind true true asked ≡ Some flags
+    → (if not (not is_none) then Some (bit_or flags 2048) else None) ≡ Some asked → flags_after true true asked ≡ Some flags
 taken_back flags asked true below is was =
-    sym (ap (λ n. flags_behind true true n) (ap flags_in was)) ∙ behind flags below (eqb-true (bit_and flags 2048) 0 is)
+    sym (ap (λ n. flags_after true true n) (ap flags_in was)) ∙ behind flags below (eqb-true (bit_and flags 2048) 0 is)
 taken_back flags asked false below is was = absurd (false≢true (ap is_none_of (sym was)))
 
 pub takes_back_what_it_asked : TakesBackWhatItAsked

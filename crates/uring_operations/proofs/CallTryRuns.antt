@@ -9,7 +9,7 @@ use Rattle.uring_operations.specs.declared.calls.waiting_call.Turn.{Turn}
 use Rattle.uring_operations.specs.declared.calls.waiting_call.Turn.TheVariants.{Does, Waits, Ends, EndsWithDone}
 use Rattle.uring_operations.specs.Entries.Needs.{is_of_sockets}
 use Rattle.uring_operations.specs.Requests.Readiness.{has_message_flags}
-use Rattle.uring_operations.specs.Calls.CallTries.{polls_first, is_asked, is_connected, is_repeated, waits_for_all, would_wait, ends_with, behind, behind_call, behind_connect, behind_message, EndsWithWhatCame, LosesNoBytes}
+use Rattle.uring_operations.specs.Calls.CallTries.{polls_first, is_asked, is_connected, is_repeated, waits_for_all, would_wait, ends_with, behind, behind_call, after_connect, after_message, EndsWithWhatCame, LosesNoBytes}
 use Rattle.uring_entry.specs.Errors.{error}
 
 abbrev end_in : Turn → ℤ
@@ -34,7 +34,7 @@ no_end : (one : Bool) (two three : Turn) (end : ℤ) → has_end two ≡ false �
 no_end true two three end first second is = false≢true (sym first ∙ ap has_end is)
 no_end false two three end first second is = false≢true (sym second ∙ ap has_end is)
 
-message_end : (e : Submission) (c : Call) (res end : ℤ) → behind_message e c res ≡ Ends end → end ≡ res
+message_end : (e : Submission) (c : Call) (res end : ℤ) → after_message e c res ≡ Ends end → end ≡ res
 message_end e c (negsuc below) end is = with_end (has_message_flags e.opcode && not (c.done == 0)) (negsuc below) end is
 message_end e c (pos n) end is = absurd (no_end (not (n == 0) && waits_for_all e c) (Does AsksType) EndsWithDone end refl refl is)
 
@@ -68,7 +68,7 @@ will_end false moved end is = with_end moved (error 11) end is
 pub ends_with_what_came : EndsWithWhatCame
 ends_with_what_came e c None res end is = absurd (no_end (polls_first e c) (Does Polls) (Does Calls) end refl refl is)
 ends_with_what_came e c (Some Calls) res end is =
-    call_end (e.opcode == 16) (is_repeated c res) (int_eq res (error 115) || c.has_begun && int_eq res (error 114)) (is_connected c res) (int_eq res (error 11)) (has_message_flags e.opcode) (would_wait e c) (behind_message e c res) res end
+    call_end (e.opcode == 16) (is_repeated c res) (int_eq res (error 115) || c.has_begun && int_eq res (error 114)) (is_connected c res) (int_eq res (error 11)) (has_message_flags e.opcode) (would_wait e c) (after_message e c res) res end
     (λ would. would_end (is_asked e) (has_message_flags e.opcode && not (c.done == 0)) end would)
     (λ later. message_end e c res end later) is
 ends_with_what_came e c (Some Polls) res end is = absurd (poll_end (e.opcode == 16) (not (int_eq res (pos 0))) end is)
@@ -102,7 +102,7 @@ chosen_end true two three first second = first
 chosen_end false two three first second = second
 
 moved_message : (e : Submission) (c : Call) (res : ℤ) → has_message_flags e.opcode ≡ true → c.done == 0 ≡ false
-    → has_end (behind_message e c res) ≡ false
+    → has_end (after_message e c res) ≡ false
 moved_message e c (negsuc below) one two = moved_end (has_message_flags e.opcode) (c.done == 0) (negsuc below) one two
 moved_message e c (pos n) one two = chosen_end (not (n == 0) && waits_for_all e c) (Does AsksType) EndsWithDone refl refl
 
@@ -121,7 +121,7 @@ pub loses_no_bytes : LosesNoBytes
 loses_no_bytes e c None res end message moved is = absurd (no_end (polls_first e c) (Does Polls) (Does Calls) end refl refl is)
 loses_no_bytes e c (Some Calls) res end message moved is =
     absurd (ends_not (behind_call e c res) end (moved_call (e.opcode == 16) (int_eq res (error 11)) (has_message_flags e.opcode)
-    (behind_connect c res) (would_wait e c) (behind_message e c res) res
+    (after_connect c res) (would_wait e c) (after_message e c res) res
     (no_connect (is_of_sockets e.opcode) (e.opcode == 13) (e.opcode == 16) message) message
     (moved_would (is_asked e) (has_message_flags e.opcode) (c.done == 0) message moved) (moved_message e c res message moved)) is)
 loses_no_bytes e c (Some Polls) res end message moved is = absurd (poll_end (e.opcode == 16) (not (int_eq res (pos 0))) end is)

@@ -3,7 +3,7 @@ use Rattle.std.proofs.Common.{◌≡◌, ℕ, ◌+◌, Bool, true, false, ◌&&�
 use Rattle.std.proofs.lemmas.Bool.{and_parts, false≢true, true≢false}
 use Rattle.std.proofs.lemmas.Bool.Decides.{Decides-eqb}
 use Rattle.uring_operations.specs.declared.chains.member.Member.{Member}
-use Rattle.uring_operations.specs.Chains.Chains.{chain_behind, chain_of, limits}
+use Rattle.uring_operations.specs.Chains.Chains.{chain_after, chain_of, limits}
 use Rattle.uring_operations.specs.Chains.ChainLaws.{LimitsTheOneBefore, LimitsOneAtMost, all_link, ChainsHold, ChainsEnd}
 
 and_true : (x y b : Bool) → b ≡ true → (x && y && b) ≡ (x && y)
@@ -27,11 +27,11 @@ pub limits_one_at_most : LimitsOneAtMost
 limits_one_at_most timeout one other is also =
     omega (arith, number_of timeout one is, number_of timeout other also)
 
-chain_holds : (links : Bool) (chain number : ℕ) → links ≡ true → chain_behind links chain number ≡ chain
+chain_holds : (links : Bool) (chain number : ℕ) → links ≡ true → chain_after links chain number ≡ chain
 chain_holds true chain number is = refl
 chain_holds false chain number is = absurd (false≢true is)
 
-chain_ends : (links : Bool) (chain number : ℕ) → links ≡ false → chain_behind links chain number ≡ number
+chain_ends : (links : Bool) (chain number : ℕ) → links ≡ false → chain_after links chain number ≡ number
 chain_ends false chain number is = refl
 chain_ends true chain number is = absurd (true≢false is)
 

@@ -29,8 +29,8 @@ abbrev pub flags_so_far : ℕ → ℕ → ℕ
 flags_so_far moved id = flags_of (pos moved) false id
 
 -- which of these two a call's result makes of it
-abbrev pub flags_behind : (would_wait : Bool) → (moved : ℕ) → ℤ → Bool → ℕ → ℕ
-flags_behind would_wait moved res is_transfer id =
+abbrev pub flags_after : (would_wait : Bool) → (moved : ℕ) → ℤ → Bool → ℕ → ℕ
+flags_after would_wait moved res is_transfer id =
     if would_wait then flags_so_far moved id else flags_of res is_transfer id
 
 -- where it goes on: after so many bytes of the buffer that it has. None: it has none, and takes the next

@@ -56,8 +56,8 @@ makes_known (Calls to_submit has_thread) = not (to_submit == 0) && not has_threa
 makes_known Enrolls = true
 
 -- in which process it is known then, which was so before in that one, 0 if in none
-abbrev pub known_behind : (before process : ℕ) → Deed → ℕ
-known_behind before process deed = if makes_known deed then process else before
+abbrev pub known_after : (before process : ℕ) → Deed → ℕ
+known_after before process deed = if makes_known deed then process else before
 
 -- whether it is known in this process. A child's thread isn't by what its parent's did, whose rows it hasn't either. fork(2)
 abbrev pub is_known : (before process : ℕ) → Bool

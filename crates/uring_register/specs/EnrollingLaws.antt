@@ -1,6 +1,6 @@
 -- What holds of every thread's rings by number. io_uring_register(2), IORING_REGISTER_RING_FDS.
 use Rattle.std.specs.Prelude.{◌≡◌, ◌≢◌, ℕ, ◌+◌, ◌<◌, true, false, List, ◌∷◌, pos}
-use Rattle.uring_register.specs.Enrolling.{Enrolling, Enrolled, Dismissed, content, known_behind, is_known, naming_fault, IsEnrolledAt}
+use Rattle.uring_register.specs.Enrolling.{Enrolling, Enrolled, Dismissed, content, known_after, is_known, naming_fault, IsEnrolledAt}
 use Rattle.uring_register.specs.declared.enrolled.Deed.{Deed}
 use Rattle.uring_entry.specs.Errors.{error}
 
@@ -27,7 +27,7 @@ TakesBack = (log : List Enrolling) (asked row descriptor number : ℕ) → IsEnr
 -- a thread that is known in its process stays so, whatever it does there
 abbrev pub StaysKnown : Type 0
 StaysKnown = (before process : ℕ) (deed : Deed) → is_known before process ≡ true
-    → is_known (known_behind before process deed) process ≡ true
+    → is_known (known_after before process deed) process ≡ true
 
 -- and to one that isn't no number names a ring, as to a child that has done nothing yet
 abbrev pub NamesNoneUnknown : Type 0

@@ -9,8 +9,8 @@ abbrev pub holding_fault : ℤ → Bool → ℤ
 holding_fault fd is_ring = if is_below fd || is_ring then error 9 else pos 0
 
 -- a file that was put into a slot which can't be told is taken out again
-abbrev pub behind_telling : Bool → Telling
-behind_telling is_told = if is_told then Stays else IsTakenBack
+abbrev pub after_telling : Bool → Telling
+after_telling is_told = if is_told then Stays else IsTakenBack
 
 -- and the row ends with -14 (EFAULT); else with 0
 abbrev pub telling_fault : Bool → ℤ

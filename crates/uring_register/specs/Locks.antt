@@ -12,14 +12,14 @@ first_word line = before_first (λ byte. byte == 32) line
 abbrev pub blanks_of : List ℕ → ℕ
 blanks_of text = position_or_len (λ byte. not (byte == 32)) text
 
-abbrev pub behind_word : List ℕ → List ℕ
-behind_word line = let rest = drop (position_of 32 line) line in drop (blanks_of rest) rest
+abbrev pub after_word : List ℕ → List ℕ
+after_word line = let rest = drop (position_of 32 line) line in drop (blanks_of rest) rest
 
 -- what a line says of its lock, after its number. The arrow of one that is waited for, `1: -> POSIX ..`, is passed over: who waits may have the lock before the descriptor is closed, and one that is lost is worse than a descriptor that stays. Our own rule
 abbrev pub lock_of : List ℕ → List ℕ
 lock_of line =
-    let rest = behind_word line in
-    if bytes_eq (first_word rest) (codes "->") then behind_word rest else rest
+    let rest = after_word line in
+    if bytes_eq (first_word rest) (codes "->") then after_word rest else rest
 
 -- a record lock, and none of an open file (OFDLCK, FLOCK), which stays while that does
 abbrev pub is_record_lock : List ℕ → Bool
@@ -35,5 +35,5 @@ part_of word place = unwrap_or (slice_get (slice_split (λ byte. byte == 58) wor
 abbrev pub is_lock_of : (line : List ℕ) → (process inode : ℕ) → Bool
 is_lock_of line process inode =
     let lock = lock_of line in
-    let owner = behind_word (behind_word (behind_word lock)) in
-    is_record_lock (first_word lock) && names (first_word owner) process && names (part_of (first_word (behind_word owner)) 2) inode
+    let owner = after_word (after_word (after_word lock)) in
+    is_record_lock (first_word lock) && names (first_word owner) process && names (part_of (first_word (after_word owner)) 2) inode

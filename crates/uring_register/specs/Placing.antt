@@ -7,12 +7,12 @@ use Rattle.uring_register.specs.declared.placing.PlacingOnto.TheVariants.{Does, 
 use Rattle.uring_entry.specs.Errors.{is_below}
 
 -- what is done after this, once that went well: the row is read, -14 (EFAULT), and the file of its descriptor made, -9 (EBADF); a slot gets it, -23 (ENFILE), which is told in the row, -14
-abbrev pub behind_stage : Option PlacingStage → PlacingOnto
-behind_stage None = Does Reads
-behind_stage (Some Reads) = Does Makes
-behind_stage (Some Makes) = Does Puts
-behind_stage (Some Puts) = Does Tells
-behind_stage (Some Tells) = IsDone
+abbrev pub after_stage : Option PlacingStage → PlacingOnto
+after_stage None = Does Reads
+after_stage (Some Reads) = Does Makes
+after_stage (Some Makes) = Does Puts
+after_stage (Some Puts) = Does Tells
+after_stage (Some Tells) = IsDone
 
 abbrev pub has_put : Option PlacingStage → Bool
 has_put (Some Tells) = true
@@ -21,5 +21,5 @@ has_put _ = false
 -- the first fault ends it; a file whose slot can't be told is taken out again
 abbrev pub next_of_placing : Option PlacingStage → ℤ → PlacingOnto
 next_of_placing last res =
-    if not (is_below res) then behind_stage last else
+    if not (is_below res) then after_stage last else
     if has_put last then TakesOut res else Fails res

@@ -51,8 +51,8 @@ range_end (Filled at word ∷ earlier) = range_end earlier
 range_end (Ranged from len ∷ earlier) = from + len
 
 -- a slot that was filled or emptied moves the search after it or to it; one that got another word doesn't
-abbrev pub hint_behind : ℕ → ℕ → ℕ → ℕ → ℕ
-hint_behind before slot word hint =
+abbrev pub hint_after : ℕ → ℕ → ℕ → ℕ → ℕ
+hint_after before slot word hint =
     if before == 0 then (if word == 0 then hint else slot + 1) else
     if word == 0 then slot else hint
 
@@ -60,7 +60,7 @@ abbrev pub hint : List Filing → ℕ
 hint [] = 0
 hint (Registered words ∷ earlier) = 0
 hint (Unregistered ∷ earlier) = 0
-hint (Filled at word ∷ earlier) = hint_behind (content earlier at) at word (hint earlier)
+hint (Filled at word ∷ earlier) = hint_after (content earlier at) at word (hint earlier)
 hint (Ranged from len ∷ earlier) = from
 
 -- -75 (EOVERFLOW) of a range that ends past 32 bits, -22 (EINVAL) of a reserved field that isn't 0, and of a range that ends past the table
@@ -69,8 +69,8 @@ range_fault log from len reserved =
     if nat_le (2 ^ 32) (from + len) then error 75 else
     if reserved || nat_lt (size log) (from + len) then error 22 else pos 0
 
-abbrev pub behind_range : List Filing → ℕ → ℕ → Bool → List Filing
-behind_range log from len reserved =
+abbrev pub after_range : List Filing → ℕ → ℕ → Bool → List Filing
+after_range log from len reserved =
     if nat_le (2 ^ 32) (from + len) then log else
     if reserved || nat_lt (size log) (from + len) then log else Ranged from len ∷ log
 

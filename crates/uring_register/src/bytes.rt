@@ -70,8 +70,8 @@ fn flags_so_far(moved: u32, id: u16) -> u32
 }
 
 /// The flags of the completion of an operation that had the provided buffer of this number, whose calls came to `res`, or would have to wait and have put `moved` bytes into it: 0 if it hasn't taken it.
-pub fn flags_behind(would_wait: bool, moved: u32, res: i32, is_transfer: bool, id: u16) -> u32
-    ensures { result ≡ spec.flags_behind would_wait moved res is_transfer id }
+pub fn flags_after(would_wait: bool, moved: u32, res: i32, is_transfer: bool, id: u16) -> u32
+    ensures { result ≡ spec.flags_after would_wait moved res is_transfer id }
 {
     if would_wait {
         flags_so_far(moved, id)

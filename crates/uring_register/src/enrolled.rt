@@ -102,8 +102,8 @@ pub enum Deed {
 }
 
 /// In which process a thread is known that has done this in this process, and was known in that one before; 0 is none.
-pub fn known_behind(before: u32, process: u32, deed: Deed) -> u32
-    ensures { result ≡ spec.known_behind before process deed }
+pub fn known_after(before: u32, process: u32, deed: Deed) -> u32
+    ensures { result ≡ spec.known_after before process deed }
 {
     let is_made_known = match deed {
         Deed::SetsUp => true,

@@ -20,8 +20,8 @@ pub fn holding_fault(fd: i32, is_ring: bool) -> i32
 }
 
 /// What becomes of a file whose slot could be told or not.
-pub fn behind_telling(is_told: bool) -> Telling
-    ensures { result ≡ spec.behind_telling is_told }
+pub fn after_telling(is_told: bool) -> Telling
+    ensures { result ≡ spec.after_telling is_told }
 {
     if is_told {
         Telling::Stays

@@ -10,8 +10,8 @@ pub fn is_lock_of(line: &[u8], process: u32, inode: u64) -> bool
     ensures { result ≡ spec.is_lock_of line.now process inode }
 {
     let lock = lock_of(line);
-    let owner = behind_word(behind_word(behind_word(lock)));
-    let file = behind_word(owner);
+    let owner = after_word(after_word(after_word(lock)));
+    let file = after_word(owner);
     is_record_lock(first_word(lock))
         && names(first_word(owner), process as u64)
         && names(part_of(first_word(file), 2), inode)
@@ -21,9 +21,9 @@ pub fn is_lock_of(line: &[u8], process: u32, inode: u64) -> bool
 fn lock_of(line: &[u8]) -> &[u8]
     ensures { result.now ≡ spec.lock_of line.now }
 {
-    let rest = behind_word(line);
+    let rest = after_word(line);
     if first_word(rest) == b"->".as_slice() {
-        behind_word(rest)
+        after_word(rest)
     } else {
         rest
     }
@@ -36,8 +36,8 @@ fn first_word(line: &[u8]) -> &[u8]
 }
 
 /// What stands after the first word, and the blanks that follow it.
-fn behind_word(line: &[u8]) -> &[u8]
-    ensures { result.now ≡ spec.behind_word line.now }
+fn after_word(line: &[u8]) -> &[u8]
+    ensures { result.now ≡ spec.after_word line.now }
 {
     let rest = &line[position_of(line, b' ')..];
     &rest[blanks_of(rest)..]

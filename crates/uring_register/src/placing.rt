@@ -44,12 +44,12 @@ pub fn next_of_placing(last: Option<PlacingStage>, res: i32) -> PlacingOnto
             PlacingOnto::Fails(res)
         }
     } else {
-        behind_stage(last)
+        after_stage(last)
     }
 }
 
-fn behind_stage(last: Option<PlacingStage>) -> PlacingOnto
-    ensures { result ≡ spec.behind_stage last }
+fn after_stage(last: Option<PlacingStage>) -> PlacingOnto
+    ensures { result ≡ spec.after_stage last }
 {
     match last {
         None => PlacingOnto::Does(PlacingStage::Reads),

@@ -69,7 +69,7 @@ impl Table {
         ensures fault { (log : List Filing) (rows : List ℕ) → KeepsTable log self.old rows
             → result ≡ spec.range_fault log from len has_reserved }
         ensures after { (log : List Filing) (rows : List ℕ) → KeepsTable log self.old rows
-            → KeepsTable (spec.behind_range log from len has_reserved) self.new rows }
+            → KeepsTable (spec.after_range log from len has_reserved) self.new rows }
     {
         let Some(end) = from.checked_add(len) else {
             return -75;
@@ -96,7 +96,7 @@ impl Table {
         }
         let before = rows[place];
         rows[place] = word;
-        self.hint = hint_behind(before, slot, word, self.hint);
+        self.hint = hint_after(before, slot, word, self.hint);
         Some(before)
     }
 
@@ -139,9 +139,9 @@ impl Table {
     }
 }
 
-fn hint_behind(before: u64, slot: u32, word: u64, hint: u32) -> u32
+fn hint_after(before: u64, slot: u32, word: u64, hint: u32) -> u32
     requires { slot < 2 ^ 32 - 1 }
-    ensures { result ≡ spec.hint_behind before slot word hint }
+    ensures { result ≡ spec.hint_after before slot word hint }
 {
     if before == 0 {
         if word == 0 { hint } else { slot + 1 }

@@ -167,13 +167,13 @@ static void choose_registered(struct action *action, uint16_t index, bool is_pla
 }
 
 /* After a link there may be a timeout for the request before it, short where that waits for what is real. */
-static uint8_t code_behind(const struct action *before, uint8_t code)
+static uint8_t code_after(const struct action *before, uint8_t code)
 {
     bool is_linked = before && before->flags & (IOSQE_IO_LINK | IOSQE_IO_HARDLINK);
     return (is_linked && one_in(5)) || one_in(200) ? IORING_OP_LINK_TIMEOUT : code;
 }
 
-static int64_t time_behind(const struct action *before, bool is_plain)
+static int64_t time_after(const struct action *before, bool is_plain)
 {
     if (is_plain)
         return 3600000000000;
@@ -222,7 +222,7 @@ static void choose_entry(struct program *program, struct action *action, struct 
     bool is_plain = program->is_plain;
     action->kind = PUT;
     action->cell = index;
-    action->code = code_behind(before, fitting_code(program, action->ring, any_code(is_plain)));
+    action->code = code_after(before, fitting_code(program, action->ring, any_code(is_plain)));
     action->object = any_object(action, is_plain, ring->flags & IORING_SETUP_COOP_TASKRUN);
     if (action->code == IORING_OP_CLOSE)
         action->object = OTHER_LOG;
@@ -237,7 +237,7 @@ static void choose_entry(struct program *program, struct action *action, struct 
         action->sizes[0] = (uint8_t)below(200);
     }
     action->is_impatient = action->object == PIPE_OUT && is_read(action) && one_in(6);
-    action->time = action->code == IORING_OP_LINK_TIMEOUT ? time_behind(before, is_plain) : any_time();
+    action->time = action->code == IORING_OP_LINK_TIMEOUT ? time_after(before, is_plain) : any_time();
     action->is_success = one_in(3);
     action->target = any_target(program, action, index);
     action->turn = one_in(5) ? (uint16_t)below(16) : 0;

@@ -187,7 +187,7 @@ bool has_linked_timeouts(const struct model *model)
 }
 
 /* The timeout that is linked to a request, while neither has ended; or NULL. */
-static struct request *timeout_behind(struct model *model, const struct request *request)
+static struct request *timeout_after(struct model *model, const struct request *request)
 {
     struct request *next = &model->requests[request - model->requests + 1];
     bool is_behind = next < model->requests + model->count && next->group == request->group && next->action->code == IORING_OP_LINK_TIMEOUT;
@@ -326,7 +326,7 @@ static void end_doomed(struct model *model, struct request *request, int32_t res
 /* Whether the timeout that is linked to a request has cancelled it. */
 static bool is_cut_off(struct model *model, struct request *request)
 {
-    struct request *timeout = timeout_behind(model, request);
+    struct request *timeout = timeout_after(model, request);
     bool is_waiting_kind = is_stream(model, request) || request->action->code == IORING_OP_TIMEOUT;
     if (!timeout || !is_waiting_kind)
         return false;

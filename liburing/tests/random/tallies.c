@@ -14,7 +14,7 @@ static bool is_counting(const struct request *request)
 }
 
 /* One before it may have ended unseen, so that it has started. */
-static bool may_be_behind_unseen(const struct model *model, const struct request *timeout)
+static bool may_be_after_unseen(const struct model *model, const struct request *timeout)
 {
     for (const struct request *other = model->requests; other < timeout; other++)
         if (!other->is_ended && (other->action->flags & IOSQE_CQE_SKIP_SUCCESS || other->is_silent))
@@ -44,7 +44,7 @@ static bool is_held_up(const struct model *model, const struct request *timeout)
 void note_tallies(struct model *model)
 {
     for (struct request *request = model->requests; request < model->requests + model->count; request++) {
-        bool may_begin = can_start(model, request) || may_be_behind_unseen(model, request);
+        bool may_begin = can_start(model, request) || may_be_after_unseen(model, request);
         if (!is_counting(request) || !may_begin || request->may_have_begun || is_held_up(model, request))
             continue;
         request->may_have_begun = true;

@@ -8,7 +8,7 @@ ghost use Rattle.uring_enter.specs.Cancels.Seeking as seeking;
 ghost use Rattle.uring_enter.specs.Cancels.Cancels.{result_of, is_cancelled, is_asked, HasSeen, HasSought, oldest, is_stopped, has_cancelled, found_by_core};
 
 use uring_enter::{
-    Cancel, Outstanding, Search, Sought, asks_file, goes_by_user_data, is_taken_behind, is_waiting,
+    Cancel, Outstanding, Search, Sought, asks_file, goes_by_user_data, is_taken_after, is_waiting,
     seeking_fault, sought_by_call, sought_of,
 };
 use uring_operations::Submission;
@@ -64,15 +64,15 @@ pub extern "C" fn wulgach_is_waiting(request: &Outstanding) -> bool
 
 /// Whether a kernel takes the entry of the request of this number only after a cancel of that number.
 #[unsafe(no_mangle)]
-pub extern "C" fn wulgach_is_taken_behind(
+pub extern "C" fn wulgach_is_taken_after(
     cancel: u64,
     is_linked: bool,
     drains: bool,
     number: u64,
 ) -> bool
-    ensures { result ≡ cancels.is_taken_behind cancel is_linked drains number }
+    ensures { result ≡ cancels.is_taken_after cancel is_linked drains number }
 {
-    is_taken_behind(cancel, is_linked, drains, number)
+    is_taken_after(cancel, is_linked, drains, number)
 }
 
 /// A cancel that hasn't looked at any request.

@@ -31,14 +31,14 @@ pub extern "C" fn wulgach_drains_find_file(
     drains: &Drains,
     request: &Member,
     linux: bool,
-    behind_change: bool,
+    after_change: bool,
     knows_start: bool,
     may_start: bool,
 ) -> u32
     ensures { (log : List Drainage) → KeepsDrains log drains.now
-        → result ≡ word_of_when (when_found log request.now linux behind_change knows_start may_start) }
+        → result ≡ word_of_when (when_found log request.now linux after_change knows_start may_start) }
 {
-    match drains.when_found(request, linux, behind_change, knows_start, may_start) {
+    match drains.when_found(request, linux, after_change, knows_start, may_start) {
         WhenFound::AtItsStart => 0,
         WhenFound::ByTheCall => 1,
         WhenFound::InItsTurn => 2,

@@ -4,7 +4,7 @@ ghost use Rattle.uring_enter.specs.Rings.Closing as spec;
 ghost use Rattle.uring_c.specs.SleepForm.{word_of_sleep, step_of};
 
 use uring_enter::{
-    BeforeSleep, Beginning, SleepOnto, asks_elapsed, looked_at_before_sleep, looked_at_behind,
+    BeforeSleep, Beginning, SleepOnto, asks_elapsed, looked_at_after, looked_at_before_sleep,
     may_name, next_before_sleep, tries_again,
 };
 
@@ -26,10 +26,10 @@ pub extern "C" fn wulgach_looked_at_before_sleep() -> u32
 
 /// Of how many it is looked as a call ends: 2^31 - 1 is all.
 #[unsafe(no_mangle)]
-pub extern "C" fn wulgach_looked_at_behind(may_be_left: bool, rings: u32, elapsed: u64) -> u32
-    ensures { result ≡ spec.looked_at_behind may_be_left rings elapsed }
+pub extern "C" fn wulgach_looked_at_after(may_be_left: bool, rings: u32, elapsed: u64) -> u32
+    ensures { result ≡ spec.looked_at_after may_be_left rings elapsed }
 {
-    looked_at_behind(may_be_left, rings, elapsed)
+    looked_at_after(may_be_left, rings, elapsed)
 }
 
 /// Whether the lock of all rings is tried once more after a close in a handler, which was tried so often.

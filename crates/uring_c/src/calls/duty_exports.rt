@@ -7,9 +7,9 @@ ghost use Rattle.uring_crossing.specs.EnterForm.{reply_of};
 
 use uring_crossing::enter_words::ReplyWords;
 use uring_enter::{
-    Duties, Resting, duties_at_begin, duties_at_register_begin, duties_at_register_return,
-    duties_at_reply, duties_at_rest, duties_at_return, duties_before, duties_before_posting,
-    duties_before_sleep, duties_behind_posting, duties_behind_storing, duties_when_stuck,
+    Duties, Resting, duties_after_posting, duties_after_storing, duties_at_begin,
+    duties_at_register_begin, duties_at_register_return, duties_at_reply, duties_at_rest,
+    duties_at_return, duties_before, duties_before_posting, duties_before_sleep, duties_when_stuck,
     polls_instance, polls_writes,
 };
 use uring_register::may_post;
@@ -113,18 +113,18 @@ pub extern "C" fn wulgach_duties_before_posting() -> u32
 
 /// What is done after completions that were posted outside a call.
 #[unsafe(no_mangle)]
-pub extern "C" fn wulgach_duties_behind_posting(has_ends: bool, is_polled: bool) -> u32
-    ensures { result ≡ word_of_duties (spec.behind_posting has_ends is_polled) }
+pub extern "C" fn wulgach_duties_after_posting(has_ends: bool, is_polled: bool) -> u32
+    ensures { result ≡ word_of_duties (spec.after_posting has_ends is_polled) }
 {
-    duties_word(duties_behind_posting(has_ends, is_polled))
+    duties_word(duties_after_posting(has_ends, is_polled))
 }
 
 /// What is done after completions that were stored, of so many of which a registered eventfd is told.
 #[unsafe(no_mangle)]
-pub extern "C" fn wulgach_duties_behind_storing(told: u64) -> u32
-    ensures { result ≡ word_of_duties (spec.behind_storing told) }
+pub extern "C" fn wulgach_duties_after_storing(told: u64) -> u32
+    ensures { result ≡ word_of_duties (spec.after_storing told) }
 {
-    duties_word(duties_behind_storing(told))
+    duties_word(duties_after_storing(told))
 }
 
 /// What a call does before the operation of this code is carried out.

@@ -4,11 +4,11 @@ ghost use Rattle.uring_enter.specs.GoingOn.Following as spec;
 ghost use Rattle.uring_c.specs.FollowingForm.{word_of_end};
 
 use crate::calls::duty_exports::bit;
-use uring_enter::{BehindEnd, duties_behind_end};
+use uring_enter::{AfterEnd, duties_after_end};
 
 /// What is done after the end of a request, as a set of duties.
 #[unsafe(no_mangle)]
-pub extern "C" fn wulgach_duties_behind_end(
+pub extern "C" fn wulgach_duties_after_end(
     has_file: bool,
     has_instance: bool,
     is_stream: bool,
@@ -16,10 +16,10 @@ pub extern "C" fn wulgach_duties_behind_end(
 ) -> u32
     ensures { result ≡ word_of_end (spec.behind_end has_file has_instance is_stream is_draining) }
 {
-    end_word(duties_behind_end(has_file, has_instance, is_stream, is_draining))
+    end_word(duties_after_end(has_file, has_instance, is_stream, is_draining))
 }
 
-fn end_word(duties: BehindEnd) -> u32
+fn end_word(duties: AfterEnd) -> u32
     ensures { result ≡ word_of_end duties }
 {
     bit(1, duties.keeps_completion)

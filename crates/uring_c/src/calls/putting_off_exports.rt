@@ -7,7 +7,7 @@ use uring_enter::{Coming, Order, order_behind};
 
 /// Returns whether this comes now, where a completion was put off or none, and memory was refused for it again just before or wasn't.
 #[unsafe(no_mangle)]
-pub extern "C" fn wulgach_order_behind(what: u32, is_put_off: bool, is_refused: bool) -> u32
+pub extern "C" fn wulgach_order_after(what: u32, is_put_off: bool, is_refused: bool) -> u32
     ensures { result ≡ word_of_order (spec.order_behind (coming_of what) is_put_off is_refused) }
 {
     match order_behind(coming(what), is_put_off, is_refused) {

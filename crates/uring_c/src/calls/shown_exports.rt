@@ -1,6 +1,6 @@
 //! What the application is shown, for C: the functions of `c/wulgach_shown.h`.
 ghost use Rattle.std.specs.Prelude.{◌≡◌, ◌+◌, ◌%◌, ◌^◌, ◌≤◌, ℕ, pos, negsuc, drop, MatchOption, List, [], ◌∷◌, nat_le, nat_lt};
-ghost use Rattle.uring_enter.specs.Completions.Showing.{Change, Reaped, KeepsShown, IsTold, posted, written, reaped, store_of, behind_store, heard_of, overflows, loads_head, may_bring, ready, flags_of};
+ghost use Rattle.uring_enter.specs.Completions.Showing.{Change, Reaped, KeepsShown, IsTold, posted, written, reaped, store_of, after_store, heard_of, overflows, loads_head, may_bring, ready, flags_of};
 ghost use Rattle.uring_enter.specs.Completions.Prospects.{WereSoMany, readable_of};
 ghost use Rattle.uring_enter.specs.declared.completions.posted.Posted.{Posted as Row};
 ghost use Rattle.uring_enter.specs.Completions.Postings.{Posting, Reaped as RowsReaped, KeepsPosted};
@@ -40,7 +40,7 @@ pub extern "C" fn wulgach_shown_store(shown: &mut Shown, tail: u32, store: &mut 
     ensures store { (log : List Change) (n : ℕ) → KeepsShown log shown.old → IsTold log tail n
         → n ≤ posted log → store.new ≡ words_of_store (store_of log n) }
     ensures after { (log : List Change) (n : ℕ) → KeepsShown log shown.old → IsTold log tail n
-        → n ≤ posted log → KeepsShown (behind_store log n) shown.new }
+        → n ≤ posted log → KeepsShown (after_store log n) shown.new }
 {
     *store = store_words(shown.store(tail));
 }

@@ -6,7 +6,7 @@ ghost use Rattle.uring_enter.specs.Time.Kept.{KeepsTime};
 ghost use Rattle.uring_operations.specs.Requests.Outcomes as outcomes;
 ghost use Rattle.uring_operations.specs.Requests.Readiness as ready;
 ghost use Rattle.uring_enter.specs.Waiting.Joining as joining;
-ghost use Rattle.uring_enter.specs.Waiting.Sleeps.{behind_sleep, passes, IsSpan};
+ghost use Rattle.uring_enter.specs.Waiting.Sleeps.{after_sleep, passes, IsSpan};
 ghost use Rattle.uring_crossing.specs.TimeForm.{limit_of};
 
 use uring_crossing::time_words::LimitWords;
@@ -88,7 +88,7 @@ pub extern "C" fn wulgach_keeps_second_open(
 #[unsafe(no_mangle)]
 pub extern "C" fn wulgach_times_wake(times: &mut Times, end: &LimitWords, came: i32)
     ensures { (log : List Event) (rows : List Timeout) → KeepsTime log times.old rows
-        → KeepsTime (behind_sleep log (limit_of end.now) came) times.new rows }
+        → KeepsTime (after_sleep log (limit_of end.now) came) times.new rows }
 {
     times.wake(end.limit(), came);
 }

@@ -6,7 +6,7 @@ ghost use Rattle.uring_c.specs.SleepForm.{word_of_outcome};
 
 use uring_enter::{
     Outcome, PipePoll, SleptFor, Waited, asks_before_nap, asks_select, came_to, can_be_woken,
-    fires_behind, outcome_of, sleeps_by_poll, slept_for,
+    fires_after, outcome_of, sleeps_by_poll, slept_for,
 };
 use uring_operations::{Needs, Standing};
 
@@ -89,8 +89,8 @@ pub extern "C" fn wulgach_can_be_woken(has_descriptor: bool, naps: bool) -> bool
 
 /// Whether a timeout fires after a wait, if its time is over.
 #[unsafe(no_mangle)]
-pub extern "C" fn wulgach_fires_behind(waited: &Waited) -> bool
-    ensures { result ≡ sleeping.fires_behind waited.now }
+pub extern "C" fn wulgach_fires_after(waited: &Waited) -> bool
+    ensures { result ≡ sleeping.fires_after waited.now }
 {
-    fires_behind(waited)
+    fires_after(waited)
 }

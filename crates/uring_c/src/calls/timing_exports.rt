@@ -43,7 +43,7 @@ pub extern "C" fn wulgach_is_timed(code: u8) -> bool
 
 /// Returns what becomes of a timeout's time when a request starts.
 #[unsafe(no_mangle)]
-pub extern "C" fn wulgach_timing_behind_start(
+pub extern "C" fn wulgach_timing_after_start(
     timeout: &Member,
     request: &Member,
     is_found: bool,
@@ -57,17 +57,17 @@ pub extern "C" fn wulgach_timing_behind_start(
 
 /// The same when a cancel finds a request.
 #[unsafe(no_mangle)]
-pub extern "C" fn wulgach_timing_behind_finding(timeout: &Member, request: &Member) -> u32
+pub extern "C" fn wulgach_timing_after_finding(timeout: &Member, request: &Member) -> u32
     ensures { (t : Timing) × (result ≡ word_of_timing t)
         × ((log : List Happened)
         → runs_behind t (runs timeout.now log) ≡ runs timeout.now (IsFound request.now ∷ log)) }
 {
-    timing_word(timeout.behind_finding(request))
+    timing_word(timeout.after_finding(request))
 }
 
 /// The same when a request has ended.
 #[unsafe(no_mangle)]
-pub extern "C" fn wulgach_timing_behind_end(timeout: &Member, request: &Member) -> u32
+pub extern "C" fn wulgach_timing_after_end(timeout: &Member, request: &Member) -> u32
     ensures { (t : Timing) × (result ≡ word_of_timing t)
         × ((log : List Happened)
         → runs_behind t (runs timeout.now log) ≡ runs timeout.now (Ends request.now ∷ log)) }

@@ -6,7 +6,7 @@ ghost use Rattle.uring_enter.specs.Waiting.Lookouts.{Happening, Waited, Told, Ke
 ghost use Rattle.uring_operations.specs.Requests.Readiness as ready;
 ghost use Rattle.uring_enter.specs.Waiting.Waiters.{Encounter, WouldWait, WasCancelled, WasUpdated, WasSeen, HeardWrite, MissedWrite, Took, KeepsWaiter, around};
 ghost use Rattle.uring_enter.specs.Waiting.Waiters as waiters;
-ghost use Rattle.uring_crossing.specs.WaitForm.{word_of_look, word_of_sighting, behind_look};
+ghost use Rattle.uring_crossing.specs.WaitForm.{word_of_look, word_of_sighting, after_look};
 
 use uring_crossing::wait_words::{look_word, sighting_word};
 use uring_enter::{Lookout, PipePoll, Waiter};
@@ -34,7 +34,7 @@ pub extern "C" fn wulgach_can_finish(
         → KeepsWaiter log waiter.old → KeepsCourse facts course.now
         → result ≡ word_of_look (waiters.look_of log standing.now needs.now (is_cancelled facts) known.now) }
     ensures after { (log : List Encounter) → KeepsLookout (around log) lookout.now → KeepsWaiter log waiter.old
-        → KeepsWaiter (behind_look log result) waiter.new }
+        → KeepsWaiter (after_look log result) waiter.new }
 {
     look_word(waiter.look(lookout, standing, needs, course, known))
 }

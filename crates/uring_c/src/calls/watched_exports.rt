@@ -5,7 +5,7 @@ ghost use Rattle.uring_enter.specs.Waiting.Watching as spec;
 ghost use Rattle.uring_c.specs.MessageForm.{word_of_besides, word_of_enlisted, word_of_watch, watched_of};
 
 use crate::calls::duty_exports::bit;
-use uring_enter::{Enlisted, Watch, Watched, adds_behind, enlisted_as, polls_besides, watch_of};
+use uring_enter::{Enlisted, Watch, Watched, adds_after, enlisted_as, polls_besides, watch_of};
 
 /// Begins a descriptor for which nobody waits.
 #[unsafe(no_mangle)]
@@ -58,10 +58,10 @@ fn watch_word(watch: Watch) -> u32
 
 /// Whether a descriptor is added whose renewal came to this.
 #[unsafe(no_mangle)]
-pub extern "C" fn wulgach_watch_adds_behind(res: i32) -> bool
-    ensures { result ≡ spec.adds_behind res }
+pub extern "C" fn wulgach_watch_adds_after(res: i32) -> bool
+    ensures { result ≡ spec.adds_after res }
 {
-    adds_behind(res)
+    adds_after(res)
 }
 
 /// Returns what an epoll instance makes of a descriptor whose addition came to this.

@@ -11,7 +11,7 @@ use uring_crossing::wait_words::task;
 use uring_operations::{
     Fault, Held, Listed, Means, Submission, SystemCall, Transfer, Vectors, asks_anew, asks_end,
     asks_shut, can_have, control_of, done_result, has_begun, is_stream_type, means_of,
-    moved_so_far, offset_behind, placed_result, shut_result, takes_for_nothing, tells_message,
+    moved_so_far, offset_after, placed_result, shut_result, takes_for_nothing, tells_message,
     told_result, transfer_call,
 };
 
@@ -237,10 +237,10 @@ pub extern "C" fn wulgach_takes_for_nothing(code: u8) -> bool
 
 /// The offset at which the read of an entry that goes on reads next, after a call that came to this.
 #[unsafe(no_mangle)]
-pub extern "C" fn wulgach_offset_behind(entry: &Submission, came_to: i32) -> u64
-    ensures { result ≡ results.offset_behind entry.now came_to }
+pub extern "C" fn wulgach_offset_after(entry: &Submission, came_to: i32) -> u64
+    ensures { result ≡ results.offset_after entry.now came_to }
 {
-    offset_behind(entry, came_to)
+    offset_after(entry, came_to)
 }
 
 /// What a file ends with that was put into this slot, where its entry asked for that one or for any.

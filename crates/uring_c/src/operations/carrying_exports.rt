@@ -8,7 +8,7 @@ ghost use Rattle.uring_c.specs.MeansForm.{fault_of_word};
 use crate::operations::call_exports::fault_of;
 use uring_enter::{Calls, Source, calls_of, finish_steps, half_in, left_of_buffer, source_of};
 use uring_operations::{
-    Locked, Locking, asked_descriptors, asked_flags, flags_behind, is_layers_lock, next_of_locking,
+    Locked, Locking, asked_descriptors, asked_flags, flags_after, is_layers_lock, next_of_locking,
 };
 
 /// Returns where the result of the operation of this code comes from, whose start has found this error, or 0, and which is given this fault, or none, and writes the result of a fault that it is given. Else nothing is written.
@@ -81,16 +81,16 @@ pub extern "C" fn wulgach_asked_flags(is_known: bool, flags: u32, asked: &mut u3
 
 /// Writes which it gets once the call is over, where it was asked, or wasn't, and has these by then, if they are known. False, and nothing is written: it stays as it is.
 #[unsafe(no_mangle)]
-pub extern "C" fn wulgach_flags_behind(
+pub extern "C" fn wulgach_flags_after(
     was_asked: bool,
     is_known: bool,
     flags: u32,
     behind: &mut u32,
 ) -> bool
-    ensures { MatchOption (asking.flags_behind was_asked is_known flags) ((result ≡ false) × (behind.new ≡ behind.old))
+    ensures { MatchOption (asking.flags_after was_asked is_known flags) ((result ≡ false) × (behind.new ≡ behind.old))
         (λ set. (result ≡ true) × (behind.new ≡ set)) }
 {
-    let Some(set) = flags_behind(was_asked, is_known, flags) else {
+    let Some(set) = flags_after(was_asked, is_known, flags) else {
         return false;
     };
     *behind = set;

@@ -4,10 +4,10 @@ ghost use Rattle.uring_operations.specs.declared.requests.act.Fact.{Fact};
 ghost use Rattle.uring_operations.specs.declared.requests.act.Fact.TheVariants.{Started, Done};
 ghost use Rattle.uring_operations.specs.declared.requests.act.Fact.TheVariants.{Ended as HasEnded};
 ghost use Rattle.uring_operations.specs.declared.chains.member.Entry.{Entry};
-ghost use Rattle.uring_operations.specs.Requests.Courses.{KeepsCourse, act, behind_act, fits};
+ghost use Rattle.uring_operations.specs.Requests.Courses.{KeepsCourse, act, after_act, fits};
 ghost use Rattle.uring_operations.specs.Requests.Courses.{shown as shown_by};
 ghost use Rattle.uring_operations.specs.Requests.Courses.{notice_of as noticed};
-ghost use Rattle.uring_operations.specs.Requests.Outcomes.{is_success, shown_of, sought_behind, success_of_entry};
+ghost use Rattle.uring_operations.specs.Requests.Outcomes.{is_success, shown_of, sought_after, success_of_entry};
 ghost use Rattle.uring_enter.specs.Completions.Shots as shots;
 ghost use Rattle.uring_operations.specs.Chains.Chains.{member_of, limits};
 ghost use Rattle.uring_enter.specs.Completions.Showing.{Change, KeepsShown};
@@ -18,10 +18,10 @@ ghost use Rattle.uring_c.specs.ShownForm.{word_of_part, word_of_sought};
 
 use uring_crossing::completion_words::CompletionWords;
 use uring_crossing::course_words::{act_res, act_word, fact, last, part};
-use uring_enter::{Part, Posted, Shown, completion_flags, end_of_send, untold_behind};
+use uring_enter::{Part, Posted, Shown, completion_flags, end_of_send, untold_after};
 use uring_operations::{
-    Carried, Course, EndedCancel, EndedEarly, Entry, Fact, Member, SoughtBehind, Submission,
-    has_succeeded, notice_of, shown_of, sought_behind,
+    Carried, Course, EndedCancel, EndedEarly, Entry, Fact, Member, SoughtAfter, Submission,
+    has_succeeded, notice_of, shown_of, sought_after,
 };
 
 /// A request that was accepted just now.
@@ -39,7 +39,7 @@ pub extern "C" fn wulgach_course_act(course: &mut Course, res: &mut i32) -> u32
     ensures res { (log : List Fact) → KeepsCourse log course.old
         → res.new ≡ res_of_act (act log) res.old }
     ensures after { (log : List Fact) → KeepsCourse log course.old
-        → KeepsCourse (behind_act log) course.new }
+        → KeepsCourse (after_act log) course.new }
 {
     let act = course.act();
     *res = act_res(act, *res);
@@ -158,10 +158,10 @@ pub extern "C" fn wulgach_completion_flags(of: u32, of_buffer: u32) -> u32
 
 /// The flags of a provided buffer of which no completion has told, after one of this part, where they were `of_buffer`, or 0.
 #[unsafe(no_mangle)]
-pub extern "C" fn wulgach_untold_behind(of: u32, of_buffer: u32) -> u32
-    ensures { result ≡ shots.untold_behind (part_of of) of_buffer }
+pub extern "C" fn wulgach_untold_after(of: u32, of_buffer: u32) -> u32
+    ensures { result ≡ shots.untold_after (part_of of) of_buffer }
 {
-    untold_behind(part(of), of_buffer)
+    untold_after(part(of), of_buffer)
 }
 
 /// Returns what the end of a send without copies tells of that has two completions, where the other was posted before or is put off.
@@ -185,13 +185,13 @@ fn part_word(part: Part) -> u32
 
 /// What a cancel looks for next that the core has ended, and which ends with this.
 #[unsafe(no_mangle)]
-pub extern "C" fn wulgach_sought_behind(cancel: &EndedCancel, res: i32) -> u32
-    ensures { result ≡ word_of_sought (sought_behind cancel.now res) }
+pub extern "C" fn wulgach_sought_after(cancel: &EndedCancel, res: i32) -> u32
+    ensures { result ≡ word_of_sought (sought_after cancel.now res) }
 {
-    match sought_behind(*cancel, res) {
-        SoughtBehind::Running => 0,
-        SoughtBehind::Next => 1,
-        SoughtBehind::Nothing => 2,
+    match sought_after(*cancel, res) {
+        SoughtAfter::Running => 0,
+        SoughtAfter::Next => 1,
+        SoughtAfter::Nothing => 2,
     }
 }
 

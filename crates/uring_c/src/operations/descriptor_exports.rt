@@ -12,7 +12,7 @@ use uring_operations::{
     Directions, Nature, Openness, SpliceEnds, SplicePoll, Submission, SyncedKind, asks_counter,
     asks_openness, counts_as_open, counts_as_synced, directions_of, ends_at_start,
     fault_asks_buffer, is_counter_name, is_eventfd_name, is_missing, is_signal_of_call,
-    is_taken_back, isnt_to_wait, signal_behind, splice_poll,
+    is_taken_back, isnt_to_wait, signal_after, splice_poll,
 };
 
 /// Whether a descriptor counts as open that is this, and is named by its number, or by the slot that holds its file.
@@ -107,10 +107,10 @@ pub extern "C" fn wulgach_counts_as_synced(openness: &Openness, kind: &SyncedKin
 
 /// The number of the signal that is taken back after an operation which ended with this, or 0.
 #[unsafe(no_mangle)]
-pub extern "C" fn wulgach_signal_behind(entry: &Submission, res: i32) -> u32
-    ensures { result ≡ signals.signal_behind entry.now res }
+pub extern "C" fn wulgach_signal_after(entry: &Submission, res: i32) -> u32
+    ensures { result ≡ signals.signal_after entry.now res }
 {
-    signal_behind(entry, res)
+    signal_after(entry, res)
 }
 
 /// Whether the signal of this number, or none, 0, is taken back, where this is the greatest length that the process may give a file, if that is known.

@@ -6,7 +6,7 @@ ghost use Rattle.uring_c.specs.PinningForm.{known_of};
 
 use uring_operations::{
     Opening, Standing, Submission, asks_writer, found_flags, has_writer, looking_flags,
-    looks_at_path, opening_of, opening_waits, opens_again, opens_by_path, standing_behind_path,
+    looks_at_path, opening_of, opening_waits, opens_again, opens_by_path, standing_after_path,
     unwilling_flags,
 };
 
@@ -52,10 +52,10 @@ pub extern "C" fn wulgach_unwilling_flags(flags: u64) -> u64
 
 /// A request stands so whose path was looked up as it starts, and names a pipe or doesn't.
 #[unsafe(no_mangle)]
-pub extern "C" fn wulgach_standing_behind_path(standing: &mut Standing, names_pipe: bool)
-    ensures { standing.new ≡ opens.standing_behind_path standing.old names_pipe }
+pub extern "C" fn wulgach_standing_after_path(standing: &mut Standing, names_pipe: bool)
+    ensures { standing.new ≡ opens.standing_after_path standing.old names_pipe }
 {
-    *standing = standing_behind_path(standing, names_pipe);
+    *standing = standing_after_path(standing, names_pipe);
 }
 
 /// Returns how the call of an entry is made whose path was found to name a pipe, or wasn't.

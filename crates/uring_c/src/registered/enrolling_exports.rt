@@ -8,7 +8,7 @@ ghost use Rattle.uring_c.specs.PinningForm.{known_of};
 
 use uring_register::{
     Deed, RowOnto, RowStage, begin_rows, closes_row, dismiss, dismissed_rows, dismissing_fault,
-    enroll, enrolling_fault, go_in_round, is_known, known_behind, named, next_of_row, row_for,
+    enroll, enrolling_fault, go_in_round, is_known, known_after, named, next_of_row, row_for,
 };
 
 /// No row holds a ring.
@@ -121,16 +121,16 @@ pub extern "C" fn wulgach_dismiss(rows: &mut [u64], row: u32)
 
 /// Returns in which process a thread is known that has done this in this process, and was known in that one before; 0 is none.
 #[unsafe(no_mangle)]
-pub extern "C" fn wulgach_known_behind(
+pub extern "C" fn wulgach_known_after(
     before: u32,
     process: u32,
     deed: u32,
     to_submit: u32,
     has_thread: bool,
 ) -> u32
-    ensures { result ≡ spec.known_behind before process (deed_of deed to_submit has_thread) }
+    ensures { result ≡ spec.known_after before process (deed_of deed to_submit has_thread) }
 {
-    known_behind(before, process, deed_by(deed, to_submit, has_thread))
+    known_after(before, process, deed_by(deed, to_submit, has_thread))
 }
 
 fn deed_by(word: u32, to_submit: u32, has_thread: bool) -> Deed

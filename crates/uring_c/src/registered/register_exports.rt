@@ -4,7 +4,7 @@ ghost use Rattle.uring_register.specs.declared.restrictions.Restriction.{Restric
 ghost use Rattle.uring_register.specs.Restricting.{KeepsRestrictions, list_fault, allows_entry, allows_call};
 ghost use Rattle.uring_register.specs.Restricting.{restricting_fault as fault_of_list};
 ghost use Rattle.uring_register.specs.Restricting.{enabling_fault as fault_of_enabling};
-ghost use Rattle.uring_register.specs.Tables.{Filing, Registered, Unregistered, Filled, KeepsTable, IsGiven, GivesNone, range_fault, behind_range, size, content};
+ghost use Rattle.uring_register.specs.Tables.{Filing, Registered, Unregistered, Filled, KeepsTable, IsGiven, GivesNone, range_fault, after_range, size, content};
 ghost use Rattle.uring_register.specs.Registering as spec;
 ghost use Rattle.uring_register.specs.Structures.{range_has_reserved};
 ghost use Rattle.uring_c.specs.RegisterForm.{row_of_word, word_of_row, fault_of_row};
@@ -136,7 +136,7 @@ pub extern "C" fn wulgach_table_give_out(table: &mut Table, range: &RangeForm) -
     ensures fault { (log : List Filing) (rows : List ℕ) → KeepsTable log table.old rows
         → result ≡ range_fault log range.now.off range.now.len (range_has_reserved range.now) }
     ensures after { (log : List Filing) (rows : List ℕ) → KeepsTable log table.old rows
-        → KeepsTable (behind_range log range.now.off range.now.len (range_has_reserved range.now)) table.new rows }
+        → KeepsTable (after_range log range.now.off range.now.len (range_has_reserved range.now)) table.new rows }
 {
     table.give_out(range.off, range.len, range_has_reserved(range))
 }

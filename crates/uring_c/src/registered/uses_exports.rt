@@ -5,7 +5,7 @@ ghost use Rattle.uring_register.specs.Bytes as spec;
 ghost use Rattle.uring_c.specs.UsesForm.{word_of_ending};
 
 use uring_register::{
-    Buffer, Ending, Uses, bytes_fault, flags_behind, further_in, is_taken, part_of,
+    Buffer, Ending, Uses, bytes_fault, flags_after, further_in, is_taken, part_of,
 };
 
 /// One has a file or buffer, with a tag or without: a slot that is to get it, or a request.
@@ -82,9 +82,9 @@ pub extern "C" fn wulgach_buffer_flags(
     is_transfer: bool,
     id: u16,
 ) -> u32
-    ensures { result ≡ spec.flags_behind would_wait moved res is_transfer id }
+    ensures { result ≡ spec.flags_after would_wait moved res is_transfer id }
 {
-    flags_behind(would_wait, moved, res, is_transfer, id)
+    flags_after(would_wait, moved, res, is_transfer, id)
 }
 
 /// Whether an operation has taken the provided buffer that it had, by the flags of its completion: then that is taken out of its group.

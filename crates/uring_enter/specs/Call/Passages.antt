@@ -24,28 +24,28 @@ abbrev pub first_of_entering : ℕ → Passage
 first_of_entering flags = first_by (naming_of flags)
 
 -- of io_uring_enter(2) the flags are looked at first; then the number, where they say that the ring is named by one, and the descriptor that it stands for; then who calls. A call counts once its ring is found, also if who calls is refused: by the count an eventfd knows what ends in a later call than its own
-abbrev pub behind_entering : ℕ → Option Check → Passage
-behind_entering flags None = first_of_entering flags
-behind_entering flags (Some Number) = Checks Descriptor
-behind_entering flags (Some Descriptor) = Checks Counts
-behind_entering flags (Some Counts) = Checks Caller
-behind_entering flags (Some Caller) = Passes
-behind_entering flags (Some Argument) = Passes
+abbrev pub after_entering : ℕ → Option Check → Passage
+after_entering flags None = first_of_entering flags
+after_entering flags (Some Number) = Checks Descriptor
+after_entering flags (Some Descriptor) = Checks Counts
+after_entering flags (Some Counts) = Checks Caller
+after_entering flags (Some Caller) = Passes
+after_entering flags (Some Argument) = Passes
 
 abbrev pub next_of_entering : ℕ → Option Check → ℤ → Passage
-next_of_entering flags last res = unless_refused res (behind_entering flags last)
+next_of_entering flags last res = unless_refused res (after_entering flags last)
 
 -- of io_uring_register(2) the ring is looked for, where the descriptor has one; then it is looked who calls what, on which descriptor, and then at the argument and its count. A call on a ring counts, whatever it is refused with
-abbrev pub behind_registering : Bool → Option Check → Passage
-behind_registering has_ring None = Checks Descriptor
-behind_registering has_ring (Some Number) = Checks Descriptor
-behind_registering has_ring (Some Descriptor) = if has_ring then Checks Counts else Checks Caller
-behind_registering has_ring (Some Counts) = Checks Caller
-behind_registering has_ring (Some Caller) = Checks Argument
-behind_registering has_ring (Some Argument) = Passes
+abbrev pub after_registering : Bool → Option Check → Passage
+after_registering has_ring None = Checks Descriptor
+after_registering has_ring (Some Number) = Checks Descriptor
+after_registering has_ring (Some Descriptor) = if has_ring then Checks Counts else Checks Caller
+after_registering has_ring (Some Counts) = Checks Caller
+after_registering has_ring (Some Caller) = Checks Argument
+after_registering has_ring (Some Argument) = Passes
 
 abbrev pub next_of_registering : Bool → Option Check → ℤ → Passage
-next_of_registering has_ring last res = unless_refused res (behind_registering has_ring last)
+next_of_registering has_ring last res = unless_refused res (after_registering has_ring last)
 
 pub data CallStep : Type 0 where
   -- its last argument is taken for a structure of a mask and a time

@@ -50,8 +50,8 @@ abbrev pub is_waiting : Outstanding → Bool
 is_waiting r = r.is_stream || r.code == 11
 
 -- whether a kernel takes the entry of a request only after a cancel that is carried out as its own is taken: one that was submitted after it, where the cancel is after no link and doesn't drain. What Linux 6.18 does
-abbrev pub is_taken_behind : (cancel : ℕ) → (is_linked drains : Bool) → (number : ℕ) → Bool
-is_taken_behind cancel is_linked drains number = not is_linked && not drains && nat_lt cancel number
+abbrev pub is_taken_after : (cancel : ℕ) → (is_linked drains : Bool) → (number : ℕ) → Bool
+is_taken_after cancel is_linked drains number = not is_linked && not drains && nat_lt cancel number
 
 -- whether a request can be found at all: it waits for something, or could start now, before the cancel. One after a link or a drain can't; what the kernel does
 abbrev pub can_be_found : Outstanding → Bool

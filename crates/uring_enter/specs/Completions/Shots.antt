@@ -44,16 +44,16 @@ completion_flags Notice _ = 8
 completion_flags Own of_buffer = of_buffer
 
 -- the flags of a provided buffer are told by the first completion that has them, which is an event where the request goes on: its next buffer has flags of its own. A send takes none
-abbrev pub untold_behind : Part → ℕ → ℕ
-untold_behind Event of_buffer = 0
-untold_behind Sent of_buffer = of_buffer
-untold_behind Notice of_buffer = of_buffer
-untold_behind Own of_buffer = 0
+abbrev pub untold_after : Part → ℕ → ℕ
+untold_after Event of_buffer = 0
+untold_after Sent of_buffer = of_buffer
+untold_after Notice of_buffer = of_buffer
+untold_after Own of_buffer = 0
 
 -- what is told after an event is told as by a request that has taken no buffer
 abbrev pub TellsABufferOnce : Type 0
 TellsABufferOnce = (later : Part) (of_buffer : ℕ)
-    → completion_flags later (untold_behind Event of_buffer) ≡ completion_flags later 0
+    → completion_flags later (untold_after Event of_buffer) ≡ completion_flags later 0
 
 -- what the end of a send without copies tells of, which has two completions: that its memory is free, where the other one, which says what it has sent, was posted before. Where memory was refused for that one it is put off, and the end tells what was sent. Our own rule
 abbrev pub end_of_send : (is_posted : Bool) → Part

@@ -37,8 +37,8 @@ store_of log n =
     if nat_lt (written log) n then Cell (written log - reaped log) (written log % 2 ^ 32)
     else Tail (written log % 2 ^ 32)
 
-abbrev pub behind_store : List Change → ℕ → List Change
-behind_store log n = if nat_lt (written log) n then Written ∷ log else log
+abbrev pub after_store : List Change → ℕ → List Change
+after_store log n = if nat_lt (written log) n then Written ∷ log else log
 
 -- how many more were reaped, by a head that tells this count; none, if it is past the tail
 abbrev pub heard_of : List Change → ℕ → Option ℕ

@@ -122,15 +122,15 @@ abbrev pub are_many : Resting → Bool
 are_many r = nat_lt r.looked_at r.waiting
 
 -- after completions that were posted outside a call, as another ring's message or a tag: other threads see what has ended, however long nothing else comes, and whoever polls the ring's descriptor is told by what they see
-abbrev pub behind_posting : (has_ends is_polled : Bool) → Duties
-behind_posting has_ends is_polled = record nothing {
+abbrev pub after_posting : (has_ends is_polled : Bool) → Duties
+after_posting has_ends is_polled = record nothing {
   shows_ends = has_ends;
   tells_readiness = is_polled;
 }
 
 -- as a call falls asleep, after the pipes: of many that wait those become dormant that wait for nothing else; then it is as after completions that were posted
 abbrev pub at_rest : Resting → Duties
-at_rest r = record (behind_posting r.has_ends r.is_polled) { lets_lie = are_many r }
+at_rest r = record (after_posting r.has_ends r.is_polled) { lets_lie = are_many r }
 
 -- as a call returns. Those find their files whose turn hasn't come, and what was accepted, and then what runs, keeps its file, as it does in the kernel, whatever the application closes. Then pipes are watched, those that polls wait for by the descriptors that were kept; those that none waits for any more are let go. Of many that wait those become dormant that wait for nothing else. What has ended is shown, io_uring_enter(2); by that the descriptor is readable or not; and by that the flags say whether a call may bring something
 abbrev pub at_return : Resting → Duties
@@ -156,8 +156,8 @@ abbrev pub before_posting : Duties
 before_posting = record nothing { hears_application = true }
 
 -- after completions that were stored into ring memory with their tail: the flags say whether some have overflowed, and whether a call may bring something, and a registered eventfd is told, if it is to be told of any of them
-abbrev pub behind_storing : (told : ℕ) → Duties
-behind_storing told = record nothing { shows_flags = true; tells_eventfd = nat_lt 0 told }
+abbrev pub after_storing : (told : ℕ) → Duties
+after_storing told = record nothing { shows_flags = true; tells_eventfd = nat_lt 0 told }
 
 -- before an operation is carried out: other threads see what has ended, however long it takes; a no-op (0) takes no time. Then it is heard what the application has reaped, as before any completion
 abbrev pub before : ℕ → (has_ends : Bool) → Duties
@@ -182,8 +182,8 @@ ShowsAtLast = (r : Resting) (duty : Duty) → is_due (at_return r) duty ≡ true
 
 -- where an eventfd is told, the flags are shown before: so whoever is woken by it sees IORING_SQ_CQ_OVERFLOW. io_uring_register(2), IORING_REGISTER_EVENTFD; that the flags come first is what Linux 6.18 does
 abbrev pub TellsOfWhatIsShown : Type 0
-TellsOfWhatIsShown = (told : ℕ) → is_due (behind_storing told) TellsEventfd ≡ true
-    → comes_before (behind_storing told) ShowsFlags TellsEventfd ≡ true
+TellsOfWhatIsShown = (told : ℕ) → is_due (after_storing told) TellsEventfd ≡ true
+    → comes_before (after_storing told) ShowsFlags TellsEventfd ≡ true
 
 -- where requests run as a call returns, their files are kept after those that are found then and those of what was accepted, and before pipes are watched for them
 abbrev pub WatchesWhatIsHeld : Type 0

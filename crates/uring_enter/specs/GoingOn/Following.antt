@@ -1,6 +1,6 @@
 -- What the end of a request makes of others, and in which order. Our own rules.
 use Rattle.std.specs.Prelude.{ℕ, Bool, true, ◌||◌}
-use Rattle.uring_enter.specs.declared.going_on.following.BehindEnd.{BehindEnd}
+use Rattle.uring_enter.specs.declared.going_on.following.AfterEnd.{AfterEnd}
 
 pub data EndDuty : Type 0 where
   KeepsCompletion : EndDuty
@@ -29,7 +29,7 @@ end_place EndsDrain = 8
 end_place Leaves = 9
 end_place HasEnds = 10
 
-abbrev pub is_end_due : BehindEnd → EndDuty → Bool
+abbrev pub is_end_due : AfterEnd → EndDuty → Bool
 is_end_due d KeepsCompletion = d.keeps_completion
 is_end_due d Counts = d.counts
 is_end_due d StopsTimeout = d.stops_timeout
@@ -43,7 +43,7 @@ is_end_due d Leaves = d.leaves
 is_end_due d HasEnds = d.has_ends
 
 -- after each end all of this is done, but that only what was polled for is polled for no more, only of one that may have had to wait for its descriptor anything tells, and only one that drains ends to do so
-abbrev pub behind_end : (has_file has_instance is_stream is_draining : Bool) → BehindEnd
+abbrev pub behind_end : (has_file has_instance is_stream is_draining : Bool) → AfterEnd
 behind_end has_file has_instance is_stream is_draining = record {
   keeps_completion = true;
   counts = true;

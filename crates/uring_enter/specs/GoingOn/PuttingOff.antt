@@ -29,16 +29,16 @@ is_refused (IsRefused ∷ earlier) = true
 is_refused _ = false
 
 -- memory is refused still: nothing is submitted or posted. But a request that isn't carried out any more, since a cancel has found it, ends nonetheless
-abbrev pub behind_refusal : Coming → Order
-behind_refusal Submission = Waits
-behind_refusal Posting = Waits
-behind_refusal End = Comes
+abbrev pub after_refusal : Coming → Order
+after_refusal Submission = Waits
+after_refusal Posting = Waits
+after_refusal End = Comes
 
 -- whether something comes now: where nothing is put off, at once; else the core is given first what is
 abbrev pub order_behind : Coming → (is_put_off is_refused : Bool) → Order
 order_behind what is_put_off is_refused =
     if not is_put_off then Comes else
-    if is_refused then behind_refusal what else PostsFirst
+    if is_refused then after_refusal what else PostsFirst
 
 -- the same, by what has happened
 abbrev pub order_by : List Happening → Coming → Order
@@ -67,6 +67,6 @@ abbrev pub NothingOvertakes : Type 0
 NothingOvertakes = (log : List Happening) → IsRun log → is_put_off log ≡ true → come_since log ≡ []
 
 -- in each run a request ends meanwhile only if memory was refused once more just before
-abbrev pub EndsBehindATry : Type 0
-EndsBehindATry = (log : List Happening) → IsRun (HasCome End ∷ log) → is_put_off log ≡ true
+abbrev pub EndsAfterATry : Type 0
+EndsAfterATry = (log : List Happening) → IsRun (HasCome End ∷ log) → is_put_off log ≡ true
     → is_refused log ≡ true

@@ -24,8 +24,8 @@ abbrev pub looked_at_before_sleep : ℕ
 looked_at_before_sleep = a_few
 
 -- a call that ends looks at all where a ring may have been closed while a call was on it, since that goes with the call; else at a few, where there is more than one ring and it was last looked ten milliseconds ago
-abbrev pub looked_at_behind : (may_be_left : Bool) (rings elapsed : ℕ) → ℕ
-looked_at_behind may_be_left rings elapsed =
+abbrev pub looked_at_after : (may_be_left : Bool) (rings elapsed : ℕ) → ℕ
+looked_at_after may_be_left rings elapsed =
     if may_be_left then all_rings else
     if nat_le 2 rings && nat_le 10000000 elapsed then a_few else 0
 
@@ -35,7 +35,7 @@ asks_elapsed may_be_left rings = not may_be_left && nat_le 2 rings
 
 abbrev pub ElapsedMattersWhereAsked : Type 0
 ElapsedMattersWhereAsked = (may_be_left : Bool) (rings one other : ℕ) → asks_elapsed may_be_left rings ≡ false
-    → looked_at_behind may_be_left rings one ≡ looked_at_behind may_be_left rings other
+    → looked_at_after may_be_left rings one ≡ looked_at_after may_be_left rings other
 
 -- whether the lock of all rings is tried once more after a close in a signal's handler, which was tried so often: a hundred times, with a moment for others between two. Who has it may wait for what the handler's own thread has, so that it would never get it: then whoever ends a call next looks
 abbrev pub tries_again : (tries : ℕ) → Bool
@@ -49,6 +49,6 @@ next_before_sleep (Some ReadsMask) has_brought fault = Does DoesDuties
 next_before_sleep (Some DoesDuties) has_brought fault = Begins (beginning_of fault has_brought)
 
 -- no call sleeps before all of that was done, or where the last has brought something
-abbrev pub SleepsBehindAll : Type 0
-SleepsBehindAll = (last : Option BeforeSleep) (has_brought : Bool) (fault : ℤ) → next_before_sleep last has_brought fault ≡ Begins Sleeps
+abbrev pub SleepsAfterAll : Type 0
+SleepsAfterAll = (last : Option BeforeSleep) (has_brought : Bool) (fault : ℤ) → next_before_sleep last has_brought fault ≡ Begins Sleeps
     → (last ≡ Some DoesDuties) × (has_brought ≡ false)

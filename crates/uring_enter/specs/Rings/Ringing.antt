@@ -27,13 +27,13 @@ is_region (Some _) = true
 is_region None = false
 
 -- what a set-up does after this, once that went well: it reads the parameters, asks the kernel where the ring is strict, makes the ring, tells its parameters, and opens its descriptor. Our own rule, but that the parameters are read first, and that they are told before there is a descriptor, as Linux 6.18 was seen to do
-abbrev pub behind_stage : Option Stage → Onto
-behind_stage None = Does Reads
-behind_stage (Some Reads) = Does AsksKernel
-behind_stage (Some AsksKernel) = Does Makes
-behind_stage (Some Makes) = Does Tells
-behind_stage (Some Tells) = Does Opens
-behind_stage (Some Opens) = IsDone
+abbrev pub after_stage : Option Stage → Onto
+after_stage None = Does Reads
+after_stage (Some Reads) = Does AsksKernel
+after_stage (Some AsksKernel) = Does Makes
+after_stage (Some Makes) = Does Tells
+after_stage (Some Tells) = Does Opens
+after_stage (Some Opens) = IsDone
 
 abbrev pub has_made : Option Stage → Bool
 has_made (Some Tells) = true
@@ -43,7 +43,7 @@ has_made _ = false
 -- the first fault ends it; a ring whose parameters can't be told, or that can't have a descriptor, is dropped
 abbrev pub next_of : Option Stage → ℤ → Onto
 next_of last res =
-    if not (is_below res) then behind_stage last else
+    if not (is_below res) then after_stage last else
     if has_made last then Drops res else Fails res
 
 abbrev pub fate_by : Option Bool → Fate

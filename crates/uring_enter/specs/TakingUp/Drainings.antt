@@ -44,8 +44,8 @@ finds_file log request linux may_start =
     not request.is_linked && (not (has_drained log) || (linux || outstanding log == 0) && may_start)
 
 -- by the call, but after a request of it that may change slots each in its turn: the kernel begins the requests of a call in their order, and carries out at once what need not wait. So after a close of a slot in one call none finds its file, and after an update one finds the new one
-abbrev pub by_call : (behind_change : Bool) → WhenFound
-by_call behind_change = if behind_change then InItsTurn else ByTheCall
+abbrev pub by_call : (after_change : Bool) → WhenFound
+by_call after_change = if after_change then InItsTurn else ByTheCall
 
 -- whether one of these entries, which stand before a request in its call, may change slots
 abbrev pub may_change_slots : List Submission → Bool
@@ -53,19 +53,19 @@ may_change_slots [] = false
 may_change_slots (entry ∷ earlier) = changes_slots entry || may_change_slots earlier
 
 -- the same, as far as it is known whether the core lets it start: that is asked only where it matters
-abbrev pub when_found : List Drainage → Member → (linux behind_change knows_start may_start : Bool) → WhenFound
-when_found log request linux behind_change knows_start may_start =
+abbrev pub when_found : List Drainage → Member → (linux after_change knows_start may_start : Bool) → WhenFound
+when_found log request linux after_change knows_start may_start =
     if request.is_linked then AtItsStart else
-    if not (has_drained log) then by_call behind_change else
+    if not (has_drained log) then by_call after_change else
     if not linux && not (outstanding log == 0) then AtItsStart else
     if not knows_start then AsksStart else
-    if may_start then by_call behind_change else AtItsStart
+    if may_start then by_call after_change else AtItsStart
 
 -- files are found by the call exactly if they are to be, whatever was known; and what is known isn't asked
 abbrev pub FindsInTime : Type 0
-FindsInTime = (log : List Drainage) (request : Member) (linux behind_change may_start : Bool)
-    → (when_found log request linux behind_change true may_start ≡ (if finds_file log request linux may_start then by_call behind_change else AtItsStart))
-    × ((known : Bool) → when_found log request linux behind_change false known ≡ AsksStart ⊎ when_found log request linux behind_change false known ≡ when_found log request linux behind_change true may_start)
+FindsInTime = (log : List Drainage) (request : Member) (linux after_change may_start : Bool)
+    → (when_found log request linux after_change true may_start ≡ (if finds_file log request linux may_start then by_call after_change else AtItsStart))
+    × ((known : Bool) → when_found log request linux after_change false known ≡ AsksStart ⊎ when_found log request linux after_change false known ≡ when_found log request linux after_change true may_start)
 
 -- whether the oldest request that is outstanding can start, if it hasn't: it waits for none before it. By Linux's rules a drain, and what comes after one, is put off, and waits for a turn of its own: so once one was accepted the core is asked which request can start
 abbrev pub oldest_starts : List Drainage → (linux : Bool) → Bool

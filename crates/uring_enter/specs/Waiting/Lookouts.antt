@@ -143,7 +143,7 @@ pub record KeepsLookout (log : List Happening) (l : Lookout) : Type 0 where
   pub changed : l.has_changed ≡ has_changed log
 
 -- what becomes of a request that runs and of the moment, where another ends, which drains or doesn't, in a ring by Linux's rules or by the manual pages': which descriptors are ready is as before, since an end changes none; who has found a buffer has found one still; a completion may be posted as drains say, and whether there is memory for it is as before; and a count is reached that was before, or that this end has reached
-pub record IsBehindEnd (log : List Happening) (drainages : List Drainage) (staged : ℕ) (linux has_memory is_draining : Bool) (end : EndOfOne)
+pub record IsAfterEnd (log : List Happening) (drainages : List Drainage) (staged : ℕ) (linux has_memory is_draining : Bool) (end : EndOfOne)
     (had_to_wait : Bool) (before after : Standing) (m l : Moment) : Type 0 where
   pub told : end.has_drains ≡ not (drains.outstanding drainages == 0)
   pub waits : had_to_wait ≡ true → have_to_wait log ≡ true
@@ -158,7 +158,7 @@ pub record IsBehindEnd (log : List Happening) (drainages : List Drainage) (stage
 abbrev pub EndLetsNone : Type 0
 EndLetsNone = (log : List Happening) (drainages : List Drainage) (staged : ℕ) (linux has_memory is_draining : Bool) (end : EndOfOne)
     (had_to_wait has_to_wait : Bool) (before after : Standing) (n : Needs) (is_cancelled : Bool) (m l : Moment)
-    → IsBehindEnd log drainages staged linux has_memory is_draining end had_to_wait before after m l
+    → IsAfterEnd log drainages staged linux has_memory is_draining end had_to_wait before after m l
     → lets_others log end ≡ false
     → can_finish before n had_to_wait is_cancelled m ≡ false
     → can_finish after n has_to_wait is_cancelled l ≡ false

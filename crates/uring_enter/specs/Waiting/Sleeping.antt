@@ -39,8 +39,8 @@ abbrev pub unless_message : Bool → Outcome
 unless_message can_post = if can_post then Woken else Endless
 
 -- a timeout whose time is over fires after a sleep only if that came to its end: where a signal or an error ended it the call returns with that, and the timeout fires in the next. Our own rule
-abbrev pub fires_behind : Waited → Bool
-fires_behind w = not w.is_never && not (is_error w.result)
+abbrev pub fires_after : Waited → Bool
+fires_after w = not w.is_never && not (is_error w.result)
 
 -- a sleep naps for a request that was carried out in vain twice or more, though its descriptor showed ready, and shows so still: a poll of it would end each sleep at once. So it is of a local socket that connects where no more are taken, and of a counter that has no room for what is added. And it naps for one that has no descriptor, as the open of a named pipe: nothing tells that the other end was opened. Our own rule
 abbrev pub naps_for : Needs → (vain : ℕ) (is_ready : Bool) → Bool
@@ -51,13 +51,13 @@ abbrev pub asks_before_nap : Needs → (vain : ℕ) → Bool
 asks_before_nap n vain = n.needs_file && nat_le 2 vain
 
 -- once its descriptor has shown that it isn't ready, what was in vain counts no more. Our own rule
-abbrev pub vain_behind : Needs → (vain : ℕ) (is_ready : Bool) → ℕ
-vain_behind n vain is_ready = if asks_before_nap n vain && not is_ready then 0 else vain
+abbrev pub vain_after : Needs → (vain : ℕ) (is_ready : Bool) → ℕ
+vain_after n vain is_ready = if asks_before_nap n vain && not is_ready then 0 else vain
 
 -- a sleep polls the descriptor of each request that may have to wait for it, but for whom it naps; and it naps beside the poll for one of whose socket poll(2) doesn't tell that it was shut down for writing. Others it is without. Our own rule
 abbrev pub slept_for : Standing → Needs → (vain : ℕ) (is_ready asks_broken : Bool) → SleptFor
 slept_for s n vain is_ready asks_broken = record {
-  vain = vain_behind n vain is_ready;
+  vain = vain_after n vain is_ready;
   is_polled = polls s && not (naps_for n vain is_ready);
   naps = polls s && (naps_for n vain is_ready || asks_broken);
 }

@@ -33,8 +33,8 @@ abbrev pub reached : Option ℕ → ℤ → Option ℕ
 reached end came = if int_eq came (pos 0) then end else None
 
 -- what has happened after a sleep
-abbrev pub behind_sleep : List Event → Option ℕ → ℤ → List Event
-behind_sleep log end came = behind_end log (reached end came)
+abbrev pub after_sleep : List Event → Option ℕ → ℤ → List Event
+after_sleep log end came = behind_end log (reached end came)
 
 -- what a sleep lets pass by a clock: where time is real it is what the clock says since the ring's time began, and else what was slept is added
 abbrev pub passes : (is_real : Bool) → (origin start stop : ℕ) → Event

@@ -66,9 +66,9 @@ look_of log s n is_cancelled m =
     if is_known log then look.Waits else ready.look_of s n (has_to_wait log) is_cancelled m
 
 -- what has happened after that
-abbrev pub behind_look : List Encounter → Look → List Encounter
-behind_look log look.Waits = FoundWaiting ∷ log
-behind_look log _ = log
+abbrev pub after_look : List Encounter → Look → List Encounter
+after_look log look.Waits = FoundWaiting ∷ log
+after_look log _ = log
 
 -- whether its descriptor was looked at, and can't have become ready since
 abbrev pub is_seen : List Encounter → Bool

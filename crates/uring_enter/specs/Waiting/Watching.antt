@@ -39,8 +39,8 @@ change_of (Some before) (Some after) =
     if before.events == after.events && before.begun == after.begun then Stays else Renews
 
 -- a renewal that comes to -2 (ENOENT) is of a number that isn't polled for any more, since it was closed, and is another file's: that one is added
-abbrev pub adds_behind : ℤ → Bool
-adds_behind res = int_eq res (error 2)
+abbrev pub adds_after : ℤ → Bool
+adds_after res = int_eq res (error 2)
 
 -- an epoll instance tells of a descriptor that it takes, or has (-17, EEXIST). One that can't be polled (-1, EPERM) or isn't open (-9, EBADF) poll(2) shows at once. Of any other that it refuses it can't tell, as of an instance in too many others (-40, ELOOP), or where no more are watched (-28, ENOSPC): a sleep polls then by poll(2), and a ring's descriptor stays readable, so that whoever waits by it looks. epoll_ctl(2), errors; what is done then is our own rule
 abbrev pub enlisted_as : ℤ → Enlisted

@@ -219,8 +219,8 @@ pub fn is_waiting(request: &Outstanding) -> bool
 }
 
 /// Whether a kernel takes the entry of the request of this number only after a cancel of that number, which is after a link or isn't, and drains or doesn't.
-pub fn is_taken_behind(cancel: u64, is_linked: bool, drains: bool, number: u64) -> bool
-    ensures { result ≡ spec.is_taken_behind cancel is_linked drains number }
+pub fn is_taken_after(cancel: u64, is_linked: bool, drains: bool, number: u64) -> bool
+    ensures { result ≡ spec.is_taken_after cancel is_linked drains number }
 {
     !is_linked && !drains && cancel < number
 }

@@ -2,7 +2,7 @@
 
 ghost use Rattle.std.specs.Prelude.{◌≡◌, List};
 ghost use Rattle.uring_enter.specs.Completions.Showing.{Change, KeepsShown};
-ghost use Rattle.uring_enter.specs.Completions.Shots.{NotifiesAtLast, TellsABufferOnce, brings, comes_of_ring, completion_flags, end_of_send, goes_on, has_room, is_behind, shot_of, tells, untold_behind};
+ghost use Rattle.uring_enter.specs.Completions.Shots.{NotifiesAtLast, TellsABufferOnce, brings, comes_of_ring, completion_flags, end_of_send, goes_on, has_room, is_behind, shot_of, tells, untold_after};
 
 use crate::completions::posted::Posted;
 use crate::completions::showing::Shown;
@@ -114,8 +114,8 @@ pub fn completion_flags(part: Part, of_buffer: u32) -> u32
 }
 
 /// The flags of a provided buffer of which no completion has told, after one of this part, where they were `of_buffer`, or 0.
-pub fn untold_behind(part: Part, of_buffer: u32) -> u32
-    ensures { result ≡ untold_behind part of_buffer }
+pub fn untold_after(part: Part, of_buffer: u32) -> u32
+    ensures { result ≡ untold_after part of_buffer }
 {
     match part {
         Part::Event | Part::Own => 0,

@@ -1,7 +1,7 @@
 //! Which completions the application is shown in ring memory, and what it has reaped.
 
 ghost use Rattle.std.specs.Prelude.{◌≡◌, ◌+◌, ◌<◌, ◌≤◌, ◌%◌, ◌^◌, ◌-◌, ℕ, drop, List, [], ◌∷◌, nat_le};
-ghost use Rattle.uring_enter.specs.Completions.Showing.{Change, Reaped, KeepsShown, IsTold, posted, written, reaped, store_of, behind_store, heard_of, ready, overflows, loads_head, waits, may_bring, flags_of};
+ghost use Rattle.uring_enter.specs.Completions.Showing.{Change, Reaped, KeepsShown, IsTold, posted, written, reaped, store_of, after_store, heard_of, ready, overflows, loads_head, waits, may_bring, flags_of};
 ghost use Rattle.uring_enter.specs.declared.completions.posted.Posted.{Posted as Row};
 ghost use Rattle.uring_enter.specs.Completions.Postings.{Posting, Reaped as RowsReaped, KeepsPosted};
 
@@ -54,7 +54,7 @@ impl Shown {
         ensures store { (log : List Change) (n : ℕ) → KeepsShown log self.old → IsTold log tail n
             → n ≤ posted log → result ≡ store_of log n }
         ensures after { (log : List Change) (n : ℕ) → KeepsShown log self.old → IsTold log tail n
-            → n ≤ posted log → KeepsShown (behind_store log n) self.new }
+            → n ≤ posted log → KeepsShown (after_store log n) self.new }
     {
         let place = self.shown;
         if place < distance(self.head, tail) {

@@ -158,7 +158,7 @@ pub fn duties_at_rest(resting: &Resting) -> Duties
 {
     Duties {
         lets_lie: resting.waiting > resting.looked_at,
-        ..duties_behind_posting(resting.has_ends, resting.is_polled)
+        ..duties_after_posting(resting.has_ends, resting.is_polled)
     }
 }
 
@@ -211,8 +211,8 @@ pub fn duties_before_posting() -> Duties
 }
 
 /// After completions that were posted outside a call.
-pub fn duties_behind_posting(has_ends: bool, is_polled: bool) -> Duties
-    ensures { result ≡ spec.behind_posting has_ends is_polled }
+pub fn duties_after_posting(has_ends: bool, is_polled: bool) -> Duties
+    ensures { result ≡ spec.after_posting has_ends is_polled }
 {
     Duties {
         shows_ends: has_ends,
@@ -222,8 +222,8 @@ pub fn duties_behind_posting(has_ends: bool, is_polled: bool) -> Duties
 }
 
 /// After completions that were stored into ring memory with their tail, of so many of which a registered eventfd is told.
-pub fn duties_behind_storing(told: u64) -> Duties
-    ensures { result ≡ spec.behind_storing told }
+pub fn duties_after_storing(told: u64) -> Duties
+    ensures { result ≡ spec.after_storing told }
 {
     Duties {
         shows_flags: true,

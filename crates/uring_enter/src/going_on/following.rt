@@ -5,7 +5,7 @@ ghost use Rattle.uring_enter.specs.GoingOn.Following as spec;
 
 /// What is done after the end of a request, in the order in which it stands here.
 #[derive(Clone, Copy, Drop)]
-pub struct BehindEnd {
+pub struct AfterEnd {
     /// Its completion is kept, if it has one, to be shown.
     pub keeps_completion: bool,
 
@@ -41,15 +41,15 @@ pub struct BehindEnd {
 }
 
 /// After the end of a request, which keeps a file or none, has an epoll instance that tells of its events or none, may have had to wait for its descriptor, and drains or doesn't.
-pub fn duties_behind_end(
+pub fn duties_after_end(
     has_file: bool,
     has_instance: bool,
     is_stream: bool,
     is_draining: bool,
-) -> BehindEnd
+) -> AfterEnd
     ensures { result ≡ spec.behind_end has_file has_instance is_stream is_draining }
 {
-    BehindEnd {
+    AfterEnd {
         keeps_completion: true,
         counts: true,
         stops_timeout: true,

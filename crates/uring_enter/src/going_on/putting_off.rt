@@ -2,7 +2,7 @@
 
 ghost use Rattle.std.specs.Prelude.{◌≡◌};
 ghost use Rattle.uring_enter.specs.GoingOn.PuttingOff as spec;
-ghost use Rattle.uring_enter.specs.GoingOn.PuttingOff.{NothingOvertakes, EndsBehindATry};
+ghost use Rattle.uring_enter.specs.GoingOn.PuttingOff.{NothingOvertakes, EndsAfterATry};
 
 /// What is to come in a ring.
 #[derive(Clone, Copy, Drop)]
@@ -38,14 +38,14 @@ pub fn order_behind(what: Coming, is_put_off: bool, is_refused: bool) -> Order
         return Order::Comes;
     }
     if is_refused {
-        behind_refusal(what)
+        after_refusal(what)
     } else {
         Order::PostsFirst
     }
 }
 
-fn behind_refusal(what: Coming) -> Order
-    ensures { result ≡ spec.behind_refusal what }
+fn after_refusal(what: Coming) -> Order
+    ensures { result ≡ spec.after_refusal what }
 {
     match what {
         Coming::Submission | Coming::Posting => Order::Waits,
@@ -59,6 +59,6 @@ pub fn nothing_overtakes()
 {}
 
 /// A request ends meanwhile only if memory was refused once more just before.
-pub fn ends_behind_a_try()
-    ensures { EndsBehindATry }
+pub fn ends_after_a_try()
+    ensures { EndsAfterATry }
 {}

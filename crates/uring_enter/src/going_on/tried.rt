@@ -5,7 +5,7 @@ ghost use Rattle.uring_enter.specs.GoingOn.Tried as spec;
 
 /// What is done after an operation that was carried out, in the order in which it stands here.
 #[derive(Clone, Copy, Drop)]
-pub struct BehindTry {
+pub struct AfterTry {
     /// Those that run are looked at again.
     pub looks_afresh: bool,
 
@@ -17,10 +17,10 @@ pub struct BehindTry {
 }
 
 /// After an operation that can make others ready, or can't, and that would have to wait, or came to a result. Our own rule.
-pub fn behind_try(can_make_ready: bool, would_wait: bool) -> BehindTry
-    ensures { result ≡ spec.behind_try can_make_ready would_wait }
+pub fn after_try(can_make_ready: bool, would_wait: bool) -> AfterTry
+    ensures { result ≡ spec.after_try can_make_ready would_wait }
 {
-    BehindTry {
+    AfterTry {
         looks_afresh: can_make_ready,
         waits: would_wait,
         asks_going_on: !would_wait,

@@ -2,7 +2,7 @@
 
 ghost use Rattle.std.specs.Prelude.{◌≡◌};
 ghost use Rattle.uring_enter.specs.Rings.Closing as spec;
-ghost use Rattle.uring_enter.specs.Rings.Closing.{ElapsedMattersWhereAsked, SleepsBehindAll};
+ghost use Rattle.uring_enter.specs.Rings.Closing.{ElapsedMattersWhereAsked, SleepsAfterAll};
 
 use crate::waiting::sleeping::{Beginning, beginning_of};
 
@@ -49,8 +49,8 @@ pub fn looked_at_before_sleep() -> u32
 }
 
 /// Of how many rings it is looked whether they are closed as a call ends: 2^31 - 1 is all. So many nanoseconds ago it was looked last.
-pub fn looked_at_behind(may_be_left: bool, rings: u32, elapsed: u64) -> u32
-    ensures { result ≡ spec.looked_at_behind may_be_left rings elapsed }
+pub fn looked_at_after(may_be_left: bool, rings: u32, elapsed: u64) -> u32
+    ensures { result ≡ spec.looked_at_after may_be_left rings elapsed }
 {
     if may_be_left {
         ALL_RINGS
@@ -99,6 +99,6 @@ pub fn elapsed_matters_where_asked()
 {}
 
 /// No call sleeps before all of that was done.
-pub fn sleeps_behind_all()
-    ensures { SleepsBehindAll }
+pub fn sleeps_after_all()
+    ensures { SleepsAfterAll }
 {}

@@ -34,12 +34,12 @@ pub fn next_way(last: Option<Way>, copied: i64, size: u64) -> CopyOnto
         None => CopyOnto::Goes(Way::Process),
         Some(_) if copied >= 0 && copied as u64 == size => CopyOnto::IsCopied,
         Some(_) if copied >= 0 || copied == -14 => CopyOnto::Fails,
-        Some(way) => behind_way(way),
+        Some(way) => after_way(way),
     }
 }
 
-fn behind_way(way: Way) -> CopyOnto
-    ensures { result ≡ spec.behind_way way }
+fn after_way(way: Way) -> CopyOnto
+    ensures { result ≡ spec.after_way way }
 {
     match way {
         Way::Process => CopyOnto::Goes(Way::Pipe),

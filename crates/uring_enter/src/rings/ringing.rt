@@ -80,12 +80,12 @@ pub fn next_stage(last: Option<Stage>, res: i32) -> Onto
             Onto::Fails(res)
         }
     } else {
-        behind_stage(last)
+        after_stage(last)
     }
 }
 
-fn behind_stage(last: Option<Stage>) -> Onto
-    ensures { result ≡ spec.behind_stage last }
+fn after_stage(last: Option<Stage>) -> Onto
+    ensures { result ≡ spec.after_stage last }
 {
     match last {
         None => Onto::Does(Stage::Reads),

@@ -107,23 +107,23 @@ impl Drains {
         &self,
         request: &Member,
         linux: bool,
-        behind_change: bool,
+        after_change: bool,
         knows_start: bool,
         may_start: bool,
     ) -> WhenFound
         ensures { (log : List Drainage) → KeepsDrains log self.now
-            → result ≡ when_found log request.now linux behind_change knows_start may_start }
+            → result ≡ when_found log request.now linux after_change knows_start may_start }
     {
         if request.is_linked {
             WhenFound::AtItsStart
         } else if !self.has_drained {
-            by_call(behind_change)
+            by_call(after_change)
         } else if !linux && self.outstanding != 0 {
             WhenFound::AtItsStart
         } else if !knows_start {
             WhenFound::AsksStart
         } else if may_start {
-            by_call(behind_change)
+            by_call(after_change)
         } else {
             WhenFound::AtItsStart
         }
@@ -180,10 +180,10 @@ impl Changes {
     }
 }
 
-fn by_call(behind_change: bool) -> WhenFound
-    ensures { result ≡ spec.by_call behind_change }
+fn by_call(after_change: bool) -> WhenFound
+    ensures { result ≡ spec.by_call after_change }
 {
-    if behind_change {
+    if after_change {
         WhenFound::InItsTurn
     } else {
         WhenFound::ByTheCall

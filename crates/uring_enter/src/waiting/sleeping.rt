@@ -58,8 +58,8 @@ pub enum Outcome {
 }
 
 /// Whether a timeout fires after a wait, if its time is over.
-pub fn fires_behind(waited: &Waited) -> bool
-    ensures { result ≡ spec.fires_behind waited.now }
+pub fn fires_after(waited: &Waited) -> bool
+    ensures { result ≡ spec.fires_after waited.now }
 {
     !waited.is_never && waited.result >= 0
 }
@@ -139,15 +139,15 @@ pub fn slept_for(
     let naps = naps_for(needs, vain, is_ready);
     let is_polled = polls(standing) && !naps;
     SleptFor {
-        vain: vain_behind(needs, vain, is_ready),
+        vain: vain_after(needs, vain, is_ready),
         is_polled,
         naps: polls(standing) && (naps || asks_broken),
     }
 }
 
 /// How often a request was carried out in vain, as far as that counts after a look at its descriptor.
-fn vain_behind(needs: &Needs, vain: u32, is_ready: bool) -> u32
-    ensures { result ≡ spec.vain_behind needs.now vain is_ready }
+fn vain_after(needs: &Needs, vain: u32, is_ready: bool) -> u32
+    ensures { result ≡ spec.vain_after needs.now vain is_ready }
 {
     if asks_before_nap(needs, vain) && !is_ready {
         0

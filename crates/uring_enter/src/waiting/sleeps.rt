@@ -4,7 +4,7 @@ ghost use Rattle.std.specs.Prelude.{◌≡◌, List, ◌∷◌};
 ghost use Rattle.uring_operations.specs.declared.entries.timeout.Timeout.{Timeout};
 ghost use Rattle.uring_operations.specs.Entries.Timeouts.{Event};
 ghost use Rattle.uring_enter.specs.Time.Kept.{KeepsTime};
-ghost use Rattle.uring_enter.specs.Waiting.Sleeps.{behind_end, behind_sleep, lasts_at_most, comes_to, passes, reached, IsSpan};
+ghost use Rattle.uring_enter.specs.Waiting.Sleeps.{behind_end, after_sleep, lasts_at_most, comes_to, passes, reached, IsSpan};
 
 use crate::time::times::Times;
 use uring_operations::left_until;
@@ -67,7 +67,7 @@ impl Times {
     /// A sleep has come to this that was to move time on to `end`: it does if nothing has ended the sleep before. `came` is ppoll's.
     pub fn wake(&mut self, end: Option<u64>, came: i32)
         ensures { (log : List Event) (rows : List Timeout) → KeepsTime log self.old rows
-            → KeepsTime (behind_sleep log end came) self.new rows }
+            → KeepsTime (after_sleep log end came) self.new rows }
     {
         self.come_to(reached(end, came));
     }

@@ -4,7 +4,7 @@ ghost use Rattle.std.specs.Prelude.{◌≡◌, List, [], ◌∷◌};
 ghost use Rattle.uring_operations.specs.declared.requests.act.Fact.{Fact};
 ghost use Rattle.uring_operations.specs.Requests.Courses.{KeepsCourse, is_cancelled};
 ghost use Rattle.uring_enter.specs.Waiting.Lookouts.{Happening, Waited, KeepsLookout};
-ghost use Rattle.uring_enter.specs.Waiting.Waiters.{Encounter, WouldWait, WasCancelled, KeepsWaiter, KeepsThrough, RingKnows, around, behind_look};
+ghost use Rattle.uring_enter.specs.Waiting.Waiters.{Encounter, WouldWait, WasCancelled, KeepsWaiter, KeepsThrough, RingKnows, around, after_look};
 ghost use Rattle.uring_enter.specs.Waiting.Waiters as spec;
 
 use crate::waiting::lookout::Lookout;
@@ -77,7 +77,7 @@ impl Waiter {
             → KeepsWaiter log self.old → KeepsCourse facts course.now
             → result ≡ spec.look_of log standing.now needs.now (is_cancelled facts) known.now }
         ensures after { (log : List Encounter) → KeepsLookout (around log) lookout.now → KeepsWaiter log self.old
-            → KeepsWaiter (behind_look log result) self.new }
+            → KeepsWaiter (after_look log result) self.new }
     {
         let look = if self.is_known(lookout) {
             Look::Waits

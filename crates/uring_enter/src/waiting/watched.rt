@@ -34,8 +34,8 @@ pub enum Watch {
 }
 
 /// Whether a descriptor is added whose renewal came to this: its number was another file's. epoll_ctl(2), ENOENT.
-pub fn adds_behind(res: i32) -> bool
-    ensures { result ≡ spec.adds_behind res }
+pub fn adds_after(res: i32) -> bool
+    ensures { result ≡ spec.adds_after res }
 {
     res == -2
 }

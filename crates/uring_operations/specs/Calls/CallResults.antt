@@ -37,8 +37,8 @@ abbrev pub takes_for_nothing : ℕ → Bool
 takes_for_nothing code = is_transfer code && not (is_read_multishot code)
 
 -- where a READ_MULTISHOT reads next, after so many bytes: from there on, unless it has no offset, which is 2^64 - 1. What has none, as a pipe, passes over it. What Linux 6.18 was seen to do
-abbrev pub offset_behind : Submission → ℤ → ℕ
-offset_behind e came_to =
+abbrev pub offset_after : Submission → ℤ → ℕ
+offset_after e came_to =
     if is_read_multishot e.opcode && not (e.off == 2 ^ 64 - 1) then (e.off + moved_by came_to) % 2 ^ 64 else e.off
 
 -- a file that is put into a slot ends with 0; with the slot, in 32 bits, if its entry asked for any, by 2^32 - 1 (IORING_FILE_INDEX_ALLOC). io_uring_enter(2), IORING_OP_OPENAT and IORING_OP_ACCEPT

@@ -42,9 +42,9 @@ waits_for_all e c =
     && not (is_alone e c.control)
 
 -- a message that came to its end (0) waits for no more
-abbrev pub behind_message : Submission → Call → ℤ → Turn
-behind_message e c (negsuc below) = ends_with e c (negsuc below)
-behind_message e c (pos n) = if not (n == 0) && waits_for_all e c then Does AsksType else EndsWithDone
+abbrev pub after_message : Submission → Call → ℤ → Turn
+after_message e c (negsuc below) = ends_with e c (negsuc below)
+after_message e c (pos n) = if not (n == 0) && waits_for_all e c then Does AsksType else EndsWithDone
 
 -- a connect that was begun is made again once its socket is ready, so that this takes itself for connected; that it is (-106, EISCONN; of some protocols -77, EBADFD) is told then in the place of an error. connect(2), and what Linux 6.18 does
 abbrev pub is_connected : Call → ℤ → Bool
@@ -55,8 +55,8 @@ abbrev pub is_repeated : Call → ℤ → Bool
 is_repeated c res = not c.was_repeated && int_eq res (error 103)
 
 -- a connect that was begun (-115, EINPROGRESS), or is still going on (-114, EALREADY), waits; so does one to a local socket that takes no more (-11, EAGAIN), unless its own isn't to wait
-abbrev pub behind_connect : Call → ℤ → Turn
-behind_connect c res =
+abbrev pub after_connect : Call → ℤ → Turn
+after_connect c res =
     if is_repeated c res then Does Calls else
     if int_eq res (error 11) then Does AsksWill else
     if int_eq res (error 115) || c.has_begun && int_eq res (error 114) then Waits else
@@ -64,26 +64,26 @@ behind_connect c res =
 
 abbrev pub behind_call : Submission → Call → ℤ → Turn
 behind_call e c res =
-    if e.opcode == 16 then behind_connect c res else
+    if e.opcode == 16 then after_connect c res else
     if int_eq res (error 11) then would_wait e c else
-    if has_message_flags e.opcode then behind_message e c res else Ends res
+    if has_message_flags e.opcode then after_message e c res else Ends res
 
-abbrev pub behind_poll : Submission → Bool → Turn
-behind_poll e is_ready =
+abbrev pub after_poll : Submission → Bool → Turn
+after_poll e is_ready =
     if e.opcode == 16 then (if is_ready then Does AsksError else Waits) else
     if is_ready then Does Calls else Does AsksWill
 
 -- a connect ends with its socket's error, if that has one
-abbrev pub behind_error : Submission → ℤ → Turn
-behind_error e res = if e.opcode == 16 && int_eq res (pos 0) then Does Calls else Ends res
+abbrev pub after_error : Submission → ℤ → Turn
+after_error e res = if e.opcode == 16 && int_eq res (pos 0) then Does Calls else Ends res
 
 -- what is done next, after what was done last, which came to `res`: a question to a number that is 0 for no. After a call, `done` has what it has moved too
 abbrev pub behind : Submission → Call → Doing → ℤ → Turn
 behind e c Calls res = behind_call e c res
-behind e c Polls res = behind_poll e (not (int_eq res (pos 0)))
+behind e c Polls res = after_poll e (not (int_eq res (pos 0)))
 behind e c AsksWill res = if int_eq res (pos 0) then Waits else ends_with e c (error 11)
 behind e c AsksType res = if int_eq res (pos 0) then EndsWithDone else Waits
-behind e c AsksError res = behind_error e res
+behind e c AsksError res = after_error e res
 
 abbrev pub next_of : Submission → Call → Option Doing → ℤ → Turn
 next_of e c None res = begins e c

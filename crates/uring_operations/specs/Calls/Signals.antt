@@ -17,8 +17,8 @@ may_break e res =
     (is_splice e.opcode || is_write e.opcode && has_some e.flags 16) && int_eq res (error 32)
 
 -- the number of the signal that is taken back after such an end, as signal(7) has it: SIGXFSZ is 25 and SIGPIPE 13. 0: none is
-abbrev pub signal_behind : Submission → ℤ → ℕ
-signal_behind e res = if may_signal e res then 25 else if may_break e res then 13 else 0
+abbrev pub signal_after : Submission → ℤ → ℕ
+signal_after e res = if may_signal e res then 25 else if may_break e res then 13 else 0
 
 -- whether the kernel may send a SIGXFSZ at all, by the greatest length that the process may give a file (getrlimit(2), RLIMIT_FSIZE), if that is known: 2^64 - 1 (RLIM_INFINITY) limits nothing, and -27 is the file system's own then. Where it isn't known nothing is taken back: our own rule
 abbrev pub is_limited : Option ℕ → Bool

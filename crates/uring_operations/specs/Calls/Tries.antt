@@ -37,8 +37,8 @@ abbrev pub unless_waiting : Transfer → ℤ → Step
 unless_waiting t res = if int_eq res (error 11) && not t.is_shut then Waits else Ends res
 
 -- a call that can't be asked so (-95, EOPNOTSUPP) is made once its descriptor is ready, and that is asked in its place
-abbrev pub behind_asking : Transfer → ℤ → Step
-behind_asking t res = if int_eq res (error 95) then Does Polls else unless_waiting t res
+abbrev pub after_asking : Transfer → ℤ → Step
+after_asking t res = if int_eq res (error 95) then Does Polls else unless_waiting t res
 
 -- unless a try is its end, it is found out what the descriptor is
 abbrev pub unless : Bool → ℤ → Step
@@ -49,7 +49,7 @@ abbrev pub behind : Transfer → Task → ℤ → Step
 behind t (Calls AtOnce) res = unless (is_all res t.length) res
 behind t (Calls Tried) res = unless (not (int_eq res (error 29))) res
 behind t (Calls Plain) res = Ends res
-behind t (Calls Nonblocking) res = behind_asking t res
+behind t (Calls Nonblocking) res = after_asking t res
 behind t (Calls Unwilling) res = unless_waiting t res
 behind t Finds res = if t.is_stream && has_moved res then Ends res else carries_out t
 behind t Polls res = if int_eq res (pos 0) then Waits else Does (Calls Unwilling)

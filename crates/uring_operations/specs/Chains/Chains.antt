@@ -8,14 +8,14 @@ abbrev pub is_linked : List Entry → Bool
 is_linked [] = false
 is_linked (before ∷ earlier) = before.links
 
-abbrev pub chain_behind : Bool → ℕ → ℕ → ℕ
-chain_behind links chain number = if links then chain else number
+abbrev pub chain_after : Bool → ℕ → ℕ → ℕ
+chain_after links chain number = if links then chain else number
 
 -- the number of the first member of the chain to which an entry belongs, after those before it in its call, the newest first, whose numbers begin with `first`
 abbrev pub chain_of : ℕ → List Entry → ℕ
 chain_of first [] = first
 chain_of first (before ∷ earlier) =
-    chain_behind before.links (chain_of first earlier) (first + length (before ∷ earlier))
+    chain_after before.links (chain_of first earlier) (first + length (before ∷ earlier))
 
 -- the request of an entry after these
 abbrev pub member_of : ℕ → Entry → List Entry → Member

@@ -12,12 +12,12 @@ abbrev pub nth : List Field → ℕ → Option Field
 nth fields n = ways.nth fields n
 
 -- struct msghdr on x86-64: its flags, of 4 bytes, stand after 48, and how many control data came, of 8 bytes, after 40. Both are told of any message, the flags first: what Linux 6.18 was seen to do
-abbrev pub behind_name : Received → List Field
-behind_name r = field_of r.flags 48 4 ∷ field_of r.control_size 40 8 ∷ []
+abbrev pub after_name : Received → List Field
+after_name r = field_of r.flags 48 4 ∷ field_of r.control_size 40 8 ∷ []
 
 -- how many bytes the address has, of 4 bytes after 8, is told before both, and only where the message names a place for one
 abbrev pub told : Received → List Field
-told r = if r.has_name then field_of r.name_size 8 4 ∷ behind_name r else behind_name r
+told r = if r.has_name then field_of r.name_size 8 4 ∷ after_name r else after_name r
 
 abbrev pub next_told : Received → (behind : ℕ) → Option Field
 next_told r behind = nth (told r) behind

@@ -24,15 +24,15 @@ asked_flags is_known flags =
     if is_known && not (says_not_to_wait flags) then Some (bit_or flags 2048) else None
 
 -- that is taken back, where it was asked, and nobody else has taken it back: the other flags stay as whoever has set them meanwhile
-abbrev pub flags_behind : (was_asked is_known : Bool) → ℕ → Option ℕ
-flags_behind was_asked is_known flags =
+abbrev pub flags_after : (was_asked is_known : Bool) → ℕ → Option ℕ
+flags_after was_asked is_known flags =
     if was_asked && is_known && says_not_to_wait flags then Some (bit_and flags 4294965247) else None
 
 -- an open file that was asked has the flags again that it had, where nobody else has changed them; and one that wasn't stays as it is
 abbrev pub TakesBackWhatItAsked : Type 0
 TakesBackWhatItAsked = (flags asked : ℕ) → flags < 2 ^ 32
-    → (asked_flags true flags ≡ Some asked → flags_behind true true asked ≡ Some flags)
-    × ((is_known : Bool) → flags_behind false is_known flags ≡ None)
+    → (asked_flags true flags ≡ Some asked → flags_after true true asked ≡ Some flags)
+    × ((is_known : Bool) → flags_after false is_known flags ≡ None)
 
 -- several processes that have one open file keep each other from such calls by the lock of a byte that no file has (fcntl(2), F_SETLK). Another has that lock if a try comes to -11 (EAGAIN) or -13 (EACCES). Any other error means that nobody can have it, as by the end of a pipe that can only be read: then the call is made as if it were had
 abbrev pub has_lock : ℤ → Bool

@@ -75,8 +75,8 @@ asks_of_transfer e t k =
     if is_open_for e.opcode k.nature then Is (if not k.nature.is_device && k.nature.has_offsets then Never else Stream) else Is Wrong
 
 -- the same of a descriptor of which it was asked what it is
-abbrev pub asks_behind_status : Submission → Trial → Known → Finding
-asks_behind_status e t k =
+abbrev pub asks_after_status : Submission → Trial → Known → Finding
+asks_after_status e t k =
     if not k.nature.is_open then Is Never else
     if is_transfer e.opcode then asks_of_transfer e t k else
     if k.nature.is_socket then Is Stream else Is Never
@@ -87,7 +87,7 @@ next_of e t k =
     if is_poll e.opcode || is_splice e.opcode then Is Stream else
     if is_tried_at_once e t then Is AtOnce else
     if not (is_transfer e.opcode || is_of_sockets e.opcode) then Is Never else
-    if not k.status then Asks Status else asks_behind_status e t k
+    if not k.status then Asks Status else asks_after_status e t k
 
 -- what was asked of a descriptor is what it is
 pub record Fits (k : Known) (d : Nature) : Type 0 where
@@ -167,8 +167,8 @@ flags_fault flags =
     if has_some flags 1 then error 22 else pos 0
 
 -- with what a transfer fails as it starts by its flags, where they count there; else by being too short for what counts, -22 (EINVAL; eventfd(2), timerfd_create(2)), or by its offset, which is none where it is 2^64 - 1
-abbrev pub fault_behind_flags : Submission → ℕ → Nature → ℤ → ℤ
-fault_behind_flags e length d fault =
+abbrev pub fault_after_flags : Submission → ℕ → Nature → ℤ → ℤ
+fault_after_flags e length d fault =
     if passes_offset_over d && is_below fault then fault else
     if d.is_counter && is_too_short e length then error 22 else
     if passes_offset_over d && not (e.off == 2 ^ 64 - 1) then offset_fault e.off length d.is_socket else pos 0
@@ -184,4 +184,4 @@ start_fault e is_wrong length d =
     if is_never_polled e d then error 11 else
     if not (is_transfer e.opcode) then pos 0 else
     if has_no_place e && not d.is_open then error 9 else
-    fault_behind_flags e length d (flags_fault e.op_flags)
+    fault_after_flags e length d (flags_fault e.op_flags)

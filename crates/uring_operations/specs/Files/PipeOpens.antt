@@ -17,7 +17,7 @@ flags_of e how = if e.opcode == 28 then how else e.op_flags
 abbrev pub asks_opening : (code flags : ℕ) → Bool
 asks_opening code flags = (code == 18 || code == 28) && not (has_some flags 2164736)
 
--- with which flags it is opened then: its own, and O_NONBLOCK (2048). It is taken back of the open file as it is of one that was asked for a call (`flags_behind`)
+-- with which flags it is opened then: its own, and O_NONBLOCK (2048). It is taken back of the open file as it is of one that was asked for a call (`flags_after`)
 abbrev pub unwilling_flags : ℕ → ℕ
 unwilling_flags flags = bit_or flags 2048
 
@@ -44,8 +44,8 @@ abbrev pub opens_by_path : ℤ → Bool
 opens_by_path res = int_eq res (error 2)
 
 -- and one that names a pipe counts as a request that may have to wait for its descriptor, though it has none: so it runs, and is carried out again, until the other end is open. Our own rule
-abbrev pub standing_behind_path : Standing → (names_pipe : Bool) → Standing
-standing_behind_path s names_pipe = record s { is_stream = s.is_stream || names_pipe }
+abbrev pub standing_after_path : Standing → (names_pipe : Bool) → Standing
+standing_after_path s names_pipe = record s { is_stream = s.is_stream || names_pipe }
 
 -- how the call is made: of the pipe that was found, without waiting; of another path that is asked not to wait, at once; and any other as it stands
 abbrev pub opening_of : Submission → (how : ℕ) → (names_pipe : Bool) → Opening

@@ -114,8 +114,8 @@ abbrev pub fits : List Fact → Fact → Bool
 fits log fact = not (has_ended log) && can_be log fact
 
 -- what has happened once it was said what is to be done
-abbrev pub behind_act : List Fact → List Fact
-behind_act log = if is_carrying_out (act log) then Tried ∷ log else log
+abbrev pub after_act : List Fact → List Fact
+after_act log = if is_carrying_out (act log) then Tried ∷ log else log
 
 -- a run: each thing can have happened after those before it
 abbrev pub is_run : List Fact → Bool

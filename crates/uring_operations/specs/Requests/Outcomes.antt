@@ -4,8 +4,8 @@ use Rattle.std.specs.Ordering.{int_eq}
 use Rattle.uring_operations.specs.declared.requests.outcome.Success.{Success}
 use Rattle.uring_operations.specs.declared.requests.outcome.EndedEarly.{EndedEarly}
 use Rattle.uring_operations.specs.declared.requests.outcome.EndedCancel.{EndedCancel}
-use Rattle.uring_operations.specs.declared.requests.outcome.SoughtBehind.{SoughtBehind}
-use Rattle.uring_operations.specs.declared.requests.outcome.SoughtBehind.TheVariants.{Running, Next, Nothing}
+use Rattle.uring_operations.specs.declared.requests.outcome.SoughtAfter.{SoughtAfter}
+use Rattle.uring_operations.specs.declared.requests.outcome.SoughtAfter.TheVariants.{Running, Next, Nothing}
 use Rattle.uring_operations.specs.declared.requests.outcome.Carried.{Carried}
 use Rattle.uring_operations.specs.declared.entries.submission.Submission.{Submission}
 use Rattle.uring_operations.specs.Entries.Clocks.{has_some}
@@ -80,14 +80,14 @@ abbrev pub looks_for_next : Bool → ℤ → (linux : Bool) → Bool
 looks_for_next is_cancel res linux = linux && is_cancel && int_eq res (error 2)
 
 -- what a cancel looks for once the core has ended it: first for the requests that run; then for the one that could start, by what it ends with after those, and only where it has cancelled none of them. So it cancels one, and one that runs comes first, as in the kernel
-abbrev pub sought_behind : EndedCancel → ℤ → SoughtBehind
-sought_behind c res =
+abbrev pub sought_after : EndedCancel → ℤ → SoughtAfter
+sought_after c res =
     if not c.has_looked && looks_for_running c.is_cancel res then Running else
     if c.has_next && not c.has_cancelled && looks_for_next c.is_cancel res c.linux then Next else Nothing
 
 -- one that has cancelled a request looks for no other
 abbrev pub CancelsOne : Type 0
-CancelsOne = (c : EndedCancel) (res : ℤ) → c.has_looked ≡ true → c.has_cancelled ≡ true → sought_behind c res ≡ Nothing
+CancelsOne = (c : EndedCancel) (res : ℤ) → c.has_looked ≡ true → c.has_cancelled ≡ true → sought_after c res ≡ Nothing
 
 -- a cancel looks for such a request before the core ends it: others could start after its end, which the kernel's cancel doesn't find
 abbrev pub looks_ahead : Bool → (linux : Bool) → Bool

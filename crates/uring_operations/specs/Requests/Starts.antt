@@ -66,17 +66,17 @@ abbrev pub seeks_buffer_at_start : Standing → Needs → Bool
 seeks_buffer_at_start s n = n.selects && s.is_stream
 
 -- after that, with the fault of its files, or 0: a poll asks for its events; the descriptor of one that may have to wait is looked at, so that what is there is known to have been there; and its buffer is looked for
-abbrev pub behind_files : Standing → Needs → (fault : ℤ) → Starting
-behind_files s n fault = record nothing {
+abbrev pub after_files : Standing → Needs → (fault : ℤ) → Starting
+after_files s n fault = record nothing {
   asks_events = starts_poll n fault;
   looks = polls s;
   seeks_buffer = seeks_buffer_at_start s n;
 }
 
 -- what is done as it starts comes before what is asked then, which rests on its files
-abbrev pub AsksBehindItsFiles : Type 0
-AsksBehindItsFiles = (e : Submission) (how : ℕ) (is_sought : Bool) (s : Standing) (n : Needs) (fault : ℤ) (first second : Step)
-    → is_due (at_start e how is_sought) first ≡ true → is_due (behind_files s n fault) second ≡ true
+abbrev pub AsksAfterItsFiles : Type 0
+AsksAfterItsFiles = (e : Submission) (how : ℕ) (is_sought : Bool) (s : Standing) (n : Needs) (fault : ℤ) (first second : Step)
+    → is_due (at_start e how is_sought) first ≡ true → is_due (after_files s n fault) second ≡ true
     → nat_lt (place first) (place second) ≡ true
 
 -- whether a core lets a request start, by the number of the reason why it stands as it does, as `c/wulgach.h` has them: it may start (6), or it is doomed (4), so that its issue ends it. One that was never accepted (1), has ended (2), runs (3) or waits for another (5) it doesn't

@@ -58,8 +58,8 @@ pub fn takes_for_nothing(code: u8) -> bool
 }
 
 /// The offset at which the read of an entry that goes on reads next, after a call that came to this; of another its own.
-pub fn offset_behind(entry: &Submission, came_to: i32) -> u64
-    ensures { result ≡ spec.offset_behind entry.now came_to }
+pub fn offset_after(entry: &Submission, came_to: i32) -> u64
+    ensures { result ≡ spec.offset_after entry.now came_to }
 {
     if is_read_multishot(entry.opcode) && entry.off != u64::MAX {
         entry.off.wrapping_add(moved_by(came_to))

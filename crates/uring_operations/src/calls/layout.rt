@@ -33,8 +33,8 @@ pub struct Layout {
 pub fn room_for(name: u32, control: u64, size: u64) -> Option<u64>
     ensures { result ≡ spec.room_for name control size }
 {
-    let behind_name = size.checked_sub(16)?.checked_sub(name as u64)?;
-    behind_name.checked_sub(control)
+    let after_name = size.checked_sub(16)?.checked_sub(name as u64)?;
+    after_name.checked_sub(control)
 }
 
 /// Where the parts of a message stand in a buffer of this size, with room for so many bytes of an address and of control data. `None`: that has no room itself.

@@ -7,8 +7,8 @@ use crate::entries::needs::{is_splice, is_write};
 use crate::entries::submission::Submission;
 
 /// The number of the signal that is taken back after an operation which ended with this, SIGXFSZ (25) or SIGPIPE (13), or 0.
-pub fn signal_behind(entry: &Submission, res: i32) -> u32
-    ensures { result ≡ spec.signal_behind entry.now res }
+pub fn signal_after(entry: &Submission, res: i32) -> u32
+    ensures { result ≡ spec.signal_after entry.now res }
 {
     if may_signal(entry, res) {
         25

@@ -122,7 +122,7 @@ fn behind(transfer: &Transfer, task: Task, res: i32) -> Step
         Task::Calls(How::AtOnce) => unless(is_all(res, transfer.length), res),
         Task::Calls(How::Tried) => unless(res != -29, res),
         Task::Calls(How::Plain) => Step::Ends(res),
-        Task::Calls(How::Nonblocking) => behind_asking(transfer, res),
+        Task::Calls(How::Nonblocking) => after_asking(transfer, res),
         Task::Calls(How::Unwilling) => unless_waiting(transfer, res),
         Task::Finds => {
             if transfer.is_stream && res > 0 {
@@ -159,8 +159,8 @@ fn is_all(res: i32, length: u64) -> bool
 }
 
 /// After a call that is asked not to wait, on what may have to.
-fn behind_asking(transfer: &Transfer, res: i32) -> Step
-    ensures { result ≡ spec.behind_asking transfer.now res }
+fn after_asking(transfer: &Transfer, res: i32) -> Step
+    ensures { result ≡ spec.after_asking transfer.now res }
 {
     if res == -95 {
         Step::Does(Task::Polls)

@@ -76,7 +76,7 @@ pub fn next_turn(entry: &Submission, call: &Call, last: Option<Doing>, res: i32)
     match last {
         None => begins(entry, call),
         Some(Doing::Calls) => behind_call(entry, call, res),
-        Some(Doing::Polls) => behind_poll(entry, res != 0),
+        Some(Doing::Polls) => after_poll(entry, res != 0),
         Some(Doing::AsksWill) => {
             if res == 0 {
                 Turn::Waits
@@ -91,7 +91,7 @@ pub fn next_turn(entry: &Submission, call: &Call, last: Option<Doing>, res: i32)
                 Turn::Waits
             }
         }
-        Some(Doing::AsksError) => behind_error(entry, res),
+        Some(Doing::AsksError) => after_error(entry, res),
     }
 }
 
@@ -142,8 +142,8 @@ fn waits_for_all(entry: &Submission, call: &Call) -> bool
     is_asked && call.done < call.length && !is_alone(entry, call.control)
 }
 
-fn behind_message(entry: &Submission, call: &Call, res: i32) -> Turn
-    ensures { result ≡ spec.behind_message entry.now call.now res }
+fn after_message(entry: &Submission, call: &Call, res: i32) -> Turn
+    ensures { result ≡ spec.after_message entry.now call.now res }
 {
     if res < 0 {
         ends_with(entry, call, res)
@@ -158,11 +158,11 @@ fn behind_call(entry: &Submission, call: &Call, res: i32) -> Turn
     ensures { result ≡ spec.behind_call entry.now call.now res }
 {
     if entry.opcode == 16 {
-        behind_connect(call, res)
+        after_connect(call, res)
     } else if res == -11 {
         would_wait(entry, call)
     } else if has_message_flags(entry.opcode) {
-        behind_message(entry, call, res)
+        after_message(entry, call, res)
     } else {
         Turn::Ends(res)
     }
@@ -182,8 +182,8 @@ fn is_repeated(call: &Call, res: i32) -> bool
     !call.was_repeated && res == -103
 }
 
-fn behind_connect(call: &Call, res: i32) -> Turn
-    ensures { result ≡ spec.behind_connect call.now res }
+fn after_connect(call: &Call, res: i32) -> Turn
+    ensures { result ≡ spec.after_connect call.now res }
 {
     if is_repeated(call, res) {
         Turn::Does(Doing::Calls)
@@ -199,8 +199,8 @@ fn behind_connect(call: &Call, res: i32) -> Turn
 }
 
 /// A connect whose socket has no error is made again, which tells the socket that it is connected.
-fn behind_error(entry: &Submission, res: i32) -> Turn
-    ensures { result ≡ spec.behind_error entry.now res }
+fn after_error(entry: &Submission, res: i32) -> Turn
+    ensures { result ≡ spec.after_error entry.now res }
 {
     if entry.opcode == 16 && res == 0 {
         Turn::Does(Doing::Calls)
@@ -209,8 +209,8 @@ fn behind_error(entry: &Submission, res: i32) -> Turn
     }
 }
 
-fn behind_poll(entry: &Submission, is_ready: bool) -> Turn
-    ensures { result ≡ spec.behind_poll entry.now is_ready }
+fn after_poll(entry: &Submission, is_ready: bool) -> Turn
+    ensures { result ≡ spec.after_poll entry.now is_ready }
 {
     match (entry.opcode == 16, is_ready) {
         (true, true) => Turn::Does(Doing::AsksError),

@@ -2,7 +2,7 @@
 
 ghost use Rattle.std.specs.Prelude.{◌≡◌, ◌+◌, ℕ, length, List, [], ◌∷◌};
 ghost use Rattle.uring_operations.specs.declared.chains.member.Entry.{Entry};
-ghost use Rattle.uring_operations.specs.Chains.Chains.{member_of, chain_behind, limits, has_its_place};
+ghost use Rattle.uring_operations.specs.Chains.Chains.{member_of, chain_after, limits, has_its_place};
 
 /// What an entry says of its chain.
 #[repr(C)]
@@ -52,15 +52,15 @@ impl Member {
     {
         Member {
             number,
-            chain: self.chain_behind(number),
+            chain: self.chain_after(number),
             is_linked: self.entry.links,
             entry,
         }
     }
 
     /// The chain of the request of this number right after this one.
-    fn chain_behind(&self, number: u64) -> u64
-        ensures { result ≡ chain_behind self.now.entry.links self.now.chain number }
+    fn chain_after(&self, number: u64) -> u64
+        ensures { result ≡ chain_after self.now.entry.links self.now.chain number }
     {
         if self.entry.links { self.chain } else { number }
     }

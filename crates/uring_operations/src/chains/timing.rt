@@ -43,7 +43,7 @@ impl Member {
     }
 
     /// What becomes of it when a cancel finds a request.
-    pub fn behind_finding(&self, request: &Member) -> Timing
+    pub fn after_finding(&self, request: &Member) -> Timing
         ensures { (log : List Happened)
             → runs_behind result (runs self.now log) ≡ runs self.now (IsFound request.now ∷ log) }
     {

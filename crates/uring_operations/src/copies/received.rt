@@ -52,17 +52,17 @@ pub fn next_told(received: &Received, told: u32) -> Option<Field>
     ensures { result ≡ spec.next_told received.now told }
 {
     if !received.has_name {
-        behind_name(received, told)
+        after_name(received, told)
     } else if told == 0 {
         Some(field_of(received.name_size as u64, 8, 4))
     } else {
-        behind_name(received, told - 1)
+        after_name(received, told - 1)
     }
 }
 
 /// The one that is told next, after so many others than the size of the address.
-fn behind_name(received: &Received, told: u32) -> Option<Field>
-    ensures { result ≡ spec.nth (spec.behind_name received.now) told }
+fn after_name(received: &Received, told: u32) -> Option<Field>
+    ensures { result ≡ spec.nth (spec.after_name received.now) told }
 {
     match told {
         0 => Some(field_of(received.flags as u64, 48, 4)),

@@ -63,8 +63,8 @@ pub fn asked_flags(is_known: bool, flags: u32) -> Option<u32>
 }
 
 /// And which it gets once the call is over, where it was asked, or wasn't, and has these by then, if they are known. `None`: it stays as it is.
-pub fn flags_behind(was_asked: bool, is_known: bool, flags: u32) -> Option<u32>
-    ensures { result ≡ spec.flags_behind was_asked is_known flags }
+pub fn flags_after(was_asked: bool, is_known: bool, flags: u32) -> Option<u32>
+    ensures { result ≡ spec.flags_after was_asked is_known flags }
 {
     if was_asked && is_known && flags & 2048 != 0 {
         Some(flags & 0xffff_f7ff)

@@ -137,7 +137,7 @@ pub fn next_finding(entry: &Submission, trial: &Trial, known: &Known) -> Finding
         return Finding::Is(Kind::Never);
     }
     if known.status {
-        behind_status(entry, trial, known)
+        after_status(entry, trial, known)
     } else {
         Finding::Asks(Question::Status)
     }
@@ -166,8 +166,8 @@ fn is_tried_at_once(entry: &Submission, trial: &Trial) -> bool
 }
 
 /// What is to be asked of a descriptor of which it is known what it is.
-fn behind_status(entry: &Submission, trial: &Trial, known: &Known) -> Finding
-    ensures { result ≡ spec.asks_behind_status entry.now trial.now known.now }
+fn after_status(entry: &Submission, trial: &Trial, known: &Known) -> Finding
+    ensures { result ≡ spec.asks_after_status entry.now trial.now known.now }
 {
     if !known.nature.is_open {
         Finding::Is(Kind::Never)
@@ -310,7 +310,7 @@ pub fn start_fault(entry: &Submission, is_wrong: bool, length: u64, nature: &Nat
     } else if has_no_place(entry) && !nature.is_open {
         -9
     } else {
-        fault_behind_flags(entry, length, nature, flags_fault(entry.op_flags))
+        fault_after_flags(entry, length, nature, flags_fault(entry.op_flags))
     }
 }
 
@@ -339,8 +339,8 @@ fn flags_fault(flags: u32) -> i32
 }
 
 /// With what the transfer of an entry fails as it starts, where its flags have this fault, if they count there.
-fn fault_behind_flags(entry: &Submission, length: u64, nature: &Nature, fault: i32) -> i32
-    ensures { result ≡ spec.fault_behind_flags entry.now length nature.now fault }
+fn fault_after_flags(entry: &Submission, length: u64, nature: &Nature, fault: i32) -> i32
+    ensures { result ≡ spec.fault_after_flags entry.now length nature.now fault }
 {
     if passes_offset_over(nature) && fault < 0 {
         fault

@@ -82,8 +82,8 @@ pub fn opens_by_path(res: i32) -> bool
 }
 
 /// How a request stands whose path was looked up as it starts, and names a pipe or doesn't. Our own rule.
-pub fn standing_behind_path(standing: &Standing, names_pipe: bool) -> Standing
-    ensures { result ≡ spec.standing_behind_path standing.now names_pipe }
+pub fn standing_after_path(standing: &Standing, names_pipe: bool) -> Standing
+    ensures { result ≡ spec.standing_after_path standing.now names_pipe }
 {
     Standing {
         is_stream: standing.is_stream || names_pipe,

@@ -2,7 +2,7 @@
 
 ghost use Rattle.std.specs.Prelude.{◌≡◌, List, [], ◌∷◌, true, false};
 ghost use Rattle.uring_operations.specs.declared.requests.act.Fact.{Fact};
-ghost use Rattle.uring_operations.specs.Requests.Courses.{KeepsCourse, act, act_by, behind_act, by_cancel, end_by, fits, is_ending, is_carrying_out, notice_of, option_of, shown};
+ghost use Rattle.uring_operations.specs.Requests.Courses.{KeepsCourse, act, act_by, after_act, by_cancel, end_by, fits, is_ending, is_carrying_out, notice_of, option_of, shown};
 
 use crate::entries::submission::Submission;
 use crate::requests::act::{Act, Fact};
@@ -53,7 +53,7 @@ impl Course {
     pub fn act(&mut self) -> Act
         ensures act { (log : List Fact) → KeepsCourse log self.old → result ≡ act log }
         ensures after { (log : List Fact) → KeepsCourse log self.old
-            → KeepsCourse (behind_act log) self.new }
+            → KeepsCourse (after_act log) self.new }
     {
         let act = self.due();
         self.is_tried = self.is_tried || is_carrying_out(act);

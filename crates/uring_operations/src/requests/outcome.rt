@@ -1,7 +1,7 @@
 //! What of a request's result is a success to the links after it, and what is shown of one that the core ends by itself.
 
 ghost use Rattle.std.specs.Prelude.{◌≡◌};
-ghost use Rattle.uring_operations.specs.Requests.Outcomes.{cuts, forgives, is_forgiven, is_forgiving, is_success, is_whole, success_of_entry, wants_whole, looks_ahead, looks_for_running, looks_for_next, may_have_found, shown_of, sought_behind, CancelsOne, LooksInTime};
+ghost use Rattle.uring_operations.specs.Requests.Outcomes.{cuts, forgives, is_forgiven, is_forgiving, is_success, is_whole, success_of_entry, wants_whole, looks_ahead, looks_for_running, looks_for_next, may_have_found, shown_of, sought_after, CancelsOne, LooksInTime};
 
 use crate::calls::parts::is_alone;
 use crate::entries::needs::{is_of_sockets, is_read_multishot, is_splice, is_transfer};
@@ -229,7 +229,7 @@ pub struct EndedCancel {
 
 /// What a cancel looks for that the core has ended.
 #[derive(Clone, Copy, Drop)]
-pub enum SoughtBehind {
+pub enum SoughtAfter {
     /// The requests that run.
     Running,
 
@@ -240,18 +240,18 @@ pub enum SoughtBehind {
 }
 
 /// What a cancel looks for next that the core has ended, and which ends with this.
-pub fn sought_behind(cancel: EndedCancel, res: i32) -> SoughtBehind
-    ensures { result ≡ sought_behind cancel res }
+pub fn sought_after(cancel: EndedCancel, res: i32) -> SoughtAfter
+    ensures { result ≡ sought_after cancel res }
 {
     if !cancel.has_looked && looks_for_running(cancel.is_cancel, res) {
-        SoughtBehind::Running
+        SoughtAfter::Running
     } else if cancel.has_next
         && !cancel.has_cancelled
         && looks_for_next(cancel.is_cancel, res, cancel.linux)
     {
-        SoughtBehind::Next
+        SoughtAfter::Next
     } else {
-        SoughtBehind::Nothing
+        SoughtAfter::Nothing
     }
 }
 

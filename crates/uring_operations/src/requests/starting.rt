@@ -2,7 +2,7 @@
 
 ghost use Rattle.std.specs.Prelude.{◌≡◌};
 ghost use Rattle.uring_operations.specs.Requests.Starts as spec;
-ghost use Rattle.uring_operations.specs.Requests.Starts.{AsksBehindItsFiles};
+ghost use Rattle.uring_operations.specs.Requests.Starts.{AsksAfterItsFiles};
 
 use crate::entries::needs::Needs;
 use crate::entries::submission::Submission;
@@ -58,8 +58,8 @@ pub fn steps_at_start(entry: &Submission, how: u64, is_sought: bool) -> Starting
 }
 
 /// After that, where its files were found without a fault, 0, or with this one.
-pub fn steps_behind_files(standing: &Standing, needs: &Needs, fault: i32) -> Starting
-    ensures { result ≡ spec.behind_files standing.now needs.now fault }
+pub fn steps_after_files(standing: &Standing, needs: &Needs, fault: i32) -> Starting
+    ensures { result ≡ spec.after_files standing.now needs.now fault }
 {
     Starting {
         asks_events: needs.is_poll && fault == 0,
@@ -77,6 +77,6 @@ pub fn lets_start(why: u32) -> bool
 }
 
 /// Nothing is asked of a request's descriptor or group before its files were looked for.
-pub fn asks_behind_its_files()
-    ensures { AsksBehindItsFiles }
+pub fn asks_after_its_files()
+    ensures { AsksAfterItsFiles }
 {}
