@@ -9,6 +9,9 @@
 #include <errno.h>
 #include <stdlib.h>
 
+/* What has a step or an answer has a frame of its own, which isn't there while the core takes one entry: a thread may have the smallest stack. */
+#define APART __attribute__((noinline))
+
 bool make_entries(struct ring *ring, uint32_t slots)
 {
     ring->entries = calloc(slots, sizeof *ring->entries);
@@ -32,7 +35,7 @@ void note_entry(struct ring *ring, const struct request *request)
 /* ---- submissions ---- */
 
 /* Traces the steps of a call that the core has taken at once, or whose begin it has refused. */
-static void trace_submission(struct ring *ring, uint32_t count, const struct wulgach_taken *taken)
+static APART void trace_submission(struct ring *ring, uint32_t count, const struct wulgach_taken *taken)
 {
     const struct wulgach_answer end = {.kind = taken->kind, .word = taken->accepted, .dropped = taken->dropped, .head = taken->head};
     uint32_t head = ring->head + ring->own_positions;
@@ -61,7 +64,7 @@ static struct wulgach_taken taken_of(const struct wulgach_answer *answer)
     return (struct wulgach_taken){.kind = answer->kind, .accepted = answer->word, .dropped = answer->dropped, .head = answer->head};
 }
 
-static bool submit_by_steps(struct ring *ring, uint32_t given, struct wulgach_taken *taken)
+static APART bool submit_by_steps(struct ring *ring, uint32_t given, struct wulgach_taken *taken)
 {
     uint32_t count = (uint32_t)ring->staged.count;
     load_head(ring);
@@ -77,16 +80,19 @@ static bool submit_by_steps(struct ring *ring, uint32_t given, struct wulgach_ta
     return true;
 }
 
-/* A single entry is given, and told of, without a copy of an answer. */
-static int32_t submit_whole(struct ring *ring, uint32_t count, struct wulgach_taken *taken)
+static APART int32_t submit_many(struct ring *ring, uint32_t count, struct wulgach_taken *taken)
 {
-    if (count == 1)
-        return wulgach_core_submit_one(&ring->core, ring->entries, taken);
     struct wulgach_answer answer;
     int32_t error = wulgach_core_submit(&ring->core, ring->entries, count, &answer);
     if (error == 0)
         *taken = taken_of(&answer);
     return error;
+}
+
+/* A single entry is given, and told of, without a copy of an answer. */
+static int32_t submit_whole(struct ring *ring, uint32_t count, struct wulgach_taken *taken)
+{
+    return count == 1 ? wulgach_core_submit_one(&ring->core, ring->entries, taken) : submit_many(ring, count, taken);
 }
 
 bool submit_staged(struct ring *ring, uint32_t given, struct wulgach_taken *taken)
