@@ -216,7 +216,7 @@ static const struct known {
 } known[] = {
     /* RWF_HIPRI (1), RWF_NOWAIT (8) and flags that there aren't are found as a transfer is carried out, by preadv2(2) and pwritev2(2), and so is an
      * offset, where there are any; an attribute isn't served. */
-    {IORING_OP_READV, OWN, 0x209}, {IORING_OP_WRITEV, OWN, 0x209}, {IORING_OP_READ_FIXED, OWN, 0x209}, {IORING_OP_WRITE_FIXED, OWN, 0x209}, {IORING_OP_READ, OWN, 0x209}, {IORING_OP_WRITE, OWN, 0x209}, {READ_MULTISHOT, OWN, 1},
+    {IORING_OP_READV, OWN, 0x209}, {IORING_OP_WRITEV, OWN, 0x209}, {IORING_OP_READ_FIXED, OWN, 0x209}, {IORING_OP_WRITE_FIXED, OWN, 0x209}, {IORING_OP_READ, OWN, 0x209}, {IORING_OP_WRITE, OWN, 0x209}, {READ_MULTISHOT, OWN, 9},
     {IORING_OP_READV, OFF, 1ull << 63}, {IORING_OP_WRITEV, OFF, 1ull << 63}, {IORING_OP_READ_FIXED, OFF, 1ull << 63}, {IORING_OP_WRITE_FIXED, OFF, 1ull << 63}, {IORING_OP_READ, OFF, 1ull << 63}, {IORING_OP_WRITE, OFF, 1ull << 63},
     {IORING_OP_READV, PAD, 1}, {IORING_OP_WRITEV, PAD, 1}, {IORING_OP_READ_FIXED, PAD, 1}, {IORING_OP_WRITE_FIXED, PAD, 1}, {IORING_OP_READ, PAD, 1}, {IORING_OP_WRITE, PAD, 1}, {READ_MULTISHOT, PAD, 1},
     /* How much of a write that is longer than its buffer is moved depends on what stands after that. */
