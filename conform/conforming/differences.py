@@ -1,9 +1,9 @@
 """Where Linux is known to differ from the profile, or from its own rules as this project has them: a name for each, and the sentence of docs/PROTOCOL.md that tells it, word for word."""
 
 DIFFERENCES = {
-    "linked fault stops nothing": "There Linux 6.18 ends a call after the first faulty entry that has no link flag, also after a drain that it refuses with -95; after one that has, it goes on, also past the end of its chain.",
+    "linked fault stops nothing": "The kernel ends a call after the first faulty entry that has no link flag, also after a drain that it refuses with -95; after one that has, it goes on, also past the end of its chain.",
     "held back isn't found": "The kernel doesn't find a request that it still holds back: the cancel ends with -2, and the request runs later.",
-    "behind a cancel isn't found": "Nor does it find what stands behind it in its own call, which is accepted later there: the cancel ends with -2.",
+    "behind a cancel isn't found": "Nor does it find what comes after it in its own call, which is accepted later there: the cancel ends with -2.",
     "a read is cancelled twice": "A waiting read that one cancel has chosen is found by another of the same call: both end with 0, and two cancels of all both with 1.",
     "cancel of all leaves held back": "Of requests that the kernel holds back it ends with 0, and they run.",
     "skipped failure leaves members out": "The page and the kernel leave these out.",
@@ -13,7 +13,7 @@ DIFFERENCES = {
     "file position is served": "a read or write at offset 2^64 - 1, which means the file position in the pages.",
     "files have another limit": "The kernel writes up to the limit,",
     "drain beside skipped success": "The kernel refuses a drain with -95 (EOPNOTSUPP) once a ring has used skipped success",
-    "a cancel takes back": "Our own are that a cancel takes nothing back, since no read waits here; that a cancel of all ends with 0; that of several requests a cancel finds the least; and which entries are faulty and which flags are refused, as told above.",
+    "a cancel takes back": "Our own are that a cancel takes nothing back, since no read waits here; that a cancel of all ends with 0; that of several requests a cancel finds the least; and which entries are faulty and which flags are refused, as above.",
     "a cancel finds itself": "Such a cancel may also find itself, and end with -114.",
 }
 
