@@ -63,7 +63,7 @@ enum wulgach_written {
 };
 
 /* A part of the process's memory that is mapped, and what it is of (proc_pid_maps(5)). */
-struct wulgach_mapping {
+struct wulgach_mapped_memory {
     bool is_shared;     /* others see what is written there */
     bool is_on_disk;    /* it is of a file on the run's disk */
     uint64_t file;      /* the file's inode, or 0 */
@@ -158,7 +158,7 @@ bool wulgach_has_synced_memory(int64_t res);
 
 /* Writes the part of a file that a sync of memory, from this address on and for so many bytes, is of by what is mapped there: of whole pages, shared with
  * a file of the run's disk. False, and nothing is written: of none. */
-bool wulgach_synced_part(const struct wulgach_mapping *mapping, uint64_t begin, uint64_t length, struct wulgach_file_part *part);
+bool wulgach_synced_part(const struct wulgach_mapped_memory *mapping, uint64_t begin, uint64_t length, struct wulgach_file_part *part);
 
 #ifdef __cplusplus
 }

@@ -6,7 +6,7 @@
 #include "openness.h"
 #include "passing.h"
 #include "signals.h"
-#include "wulgach_calls.h"
+#include "wulgach_form.h"
 
 #include <fcntl.h>
 #include <sys/stat.h>
@@ -39,14 +39,13 @@ bool wulgach_is_synced_number(int fd)
     return wulgach_counts_as_synced(&openness, &kind);
 }
 
-bool wulgach_is_waited_msync(uint32_t flags, uint32_t *instead)
-{
-    return wulgach_unwaited(flags, instead);
-}
+#define DEFINE_SEEN(result, name, parameters, arguments) \
+    result wulgach_seen_##name parameters { return wulgach_##name arguments; }
+LOGGING_CALLS(DEFINE_SEEN)
 
-uint64_t wulgach_moved(uint64_t length, uint64_t size)
+void wulgach_seen_words_of_call(const struct wulgach_system_call *call, struct wulgach_call_words *words)
 {
-    return wulgach_length_with(length, size);
+    wulgach_words_of_call(call, words);
 }
 
 bool wulgach_is_open_number(int fd)

@@ -217,7 +217,7 @@ pub use files::logging::syncs_itself;
 pub use files::logging::unwaited;
 pub use files::logging::write_begins;
 pub use files::mapped::FilePart;
-pub use files::mapped::Mapping;
+pub use files::mapped::MappedMemory;
 pub use files::mapped::has_synced_memory;
 pub use files::mapped::looks_at_map;
 pub use files::mapped::next_mapped_page;

@@ -7,7 +7,7 @@ ghost use Rattle.uring_operations.specs.Files.Mapped as mapped;
 ghost use Rattle.uring_c.specs.LoggedForm.{word_of_logged_call, word_of_written};
 
 use uring_operations::{
-    Bits, CallWords, FilePart, LoggedCall, Mapping, SystemCall, Written, asked_at, bits_of_call,
+    Bits, CallWords, FilePart, LoggedCall, MappedMemory, SystemCall, Written, asked_at, bits_of_call,
     end_result, event_size, follows_link, has_synced_memory, is_entry_name, is_made, linked_flags,
     log_goes_on, logged_call, logged_of_vector, logs_names, looks_at_map, may_have_vectors,
     next_mapped_page, parts_alone, path_part, readable_bytes, says_how, synced_part, takes_events,
@@ -257,7 +257,7 @@ pub extern "C" fn wulgach_has_synced_memory(res: i64) -> bool
 /// Writes the part of a file that a sync of memory is of, by what is mapped there. False, and nothing is written: it is none of a file on the run's disk.
 #[unsafe(no_mangle)]
 pub extern "C" fn wulgach_synced_part(
-    mapping: &Mapping,
+    mapping: &MappedMemory,
     begin: u64,
     length: u64,
     part: &mut FilePart,

@@ -2,7 +2,7 @@
 use Rattle.std.specs.Prelude.{ℕ, ℤ, pos, negsuc, ◌+◌, ◌-◌, ◌*◌, ◌/◌, ◌^◌, Bool, not, ◌&&◌, ◌||◌, ◌==◌, min, max, nat_lt, int_lt, Option, Some, None, if◌then◌else◌}
 use Rattle.std.specs.Ordering.{int_eq}
 use Rattle.uring_operations.specs.declared.files.mapped.FilePart.{FilePart}
-use Rattle.uring_operations.specs.declared.files.mapped.Mapping.{Mapping}
+use Rattle.uring_operations.specs.declared.files.mapped.MappedMemory.{MappedMemory}
 use Rattle.uring_operations.specs.Entries.Clocks.{has_some}
 use Rattle.uring_entry.specs.Errors.{error, is_below}
 
@@ -36,31 +36,31 @@ abbrev pub sync_end : (begin pages : ℕ) → ℕ
 sync_end begin pages = min (begin + pages) (2 ^ 64 - 1)
 
 -- the addresses that are synced of a mapping: from the first to that after the last
-abbrev pub first_synced : Mapping → (begin : ℕ) → ℕ
+abbrev pub first_synced : MappedMemory → (begin : ℕ) → ℕ
 first_synced m begin = max m.begin begin
 
-abbrev pub last_synced : Mapping → (end : ℕ) → ℕ
+abbrev pub last_synced : MappedMemory → (end : ℕ) → ℕ
 last_synced m end = min m.end end
 
 -- whether an msync syncs some: of memory that is shared with a file of the run's disk, which has an inode
-abbrev pub is_synced : Mapping → (begin end : ℕ) → Bool
+abbrev pub is_synced : MappedMemory → (begin end : ℕ) → Bool
 is_synced m begin end =
     m.is_shared && m.is_on_disk && not (m.file == 0)
     && nat_lt (first_synced m begin) (last_synced m end)
 
 -- and which bytes of the file these are, no offset being past 2^64 - 1
-abbrev pub part_of : Mapping → (begin end : ℕ) → FilePart
+abbrev pub part_of : MappedMemory → (begin end : ℕ) → FilePart
 part_of m begin end = record {
   offset = min (m.offset + (first_synced m begin - m.begin)) (2 ^ 64 - 1);
   length = last_synced m end - first_synced m begin;
 }
 
-abbrev pub part_within : Mapping → (begin end : ℕ) → Option FilePart
+abbrev pub part_within : MappedMemory → (begin end : ℕ) → Option FilePart
 part_within m begin end = if is_synced m begin end then Some (part_of m begin end) else None
 
-abbrev pub part_in_pages : Mapping → (begin : ℕ) → Option ℕ → Option FilePart
+abbrev pub part_in_pages : MappedMemory → (begin : ℕ) → Option ℕ → Option FilePart
 part_in_pages m begin None = None
 part_in_pages m begin (Some pages) = part_within m begin (sync_end begin pages)
 
-abbrev pub synced_part : Mapping → (begin length : ℕ) → Option FilePart
+abbrev pub synced_part : MappedMemory → (begin length : ℕ) → Option FilePart
 synced_part m begin length = part_in_pages m begin (whole_pages length)

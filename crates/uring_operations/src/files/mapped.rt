@@ -9,7 +9,7 @@ const PAGE: u64 = 4096;
 /// A part of the process's memory that is mapped, and what it is of. proc_pid_maps(5).
 #[repr(C)]
 #[derive(Clone, Copy, Drop)]
-pub struct Mapping {
+pub struct MappedMemory {
     /// Others see what is written there.
     pub is_shared: bool,
 
@@ -74,7 +74,7 @@ pub fn has_synced_memory(res: i64) -> bool
 }
 
 /// The part of a file that a sync is of, from this address on and for so many bytes, by what is mapped there. `None`: it is none of a file on the run's disk.
-pub fn synced_part(mapping: &Mapping, begin: u64, length: u64) -> Option<FilePart>
+pub fn synced_part(mapping: &MappedMemory, begin: u64, length: u64) -> Option<FilePart>
     ensures { result ≡ spec.synced_part mapping.now begin length }
 {
     let end = begin.saturating_add(whole_pages(length)?);
