@@ -62,6 +62,12 @@ enum wulgach_written {
     WULGACH_WRITTEN_FILE = 2
 };
 
+/* Where the last part of a path begins and ends. */
+struct wulgach_last_part {
+    uint64_t begin;
+    uint64_t end;
+};
+
 /* A part of the process's memory that is mapped, and what it is of (proc_pid_maps(5)). */
 struct wulgach_mapped_memory {
     bool is_shared;     /* others see what is written there */
@@ -126,7 +132,11 @@ bool wulgach_takes_events(uint32_t mode);
 /* Whether the call of this number is logged, where its name is on the run's disk or isn't, and its second one: of a rename either. Our own rule. */
 bool wulgach_logs_names(uint64_t number, bool is_on_disk, bool is_second_on_disk);
 
-/* Whether the last part of a path is a name in its folder: it isn't empty, `.` or `..`. path_resolution(7). */
+/* Writes where the last part of a path stands: up to where only slashes are left, from behind the last slash before that. What stands in front is the path of its
+ * folder, if anything does. path_resolution(7). */
+void wulgach_last_part(const uint8_t *path, size_t length, struct wulgach_last_part *part);
+
+/* Whether it is a name in that: it isn't empty, `.` or `..`. path_resolution(7). */
 bool wulgach_is_entry_name(const uint8_t *part, size_t length);
 
 /* With which flags it is asked which file a linkat with these gives a name: AT_EMPTY_PATH, or AT_SYMLINK_NOFOLLOW but with AT_SYMLINK_FOLLOW. */
@@ -152,6 +162,9 @@ bool wulgach_whole_pages(uint64_t length, uint64_t *bytes);
 
 /* The page of a mapped file that is read next, from this place on, where lseek(2) with SEEK_DATA came to this. `room`, or what is past it: none is. */
 uint64_t wulgach_next_mapped_page(int64_t found, uint64_t at, uint64_t room);
+
+/* Writes the part of a page that has changed, which had other bytes before: from the first that differs to the last. False, and nothing is written: none does. */
+bool wulgach_changed_part(const uint8_t *before, size_t length_before, const uint8_t *now, size_t length, struct wulgach_file_part *part);
 
 /* Whether an msync(2) that came to this has synced its pages: it was done, or met memory that isn't mapped (ENOMEM), and synced all else. */
 bool wulgach_has_synced_memory(int64_t res);

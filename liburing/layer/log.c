@@ -127,14 +127,16 @@ static size_t readable(pid_t thread, const struct iovec *bytes)
     return wulgach_seen_readable_bytes((uintptr_t)bytes->iov_base, bytes->iov_len, all);
 }
 
-/* Puts into `parts` what can be read of runs of bytes, from the first on, as the kernel would write of them: as much as one call moves beside what stands in front. */
+/* Puts into `parts` what can be read of runs of bytes, from the first on, as the kernel would write of them: as much as one call moves beside what stands in front.
+ * (an address that no program has is refused even of no bytes) */
 static void take_readable(pid_t thread, const struct iovec *bytes, size_t count, size_t front, struct iovec *parts)
 {
     bool is_whole = true;
     for (size_t i = 0; i < count; i++) {
         const struct iovec run = {bytes[i].iov_base, wulgach_seen_logged_of_vector(front, bytes[i].iov_len, is_whole)};
-        parts[i] = (struct iovec){run.iov_base, readable(thread, &run)};
-        front += parts[i].iov_len;
+        const size_t length = readable(thread, &run);
+        parts[i] = (struct iovec){length > 0 ? run.iov_base : NULL, length};
+        front += length;
         is_whole = is_whole && parts[i].iov_len == bytes[i].iov_len;
     }
 }

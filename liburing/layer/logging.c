@@ -48,6 +48,11 @@ void wulgach_seen_words_of_call(const struct wulgach_system_call *call, struct w
     wulgach_words_of_call(call, words);
 }
 
+void wulgach_seen_last_part(const uint8_t *path, size_t length, struct wulgach_last_part *part)
+{
+    wulgach_last_part(path, length, part);
+}
+
 bool wulgach_is_open_number(int fd)
 {
     return counts_as_open(fd, false);

@@ -48,6 +48,7 @@ SEEN bool wulgach_is_synced_number(int fd);
     CALL(bool, log_goes_on, (int64_t written, uint64_t size), (written, size))                                                                             \
     CALL(bool, takes_events, (uint32_t mode), (mode))                                                                                                      \
     CALL(bool, logs_names, (uint64_t number, bool is_on_disk, bool is_second_on_disk), (number, is_on_disk, is_second_on_disk))                            \
+    CALL(bool, changed_part, (const uint8_t *before, size_t length_before, const uint8_t *now, size_t length, struct wulgach_file_part *part), (before, length_before, now, length, part))\
     CALL(bool, is_entry_name, (const uint8_t *part, size_t length), (part, length))                                                                        \
     CALL(uint32_t, linked_flags, (uint32_t flags), (flags))                                                                                                \
     CALL(bool, follows_link, (uint64_t flags, uint32_t count), (flags, count))                                                                             \
@@ -64,6 +65,7 @@ SEEN bool wulgach_is_synced_number(int fd);
 #define DECLARE_SEEN(result, name, parameters, arguments) SEEN result wulgach_seen_##name parameters;
 LOGGING_CALLS(DECLARE_SEEN)
 SEEN void wulgach_seen_words_of_call(const struct wulgach_system_call *call, struct wulgach_call_words *words);
+SEEN void wulgach_seen_last_part(const uint8_t *path, size_t length, struct wulgach_last_part *part);
 
 /* Appends an event's parts. A process whose files may get no longer isn't ended by that. Returns how many bytes were written, or less than 0. */
 SEEN long wulgach_append(int fd, const struct iovec *parts, size_t count);

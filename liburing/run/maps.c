@@ -74,20 +74,16 @@ static bool is_address(long result)
     return !(result < 0 && result > -4096);
 }
 
-/* The bytes of a page that differ, from the first to the last. */
+/* What has changed of a page. */
 static void log_page(struct mapped *mapped, size_t at, const char *now, size_t length)
 {
     char *before = mapped->copy + at, path[PATH_ROOM];
-    size_t first = 0, last = length;
-    if (memcmp(now, before, length) == 0)
+    struct wulgach_file_part part;
+    if (memcmp(now, before, length) == 0 || !wulgach_seen_changed_part((const uint8_t *)before, length, (const uint8_t *)now, length, &part))
         return;
-    while (now[first] == before[first])
-        first++;
-    while (now[last - 1] == before[last - 1])
-        last--;
     memcpy(before, now, length);
-    struct event event = {.kind = EVENT_MAPPED, .file = mapped->file, .offset = (int64_t)(at + first), .length = last - first};
-    struct iovec bytes = {before + first, last - first};
+    struct event event = {.kind = EVENT_MAPPED, .file = mapped->file, .offset = (int64_t)(at + part.offset), .length = part.length};
+    struct iovec bytes = {before + part.offset, part.length};
     log_event(&event, path_of(mapped->fd, path) ? path : NULL, NULL, &bytes, 1);
 }
 

@@ -35,20 +35,16 @@ static bool read_path(const char *from, char room[PATH_ROOM])
     return false;
 }
 
-/* Cuts a path into its folder and its last name. */
+/* Cuts a path into its folder and its last part. */
 static const char *cut(char path[PATH_ROOM], const char **folder)
 {
-    size_t length = strlen(path);
-    while (length > 1 && path[length - 1] == '/')
-        path[--length] = '\0';
-    char *slash = strrchr(path, '/');
-    if (!slash) {
-        *folder = ".";
-        return path;
-    }
-    *slash = '\0';
-    *folder = slash == path ? "/" : path;
-    return slash + 1;
+    struct wulgach_last_part part;
+    wulgach_seen_last_part((const uint8_t *)path, strlen(path), &part);
+    path[part.end] = '\0';
+    if (part.begin > 0)
+        path[part.begin - 1] = '\0';
+    *folder = part.begin == 0 ? "." : part.begin == 1 ? "/" : path;
+    return path + part.begin;
 }
 
 /* Opens a path alone, as an open by these rules finds it (openat2(2), RESOLVE_..). */
@@ -201,15 +197,16 @@ static long open_cut(const struct file_call *call, const struct found *found)
 /* A name that is a symbolic link leads to another, which may be one too. */
 static struct name *follow(const struct opening *opening, struct name *name)
 {
-    char path[PATH_ROOM], folder[PATH_ROOM];
+    char path[PATH_ROOM], room[PATH_ROOM];
+    const char *folder;
     for (uint32_t i = 0; name->is_link && wulgach_seen_follows_link(opening->flags, i); i++) {
         long length = pass(SYS_readlinkat, AT_FDCWD, (long)name->path, (long)path, PATH_ROOM - 1, 0, 0);
         if (length <= 0)
             break;
         path[length] = '\0';
-        memcpy(folder, name->path, PATH_ROOM);
-        *strrchr(folder, '/') = '\0';
-        long at = pass(SYS_open, (long)(*folder ? folder : "/"), O_PATH | O_DIRECTORY | O_CLOEXEC, 0, 0, 0, 0);
+        memcpy(room, name->path, PATH_ROOM);
+        cut(room, &folder);
+        long at = pass(SYS_open, (long)folder, O_PATH | O_DIRECTORY | O_CLOEXEC, 0, 0, 0, 0);
         find_path((int)at, path, opening->resolve, name);
         pass(SYS_close, at, 0, 0, 0, 0, 0);
     }

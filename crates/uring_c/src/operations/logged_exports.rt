@@ -1,17 +1,20 @@
 //! Which system calls are logged as what, and of which bytes and names, for C: the functions of `c/wulgach_logged.h`.
-ghost use Rattle.std.specs.Prelude.{◌≡◌, true, false, MatchOption};
+ghost use Rattle.std.specs.Prelude.{◌≡◌, true, false, Some, None, if◌then◌else◌, MatchOption};
 ghost use Rattle.uring_operations.specs.Files.LoggedBytes as bytes;
 ghost use Rattle.uring_operations.specs.Files.LoggedCalls as calls;
 ghost use Rattle.uring_operations.specs.Files.LoggedNames as names;
+ghost use Rattle.uring_operations.specs.Files.LoggedNames.{IsLastPart};
 ghost use Rattle.uring_operations.specs.Files.Mapped as mapped;
+ghost use Rattle.uring_operations.specs.Files.Mapped.{IsChange};
 ghost use Rattle.uring_c.specs.LoggedForm.{word_of_logged_call, word_of_written};
 
 use uring_operations::{
-    Bits, CallWords, FilePart, LoggedCall, MappedMemory, SystemCall, Written, asked_at, bits_of_call,
-    end_result, event_size, follows_link, has_synced_memory, is_entry_name, is_made, linked_flags,
-    log_goes_on, logged_call, logged_of_vector, logs_names, looks_at_map, may_have_vectors,
-    next_mapped_page, parts_alone, path_part, readable_bytes, says_how, synced_part, takes_events,
-    tells_file, whole_pages, words_of_call, written_as,
+    Bits, CallWords, FilePart, LastPart, LoggedCall, MappedMemory, SystemCall, Written, asked_at,
+    bits_of_call, changed_part, end_result, event_size, follows_link, has_synced_memory,
+    is_entry_name, is_made, last_part, linked_flags, log_goes_on, logged_call, logged_of_vector,
+    logs_names, looks_at_map, may_have_vectors, next_mapped_page, parts_alone, path_part,
+    readable_bytes, says_how, synced_part, takes_events, tells_file, whole_pages, words_of_call,
+    written_as,
 };
 
 /// Returns what the system call of this number is logged as.
@@ -159,14 +162,18 @@ pub extern "C" fn wulgach_takes_events(mode: u32) -> bool
 
 /// Whether the call of this number is logged, where its name is on the run's disk or isn't, and its second one.
 #[unsafe(no_mangle)]
-pub extern "C" fn wulgach_logs_names(
-    number: u64,
-    is_on_disk: bool,
-    is_second_on_disk: bool,
-) -> bool
+pub extern "C" fn wulgach_logs_names(number: u64, is_on_disk: bool, is_second_on_disk: bool) -> bool
     ensures { result ≡ names.logs_names (calls.logged_call number) is_on_disk is_second_on_disk }
 {
     logs_names(logged_call(number), is_on_disk, is_second_on_disk)
+}
+
+/// Writes where the last part of a path stands.
+#[unsafe(no_mangle)]
+pub extern "C" fn wulgach_last_part(path: &[u8], part: &mut LastPart)
+    ensures { IsLastPart path.now part.new }
+{
+    *part = last_part(path);
 }
 
 /// Whether the last part of a path is a name in its folder.
@@ -244,6 +251,19 @@ pub extern "C" fn wulgach_next_mapped_page(found: i64, at: u64, room: u64) -> u6
     ensures { result ≡ mapped.next_mapped_page found at room }
 {
     next_mapped_page(found, at, room)
+}
+
+/// Writes the part of a page that has changed. False, and nothing is written: nothing has.
+#[unsafe(no_mangle)]
+pub extern "C" fn wulgach_changed_part(before: &[u8], now: &[u8], part: &mut FilePart) -> bool
+    ensures change { IsChange before.now now.now (if result then Some part.new else None) }
+    ensures unchanged { result ≡ false → part.new ≡ part.old }
+{
+    let Some(bytes) = changed_part(before, now) else {
+        return false;
+    };
+    *part = bytes;
+    true
 }
 
 /// Whether an msync that came to this has synced its pages.

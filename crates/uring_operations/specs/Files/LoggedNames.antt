@@ -1,9 +1,10 @@
 -- What is logged of calls that change names. open(2), openat2(2), link(2), symlink(7), path_resolution(7); but where our own rule is named.
-use Rattle.std.specs.Prelude.{ℕ, ℤ, pos, Bool, true, false, not, ◌&&◌, ◌||◌, ◌==◌, nat_lt, nat_le, length, List, [], ◌∷◌, if◌then◌else◌}
+use Rattle.std.specs.Prelude.{◌≡◌, ◌≢◌, ◌≤◌, ◌<◌, ◌-◌, get_or, ℕ, ℤ, pos, Bool, true, false, not, ◌&&◌, ◌||◌, ◌==◌, nat_lt, nat_le, length, List, [], ◌∷◌, if◌then◌else◌}
 use Rattle.std.specs.Ordering.{int_eq}
 use Rattle.std.specs.Str.{bytes_eq}
 use Rattle.uring_operations.specs.declared.files.logged_call.LoggedCall.{LoggedCall}
 use Rattle.uring_operations.specs.declared.files.logged_call.LoggedCall.TheVariants.{Open, MakeFolder, MakeLink, Rename}
+use Rattle.uring_operations.specs.declared.files.logged_name.LastPart.{LastPart}
 use Rattle.uring_operations.specs.Entries.Clocks.{has_some}
 use Rattle.uring_entry.specs.Errors.{is_below}
 
@@ -11,6 +12,23 @@ use Rattle.uring_entry.specs.Errors.{is_below}
 abbrev pub logs_names : LoggedCall → (is_on_disk is_second_on_disk : Bool) → Bool
 logs_names Rename is_on_disk is_second_on_disk = is_on_disk || is_second_on_disk
 logs_names call is_on_disk is_second_on_disk = is_on_disk
+
+-- a path's last part ends where only slashes (47) stand from there on,
+abbrev pub IsEnd : List ℕ → ℕ → Type 0
+IsEnd path end =
+    (end ≤ length path)
+    × ((k : ℕ) → end ≤ k → k < length path → get_or path k 0 ≡ 47)
+    × (0 < end → get_or path (end - 1) 0 ≢ 47)
+
+-- and begins after the last slash in front of that. path_resolution(7)
+abbrev pub IsBegin : List ℕ → (end begin : ℕ) → Type 0
+IsBegin path end begin =
+    (begin ≤ end)
+    × ((k : ℕ) → begin ≤ k → k < length path → k < end → get_or path k 0 ≢ 47)
+    × (0 < begin → get_or path (begin - 1) 0 ≡ 47)
+
+abbrev pub IsLastPart : List ℕ → LastPart → Type 0
+IsLastPart path part = IsEnd path part.end × IsBegin path part.end part.begin
 
 -- the last part of a path is a name but for `.` (46) and `..`, which are the folder's and its parent's own, and that of `/`, which is empty. path_resolution(7)
 abbrev pub is_entry_name : List ℕ → Bool

@@ -1,5 +1,5 @@
 -- What is logged of mapped memory. mmap(2), msync(2), lseek(2), proc_pid_maps(5); what Linux 6.18 was seen to do.
-use Rattle.std.specs.Prelude.{ℕ, ℤ, pos, negsuc, ◌+◌, ◌-◌, ◌*◌, ◌/◌, ◌^◌, Bool, not, ◌&&◌, ◌||◌, ◌==◌, min, max, nat_lt, int_lt, Option, Some, None, if◌then◌else◌}
+use Rattle.std.specs.Prelude.{◌≡◌, ◌≢◌, ◌≤◌, ◌<◌, List, length, get_or, ℕ, ℤ, pos, negsuc, ◌+◌, ◌-◌, ◌*◌, ◌/◌, ◌^◌, Bool, not, ◌&&◌, ◌||◌, ◌==◌, min, max, nat_lt, int_lt, Option, Some, None, if◌then◌else◌}
 use Rattle.std.specs.Ordering.{int_eq}
 use Rattle.uring_operations.specs.declared.files.mapped.FilePart.{FilePart}
 use Rattle.uring_operations.specs.declared.files.mapped.MappedMemory.{MappedMemory}
@@ -21,6 +21,33 @@ page_bytes length = (length + 4095) / 4096 * 4096
 
 abbrev pub whole_pages : ℕ → Option ℕ
 whole_pages length = if nat_lt (length + 4095) (2 ^ 64) then Some (page_bytes length) else None
+
+-- two pages differ at a place,
+abbrev pub Differs : (before now : List ℕ) → ℕ → Type 0
+Differs before now k =
+    (k < length before) × (k < length now) × (get_or before k 0 ≢ get_or now k 0)
+
+-- first at this one, or nowhere;
+abbrev pub IsFirstChange : (before now : List ℕ) → ℕ → Type 0
+IsFirstChange before now first =
+    ((k : ℕ) → Differs before now k → first ≤ k)
+    × (first < length now → Differs before now first)
+
+-- and last right before this one
+abbrev pub IsChangeEnd : (before now : List ℕ) → ℕ → Type 0
+IsChangeEnd before now end =
+    ((k : ℕ) → Differs before now k → k < end)
+    × (0 < end → Differs before now (end - 1))
+
+-- what has changed of a page is what stands from the first place to the last at which it differs from what it was. Our own rule
+abbrev pub IsPartChanged : (before now : List ℕ) → FilePart → Type 0
+IsPartChanged before now part =
+    IsFirstChange before now part.offset × IsChangeEnd before now (part.offset + part.length)
+    × (0 < part.length)
+
+abbrev pub IsChange : (before now : List ℕ) → Option FilePart → Type 0
+IsChange before now None = (k : ℕ) → Differs before now k → ⊥
+IsChange before now (Some part) = IsPartChanged before now part
 
 -- lseek(2) with SEEK_DATA finds the next bytes that a file has, from a place on: they stand in this page. A file of which that can't be asked (-22, EINVAL) is read whole; else an error says that no more are there (-6, ENXIO)
 abbrev pub next_mapped_page : (found : ℤ) → (at room : ℕ) → ℕ

@@ -2,8 +2,57 @@
 
 ghost use Rattle.std.specs.Prelude.{◌≡◌};
 ghost use Rattle.uring_operations.specs.Files.LoggedNames as spec;
+ghost use Rattle.uring_operations.specs.Files.LoggedNames.{IsBegin, IsEnd, IsLastPart};
 
 use crate::files::logged_call::LoggedCall;
+
+/// Where the last part of a path stands: in front of it is the path of its folder, if there is any.
+#[repr(C)]
+#[derive(Clone, Copy, Drop)]
+pub struct LastPart {
+    /// Where it begins,
+    pub begin: u64,
+
+    /// and where it ends.
+    pub end: u64,
+}
+
+/// Where the last part of a path stands.
+pub fn last_part(path: &[u8]) -> LastPart
+    ensures { IsLastPart path.now result }
+{
+    let end = part_end(path);
+    LastPart {
+        begin: part_begin(path, end) as u64,
+        end: end as u64,
+    }
+}
+
+/// Where only slashes stand from here on.
+fn part_end(path: &[u8]) -> usize
+    ensures { IsEnd path.now result }
+{
+    let mut end = 0;
+    for (i, byte) in path.iter().enumerate() {
+        if *byte != b'/' {
+            end = i + 1;
+        }
+    }
+    end
+}
+
+/// After the last slash in front of that.
+fn part_begin(path: &[u8], end: usize) -> usize
+    ensures { IsBegin path.now end result }
+{
+    let mut begin = 0;
+    for (i, byte) in path.iter().enumerate() {
+        if *byte == b'/' && i < end {
+            begin = i + 1;
+        }
+    }
+    begin
+}
 
 /// Whether a call of this kind is logged, where its name is on the run's disk or isn't, and its second one.
 pub fn logs_names(call: LoggedCall, is_on_disk: bool, is_second_on_disk: bool) -> bool

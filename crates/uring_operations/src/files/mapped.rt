@@ -2,6 +2,7 @@
 
 ghost use Rattle.std.specs.Prelude.{◌≡◌};
 ghost use Rattle.uring_operations.specs.Files.Mapped as spec;
+ghost use Rattle.uring_operations.specs.Files.Mapped.{IsChange, IsChangeEnd, IsFirstChange};
 
 /// The bytes of a page.
 const PAGE: u64 = 4096;
@@ -64,6 +65,47 @@ pub fn next_mapped_page(found: i64, at: u64, room: u64) -> u64
     } else {
         room
     }
+}
+
+/// The part of a page that has changed, which had these bytes before: from the first byte that differs to the last. `None`: nothing has.
+pub fn changed_part(before: &[u8], now: &[u8]) -> Option<FilePart>
+    ensures { IsChange before.now now.now result }
+{
+    let first = first_change(before, now);
+    let end = change_end(before, now);
+    if first < end {
+        Some(FilePart {
+            offset: first as u64,
+            length: (end - first) as u64,
+        })
+    } else {
+        None
+    }
+}
+
+/// Where two pages differ first.
+fn first_change(before: &[u8], now: &[u8]) -> usize
+    ensures { IsFirstChange before.now now.now result }
+{
+    for (i, byte) in now.iter().enumerate() {
+        if i < before.len() && before[i] != *byte {
+            return i;
+        }
+    }
+    now.len()
+}
+
+/// Where they are the same from here on.
+fn change_end(before: &[u8], now: &[u8]) -> usize
+    ensures { IsChangeEnd before.now now.now result }
+{
+    let mut end = 0;
+    for (i, byte) in now.iter().enumerate() {
+        if i < before.len() && before[i] != *byte {
+            end = i + 1;
+        }
+    }
+    end
 }
 
 /// Whether an msync that came to this has synced its pages.
