@@ -7,6 +7,7 @@
 #include "passing.h"
 #include "signals.h"
 #include "wulgach_form.h"
+#include "wulgach_lookout.h"
 
 #include <fcntl.h>
 #include <sys/stat.h>

@@ -57,6 +57,7 @@ SEEN bool wulgach_is_synced_number(int fd);
     CALL(bool, tells_file, (uint64_t number, int64_t res), (number, res))                                                                                  \
     CALL(bool, unwaited, (uint32_t flags, uint32_t *instead), (flags, instead))                                                                            \
     CALL(bool, looks_at_map, (uint32_t protection, uint32_t flags, int64_t res), (protection, flags, res))                                                 \
+    CALL(bool, stays_open, (bool is_locked, uint64_t others), (is_locked, others))                                                                     \
     CALL(bool, whole_pages, (uint64_t length, uint64_t *bytes), (length, bytes))                                                                           \
     CALL(uint64_t, next_mapped_page, (int64_t found, uint64_t at, uint64_t room), (found, at, room))                                                       \
     CALL(bool, has_synced_memory, (int64_t res), (res))                                                                                                    \

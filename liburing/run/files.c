@@ -26,7 +26,7 @@
 
 _Static_assert((int)EVENT_WRITE == WULGACH_CALL_WRITE && (int)EVENT_SPACE == WULGACH_CALL_SPACE && (int)EVENT_MAKE_FOLDER == WULGACH_CALL_MAKE_FOLDER && (int)EVENT_REMOVE == WULGACH_CALL_REMOVE, "calls and events have the same numbers");
 
-/* Lines of the filter; system calls have numbers below this. */
+/* Lines of the filter; system calls have numbers below the other. */
 enum { MOST_LINES = 128, ALL_CALLS = 512 };
 
 long end_operation(long result)
@@ -213,9 +213,13 @@ bool trap_files(void)
         BPF_STMT(BPF_LD | BPF_W | BPF_ABS, offsetof(struct seccomp_data, nr)),
     };
     size_t count = 9;
-    for (uint32_t call = 0; call < ALL_CALLS && count + 6 <= MOST_LINES; call++)
-        if (wulgach_seen_logged_call(call) != WULGACH_CALL_NOTHING)
-            count += put_call(lines + count, call);
+    for (uint32_t call = 0; call < ALL_CALLS; call++) {
+        if (wulgach_seen_logged_call(call) == WULGACH_CALL_NOTHING)
+            continue;
+        if (count + 6 > MOST_LINES)
+            return false;
+        count += put_call(lines + count, call);
+    }
     lines[count++] = (struct sock_filter)BPF_STMT(BPF_RET | BPF_K, SECCOMP_RET_ALLOW);
     struct sock_fprog program = {.len = (unsigned short)count, .filter = lines};
     return add_filter(&program);

@@ -163,7 +163,7 @@ static int open_again(int fd)
     int high = low < 0 ? -1 : copy_high((int)low);
     if (high < 0)
         return (int)low;
-    if (!may_be_locked(high))
+    if (!wulgach_seen_stays_open(may_be_locked(high), 0))
         pass(SYS_close, low, 0, 0, 0, 0, 0);
     return high;
 }
