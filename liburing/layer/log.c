@@ -17,7 +17,8 @@
 #include <sys/syscall.h>
 #include <unistd.h>
 
-enum { PAGE = 4096, MOST_ASKED = 64, IN_FRONT = 3, MOST_ALONE = MOST_RUNS - IN_FRONT };
+/* How many places are asked for at once; how many parts of an event stand in front of its bytes. */
+enum { MOST_ASKED = 64, IN_FRONT = 3 };
 
 static struct {
     char path[PATH_ROOM], disk[PATH_ROOM], output[PATH_ROOM];
@@ -92,45 +93,50 @@ static void append(const struct iovec *parts, size_t count, size_t length)
     int fd = log_of.fd;
     if (!is_log(fd, &about))
         fd = log_of.fd = open_log(&about);
-    if (fd >= 0 && about.st_mode & S_IWUSR && wulgach_append(fd, parts, count) != (long)length)
+    if (fd >= 0 && wulgach_seen_takes_events(about.st_mode) && !wulgach_seen_log_goes_on(wulgach_append(fd, parts, count), length))
         end_log(fd);
 }
 
-/* How far memory can be read from here on, over so many pages at most: a byte of each is asked for. Where nobody may ask it can be. */
-static uintptr_t ask_pages(pid_t thread, uintptr_t at, uintptr_t end)
+/* Asks for a byte at each of the next places, MOST_ASKED at most, from the question of this number on. Returns at how many one could be read, and writes
+ * at how many it was asked. Where nobody may ask it can be. */
+static size_t ask_places(pid_t thread, const struct iovec *bytes, uint64_t number, size_t *count)
 {
-    struct iovec pages[MOST_ASKED];
-    char first[MOST_ASKED];
-    size_t count = 0;
-    for (; count < MOST_ASKED && at < end; at = (at / PAGE + 1) * PAGE)
-        pages[count++] = (struct iovec){(void *)at, 1};
-    const struct iovec here = {first, count};
-    ssize_t read = process_vm_readv(thread, &here, 1, pages, count, 0);
-    if (read == (ssize_t)count || (read < 0 && (errno == ENOSYS || errno == EPERM)))
-        return at < end ? at : end;
-    return (uintptr_t)pages[read > 0 ? read : 0].iov_base;
+    struct iovec places[MOST_ASKED];
+    char letters[MOST_ASKED];
+    uint64_t at;
+    for (*count = 0; *count < MOST_ASKED && wulgach_seen_asked_at((uintptr_t)bytes->iov_base, bytes->iov_len, number + *count, &at); ++*count)
+        places[*count] = (struct iovec){(void *)(uintptr_t)at, 1};
+    const struct iovec here = {letters, *count};
+    ssize_t read = process_vm_readv(thread, &here, 1, places, *count, 0);
+    if (read < 0 && (errno == ENOSYS || errno == EPERM))
+        return *count;
+    return read > 0 ? (size_t)read : 0;
 }
 
 /* How many bytes of a run can be read, from its first on. */
 static size_t readable(pid_t thread, const struct iovec *bytes)
 {
-    const uintptr_t begin = (uintptr_t)bytes->iov_base, end = begin + bytes->iov_len;
-    uintptr_t at = begin, next;
+    uint64_t all = 0;
+    size_t asked, read;
     int kept = errno;
-    while (at < end && (next = ask_pages(thread, at, end)) > at)
-        at = next;
+    do {
+        read = ask_places(thread, bytes, all, &asked);
+        all += read;
+    } while (asked == MOST_ASKED && read == asked);
     errno = kept;
-    return at - begin;
+    return wulgach_seen_readable_bytes((uintptr_t)bytes->iov_base, bytes->iov_len, all);
 }
 
-/* Puts into `parts` what can be read of runs of bytes, from the first on, as the kernel would write of them: as much as one call moves beside what stands in front. */
+/* Puts into `parts` what can be read of runs of bytes, from the first on, as the kernel would write of them: as much as one call moves beside what stands in front.
+ * (an address that no program has is refused even of no bytes) */
 static void take_readable(pid_t thread, const struct iovec *bytes, size_t count, size_t front, struct iovec *parts)
 {
     bool is_whole = true;
     for (size_t i = 0; i < count; i++) {
-        const struct iovec run = {bytes[i].iov_base, is_whole ? wulgach_moved(front, bytes[i].iov_len) - front : 0};
-        parts[i] = (struct iovec){run.iov_base, readable(thread, &run)};
-        front += parts[i].iov_len;
+        const struct iovec run = {bytes[i].iov_base, wulgach_seen_logged_of_vector(front, bytes[i].iov_len, is_whole)};
+        const size_t length = readable(thread, &run);
+        parts[i] = (struct iovec){length > 0 ? run.iov_base : NULL, length};
+        front += length;
         is_whole = is_whole && parts[i].iov_len == bytes[i].iov_len;
     }
 }
@@ -157,18 +163,18 @@ static size_t copy_runs(pid_t thread, const struct iovec *to, const struct iovec
     return to->iov_len;
 }
 
-/* An event is one call, which has MOST_RUNS parts: of more runs than have room in it the last ones are one, in memory that is asked for. Returns
- * that memory. Without it they aren't logged, and the comparison at the run's end tells of it. */
-static struct iovec join_last(pid_t thread, struct iovec *runs, size_t count)
+/* Of more runs than may be parts of an event by themselves, so many, the others are one, in memory that is asked for. Returns that memory. Without it they aren't
+ * logged, and the comparison at the run's end tells of it. */
+static struct iovec join_last(pid_t thread, struct iovec *runs, size_t count, size_t alone)
 {
-    struct iovec *last = runs + MOST_ALONE - 1;
-    struct iovec room = {.iov_len = length_of(last, count - MOST_ALONE + 1)};
+    struct iovec *last = runs + alone;
+    struct iovec room = {.iov_len = length_of(last, count - alone)};
     long at = pass_mmap(0, (long)room.iov_len, PROT_READ | PROT_WRITE, MAP_PRIVATE | MAP_ANONYMOUS, -1, 0);
     if (at < 0)
         room.iov_len = 0;
     else
         room.iov_base = (void *)at;
-    *last = (struct iovec){room.iov_base, at < 0 ? 0 : copy_runs(thread, &room, last, count - MOST_ALONE + 1)};
+    *last = (struct iovec){room.iov_base, at < 0 ? 0 : copy_runs(thread, &room, last, count - alone)};
     return room;
 }
 
@@ -176,19 +182,18 @@ static struct iovec join_last(pid_t thread, struct iovec *runs, size_t count)
 void log_event(struct event *event, const char *path, const char *second_path, const struct iovec *bytes, size_t count)
 {
     struct iovec parts[IN_FRONT + count], joined = {0};
+    const size_t alone = wulgach_seen_parts_alone(count);
     event->process = (uint32_t)pass(SYS_getpid, 0, 0, 0, 0, 0, 0);
     event->thread = (uint32_t)pass(SYS_gettid, 0, 0, 0, 0, 0, 0);
     event->path = path ? (uint16_t)strlen(path) : 0;
     event->second_path = second_path ? (uint16_t)strlen(second_path) : 0;
-    const size_t front = sizeof *event + event->path + event->second_path;
-    take_readable((pid_t)event->thread, bytes, count, front, parts + IN_FRONT);
-    if (count > MOST_ALONE) {
-        joined = join_last((pid_t)event->thread, parts + IN_FRONT, count);
-        count = MOST_ALONE;
+    take_readable((pid_t)event->thread, bytes, count, wulgach_seen_event_size(event->path, event->second_path, 0), parts + IN_FRONT);
+    if (count > alone) {
+        joined = join_last((pid_t)event->thread, parts + IN_FRONT, count, alone);
+        count = alone + 1;
     }
-    size_t length = length_of(parts + IN_FRONT, count);
-    event->bytes = (uint32_t)length;
-    event->size = (uint32_t)(front + length);
+    event->bytes = (uint32_t)length_of(parts + IN_FRONT, count);
+    event->size = (uint32_t)wulgach_seen_event_size(event->path, event->second_path, event->bytes);
     parts[0] = (struct iovec){event, sizeof *event};
     parts[1] = (struct iovec){(void *)(uintptr_t)path, event->path};
     parts[2] = (struct iovec){(void *)(uintptr_t)second_path, event->second_path};

@@ -10,6 +10,7 @@
 #include <stdint.h>
 #include <sys/uio.h>
 
+/* Up to EVENT_REMOVE these are the numbers of what a system call is logged as: enum wulgach_logged_call. */
 enum event_kind {
     EVENT_WRITE = 1,        /* of these bytes */
     EVENT_COPY,             /* of bytes that its end says */
@@ -50,10 +51,7 @@ struct event {
 /* Whether there is a log. The first call reads the environment. */
 bool is_logging(void);
 
-/* A call has no more runs of bytes (writev(2)). */
-enum { MOST_RUNS = 1024 };
-
-/* Appends an event; `event` needs no size and no lengths. Any of the others may be NULL or none. At most MOST_RUNS runs of bytes. */
+/* Appends an event; `event` needs no size and no lengths. Any of the others may be NULL or none. At most 1,024 runs of bytes. */
 void log_event(struct event *event, const char *path, const char *second_path, const struct iovec *bytes, size_t count);
 
 /* A copy of a descriptor under one of the last numbers that the program may have, as the layer's own have; negative: there is none. */

@@ -6,7 +6,8 @@
 #include "openness.h"
 #include "passing.h"
 #include "signals.h"
-#include "wulgach_calls.h"
+#include "wulgach_form.h"
+#include "wulgach_lookout.h"
 
 #include <fcntl.h>
 #include <sys/stat.h>
@@ -39,14 +40,18 @@ bool wulgach_is_synced_number(int fd)
     return wulgach_counts_as_synced(&openness, &kind);
 }
 
-bool wulgach_is_waited_msync(uint32_t flags, uint32_t *instead)
+#define DEFINE_SEEN(result, name, parameters, arguments) \
+    result wulgach_seen_##name parameters { return wulgach_##name arguments; }
+LOGGING_CALLS(DEFINE_SEEN)
+
+void wulgach_seen_words_of_call(const struct wulgach_system_call *call, struct wulgach_call_words *words)
 {
-    return wulgach_unwaited(flags, instead);
+    wulgach_words_of_call(call, words);
 }
 
-uint64_t wulgach_moved(uint64_t length, uint64_t size)
+void wulgach_seen_last_part(const uint8_t *path, size_t length, struct wulgach_last_part *part)
 {
-    return wulgach_length_with(length, size);
+    wulgach_last_part(path, length, part);
 }
 
 bool wulgach_is_open_number(int fd)

@@ -8,27 +8,6 @@
 #include <sys/syscall.h>
 #include <unistd.h>
 
-/* Where the bytes go to. */
-struct way {
-    int to;
-    const void *at;     /* the address of the place, or NULL: it is the descriptor's own */
-    int64_t place;
-    int length;         /* which word is the length */
-};
-
-static struct way way_of(long call, const long words[6])
-{
-    if (call == SYS_sendfile)
-        return (struct way){(int)words[0], NULL, -1, 3};
-    return (struct way){(int)words[2], (const void *)words[3], -1, 4};
-}
-
-/* False if the place can't be read, which the kernel refuses. */
-static bool read_place(struct way *way)
-{
-    return !way->at || read_memory(way->at, &way->place, sizeof way->place);
-}
-
 /* The end of an operation that moved so many bytes, which are read here. */
 static void end_copy(int reader, int64_t begin, long result)
 {
@@ -44,17 +23,18 @@ static void end_copy(int reader, int64_t begin, long result)
     pass(SYS_munmap, memory, result, 0, 0, 0, 0);
 }
 
-long call_copy(long call, const long words[6])
+/* (a place that can't be read the kernel refuses) */
+long call_copy(const struct file_call *call)
 {
-    struct way way = way_of(call, words);
+    const struct wulgach_call_words *is = &call->is;
     char path[PATH_ROOM];
-    uint64_t file;
-    if (!is_on_disk(way.to, path, &file) || !read_place(&way))
-        return pass(call, words[0], words[1], words[2], words[3], words[4], words[5]);
-    struct event event = {.kind = EVENT_COPY, .file = file, .length = wulgach_moved(0, (uint64_t)words[way.length])};
-    wulgach_place_write(&event, way.to, (uint64_t)way.place, 0);
+    uint64_t file, place = is->offset;
+    if (!is_on_disk(is->fd, path, &file) || (is->address && !read_memory((const void *)(uintptr_t)is->address, &place, sizeof place)))
+        return carry(call);
+    struct event event = {.kind = EVENT_COPY, .file = file, .length = wulgach_seen_length_with(0, is->length)};
+    wulgach_place_write(&event, is->fd, place, 0);
     log_event(&event, path, NULL, NULL, 0);
-    long result = pass(call, words[0], words[1], words[2], words[3], words[4], words[5]);
-    end_copy(reader_of(file, way.to), event.offset, result);
+    long result = carry(call);
+    end_copy(reader_of(file, is->fd), event.offset, result);
     return result;
 }

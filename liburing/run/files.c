@@ -24,11 +24,10 @@
 #include <sys/uio.h>
 #include <unistd.h>
 
-#ifndef SYS_renameat2
-#define SYS_renameat2 316
-#endif
+_Static_assert((int)EVENT_WRITE == WULGACH_CALL_WRITE && (int)EVENT_SPACE == WULGACH_CALL_SPACE && (int)EVENT_MAKE_FOLDER == WULGACH_CALL_MAKE_FOLDER && (int)EVENT_REMOVE == WULGACH_CALL_REMOVE, "calls and events have the same numbers");
 
-enum { MOST_LINES = 128, MAKES = O_CREAT | O_TRUNC | (O_TMPFILE & ~O_DIRECTORY) };
+/* Lines of the filter; system calls have numbers below the other. */
+enum { MOST_LINES = 128, ALL_CALLS = 512 };
 
 long end_operation(long result)
 {
@@ -37,9 +36,10 @@ long end_operation(long result)
     return result;
 }
 
-static long carry(long call, const long words[6])
+long carry(const struct file_call *call)
 {
-    return pass(call, words[0], words[1], words[2], words[3], words[4], words[5]);
+    const long *words = call->words;
+    return pass(call->number, words[0], words[1], words[2], words[3], words[4], words[5]);
 }
 
 bool read_memory(const void *from, void *to, size_t size)
@@ -52,56 +52,51 @@ bool read_memory(const void *from, void *to, size_t size)
     return true;
 }
 
-/* A write, of one run of bytes or of vectors. */
-struct written {
-    int fd, flags;              /* flags: RWF_.. */
-    int64_t offset;             /* or -1 */
-    const struct iovec *vectors;
-    size_t count;
-};
-
-static long log_output(long call, const long words[6], const struct written *written)
+static long log_output(const struct file_call *call, const struct iovec *vectors, size_t count)
 {
     struct event event = {.kind = EVENT_PRINT};
-    log_event(&event, NULL, NULL, written->vectors, written->count);
-    return carry(call, words);
+    log_event(&event, NULL, NULL, vectors, count);
+    return carry(call);
 }
 
-static long call_write(long call, const long words[6], const struct written *written)
+static long log_write(const struct file_call *call, const char *path, struct event *event, const struct iovec *vectors, size_t count)
+{
+    event->kind = EVENT_WRITE;
+    wulgach_place_write(event, call->is.fd, call->is.offset, (int)call->is.flags);
+    log_event(event, path, NULL, vectors, count);
+    return end_operation(carry(call));
+}
+
+static long write_vectors(const struct file_call *call, const struct iovec *vectors, size_t count)
 {
     char path[PATH_ROOM] = "";
-    uint64_t file;
-    size_t length = 0;
-    for (size_t i = 0; i < written->count; i++)
-        length = wulgach_moved(length, written->vectors[i].iov_len);
-    if (length == 0)
-        return carry(call, words);
-    if (!is_on_disk(written->fd, path, &file))
-        return is_output(path) ? log_output(call, words, written) : carry(call, words);
-    struct event event = {.kind = EVENT_WRITE, .file = file, .length = length};
-    wulgach_place_write(&event, written->fd, (uint64_t)written->offset, written->flags);
-    log_event(&event, path, NULL, written->vectors, written->count);
-    return end_operation(carry(call, words));
+    struct event event = {0};
+    for (size_t i = 0; i < count; i++)
+        event.length = wulgach_seen_length_with(event.length, vectors[i].iov_len);
+    bool is_of_disk = is_on_disk(call->is.fd, path, &event.file);
+    switch (wulgach_seen_written_as(event.length, is_of_disk, is_output(path))) {
+    case WULGACH_WRITTEN_FILE:
+        return log_write(call, path, &event, vectors, count);
+    case WULGACH_WRITTEN_PRINT:
+        return log_output(call, vectors, count);
+    default:
+        return carry(call);
+    }
 }
 
-static long call_write_bytes(long call, const long words[6])
+/* (vectors that can't be had, or can't be read, the kernel refuses) */
+static long call_write(const struct file_call *call)
 {
-    struct iovec one = {(void *)words[1], (size_t)words[2]};
-    struct written written = {(int)words[0], 0, call == SYS_pwrite64 ? words[3] : -1, &one, 1};
-    return call_write(call, words, &written);
-}
-
-/* (more runs the kernel refuses) */
-static long call_write_vectors(long call, const long words[6])
-{
-    size_t count = (size_t)words[2];
-    if (count == 0 || count > MOST_RUNS)
-        return carry(call, words);
+    const struct iovec one = {(void *)(uintptr_t)call->is.address, call->is.length};
+    size_t count = call->is.count;
+    if (!call->is.has_vectors)
+        return write_vectors(call, &one, 1);
+    if (!wulgach_seen_may_have_vectors(count))
+        return carry(call);
     struct iovec vectors[count];
-    if (!read_memory((const void *)words[1], vectors, count * sizeof *vectors))
-        return carry(call, words);
-    struct written written = {(int)words[0], call == SYS_pwritev2 ? (int)words[5] : 0, call == SYS_writev ? -1 : words[3], vectors, count};
-    return call_write(call, words, &written);
+    if (!read_memory((const void *)(uintptr_t)call->is.address, vectors, count * sizeof *vectors))
+        return carry(call);
+    return write_vectors(call, vectors, count);
 }
 
 static bool fails_now(void)
@@ -111,103 +106,94 @@ static bool fails_now(void)
     return word && *word && atomic_fetch_add(&count, 1) + 1 == atol(word);
 }
 
-/* A sync of a file, which isn't waited for. */
-static long call_sync(long call, const long words[6])
+/* A sync of a file. */
+static long call_sync(const struct file_call *call)
 {
     char path[PATH_ROOM];
     uint64_t file;
-    if (!wulgach_is_synced_number((int)words[0]) || !is_on_disk((int)words[0], path, &file))
-        return carry(call, words);
+    if (!wulgach_is_synced_number(call->is.fd) || !is_on_disk(call->is.fd, path, &file))
+        return carry(call);
     compare_maps(file);
     struct event event = {.kind = EVENT_SYNC, .file = file};
     log_event(&event, path, NULL, NULL, 0);
     compare_maps(file);
-    return end_operation(fails_now() ? -EIO : 0);
+    return end_operation(wulgach_seen_is_made((uint64_t)call->number) ? carry(call) : fails_now() ? -EIO : 0);
 }
 
-static long call_sync_all(long call, const long words[6])
+static bool is_number_on_disk(int fd)
 {
     char path[PATH_ROOM];
-    if (call == SYS_syncfs && !(wulgach_is_open_number((int)words[0]) && path_of((int)words[0], path) && is_path_on_disk(path)))
-        return carry(call, words);
+    return wulgach_is_open_number(fd) && path_of(fd, path) && is_path_on_disk(path);
+}
+
+static long call_sync_all(const struct file_call *call)
+{
+    if (call->is.by_descriptor && !is_number_on_disk(call->is.fd))
+        return carry(call);
     compare_maps(0);
     struct event event = {.kind = EVENT_SYNC_ALL};
     log_event(&event, NULL, NULL, NULL, 0);
     compare_maps(0);
-    return end_operation(0);
+    return end_operation(wulgach_seen_is_made((uint64_t)call->number) ? carry(call) : 0);
 }
 
-/* A file's length or room. */
-static long call_on_length(long call, const long words[6])
+/* A file's length or room: it is looked up where it is named by a path. */
+static long call_on_length(const struct file_call *call)
 {
+    const struct wulgach_call_words *is = &call->is;
+    long fd = is->by_path ? pass(SYS_openat, is->fd, (long)is->path, O_PATH | O_CLOEXEC, 0, 0, 0) : is->fd;
     char path[PATH_ROOM];
-    uint64_t file;
-    if (!is_on_disk((int)words[0], path, &file))
-        return carry(call, words);
-    struct event event = {.kind = EVENT_LENGTH, .file = file, .offset = words[1]};
-    if (call == SYS_fallocate)
-        event = (struct event){.kind = EVENT_SPACE, .file = file, .flags = (uint16_t)words[1], .offset = words[2], .length = (uint64_t)words[3]};
-    log_event(&event, path, NULL, NULL, 0);
-    return end_operation(carry(call, words));
-}
-
-static long call_truncate(long call, const long words[6])
-{
-    long file = pass(SYS_open, words[0], O_PATH | O_CLOEXEC, 0, 0, 0, 0);
-    char path[PATH_ROOM];
-    uint64_t number;
-    bool is_seen = file >= 0 && is_on_disk((int)file, path, &number);
-    if (is_seen) {
-        struct event event = {.kind = EVENT_LENGTH, .file = number, .offset = words[1]};
+    struct event event = {.kind = (uint16_t)call->kind, .flags = (uint16_t)is->flags, .offset = (int64_t)is->offset, .length = is->length};
+    bool is_seen = fd >= 0 && is_on_disk((int)fd, path, &event.file);
+    if (is_seen)
         log_event(&event, path, NULL, NULL, 0);
-    }
-    if (file >= 0)
-        pass(SYS_close, file, 0, 0, 0, 0, 0);
-    long result = carry(call, words);
+    if (is->by_path && fd >= 0)
+        pass(SYS_close, fd, 0, 0, 0, 0, 0);
+    long result = carry(call);
     return is_seen ? end_operation(result) : result;
 }
 
 /* The process ends: what it wrote through memory is seen for the last time. */
-static long call_exit(long call, const long words[6])
+static long call_exit(const struct file_call *call)
 {
     compare_maps(0);
-    return carry(call, words);
+    return carry(call);
 }
 
-static const struct {
-    int call;
-    long (*serve)(long call, const long words[6]);
-} served[] = {
-    {SYS_write, call_write_bytes}, {SYS_pwrite64, call_write_bytes}, {SYS_writev, call_write_vectors}, {SYS_pwritev, call_write_vectors}, {SYS_pwritev2, call_write_vectors},
-    {SYS_fsync, call_sync}, {SYS_fdatasync, call_sync}, {SYS_sync, call_sync_all}, {SYS_syncfs, call_sync_all},
-    {SYS_ftruncate, call_on_length}, {SYS_fallocate, call_on_length}, {SYS_truncate, call_truncate}, {SYS_creat, call_open}, {SYS_openat2, call_open},
-    {SYS_rename, call_on_names}, {SYS_renameat, call_on_names}, {SYS_renameat2, call_on_names}, {SYS_link, call_on_names}, {SYS_linkat, call_on_names},
-    {SYS_unlink, call_on_names}, {SYS_unlinkat, call_on_names}, {SYS_rmdir, call_on_names}, {SYS_mkdir, call_on_names}, {SYS_mkdirat, call_on_names},
-    {SYS_symlink, call_on_names}, {SYS_symlinkat, call_on_names},
-    {SYS_copy_file_range, call_copy}, {SYS_sendfile, call_copy}, {SYS_splice, call_copy}, {SYS_msync, call_map}, {SYS_exit_group, call_exit},
-    /* These are trapped only where a word of theirs has some bits. */
-    {SYS_open, call_open}, {SYS_openat, call_open}, {SYS_mmap, call_map},
+static long (*const served[])(const struct file_call *call) = {
+    [WULGACH_CALL_WRITE] = call_write, [WULGACH_CALL_COPY] = call_copy, [WULGACH_CALL_SYNC] = call_sync, [WULGACH_CALL_SYNC_ALL] = call_sync_all,
+    [WULGACH_CALL_LENGTH] = call_on_length, [WULGACH_CALL_SPACE] = call_on_length, [WULGACH_CALL_OPEN] = call_open,
+    [WULGACH_CALL_MAKE_FOLDER] = call_on_name, [WULGACH_CALL_MAKE_LINK] = call_on_name, [WULGACH_CALL_REMOVE] = call_on_name,
+    [WULGACH_CALL_LINK] = call_link, [WULGACH_CALL_RENAME] = call_rename,
+    [WULGACH_CALL_MAP] = call_map, [WULGACH_CALL_SYNC_MEMORY] = call_msync, [WULGACH_CALL_EXIT] = call_exit,
 };
-enum { SERVED = sizeof served / sizeof *served, PLAIN = SERVED - 3 };
 
-bool serve_file_call(long call, const long words[6], long *result)
+bool serve_file_call(long number, const long words[6], long *result)
 {
-    for (size_t i = 0; i < SERVED; i++)
-        if (served[i].call == call) {
-            *result = served[i].serve(call, words);
-            return true;
-        }
-    return false;
+    const struct wulgach_system_call whole = {(uint64_t)number, (uint64_t)words[0], (uint64_t)words[1], (uint64_t)words[2], (uint64_t)words[3], (uint64_t)words[4], (uint64_t)words[5]};
+    struct file_call call = {.number = number, .words = words, .kind = wulgach_seen_logged_call((uint64_t)number)};
+    if (call.kind == WULGACH_CALL_NOTHING)
+        return false;
+    wulgach_seen_words_of_call(&whole, &call.is);
+    *result = served[call.kind](&call);
+    return true;
 }
 
-/* Five lines of the filter: a call is trapped if a word of it has one of some bits. */
-static size_t put_test(struct sock_filter *lines, int call, int word, uint32_t bits)
+/* Lines of the filter: a call is trapped, or only if an argument has one of some bits. Returns how many there are. */
+static size_t put_call(struct sock_filter *lines, uint32_t call)
 {
-    const size_t low = offsetof(struct seccomp_data, args) + (size_t)word * 8;
-    lines[0] = (struct sock_filter)BPF_JUMP(BPF_JMP | BPF_JEQ | BPF_K, (uint32_t)call, 0, 4);
+    const struct sock_filter traps = BPF_STMT(BPF_RET | BPF_K, SECCOMP_RET_TRAP);
+    struct wulgach_bits bits;
+    if (!wulgach_seen_bits_of_call(call, &bits)) {
+        lines[0] = (struct sock_filter)BPF_JUMP(BPF_JMP | BPF_JEQ | BPF_K, call, 0, 1);
+        lines[1] = traps;
+        return 2;
+    }
+    const size_t low = offsetof(struct seccomp_data, args) + bits.argument * 8;
+    lines[0] = (struct sock_filter)BPF_JUMP(BPF_JMP | BPF_JEQ | BPF_K, call, 0, 4);
     lines[1] = (struct sock_filter)BPF_STMT(BPF_LD | BPF_W | BPF_ABS, (uint32_t)low);
-    lines[2] = (struct sock_filter)BPF_JUMP(BPF_JMP | BPF_JSET | BPF_K, bits, 0, 1);
-    lines[3] = (struct sock_filter)BPF_STMT(BPF_RET | BPF_K, SECCOMP_RET_TRAP);
+    lines[2] = (struct sock_filter)BPF_JUMP(BPF_JMP | BPF_JSET | BPF_K, bits.bits, 0, 1);
+    lines[3] = traps;
     lines[4] = (struct sock_filter)BPF_STMT(BPF_RET | BPF_K, SECCOMP_RET_ALLOW);
     return 5;
 }
@@ -227,12 +213,12 @@ bool trap_files(void)
         BPF_STMT(BPF_LD | BPF_W | BPF_ABS, offsetof(struct seccomp_data, nr)),
     };
     size_t count = 9;
-    count += put_test(lines + count, SYS_open, 1, MAKES);
-    count += put_test(lines + count, SYS_openat, 2, MAKES);
-    count += put_test(lines + count, SYS_mmap, 3, MAP_SHARED);
-    for (size_t i = 0; i < PLAIN; i++) {
-        lines[count++] = (struct sock_filter)BPF_JUMP(BPF_JMP | BPF_JEQ | BPF_K, (uint32_t)served[i].call, 0, 1);
-        lines[count++] = (struct sock_filter)BPF_STMT(BPF_RET | BPF_K, SECCOMP_RET_TRAP);
+    for (uint32_t call = 0; call < ALL_CALLS; call++) {
+        if (wulgach_seen_logged_call(call) == WULGACH_CALL_NOTHING)
+            continue;
+        if (count + 6 > MOST_LINES)
+            return false;
+        count += put_call(lines + count, call);
     }
     lines[count++] = (struct sock_filter)BPF_STMT(BPF_RET | BPF_K, SECCOMP_RET_ALLOW);
     struct sock_fprog program = {.len = (unsigned short)count, .filter = lines};

@@ -1,6 +1,9 @@
-/* The calls that change files, trapped where the run has a log (layer/log.h): each is put into it and carried out. */
+/* The calls that change files, trapped where the run has a log (layer/log.h): each is put into it and carried out. Which call is logged as what, and what its
+ * arguments are, the library says. */
 #ifndef FILES_H
 #define FILES_H
+
+#include "../../c/wulgach_logged.h"
 
 #include <stdbool.h>
 #include <stddef.h>
@@ -13,11 +16,25 @@ bool trap_files(void);
 /* Serves a trapped call with these words: false if it isn't one of files. Its result is the kernel's. */
 bool serve_file_call(long call, const long words[6], long *result);
 
+/* A trapped call: its number, its words, and what the library says of them. */
+struct file_call {
+    long number;
+    const long *words;
+    uint32_t kind;      /* enum wulgach_logged_call */
+    struct wulgach_call_words is;
+};
+
+/* Carries it out as it stands. */
+long carry(const struct file_call *call);
+
 /* Calls of names (names.c), of bytes from another file (copies.c) and of mapped memory (maps.c). */
-long call_on_names(long call, const long words[6]);
-long call_open(long call, const long words[6]);
-long call_copy(long call, const long words[6]);
-long call_map(long call, const long words[6]);
+long call_on_name(const struct file_call *call);
+long call_rename(const struct file_call *call);
+long call_link(const struct file_call *call);
+long call_open(const struct file_call *call);
+long call_copy(const struct file_call *call);
+long call_map(const struct file_call *call);
+long call_msync(const struct file_call *call);
 
 /* Reads the program's memory, which may be where nothing is; false if it can't be read. Where nobody may ask it is read as it comes. The process is named
  * by the thread that calls: its first one may have ended. */

@@ -74,30 +74,23 @@ static bool is_address(long result)
     return !(result < 0 && result > -4096);
 }
 
-/* The bytes of a page that differ, from the first to the last. */
+/* What has changed of a page. */
 static void log_page(struct mapped *mapped, size_t at, const char *now, size_t length)
 {
     char *before = mapped->copy + at, path[PATH_ROOM];
-    size_t first = 0, last = length;
-    if (memcmp(now, before, length) == 0)
+    struct wulgach_file_part part;
+    if (memcmp(now, before, length) == 0 || !wulgach_seen_changed_part((const uint8_t *)before, length, (const uint8_t *)now, length, &part))
         return;
-    while (now[first] == before[first])
-        first++;
-    while (now[last - 1] == before[last - 1])
-        last--;
     memcpy(before, now, length);
-    struct event event = {.kind = EVENT_MAPPED, .file = mapped->file, .offset = (int64_t)(at + first), .length = last - first};
-    struct iovec bytes = {before + first, last - first};
+    struct event event = {.kind = EVENT_MAPPED, .file = mapped->file, .offset = (int64_t)(at + part.offset), .length = part.length};
+    struct iovec bytes = {before + part.offset, part.length};
     log_event(&event, path_of(mapped->fd, path) ? path : NULL, NULL, &bytes, 1);
 }
 
 /* The next page from here on that the file has: holes are passed over, so that one which is mostly empty costs little. */
 static size_t next_page(const struct mapped *mapped, size_t at)
 {
-    long found = pass(SYS_lseek, mapped->fd, (long)at, SEEK_DATA, 0, 0, 0);
-    if (found == -EINVAL)
-        return at;
-    return found < 0 ? mapped->room : (size_t)found / PAGE * PAGE;
+    return wulgach_seen_next_mapped_page(pass(SYS_lseek, mapped->fd, (long)at, SEEK_DATA, 0, 0, 0), at, mapped->room);
 }
 
 /* Whether its descriptor still reads it: the program may have closed the number, or taken it for a file of its own. */
@@ -137,9 +130,11 @@ static void read_copy(struct mapped *mapped, size_t from)
 }
 
 /* Room for a file's first bytes; false if there is none. */
-static bool make_room(struct mapped *mapped, size_t room)
+static bool make_room(struct mapped *mapped, uint64_t bytes)
 {
-    room = (room + PAGE - 1) / PAGE * PAGE;
+    uint64_t room;
+    if (!wulgach_seen_whole_pages(bytes, &room))
+        return false;
     if (room <= mapped->room)
         return true;
     long copy = mapped->copy ? pass(SYS_mremap, (long)mapped->copy, (long)mapped->room, (long)room, MREMAP_MAYMOVE, 0, 0) : pass(SYS_mmap, 0, (long)room, PROT_READ | PROT_WRITE, MAP_PRIVATE | MAP_ANONYMOUS | MAP_NORESERVE, -1, 0);
@@ -168,7 +163,7 @@ static int open_again(int fd)
     int high = low < 0 ? -1 : copy_high((int)low);
     if (high < 0)
         return (int)low;
-    if (!may_be_locked(high))
+    if (!wulgach_seen_stays_open(may_be_locked(high), 0))
         pass(SYS_close, low, 0, 0, 0, 0, 0);
     return high;
 }
@@ -200,7 +195,7 @@ int reader_of(uint64_t file, int fd)
     return mapped ? mapped->fd : -1;
 }
 
-static void add_map(size_t length, int fd, int64_t offset)
+static void add_map(int fd, uint64_t length, uint64_t offset)
 {
     char path[PATH_ROOM];
     uint64_t file;
@@ -209,7 +204,7 @@ static void add_map(size_t length, int fd, int64_t offset)
         return;
     lock(&before);
     struct mapped *mapped = mapped_of(file, fd);
-    if (!mapped || !make_room(mapped, (size_t)offset + length))
+    if (!mapped || !make_room(mapped, offset + length))
         say("memory that is shared with this file isn't looked at", path);
     unlock(&before);
 }
@@ -221,14 +216,6 @@ struct list {
     int fd;
     size_t at, length;
     char room[PAGE];
-};
-
-/* A range that is shared with a file of the run's disk: the file's inode, its path, and where in it the range begins. */
-struct range {
-    uintptr_t begin, end;
-    uint64_t file;
-    int64_t offset;
-    char path[PATH_ROOM];
 };
 
 static int next_letter(struct list *list)
@@ -267,81 +254,71 @@ static void read_rest(struct list *list, char room[PATH_ROOM])
 
 /* A line: where it begins and ends, what may be done there and whether it's shared, the offset, the device and the inode, and the path (proc_pid_maps(5)). False: there
  * is none. */
-static bool next_range(struct list *list, struct range *range, bool *is_shared)
+static bool next_mapping(struct list *list, struct wulgach_mapped_memory *mapping, char path[PATH_ROOM])
 {
-    range->begin = next_number(list, 16);
-    range->end = next_number(list, 16);
+    mapping->begin = next_number(list, 16);
+    mapping->end = next_number(list, 16);
     for (int i = 0; i < 3; i++)
         next_letter(list);
-    *is_shared = next_letter(list) == 's';
+    mapping->is_shared = next_letter(list) == 's';
     next_letter(list);
-    range->offset = (int64_t)next_number(list, 16);
+    mapping->offset = next_number(list, 16);
     next_number(list, 16);
     next_number(list, 16);
-    range->file = next_number(list, 10);
-    read_rest(list, range->path);
-    return range->end != 0;
+    mapping->file = next_number(list, 10);
+    read_rest(list, path);
+    mapping->is_on_disk = is_path_on_disk(path);
+    return mapping->end != 0;
 }
 
-/* The next range that is shared with a file of the disk and has bytes in front of `end`, after `begin`: cut to these. */
-static bool next_shared(struct list *list, uintptr_t begin, uintptr_t end, struct range *range)
+static void sync_part(uint64_t file, const char *path, const struct wulgach_file_part *part)
 {
-    bool is_shared;
-    while (next_range(list, range, &is_shared) && range->begin < end)
-        if (is_shared && range->end > begin && range->file != 0 && is_path_on_disk(range->path)) {
-            uintptr_t first = range->begin > begin ? range->begin : begin;
-            range->offset += (int64_t)(first - range->begin);
-            range->begin = first;
-            range->end = range->end < end ? range->end : end;
-            return true;
-        }
-    return false;
-}
-
-static void sync_range(const struct range *range)
-{
-    struct mapped *mapped = find_mapped(range->file);
-    struct event event = {.kind = EVENT_SYNC, .flags = IS_OF_RANGE, .file = range->file, .offset = range->offset, .length = range->end - range->begin};
+    struct mapped *mapped = find_mapped(file);
+    struct event event = {.kind = EVENT_SYNC, .flags = IS_OF_RANGE, .file = file, .offset = (int64_t)part->offset, .length = part->length};
     bool is_known = mapped && mapped->is_used && mapped->copy;
     if (is_known)
         compare(mapped);
-    log_event(&event, range->path, NULL, NULL, 0);
+    log_event(&event, path, NULL, NULL, 0);
     if (is_known)
         compare(mapped);
     end_operation(0);
 }
 
 /* Which files the memory is of is asked as it is synced: what was mapped there before may be gone. */
-static void sync_memory(uintptr_t begin, size_t length)
+static void sync_memory(uint64_t begin, uint64_t length)
 {
     static struct list list;
-    static struct range range;
+    static char path[PATH_ROOM];
+    struct wulgach_mapped_memory mapping;
+    struct wulgach_file_part part;
     sigset_t before;
     lock(&before);
     list = (struct list){.fd = (int)pass(SYS_open, (long)"/proc/thread-self/maps", O_RDONLY | O_CLOEXEC, 0, 0, 0, 0)};
-    while (list.fd >= 0 && next_shared(&list, begin, begin + (length + PAGE - 1) / PAGE * PAGE, &range))
-        sync_range(&range);
+    while (list.fd >= 0 && next_mapping(&list, &mapping, path))
+        if (wulgach_seen_synced_part(&mapping, begin, length, &part))
+            sync_part(mapping.file, path, &part);
     pass(SYS_close, list.fd, 0, 0, 0, 0, 0);
     unlock(&before);
 }
 
-/* An msync that waits is a sync of its pages, which isn't waited for: the kernel says whether it can be. (of a hole in the memory it says so, and syncs the rest) */
-static long call_msync(const long words[6])
+/* An msync that waits is a sync of its pages, which isn't waited for: the kernel says whether it can be. */
+long call_msync(const struct file_call *call)
 {
-    uint32_t flags = (uint32_t)words[2];
-    bool is_waited = wulgach_is_waited_msync(flags, &flags);
-    long result = pass(SYS_msync, words[0], words[1], flags, 0, 0, 0);
-    if (is_waited && (result == 0 || result == -ENOMEM))
-        sync_memory((uintptr_t)words[0], (size_t)words[1]);
+    const struct wulgach_call_words *is = &call->is;
+    uint32_t flags = is->flags;
+    bool is_waited = wulgach_seen_unwaited(flags, &flags);
+    long result = pass(SYS_msync, (long)is->address, (long)is->length, flags, 0, 0, 0);
+    if (is_waited && wulgach_seen_has_synced_memory(result))
+        sync_memory(is->address, is->length);
     return result;
 }
 
-long call_map(long call, const long words[6])
+long call_map(const struct file_call *call)
 {
-    if (call == SYS_msync)
-        return call_msync(words);
+    const long *words = call->words;
+    const struct wulgach_call_words *is = &call->is;
     long memory = pass_mmap(words[0], words[1], words[2], words[3], words[4], words[5]);
-    if (is_address(memory) && words[2] & PROT_WRITE && !(words[3] & MAP_ANONYMOUS))
-        add_map((size_t)words[1], (int)words[4], words[5]);
+    if (wulgach_seen_looks_at_map(is->protection, is->flags, memory))
+        add_map(is->fd, is->length, is->offset);
     return memory;
 }

@@ -74,6 +74,7 @@ static void bytes(void)
     memcpy(last, "end", 3);
     WANT(syscall(SYS_write, file, 8, 5) == -1 && errno == EFAULT);
     WANT(write_by_ring(&ring, file, (const void *)8, 5) == -EFAULT);
+    WANT(syscall(SYS_write, file, -100L, 200) == -1 && errno == EFAULT);
     WANT(syscall(SYS_pwrite64, file, 8, (size_t)1 << 32, 0) == -1 && errno == EFAULT && last_event(EVENT_WRITE, false).length == 0x7ffff000);
     WANT(pwrite(file, room, SIZE + 5, 0) <= SIZE && pwrite(file, last, 5, 0) <= 3);
     WANT(pwritev(file, parts, 3, 0) <= 7);

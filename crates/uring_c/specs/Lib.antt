@@ -27,3 +27,4 @@ pub mod ChangingForm
 pub mod CarryingForm
 pub mod HearingForm
 pub mod LoggingForm
+pub mod LoggedForm

@@ -7,6 +7,7 @@ pub mod descriptor_exports;
 pub mod entry_exports;
 pub mod form_exports;
 pub mod keeping_exports;
+pub mod logged_exports;
 pub mod logging_exports;
 pub mod named_exports;
 pub mod opening_exports;

@@ -6,3 +6,7 @@ pub mod Keeping
 pub mod Syncing
 pub mod Asking
 pub mod Logging
+pub mod LoggedCalls
+pub mod LoggedBytes
+pub mod LoggedNames
+pub mod Mapped

@@ -3,7 +3,11 @@
 pub mod asking;
 pub mod descriptor;
 pub mod keeping;
+pub mod logged_bytes;
+pub mod logged_call;
+pub mod logged_name;
 pub mod logging;
+pub mod mapped;
 pub mod openness;
 pub mod pipe_open;
 pub mod syncing;

@@ -1,0 +1,477 @@
+//! Which system call of Linux on x86-64 is logged as what, so that it is known what a power failure may leave, and which of its arguments are what. The numbers are those of <asm/unistd_64.h>; the arguments are those of the manual pages.
+
+ghost use Rattle.std.specs.Prelude.{◌≡◌};
+ghost use Rattle.uring_operations.specs.Files.LoggedCalls as spec;
+
+use crate::calls::system_call::{
+    FALLOCATE, FDATASYNC, FSYNC, FTRUNCATE, LINKAT, MKDIRAT, OPENAT, OPENAT2, PWRITEV2, RENAMEAT2,
+    SPLICE, SYMLINKAT, SystemCall, UNLINKAT,
+};
+
+const WRITE: u64 = 1;
+
+const OPEN: u64 = 2;
+
+const MMAP: u64 = 9;
+
+const PWRITE64: u64 = 18;
+
+const WRITEV: u64 = 20;
+
+const MSYNC: u64 = 26;
+
+const SENDFILE: u64 = 40;
+
+const TRUNCATE: u64 = 76;
+
+const RENAME: u64 = 82;
+
+const MKDIR: u64 = 83;
+
+const RMDIR: u64 = 84;
+
+const CREAT: u64 = 85;
+
+const LINK: u64 = 86;
+
+const UNLINK: u64 = 87;
+
+const SYMLINK: u64 = 88;
+
+const SYNC: u64 = 162;
+
+const EXIT_GROUP: u64 = 231;
+
+const RENAMEAT: u64 = 264;
+
+const PWRITEV: u64 = 296;
+
+const SYNCFS: u64 = 306;
+
+const COPY_FILE_RANGE: u64 = 326;
+
+/// Where the process is: AT_FDCWD, the folder at which a path begins that names none.
+const HERE: i32 = -100;
+
+/// No offset.
+const NOWHERE: u64 = u64::MAX;
+
+/// What a system call is logged as.
+#[derive(Clone, Copy, Drop)]
+pub enum LoggedCall {
+    /// Nothing.
+    Nothing,
+
+    /// A write of bytes that the program has,
+    Write,
+
+    /// or of such as another descriptor has.
+    Copy,
+
+    /// A sync of a file or a folder,
+    Sync,
+
+    /// or of all files.
+    SyncAll,
+
+    /// A file gets a length,
+    Length,
+
+    /// or room.
+    Space,
+
+    /// An open, which may make a file or take its bytes.
+    Open,
+
+    MakeFolder,
+
+    /// A symbolic link is made.
+    MakeLink,
+
+    /// A file gets one more name,
+    Link,
+
+    /// another one,
+    Rename,
+
+    /// or, as a folder does, one less.
+    Remove,
+
+    /// A map, through which a file may be written.
+    Map,
+
+    /// A sync of mapped memory.
+    SyncMemory,
+
+    /// The process's end, after which nothing is written through memory.
+    Exit,
+}
+
+/// Some bits of an argument.
+#[repr(C)]
+#[derive(Clone, Copy, Drop)]
+pub struct Bits {
+    /// Which argument, from 0.
+    pub argument: u32,
+
+    pub bits: u32,
+}
+
+/// What the arguments of a call are that is logged; what it hasn't is 0.
+#[repr(C)]
+#[derive(Clone, Copy, Drop)]
+pub struct CallWords {
+    /// Its file is that of a descriptor,
+    pub by_descriptor: bool,
+
+    /// or that of a path.
+    pub by_path: bool,
+
+    /// What it writes is vectors.
+    pub has_vectors: bool,
+
+    /// The descriptor; of a path, that of the folder at which it begins, or -100.
+    pub fd: i32,
+
+    /// The same of a second path.
+    pub second_fd: i32,
+
+    pub flags: u32,
+
+    /// How mapped memory is protected.
+    pub protection: u32,
+
+    /// Where the path stands in memory,
+    pub path: u64,
+
+    /// and a second one: what a symbolic link holds, the file that is linked, the new name of a renamed one.
+    pub second_path: u64,
+
+    /// An offset, or the length that a file gets. Of a write and a copy that have none: 2^64 - 1.
+    pub offset: u64,
+
+    /// How many bytes.
+    pub length: u64,
+
+    /// Where in memory stands what it points to besides: its bytes or vectors, the offset of a copy, how a file is opened, or the mapped memory.
+    pub address: u64,
+
+    /// How many vectors, or bytes of how a file is opened.
+    pub count: u64,
+}
+
+const NONE: CallWords = CallWords {
+    by_descriptor: false,
+    by_path: false,
+    has_vectors: false,
+    fd: 0,
+    second_fd: 0,
+    flags: 0,
+    protection: 0,
+    path: 0,
+    second_path: 0,
+    offset: 0,
+    length: 0,
+    address: 0,
+    count: 0,
+};
+
+/// What the system call of this number is logged as.
+pub fn logged_call(number: u64) -> LoggedCall
+    ensures { result ≡ spec.logged_call number }
+{
+    match number {
+        WRITE | PWRITE64 | WRITEV | PWRITEV | PWRITEV2 => LoggedCall::Write,
+        SENDFILE | SPLICE | COPY_FILE_RANGE => LoggedCall::Copy,
+        FSYNC | FDATASYNC => LoggedCall::Sync,
+        SYNC | SYNCFS => LoggedCall::SyncAll,
+        TRUNCATE | FTRUNCATE => LoggedCall::Length,
+        FALLOCATE => LoggedCall::Space,
+        MMAP => LoggedCall::Map,
+        MSYNC => LoggedCall::SyncMemory,
+        EXIT_GROUP => LoggedCall::Exit,
+        _ => named_call(number),
+    }
+}
+
+/// One that changes names, or nothing.
+fn named_call(number: u64) -> LoggedCall
+    ensures { result ≡ spec.named_call number }
+{
+    match number {
+        OPEN | CREAT | OPENAT | OPENAT2 => LoggedCall::Open,
+        MKDIR | MKDIRAT => LoggedCall::MakeFolder,
+        SYMLINK | SYMLINKAT => LoggedCall::MakeLink,
+        LINK | LINKAT => LoggedCall::Link,
+        RENAME | RENAMEAT | RENAMEAT2 => LoggedCall::Rename,
+        UNLINK | RMDIR | UNLINKAT => LoggedCall::Remove,
+        _ => LoggedCall::Nothing,
+    }
+}
+
+/// Which bits of an argument the call of this number has some of, where it is logged only then. `None`: it is logged whatever its arguments, or never.
+pub fn bits_of_call(number: u64) -> Option<Bits>
+    ensures { result ≡ spec.bits_of_call number }
+{
+    let (argument, bits) = match number {
+        OPEN => (1, 0x40_0240),
+        OPENAT => (2, 0x40_0240),
+        MMAP => (3, 1),
+        _ => return None,
+    };
+    Some(Bits { argument, bits })
+}
+
+/// Whether a call that is logged as this is made by whoever needn't wait for the disk. Our own rule.
+pub fn is_made(call: LoggedCall) -> bool
+    ensures { result ≡ spec.is_made call }
+{
+    !matches!(call, LoggedCall::Sync | LoggedCall::SyncAll)
+}
+
+/// What the arguments of a call are.
+pub fn words_of_call(call: &SystemCall) -> CallWords
+    ensures { result ≡ spec.words_of_call call.now }
+{
+    match logged_call(call.number) {
+        LoggedCall::Nothing | LoggedCall::Exit => NONE,
+        LoggedCall::Write => words_of_write(call),
+        LoggedCall::Copy => words_of_copy(call),
+        LoggedCall::Sync | LoggedCall::SyncAll => words_of_sync(call),
+        LoggedCall::Length | LoggedCall::Space => words_of_length(call),
+        LoggedCall::Open => words_of_open(call),
+        LoggedCall::MakeFolder | LoggedCall::Remove => words_of_name(call),
+        LoggedCall::MakeLink => words_of_symbolic_link(call),
+        LoggedCall::Link => words_of_link(call),
+        LoggedCall::Rename => words_of_rename(call),
+        LoggedCall::Map | LoggedCall::SyncMemory => words_of_map(call),
+    }
+}
+
+/// The lower half of an argument.
+fn half(argument: u64) -> u32
+    ensures { result ≡ spec.half argument }
+{
+    (argument & 0xffff_ffff) as u32
+}
+
+/// An argument that is a descriptor.
+fn descriptor(argument: u64) -> i32
+    ensures { result ≡ spec.descriptor argument }
+{
+    half(argument).cast_signed()
+}
+
+/// A call on the file of this descriptor.
+fn on_descriptor(argument: u64) -> CallWords
+    ensures { result ≡ spec.on_descriptor argument }
+{
+    CallWords {
+        by_descriptor: true,
+        fd: descriptor(argument),
+        ..NONE
+    }
+}
+
+/// A call on the file of a path, which begins at this folder.
+fn on_path(fd: i32, path: u64) -> CallWords
+    ensures { result ≡ spec.on_path fd path }
+{
+    CallWords {
+        by_path: true,
+        fd,
+        path,
+        ..NONE
+    }
+}
+
+/// write(2), pwrite(2), writev(2), pwritev2(2).
+fn words_of_write(call: &SystemCall) -> CallWords
+    ensures { result ≡ spec.words_of_write call.now }
+{
+    let at_offset = matches!(call.number, PWRITE64 | PWRITEV | PWRITEV2);
+    let has_vectors = matches!(call.number, WRITEV | PWRITEV | PWRITEV2);
+    CallWords {
+        has_vectors,
+        address: call.second,
+        count: if has_vectors { call.third } else { 0 },
+        length: if has_vectors { 0 } else { call.third },
+        offset: if at_offset { call.fourth } else { NOWHERE },
+        flags: if call.number == PWRITEV2 {
+            half(call.sixth)
+        } else {
+            0
+        },
+        ..on_descriptor(call.first)
+    }
+}
+
+/// sendfile(2), splice(2), copy_file_range(2).
+fn words_of_copy(call: &SystemCall) -> CallWords
+    ensures { result ≡ spec.words_of_copy call.now }
+{
+    if call.number == SENDFILE {
+        CallWords {
+            length: call.fourth,
+            offset: NOWHERE,
+            ..on_descriptor(call.first)
+        }
+    } else {
+        CallWords {
+            address: call.fourth,
+            length: call.fifth,
+            offset: NOWHERE,
+            ..on_descriptor(call.third)
+        }
+    }
+}
+
+/// fsync(2), sync(2).
+fn words_of_sync(call: &SystemCall) -> CallWords
+    ensures { result ≡ spec.words_of_sync call.now }
+{
+    if call.number == SYNC {
+        NONE
+    } else {
+        on_descriptor(call.first)
+    }
+}
+
+/// truncate(2), fallocate(2).
+fn words_of_length(call: &SystemCall) -> CallWords
+    ensures { result ≡ spec.words_of_length call.now }
+{
+    match call.number {
+        TRUNCATE => CallWords {
+            offset: call.second,
+            ..on_path(HERE, call.first)
+        },
+        FTRUNCATE => CallWords {
+            offset: call.second,
+            ..on_descriptor(call.first)
+        },
+        _ => CallWords {
+            flags: half(call.second),
+            offset: call.third,
+            length: call.fourth,
+            ..on_descriptor(call.first)
+        },
+    }
+}
+
+/// open(2), openat2(2).
+fn words_of_open(call: &SystemCall) -> CallWords
+    ensures { result ≡ spec.words_of_open call.now }
+{
+    match call.number {
+        OPEN => CallWords {
+            flags: half(call.second),
+            ..on_path(HERE, call.first)
+        },
+        CREAT => CallWords {
+            flags: 577,
+            ..on_path(HERE, call.first)
+        },
+        OPENAT => CallWords {
+            flags: half(call.third),
+            ..on_path(descriptor(call.first), call.second)
+        },
+        _ => CallWords {
+            address: call.third,
+            count: call.fourth,
+            ..on_path(descriptor(call.first), call.second)
+        },
+    }
+}
+
+/// mkdir(2), unlink(2), rmdir(2).
+fn words_of_name(call: &SystemCall) -> CallWords
+    ensures { result ≡ spec.words_of_name call.now }
+{
+    if matches!(call.number, MKDIRAT | UNLINKAT) {
+        on_path(descriptor(call.first), call.second)
+    } else {
+        on_path(HERE, call.first)
+    }
+}
+
+/// symlink(2).
+fn words_of_symbolic_link(call: &SystemCall) -> CallWords
+    ensures { result ≡ spec.words_of_symbolic_link call.now }
+{
+    let named = if call.number == SYMLINKAT {
+        on_path(descriptor(call.second), call.third)
+    } else {
+        on_path(HERE, call.second)
+    };
+    CallWords {
+        second_path: call.first,
+        ..named
+    }
+}
+
+/// link(2).
+fn words_of_link(call: &SystemCall) -> CallWords
+    ensures { result ≡ spec.words_of_link call.now }
+{
+    if call.number == LINKAT {
+        CallWords {
+            second_fd: descriptor(call.first),
+            second_path: call.second,
+            flags: half(call.fifth),
+            ..on_path(descriptor(call.third), call.fourth)
+        }
+    } else {
+        CallWords {
+            second_fd: HERE,
+            second_path: call.first,
+            ..on_path(HERE, call.second)
+        }
+    }
+}
+
+/// rename(2).
+fn words_of_rename(call: &SystemCall) -> CallWords
+    ensures { result ≡ spec.words_of_rename call.now }
+{
+    if call.number == RENAME {
+        CallWords {
+            second_fd: HERE,
+            second_path: call.second,
+            ..on_path(HERE, call.first)
+        }
+    } else {
+        CallWords {
+            second_fd: descriptor(call.third),
+            second_path: call.fourth,
+            flags: if call.number == RENAMEAT2 {
+                half(call.fifth)
+            } else {
+                0
+            },
+            ..on_path(descriptor(call.first), call.second)
+        }
+    }
+}
+
+/// mmap(2), msync(2).
+fn words_of_map(call: &SystemCall) -> CallWords
+    ensures { result ≡ spec.words_of_map call.now }
+{
+    if call.number == MMAP {
+        CallWords {
+            length: call.second,
+            protection: half(call.third),
+            flags: half(call.fourth),
+            offset: call.sixth,
+            ..on_descriptor(call.fifth)
+        }
+    } else {
+        CallWords {
+            address: call.first,
+            length: call.second,
+            flags: half(call.third),
+            ..NONE
+        }
+    }
+}
