@@ -105,6 +105,7 @@ pub use locks::is_lock_of;
 pub use mapped::Mapped;
 pub use mapped::is_of_a_file;
 pub use mapped::mapped_of;
+pub use mapped::reads_what_is_written;
 pub use numbering::RowOnto;
 pub use numbering::RowStage;
 pub use numbering::next_of_row;

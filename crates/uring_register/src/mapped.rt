@@ -1,6 +1,7 @@
 //! What a line of the kernel's list of a process's memory says, and which of that memory is of a file. proc_pid_maps(5).
 
 ghost use Rattle.std.specs.Prelude.{◌≡◌};
+ghost use Rattle.uring_register.specs.Mapped.{ReadsWhatIsWritten};
 ghost use Rattle.uring_register.specs.Mapped as spec;
 
 use crate::pinning::is_written_back;
@@ -52,6 +53,11 @@ pub fn is_of_a_file(mapped: &Mapped, kind: Option<u64>) -> bool
 {
     mapped.is_shared && is_written_back(mapped.major, kind)
 }
+
+/// What is written into a line's fields is read from them.
+pub fn reads_what_is_written()
+    ensures { ReadsWhatIsWritten }
+{}
 
 fn start_of(line: &[u8]) -> &[u8]
     ensures { result.now ≡ spec.start_of line.now }
