@@ -6,7 +6,7 @@ use Rattle.uring_register.specs.Pinning.{is_written_back}
 use Rattle.uring_register.specs.Texts.{is_number, value_of, first_word, after_word, part_of}
 use Rattle.uring_register.specs.declared.mapped.Mapped.{Mapped}
 
--- the address where it starts, and the one behind it, with a hyphen between
+-- the address where it starts, and the one after it, with a hyphen between
 abbrev pub start_of : (line : List ℕ) → List ℕ
 start_of line = before_first (λ byte. byte == 45) (first_word line)
 

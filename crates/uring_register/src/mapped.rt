@@ -14,7 +14,7 @@ pub struct Mapped {
     /// The address where it starts,
     pub start: u64,
 
-    /// and the one behind it.
+    /// and the one after it.
     pub end: u64,
 
     /// Where in the line the path of its file begins, or the line's length.
