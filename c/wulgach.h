@@ -69,6 +69,14 @@ int32_t wulgach_core_step(struct wulgach_core *core, const struct wulgach_step *
 enum { WULGACH_MOST_OF_LINE = 512 };
 int32_t wulgach_trace_line(const struct wulgach_step *step, const struct wulgach_answer *answer, uint8_t *line, size_t room, uint64_t *len);
 
+/* Writes the first line of a trace, without its end, as wulgach_trace_line does: `setup`, and the set-up that is asked for as the options of
+ * `uring trace`, both rings with the sizes that they have. -22 exactly if it can't be, and -12 if memory was refused. Then nothing is written. */
+int32_t wulgach_trace_setup(const struct wulgach_setup *setup, uint8_t *line, size_t room, uint64_t *len);
+
+/* Writes the letters that a trace has for flags of an entry, as wulgach_trace_line does: D drains, L links, H links hard, A is asynchronous, S
+ * skips the completion of a success. `-` if there is none, as other flags have no letter. -12 if memory was refused; then nothing is written. */
+int32_t wulgach_trace_flags(uint8_t flags, uint8_t *letters, size_t room, uint64_t *len);
+
 /* Makes all steps of a submission call of count entries at once: LOAD_HEAD; for each entry a FILL of the slot of its place, from
  * 0, and an INDEX; STORE_TAIL; a BEGIN of count positions; count times TAKE; and END, whose answer it writes: TAKEN.
  *

@@ -1,5 +1,5 @@
-/* Steps with their answers as lines of a trace, beside lines written by hand; and each refusal, with what it leaves. Memory is
- * refused as refusing.h says. */
+/* Set-ups, and steps with their answers, as lines of a trace, beside lines written by hand; and each refusal, with what it leaves.
+ * Memory is refused as refusing.h says. */
 #define TEST "lines"
 
 #include "refusing.h"
@@ -41,6 +41,50 @@ static void lines_are_written(void)
     }
 }
 
+static const struct {
+    const char *line;
+    struct wulgach_setup setup;
+} setups[] = {
+    {"setup --sq 1 --cq 2 --files 1 --start 0", {.sq = 1, .files = 1}},
+    {"setup --sq 8 --cq 16 --files 1 --start 0 --linux", {.sq = 5, .cq = 9, .files = 1, .has_cq = true, .linux_rules = true}},
+    {"setup --sq 4096 --cq 8192 --files 64 --start 4294967295 --stop", {.sq = 4096, .cq = 8192, .files = 64, .start = UINT32_MAX, .has_cq = true, .stops = true}},
+    {"setup --sq 2 --cq 2 --files 3 --start 7 --stop --linux", {.sq = 2, .cq = 2, .files = 3, .start = 7, .has_cq = true, .stops = true, .linux_rules = true}},
+};
+
+static void setups_are_written(void)
+{
+    for (size_t i = 0; i < sizeof setups / sizeof *setups; i++) {
+        uint8_t line[WULGACH_MOST_OF_LINE];
+        uint64_t length = 0;
+        check(wulgach_trace_setup(&setups[i].setup, line, sizeof line, &length) == 0, setups[i].line);
+        check(length == strlen(setups[i].line) && memcmp(line, setups[i].line, length) == 0, setups[i].line);
+    }
+}
+
+static void want_no_setup(struct wulgach_setup setup, int32_t fault, const char *what)
+{
+    uint8_t line[8] = "as it is";
+    uint64_t length = 77;
+    check(wulgach_trace_setup(&setup, line, sizeof line, &length) == fault, what);
+    check(length == 77 && memcmp(line, "as it is", 8) == 0, what);
+}
+
+/* Each flag has its bit in <linux/io_uring.h>; a registered file (1), a buffer that is selected (32) and 128 have no letter. */
+static const struct {
+    const char *letters;
+    uint8_t flags;
+} flags[] = {{"-", 0}, {"D", 2}, {"L", 4}, {"H", 8}, {"A", 16}, {"S", 64}, {"DLHAS", 0x5e}, {"-", 0xa1}, {"DLHAS", 0xff}, {"LS", 0x45}};
+
+static void flags_are_written(void)
+{
+    for (size_t i = 0; i < sizeof flags / sizeof *flags; i++) {
+        uint8_t letters[8];
+        uint64_t length = 0;
+        check(wulgach_trace_flags(flags[i].flags, letters, sizeof letters, &length) == 0, flags[i].letters);
+        check(length == strlen(flags[i].letters) && memcmp(letters, flags[i].letters, length) == 0, flags[i].letters);
+    }
+}
+
 static void want_refused(struct wulgach_step step, struct wulgach_answer answer, int32_t fault, const char *what)
 {
     uint8_t line[8] = "as it is";
@@ -56,8 +100,17 @@ static void refusals(void)
     want_refused((struct wulgach_step){.kind = 15}, ok, -22, "no step");
     want_refused(tail, (struct wulgach_answer){.kind = 29}, -22, "no answer");
     want_refused((struct wulgach_step){.kind = WULGACH_FILL, .entry = {[5] = 1}}, ok, -22, "a no-op with another field");
+    want_no_setup((struct wulgach_setup){.sq = 0, .files = 1}, -22, "no set-up");
+    want_no_setup((struct wulgach_setup){.sq = 4, .cq = 2, .files = 1, .has_cq = true}, -22, "a completion ring that is too small");
+    want_no_setup((struct wulgach_setup){.sq = 4}, -22, "no files");
     served = 0;
     want_refused(tail, ok, -12, "memory is refused");
+    served = 0;
+    want_no_setup((struct wulgach_setup){.sq = 4, .files = 1}, -12, "memory is refused for a set-up");
+    served = 0;
+    uint8_t letters[4] = "asis";
+    uint64_t length = 77;
+    check(wulgach_trace_flags(2, letters, sizeof letters, &length) == -12 && length == 77 && memcmp(letters, "asis", 4) == 0, "memory is refused for flags");
     served = -1;
 }
 
@@ -67,10 +120,13 @@ static void room(void)
     uint64_t length = 0;
     check(wulgach_trace_line(&lines[4].step, &lines[4].answer, line, 3, &length) == 0, "less room");
     check(length == strlen(lines[4].line) && memcmp(line, "tai.", 4) == 0, "what there is room for");
+    check(wulgach_trace_setup(&setups[0].setup, line, 2, &length) == 0 && length == strlen(setups[0].line) && memcmp(line, "sei.", 4) == 0, "a set-up with less room");
 }
 
 int main(void)
 {
+    setups_are_written();
+    flags_are_written();
     lines_are_written();
     refusals();
     room();

@@ -338,9 +338,51 @@ static void keep_pages(void)
     demand(PINNED(.from = 4096, .size = 1, .is_asked = true, .is_there = true, .is_listed = true) == 0 && PINNED(.from = 4096, .size = 1) == 0, "memory");
     demand(PINNED(.from = 4096, .size = 1, .is_asked = true) == -14 && PINNED(.from = 4096, .size = 1, .is_asked = true, .is_there = true, .is_listed = true, .is_written_back = true) == -14 && PINNED(.from = 4096, .size = 1, .is_written_back = true) == 0, "pages that can't be kept");
     demand(PINNED(.from = UINT64_MAX - 4095, .size = 1, .is_asked = true) == -75 && PINNED(.from = UINT64_MAX - 4096, .size = 1, .is_asked = true) == -14 && PINNED(.from = 2, .size = UINT64_MAX) == -75, "memory without an end");
-    demand(wulgach_is_written_back(254, false, 0) && wulgach_is_written_back(254, true, 0x01021994) && wulgach_is_written_back(0, true, 0x9123683e), "files that are written back");
-    demand(!wulgach_is_written_back(0, false, 0x9123683e) && !wulgach_is_written_back(0, true, 0x01021994) && !wulgach_is_written_back(0, true, 0x858458f6) && !wulgach_is_written_back(0, true, 0x958458f6), "files in memory");
     demand(wulgach_has_byte_of(10, 5, 14, 20) && !wulgach_has_byte_of(10, 5, 15, 20) && wulgach_has_byte_of(10, 5, 0, 11) && !wulgach_has_byte_of(10, 5, 0, 10) && wulgach_has_byte_of(10, UINT64_MAX, 11, 12), "memory that has a byte of other");
+}
+
+/* What a line of /proc/self/maps says. */
+static struct wulgach_mapped mapped_by(const char *line)
+{
+    struct wulgach_mapped mapped = {.start = 1};
+    demand(wulgach_mapped_of((const uint8_t *)line, strlen(line), &mapped), line);
+    return mapped;
+}
+
+static bool says(const char *line, struct wulgach_mapped wanted)
+{
+    struct wulgach_mapped mapped = mapped_by(line);
+    return mapped.start == wanted.start && mapped.end == wanted.end && mapped.path == wanted.path && mapped.major == wanted.major && mapped.is_shared == wanted.is_shared && mapped.is_asked == wanted.is_asked;
+}
+
+static bool is_no_line(const char *line)
+{
+    struct wulgach_mapped mapped = {.start = 77};
+    return !wulgach_mapped_of((const uint8_t *)line, strlen(line), &mapped) && mapped.start == 77;
+}
+
+/* The first lines are the manual page's and a kernel's own. */
+static void list_memory(void)
+{
+    demand(says("00400000-00452000 r-xp 00000000 08:02 173521      /usr/bin/dbus-daemon", (struct wulgach_mapped){.start = 0x400000, .end = 0x452000, .path = 50, .major = 8}), "a program");
+    demand(says("7f8a9e0d7000-7f8a9e0d8000 rw-s 0001f000 fd:01 1837  /srv/a file", (struct wulgach_mapped){.start = 0x7f8a9e0d7000, .end = 0x7f8a9e0d8000, .path = 52, .major = 0xfd, .is_shared = true, .is_asked = true}), "a file with a blank in its name");
+    demand(says("e24000-f7b0000 rw-p 00000000 00:00 0 ", (struct wulgach_mapped){.start = 0xe24000, .end = 0xf7b0000, .path = 37}) && says("e24000-f7b0000 rw-p 00000000 00:00 0", (struct wulgach_mapped){.start = 0xe24000, .end = 0xf7b0000, .path = 36}), "memory of no file");
+    demand(says("10-20 rw-s 00000000 00:0f 5 anon_inode:[io_uring]", (struct wulgach_mapped){.start = 16, .end = 32, .path = 28, .is_shared = true}) && says("10-20 rw-s 00000000 00:01 5 /dev/zero (deleted)", (struct wulgach_mapped){.start = 16, .end = 32, .path = 28, .is_shared = true, .is_asked = true}), "a name, and a path that is gone");
+    demand(says("ffffffffff600000-ffffffffffffffff --xp 00000000 ffffffff:00 0 [vsyscall]", (struct wulgach_mapped){.start = 0xffffffffff600000, .end = UINT64_MAX, .path = 62, .major = UINT32_MAX}), "the largest numbers");
+    demand(is_no_line("") && is_no_line("400000 r-xp 00000000 08:02 173521 /a") && is_no_line("-452000 r-xp 0 08:02 1 /a") && is_no_line("4g-5 r-xp 0 08:02 1 /a") && is_no_line("4A-5B r-xp 0 08:02 1 /a") && is_no_line("4-5 r-xp 0"), "no line");
+    demand(is_no_line("0-10000000000000000 r-xp 0 08:02 1 /a") && is_no_line("0-1 r-xp 0 100000000:02 1 /a"), "numbers that are too large");
+}
+
+static bool is_of_a_file(uint32_t major, bool knows, uint64_t kind)
+{
+    return wulgach_is_of_a_file(&(struct wulgach_mapped){.major = major, .is_shared = true}, knows, kind);
+}
+
+static void share_memory(void)
+{
+    demand(is_of_a_file(254, false, 0) && is_of_a_file(254, true, 0x01021994) && is_of_a_file(0, true, 0x9123683e), "files that are written back");
+    demand(!is_of_a_file(0, false, 0x9123683e) && !is_of_a_file(0, true, 0x01021994) && !is_of_a_file(0, true, 0x858458f6) && !is_of_a_file(0, true, 0x958458f6), "files in memory");
+    demand(!wulgach_is_of_a_file(&(struct wulgach_mapped){.major = 254}, true, 0x9123683e), "memory of the process's own");
 }
 
 /* Whether a list of processors has each of these numbers, and no other below 12. */
@@ -373,6 +415,8 @@ int main(void)
     go_through_set_ups();
     map_rings();
     keep_pages();
+    list_memory();
+    share_memory();
     list_processors();
     take_what_is_unknown();
     refuse_flags();

@@ -1,5 +1,5 @@
 /* Which memory may be registered: the kernel is asked for its pages, to be written, and with which files it is shared is looked up in
- * /proc. What these come to is the library's decision.
+ * /proc. What its lines say, and what all this comes to, is the library's decision.
  */
 #define _GNU_SOURCE
 #include "pinning.h"
@@ -8,7 +8,6 @@
 
 #include <fcntl.h>
 #include <stdint.h>
-#include <stdio.h>
 #include <stdlib.h>
 #include <string.h>
 #include <sys/mman.h>
@@ -63,21 +62,16 @@ static char *read_file(const char *path)
     return NULL;
 }
 
-static bool is_written_back(unsigned major, const char *path)
-{
-    struct statfs status;
-    bool knows = path[0] == '/' && statfs(path, &status) == 0;
-    return wulgach_is_written_back(major, knows, knows ? (uint64_t)(uint32_t)status.f_type : 0);
-}
-
 /* Whether a line of the thread's list of memory is of memory that is shared with a file which is written back, and where that is. */
 static bool is_of_a_file(const char *line, struct span *span)
 {
-    char rights[8];
-    unsigned major;
-    int path = 0;
-    bool is_read = sscanf(line, "%lx-%lx %7s %*x %x:%*x %*u %n", &span->start, &span->end, rights, &major, &path) == 4 && path;
-    return is_read && rights[3] == 's' && is_written_back(major, line + path);
+    struct wulgach_mapped mapped;
+    struct statfs status;
+    if (!wulgach_mapped_of((const uint8_t *)line, strlen(line), &mapped))
+        return false;
+    *span = (struct span){mapped.start, mapped.end};
+    bool knows = mapped.is_asked && statfs(line + mapped.path, &status) == 0;
+    return wulgach_is_of_a_file(&mapped, knows, knows ? (uint64_t)(uint32_t)status.f_type : 0);
 }
 
 /* Notes the memory of each line. Returns false if there is no room, or no line. */

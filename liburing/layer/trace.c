@@ -46,6 +46,21 @@ void end_trace_line(struct ring *ring)
     close_trace(ring);
 }
 
+/* Writes the set-up, which is the first line. */
+static void trace_setup(struct ring *ring)
+{
+    struct wulgach_setup setup = {.sq = ring->memory.sq_entries, .cq = ring->memory.cq_entries, .files = 1, .has_cq = true, .linux_rules = ring->is_linux};
+    uint8_t line[WULGACH_MOST_OF_LINE];
+    uint64_t length;
+    if (wulgach_trace_setup(&setup, line, sizeof line, &length) != 0) {
+        fprintf(stderr, "wulgach: a set-up has no line in the trace\n");
+        close_trace(ring);
+        return;
+    }
+    fwrite(line, 1, length, ring->trace);
+    end_trace_line(ring);
+}
+
 static void open_trace(struct ring *ring)
 {
     const char *prefix = getenv("WULGACH_TRACE");
@@ -63,8 +78,7 @@ static void open_trace(struct ring *ring)
             close(ring->trace_file);
         return;
     }
-    fprintf(ring->trace, "setup --sq %" PRIu32 " --cq %" PRIu32 " --files 1 --start 0%s", ring->memory.sq_entries, ring->memory.cq_entries, ring->is_linux ? " --linux" : "");
-    end_trace_line(ring);
+    trace_setup(ring);
 }
 
 void close_trace(struct ring *ring)
@@ -77,20 +91,13 @@ void close_trace(struct ring *ring)
     ring->trace = NULL;
 }
 
+/* Without memory no letter is written. */
 static void print_flags(FILE *out, uint8_t flags)
 {
-    static const struct {
-        uint8_t flag;
-        char letter;
-    } letters[] = {{WULGACH_IO_DRAIN, 'D'}, {WULGACH_IO_LINK, 'L'}, {WULGACH_IO_HARDLINK, 'H'}, {WULGACH_ASYNC, 'A'}, {WULGACH_CQE_SKIP_SUCCESS, 'S'}};
-    bool is_empty = true;
-    for (size_t i = 0; i < sizeof letters / sizeof *letters; i++)
-        if (flags & letters[i].flag) {
-            fputc(letters[i].letter, out);
-            is_empty = false;
-        }
-    if (is_empty)
-        fputc('-', out);
+    uint8_t letters[8];
+    uint64_t length;
+    if (wulgach_trace_flags(flags, letters, sizeof letters, &length) == 0)
+        fwrite(letters, 1, length, out);
 }
 
 void trace_step(struct ring *ring, const struct wulgach_step *step, const struct wulgach_answer *answer)

@@ -10,3 +10,5 @@ pub mod Starts
 pub mod SameSteps
 mod TracedSteps
 mod TracedPlaces
+pub mod SetupTokens
+pub mod FlagSpellings

@@ -19,3 +19,5 @@ pub mod CourseForm
 pub mod WaitForm
 pub mod TraceLines
 pub mod Traced
+pub mod SetupLines
+pub mod FlagLetters

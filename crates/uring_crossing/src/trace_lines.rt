@@ -5,6 +5,7 @@ ghost use Rattle.uring_trace.specs.Spelling.{IsStep};
 ghost use Rattle.uring_crossing.specs.TraceLines.{IsLineOf, TellsLine};
 
 use crate::answer_words::AnswerWords;
+use crate::flag_letters::push_flags;
 use crate::step_words::StepWords;
 use crate::volume_memory::give;
 use std::alloc::{AllocError, Global};
@@ -137,18 +138,6 @@ fn push_fill<M: TextMemory>(
     push_text(memory, text, " ")?;
     push_flags(memory, text, entry.flags())?;
     push_fields(memory, text, entry)
-}
-
-/// Appends the letters of flags, or `-` for none.
-fn push_flags<M: TextMemory>(memory: &M, text: &mut String, flags: u8) -> Result<(), AllocError>
-    ensures granted { ((n : ℕ) → M.grants memory.now n) → IsOk result }
-{
-    push_text(memory, text, if flags == 0 { "-" } else { "" })?;
-    push_text(memory, text, if flags & 2 != 0 { "D" } else { "" })?;
-    push_text(memory, text, if flags & 4 != 0 { "L" } else { "" })?;
-    push_text(memory, text, if flags & 8 != 0 { "H" } else { "" })?;
-    push_text(memory, text, if flags & 16 != 0 { "A" } else { "" })?;
-    push_text(memory, text, if flags & 64 != 0 { "S" } else { "" })
 }
 
 /// Appends what the form of an entry's operation has after its flags.

@@ -5,3 +5,4 @@ mod GroupRuns
 mod GroupKept
 mod IssuingLaws
 mod CallRuns
+mod MappedLines

@@ -23,5 +23,6 @@ pub mod Placing
 pub mod Processors
 pub mod Texts
 pub mod Locks
+pub mod Mapped
 pub mod Structures
 pub mod Numbering

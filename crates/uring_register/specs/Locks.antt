@@ -1,19 +1,7 @@
 -- Which lines of the kernel's list of locks are of a process's on a file: `1: POSIX  ADVISORY  WRITE 5433 08:01:7864448 128 EOF`. proc_locks(5); record locks, fcntl(2), are those that a process loses as it closes a descriptor of the file.
-use Rattle.std.specs.Prelude.{ℕ, Bool, not, ◌&&◌, ◌==◌, List, [], drop, slice_get, codes, if◌then◌else◌}
-use Rattle.std.specs.List.{slice_split, before_first, position_or_len}
-use Rattle.std.specs.Option.{unwrap_or}
+use Rattle.std.specs.Prelude.{ℕ, Bool, ◌&&◌, ◌==◌, List, codes, if◌then◌else◌}
 use Rattle.std.specs.Str.{bytes_eq}
-use Rattle.uring_register.specs.Texts.{is_number, position_of, value_of}
-
--- words have blanks between them: a line's first one, and what stands after that
-abbrev pub first_word : List ℕ → List ℕ
-first_word line = before_first (λ byte. byte == 32) line
-
-abbrev pub blanks_of : List ℕ → ℕ
-blanks_of text = position_or_len (λ byte. not (byte == 32)) text
-
-abbrev pub after_word : List ℕ → List ℕ
-after_word line = let rest = drop (position_of 32 line) line in drop (blanks_of rest) rest
+use Rattle.uring_register.specs.Texts.{is_number, value_of, first_word, after_word, part_of}
 
 -- what a line says of its lock, after its number. The arrow of one that is waited for, `1: -> POSIX ..`, is passed over: who waits may have the lock before the descriptor is closed, and one that is lost is worse than a descriptor that stays. Our own rule
 abbrev pub lock_of : List ℕ → List ℕ
@@ -26,10 +14,7 @@ abbrev pub is_record_lock : List ℕ → Bool
 is_record_lock word = bytes_eq word (codes "POSIX")
 
 abbrev pub names : (digits : List ℕ) → ℕ → Bool
-names digits number = is_number digits && value_of digits == number
-
-abbrev pub part_of : (word : List ℕ) → (place : ℕ) → List ℕ
-part_of word place = unwrap_or (slice_get (slice_split (λ byte. byte == 58) word) place) []
+names digits number = is_number 10 digits && value_of 10 digits == number
 
 -- a line is of a process by its fourth word, and of a file by the inode after the two numbers of a device. The device itself says nothing: it isn't always the one that stat(2) tells, as on btrfs and overlayfs. So a lock on a file of the same inode on another device counts too, by which a descriptor stays that needn't
 abbrev pub is_lock_of : (line : List ℕ) → (process inode : ℕ) → Bool

@@ -5,7 +5,7 @@ use Rattle.uring_register.specs.Texts.{is_number, position_of, value_of}
 
 abbrev pub is_between : (first last : List ℕ) → ℕ → Bool
 is_between first last number =
-    is_number first && is_number last && nat_le (value_of first) number && nat_le number (value_of last)
+    is_number 10 first && is_number 10 last && nat_le (value_of 10 first) number && nat_le number (value_of 10 last)
 
 -- a part is a number, or two with a hyphen between, and has what stands from the one to the other. Any other has none, which is our own rule
 abbrev pub has_number : List ℕ → ℕ → Bool

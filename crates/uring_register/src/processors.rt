@@ -31,8 +31,8 @@ fn has_number(part: &[u8], number: u32) -> bool
 fn is_between(first: &[u8], last: &[u8], number: u32) -> bool
     ensures { result ≡ spec.is_between first.now last.now number }
 {
-    is_number(first)
-        && is_number(last)
-        && value_of(first) <= number as u128
-        && number as u128 <= value_of(last)
+    is_number(10, first)
+        && is_number(10, last)
+        && value_of(10, first) <= number as u128
+        && number as u128 <= value_of(10, last)
 }

@@ -1,13 +1,20 @@
 //! Lines of traces, and the steps that whole calls have in them, for C: functions of `c/wulgach.h`.
-ghost use Rattle.std.specs.Prelude.{◌≡◌, pos, neg_ℤ};
+ghost use Rattle.std.specs.Prelude.{◌≡◌, ◌↔◌, pos, neg_ℤ};
 ghost use Rattle.uring_entry.specs.declared.errno.TheConstants.{EINVAL, ENOMEM};
 ghost use Rattle.uring_crossing.specs.AnswerForm.{answer_of};
+ghost use Rattle.uring_crossing.specs.FlagLetters.{flags_text};
+ghost use Rattle.uring_crossing.specs.SetUps.{IsRefused};
+ghost use Rattle.uring_crossing.specs.SetupLines.{TellsSetup};
 ghost use Rattle.uring_crossing.specs.TraceLines.{TellsLine};
+ghost use Rattle.uring_crossing.specs.VolumeForms.{IsGiven};
 ghost use Rattle.uring_crossing.specs.Traced.{TellsEvent, submitted_for, reaped_event};
 
 use std::alloc::Global;
 use uring_crossing::answer_words::AnswerWords;
 use uring_crossing::completion_words::CompletionWords;
+use uring_crossing::flag_letters::trace_flags_in;
+use uring_crossing::set_up_words::SetupWords;
+use uring_crossing::setup_lines::trace_setup_in;
 use uring_crossing::step_words::StepWords;
 use uring_crossing::trace_lines::trace_line_in;
 use uring_crossing::traced::{reaped_step, submitted_step};
@@ -27,6 +34,37 @@ pub extern "C" fn wulgach_trace_line(
     ensures told { result ≡ pos 0 → TellsLine step.now answer.now bytes.old bytes.new len.new }
 {
     trace_line_in(&alloc, alloc, step, answer, bytes, len)
+}
+
+/// Writes the set-up that these words ask for as the first line of a trace, without its end, as many bytes as there is room for, and how many there are. -22 (EINVAL) exactly if they ask for none; -12 (ENOMEM) if memory is refused. A refusal writes nothing.
+#[unsafe(no_mangle)]
+pub extern "C" fn wulgach_trace_setup(
+    alloc: Global,
+    setup: &SetupWords,
+    bytes: &mut [u8],
+    len: &mut u64,
+) -> i32
+    ensures results { (result ≡ pos 0 → ⊥) → (result ≡ neg_ℤ EINVAL → ⊥) → result ≡ neg_ℤ ENOMEM }
+    ensures refused { (result ≡ pos 0 → ⊥) → (bytes.new ≡ bytes.old) × (len.new ≡ len.old) }
+    ensures no_setup { (result ≡ neg_ℤ EINVAL) ↔ IsRefused setup.now }
+    ensures told { result ≡ pos 0 → TellsSetup setup.now bytes.old bytes.new len.new }
+{
+    trace_setup_in(&alloc, alloc, setup, bytes, len)
+}
+
+/// Writes the letters of flags as a trace has them, or `-` if none of them has one, as many bytes as there is room for, and how many there are. -12 (ENOMEM) if memory is refused; then nothing is written.
+#[unsafe(no_mangle)]
+pub extern "C" fn wulgach_trace_flags(
+    alloc: Global,
+    flags: u8,
+    bytes: &mut [u8],
+    len: &mut u64,
+) -> i32
+    ensures results { (result ≡ pos 0 → ⊥) → result ≡ neg_ℤ ENOMEM }
+    ensures refused { (result ≡ pos 0 → ⊥) → (bytes.new ≡ bytes.old) × (len.new ≡ len.old) }
+    ensures told { result ≡ pos 0 → IsGiven (flags_text flags) bytes.old bytes.new len.new }
+{
+    trace_flags_in(&alloc, alloc, flags, bytes, len)
 }
 
 /// Writes the step of this place in a submission call of these entries, which began at this head and came to this answer, with its own, and returns true. False after the last one; then nothing is written.

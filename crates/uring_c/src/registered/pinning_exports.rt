@@ -1,12 +1,13 @@
-//! Which memory may be registered, which processors a list names, and which lines are of a lock, for C: functions of `c/wulgach_register.h`, `c/wulgach_setup.h` and `c/wulgach_lookout.h`.
-ghost use Rattle.std.specs.Prelude.{◌≡◌};
+//! Which memory may be registered, what the lines of the kernel's list of memory say, which processors a list names, and which lines are of a lock, for C: functions of `c/wulgach_register.h`, `c/wulgach_setup.h` and `c/wulgach_lookout.h`.
+ghost use Rattle.std.specs.Prelude.{◌≡◌, is_some, unwrap_or};
 ghost use Rattle.uring_register.specs.Pinning as spec;
+ghost use Rattle.uring_register.specs.Mapped as maps;
 ghost use Rattle.uring_register.specs.Processors as processors;
 ghost use Rattle.uring_register.specs.Locks as locks;
 ghost use Rattle.uring_c.specs.PinningForm.{known_of};
 
 use uring_register::{
-    Memory, has_byte_of, is_lock_of, is_written_back, lists_number, pinning_fault,
+    Mapped, Memory, has_byte_of, is_lock_of, is_of_a_file, lists_number, mapped_of, pinning_fault,
 };
 
 /// The fault of registering this memory, or 0.
@@ -25,13 +26,28 @@ pub extern "C" fn wulgach_has_byte_of(from: u64, size: u64, start: u64, end: u64
     has_byte_of(from, size, start, end)
 }
 
-/// Whether the kernel writes a file back that is shared.
+/// Writes what a line of the kernel's list of a process's memory says. False: it isn't such a line, and nothing is written.
 #[unsafe(no_mangle)]
-pub extern "C" fn wulgach_is_written_back(major: u32, knows: bool, kind: u64) -> bool
-    ensures { result ≡ spec.is_written_back major (known_of knows kind) }
+pub extern "C" fn wulgach_mapped_of(line: &[u8], mapped: &mut Mapped) -> bool
+    ensures is_line { result ≡ is_some (maps.mapped_of line.now) }
+    ensures mapped { mapped.new ≡ unwrap_or (maps.mapped_of line.now) mapped.old }
+{
+    match mapped_of(line) {
+        Some(found) => {
+            *mapped = found;
+            true
+        }
+        None => false,
+    }
+}
+
+/// Whether this memory is shared with a file that the kernel writes back.
+#[unsafe(no_mangle)]
+pub extern "C" fn wulgach_is_of_a_file(mapped: &Mapped, knows: bool, kind: u64) -> bool
+    ensures { result ≡ maps.is_of_a_file mapped.now (known_of knows kind) }
 {
     let kind = if knows { Some(kind) } else { None };
-    is_written_back(major, kind)
+    is_of_a_file(mapped, kind)
 }
 
 /// Whether a list of processors has a number.

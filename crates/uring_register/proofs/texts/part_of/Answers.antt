@@ -1,7 +1,7 @@
 use Rattle.std.proofs.Common.{rules, tests, ℕ, ◌==◌}
 use Rattle.std.proofs.lemmas.Iterator.Splits.{YieldsList-from_slice_split}
 use Rattle.std.proofs.lemmas.Iterator.Consumers.{nth_from_yields_List}
-use Rattle.uring_register.proofs.locks.part_of.Goals as goal
+use Rattle.uring_register.proofs.texts.part_of.Goals as goal
 
 pub returns : goal.returns
 returns c =

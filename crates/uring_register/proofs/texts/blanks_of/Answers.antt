@@ -1,7 +1,7 @@
 use Rattle.std.proofs.Common.{◌≡◌, ℕ, ◌==◌, sym, arith, not, false, get_or}
 use Rattle.std.proofs.lemmas.Bool.Decides.{nat_tests}
 use Rattle.std.proofs.lemmas.List.Sums.{position_or_len_is}
-use Rattle.uring_register.proofs.locks.blanks_of.Goals as goal
+use Rattle.uring_register.proofs.texts.blanks_of.Goals as goal
 
 is_passed : (byte : ℕ) → byte ≡ 32 → not (byte == 32) ≡ false
 is_passed byte h = grind (arith, nat_tests)

@@ -1,10 +1,9 @@
 use Rattle.std.proofs.Common.{ℕ, not, ◌==◌, List, length, ◌≤◌}
 use Rattle.std.proofs.lemmas.List.Sums.{prefix_len-le-length}
-use Rattle.uring_register.specs.Locks as spec
-use Rattle.uring_register.specs.Texts as texts
-use Rattle.uring_register.proofs.locks.after_word.Goals as goal
+use Rattle.uring_register.specs.Texts as spec
+use Rattle.uring_register.proofs.texts.after_word.Goals as goal
 
-is_within : (byte : ℕ) (line : List ℕ) → texts.position_of byte line ≤ length line
+is_within : (byte : ℕ) (line : List ℕ) → spec.position_of byte line ≤ length line
 is_within byte line = prefix_len-le-length (λ (other : ℕ). not (other == byte)) line
 
 are_within : (text : List ℕ) → spec.blanks_of text ≤ length text

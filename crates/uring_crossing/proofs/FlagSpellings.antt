@@ -1,0 +1,114 @@
+-- The letters of flags, as they are read.
+use Rattle.std.proofs.Common.{◌≡◌, ◌≢◌, ℕ, zero, suc, ◌<◌, Bool, true, false, eqb, ◌&&◌, List, [], ◌∷◌, ◌++◌, length, refl, sym, ap, ◌∙◌, inl, inr, append-nil, append_assoc, arith}
+use Rattle.std.specs.Prelude.{codes, bit_and, sum_by}
+use Rattle.std.specs.List.{AllByRecursion, filter}
+use Rattle.std.proofs.lemmas.Bool.{and_parts, cases_Bool, eqb-true, eqb-false}
+use Rattle.uring_text.specs.Tokens.{flag_value, NoneAgain, AreFlags}
+use Rattle.uring_crossing.specs.SetupLines.{named_if}
+use Rattle.uring_crossing.specs.FlagLetters.{has_flag, letters_of, flags_text}
+
+-- a letter that passes stands before the others that do
+filter_one : (p : ℕ → Bool) (x : ℕ) (xs : List ℕ) → filter p (x ∷ xs) ≡ named_if (p x) (x ∷ []) ++ filter p xs
+filter_one p x xs =
+    elim (cases_Bool (p x)) [
+      | inl is ↦ rw is refl
+      | inr other ↦ rw other refl
+    ]
+
+-- what is appended in five parts
+pub five_parts : (old a b c d new u v w x y : List ℕ) → a ≡ old ++ u → b ≡ a ++ v → c ≡ b ++ w → d ≡ c ++ x
+    → new ≡ d ++ y → new ≡ old ++ (u ++ (v ++ (w ++ (x ++ y))))
+five_parts old a b c d new u v w x y e f g h i =
+    i ∙ ap (λ (t : List ℕ). t ++ y) (h ∙ ap (λ (t : List ℕ). t ++ x) (g ∙ ap (λ (t : List ℕ). t ++ w) (f ∙ ap (λ (t : List ℕ). t ++ v) e)))
+    ∙ simp append_assoc (refl)
+
+abbrev letter_part : (flags letter : ℕ) → List ℕ
+letter_part flags letter = named_if (has_flag flags letter) (letter ∷ [])
+
+pub parts_of : (flags : ℕ)
+    → letter_part flags 68 ++ (letter_part flags 76 ++ (letter_part flags 72 ++ (letter_part flags 65 ++ letter_part flags 83))) ≡ letters_of flags
+parts_of flags =
+    let p : ℕ → Bool = λ letter. has_flag flags letter in
+    let last : letter_part flags 83 ≡ filter p (83 ∷ []) = sym (filter_one p 83 [] ∙ append-nil (letter_part flags 83)) in
+    let fourth = ap (λ (t : List ℕ). letter_part flags 65 ++ t) last ∙ sym (filter_one p 65 (83 ∷ [])) in
+    let third = ap (λ (t : List ℕ). letter_part flags 72 ++ t) fourth ∙ sym (filter_one p 72 (65 ∷ 83 ∷ [])) in
+    let second = ap (λ (t : List ℕ). letter_part flags 76 ++ t) third ∙ sym (filter_one p 76 (72 ∷ 65 ∷ 83 ∷ [])) in
+    ap (λ (t : List ℕ). letter_part flags 68 ++ t) second ∙ sym (filter_one p 68 (76 ∷ 72 ∷ 65 ∷ 83 ∷ []))
+
+-- ---- what is read
+
+-- what holds of each holds of those that pass
+kept : (P : ℕ → Type 0) (p : ℕ → Bool) (xs : List ℕ) → AllByRecursion P xs → AllByRecursion P (filter p xs)
+kept P p [] h = tt
+kept P p (x ∷ xs) h =
+    elim (cases_Bool (p x)) [
+      | inl is ↦ rw is (h.0, kept P p xs h.1)
+      | inr other ↦ rw other (kept P p xs h.1)
+    ]
+
+kept_once : (p : ℕ → Bool) (xs : List ℕ) → NoneAgain xs → NoneAgain (filter p xs)
+kept_once p [] h = tt
+kept_once p (x ∷ xs) h =
+    elim (cases_Bool (p x)) [
+      | inl is ↦ rw is (kept (λ c. c ≢ x) p xs h.0, kept_once p xs h.1)
+      | inr other ↦ rw other (kept_once p xs h.1)
+    ]
+
+-- all numbers below one pass
+all_below : (ℕ → Bool) → ℕ → Bool
+all_below p zero = true
+all_below p (suc n) = p n && all_below p n
+
+passes_below : (p : ℕ → Bool) (n k : ℕ) → all_below p n ≡ true → k < n → p k ≡ true
+unfolding all_below
+passes_below p zero k all lt = absurd (omega arith)
+passes_below p (suc n) k all lt =
+    let parts = and_parts (p n) (all_below p n) all in
+    elim (cases_Bool (eqb k n)) [
+      | inl same ↦ ap p (eqb-true k n same) ∙ parts.0
+      | inr other ↦ passes_below p n k parts.1 (omega (arith, eqb-false k n other))
+    ]
+
+abbrev is_sum : ℕ → Bool
+is_sum flags = eqb (bit_and flags 94) (sum_by flag_value (letters_of flags))
+
+sum_is : (flags : ℕ) → flags < 256 → bit_and flags 94 ≡ sum_by flag_value (letters_of flags)
+unfolding all_below
+sum_is flags lt = eqb-true _ _ (passes_below is_sum 256 flags refl lt)
+
+are_letters : AllByRecursion (λ letter. 0 < flag_value letter) (codes "DLHAS")
+are_letters = (omega arith, (omega arith, (omega arith, (omega arith, (omega arith, tt)))))
+
+stand_once : NoneAgain (codes "DLHAS")
+stand_once = (
+  (eqb-false 76 68 refl, (eqb-false 72 68 refl, (eqb-false 65 68 refl, (eqb-false 83 68 refl, tt)))),
+  (
+    (eqb-false 72 76 refl, (eqb-false 65 76 refl, (eqb-false 83 76 refl, tt))),
+    (
+      (eqb-false 65 72 refl, (eqb-false 83 72 refl, tt)),
+      ((eqb-false 83 65 refl, tt), (tt, tt)),
+    ),
+  ),
+)
+
+pub spelled : (flags : ℕ) → flags < 256 → AreFlags (flags_text flags) (bit_and flags 94)
+spelled flags lt =
+    let p : ℕ → Bool = λ letter. has_flag flags letter in
+    let sum = sum_is flags lt in
+    elim (cases_Bool (eqb (length (letters_of flags)) 0)) [
+      | inl none ↦ rw none (inl (refl, sum ∙ ap (λ (l : List ℕ). sum_by flag_value l) (empty (letters_of flags) (eqb-true _ _ none))))
+      | inr some ↦ rw some (inr (record {
+        some = more (letters_of flags) some;
+        letters = kept (λ letter. 0 < flag_value letter) p (codes "DLHAS") are_letters;
+        once = kept_once p (codes "DLHAS") stand_once;
+        all = sum;
+      }))
+    ]
+  where
+    empty : (l : List ℕ) → length l ≡ 0 → l ≡ []
+    empty [] e = refl
+    empty (x ∷ l) e = absurd (omega arith)
+
+    more : (l : List ℕ) → eqb (length l) 0 ≡ false → 0 < length l
+    more [] e = absurd (let f : true ≡ false = e in cc)
+    more (x ∷ l) e = omega arith
