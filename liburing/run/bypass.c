@@ -13,6 +13,7 @@
 #include <string.h>
 
 long wulgach_blocked_enter(const long words[6], const sigset_t *signals);
+bool wulgach_leaves_signals_open(const long words[6]);
 long enter_bypassed(const long words[6], uintptr_t stack);
 extern const uint8_t bypass_all[];
 __thread uintptr_t bypass_stack;
@@ -22,17 +23,22 @@ __thread uintptr_t bypass_stack;
 enum { VECTORS = 0xe7, ROOM = 2560 };
 uint32_t bypassed_vectors __attribute__((visibility("hidden")));
 
-/* All signals are blocked as in the trap, and may come as it ends. The program's stack stood 192 bytes above the words. */
+/* All signals are blocked as in the trap, and may come as it ends; but where the layer says that they needn't be. The program's stack stood 192 bytes above
+ * the words. */
 __attribute__((used)) long enter_bypassed(const long words[6], uintptr_t stack)
 {
     int kept = errno;
     sigset_t before;
-    sigemptyset(&before);
-    set_mask(~OPEN_IN_TRAP, &before);
+    bool is_open = wulgach_leaves_signals_open(words);
+    if (!is_open) {
+        sigemptyset(&before);
+        set_mask(~OPEN_IN_TRAP, &before);
+    }
     const void *caller = wulgach_note_caller(stack == HERE ? NULL : (const void *)((uintptr_t)words + 192));
-    long result = wulgach_blocked_enter(words, &before);
+    long result = wulgach_blocked_enter(words, is_open ? NULL : &before);
     wulgach_note_caller(caller);
-    put_mask_back(&before);
+    if (!is_open)
+        put_mask_back(&before);
     errno = kept;
     return result;
 }
