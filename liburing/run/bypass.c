@@ -29,8 +29,8 @@ uint32_t bypassed_vectors __attribute__((visibility("hidden")));
  * to no time; those of 64 would slow the processor down. */
 uint32_t are_vectors_short __attribute__((visibility("hidden")));
 
-/* On the stack, from its top on: 32 vectors of 32 bytes, 8 masks, and how numbers are rounded; and behind the room which way was taken: 0, all is saved, since the first vectors
- * have 64 bytes in use or x87 has something; 1, of these 16 bytes are; 2, 32. What isn't in use isn't written, since a program that has none of it would be slow after that. */
+/* On the stack, from its top on: 32 vectors of 32 bytes, 8 masks, and how numbers are rounded; and behind the room which way was taken: 0, all is saved; 1, of the first vectors 16
+ * bytes are; 2, 32. What isn't in use isn't written, since a program that has none of it would be slow after that. The state of x87, of which nothing here has an instruction, stays. */
 #define OF_FIRST "0,1,2,3,4,5,6,7,8,9,10,11,12,13,14,15"
 #define OF_FURTHER "16,17,18,19,20,21,22,23,24,25,26,27,28,29,30,31"
 #define OF_MASKS "0,1,2,3,4,5,6,7"
@@ -41,8 +41,6 @@ uint32_t are_vectors_short __attribute__((visibility("hidden")));
     "je 4f\n\t"                                                     \
     "mov $1, %ecx\n\t"                                              \
     "xgetbv\n\t"                                                    \
-    "test $0x41, %al\n\t"                                           \
-    "jnz 4f\n\t"                                                    \
     "stmxcsr 1088(%rsp)\n\t"                                        \
     "test $0x04, %al\n\t"                                           \
     "jnz 1f\n\t"                                                    \

@@ -387,12 +387,21 @@ static void call_wide(const struct ring *ring, void (*call)(void), uint64_t numb
     WANT(reap(ring) == number);
 }
 
-/* Vectors of 64 bytes, masks and x87 are kept, also where the upper halves of the first aren't in use; and where a program has no more than their first 16 bytes in use, no more are
+static void want_vectors(size_t length)
+{
+    for (unsigned i = 0; i < 32; i++)
+        WANT(memcmp(wide.vectors[i], wide.vectors_after[i], length) == 0);
+    WANT(memcmp(wide.masks, wide.masks_after, sizeof wide.masks) == 0);
+}
+
+/* Vectors of 64 bytes, masks and x87 are kept (of vectors 32 bytes, where the user says that this is enough), also where the upper halves of the first aren't in use; and where a program has no more than their first 16 bytes in use, no more are
  * after it. */
 static void vectors(void)
 {
     enum { UPPER = 0x44 };
     struct ring ring = set_up();
+    const char *said = getenv("WULGACH_VECTORS");
+    bool are_short = said && strcmp(said, "short") == 0;
     if (!has_wide_vectors())
         return;
     wide.fd = ring.fd;
@@ -403,14 +412,11 @@ static void vectors(void)
             wide.masks[j] = 0x9e3779b97f4a7c15u * (i + j);
         wide.top = i / 7.0;
         call_wide(&ring, call_with_all, i);
-        WANT(memcmp(wide.vectors, wide.vectors_after, sizeof wide.vectors) == 0);
-        WANT(memcmp(wide.masks, wide.masks_after, sizeof wide.masks) == 0);
+        want_vectors(are_short ? 32 : 64);
         WANT(wide.top_after == i / 7.0);
         memset(wide.masks_after, 0, sizeof wide.masks_after);
         call_wide(&ring, call_with_halves, i + 2 * OFTEN);
-        for (unsigned j = 0; j < 32; j++)
-            WANT(memcmp(wide.vectors[j], wide.vectors_after[j], 32) == 0);
-        WANT(memcmp(wide.masks, wide.masks_after, sizeof wide.masks) == 0);
+        want_vectors(32);
         call_wide(&ring, call_with_quarters, i + OFTEN);
         for (unsigned j = 0; j < 16; j++) {
             WANT(memcmp(wide.vectors[j], wide.vectors_after[j], 16) == 0);
