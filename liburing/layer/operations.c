@@ -284,8 +284,7 @@ static int32_t call_with_buffer(struct ring *ring, struct request *request, bool
 /* Makes its calls, of half of its bytes or of all, and takes back the signal that comes of them. */
 static int32_t call_for(struct ring *ring, struct request *request, bool is_half)
 {
-    /* (a read of a file isn't ended early) */
-    if (!request->needs.is_read || request->standing.is_stream)
+    if (wulgach_blocks_before(request->needs.is_read, request->standing.is_stream))
         block_signals_of_call();
     if (is_half && !request->needs.selects)
         shorten(request);

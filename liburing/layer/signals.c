@@ -2,16 +2,15 @@
  * before its process's: so the call's is taken first, if there is one. Which of those that are taken is the call's is the library's decision.
  *
  * A handler that comes amid a call may call io_uring, or leave by a jump: so all are blocked in a call, for two system calls. Where WULGACH_HANDLERS says that no
- * handler does anything of the kind, they are blocked only from where one would be seen: in a call that may sleep, which ends with -4 also where the
- * signal came before it slept, and before what a signal ends early, or brings.
+ * handler does anything of the kind, they are blocked from where one would be seen, as the library says; and before looks that a signal ends.
  */
 #define _GNU_SOURCE
 #include "signals.h"
 #include "fault.h"
 #include "process.h"
 #include "wulgach_calls.h"
+#include "wulgach_enter.h"
 
-#include <errno.h>
 #include <linux/io_uring.h>
 #include <stdlib.h>
 #include <string.h>
@@ -30,7 +29,7 @@ void read_handlers(void)
 
 bool leaves_signals_open(uint32_t min_complete, uint32_t flags)
 {
-    return are_quiet && !(flags & IORING_ENTER_GETEVENTS && min_complete > 0);
+    return !wulgach_blocks_at_begin(are_quiet, flags & IORING_ENTER_GETEVENTS, min_complete);
 }
 
 /* The call that this thread is in, if none is blocked there yet. */
@@ -55,10 +54,10 @@ void block_signals_of_call(void)
 
 bool was_interrupted(int32_t res)
 {
-    bool is_open = open_call != NULL;
-    if (res == -EINTR)
+    bool is_made_again = wulgach_is_made_again(open_call != NULL, res);
+    if (is_made_again)
         block_signals_of_call();
-    return res == -EINTR && is_open;
+    return is_made_again;
 }
 
 void end_signals(const struct call_signals *signals)

@@ -19,3 +19,4 @@ mod PuttingOffRuns
 mod PassageRuns
 mod StepRuns
 mod JoiningRuns
+mod SignalRuns
