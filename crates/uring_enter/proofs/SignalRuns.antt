@@ -1,8 +1,9 @@
 -- A call sleeps only with signals blocked.
-use Rattle.std.proofs.Common.{◌≡◌, Bool, true, false, not, ◌&&◌, ◌||◌, List, [], ◌∷◌, refl}
+use Rattle.std.proofs.Common.{◌≡◌, Bool, true, false, not, ◌&&◌, ◌||◌, nat_lt, List, [], ◌∷◌, refl}
 use Rattle.uring_enter.specs.declared.call.asked.Asked.{Asked}
 use Rattle.uring_enter.specs.declared.call.reply.Reply.{Reply}
 use Rattle.uring_enter.specs.declared.call.reply.Reply.TheVariants.{Heard, WrongHead, Taken, NotTaken, WentOn, Chosen, Stuck, Woken, TimedOut, Interrupted, Endless, Failed, Passed}
+use Rattle.uring_enter.specs.Call.Replies.{has_taken_all}
 use Rattle.uring_enter.specs.Call.Laws.{IsInVain}
 use Rattle.uring_enter.specs.Call.Signals.{blocks_at_begin, SleepsBlocked}
 use Rattle.uring_enter.proofs.Running.{sleeps_in_vain}
@@ -19,7 +20,7 @@ blocked_in_vain : (q : Bool) (a : Asked) (log : List Reply) → IsInVain a log
     → blocks_at_begin q a.gets a.min_complete ≡ true
 blocked_in_vain q a [] is = absurd is
 blocked_in_vain q a (Heard s ∷ []) is = absurd is
-blocked_in_vain q a (Heard s ∷ Stuck t ∷ log) is = where_it_waits q _ _ _ is.0
+blocked_in_vain q a (Heard s ∷ Stuck t ∷ log) is = where_it_waits q a.gets (has_taken_all a log) (nat_lt 0 a.min_complete) is.0
 blocked_in_vain q a (Heard s ∷ Heard t ∷ log) is = absurd is
 blocked_in_vain q a (Heard s ∷ Taken n t ∷ log) is = absurd is
 blocked_in_vain q a (Heard s ∷ NotTaken n t ∷ log) is = absurd is
