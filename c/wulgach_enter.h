@@ -211,7 +211,7 @@ bool wulgach_polls_writes(uint64_t watched);
 /* ---- the thread's signals ---- */
 
 /* Whether signals are blocked as a call begins that gets events (IORING_ENTER_GETEVENTS) and waits for so many: unless the program's handlers are quiet, which is that
- * none calls io_uring or leaves a call, and the call can't sleep. Our own rule. A call sleeps only with signals blocked. */
+ * none calls io_uring or leaves a call, and the call can't sleep. Our own rule. */
 bool wulgach_blocks_at_begin(bool are_quiet, bool gets, uint32_t min_complete);
 
 /* Whether they are before the calls of an operation, where they are open: but for a read of what is no stream, a signal may end them early, or come of them. */

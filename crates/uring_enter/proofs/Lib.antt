@@ -19,4 +19,3 @@ mod PuttingOffRuns
 mod PassageRuns
 mod StepRuns
 mod JoiningRuns
-mod SignalRuns

@@ -45,7 +45,6 @@ pub use call::reply::Sight;
 pub use call::signals::blocks_at_begin;
 pub use call::signals::blocks_before;
 pub use call::signals::is_made_again;
-pub use call::signals::sleeps_blocked;
 pub use call::slept::asks_mask;
 pub use call::slept::sleep_fault;
 pub use call::unknown::Matter;

@@ -1,12 +1,7 @@
 -- From where on a thread's signals are blocked in a call. Our own rule: a handler that calls io_uring, or leaves the call by a jump, is to find it as it was before or after it. Where handlers are quiet, which is that none does so, it is to be seen by no result that one came; but by those of calls that sleep, as io_uring_enter(2), EINTR, has it.
-use Rattle.std.specs.Prelude.{◌≡◌, ℕ, ℤ, Bool, true, not, ◌&&◌, ◌||◌, nat_lt, List}
+use Rattle.std.specs.Prelude.{ℕ, ℤ, Bool, not, ◌&&◌, ◌||◌, nat_lt}
 use Rattle.std.specs.Ordering.{int_eq}
 use Rattle.uring_entry.specs.Errors.{error}
-use Rattle.uring_enter.specs.declared.call.asked.Asked.{Asked}
-use Rattle.uring_enter.specs.declared.call.command.Command.TheVariants as command
-use Rattle.uring_enter.specs.declared.call.reply.Reply.{Reply}
-use Rattle.uring_enter.specs.Call.Due.{due}
-use Rattle.uring_enter.specs.Call.Laws.{is_run}
 
 -- a call may sleep that gets events, one at least. io_uring_enter(2), IORING_ENTER_GETEVENTS
 abbrev pub may_sleep : (gets : Bool) → ℕ → Bool
@@ -23,8 +18,3 @@ blocks_before is_read is_stream = not is_read || is_stream
 -- one that ends with EINTR (4) where signals were open is made once more, since it was a handler of theirs
 abbrev pub is_made_again : (was_open : Bool) → ℤ → Bool
 is_made_again was_open res = was_open && int_eq res (error 4)
-
--- a call sleeps only where signals are blocked as it begins
-abbrev pub SleepsBlocked : Type 0
-SleepsBlocked = (are_quiet : Bool) (a : Asked) (log : List Reply) → is_run a log ≡ true
-    → due a log ≡ command.Sleep → blocks_at_begin are_quiet a.gets a.min_complete ≡ true

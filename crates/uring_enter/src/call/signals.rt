@@ -2,7 +2,6 @@
 
 ghost use Rattle.std.specs.Prelude.{◌≡◌};
 ghost use Rattle.uring_enter.specs.Call.Signals as spec;
-ghost use Rattle.uring_enter.specs.Call.Signals.{SleepsBlocked};
 
 /// Whether signals are blocked as a call begins, whose program's handlers are quiet or aren't, that gets events or doesn't, and waits for so many completions: if it may sleep, since one that comes before it does so ends it too.
 pub fn blocks_at_begin(are_quiet: bool, gets: bool, min_complete: u32) -> bool
@@ -24,8 +23,3 @@ pub fn is_made_again(was_open: bool, res: i32) -> bool
 {
     was_open && res == -4
 }
-
-/// A call sleeps only with signals blocked, whatever is replied: so none that came since it began is slept through.
-pub fn sleeps_blocked()
-    ensures { SleepsBlocked }
-{}
