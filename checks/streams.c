@@ -2,7 +2,7 @@
 // a time, are interrupted, or fail.
 //
 // READ_MOST and WRITE_MOST are the most bytes of a call, READ_STOP and WRITE_STOP the call, from 0 on, that is interrupted. With
-// READ_FAILS a read behind the last byte fails. Behind WRITE_ROOM bytes a write fails, or with WRITE_NONE it takes none.
+// READ_FAILS a read after the last byte fails. After WRITE_ROOM bytes a write fails, or with WRITE_NONE it takes none.
 #define _GNU_SOURCE
 #include <errno.h>
 #include <limits.h>

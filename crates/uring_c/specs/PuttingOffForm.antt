@@ -1,4 +1,4 @@
--- What waits behind a completion that was put off, in words that C can read.
+-- What waits after a completion that was put off, in words that C can read.
 use Rattle.std.specs.Prelude.{ℕ, ◌==◌, if◌then◌else◌}
 use Rattle.uring_enter.specs.declared.going_on.putting_off.Coming.{Coming}
 use Rattle.uring_enter.specs.declared.going_on.putting_off.Coming.TheVariants.{Submission, Posting, End}

@@ -1,11 +1,11 @@
--- What a checker makes of the first line, and of those behind it.
+-- What a checker makes of the first line, and of those after it.
 use Rattle.std.proofs.Common.{◌≡◌, ℕ, Bool, true, false, List, [], ◌∷◌, ◌++◌, length, Option, Some, None, refl, sym, ap, subst, ◌∙◌}
 use Rattle.std.specs.declared.alloc.Global.{Global}
 use Rattle.std.specs.declared.vec.Vec.{Vec}
 use Rattle.std.proofs.lemmas.List.{append-nil}
 use Rattle.uring_check.specs.Checking.{FitsBy, Looks, LooksBy, LooksIf, IsTold, IsToldIf, awaits_first, rules_of}
 use Rattle.uring_trace.specs.Explanations.{line_number}
-use Rattle.uring_check.specs.Findings.{Found, has_stopped, history_behind, lines_of, verdict_of}
+use Rattle.uring_check.specs.Findings.{Found, has_stopped, history_after, lines_of, verdict_of}
 use Rattle.uring_check.specs.Posters.{posters}
 use Rattle.uring_check.specs.Reports.{closing, missed_text, steps_of, told_of_all}
 use Rattle.uring_check.specs.Rules.{AreJudgedBy, Rules}
@@ -18,7 +18,7 @@ use Rattle.uring_check.specs.declared.setup_line.Said.TheVariants.{Nothing, Says
 use Rattle.uring_check.specs.declared.verdict.Verdict.{Verdict}
 use Rattle.uring_check.specs.declared.verdict.Verdict.TheVariants as verdict
 
--- a line behind the first one changes nothing of the rules
+-- a line after the first one changes nothing of the rules
 ruled_more : (given : Rules) (lines : List (List ℕ)) (line : List ℕ) (rules : Option Rules)
     → awaits_first lines ≡ false → AreJudgedBy given lines rules
     → AreJudgedBy given (line ∷ lines) rules
@@ -83,7 +83,7 @@ fresh : (given g : Rules) (all : Bool) (old : Checker) (m : Follower) → LooksB
 fresh given g all old m l same fits =
     from l.found l.lines_are l.numbered l.counted l.decided l.stopped l.told l.fits.1 l.is_all
   where
-    from : (found : List Found) → lines_of found ≡ [] → old.number ≡ line_number (length found) → old.steps ≡ steps_of found → old.verdict ≡ verdict_of found → old.is_over ≡ has_stopped all found → old.report.items ≡ told_of_all given found → old.posters.items ≡ posters (rules_of old.machine).setup (history_behind found) → old.is_all ≡ all → LooksBy g all [] (with_follower old m)
+    from : (found : List Found) → lines_of found ≡ [] → old.number ≡ line_number (length found) → old.steps ≡ steps_of found → old.verdict ≡ verdict_of found → old.is_over ≡ has_stopped all found → old.report.items ≡ told_of_all given found → old.posters.items ≡ posters (rules_of old.machine).setup (history_after found) → old.is_all ≡ all → LooksBy g all [] (with_follower old m)
     from [] none n c v s t p a = record { found = []; are = tt; lines_are = refl; is_all = a; same = same; fits = (fits, p); numbered = n; counted = c; decided = v; stopped = s; told = t }
     from (x ∷ before) none n c v s t p a = absurd cc
 

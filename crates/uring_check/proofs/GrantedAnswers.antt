@@ -84,7 +84,7 @@ abbrev IsAnyhow : Bool → Step → Type 0
 IsAnyhow true (step.Finish n) = Unit {0}
 IsAnyhow _ _ = ⊥
 
--- every end is called for, behind this history
+-- every end is called for, after this history
 abbrev AnyCalled : Bool → Setup → History → Step → Type 0
 AnyCalled apart g h s = (a : Answer) → IsEnded a → CalledIn apart g (world g h) s a
 

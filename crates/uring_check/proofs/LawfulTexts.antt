@@ -6,7 +6,7 @@ use Rattle.uring_core.specs.declared.answer.Answer.{Answer}
 use Rattle.uring_core.specs.declared.step.Step.{Step}
 use Rattle.uring_trace.specs.Text.{text_of}
 use Rattle.uring_check.specs.Checks.{Says}
-use Rattle.uring_check.specs.Findings.{Found, Finding, AreFound, IsFinding, IsFindingBehind, first_fault, has_stopped, history_behind, judged, lines_of, verdict_of}
+use Rattle.uring_check.specs.Findings.{Found, Finding, AreFound, IsFinding, IsFindingAfter, first_fault, has_stopped, history_after, judged, lines_of, verdict_of}
 use Rattle.uring_check.specs.Findings as finding
 use Rattle.uring_check.specs.Records.{AreRecorded, IsLawfulText, Records}
 use Rattle.uring_check.specs.Rules.{Rules, IsCalled, IsLawfulBy, IsPlain, is_apart}
@@ -17,8 +17,8 @@ use Rattle.uring_check.proofs.Splitting.{record_once}
 
 -- the history is lawful, these lines are its text, and no check stopped at one of them
 pub record IsRight (g : Rules) (all : Bool) (xs : List Found) : Type 0 where
-  pub lawful : IsLawfulBy g (history_behind xs)
-  pub recorded : AreRecorded g (lines_of xs) (history_behind xs)
+  pub lawful : IsLawfulBy g (history_after xs)
+  pub recorded : AreRecorded g (lines_of xs) (history_after xs)
   pub goes_on : has_stopped all xs ≡ false
 
 no_fault : (v : Verdict) → first_fault v verdict.Wrong ≡ verdict.Lawful → ⊥
@@ -33,20 +33,20 @@ no_bad verdict.Bad e = absurd cc
 
 -- one line more
 right_more : (g : Rules) (all : Bool) (before : List Found) (line : List ℕ) (f : Finding)
-    → IsFindingBehind (has_stopped all before) g (history_behind before) line f
+    → IsFindingAfter (has_stopped all before) g (history_after before) line f
     → judged (verdict_of before) f ≡ verdict.Lawful
     → (verdict_of before ≡ verdict.Lawful → IsRight g all before)
     → IsRight g all (record { line = line; finding = f } ∷ before)
 right_more g all before line finding.Passed is v prior =
     let r = prior v in
-    let so = subst (λ (b : Bool). IsFindingBehind b g (history_behind before) line finding.Passed) r.goes_on is in
+    let so = subst (λ (b : Bool). IsFindingAfter b g (history_after before) line finding.Passed) r.goes_on is in
     record { lawful = r.lawful; recorded = inl (so, r.recorded); goes_on = r.goes_on }
 right_more g all before line (finding.Right s a) is v prior =
     let r = prior v in
-    let so = subst (λ (b : Bool). IsFindingBehind b g (history_behind before) line (finding.Right s a)) r.goes_on is in
+    let so = subst (λ (b : Bool). IsFindingAfter b g (history_after before) line (finding.Right s a)) r.goes_on is in
     record {
-      lawful = lawful_more g s a (history_behind before) so.2 r.lawful;
-      recorded = inr ((s, a), history_behind before, refl, (so.0, so.1), r.recorded);
+      lawful = lawful_more g s a (history_after before) so.2 r.lawful;
+      recorded = inr ((s, a), history_after before, refl, (so.0, so.1), r.recorded);
       goes_on = r.goes_on;
     }
 right_more g all before line (finding.Wrong s wanted) is v prior =
@@ -54,7 +54,7 @@ right_more g all before line (finding.Wrong s wanted) is v prior =
 right_more g all before line finding.Bad is v prior = absurd (no_bad (verdict_of before) v)
 right_more g all before line finding.Skipped is v prior =
     let r = prior v in
-    absurd (subst (λ (b : Bool). IsFindingBehind b g (history_behind before) line finding.Skipped) r.goes_on is)
+    absurd (subst (λ (b : Bool). IsFindingAfter b g (history_after before) line finding.Skipped) r.goes_on is)
 
 pub all_right : (g : Rules) (all : Bool) (xs : List Found) → AreFound g all xs
     → verdict_of xs ≡ verdict.Lawful → IsRight g all xs
@@ -65,11 +65,11 @@ all_right g all (x ∷ before) are v =
 pub lawful_said : (g : Rules) (all : Bool) (xs : List Found) → AreFound g all xs
     → verdict_of xs ≡ verdict.Lawful → IsLawfulText g (lines_of xs)
 lawful_said g all xs are v =
-    let r = all_right g all xs are v in (history_behind xs, r.lawful, r.recorded)
+    let r = all_right g all xs are v in (history_after xs, r.lawful, r.recorded)
 
 -- ---- one lawful history has the text
 
--- a line records one event at most that is lawful behind a history
+-- a line records one event at most that is lawful after a history
 same_event : (g : Rules) (past known : History) (line : List ℕ) (s t : Step) (a b : Answer)
     → past ≡ known → Records g line (t, b) → Records g line (s, a) → IsCalled g past t b
     → IsCalled g known s a → ((t, b) ∷ past) ≡ ((s, a) ∷ known)
@@ -95,11 +95,11 @@ same_history g (line ∷ lines) h k p (inr x) q (inr y) =
 
 -- ---- the text of no lawful history
 
--- the finding of a line behind right ones
+-- the finding of a line after right ones
 found_next : (g : Rules) (all : Bool) (x : Found) (before : List Found)
     → AreFound g all (x ∷ before) → verdict_of before ≡ verdict.Lawful
-    → IsFinding g (history_behind before) x.line x.finding
-found_next g all x before are v = subst (λ (b : Bool). IsFindingBehind b g (history_behind before) x.line x.finding) (all_right g all before are.1 v).goes_on are.0
+    → IsFinding g (history_after before) x.line x.finding
+found_next g all x before are v = subst (λ (b : Bool). IsFindingAfter b g (history_after before) x.line x.finding) (all_right g all before are.1 v).goes_on are.0
 
 -- the lines before are the text of a lawful history too
 lawful_before : (g : Rules) (line : List ℕ) (lines : List (List ℕ)) → IsLawfulText g (line ∷ lines)
@@ -139,8 +139,8 @@ unlawful_said g all [] are v is = v refl
 unlawful_said g all (x ∷ before) are v is = elim (no_fault_or_one (verdict_of before)) [
   | inl so ↦
       let r = all_right g all before are.1 so in
-      none_more g x.line (lines_of before) (history_behind before) is.0 x.finding (found_next g all x before are so) (λ e. v (ap (λ (w : Verdict). judged w x.finding) so ∙ e))
-      (λ past lawful rec. same_history g (lines_of before) past (history_behind before) lawful rec r.lawful r.recorded) is.1 is.2
+      none_more g x.line (lines_of before) (history_after before) is.0 x.finding (found_next g all x before are so) (λ e. v (ap (λ (w : Verdict). judged w x.finding) so ∙ e))
+      (λ past lawful rec. same_history g (lines_of before) past (history_after before) lawful rec r.lawful r.recorded) is.1 is.2
   | inr fault ↦ unlawful_said g all before are.1 fault (lawful_before g x.line (lines_of before) is)
 ]
 

@@ -13,7 +13,7 @@ use Rattle.uring_trace.specs.Explanations.{line_number}
 use Rattle.uring_text.specs.Lines.{ended}
 use Rattle.uring_text.specs.Remarks.{is_remark}
 use Rattle.uring_check.specs.Checking.{FitsBy, IsStanding, Judges, Knows, TellsWanted, LooksBy, Looked, LooksAt, noted_poster, reasons_by, rules_of}
-use Rattle.uring_check.specs.Findings.{IsFinding, IsFindingBehind, first_fault, has_stopped, history_behind, judged, stops, with_finding}
+use Rattle.uring_check.specs.Findings.{IsFinding, IsFindingAfter, first_fault, has_stopped, history_after, judged, stops, with_finding}
 use Rattle.uring_check.specs.Findings as finding
 use Rattle.uring_check.specs.Records.{IsRecord, IsNoRecord}
 use Rattle.uring_check.specs.Posters.{posters}
@@ -99,7 +99,7 @@ looked_bad old mid report line h is none remark fits =
 abbrev pub with_machine : Checker → Follower → AnswerText → Vec ℕ Global → Checker
 with_machine c m t p = record c { machine = m; told = t; posters = p }
 
--- what is known of the completions that were posted, before a step and behind it
+-- what is known of the completions that were posted, before a step and after it
 pub record Notes (old : Checker) (m : Follower) (p : Vec ℕ Global) (s : Step) (before after : ℕ) : Type 0 where
   pub before_is : (h : History) → Knows old h
       → before ≡ length (world (rules_of old.machine).setup h).completions.posted
@@ -171,13 +171,13 @@ pub took_looked : (g : Rules) (all : Bool) (lines : List (List ℕ)) (old mid : 
     → n ≡ min (mid.number + 1) (2 ^ 64 - 1) → old.is_over ≡ false → LooksAt old mid line
     → LooksBy g all lines old → LooksBy g all (line ∷ lines) (record mid { number = n })
 took_looked g all lines old mid n line next over looks k =
-    let l = looks (history_behind k.found) k.fits in
-    let past : History = history_behind k.found in
+    let l = looks (history_after k.found) k.fits in
+    let past : History = history_after k.found in
     let none : has_stopped all k.found ≡ false = sym k.stopped ∙ over in
     let number : mid.number ≡ line_number (length k.found) = l.numbered ∙ k.numbered in
     record {
       found = record { line = line; finding = l.finding } ∷ k.found;
-      are = (subst (λ (b : Bool). IsFindingBehind b g past line l.finding) (sym none) (subst (λ (x : Rules). IsFinding x past line l.finding) k.same l.is_so), k.are);
+      are = (subst (λ (b : Bool). IsFindingAfter b g past line l.finding) (sym none) (subst (λ (x : Rules). IsFinding x past line l.finding) k.same l.is_so), k.are);
       lines_are = ap (λ (ls : List (List ℕ)). line ∷ ls) k.lines_are;
       is_all = l.is_all ∙ k.is_all;
       same = l.same ∙ k.same;
@@ -197,19 +197,19 @@ took_looked g all lines old mid n line next over looks k =
 
 pub took_awaits : (g : Rules) (all : Bool) (lines : List (List ℕ)) (old mid : Checker) (line : List ℕ)
     → LooksAt old mid line → LooksBy g all lines old → mid.awaits ≡ old.awaits
-took_awaits g all lines old mid line looks k = (looks (history_behind k.found) k.fits).awaits
+took_awaits g all lines old mid line looks k = (looks (history_after k.found) k.fits).awaits
 
--- a line behind one at which the check stopped
+-- a line after one at which the check stopped
 pub took_skipped : (g : Rules) (all : Bool) (lines : List (List ℕ)) (old : Checker) (n : ℕ) (line : List ℕ)
     → n ≡ min (old.number + 1) (2 ^ 64 - 1) → old.is_over ≡ true → LooksBy g all lines old
     → LooksBy g all (line ∷ lines) (record old { number = n })
 took_skipped g all lines old n line next over k =
-    let past : History = history_behind k.found in
+    let past : History = history_after k.found in
     let stopped : has_stopped all k.found ≡ true = sym k.stopped ∙ over in
     let number : old.number ≡ line_number (length k.found) = k.numbered in
     record {
       found = record { line = line; finding = finding.Skipped } ∷ k.found;
-      are = (subst (λ (b : Bool). IsFindingBehind b g past line finding.Skipped) (sym stopped) refl, k.are);
+      are = (subst (λ (b : Bool). IsFindingAfter b g past line finding.Skipped) (sym stopped) refl, k.are);
       lines_are = ap (λ (ls : List (List ℕ)). line ∷ ls) k.lines_are;
       is_all = k.is_all;
       same = k.same;

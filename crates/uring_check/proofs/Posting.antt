@@ -79,7 +79,7 @@ noted_by g w s a v (sees_tail tail) = none_noted step.LoadCqTail (length w.compl
 noted_by g w s a v (reaps completion next) = none_noted step.Reap (length w.completions.posted)
 noted_by g w s a v (stores_head head) = none_noted step.StoreCqHead (length w.completions.posted)
 
--- ---- what is known behind a step
+-- ---- what is known after a step
 
 -- a step that was made
 pub knows_step : (g : Setup) (s : Step) (a : Answer) (h : History) (known later : List ℕ) (before after : ℕ)
@@ -102,7 +102,7 @@ knows_same g s h known later before after is was now more =
     more ∙ ap (λ (n : ℕ). known ++ noted_poster s n after) (was ∙ sym now)
     ∙ ap (λ (l : List ℕ). known ++ l) (none_noted s after) ∙ append-nil known ∙ is
 
--- behind a wrong answer
+-- after a wrong answer
 pub knows_resumed : (g : Setup) (s : Step) (wanted : Wanted) (h : History) (known later : List ℕ) (before after : ℕ)
     → IsLawfulApart g (resumed s (refusal.Wrong wanted) h) → known ≡ posters g h
     → before ≡ length (world g h).completions.posted

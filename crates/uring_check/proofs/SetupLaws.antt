@@ -77,7 +77,7 @@ set_up tokens sign name rest said are one two of =
 abbrev pub Tokens : Type 0
 Tokens = List (Bor (List ℕ))
 
--- what eight tokens say, with what the words behind them do
+-- what eight tokens say, with what the words after them do
 abbrev pub sizes_at : Option Asked → Bor (List ℕ) → Tokens → Option Sizes
 sizes_at asked d xs =
     sizes_of asked (named_number (codes "--sq") (get_or xs 0 d).now (get_or xs 1 d).now) (named_number (codes "--cq") (get_or xs 2 d).now (get_or xs 3 d).now) (named_number (codes "--files") (get_or xs 4 d).now (get_or xs 5 d).now) (named_number (codes "--start") (get_or xs 6 d).now (get_or xs 7 d).now)

@@ -89,7 +89,7 @@ pub no_front : (line front back : List ℕ) (n : ℕ) → IsCut line front back 
 no_front line front back n c none =
     λ before text h. none before (cut_split line front back before text n c h).0
 
--- no `=` with a space behind it
+-- no `=` with a space after it
 pub no_back : (line front back : List ℕ) (n : ℕ) → IsCut line front back n
     → ((text : List ℕ) → back ≢ 61 ∷ 32 ∷ text) → IsUnsplit line
 no_back line front back n c none =

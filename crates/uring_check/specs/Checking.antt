@@ -21,7 +21,7 @@ use Rattle.uring_text.specs.Lines.{Splits}
 use Rattle.uring_trace.specs.Text.{text_of}
 use Rattle.uring_text.specs.declared.trace_fault.TraceFault.{TraceFault}
 use Rattle.uring_text.specs.declared.trace_fault.TraceFault.TheVariants as fault
-use Rattle.uring_check.specs.Findings.{Found, Finding, IsWrongText, IsFinding, AreFound, lines_of, history_behind, has_stopped, stops, judged, with_finding, verdict_of}
+use Rattle.uring_check.specs.Findings.{Found, Finding, IsWrongText, IsFinding, AreFound, lines_of, history_after, has_stopped, stops, judged, with_finding, verdict_of}
 use Rattle.uring_trace.specs.Chosen.{chosen_told}
 use Rattle.uring_trace.specs.Reasons.{found_text}
 use Rattle.uring_check.specs.Cancels.{found_asked}
@@ -38,7 +38,7 @@ use Rattle.uring_check.specs.declared.standing.Standing.{Standing}
 use Rattle.uring_check.specs.declared.verdict.Verdict.{Verdict}
 use Rattle.uring_check.specs.declared.verdict.Verdict.TheVariants as verdict
 
--- what stands before and behind ` = `, which has the line's first `=`
+-- what stands before and after ` = `, which has the line's first `=`
 pub record IsSplit (line before text : List ℕ) : Type 0 where
   pub whole : line ≡ before ++ 32 ∷ 61 ∷ 32 ∷ text
   pub first : AllByRecursion (λ b. b ≢ 61) before
@@ -65,7 +65,7 @@ FitsBy (Whole m) h = Fits m h
 FitsBy (Apart c) h = FitsApart c h
 FitsBy (Allowed c) h = FitsApart c h
 
--- What is found behind a history of a step with the text of an answer, and what the machine then fits: `None` if the text is that of an answer that is called for.
+-- What is found after a history of a step with the text of an answer, and what the machine then fits: `None` if the text is that of an answer that is called for.
 abbrev pub IsJudged : Rules → History → Follower → Step → List ℕ → Option Wanted → Type 0
 IsJudged g h m s text None =
     (a : Answer) × (text_of a ≡ text) × IsPlain a (is_apart g.ends) s × AllowedBy g h s a
@@ -125,7 +125,7 @@ number_in (step.Issue n) = n ∷ []
 number_in (step.Finish n) = n ∷ []
 number_in _ = []
 
--- the request of a step that posted a completion, if so many were posted before it and behind it
+-- the request of a step that posted a completion, if so many were posted before it and after it
 abbrev pub noted_poster : Step → ℕ → ℕ → List ℕ
 noted_poster s before after = if nat_le after before then [] else number_in s
 
@@ -140,7 +140,7 @@ pub record LooksBy (g : Rules) (all : Bool) (lines : List (List ℕ)) (c : Check
   pub lines_are : lines_of found ≡ lines
   pub is_all : c.is_all ≡ all
   pub same : rules_of c.machine ≡ g
-  pub fits : Knows c (history_behind found)
+  pub fits : Knows c (history_after found)
   pub numbered : c.number ≡ line_number (length found)
   pub counted : c.steps ≡ steps_of found
   pub decided : c.verdict ≡ verdict_of found

@@ -1,4 +1,4 @@
--- What a check finds of the lines of a recorded trace. That a check goes on behind a wrong line, and stops at a bad one, is our own rule.
+-- What a check finds of the lines of a recorded trace. That a check goes on after a wrong line, and stops at a bad one, is our own rule.
 use Rattle.std.specs.Prelude.{◌≡◌, ℕ, Bool, true, false, not, List, [], ◌∷◌}
 use Rattle.std.specs.List.{list_any}
 use Rattle.uring_core.specs.Histories.{History}
@@ -45,11 +45,11 @@ abbrev pub lines_of : List Found → List (List ℕ)
 lines_of [] = []
 lines_of (x ∷ before) = x.line ∷ lines_of before
 
-abbrev pub history_behind : List Found → History
-history_behind [] = []
-history_behind (x ∷ before) = with_finding x.finding (history_behind before)
+abbrev pub history_after : List Found → History
+history_after [] = []
+history_after (x ∷ before) = with_finding x.finding (history_after before)
 
--- whether a check looks at no line behind this finding: at a bad line, and at a wrong one unless all are asked for
+-- whether a check looks at no line after this finding: at a bad line, and at a wrong one unless all are asked for
 abbrev pub stops : Bool → Finding → Bool
 stops all Bad = true
 stops all (Wrong s wanted) = not all
@@ -65,19 +65,19 @@ IsFinding g h line (Wrong s wanted) =
 IsFinding g h line Bad = IsNoRecord line × (is_remark line ≡ false)
 IsFinding g h line Skipped = ⊥
 
--- behind a line at which the check stopped, none is looked at
-abbrev pub IsFindingBehind : Bool → Rules → History → List ℕ → Finding → Type 0
-IsFindingBehind true g h line finding = finding ≡ Skipped
-IsFindingBehind false g h line finding = IsFinding g h line finding
+-- after a line at which the check stopped, none is looked at
+abbrev pub IsFindingAfter : Bool → Rules → History → List ℕ → Finding → Type 0
+IsFindingAfter true g h line finding = finding ≡ Skipped
+IsFindingAfter false g h line finding = IsFinding g h line finding
 
 abbrev pub has_stopped : Bool → List Found → Bool
 has_stopped all xs = list_any (λ x. stops all x.finding) xs
 
--- Each line, the newest first, with what is found of it behind those before.
+-- Each line, the newest first, with what is found of it after those before.
 abbrev pub AreFound : Rules → Bool → List Found → Type 0
 AreFound g all [] = Unit {0}
 AreFound g all (x ∷ before) =
-    IsFindingBehind (has_stopped all before) g (history_behind before) x.line x.finding
+    IsFindingAfter (has_stopped all before) g (history_after before) x.line x.finding
     × AreFound g all before
 
 -- a fault, unless there was one before

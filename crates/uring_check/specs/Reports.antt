@@ -23,7 +23,7 @@ use Rattle.uring_trace.specs.declared.flaws.Language.TheVariants as language
 use Rattle.uring_trace.specs.Chosen.{chosen_told}
 use Rattle.uring_trace.specs.Reasons.{found_text, why_text}
 use Rattle.uring_trace.specs.Text.{text_of}
-use Rattle.uring_check.specs.Findings.{Found, Finding, history_behind, verdict_of}
+use Rattle.uring_check.specs.Findings.{Found, Finding, history_after, verdict_of}
 use Rattle.uring_check.specs.Findings as finding
 use Rattle.uring_check.specs.Cancels.{found_asked}
 use Rattle.uring_check.specs.Posters.{next_poster}
@@ -113,7 +113,7 @@ steps_of (x ∷ before) = counted_with x.finding (steps_of before)
 abbrev pub told_of_all : Rules → List Found → List ℕ
 told_of_all g [] = []
 told_of_all g (x ∷ before) =
-    told_of_all g before ++ told_of g (history_behind before) (line_number (length before)) x.line x.finding
+    told_of_all g before ++ told_of g (history_after before) (line_number (length before)) x.line x.finding
 
 -- the last line, if all is lawful: how many steps there were
 abbrev pub closing : Verdict → ℕ → List ℕ

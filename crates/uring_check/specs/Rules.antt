@@ -34,7 +34,7 @@ abbrev pub CalledIn : Bool → Setup → World → Step → Answer → Type 0
 CalledIn false g w s a = CalledFor g w s a
 CalledIn true g w s a = CalledForApart g w s a
 
--- with files or apart from them the answer is called for behind a history
+-- with files or apart from them the answer is called for after a history
 abbrev pub CalledBy : Rules → History → Step → Answer → Type 0
 CalledBy r h s a = CalledIn (is_apart r.ends) r.setup (world r.setup h) s a
 
@@ -51,11 +51,11 @@ abbrev pub MayGive : Answer → Option Sqe → Type 0
 MayGive (answer.Ended res bytes) (Some e) = may_end e res ≡ true
 MayGive a asked = Unit {0}
 
--- the result is allowed behind a history
+-- the result is allowed after a history
 abbrev pub AllowedBy : Rules → History → Step → Answer → Type 0
 AllowedBy r h s a = MayGive a (entry_asked r h s)
 
--- the answer is called for behind a history, and its result is allowed
+-- the answer is called for after a history, and its result is allowed
 abbrev pub IsCalled : Rules → History → Step → Answer → Type 0
 IsCalled r h s a = CalledBy r h s a × AllowedBy r h s a
 

@@ -1,4 +1,4 @@
--- The set-up that the first line of a recorded trace says, behind `#`. The form is our own rule.
+-- The set-up that the first line of a recorded trace says, after `#`. The form is our own rule.
 use Rattle.std.specs.Prelude.{◌≡◌, ℕ, ◌^◌, Bool, true, false, ◌&&◌, nat_le, List, [], ◌∷◌, ◌++◌, length, codes, Option, Some, None, if◌then◌else◌}
 use Rattle.std.specs.Fmt.{decimal}
 use Rattle.std.specs.Str.{bytes_eq}
@@ -16,7 +16,7 @@ begins_setup [] = false
 begins_setup (sign ∷ []) = false
 begins_setup (sign ∷ name ∷ tokens) = bytes_eq sign (codes "#") && bytes_eq name (codes "setup")
 
--- a number of 32 bits behind its name
+-- a number of 32 bits after its name
 abbrev pub named_number : List ℕ → List ℕ → List ℕ → Option ℕ
 named_number wanted name token = if bytes_eq name wanted then number_of (2 ^ 32) token else None
 
@@ -24,7 +24,7 @@ named_number wanted name token = if bytes_eq name wanted then number_of (2 ^ 32)
 abbrev pub asked_as : (stops linux : Bool) → Asked
 asked_as stops linux = record { stops = stops; linux = linux }
 
--- what one word behind the numbers asks for
+-- what one word after the numbers asks for
 abbrev pub one_asked : List ℕ → Option Asked
 one_asked word =
     if bytes_eq word (codes "--stop") then Some (asked_as true false) else
@@ -38,7 +38,7 @@ both_asked first second =
     then Some (asked_as true true) else
     None
 
--- what the words behind the numbers ask for: `--stop`, `--linux`, both in this order, or none
+-- what the words after the numbers ask for: `--stop`, `--linux`, both in this order, or none
 abbrev pub words_said : List (List ℕ) → Option Asked
 words_said [] = Some (asked_as false false)
 words_said (word ∷ []) = one_asked word
@@ -51,7 +51,7 @@ sizes_of (Some asked) (Some sq) (Some cq) (Some files) (Some start) =
     Some (record { sq = sq; cq = cq; files = files; start = start; asked = asked })
 sizes_of asked sq cq files start = None
 
--- the sizes that the tokens behind `# setup` say: `--sq N --cq N --files N --start N`, with words behind it
+-- the sizes that the tokens after `# setup` say: `--sq N --cq N --files N --start N`, with words after it
 abbrev pub sizes_said : List (List ℕ) → Option Sizes
 sizes_said (a ∷ sq ∷ b ∷ cq ∷ c ∷ files ∷ d ∷ start ∷ words) =
     sizes_of (words_said words) (named_number (codes "--sq") a sq) (named_number (codes "--cq") b cq) (named_number (codes "--files") c files) (named_number (codes "--start") d start)

@@ -37,7 +37,7 @@ pub(crate) struct Checker {
     alloc: Global,
     // Whether the next line is the first one, which may say a set-up.
     awaits: bool,
-    // Whether the lines behind a wrong one are looked at too.
+    // Whether the lines after a wrong one are looked at too.
     is_all: bool,
     machine: Follower,
     // The requests whose completions were posted, in order.
@@ -137,7 +137,7 @@ impl Checker {
         Ok(())
     }
 
-    /// Finds that the first line says no set-up, though it begins so: it is bad, and no line behind it is looked at.
+    /// Finds that the first line says no set-up, though it begins so: it is bad, and no line after it is looked at.
     fn miss<M: TextMemory>(&mut self, memory: &M) -> Result<(), AllocError>
         ensures told { OnOk result (self.new.report.items ≡ self.old.report.items ++ missed_text) }
         ensures kept { OnOk result
@@ -150,7 +150,7 @@ impl Checker {
         push_bytes(memory, &mut self.report, MISSED.as_bytes())
     }
 
-    /// Takes in a line behind which no set-up is said.
+    /// Takes in a line after which no set-up is said.
     fn take_next<M: TextMemory>(&mut self, memory: &M, line: &KeptLine) -> Result<(), AllocError>
         ensures looks { OnOk result
             ((g : Rules) (all : Bool) (lines : List (List ℕ)) (text : List ℕ)

@@ -4,7 +4,7 @@ ghost use Rattle.std.specs.Prelude.{◌≡◌, ◌≢◌, ◌<◌, ◌≤◌, Ma
 ghost use Rattle.std.specs.List.{AllByRecursion};
 ghost use Rattle.uring_check.specs.Checking.{IsSplit, IsUnsplit};
 
-/// What stands before and behind the first `=` of a line, each without the one space that parts it from the `=`.
+/// What stands before and after the first `=` of a line, each without the one space that parts it from the `=`.
 pub fn split_record(line: &[u8]) -> Option<(&[u8], &[u8])>
     ensures { MatchOption result (IsUnsplit line.now)
         (λ parts. IsSplit line.now parts.0.now parts.1.now) }

@@ -22,7 +22,7 @@ pub enum Said {
     Misses,
 }
 
-/// What the words behind the numbers of a set-up ask for: whether its calls stop, and whether its rules are Linux's.
+/// What the words after the numbers of a set-up ask for: whether its calls stop, and whether its rules are Linux's.
 #[derive(Clone, Copy)]
 pub(crate) struct Asked {
     stops: bool,
@@ -39,7 +39,7 @@ pub(crate) struct Sizes {
     asked: Asked,
 }
 
-/// What the first line of a recorded trace says of the set-up by which the trace is judged: the form is `# setup --sq N --cq N --files N --start N`, with ` --stop`, ` --linux`, or both in this order behind it, or neither.
+/// What the first line of a recorded trace says of the set-up by which the trace is judged: the form is `# setup --sq N --cq N --files N --start N`, with ` --stop`, ` --linux`, or both in this order after it, or neither.
 pub fn said_by(alloc: Global, line: &KeptLine) -> Result<Said, AllocError>
     ensures { IfOk result (λ said. (bytes : List ℕ) → line.now ≡ kept_of bytes → IsSaid bytes said) }
 {
@@ -114,7 +114,7 @@ fn linux_if(setup: Setup, linux: bool) -> Setup
     if linux { setup.linux() } else { setup }
 }
 
-/// The sizes that the tokens behind `# setup` say.
+/// The sizes that the tokens after `# setup` say.
 fn sizes_said(tokens: &[&[u8]]) -> Option<Sizes>
     ensures { result ≡ sizes_said (map (λ token. token.now) tokens.now) }
 {
@@ -141,7 +141,7 @@ fn sizes_said(tokens: &[&[u8]]) -> Option<Sizes>
     )
 }
 
-/// What the words behind the numbers ask for.
+/// What the words after the numbers ask for.
 fn words_said(words: &[&[u8]]) -> Option<Asked>
     ensures { result ≡ words_said (map (λ token. token.now) words.now) }
 {
@@ -156,7 +156,7 @@ fn words_said(words: &[&[u8]]) -> Option<Asked>
     }
 }
 
-/// What one word behind the numbers asks for.
+/// What one word after the numbers asks for.
 fn one_asked(word: &[u8]) -> Option<Asked>
     ensures { result ≡ one_asked word.now }
 {
@@ -175,7 +175,7 @@ fn one_asked(word: &[u8]) -> Option<Asked>
     None
 }
 
-/// What two words behind the numbers ask for.
+/// What two words after the numbers ask for.
 fn both_asked(first: &[u8], second: &[u8]) -> Option<Asked>
     ensures { result ≡ both_asked first.now second.now }
 {
@@ -208,7 +208,7 @@ fn sizes_of(
     })
 }
 
-/// A number of 32 bits behind this name.
+/// A number of 32 bits after this name.
 fn named_number(wanted: &str, name: &[u8], token: &[u8]) -> Option<u32>
     ensures { result ≡ named_number wanted.now name.now token.now }
 {

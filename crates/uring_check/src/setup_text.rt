@@ -30,7 +30,7 @@ fn end_of(stops: bool, linux: bool) -> &'static str
     }
 }
 
-/// Appends a number behind its name.
+/// Appends a number after its name.
 fn push_named(alloc: Global, text: &mut String, name: &str, number: u32) -> Result<(), AllocError>
     ensures { OnOk result
         (string_bytes text.new ≡ string_bytes text.old ++ name.now ++ decimal number) }

@@ -199,7 +199,7 @@ fn push_whose<M: TextMemory>(
     }
 }
 
-/// Notes the request of a step, if the step posted a completion: there were `before` before it, and `after` behind it.
+/// Notes the request of a step, if the step posted a completion: there were `before` before it, and `after` after it.
 pub(crate) fn note_poster<M: Memory>(
     memory: &M,
     posters: &mut Vec<u64>,

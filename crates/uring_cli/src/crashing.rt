@@ -5,7 +5,7 @@ ghost use Rattle.std.specs.Prelude.{◌<◌};
 use crate::fault::Fault;
 use crate::outlet::Outlet;
 use crate::paged::read_trace;
-use crate::{BAD_LINE, status_behind, unless_closed};
+use crate::{BAD_LINE, status_after, unless_closed};
 use std::alloc::{AllocError, Global};
 use std::io::{Read, Write};
 use uring_crash::{Asked, Question, Reply, TraceFault, ask, crash};
@@ -142,15 +142,15 @@ fn tell_each(
 {
     let mut status = DONE;
     for before in 0..count_lines(trace).min(asked.lines) {
-        let behind = Asked {
+        let told = Asked {
             fd: asked.fd,
             unit: asked.unit,
             lines: before + 1,
             seed: asked.seed,
         };
-        write_head(rt, behind.lines)?;
+        write_head(rt, told.lines)?;
         let mut input = trace;
-        status = run_once(rt, &mut input, setup, &behind, question, most)?;
+        status = run_once(rt, &mut input, setup, &told, question, most)?;
         if status == BAD_LINE {
             return Ok(status);
         }
@@ -229,7 +229,7 @@ fn run_one<R: Read>(
         setup,
         asked,
     );
-    Ok(status_behind(unless_closed(&output, left)?))
+    Ok(status_after(unless_closed(&output, left)?))
 }
 
 /// What is asked of all images.

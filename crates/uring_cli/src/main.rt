@@ -267,7 +267,7 @@ fn run_check(rt: &HostRuntime, setup: &Setup, is_all: bool, ends: Ends) -> Resul
 fn run_explain(rt: &HostRuntime, setup: &Setup) -> Result<u8, Fault> {
     let (mut input, mut output) = (rt.stdin(), Outlet::new(rt.stdout()));
     let explained = explain(rt.alloc(), &mut input, &mut output, &mut rt.stderr(), setup);
-    Ok(status_behind(unless_closed(&output, explained)?))
+    Ok(status_after(unless_closed(&output, explained)?))
 }
 
 /// The graph of the trace that standard input has.
@@ -285,18 +285,18 @@ fn run_graph(rt: &HostRuntime, setup: &Setup, at: Option<u32>) -> Result<u8, Fau
         setup,
         at,
     );
-    Ok(status_behind(unless_closed(&output, drawn)?))
+    Ok(status_after(unless_closed(&output, drawn)?))
 }
 
 /// The timeline of the trace that standard input has.
 fn run_timeline(rt: &HostRuntime, setup: &Setup) -> Result<u8, Fault> {
     let (mut input, mut output) = (rt.stdin(), Outlet::new(rt.stdout()));
     let drawn = timeline(rt.alloc(), &mut input, &mut output, &mut rt.stderr(), setup);
-    Ok(status_behind(unless_closed(&output, drawn)?))
+    Ok(status_after(unless_closed(&output, drawn)?))
 }
 
 /// The exit status after lines of which some may have been bad.
-pub(crate) fn status_behind(has_bad: bool) -> u8 {
+pub(crate) fn status_after(has_bad: bool) -> u8 {
     if has_bad { BAD_LINE } else { DONE }
 }
 

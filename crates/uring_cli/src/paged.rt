@@ -2,7 +2,7 @@
 
 use crate::fault::Fault;
 use crate::outlet::Outlet;
-use crate::{status_behind, status_of, unless_closed};
+use crate::{status_after, status_of, unless_closed};
 use std::alloc::{AllocError, Global};
 use std::io::{ErrorKind, Read};
 use uring_check::{Ends, Said, Verdict, check, said_by};
@@ -22,7 +22,7 @@ pub(crate) fn run_page(rt: &HostRuntime, setup: &Setup, form: Form) -> Result<u8
         setup,
         form,
     );
-    Ok(status_behind(unless_closed(&output, drawn)?))
+    Ok(status_after(unless_closed(&output, drawn)?))
 }
 
 /// A page of the recorded trace that standard input has, or its data.

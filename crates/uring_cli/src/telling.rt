@@ -50,10 +50,8 @@ fn text_of(alloc: Global, fault: &Fault) -> Result<String, AllocError> {
         Fault::NoFile(file, files) => {
             format!(in alloc; "uring: no file {file}: there are {files}, from 0 on\n")
         }
-        Fault::NoLine(0) => format!(in alloc; "uring: no line to look for behind --\n"),
-        Fault::NoLine(at) => format!(in alloc;
-            "uring: line {at} behind -- is none of an outcome\n"
-        ),
+        Fault::NoLine(0) => format!(in alloc; "uring: no line to look for after --\n"),
+        Fault::NoLine(at) => format!(in alloc; "uring: line {at} after -- is none of an outcome\n"),
         Fault::NotFound(number, count) => {
             format!(in alloc;
                 "uring: no outcome {number}: the walk stopped at {count}, from 1 on\n"
@@ -64,7 +62,7 @@ fn text_of(alloc: Global, fault: &Fault) -> Result<String, AllocError> {
         }
         Fault::NoHistory => String::from_str(alloc, "uring: no history was found\n"),
         Fault::NoBytes => format!(in alloc;
-            "uring: wanted behind --: OFFSET HEX, a number up to 4294967295, and two lower case digits for each byte\n"
+            "uring: wanted after --: OFFSET HEX, a number up to 4294967295, and two lower case digits for each byte\n"
         ),
         Fault::TooMany(most) => {
             format!(in alloc;

@@ -24,7 +24,7 @@ pub record IsOffCompletions (e : Event) : Type 0 where
   pub loads_cq_tail : is_load_cq_tail e ≡ false
   pub stores_cq_head : is_store_cq_head e ≡ false
 
--- an event that ends no request: the ends stay, and entries may be accepted behind those accepted before
+-- an event that ends no request: the ends stay, and entries may be accepted after those accepted before
 pub record LeavesEnds (r later : Requests) : Type 0 where
   pub more : List Sqe
   pub accepted : later.accepted ≡ r.accepted ++ more

@@ -14,7 +14,7 @@ use Rattle.uring_rings.specs.declared.answers.TakeAnswer.{TakeAnswer}
 use Rattle.uring_rings.specs.declared.answers.TakeAnswer.TheVariants as took_as
 use Rattle.uring_rings.proofs.Places.{places_more, entries_and_dropped}
 use Rattle.uring_linux.specs.LinuxRequests.{asks_to_skip}
-use Rattle.uring_core.specs.Stops.{some_skips, stops_behind, stops_at_word}
+use Rattle.uring_core.specs.Stops.{some_skips, stops_after, stops_at_word}
 use Rattle.uring_core.specs.World.{World, taking_on, taking_of, stops_there, taking_entry_of}
 use Rattle.uring_core.specs.StepAnswers.{take_answer_in}
 use Rattle.uring_core.specs.Histories.{History, world}
@@ -90,7 +90,7 @@ some_call : (c : Option Call) (call : Call) (P : Call → Type 0) → c ≡ Some
 some_call None call P is holds = cc
 some_call (Some other) call P is holds = let same : other ≡ call = cc in subst P same holds
 
--- the parts after a take, whatever was taken, and whether or not the call stops behind it
+-- the parts after a take, whatever was taken, and whether or not the call stops after it
 taken_shows : (p : Core) (w : World) (q : Sq) (call : Call) (held : List Sqe) (has_skipped stops : Bool)
     → ShowsWorld p w → w.submission.call ≡ Some call → eqb call.taken call.count ≡ false
     → ShowsSubmission p.setup q (with_stopped stops (with_taken w.submission call))
@@ -120,14 +120,14 @@ taken_shows p w q call held has_skipped stops s is more shown holds skipped =
       posts = s.posts;
     }
 
--- what a take shows and answers, by the call that is open, where the call stops behind it or not
+-- what a take shows and answers, by the call that is open, where the call stops after it or not
 pub record Takes (p : Core) (w v : World) (q : Sq) (held : List Sqe) (has_skipped : Bool) (a : Answer) (c : Option Call) : Type 0 where
   pub shows : ShowsWorld (record p { sq = q; held = held; has_skipped = has_skipped }) v
   pub answered : a ≡ take_answer_in w c
 
 take_entry : (p : Core) (w : World) (q : Sq) (entry : Sqe) (c : Option Call) → ShowsWorld p w
     → w.submission.call ≡ c → took_as.Entry entry ≡ ring.take_in w.submission c
-    → ShowsSubmission p.setup q (with_stopped (stops_behind p.setup (p.has_skipped || asks_to_skip entry) entry) (ring.taken_on w.submission c))
+    → ShowsSubmission p.setup q (with_stopped (stops_after p.setup (p.has_skipped || asks_to_skip entry) entry) (ring.taken_on w.submission c))
     → Takes p w (taking_entry_of p.setup w entry c) q (p.held ++ entry ∷ []) (p.has_skipped || asks_to_skip entry) (answer.Entry entry) c
 take_entry p w q entry None s is e shown =
     absurd (let f : took_as.Entry entry ≡ took_as.NoCall = e in cc)
@@ -138,7 +138,7 @@ take_entry p w q entry (Some call) s is e shown =
     let so_far : p.held ≡ entries_of (take call.taken (drop (taken w.submission) w.submission.published)) = s.held ∙ ap (held_by w.submission) is in
     record {
       shows = taken_shows p w q call (p.held ++ entry ∷ []) (p.has_skipped || asks_to_skip entry) (stops_there p.setup w.submission entry) s is more
-          (subst (λ b. ShowsSubmission p.setup q (with_stopped (stops_behind p.setup (b || asks_to_skip entry) entry) (with_taken w.submission call))) s.skipped shown)
+          (subst (λ b. ShowsSubmission p.setup q (with_stopped (stops_after p.setup (b || asks_to_skip entry) entry) (with_taken w.submission call))) s.skipped shown)
           (sym (held_more w.submission call place.0 place.1 ∙ ap (λ xs. xs ++ entries_of (place.0 ∷ [])) (sym so_far) ∙ ap (λ xs. p.held ++ xs) (one_entry place.0 entry place.2)))
           (ap (λ b. b || asks_to_skip entry) s.skipped ∙ skips_more w.submission call place.0 entry is place.1 place.2);
       answered = answered_entry w call place.0 entry more place.1 place.2;
@@ -174,17 +174,17 @@ take_dropped p w q (Some call) s is e shown =
       answered = answered_dropped w call place.0 more place.1 none;
     }
 
--- the ring after a take, and then with its call stopped behind the entry, if it stops there
+-- the ring after a take, and then with its call stopped after the entry, if it stops there
 pub take_entry_goes : (p : Core) (q stops : Sq) (entry : Sqe) (has_skipped : Bool)
     → has_skipped ≡ (p.has_skipped || asks_to_skip entry)
     → ((g : Setup) (l : Submission) → ShowsSubmission g p.sq l → took_as.Entry entry ≡ ring.take_answer l)
     → ((g : Setup) (l : Submission) → ShowsSubmission g p.sq l → ShowsSubmission g q (ring.after_take l (took_as.Entry entry)))
-    → ((g : Setup) (l : Submission) → ShowsSubmission g q l → ShowsSubmission g stops (with_stopped (stops_behind p.setup has_skipped entry) l))
+    → ((g : Setup) (l : Submission) → ShowsSubmission g q l → ShowsSubmission g stops (with_stopped (stops_after p.setup has_skipped entry) l))
     → (h : History) → FitsApart p h
     → FitsApart (record p { sq = stops; held = p.held ++ entry ∷ []; has_skipped = has_skipped }) ((step.Take, answer.Entry entry) ∷ h)
 take_entry_goes p q stops entry has_skipped is answered shown stopped h f =
     let w = world p.setup h in
-    let after = subst (λ b. ShowsSubmission p.setup stops (with_stopped (stops_behind p.setup b entry) (ring.after_take w.submission (took_as.Entry entry)))) is (stopped p.setup _ (shown p.setup w.submission f.shows.submission)) in
+    let after = subst (λ b. ShowsSubmission p.setup stops (with_stopped (stops_after p.setup b entry) (ring.after_take w.submission (took_as.Entry entry)))) is (stopped p.setup _ (shown p.setup w.submission f.shows.submission)) in
     let t = take_entry p w stops entry w.submission.call f.shows refl (answered p.setup w.submission f.shows.submission) after in
     subst (λ b. FitsApart (record p { sq = stops; held = p.held ++ entry ∷ []; has_skipped = b }) ((step.Take, answer.Entry entry) ∷ h)) (sym is)
     (record { shows = t.shows; lawful = (t.answered, f.lawful) })

@@ -15,7 +15,7 @@ pub history_of_snoc : (events : List Event) (e : Event)
     → history_of (events ++ e ∷ []) ≡ e ∷ history_of events
 history_of_snoc events e = reverse-append events (e ∷ [])
 
--- what happened first stands right behind what was before
+-- what happened first stands right after what was before
 pub history_of_cons : (e : Event) (events : List Event) (before : History)
     → history_of (e ∷ events) ++ before ≡ history_of events ++ e ∷ before
 history_of_cons e events before = ap (λ h. h ++ before) (reverse-append (e ∷ []) events) ∙ append_assoc (history_of events) (e ∷ []) before

@@ -8,7 +8,7 @@ use Rattle.std.proofs.lemmas.List.{length-append, get_or_append_left}
 use Rattle.uring_entry.specs.Layout.{Sqe, zero_entry}
 use Rattle.uring_entry.specs.Success.{is_success}
 use Rattle.uring_entry.specs.Preparation.{is_faulty}
-use Rattle.uring_entry.specs.Requests.{Requests, entry_of, has_failed, is_soft, is_last, is_linked, is_joined, is_in_group, some_member, is_in_faulty_group, is_behind_failure, is_cancelled, is_doomed, with_call}
+use Rattle.uring_entry.specs.Requests.{Requests, entry_of, has_failed, is_soft, is_last, is_linked, is_joined, is_in_group, some_member, is_in_faulty_group, is_after_failure, is_cancelled, is_doomed, with_call}
 use Rattle.uring_entry.proofs.BelowLemmas.{some_below_same, some_below_between}
 use Rattle.uring_entry.proofs.RequestLemmas.{is_joined_no, list_any_push}
 use Rattle.uring_core.proofs.SoundRequests.{IsSoundRequests, IsSoundManual, IsFree, EndsDoomed}
@@ -65,9 +65,9 @@ module _ (r : Requests) (entries : List Sqe) (cut : (length r.accepted ≡ 0) �
   failed_kept : (k : ℕ) → k < length r.accepted → has_failed (with_call r entries) k ≡ has_failed r k
   failed_kept k lt = ap (λ e. list_any (λ x. (x.number == k) && not (is_success e x.res)) r.ended) (entry_kept k lt)
 
-  behind_kept : (n : ℕ) → n < length r.accepted → is_behind_failure (with_call r entries) n ≡ is_behind_failure r n
-  unfolding is_behind_failure
-  behind_kept n below =
+  after_kept : (n : ℕ) → n < length r.accepted → is_after_failure (with_call r entries) n ≡ is_after_failure r n
+  unfolding is_after_failure
+  after_kept n below =
       some_below_same (λ m. is_joined (with_call r entries) m n && is_soft (entry_of (with_call r entries) m) && has_failed (with_call r entries) m) (λ m. is_joined r m n && is_soft (entry_of r m) && has_failed r m) n
       (λ k lt.
       ap (λ b. b && is_soft (entry_of (with_call r entries) k) && has_failed (with_call r entries) k) (join_kept k n below)
@@ -78,8 +78,8 @@ module _ (r : Requests) (entries : List Sqe) (cut : (length r.accepted ≡ 0) �
       → is_doomed (with_call r entries) n ≡ is_doomed r n
   unfolding is_doomed
   doom_kept n below =
-      ap (λ b. b || is_behind_failure (with_call r entries) n || is_cancelled r n) (member_kept is_faulty n below)
-      ∙ ap (λ b. is_in_faulty_group r n || b || is_cancelled r n) (behind_kept n below)
+      ap (λ b. b || is_after_failure (with_call r entries) n || is_cancelled r n) (member_kept is_faulty n below)
+      ∙ ap (λ b. is_in_faulty_group r n || b || is_cancelled r n) (after_kept n below)
 
   call_free : (n : ℕ) → n < length r.accepted → IsFree r n → IsFree (with_call r entries) n
   call_free n below f = record { spared = doom_kept n below ∙ f.spared; first = λ k lt e. f.first k lt (sym (join_kept k n below) ∙ e) }

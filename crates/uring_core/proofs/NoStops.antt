@@ -1,12 +1,12 @@
--- Behind no entry a call stops in a ring that goes on, and behind no word by the manual pages' rules.
+-- After no entry a call stops in a ring that goes on, and after no word by the manual pages' rules.
 use Rattle.std.proofs.Common.{◌≡◌, Bool, true, false, ◌&&◌, if◌then◌else◌, ap}
 use Rattle.uring_entry.specs.Setup.{Setup}
 use Rattle.uring_entry.specs.Layout.{Sqe}
 use Rattle.uring_entry.specs.Preparation.{is_faulty}
-use Rattle.uring_core.specs.Stops.{stops_linux, stops_behind, stops_at_word}
+use Rattle.uring_core.specs.Stops.{stops_linux, stops_after, stops_at_word}
 
 pub goes_on : (g : Setup) (has_skipped : Bool) (e : Sqe) → g.stops ≡ false
-    → stops_behind g has_skipped e ≡ false
+    → stops_after g has_skipped e ≡ false
 goes_on g has_skipped e goes = by g.linux
   where
     by : (linux : Bool) → (if linux then g.stops && stops_linux has_skipped e else g.stops && is_faulty e) ≡ false

@@ -21,7 +21,7 @@ use Rattle.uring_dispatch.proofs.Counting.{count_below_within}
 abbrev AreFew : World → Type 0
 AreFew w = length w.requests.accepted + positions_of w.submission.call ≤ 2 ^ 63 - 1
 
--- a position is taken, behind which the call stops or not
+-- a position is taken, after which the call stops or not
 few_further : (g : Setup) (w : World) (call : Call) (stops : Bool) → w.submission.call ≡ Some call
     → eqb call.taken call.count ≡ false → IsSoundSubmission g.sq w.submission → AreFew w
     → AreFew (taking_on w stops call)

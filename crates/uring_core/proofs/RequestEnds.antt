@@ -12,9 +12,9 @@ use Rattle.uring_entry.specs.Preparation.{is_faulty, is_cancel, is_cancel_all}
 use Rattle.uring_entry.specs.declared.errno.TheConstants.{EINVAL, EALREADY, ECANCELED}
 use Rattle.uring_entry.specs.Requests.{Requests, entry_of, has_started, has_ended, has_failed, is_running, is_outstanding, is_joined, some_member, is_in_faulty_group, is_cancelled, is_doomed, is_ready, is_candidate, target_of, targets_of, choices_of, count_result, result_for, cancel_result, doomed_result, no_bytes, chosen_by, with_ended, with_issued_end}
 use Rattle.uring_rules.specs.Rules as by_rules
-use Rattle.uring_entry.proofs.RequestLemmas.{is_doomed_faulty, is_doomed_behind, is_doomed_cancelled, one_success, never_success, target_in, list_any_push, all_success}
+use Rattle.uring_entry.proofs.RequestLemmas.{is_doomed_faulty, is_doomed_after, is_doomed_cancelled, one_success, never_success, target_in, list_any_push, all_success}
 use Rattle.uring_core.proofs.ListCounts.{any_looser, any_kept, any_new, count_once_more}
-use Rattle.uring_entry.proofs.EventLemmas.{is_doomed_tells, is_behind_failure_tells, is_behind_failure_from, target_of_tells}
+use Rattle.uring_entry.proofs.EventLemmas.{is_doomed_tells, is_after_failure_tells, is_after_failure_from, target_of_tells}
 use Rattle.uring_core.proofs.SoundRequests.{IsFree, is_otherwise, EndsDoomed, IsSoundRequests, IsSoundManual, outstanding_tells, idle_tells, ready_first}
 use Rattle.uring_core.specs.Events.{Chose}
 
@@ -92,10 +92,10 @@ module _ (r : Requests) (n : ℕ) (res : ℤ) (bytes : List ℕ) (cancelled : Li
   end_doom m doomed =
       elim (is_doomed_tells r m doomed) [
         | inl faulty ↦ is_doomed_faulty (ended_as r n res bytes cancelled) m (end_fault m ∙ faulty)
-        | inr (inl behind) ↦
-            let t = is_behind_failure_tells r m behind in
+        | inr (inl after) ↦
+            let t = is_after_failure_tells r m after in
             let f = t.1 in
-            is_doomed_behind (ended_as r n res bytes cancelled) m (is_behind_failure_from (ended_as r n res bytes cancelled) m t.0 (record { before = f.before; joined = end_join t.0 m ∙ f.joined; soft = f.soft; failed = fail_kept t.0 f.failed }))
+            is_doomed_after (ended_as r n res bytes cancelled) m (is_after_failure_from (ended_as r n res bytes cancelled) m t.0 (record { before = f.before; joined = end_join t.0 m ∙ f.joined; soft = f.soft; failed = fail_kept t.0 f.failed }))
         | inr (inr gone) ↦ is_doomed_cancelled (ended_as r n res bytes cancelled) m (choice.kept m gone)
       ]
 
@@ -104,14 +104,14 @@ module _ (r : Requests) (n : ℕ) (res : ℤ) (bytes : List ℕ) (cancelled : Li
   end_doomed m doomed =
       elim (is_doomed_tells (ended_as r n res bytes cancelled) m doomed) [
         | inl faulty ↦ inl (is_doomed_faulty r m (sym (end_fault m) ∙ faulty))
-        | inr (inl behind) ↦
-            let t = is_behind_failure_tells (ended_as r n res bytes cancelled) m behind in
+        | inr (inl after) ↦
+            let t = is_after_failure_tells (ended_as r n res bytes cancelled) m after in
             let k = t.0 in
             let f = t.1 in
             let joined : is_joined r k m ≡ true = sym (end_join k m) ∙ f.joined in
             elim (cases_eq k n) [
               | inl same ↦ inr (inl (subst (λ j. (j < m) × (is_joined r j m ≡ true)) same (f.before, joined)))
-              | inr differ ↦ inl (is_doomed_behind r m (is_behind_failure_from r m k (record { before = f.before; joined = joined; soft = f.soft; failed = fail_other k differ f.failed })))
+              | inr differ ↦ inl (is_doomed_after r m (is_after_failure_from r m k (record { before = f.before; joined = joined; soft = f.soft; failed = fail_other k differ f.failed })))
             ]
         | inr (inr gone) ↦
             elim (choice.added m gone) [

@@ -87,7 +87,7 @@ waited r n m ready lt waits =
       | inr apart ↦ absurd (both_ways _ apart waits)
     ]
 
--- a request that is ready is behind no member of its group
+-- a request that is ready is after no member of its group
 pub ready_first : (r : Requests) (n : ℕ) → is_ready r n ≡ true → (k : ℕ) → k < n
     → is_joined r k n ≡ true → has_ended r k ≡ true
 ready_first r n ready k lt joined = waited r n k ready lt (or_left _ _ (or_left _ _ joined))

@@ -5,7 +5,7 @@ use Rattle.uring_entry.specs.Setup.{Setup}
 use Rattle.uring_entry.specs.Preparation.{is_cancel, is_cancel_all}
 use Rattle.uring_entry.specs.Requests.{Requests, Ending, entry_of, target_of, is_target}
 use Rattle.uring_linux.specs.LinuxRequests.{asks_to_skip}
-use Rattle.uring_core.specs.Stops.{some_skips, stops_behind, stops_at_word}
+use Rattle.uring_core.specs.Stops.{some_skips, stops_after, stops_at_word}
 use Rattle.uring_core.specs.Histories.{Event}
 use Rattle.uring_core.specs.declared.step.Step.TheVariants as step
 use Rattle.uring_core.specs.declared.answer.Answer.TheVariants as answer
@@ -49,10 +49,10 @@ takes_position (step.Take, answer.Entry entry) = true
 takes_position (step.Take, answer.Dropped) = true
 takes_position _ = false
 
--- whether a call stops behind the position that it takes, if these entries were taken before
+-- whether a call stops after the position that it takes, if these entries were taken before
 abbrev pub takes_last : Setup → List Sqe → Event → Bool
 takes_last g before (step.Take, answer.Entry entry) =
-    stops_behind g (some_skips before || asks_to_skip entry) entry
+    stops_after g (some_skips before || asks_to_skip entry) entry
 takes_last g before (step.Take, answer.Dropped) = stops_at_word g
 takes_last g before _ = false
 

@@ -62,7 +62,7 @@ take_answer_in w (Some call) =
 abbrev pub take_answer : World → Answer
 take_answer w = take_answer_in w w.submission.call
 
--- no call, a call with positions left, or else how many entries are accepted, the words dropped so far with this call's, and the head behind the call
+-- no call, a call with positions left, or else how many entries are accepted, the words dropped so far with this call's, and the head after the call
 abbrev pub end_answer_in : Setup → World → Option Call → Answer
 end_answer_in g w None = answer.NoCall
 end_answer_in g w (Some call) =

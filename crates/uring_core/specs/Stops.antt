@@ -1,4 +1,4 @@
--- Where a submission call ends before all its positions are taken: behind entries in a ring whose calls stop, and behind a bad word by Linux's rules in any ring. io_uring_setup(2), IORING_SETUP_SUBMIT_ALL; what Linux 6.18 was seen to do is told in docs/PROTOCOL.md, By Linux's rules.
+-- Where a submission call ends before all its positions are taken: after entries in a ring whose calls stop, and after a bad word by Linux's rules in any ring. io_uring_setup(2), IORING_SETUP_SUBMIT_ALL; what Linux 6.18 was seen to do is told in docs/PROTOCOL.md, By Linux's rules.
 use Rattle.std.specs.Prelude.{ℕ, ◌+◌, Bool, not, ◌&&◌, ◌||◌, List, take, Option, Some, None, if◌then◌else◌}
 use Rattle.std.specs.List.{list_any}
 use Rattle.uring_entry.specs.Setup.{Setup}
@@ -25,15 +25,15 @@ taken_entries l = entries_of (take (reached l) l.published)
 abbrev pub some_skips : List Sqe → Bool
 some_skips entries = list_any asks_to_skip entries
 
--- whether a call stops behind this entry by Linux's rules, if it or an entry taken before it asks for skipped success, or none does: it has no link flag, and is faulty or a drain that is refused
+-- whether a call stops after this entry by Linux's rules, if it or an entry taken before it asks for skipped success, or none does: it has no link flag, and is faulty or a drain that is refused
 abbrev pub stops_linux : (has_skipped : Bool) → Sqe → Bool
 stops_linux has_skipped e =
     not (is_linked e) && (is_faulty e || (asks_to_drain e && has_skipped))
 
--- whether a call stops behind this entry
-abbrev pub stops_behind : Setup → (has_skipped : Bool) → Sqe → Bool
-stops_behind g has_skipped e = if g.linux then g.stops && stops_linux has_skipped e else stops_at g e
+-- whether a call stops after this entry
+abbrev pub stops_after : Setup → (has_skipped : Bool) → Sqe → Bool
+stops_after g has_skipped e = if g.linux then g.stops && stops_linux has_skipped e else stops_at g e
 
--- whether a call stops behind a word that names no slot, as it does by Linux's rules, also in a ring that goes on
+-- whether a call stops after a word that names no slot, as it does by Linux's rules, also in a ring that goes on
 abbrev pub stops_at_word : Setup → Bool
 stops_at_word g = g.linux

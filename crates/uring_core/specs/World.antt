@@ -8,7 +8,7 @@ use Rattle.uring_entry.specs.Completions.{Completions, no_completion, with_poste
 use Rattle.uring_linux.specs.Drains.{Drains, no_drains}
 use Rattle.uring_linux.specs.LinuxRequests.{LinuxRequests, asks_to_skip}
 use Rattle.uring_rules.specs.Rules.{posts, with_issued_end, drains_called, drains_ended}
-use Rattle.uring_core.specs.Stops.{taken_entries, some_skips, stops_behind, stops_at_word}
+use Rattle.uring_core.specs.Stops.{taken_entries, some_skips, stops_after, stops_at_word}
 use Rattle.uring_core.specs.declared.step.Step.{Step}
 use Rattle.uring_core.specs.declared.step.Step.TheVariants as step
 use Rattle.uring_core.specs.declared.answer.Answer.{Answer}
@@ -50,7 +50,7 @@ abbrev pub beginning : World → ℕ → Answer → World
 beginning w count (answer.Call length) = record w { submission = with_begun w.submission count }
 beginning w count _ = w
 
--- the open call takes a position, and stops behind it or not
+-- the open call takes a position, and stops after it or not
 abbrev pub taking_on : World → (stops : Bool) → Call → World
 taking_on w stops call =
     record w { submission = with_stopped stops (with_taken w.submission call) }
@@ -60,9 +60,9 @@ abbrev pub taking_of : Setup → World → Option Call → World
 taking_of g w None = w
 taking_of g w (Some call) = taking_on w (stops_at_word g) call
 
--- whether the open call stops behind this entry
+-- whether the open call stops after this entry
 abbrev pub stops_there : Setup → Submission → Sqe → Bool
-stops_there g l entry = stops_behind g (some_skips (taken_entries l) || asks_to_skip entry) entry
+stops_there g l entry = stops_after g (some_skips (taken_entries l) || asks_to_skip entry) entry
 
 -- the open call takes this entry
 abbrev pub taking_entry_of : Setup → World → Sqe → Option Call → World

@@ -18,7 +18,7 @@ mod submit;
 use crate::answer::Answer;
 use crate::conversions::{next_answer, reaped};
 use crate::step::Step;
-use crate::stopping::{has_skipped, stop_at_word, stop_behind};
+use crate::stopping::{has_skipped, stop_after, stop_at_word};
 use std::alloc::{AllocError, Global};
 use std::marker::Model;
 pub use submit::NotSubmitted;
@@ -234,7 +234,7 @@ impl Core {
         Answer::from(self.sq.begin(count))
     }
 
-    /// The dispatcher copies the call's next position. A call that stops behind it takes no more.
+    /// The dispatcher copies the call's next position. A call that stops after it takes no more.
     #[inline(always)]
     fn take(&mut self) -> Answer
         ensures setup { self.new.setup ≡ self.old.setup }
@@ -247,7 +247,7 @@ impl Core {
             TakeAnswer::Entry(entry) => {
                 self.held.push_reserved(entry);
                 self.has_skipped = has_skipped(self.has_skipped, &entry);
-                stop_behind(&mut self.sq, self.setup, self.has_skipped, &entry);
+                stop_after(&mut self.sq, self.setup, self.has_skipped, &entry);
             }
             TakeAnswer::Dropped => stop_at_word(&mut self.sq, self.setup),
             _ => {}

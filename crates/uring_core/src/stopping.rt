@@ -4,13 +4,13 @@ ghost use Rattle.uring_linux.specs.LinuxRequests.{asks_to_skip};
 ghost use Rattle.uring_entry.specs.Setup.{Setup};
 ghost use Rattle.uring_entry.specs.Submission.{Submission, with_stopped};
 ghost use Rattle.uring_rings.specs.Sq.{ShowsSubmission};
-ghost use Rattle.uring_core.specs.Stops.{stops_behind, stops_at_word};
+ghost use Rattle.uring_core.specs.Stops.{stops_after, stops_at_word};
 
 use uring_entry::{Setup, Sqe, prepare};
 use uring_linux::{asks_to_drain, asks_to_skip};
 use uring_rings::Sq;
 
-/// Whether an entry that was taken asks for skipped success, behind this one.
+/// Whether an entry that was taken asks for skipped success, after this one.
 pub(crate) fn has_skipped(before: bool, entry: &Sqe) -> bool
     ensures { result ≡ (before || asks_to_skip entry.now) }
 {
@@ -27,15 +27,15 @@ fn stop_if(sq: &mut Sq, stops: bool)
     }
 }
 
-/// Stops the open call, if a call of this set-up stops behind this entry.
-pub(crate) fn stop_behind(sq: &mut Sq, setup: Setup, has_skipped: bool, entry: &Sqe)
+/// Stops the open call, if a call of this set-up stops after this entry.
+pub(crate) fn stop_after(sq: &mut Sq, setup: Setup, has_skipped: bool, entry: &Sqe)
     ensures { (g : Setup) (l : Submission) → ShowsSubmission g sq.old l
-        → ShowsSubmission g sq.new (with_stopped (stops_behind setup has_skipped entry.now) l) }
+        → ShowsSubmission g sq.new (with_stopped (stops_after setup has_skipped entry.now) l) }
 {
-    stop_if(sq, stops_behind(setup, has_skipped, entry));
+    stop_if(sq, stops_after(setup, has_skipped, entry));
 }
 
-/// Stops the open call, if a call of this set-up stops behind a word that names no slot.
+/// Stops the open call, if a call of this set-up stops after a word that names no slot.
 pub(crate) fn stop_at_word(sq: &mut Sq, setup: Setup)
     ensures { (g : Setup) (l : Submission) → ShowsSubmission g sq.old l
         → ShowsSubmission g sq.new (with_stopped (stops_at_word setup) l) }
@@ -43,9 +43,9 @@ pub(crate) fn stop_at_word(sq: &mut Sq, setup: Setup)
     stop_if(sq, setup.is_linux());
 }
 
-/// Whether a call of this set-up stops behind this entry, if it or an entry taken before asks for skipped success, or none does.
-fn stops_behind(setup: Setup, has_skipped: bool, entry: &Sqe) -> bool
-    ensures { result ≡ stops_behind setup has_skipped entry.now }
+/// Whether a call of this set-up stops after this entry, if it or an entry taken before asks for skipped success, or none does.
+fn stops_after(setup: Setup, has_skipped: bool, entry: &Sqe) -> bool
+    ensures { result ≡ stops_after setup has_skipped entry.now }
 {
     if !setup.stops() {
         return false;

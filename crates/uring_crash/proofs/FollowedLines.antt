@@ -36,7 +36,7 @@ nothing_passed left bytes taken passed more all (inl none) =
     all ∙ ap (λ (l : List ℕ). taken ++ l) none ∙ append-nil taken
 nothing_passed left bytes taken passed more all (inr none) = absurd (omega (arith, more, none))
 
--- a byte more behind the last line
+-- a byte more after the last line
 byte_passed : (most left : ℕ) (bytes : List ℕ) (lines : List (List ℕ)) (rest : List ℕ) (b : ℕ) → left ≡ 0
     → TookLines most left bytes lines rest → TookLines most left (bytes ++ b ∷ []) lines rest
 byte_passed most left bytes lines rest b none t = record {
@@ -79,7 +79,7 @@ end_taken most left left' bytes lines rest one t =
       enough = inl refl;
     }
 
--- all that was passed over stands behind so many lines
+-- all that was passed over stands after so many lines
 enough_of : (most left : ℕ) (passed last : List ℕ) (lines : List (List ℕ)) → last ≡ []
     → length lines + left ≡ most → (passed ≡ []) ⊎ (left ≡ 0)
     → (passed ≡ []) ⊎ ((length lines ≡ most) × (last ≡ []))
@@ -211,7 +211,7 @@ follows_line unit setup fd most watch watch' kept kept' left left' was_bad bad b
       watches = watched_more unit setup fd watch watch' was_bad bad f.rest f.exchanges r f.watches;
     }
 
--- the end of the input, behind the end of a line
+-- the end of the input, after the end of a line
 pub followed_none : (unit : ℕ) (setup : Setup) (fd : ℤ) (most : ℕ) (watch : Watch) (kept : KeptLine) (left : ℕ) (bad : Bool) (bytes : List ℕ)
     → ((line : List ℕ) → kept ≡ kept_of line → line ≡ [])
     → Following unit setup fd most watch kept left bad bytes

@@ -1,4 +1,4 @@
--- What a crash behind some line of a trace leaves of a file. Our own rule.
+-- What a crash after some line of a trace leaves of a file. Our own rule.
 use Rattle.std.specs.Prelude.{◌≡◌, ℕ, Bool, true, false, not, ◌&&◌, List, [], ◌++◌, length, Option, is_none, codes}
 use Rattle.std.specs.Fmt.{decimal}
 use Rattle.std.specs.List.{AllByRecursion, list_any}
@@ -24,7 +24,7 @@ abbrev pub image_text : List ℕ → List ℕ
 image_text image =
     ended (codes "len " ++ decimal (length image) ++ codes " data " ++ hex_or_dash image)
 
--- The lines that count of what was read are steps, each with an answer that is called for by the steps before it, remarks and bad lines; an image is written that a crash behind them may leave of the file, with words on its writes. With a bad line nothing is.
+-- The lines that count of what was read are steps, each with an answer that is called for by the steps before it, remarks and bad lines; an image is written that a crash after them may leave of the file, with words on its writes. With a bad line nothing is.
 pub record Leaves (asked : Asked) (setup : Setup) (bad : Bool) (left_before left_after held_before held_after : Option (List ℕ)) : Type 0 where
   pub bytes : List ℕ
   pub consumed : Consumes left_before left_after bytes

@@ -12,5 +12,5 @@ pub record AreFirstLines (most : ℕ) (bytes : List ℕ) (lines : List (List ℕ
   pub splits : Splits taken ended last
   pub are : lines ≡ with_last ended last
   pub few : length lines ≤ most
-  -- something is passed over only behind the end of the last of so many lines
+  -- something is passed over only after the end of the last of so many lines
   pub enough : (passed ≡ []) ⊎ ((length lines ≡ most) × (last ≡ []))

@@ -15,7 +15,7 @@ use Rattle.uring_crash.specs.FirstLines.{AreFirstLines}
 use Rattle.uring_crash.specs.Crashes.{is_bad}
 use Rattle.uring_crash.specs.declared.follower.Follower.{Follower}
 
--- Of these bytes, the lines and the rest of the next one were taken in, and so many lines may still come; behind the last one the bytes are passed over.
+-- Of these bytes, the lines and the rest of the next one were taken in, and so many lines may still come; after the last one the bytes are passed over.
 pub record TookLines (most left : ℕ) (bytes : List ℕ) (lines : List (List ℕ)) (rest : List ℕ) : Type 0 where
   pub taken : List ℕ
   pub passed : List ℕ

@@ -33,7 +33,7 @@ abbrev pub keeps_byte : History → ℕ → ℕ → Bool
 keeps_byte h k byte = not (list_any (may_show_other h k byte) (issued h))
     && (byte == 0 || list_any (is_safe_over h k) (issued h))
 
--- It is plain that each image has these bytes at an offset: a safe write reaches behind them, and each of them is kept.
+-- It is plain that each image has these bytes at an offset: a safe write reaches after them, and each of them is kept.
 pub record IsPlain (h : History) (off : ℕ) (bytes : List ℕ) : Type 0 where
   pub reaches : list_any (is_safe_up_to h (off + length bytes)) (issued h) ≡ true
   pub kept : (j : ℕ) → j < length bytes → keeps_byte h (off + j) (slice_index bytes j) ≡ true

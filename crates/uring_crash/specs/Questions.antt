@@ -1,4 +1,4 @@
--- What is answered to a question of all images that a crash behind some line of a trace may leave. Our own rule.
+-- What is answered to a question of all images that a crash after some line of a trace may leave. Our own rule.
 use Rattle.std.specs.Prelude.{◌≡◌, ◌==◌, ℕ, ◌+◌, ◌-◌, ◌^◌, ◌<◌, ◌≤◌, min, true, false, List, [], ◌∷◌, ◌++◌, length, Option, codes, if◌then◌else◌}
 use Rattle.std.specs.Fmt.{decimal}
 use Rattle.std.specs.List.{AllByRecursion, list_any}
@@ -76,7 +76,7 @@ Replies Count u h reply text = AreCounted u h reply text
 Replies (All most) u h reply text = AreListed most u h reply text
 Replies (Keeps off bytes most) u h reply text = AreKept off bytes.items most u h reply text
 
--- The lines that count of what was read are steps, each with an answer that is called for by the steps before it, remarks and bad lines; the reply to the question is of the images that a crash behind them may leave. With a bad line it says so, and nothing is written.
+-- The lines that count of what was read are steps, each with an answer that is called for by the steps before it, remarks and bad lines; the reply to the question is of the images that a crash after them may leave. With a bad line it says so, and nothing is written.
 pub record Asks (question : Question) (asked : Asked) (setup : Setup) (reply : Reply) (left_before left_after held_before held_after : Option (List ℕ)) : Type 0 where
   pub bytes : List ℕ
   pub consumed : Consumes left_before left_after bytes

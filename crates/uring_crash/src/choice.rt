@@ -77,7 +77,7 @@ pub(crate) fn showing_choice(
     choice
 }
 
-/// Names a write behind others, if it is wanted.
+/// Names a write after others, if it is wanted.
 fn push_if(part: &mut Vec<u64>, write: &Piece, is_wanted: bool) -> Result<(), AllocError> {
     if is_wanted {
         part.push(write.number())?;

@@ -1,4 +1,4 @@
-//! The run of a trace behind which the power fails.
+//! The run of a trace after which the power fails.
 
 ghost use Rattle.std.specs.Prelude.{◌≡◌, ◌<◌, ◌++◌, [], ℕ, ℤ, List, IfOk, OnOk};
 ghost use Rattle.std.specs.Io.KnownBytes.{Appends};
@@ -32,14 +32,14 @@ pub struct Asked {
     /// How many bytes of it a crash leaves by themselves.
     pub unit: u64,
 
-    /// How many lines count; the power fails behind the last of them.
+    /// How many lines count; the power fails after the last of them.
     pub lines: u64,
 
     /// By which seed an image is chosen; without one the least is left, the safe writes alone.
     pub seed: Option<u64>,
 }
 
-/// Reads the lines of a trace from `reader`, makes the steps of the first of them on a new machine of this set-up, and writes to `writer`, once the input has ended, what a crash behind them leaves of a file: a line with its length and its bytes, and a line for each write of the file, in the order in which they began, with its request, where it wrote, whether it is safe, and how many of its bytes stand there.
+/// Reads the lines of a trace from `reader`, makes the steps of the first of them on a new machine of this set-up, and writes to `writer`, once the input has ended, what a crash after them leaves of a file: a line with its length and its bytes, and a line for each write of the file, in the order in which they began, with its request, where it wrote, whether it is safe, and how many of its bytes stand there.
 ///
 /// `Ok` tells whether a line was bad: then nothing is left, and the first such line is noted with its number, from 1 on, on `errors`. A line that is empty or begins with `#` is passed over.
 ///

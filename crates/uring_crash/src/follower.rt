@@ -97,7 +97,7 @@ impl Follower {
         self.read_line()
     }
 
-    /// Takes in one byte. Behind the last of the lines it is passed over.
+    /// Takes in one byte. After the last of the lines it is passed over.
     fn take(&mut self, byte: u8) -> Result<(), AllocError>
         ensures { OnOk result
             ((unit : ℕ) (setup : Setup) (fd : ℤ) (most : ℕ) (before : List ℕ)

@@ -73,8 +73,8 @@ fn push_write(
 
 /// How many bytes of a write stand in an image.
 fn count_there(write: &Piece, image: &[u8]) -> usize {
-    let behind = image.get(write.off() as usize..).unwrap_or_default();
-    behind
+    let after = image.get(write.off() as usize..).unwrap_or_default();
+    after
         .iter()
         .zip(write.bytes())
         .filter(|(found, written)| found == written)

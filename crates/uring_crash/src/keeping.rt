@@ -127,7 +127,7 @@ fn keeps_bytes(events: &[Event], off: u64, bytes: &[u8]) -> bool
     true
 }
 
-/// Whether it is plain that each image has these bytes at an offset: a safe write reaches behind them, and of each of them no write shows another one but under a safe one.
+/// Whether it is plain that each image has these bytes at an offset: a safe write reaches after them, and of each of them no write shows another one but under a safe one.
 pub(crate) fn keeps(events: &[Event], off: u64, bytes: &[u8]) -> bool
     ensures yes { result ≡ true → (unit : ℕ) (now : List ℕ) → 0 < unit
         → IsImage unit [] (reverse events.now) now → Holds off bytes.now now }

@@ -49,9 +49,9 @@ pub enum Reply {
     BadLine,
 }
 
-/// Reads lines as `crash` does, and writes the answer to a question of all images that a crash behind them may leave of the file; the seed is of no account.
+/// Reads lines as `crash` does, and writes the answer to a question of all images that a crash after them may leave of the file; the seed is of no account.
 ///
-/// - How many: `images N`, with ` or more` behind 2^64 - 1.
+/// - How many: `images N`, with ` or more` after 2^64 - 1.
 /// - Which: a line with the length and the bytes of each, in the order in which they were found, and how many.
 /// - Whether each has some bytes: `kept at OFF: HEX`, or else `not kept at OFF: HEX` and an image that hasn't, with its writes, as `crash` writes it.
 ///

@@ -70,7 +70,7 @@ impl Watch {
         answer
     }
 
-    /// The bytes that a crash leaves of the file behind the steps so far, by a choice of numbers: any numbers are a choice.
+    /// The bytes that a crash leaves of the file after the steps so far, by a choice of numbers: any numbers are a choice.
     pub(crate) fn crash(&self, choice: &[u64]) -> Result<Vec<u8>, AllocError>
         ensures { IfOk result (λ now. (unit : ℕ) (setup : Setup) (fd : ℤ) (h : History)
             → Watches unit setup fd self.now h
@@ -79,7 +79,7 @@ impl Watch {
         self.log.crash(choice)
     }
 
-    /// How many images a crash behind the steps so far may leave, 2^64 - 1 if there are as many or more.
+    /// How many images a crash after the steps so far may leave, 2^64 - 1 if there are as many or more.
     pub(crate) fn count_images(&self, alloc: Global) -> Result<u64, AllocError>
         ensures { IfOk result (λ count. (unit : ℕ) (setup : Setup) (fd : ℤ) (h : History)
             → Watches unit setup fd self.now h → (all : List (List ℕ))
@@ -89,7 +89,7 @@ impl Watch {
         self.log.volume().count_images(alloc)
     }
 
-    /// The images that a crash behind the steps so far may leave, each once, if there are no more than `most`.
+    /// The images that a crash after the steps so far may leave, each once, if there are no more than `most`.
     pub(crate) fn images(&self, alloc: Global, most: u32) -> Result<Vec<Vec<u8>>, ImagesError>
         ensures images { IfOk result (λ images. (unit : ℕ) (setup : Setup) (fd : ℤ) (h : History)
             → Watches unit setup fd self.now h

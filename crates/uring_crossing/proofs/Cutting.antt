@@ -24,11 +24,11 @@ cut_next lens values i j from to len within next is ends =
     let rest = drop from values in
     let len_rest : length rest ≡ length values - from = length-drop from values in
     let many : to - from ≡ min len (length rest) = omega (arith, ends, len_rest) in
-    let behind : to ≡ from + min len (length rest) = omega (arith, ends, len_rest) in
+    let after : to ≡ from + min len (length rest) = omega (arith, ends, len_rest) in
     ap (λ ls. cut ls rest) (drop-cons lens i 0 within)
     ∙ ap (λ (k : ℕ). take k rest ∷ cut (drop (suc i) lens) (drop k rest)) (sym is)
     ∙ ap (λ ys. ys ∷ cut (drop (suc i) lens) (drop len rest)) (sym (take_min len rest) ∙ ap (λ (k : ℕ). take k rest) (sym many))
-    ∙ ap (λ ys. take (to - from) rest ∷ cut (drop (suc i) lens) ys) (sym (drop_min len rest) ∙ sym (drop_plus from (min len (length rest)) values) ∙ ap (λ (k : ℕ). drop k values) (sym behind))
+    ∙ ap (λ ys. take (to - from) rest ∷ cut (drop (suc i) lens) ys) (sym (drop_min len rest) ∙ sym (drop_plus from (min len (length rest)) values) ∙ ap (λ (k : ℕ). drop k values) (sym after))
     ∙ ap (λ (k : ℕ). take (to - from) rest ∷ cut (drop k lens) (drop to values)) (sym next)
 
 -- one part more was made

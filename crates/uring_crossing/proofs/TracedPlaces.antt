@@ -61,21 +61,21 @@ abbrev others : List EntryWords → List Step
 others entries = step.StoreTail ∷ step.Begin (length entries) ∷ (map (λ _. step.Take) entries ++ (step.End ∷ []))
 
 -- the steps of a call, as far as its tests are known
-abbrev tested : (is_tail is_begin : Bool) → List EntryWords → (head accepted dropped behind : ℕ) → ℕ → Option Step
-tested is_tail is_begin entries head accepted dropped behind j =
+abbrev tested : (is_tail is_begin : Bool) → List EntryWords → (head accepted dropped after : ℕ) → ℕ → Option Step
+tested is_tail is_begin entries head accepted dropped after j =
     option_map (λ e. e.0) (cond is_tail (Some (step.StoreTail, answer.Tail ((head + length entries) % 2 ^ 32)))
     (cond is_begin (Some (step.Begin (length entries), answer.Call (length entries)))
-    (taken_or_end entries (answer.Taken accepted dropped behind) j)))
+    (taken_or_end entries (answer.Taken accepted dropped after) j)))
 
-calls_at : (entries : List EntryWords) (head accepted dropped behind k : ℕ)
-    → option_map (λ e. e.0) (call_event entries head (answer.Taken accepted dropped behind) k) ≡ slice_get (others entries) k
-calls_at entries head accepted dropped behind zero = refl
-calls_at entries head accepted dropped behind (suc zero) = refl
-calls_at entries head accepted dropped behind (suc (suc j)) =
-    ap (λ b. tested b (suc (suc j) == 1) entries head accepted dropped behind (suc (suc j) - 2)) (let e : (suc (suc j) == 0) ≡ false = grind (arith, common_steps) in e)
-    ∙ ap (λ b. tested false b entries head accepted dropped behind (suc (suc j) - 2)) (let e : (suc (suc j) == 1) ≡ false = grind (arith, common_steps) in e)
-    ∙ ap (λ n. tested false false entries head accepted dropped behind n) (let e : suc (suc j) - 2 ≡ j = omega arith in e)
-    ∙ takes_at entries (nat_lt j accepted) (answer.Taken accepted dropped behind) j
+calls_at : (entries : List EntryWords) (head accepted dropped after k : ℕ)
+    → option_map (λ e. e.0) (call_event entries head (answer.Taken accepted dropped after) k) ≡ slice_get (others entries) k
+calls_at entries head accepted dropped after zero = refl
+calls_at entries head accepted dropped after (suc zero) = refl
+calls_at entries head accepted dropped after (suc (suc j)) =
+    ap (λ b. tested b (suc (suc j) == 1) entries head accepted dropped after (suc (suc j) - 2)) (let e : (suc (suc j) == 0) ≡ false = grind (arith, common_steps) in e)
+    ∙ ap (λ b. tested false b entries head accepted dropped after (suc (suc j) - 2)) (let e : (suc (suc j) == 1) ≡ false = grind (arith, common_steps) in e)
+    ∙ ap (λ n. tested false false entries head accepted dropped after n) (let e : suc (suc j) - 2 ≡ j = omega arith in e)
+    ∙ takes_at entries (nat_lt j accepted) (answer.Taken accepted dropped after) j
 
 -- of an event the step
 put_at : (is_fill : Bool) (slot : ℕ) (entry : Option EntryWords)
@@ -90,22 +90,22 @@ both true x y x' y' first second = first
 both false x y x' y' first second = second
 
 -- a submission, as far as its tests are known
-abbrev sent : (is_long is_first is_put : Bool) → List EntryWords → (head accepted dropped behind put later : ℕ) → Option Step
-sent is_long is_first is_put entries head accepted dropped behind put later =
+abbrev sent : (is_long is_first is_put : Bool) → List EntryWords → (head accepted dropped after put later : ℕ) → Option Step
+sent is_long is_first is_put entries head accepted dropped after put later =
     option_map (λ e. e.0) (cond is_long None (cond is_first (Some (step.LoadHead, answer.Head head))
-    (cond is_put (put_event entries put) (call_event entries head (answer.Taken accepted dropped behind) later))))
+    (cond is_put (put_event entries put) (call_event entries head (answer.Taken accepted dropped after) later))))
 
 pub tells_each_step : TellsEachStep
-tells_each_step entries head accepted dropped behind zero few = grind (arith, common_steps)
-tells_each_step entries head accepted dropped behind (suc p) few =
+tells_each_step entries head accepted dropped after zero few = grind (arith, common_steps)
+tells_each_step entries head accepted dropped after (suc p) few =
     let n : ℕ = 2 * length entries in
-    ap (λ b. sent b (suc p == 0) (nat_le (suc p) n) entries head accepted dropped behind (suc p - 1) (suc p - (n + 1))) (let e : nat_lt 4096 (length entries) ≡ false = grind (arith, common_steps, few) in e)
-    ∙ ap (λ b. sent false b (nat_le (suc p) n) entries head accepted dropped behind (suc p - 1) (suc p - (n + 1))) (let e : (suc p == 0) ≡ false = grind (arith, common_steps) in e)
-    ∙ ap (λ b. sent false false b entries head accepted dropped behind (suc p - 1) (suc p - (n + 1))) (let e : nat_le (suc p) n ≡ nat_lt p n = grind (arith, common_steps) in e)
-    ∙ ap (λ k. sent false false (nat_lt p n) entries head accepted dropped behind k (suc p - (n + 1))) (let e : suc p - 1 ≡ p = omega arith in e)
-    ∙ ap (λ k. sent false false (nat_lt p n) entries head accepted dropped behind p k) (let e : suc p - (n + 1) ≡ p - n = omega arith in e)
-    ∙ both (nat_lt p n) (put_event entries p) (call_event entries head (answer.Taken accepted dropped behind) (p - n))
+    ap (λ b. sent b (suc p == 0) (nat_le (suc p) n) entries head accepted dropped after (suc p - 1) (suc p - (n + 1))) (let e : nat_lt 4096 (length entries) ≡ false = grind (arith, common_steps, few) in e)
+    ∙ ap (λ b. sent false b (nat_le (suc p) n) entries head accepted dropped after (suc p - 1) (suc p - (n + 1))) (let e : (suc p == 0) ≡ false = grind (arith, common_steps) in e)
+    ∙ ap (λ b. sent false false b entries head accepted dropped after (suc p - 1) (suc p - (n + 1))) (let e : nat_le (suc p) n ≡ nat_lt p n = grind (arith, common_steps) in e)
+    ∙ ap (λ k. sent false false (nat_lt p n) entries head accepted dropped after k (suc p - (n + 1))) (let e : suc p - 1 ≡ p = omega arith in e)
+    ∙ ap (λ k. sent false false (nat_lt p n) entries head accepted dropped after p k) (let e : suc p - (n + 1) ≡ p - n = omega arith in e)
+    ∙ both (nat_lt p n) (put_event entries p) (call_event entries head (answer.Taken accepted dropped after) (p - n))
     (cond (p % 2 == 0) (fill (p / 2) (slice_get entries (p / 2))) (Some (step.Index (p / 2)))) (slice_get (others entries) (p - n))
-    (put_at (p % 2 == 0) (p / 2) (slice_get entries (p / 2))) (calls_at entries head accepted dropped behind (p - n))
+    (put_at (p % 2 == 0) (p / 2) (slice_get entries (p / 2))) (calls_at entries head accepted dropped after (p - n))
     ∙ ap (λ s. pick (nat_lt p n) (p % 2 == 0) s (slice_get entries (p / 2)) (slice_get (others entries) (p - n))) (let e : p / 2 ≡ 0 + p / 2 = omega arith in e)
     ∙ sym (puts_at 0 entries (others entries) p)

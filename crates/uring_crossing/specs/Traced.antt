@@ -33,10 +33,10 @@ begun count (answer.Taken _ _ _) = answer.Call count
 begun count refusal = refusal
 
 -- each entry is taken, as far as the call goes which a ring may stop, and after the last one the call is closed
-abbrev pub take_or_close : Option EntryWords → (is_accepted is_behind : Bool) → Answer → Option Event
-take_or_close (Some entry) is_accepted is_behind end =
+abbrev pub take_or_close : Option EntryWords → (is_accepted is_after : Bool) → Answer → Option Event
+take_or_close (Some entry) is_accepted is_after end =
     Some (step.Take, if is_accepted then answer.Entry entry.words else answer.NoMore)
-take_or_close None is_accepted is_behind end = if is_behind then Some (step.End, end) else None
+take_or_close None is_accepted is_after end = if is_after then Some (step.End, end) else None
 
 -- of a call that was refused nothing is
 abbrev pub taken_or_end : List EntryWords → Answer → ℕ → Option Event
@@ -60,11 +60,11 @@ submitted_event entries head end place =
     call_event entries head end (place - (2 * length entries + 1))
 
 -- Completions that are reaped at once: the tail is loaded, each is reaped, and the head is stored.
-abbrev pub reap_or_store : Option CompletionWords → (is_behind : Bool) → ℕ → Option Event
-reap_or_store (Some c) is_behind head =
+abbrev pub reap_or_store : Option CompletionWords → (is_after : Bool) → ℕ → Option Event
+reap_or_store (Some c) is_after head =
     Some (step.Reap, answer.Reaped (record { user_data = c.user_data; res = c.res; payload = c.bytes }))
-reap_or_store None is_behind head =
-    if is_behind then Some (step.StoreCqHead, answer.Head head) else None
+reap_or_store None is_after head =
+    if is_after then Some (step.StoreCqHead, answer.Head head) else None
 
 abbrev pub reaped_event : List CompletionWords → (tail head place : ℕ) → Option Event
 reaped_event completions tail head place =
@@ -94,8 +94,8 @@ NamesTheSteps = (g : Setup) (entries : List EntryWords) (end : Answer) (h : Hist
 
 -- and those that are told of it, each at its place
 abbrev pub TellsEachStep : Type 0
-TellsEachStep = (entries : List EntryWords) (head accepted dropped behind place : ℕ) → length entries ≤ 4096
-    → option_map (λ e. e.0) (submitted_event entries head (answer.Taken accepted dropped behind) place)
+TellsEachStep = (entries : List EntryWords) (head accepted dropped left place : ℕ) → length entries ≤ 4096
+    → option_map (λ e. e.0) (submitted_event entries head (answer.Taken accepted dropped left) place)
     ≡ slice_get (call_steps entries) place
 
 -- What C is told.

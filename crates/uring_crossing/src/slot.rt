@@ -1,4 +1,4 @@
-//! What lies behind a C program's handle.
+//! What a C program's handle stands for.
 ghost use Rattle.std.specs.Prelude.{◌≡◌, Option, Some, None, IsSome};
 ghost use Rattle.uring_crossing.specs.Slots.{Held, slot_owns, held_coded, a_core, a_machine, a_volume, a_crash_machine, some_outcomes, core_of, machine_of, volume_of, crash_machine_of, outcomes_of};
 

@@ -7,7 +7,7 @@ use Rattle.uring_dispatch.specs.declared.group.Group.{Group}
 use Rattle.uring_dispatch.specs.declared.group.Barrier.{Barrier}
 use Rattle.uring_dispatch.specs.Groups.{drain_of, covers, IsSorted, IsBeyond}
 
--- every barrier behind the first has no smaller number
+-- every barrier after the first has no smaller number
 covered_above : (b : Barrier) (rest : List Barrier) (key number : ℕ)
     → list_all (λ c. ltb b.number c.number) rest ≡ true → list_any (covers key number) rest ≡ true
     → b.number ≤ number

@@ -11,7 +11,7 @@ use Rattle.uring_entry.specs.Layout.{Sqe, addr_of, user_data_of}
 use Rattle.uring_entry.specs.Preparation.{is_cancel, is_cancel_all}
 use Rattle.uring_entry.specs.Success.{is_success}
 use Rattle.uring_entry.specs.Below.{all_below}
-use Rattle.uring_entry.specs.Requests.{Requests, entry_of, is_joined, some_member, is_in_faulty_group, is_behind_failure, is_cancelled, is_doomed, is_running, is_outstanding, is_target, target_of, targets_of, choices_of, count_result, chosen_by, cancel_result, result_for, no_bytes, with_cancelled, with_ended, with_issued_end}
+use Rattle.uring_entry.specs.Requests.{Requests, entry_of, is_joined, some_member, is_in_faulty_group, is_after_failure, is_cancelled, is_doomed, is_running, is_outstanding, is_target, target_of, targets_of, choices_of, count_result, chosen_by, cancel_result, result_for, no_bytes, with_cancelled, with_ended, with_issued_end}
 use Rattle.uring_entry.proofs.BelowLemmas.{all_below_past, all_below_none}
 use Rattle.uring_entry.proofs.RequestLemmas.{one_success, all_success, never_success}
 use Rattle.uring_dispatch.specs.declared.request.Request.{Request}
@@ -161,9 +161,9 @@ result_some r m o b e runs =
 -- who isn't among those chosen stays as it was
 doomed_still : (r : Requests) (these : List ℕ) (m : ℕ) → list_any (λ k. k == m) these ≡ false
     → is_doomed (with_cancelled r these) m ≡ is_doomed r m
-unfolding is_doomed is_behind_failure some_member is_joined
+unfolding is_doomed is_after_failure some_member is_joined
 doomed_still r these m out =
-    ap (λ b. (is_in_faulty_group r m || is_behind_failure r m) || b)
+    ap (λ b. (is_in_faulty_group r m || is_after_failure r m) || b)
     (list_any-append (λ k. k == m) r.cancelled these ∙ ap (λ b. is_cancelled r m || b) out ∙ or-false (is_cancelled r m))
 
 -- whether the next is a target doesn't depend on the targets before it

@@ -68,7 +68,7 @@ count_below_past p n (suc m) le none =
           omega arith
     ]
 
--- a count goes on behind a number
+-- a count goes on after a number
 pub count_below_apart : (p : ℕ → Bool) (n k : ℕ)
     → count_below p (n + k) ≡ count_below p n + count_below (λ i. p (n + i)) k
 count_below_apart p n zero = let same : n + 0 ≡ n = omega arith in ap (count_below p) same ∙ omega arith
@@ -118,7 +118,7 @@ get_last : (xs : List ℕ) (x : ℕ) → slice_get (xs ++ x ∷ []) (length xs) 
 get_last [] x = refl
 get_last (y ∷ xs) x = get_last xs x
 
--- a number that is counted stands behind those before it
+-- a number that is counted stands after those before it
 pub get_all_below : (p : ℕ → Bool) (n m : ℕ) → m < n → p m ≡ true
     → slice_get (all_below p n) (count_below p m) ≡ Some m
 get_all_below p zero m lt e = absurd (omega arith)

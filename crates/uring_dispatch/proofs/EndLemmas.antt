@@ -157,7 +157,7 @@ end_sound_more w v g h n request q p least s e next more from end is beyond clos
                   over = λ m high under.
                       elim (cases_lt m q.least) [
                         | inl before ↦ ap is_some (gone_stays w v n m e.changes (vacant w m (kept.over m (omega arith) before)))
-                        | inr behind ↦ ap is_some (next.over m behind (omega arith))
+                        | inr after ↦ ap is_some (next.over m after (omega arith))
                       ];
                   here = ap (λ m. is_some (at v m)) is ∙ next.here low;
                 })

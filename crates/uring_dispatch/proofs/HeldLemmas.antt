@@ -6,7 +6,7 @@ use Rattle.std.proofs.lemmas.Option.{same_Some}
 use Rattle.uring_entry.specs.Requests.{Requests, entry_of, has_started, has_ended, is_outstanding, is_running, is_cancelled, is_draining, is_doomed, is_ready, is_issuable, is_candidate}
 use Rattle.uring_entry.specs.Layout.{user_data_of, addr_of}
 use Rattle.uring_entry.specs.Groups.{is_before, first_broken}
-use Rattle.uring_entry.proofs.GroupLemmas.{draining_is, doomed_is, ready_yes, ready_not_member, ready_not_alone, ready_not_behind, groups_apart, first_member_inside}
+use Rattle.uring_entry.proofs.GroupLemmas.{draining_is, doomed_is, ready_yes, ready_not_member, ready_not_alone, ready_not_after, groups_apart, first_member_inside}
 use Rattle.uring_entry.proofs.BelowLemmas.{is_some_value}
 use Rattle.uring_dispatch.specs.declared.request.Request.{Request}
 use Rattle.uring_dispatch.specs.declared.group.Group.{Group}
@@ -123,10 +123,10 @@ not_least w g r n request q s h e is ne =
     ready_not_member r q.from q.end n q.least i.shown.group i.to kept.from low (least_open w g r request.group q s h is)
 
 -- A request waits if a kept group, this one, drains from a number before its group on.
-behind_group : (w : Window) (g : Groups) (r : Requests) (n : ℕ) (request : Request) (q : Group) (key number : ℕ) (p : Group)
+after_group : (w : Window) (g : Groups) (r : Requests) (n : ℕ) (request : Request) (q : Group) (key number : ℕ) (p : Group)
     → IsSound w g → AreHeld w g r → at w n ≡ Some request → group_at g request.group ≡ Some q
     → group_at g key ≡ Some p → p.drain ≡ Some number → number < q.from → is_ready r n ≡ false
-behind_group w g r n request q key number p s h e is found drains before =
+after_group w g r n request q key number p s h e is found drains before =
     let i = in_group w g r n request q s h e is in
     let kept = s.kept key p found in
     let shown = h.groups key p found in
@@ -138,16 +138,16 @@ behind_group w g r n request q key number p s h e is found drains before =
     ]
     in
     let from = i.from in
-    ready_not_behind r n p.least (omega arith) (least_open w g r key p s h found)
+    ready_not_after r n p.least (omega arith) (least_open w g r key p s h found)
     (draining_is r p.from p.end p.least shown.group kept.from kept.to ∙ ap is_some (sym shown.drain ∙ drains))
 
 -- A group that drains from a number before this group on has an outstanding member before it.
-pub behind_barrier : (w : Window) (g : Groups) (r : Requests) (n : ℕ) (request : Request) (q : Group)
+pub after_barrier : (w : Window) (g : Groups) (r : Requests) (n : ℕ) (request : Request) (q : Group)
     → IsSound w g → AreHeld w g r → at w n ≡ Some request → group_at g request.group ≡ Some q
     → HasBarrierBefore g q.from → is_ready r n ≡ false
-behind_barrier w g r n request q s h e is b =
+after_barrier w g r n request q s h e is b =
     let other = drain-group (group_at g b.key) b.number b.drains in
-    behind_group w g r n request q b.key b.number other.0 s h e is other.1 other.2 b.before
+    after_group w g r n request q b.key b.number other.0 s h e is other.1 other.2 b.before
   where
     drain-group : (o : Option Group) (d : ℕ) → drain_of o ≡ Some d → (p : Group) × (o ≡ Some p) × (p.drain ≡ Some d)
     drain-group None d e = let f : None ≡ Some d = e in cc

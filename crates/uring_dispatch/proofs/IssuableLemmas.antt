@@ -19,7 +19,7 @@ use Rattle.uring_dispatch.specs.Issuable.{issuables_of, issuable_from}
 use Rattle.uring_dispatch.specs.Limits.{lesser_of, can_go, IsLimit, IsLeastBelow}
 use Rattle.uring_dispatch.proofs.Counting.{count_below_zero, count_below_past, count_below_same, length_all_below, get_all_below}
 use Rattle.uring_dispatch.proofs.WindowFront.{at_past}
-use Rattle.uring_dispatch.proofs.HeldLemmas.{some_none, shown_within, in_group, doomed_held, not_least, not_alone, ready_held, behind_barrier, outstanding_none, issuable_some, linked}
+use Rattle.uring_dispatch.proofs.HeldLemmas.{some_none, shown_within, in_group, doomed_held, not_least, not_alone, ready_held, after_barrier, outstanding_none, issuable_some, linked}
 
 -- The lesser of two.
 
@@ -34,7 +34,7 @@ least_is p n m lt is least =
       | inr fails ↦ fails
     ]))
 
--- the lesser of what two searches found is the least, if each number that is looked for is found by one of them or lies behind
+-- the lesser of what two searches found is the least, if each number that is looked for is found by one of them or lies after
 pub lesser_least : (p : ℕ → Bool) (n : ℕ) (a b : Option ℕ)
     → ((m : ℕ) → a ≡ Some m → (m < n) × (p m ≡ true))
     → ((m : ℕ) → b ≡ Some m → (m < n) × (p m ≡ true))
@@ -119,11 +119,11 @@ can_go_is w g r s limit n sound h l limits = go (at w n) refl
 
 -- The limit.
 
--- a request behind a kept group is of a group that begins behind it
-group_behind : (w : Window) (g : Groups) (r : Requests) (n : ℕ) (q : Request) (p : Group) (key : ℕ) (b : Group)
+-- a request after a kept group is of a group that begins after it
+group_after : (w : Window) (g : Groups) (r : Requests) (n : ℕ) (q : Request) (p : Group) (key : ℕ) (b : Group)
     → IsSound w g → AreHeld w g r → at w n ≡ Some q → group_at g q.group ≡ Some p
     → group_at g key ≡ Some b → b.end ≤ n → b.end ≤ p.from
-group_behind w g r n q p key b s h there found here behind =
+group_after w g r n q p key b s h there found here after =
     let i = in_group w g r n q p s h there found in
     let kept = s.kept key b here in
     let shown = h.groups key b here in
@@ -160,14 +160,14 @@ first_inside w g r b h f =
     let member = first_member_inside _ b.from b.end f.number (sym shown.drain ∙ f.drains) in
     (member.0, member.1)
 
--- no request behind the first group that drains may start
-behind_first : (w : Window) (g : Groups) (r : Requests) (n : ℕ) (q : Request) (p b : Group)
+-- no request after the first group that drains may start
+after_first : (w : Window) (g : Groups) (r : Requests) (n : ℕ) (q : Request) (p b : Group)
     → IsSound w g → AreHeld w g r → at w n ≡ Some q → group_at g q.group ≡ Some p
     → IsFirstDraining g b → b.end ≤ n → is_ready r n ≡ false
-behind_first w g r n q p b s h there found f behind =
+after_first w g r n q p b s h there found f after =
     let inside = first_inside w g r b h f in
-    let apart = group_behind w g r n q p f.key b s h there found f.here behind in
-    behind_barrier w g r n q p s h there found
+    let apart = group_after w g r n q p f.key b s h there found f.here after in
+    after_barrier w g r n q p s h there found
     (record { key = f.key; number = f.number; drains = ap drain_of f.here ∙ f.drains; before = omega (arith, inside.1) })
 
 -- no group drains
@@ -203,7 +203,7 @@ limit_begins w g r b s h f before n q p there found least =
             | inl here ↦
                 let same = group_same w g n q p f.key b s there found f.here high here in
                 not_alone w g r n q b s h there (found ∙ ap Some same) (ap is_some f.drains) before
-            | inr past ↦ behind_first w g r n q p b s h there found f past
+            | inr past ↦ after_first w g r n q p b s h there found f past
           ]
           ∙ sym (le-ltb n b.from high)
     ]
@@ -224,7 +224,7 @@ limit_ends w g r b s h f alone n q p there found least =
                 (λ drains. alone)
                 ∙ sym (lt-ltb n b.end here)
           ]
-      | inr past ↦ behind_first w g r n q p b s h there found f past ∙ sym (le-ltb n b.end past)
+      | inr past ↦ after_first w g r n q p b s h there found f past ∙ sym (le-ltb n b.end past)
     ]
 
 -- The next from one number on.
@@ -233,8 +233,8 @@ issuable_within : (r : Requests) (k : ℕ) → is_issuable r k ≡ true → k < 
 issuable_within r k e =
     ltb-true k (length r.accepted) (and_parts _ _ (and_parts _ _ (and_parts _ _ e).0).0).0
 
-behind : (s : NumberSet) (from n k : ℕ) → IsLeastFrom s from n → from ≤ k → holds s k ≡ true → n ≤ k
-behind s from n k least le told =
+after : (s : NumberSet) (from n k : ℕ) → IsLeastFrom s from n → from ≤ k → holds s k ≡ true → n ≤ k
+after s from n k least le told =
     elim (cases_lt k n) [ inl low ↦ absurd (both_ways _ (least.before k le low) told) | inr high ↦ high ]
 
 pub next_is : (w : Window) (g : Groups) (r : Requests) (s : Waiting) (n limit : ℕ) (a b : Option ℕ)
@@ -273,11 +273,11 @@ next_is w g r s n limit a b sound h l limits doomed head =
 
     lost-before : (k : ℕ) (o : Option ℕ) → n ≤ k → MatchOption o ((j : ℕ) → n ≤ j → holds s.doomed j ≡ false) (IsLeastFrom s.doomed n) → holds s.doomed k ≡ true → (m : ℕ) × (o ≡ Some m) × (m ≤ k)
     lost-before k None le d told = absurd (both_ways _ (d k le) told)
-    lost-before k (Some x) le d told = (x, refl, behind s.doomed n x k d le told)
+    lost-before k (Some x) le d told = (x, refl, after s.doomed n x k d le told)
 
     first-before : (k : ℕ) (o : Option ℕ) → n ≤ k → MatchOption o ((j : ℕ) → n ≤ j → j < limit → holds s.heads j ≡ false) (IsLeastBelow s.heads n limit) → holds s.heads k ≡ true → k < limit → (m : ℕ) × (o ≡ Some m) × (m ≤ k)
     first-before k None le d told low = absurd (both_ways _ (d k le low) told)
-    first-before k (Some x) le d told low = (x, refl, behind s.heads n x k d.least le told)
+    first-before k (Some x) le d told low = (x, refl, after s.heads n x k d.least le told)
 
 -- All of them, counted by the blocks of 64.
 
@@ -307,7 +307,7 @@ nth_is w g r s limit n k sound h l limits told counted =
     sym (get_all_below (is_issuable r) (length r.accepted) n (issuable_within r n is) is)
     ∙ ap (slice_get (issuables_of r)) (sym before ∙ counted)
 
--- there is none behind all of them
+-- there is none after all of them
 pub nth_past : (r : Requests) (k : ℕ) → length (issuables_of r) ≤ k
     → None ≡ slice_get (issuables_of r) k
 nth_past r k le = sym (slice_get_past (issuables_of r) k le)

@@ -116,7 +116,7 @@ told_before w v g h s k t b = record {
   doomed = t.doomed ∙ sym b.doomed;
 }
 
--- an end that fails changes who is behind a failure only among those behind it that weren't
+-- an end that fails changes who is after a failure only among those after it that weren't
 pub before_earlier : (o : Option ℕ) (b : Bool) (n k : ℕ)
     → (b ≡ true → (k < n) ⊎ (is_before o k ≡ true)) → is_before (earlier_of o b n) k ≡ is_before o k
 before_earlier None false n k h = refl
@@ -196,7 +196,7 @@ pub stands_ended_more : (w v : Window) (g h : Groups) (n : ℕ) (request : Reque
     → p.least ≡ least → p.fault ≡ q.fault → p.broken ≡ earlier_of q.broken breaks n
     → (breaks ≡ true → k < q.end → (k < n) ⊎ (is_before q.broken k ≡ true)) → k ≢ n → k ≢ least
     → StandsAsBefore w v g h k
-stands_ended_more w v g h n request q p least k breaks s e next is_least fault broken behind ne_n ne_least =
+stands_ended_more w v g h n request q p least k breaks s e next is_least fault broken after ne_n ne_least =
     go (at w k) refl
   where
     same : at v k ≡ at w k
@@ -227,7 +227,7 @@ stands_ended_more w v g h n request q p least k breaks s e next is_least fault b
               (ne_eqb p.least k (λ z. ne_least (sym z ∙ is_least)) ∙ sym (ne_eqb q.least k led))
               (ap (λ f. is_some f || is_before p.broken k) fault
               ∙ ap (λ b. is_some q.fault || is_before b k) broken
-              ∙ ap (λ b. is_some q.fault || b) (before_earlier q.broken breaks n k (λ t. behind t to)))
+              ∙ ap (λ b. is_some q.fault || b) (before_earlier q.broken breaks n k (λ t. after t to)))
         ]
 
 -- What is covered.
@@ -253,18 +253,18 @@ pub tell_outstanding : (w : Window) (g : Groups) (s : Waiting) (n : ℕ) → IsL
 tell_outstanding w g s n l there =
     record { heads = covers_outstanding w s.heads n l.heads there; doomed = covers_outstanding w s.doomed n l.doomed there }
 
-covers_behind : (w : Window) (s : NumberSet) (n k : ℕ) → Reaches w s → is_some (at w n) ≡ true
+covers_after : (w : Window) (s : NumberSet) (n k : ℕ) → Reaches w s → is_some (at w n) ≡ true
     → n ≤ k → k < end_of w → Covers s k
-covers_behind w s n k r there from to =
+covers_after w s n k r there from to =
     let low = r.low n there in
     let stop = r.stop in
     record { from = omega arith; to = omega arith }
 
--- and of one behind it
-pub tell_behind : (w : Window) (g : Groups) (s : Waiting) (n k : ℕ) → IsListed w g s
+-- and of one after it
+pub tell_after : (w : Window) (g : Groups) (s : Waiting) (n k : ℕ) → IsListed w g s
     → is_some (at w n) ≡ true → n ≤ k → k < end_of w → CanTell s k
-tell_behind w g s n k l there from to =
-    record { heads = covers_behind w s.heads n k l.heads there from to; doomed = covers_behind w s.doomed n k l.doomed there from to }
+tell_after w g s n k l there from to =
+    record { heads = covers_after w s.heads n k l.heads there from to; doomed = covers_after w s.doomed n k l.doomed there from to }
 
 -- fewer requests are outstanding
 pub reaches_fewer : (w v : Window) (s t : NumberSet) → Reaches w s → end_of v ≡ end_of w

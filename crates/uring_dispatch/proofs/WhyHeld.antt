@@ -75,11 +75,11 @@ doom_member w g r n request q m s h e is right found =
     ap (λ o. first_doom o (faulty_member_of r n) (failed_member_of r n)) right
     ∙ ap (λ o. first_doom None o (failed_member_of r n)) (faulty_member_is r q.from q.end n i.shown.group i.from i.to ∙ sym i.shown.fault ∙ found)
 
-doom_behind : (w : Window) (g : Groups) (r : Requests) (n : ℕ) (request : Request) (q : Group) (o : Option ℕ)
+doom_after : (w : Window) (g : Groups) (r : Requests) (n : ℕ) (request : Request) (q : Group) (o : Option ℕ)
     → IsSound w g → AreHeld w g r → at w n ≡ Some request → group_at g request.group ≡ Some q
     → fault_of (entry_of r n) ≡ None → q.fault ≡ None → failed_member_of r n ≡ o
     → doom_of r n ≡ first_doom None None o
-doom_behind w g r n request q o s h e is right none failed =
+doom_after w g r n request q o s h e is right none failed =
     let i = in_group w g r n request q s h e is in
     ap (λ x. first_doom x (faulty_member_of r n) (failed_member_of r n)) right
     ∙ ap (λ x. first_doom None x (failed_member_of r n)) (faulty_member_is r q.from q.end n i.shown.group i.from i.to ∙ sym i.shown.fault ∙ none)
@@ -91,7 +91,7 @@ pub doom_failed : (w : Window) (g : Groups) (r : Requests) (n : ℕ) (request : 
     → doom_of r n ≡ FailureOf m
 doom_failed w g r n request q m s h e is right none found low =
     let i = in_group w g r n request q s h e is in
-    doom_behind w g r n request q (Some m) s h e is right none
+    doom_after w g r n request q (Some m) s h e is right none
     (failed_member_before r q.from q.end n m i.shown.group i.from i.to (sym i.shown.broken ∙ found) low)
 
 pub doom_else : (w : Window) (g : Groups) (r : Requests) (n : ℕ) (request : Request) (q : Group)
@@ -100,7 +100,7 @@ pub doom_else : (w : Window) (g : Groups) (r : Requests) (n : ℕ) (request : Re
     → doom_of r n ≡ Cancel
 doom_else w g r n request q s h e is right none past =
     let i = in_group w g r n request q s h e is in
-    doom_behind w g r n request q None s h e is right none
+    doom_after w g r n request q None s h e is right none
     (failed_member_none r q.from q.end n i.shown.group i.from i.to (ap (λ o. is_before o n) (sym i.shown.broken) ∙ past))
 
 -- a kept request that doesn't run
@@ -138,7 +138,7 @@ early_free w g r n k from end request q s h there found plain group low le free 
     go None e = let i = (in_group w g r n request q s h there found).from in gone_free w g r n k request s h there (omega arith) e
     go (Some other) e =
         let i = in_group w g r n request q s h there found in
-        let behind = i.from in
+        let after = i.from in
         let link = linked _ _ k other s e in
         let shown = h.groups other.group link.group link.found in
         let joined : is_joined r k n ≡ false = joined_member r q.from q.end k n i.shown.group i.from i.to (omega arith) ∙ lt-leb q.from k (omega arith) in

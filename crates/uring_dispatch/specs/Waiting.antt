@@ -33,7 +33,7 @@ pub record IsListedAt (w : Window) (g : Groups) (s : Waiting) (n : ℕ) : Type 0
   pub head : holds s.heads n ≡ waits_at_head g (at w n) n
   pub doomed : holds s.doomed n ≡ waits_doomed g (at w n) n
 
--- A set covers the outstanding requests, and may go on behind the last, by 63 numbers at most.
+-- A set covers the outstanding requests, and may go on after the last, by 63 numbers at most.
 pub record Reaches (w : Window) (s : NumberSet) : Type 0 where
   pub start : start_of s ≤ end_of w
   pub stop : end_of w ≤ stop_of s
@@ -73,13 +73,13 @@ pub record HasMemory (old new : Waiting) : Type 0 where
   pub heads : old.heads.limit ≤ new.heads.limit
   pub doomed : old.doomed.limit ≤ new.doomed.limit
 
--- The set can cover n, the number behind those that are covered, or covers it.
+-- The set can cover n, the number after those that are covered, or covers it.
 pub record CanGrow (s : NumberSet) (n : ℕ) : Type 0 where
   pub start : start_of s ≤ n
   pub stop : n ≤ stop_of s
   pub room : n < s.limit
 
--- n is covered, and no more is missing than before; behind what was covered, only the 64 numbers round n are
+-- n is covered, and no more is missing than before; after what was covered, only the 64 numbers round n are
 pub record GrowsTo (old new : NumberSet) (n : ℕ) : Type 0 where
   pub start : start_of new ≡ start_of old
   pub longer : stop_of old ≤ stop_of new

@@ -25,7 +25,7 @@ found_by requests (Some key) = slice_index_or requests key None
 unfoldable pub at : Window → ℕ → Option Request
 at w n = found_by w.requests (key_at w.first w.keys n)
 
--- the number behind the last request
+-- the number after the last request
 abbrev pub end_of : Window → ℕ
 end_of w = w.first + length w.keys
 

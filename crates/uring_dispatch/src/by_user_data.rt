@@ -27,7 +27,7 @@ pub(crate) struct Span {
 /// Between which numbers the requests with the same user data are.
 #[derive(Drop)]
 pub(crate) struct ByUserData {
-    // The number behind the last that was looked at.
+    // The number after the last that was looked at.
     pub(crate) stop: u64,
     pub(crate) ends: HashMap<u64, Ends>,
     ghost few: { hash_map_len ends ≤ stop },
@@ -105,7 +105,7 @@ impl ByUserData {
         }
     }
 
-    /// Looks at the number `n`, the one behind the last that was looked at.
+    /// Looks at the number `n`, the one after the last that was looked at.
     fn look_at(&mut self, window: &Window, n: u64)
         requires found { AreFound window.now self.old }
         requires next { self.old.stop ≡ n }

@@ -192,7 +192,7 @@ impl Dispatch {
         self.next_issuable(0)
     }
 
-    /// The least request from `n` on, any number, that `issue` doesn't refuse, if there is one: so all of them, in order, from 0 on, each time from the number behind the last. It looks once at each 4,096 numbers that it passes. Our own rule.
+    /// The least request from `n` on, any number, that `issue` doesn't refuse, if there is one: so all of them, in order, from 0 on, each time from the number after the last. It looks once at each 4,096 numbers that it passes. Our own rule.
     pub fn next_issuable(&self, n: u64) -> Option<u64>
         requires { IsTrue self.now.is_between_calls }
         ensures { (r : Requests) → ShowsRequests self.now r → result ≡ issuable_from r n }

@@ -188,7 +188,7 @@ impl Grouped {
             };
         }
         let is_break = breaks(&request, is_success);
-        let doomed_end = behind_failure(group, is_break, n);
+        let doomed_end = after_failure(group, is_break, n);
         let broken = earlier_of(group.broken, is_break, n);
         let left = Group {
             least,
@@ -203,8 +203,8 @@ impl Grouped {
     }
 }
 
-/// The number behind the members that the failure of member `n` may doom anew, or `n` if it didn't fail.
-fn behind_failure(group: &Group, is_break: bool, n: u64) -> u64
+/// The number after the members that the failure of member `n` may doom anew, or `n` if it didn't fail.
+fn after_failure(group: &Group, is_break: bool, n: u64) -> u64
     requires { n < group.now.end }
     ensures within { result ≤ group.now.end }
     ensures doomed { is_break ≡ true → (k : ℕ) → result ≤ k → k < group.now.end
@@ -219,7 +219,7 @@ fn behind_failure(group: &Group, is_break: bool, n: u64) -> u64
     }
 }
 
-/// The least outstanding member of a group of which member `n` has ended, or else the number behind its last member.
+/// The least outstanding member of a group of which member `n` has ended, or else the number after its last member.
 fn least_left(window: &Window, group: &Group, n: u64) -> u64
     requires from { group.now.least ≤ n }
     requires to { n < group.now.end }
@@ -246,7 +246,7 @@ fn next_outstanding(window: &Window, from: u64, end: u64) -> u64
     end
 }
 
-/// Whether a request that ended so dooms the members behind it.
+/// Whether a request that ended so dooms the members after it.
 fn breaks(request: &Request, is_success: bool) -> bool
     ensures { result ≡ (spec.is_soft request.now.entry && not is_success) }
 {

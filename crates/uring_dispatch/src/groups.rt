@@ -224,7 +224,7 @@ fn note_barrier(barriers: &mut VecDeque<Barrier>, group: &Group, n: u64, key: us
     }
 }
 
-/// The key of a group, if more members may join it behind this entry.
+/// The key of a group, if more members may join it after this entry.
 fn joinable(entry: &Sqe, key: usize) -> Option<usize>
     ensures { result ≡ (if is_linked entry.now then Some key else None) }
 {

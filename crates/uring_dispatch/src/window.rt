@@ -85,7 +85,7 @@ impl Window {
         self.first
     }
 
-    /// The number behind the last request.
+    /// The number after the last request.
     pub(crate) fn end(&self) -> u64
         ensures value { result ≡ end_of self.now }
         ensures limit { result + self.now.room < 2 ^ 63 }

@@ -121,16 +121,16 @@ met_by known g w s a v (ends _ _ n res bytes r off is same one) agree =
     (subst (EndMeets (bytes_at known (length w.completions.posted) (length (with_end_of g w n res bytes).posted))) (sym is) met.0, met.1)
 met_by known g w s a v _ agree = (tt, agree)
 
-pub agree_behind : (g : Setup) (known : List (List ℕ)) (s : Step) (a : Answer) (h : History) → IsLawfulApart g ((s, a) ∷ h)
+pub agree_after : (g : Setup) (known : List (List ℕ)) (s : Step) (a : Answer) (h : History) → IsLawfulApart g ((s, a) ∷ h)
     → Agree known (posted_bytes g h) → EndMeets (known_by g known h (s, a)) (end_told_by (s, a))
     → Agree known (posted_bytes g ((s, a) ∷ h))
-agree_behind g known s a h lawful agree meets =
+agree_after g known s a h lawful agree meets =
     agrees_by known g (world g h) s a (world g ((s, a) ∷ h)) (completion_move g s a h lawful) agree meets
 
-pub met_behind : (g : Setup) (known : List (List ℕ)) (s : Step) (a : Answer) (h : History) → IsLawfulApart g ((s, a) ∷ h)
+pub met_after : (g : Setup) (known : List (List ℕ)) (s : Step) (a : Answer) (h : History) → IsLawfulApart g ((s, a) ∷ h)
     → Agree known (posted_bytes g ((s, a) ∷ h))
     → EndMeets (known_by g known h (s, a)) (end_told_by (s, a)) × Agree known (posted_bytes g h)
-met_behind g known s a h lawful agree =
+met_after g known s a h lawful agree =
     met_by known g (world g h) s a (world g ((s, a) ∷ h)) (completion_move g s a h lawful) agree
 
 -- ---- what is reaped
@@ -150,9 +150,9 @@ reaped_by_move g w s a v (ends _ _ n res bytes r off is same one) =
 reaped_by_move g w s a v (reaps completion next) = grown w.completions.reaped completion
 reaped_by_move g w s a v _ = sym (append-nil (payloads w.completions.reaped))
 
-pub reaped_behind : (g : Setup) (s : Step) (a : Answer) (h : History) → IsLawfulApart g ((s, a) ∷ h)
+pub reaped_after : (g : Setup) (s : Step) (a : Answer) (h : History) → IsLawfulApart g ((s, a) ∷ h)
     → payloads (world g ((s, a) ∷ h)).completions.reaped ≡ payloads (world g h).completions.reaped ++ bytes_reaped (s, a)
-reaped_behind g s a h lawful =
+reaped_after g s a h lawful =
     reaped_by_move g (world g h) s a (world g ((s, a) ∷ h)) (completion_move g s a h lawful)
 
 -- the next completion to be reaped has the bytes that are known of it
@@ -174,7 +174,7 @@ reaped_onto : (g : Setup) (later : List Event) (h : History) → IsLawfulApart g
 reaped_onto g [] h lawful = sym (append-nil (payloads (world g h).completions.reaped))
 reaped_onto g ((s, a) ∷ later) h lawful =
     reaped_onto g later ((s, a) ∷ h) lawful
-    ∙ ap (λ (xs : List (List ℕ)). xs ++ bytes_told later) (reaped_behind g s a h (lawful_below g later ((s, a) ∷ h) lawful))
+    ∙ ap (λ (xs : List (List ℕ)). xs ++ bytes_told later) (reaped_after g s a h (lawful_below g later ((s, a) ∷ h) lawful))
     ∙ append_assoc (payloads (world g h).completions.reaped) (bytes_reaped (s, a)) (bytes_told later)
 
 pub told_agree : (g : Setup) (events : List Event) → IsLawfulApart g (onto [] events)

@@ -22,7 +22,7 @@ use Rattle.uring_timelines.specs.Moves.{EndsBy, Goes, IsWalk, Move, Pass, Take, 
 use Rattle.uring_early.specs.Bare.{AreSameButBytes, IssueMeets, IssuesMeet, IsFoundBare, bare, blank, blank_answer, bytes_at, bytes_reaped, bytes_told, known_by, known_marks, known_mark, posted_in}
 use Rattle.uring_early.specs.Marks.{mark_by, start_mark}
 use Rattle.uring_early.specs.declared.decision.Found.TheVariants as found
-use Rattle.uring_early.proofs.Agreeing.{Agree, EndMeets, agree_behind, agree_none, next_has, payloads, posted_bytes, reaped_behind}
+use Rattle.uring_early.proofs.Agreeing.{Agree, EndMeets, agree_after, agree_none, next_has, payloads, posted_bytes, reaped_after}
 use Rattle.uring_early.proofs.BlankRequests.{blank_requests, running_same}
 use Rattle.uring_early.proofs.BlankWorlds.{ReapMeets, called_back, world_same}
 use Rattle.uring_early.proofs.Standings.{Stands, one_of, stands_makes, stands_takes, takes_effect}
@@ -115,7 +115,7 @@ record HasBareTimeline (g : Setup) (h : History) : Type 0 where
   timely : IsTimely g timeline
   lawful : IsLawfulApart g (made_in timeline)
 
--- what is left behind an event
+-- what is left after an event
 record Rest (g : Setup) (known : List (List ℕ)) (before : History) (later : List Event) (st : Standing) (moves : List Move) (e : Event) : Type 0 where
   walk : IsWalk (passed st (known_mark (known_by g known before e) (world g (e ∷ before)).requests e)) (known_marks g known (e ∷ before) later) moves
   lawful : IsLawfulApart g (onto (e ∷ before) later)
@@ -143,7 +143,7 @@ record IsAt (g : Setup) (known : List (List ℕ)) (moves : List Move) (later : L
   agree : Agree known (posted_bytes g (made_in t))
   told : known ≡ payloads (world g (made_in t)).completions.reaped ++ bytes_told later
 
--- behind an event, with the bytes of its finish
+-- after an event, with the bytes of its finish
 record IsPast (g : Setup) (known : List (List ℕ)) (moves : List Move) (later : List Event) (t : Timeline) (s : Step) (a : Answer) : Type 0 where
   filled : Answer
   same : bare (s, filled) ≡ bare (s, a)
@@ -152,7 +152,7 @@ record IsPast (g : Setup) (known : List (List ℕ)) (moves : List Move) (later :
 
 past : (g : Setup) (known : List (List ℕ)) (moves : List Move) (s : Step) (a : Answer) (later : List Event) (t : Timeline) (st : Standing)
     → IsAt g known (Pass ∷ moves) ((s, a) ∷ later) t st → IsPast g known moves later t s a
-past g known moves s a later t st at = record { filled = f.filled; same = f.same_bare; standing = passed st (mark_by (requests_in g (Makes (s, f.filled) ∷ t)) (s, f.filled)); at = record { walk = walks; stands = stands_makes g t st s f.filled at.timely at.stands both; timely = (f.ends, at.timely); lawful = both; all = rest.lawful; meet = rest.meet; agree = agree_behind g known s f.filled (made_in t) both at.agree meets; told = told_x ∙ sym (append_assoc (payloads (world g (made_in t)).completions.reaped) (bytes_reaped (s, f.filled)) (bytes_told later)) ∙ ap (λ (xs : List (List ℕ)). xs ++ bytes_told later) (sym (reaped_behind g s f.filled (made_in t) both)) } }
+past g known moves s a later t st at = record { filled = f.filled; same = f.same_bare; standing = passed st (mark_by (requests_in g (Makes (s, f.filled) ∷ t)) (s, f.filled)); at = record { walk = walks; stands = stands_makes g t st s f.filled at.timely at.stands both; timely = (f.ends, at.timely); lawful = both; all = rest.lawful; meet = rest.meet; agree = agree_after g known s f.filled (made_in t) both at.agree meets; told = told_x ∙ sym (append_assoc (payloads (world g (made_in t)).completions.reaped) (bytes_reaped (s, f.filled)) (bytes_told later)) ∙ ap (λ (xs : List (List ℕ)). xs ++ bytes_told later) (sym (reaped_after g s f.filled (made_in t) both)) } }
   where
     f : Filled t (known_by g known (map blank (made_in t)) (blank (s, a))) s a
     f = fill_event g t st (known_by g known (map blank (made_in t)) (blank (s, a))) (world g (blank (s, a) ∷ map blank (made_in t))).requests s a at.stands at.walk.0 at.meet.0

@@ -20,7 +20,7 @@ told_more [] e = append-nil (bytes_reaped e)
 told_more (x ∷ events) e =
     ap (λ (xs : List (List ℕ)). bytes_reaped x ++ xs) (told_more events e) ∙ sym (append_assoc (bytes_reaped x) (bytes_told events) (bytes_reaped e))
 
--- the mark of an event behind these
+-- the mark of an event after these
 abbrev one_more : Setup → List (List ℕ) → Event → History → Mark
 one_more g told e h = known_mark (known_by g told h e) (world g (e ∷ h)).requests e
 

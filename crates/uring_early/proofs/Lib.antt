@@ -1,5 +1,5 @@
 -- In the order in which they are best read.
--- What runs behind an event:
+-- What runs after an event:
 pub mod Running
 -- How operations stand along a timeline:
 pub mod Standings

@@ -16,8 +16,8 @@ use Rattle.uring_timelines.specs.declared.mark.Mark.{Mark}
 use Rattle.uring_timelines.specs.declared.running.Running.{Running}
 use Rattle.uring_timelines.specs.Moves.{EndsBy, FitsEnd, Goes, IsWalk, MayTake, Meets, MeetsBytes, Move, Pass, Take, Passes, Standing, at_first, awaits, end_in, passed, taken_by, took}
 use Rattle.uring_early.specs.Bare.{AreSameButBytes, IssueMeets, IssuesMeet, bare, blank, bytes_reaped, bytes_told, known_by, known_marks, known_mark}
-use Rattle.uring_early.specs.Marks.{mark_by, marks_behind, start_mark}
-use Rattle.uring_early.proofs.Agreeing.{Agree, EndMeets, met_behind, posted_bytes, told_agree}
+use Rattle.uring_early.specs.Marks.{mark_by, marks_after, start_mark}
+use Rattle.uring_early.proofs.Agreeing.{Agree, EndMeets, met_after, posted_bytes, told_agree}
 use Rattle.uring_early.proofs.BlankWorlds.{lawful_blank}
 use Rattle.uring_early.proofs.Filling.{history_onto, known_blank, known_marks_same, passed_so}
 use Rattle.uring_early.proofs.Timelines.{goes_by, lawful_below, onto, start_ends}
@@ -34,7 +34,7 @@ all_meet : (g : Setup) (known : List (List ℕ)) (later : List Event) (h : Histo
 all_meet g known [] h lawful agree = (tt, agree)
 all_meet g known ((s, a) ∷ later) h lawful agree =
     let rest = all_meet g known later ((s, a) ∷ h) lawful agree in
-    let here = met_behind g known s a h (lawful_below g later ((s, a) ∷ h) lawful) rest.1 in
+    let here = met_after g known s a h (lawful_below g later ((s, a) ∷ h) lawful) rest.1 in
     ((here.0, rest.0), here.1)
 
 told_meet : (g : Setup) (events : List Event) → IsLawfulApart g (onto [] events) → AllMeet g (bytes_told events) [] events
@@ -98,19 +98,19 @@ fits_more known r (step.Issue n, answer.Run) k o marks more meets later fits =
 fits_more known r (_, a) k o marks more meets later fits = later fits
 
 fits_loose : (g : Setup) (known : List (List ℕ)) (h : History) (later : List Event) (k : ℕ) (o : Outcome) → AllMeet g known h later
-    → FitsEnd (end_in (marks_behind g h later) k) o → FitsEnd (end_in (known_marks g known h later) k) o
+    → FitsEnd (end_in (marks_after g h later) k) o → FitsEnd (end_in (known_marks g known h later) k) o
 fits_loose g known h [] k o meet fits = fits
 fits_loose g known h (e ∷ later) k o meet fits =
-    fits_more (known_by g known h e) (world g (e ∷ h)).requests e k o (marks_behind g (e ∷ h) later) (known_marks g known (e ∷ h) later) meet.0 (fits_loose g known (e ∷ h) later k o meet.1) fits
+    fits_more (known_by g known h e) (world g (e ∷ h)).requests e k o (marks_after g (e ∷ h) later) (known_marks g known (e ∷ h) later) meet.0 (fits_loose g known (e ∷ h) later k o meet.1) fits
 
 awaits_loose : (g : Setup) (known : List (List ℕ)) (h : History) (later : List Event) (running : List Running)
-    → awaits running (marks_behind g h later) ≡ awaits running (known_marks g known h later)
+    → awaits running (marks_after g h later) ≡ awaits running (known_marks g known h later)
 awaits_loose g known h [] running = refl
 awaits_loose g known h (e ∷ later) running =
-    awaits_so running (known_by g known h e) (world g (e ∷ h)).requests e (marks_behind g (e ∷ h) later) (known_marks g known (e ∷ h) later)
+    awaits_so running (known_by g known h e) (world g (e ∷ h)).requests e (marks_after g (e ∷ h) later) (known_marks g known (e ∷ h) later)
 
 take_loose : (g : Setup) (known : List (List ℕ)) (h : History) (later : List Event) (st : Standing) (n : ℕ) (o : Outcome) → AllMeet g known h later
-    → MayTake st (marks_behind g h later) n o → MayTake st (known_marks g known h later) n o
+    → MayTake st (marks_after g h later) n o → MayTake st (known_marks g known h later) n o
 take_loose g known h later st n o meet may = record {
   op = may.op;
   runs = may.runs;
@@ -121,10 +121,10 @@ take_loose g known h later st n o meet may = record {
 }
 
 loosen : (g : Setup) (known : List (List ℕ)) (moves : List Move) (later : List Event) (h : History) (st : Standing) → AllMeet g known h later
-    → IsWalk st (marks_behind g h later) moves → IsWalk st (known_marks g known h later) moves
+    → IsWalk st (marks_after g h later) moves → IsWalk st (known_marks g known h later) moves
 loosen g known [] [] h st meet walk = walk
 loosen g known [] (e ∷ later) h st meet walk =
-    absurd (let f : marks_behind g h (e ∷ later) ≡ [] = walk in cc)
+    absurd (let f : marks_after g h (e ∷ later) ≡ [] = walk in cc)
 loosen g known (Pass ∷ moves) [] h st meet walk = absurd walk
 loosen g known (Pass ∷ moves) (e ∷ later) h st meet walk =
     let r : Requests = (world g (e ∷ h)).requests in
@@ -190,7 +190,7 @@ told_goes g events h same early =
     let own : IsTold events (reverse h) h = own_told events h same in
     let turned : IsLawfulEarly g (history_of (reverse h)) = subst (IsLawfulEarly g) own.turned early in
     let apart : IsLawfulApart g (onto [] (reverse h)) = subst (IsLawfulApart g) (sym (history_onto (reverse h))) turned.lawful in
-    let goes : Goes (at_first g.files) (marks_behind g [] (reverse h)) = goes_by g (reverse h) turned in
+    let goes : Goes (at_first g.files) (marks_after g [] (reverse h)) = goes_by g (reverse h) turned in
     let loose : IsWalk (at_first g.files) (known_marks g (bytes_told (reverse h)) [] (reverse h)) goes.moves = loosen g (bytes_told (reverse h)) goes.moves (reverse h) [] (at_first g.files) (told_meet g (reverse h) apart) goes.walk in
     subst (λ (xs : List (List ℕ)). Goes (at_first g.files) (known_marks g xs [] (map blank events))) own.same_told
     (subst (λ (es : List Event). Goes (at_first g.files) (known_marks g (bytes_told (reverse h)) [] es)) own.same_blank

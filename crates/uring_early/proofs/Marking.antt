@@ -8,18 +8,18 @@ use Rattle.uring_entry.specs.Setup.{Setup}
 use Rattle.uring_core.specs.Histories.{Event, History, world, history_of, IsLawfulApart}
 use Rattle.uring_core.proofs.Following.{history_of_append, history_of_cons}
 use Rattle.uring_timelines.specs.declared.mark.Mark.{Mark}
-use Rattle.uring_early.specs.Marks.{mark_by, marks_behind}
+use Rattle.uring_early.specs.Marks.{mark_by, marks_after}
 
 marks_snoc : (g : Setup) (events : List Event) (before : History) (e : Event)
-    → marks_behind g before (events ++ e ∷ []) ≡ marks_behind g before events ++ mark_by (world g (e ∷ history_of events ++ before)).requests e ∷ []
+    → marks_after g before (events ++ e ∷ []) ≡ marks_after g before events ++ mark_by (world g (e ∷ history_of events ++ before)).requests e ∷ []
 marks_snoc g [] before e = refl
 marks_snoc g (x ∷ events) before e =
-    ap (λ (ms : List Mark). mark_by (world g (x ∷ before)).requests x ∷ ms) (marks_snoc g events (x ∷ before) e ∙ ap (λ (h : History). marks_behind g (x ∷ before) events ++ mark_by (world g (e ∷ h)).requests e ∷ []) (sym (history_of_cons x events before)))
+    ap (λ (ms : List Mark). mark_by (world g (x ∷ before)).requests x ∷ ms) (marks_snoc g events (x ∷ before) e ∙ ap (λ (h : History). marks_after g (x ∷ before) events ++ mark_by (world g (e ∷ h)).requests e ∷ []) (sym (history_of_cons x events before)))
 
 pub marks_more : (g : Setup) (events : List Event) (e : Event)
-    → marks_behind g [] (events ++ e ∷ []) ≡ marks_behind g [] events ++ mark_by (world g (e ∷ history_of events)).requests e ∷ []
+    → marks_after g [] (events ++ e ∷ []) ≡ marks_after g [] events ++ mark_by (world g (e ∷ history_of events)).requests e ∷ []
 marks_more g events e =
-    marks_snoc g events [] e ∙ ap (λ (h : History). marks_behind g [] events ++ mark_by (world g (e ∷ h)).requests e ∷ []) (append-nil (history_of events))
+    marks_snoc g events [] e ∙ ap (λ (h : History). marks_after g [] events ++ mark_by (world g (e ∷ h)).requests e ∷ []) (append-nil (history_of events))
 
 -- one event more
 pub taken_next : (events : List Event) (k : ℕ) (e : Event) → k < length events → e ≡ get_or events k e

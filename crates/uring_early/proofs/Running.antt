@@ -1,4 +1,4 @@
--- Which operations run behind an event, by its mark.
+-- Which operations run after an event, by its mark.
 use Rattle.std.proofs.Common.{◌≡◌, ◌==◌, ◌||◌, ◌&&◌, ℕ, ℤ, Bool, true, false, not, List, Some, None, if◌then◌else◌, refl, sym, ap, subst, ◌∙◌}
 use Rattle.std.proofs.lemmas.Bool.{eq-eqb, eqb-true}
 use Rattle.uring_entry.specs.Preparation.{operation_of}
@@ -18,11 +18,11 @@ use Rattle.uring_timelines.specs.declared.mark.Mark.{Mark}
 use Rattle.uring_timelines.specs.declared.mark.Mark.TheVariants.{Starts, Ends, Idle}
 use Rattle.uring_early.specs.Marks.{mark_by, start_mark}
 
--- whether an operation runs behind a mark, if it did before it or not as told
-abbrev pub runs_behind : Mark → Bool → ℕ → Bool
-runs_behind (Starts m op) b n = b || (m == n)
-runs_behind (Ends m e) b n = b && not (m == n)
-runs_behind Idle b n = b
+-- whether an operation runs after a mark, if it did before it or not as told
+abbrev pub runs_after : Mark → Bool → ℕ → Bool
+runs_after (Starts m op) b n = b || (m == n)
+runs_after (Ends m e) b n = b && not (m == n)
+runs_after Idle b n = b
 
 -- ---- of Bools
 
@@ -86,10 +86,10 @@ started_mark r m unended =
     ap (λ (b : Bool). start_mark m (if b then Some (operation_of (entry_of r m)) else None)) (start_runs r m m unended ∙ ap (λ (b : Bool). is_running r m || b) (eq-eqb m m refl) ∙ or-true (is_running r m))
 
 pub runs_by : (g : Setup) (w : World) (s : Step) (a : Answer) (n : ℕ) → Change g w s a
-    → is_running (happens g w s a).requests n ≡ runs_behind (mark_by (happens g w s a).requests (s, a)) (is_running w.requests n) n
+    → is_running (happens g w s a).requests n ≡ runs_after (mark_by (happens g w s a).requests (s, a)) (is_running w.requests n) n
 runs_by g w s a n (refuses _ _ same silent) =
     ap (λ (v : World). is_running v.requests n) (same w)
-    ∙ sym (ap (λ (m : Mark). runs_behind m (is_running w.requests n) n) (idle_of (happens g w s a).requests s a silent))
+    ∙ sym (ap (λ (m : Mark). runs_after m (is_running w.requests n) n) (idle_of (happens g w s a).requests s a silent))
 runs_by g w s a n (takes entry call place opened left at valid) =
     subst (λ o. is_running (taking_entry_of g w entry o).requests n ≡ is_running w.requests n) (sym opened) refl
 runs_by g w s a n (drops call place opened left at invalid) =
@@ -99,7 +99,7 @@ runs_by g w s a n (closes accepted missed head call opened all told) =
 runs_by g w s a n (runs m outstanding idle spared ready no_cancel) =
     let unended : has_ended w.requests m ≡ false = not_ended w.requests m outstanding in
     start_runs w.requests m n unended
-    ∙ sym (ap (λ (k : Mark). runs_behind k (is_running w.requests n) n) (started_mark w.requests m unended))
+    ∙ sym (ap (λ (k : Mark). runs_after k (is_running w.requests n) n) (started_mark w.requests m unended))
 runs_by g w s a n (dooms m outstanding idle doomed) =
     issued_idle g.linux w.requests m n (doomed_result g.linux w.requests m) idle
 runs_by g w s a n (cancels m outstanding idle spared ready cancel) =

@@ -1,4 +1,4 @@
--- How operations stand along a timeline: as a search has it, behind each event and each effect.
+-- How operations stand along a timeline: as a search has it, after each event and each effect.
 use Rattle.std.proofs.Common.{◌≡◌, ◌==◌, ◌||◌, ◌&&◌, ℕ, ℤ, Bool, true, false, not, List, [], ◌∷◌, ◌++◌, map, Option, Some, None, if◌then◌else◌, refl, sym, ap, subst, ◌∙◌}
 use Rattle.std.specs.Option.{option_map}
 use Rattle.std.proofs.lemmas.Bool.{and_from, and_parts, both_ways, eq-eqb, eqb-true, false_from_ne_true}
@@ -33,7 +33,7 @@ use Rattle.uring_timelines.specs.declared.running.Running.{Running}
 use Rattle.uring_timelines.specs.Moves.{EndsBy, MayTake, Passes, Standing, look, op_of, passed, plain, taken_by, taken_of, taking, took, with_taken, without}
 use Rattle.uring_timelines.proofs.Plain.{after_plain, outcome_back}
 use Rattle.uring_early.specs.Marks.{mark_by, start_mark}
-use Rattle.uring_early.proofs.Running.{runs_behind, runs_by}
+use Rattle.uring_early.proofs.Running.{runs_after, runs_by}
 use Rattle.uring_laws.proofs.EndedRequests.{not_ended}
 
 -- ---- the list of what runs
@@ -109,7 +109,7 @@ one_of false n op taken = None
 abbrev pub standing_at : Requests → Option Outcome → ℕ → Option Running
 standing_at r taken n = one_of (is_running r n) n (operation_of (entry_of r n)) taken
 
--- The search's standing is that behind a timeline.
+-- The search's standing is that after a timeline.
 pub record Stands (g : Setup) (t : Timeline) (s : Standing) : Type 0 where
   pub files : s.files ≡ map plain (files_at g t)
   pub running : (n : ℕ) → look s.running n ≡ standing_at (requests_in g t) (effect_of t n) n
@@ -159,7 +159,7 @@ unstarted_free g t n timely lawful idle = by (effect_of t n) refl where
   by None is = refl
   by (Some o) is = absurd (both_ways _ idle (effect_started g t n o timely lawful is))
 
--- ---- behind an event
+-- ---- after an event
 
 passed_files : (s : Standing) (m : Mark) → (passed s m).files ≡ s.files
 passed_files s Idle = refl
@@ -226,19 +226,19 @@ asked_by : (b : Bool) (op asked : Op) → (if b then Some asked else None) ≡ S
 asked_by true op asked is = (refl, same_Some asked op is)
 asked_by false op asked is = let f : None ≡ Some op = is in absurd cc
 
--- ---- behind a mark
+-- ---- after a mark
 
 module _ (g : Setup) (t : Timeline) (st : Standing) (s : Step) (a : Answer) where
-  behind_idle : Stands g t st → IsLawfulApart g ((s, a) ∷ made_in t)
+  after_idle : Stands g t st → IsLawfulApart g ((s, a) ∷ made_in t)
       → ((n : ℕ) → is_running (requests_in g (Makes (s, a) ∷ t)) n ≡ is_running (requests_in g t) n)
       → (n : ℕ) → look st.running n ≡ standing_at (requests_in g (Makes (s, a) ∷ t)) (effect_of t n) n
-  behind_idle stands lawful same n =
+  after_idle stands lawful same n =
       stands.running n ∙ stands_so (requests_in g t) (requests_in g (Makes (s, a) ∷ t)) n (effect_of t n) (same n) (entry_same g s a (made_in t) n lawful)
 
-  behind_end : (k : ℕ) → Stands g t st → IsLawfulApart g ((s, a) ∷ made_in t)
+  after_end : (k : ℕ) → Stands g t st → IsLawfulApart g ((s, a) ∷ made_in t)
       → ((n : ℕ) → is_running (requests_in g (Makes (s, a) ∷ t)) n ≡ (is_running (requests_in g t) n && not (k == n)))
       → (n : ℕ) → look (without st.running k) n ≡ standing_at (requests_in g (Makes (s, a) ∷ t)) (effect_of t n) n
-  behind_end k stands lawful runs_so n = look_without st.running k n ∙ by (k == n) refl where
+  after_end k stands lawful runs_so n = look_without st.running k n ∙ by (k == n) refl where
     later : Requests
     later = requests_in g (Makes (s, a) ∷ t)
 
@@ -247,12 +247,12 @@ module _ (g : Setup) (t : Timeline) (st : Standing) (s : Step) (a : Answer) wher
     by false other =
         stands.running n ∙ stands_so (requests_in g t) later n (effect_of t n) (runs_so n ∙ ap (λ (b : Bool). is_running (requests_in g t) n && not b) other ∙ and-true (is_running (requests_in g t) n)) (entry_same g s a (made_in t) n lawful)
 
-  behind_start : (k : ℕ) (op : Op) → Stands g t st → IsLawfulApart g ((s, a) ∷ made_in t)
+  after_start : (k : ℕ) (op : Op) → Stands g t st → IsLawfulApart g ((s, a) ∷ made_in t)
       → is_running (requests_in g t) k ≡ false → effect_of t k ≡ None
       → operation_running (requests_in g (Makes (s, a) ∷ t)) k ≡ Some op
       → ((n : ℕ) → is_running (requests_in g (Makes (s, a) ∷ t)) n ≡ (is_running (requests_in g t) n || (k == n)))
       → (n : ℕ) → look (st.running ++ record { number = k; op = op; taken = None } ∷ []) n ≡ standing_at (requests_in g (Makes (s, a) ∷ t)) (effect_of t n) n
-  behind_start k op stands lawful idle free asks runs_so n = look_push st.running (record { number = k; op = op; taken = None }) n ∙ by (k == n) refl where
+  after_start k op stands lawful idle free asks runs_so n = look_push st.running (record { number = k; op = op; taken = None }) n ∙ by (k == n) refl where
     later : Requests
     later = requests_in g (Makes (s, a) ∷ t)
 
@@ -273,30 +273,30 @@ module _ (g : Setup) (t : Timeline) (st : Standing) (s : Step) (a : Answer) wher
         or_none (look st.running n) ∙ stands.running n
         ∙ stands_so (requests_in g t) later n (effect_of t n) (runs_so n ∙ ap (λ (b : Bool). is_running (requests_in g t) n || b) other ∙ or-false (is_running (requests_in g t) n)) (entry_same g s a (made_in t) n lawful)
 
-  runs_so : IsLawfulApart g ((s, a) ∷ made_in t) → {m : Mark} → mark_by (requests_in g (Makes (s, a) ∷ t)) (s, a) ≡ m → (k : ℕ) → is_running (requests_in g (Makes (s, a) ∷ t)) k ≡ runs_behind m (is_running (requests_in g t) k) k
-  runs_so lawful is k = runs_by g (world g (made_in t)) s a k (change_of g (world g (made_in t)) s a lawful.0) ∙ ap (λ (x : Mark). runs_behind x (is_running (requests_in g t) k) k) is
+  runs_so : IsLawfulApart g ((s, a) ∷ made_in t) → {m : Mark} → mark_by (requests_in g (Makes (s, a) ∷ t)) (s, a) ≡ m → (k : ℕ) → is_running (requests_in g (Makes (s, a) ∷ t)) k ≡ runs_after m (is_running (requests_in g t) k) k
+  runs_so lawful is k = runs_by g (world g (made_in t)) s a k (change_of g (world g (made_in t)) s a lawful.0) ∙ ap (λ (x : Mark). runs_after x (is_running (requests_in g t) k) k) is
 
-  behind_mark : (m : Mark) → mark_by (requests_in g (Makes (s, a) ∷ t)) (s, a) ≡ m → IsTimely g t → Stands g t st
+  after_mark : (m : Mark) → mark_by (requests_in g (Makes (s, a) ∷ t)) (s, a) ≡ m → IsTimely g t → Stands g t st
       → IsLawfulApart g ((s, a) ∷ made_in t)
       → (n : ℕ) → look (passed st m).running n ≡ standing_at (requests_in g (Makes (s, a) ∷ t)) (effect_of t n) n
-  behind_mark Idle is timely stands lawful n =
-      behind_idle stands lawful (runs_so lawful is) n
-  behind_mark (Ends m e) is timely stands lawful n =
-      behind_end m stands lawful (runs_so lawful is) n
-  behind_mark (Starts m op) is timely stands lawful n =
+  after_mark Idle is timely stands lawful n =
+      after_idle stands lawful (runs_so lawful is) n
+  after_mark (Ends m e) is timely stands lawful n =
+      after_end m stands lawful (runs_so lawful is) n
+  after_mark (Starts m op) is timely stands lawful n =
       let start : IsStart (requests_in g (Makes (s, a) ∷ t)) s a m op = start_from (requests_in g (Makes (s, a) ∷ t)) s a m op is in
       let facts : (is_running (requests_in g t) m ≡ false) × (has_ended (requests_in g t) m ≡ false) = subst (λ (x : Answer). StartFacts (requests_in g t) (step.Issue m) x) start.answer_is (subst (λ (x : Step). StartFacts (requests_in g t) x a) start.step_is (start_facts g (world g (made_in t)) s a (change_of g (world g (made_in t)) s a lawful.0))) in
-      behind_start m op stands lawful facts.0 (unstarted_free g t m timely lawful.1 (false_from_ne_true _ (λ started. both_ways _ facts.0 (and_from _ _ started (ap not facts.1))))) start.asks (runs_so lawful is) n
+      after_start m op stands lawful facts.0 (unstarted_free g t m timely lawful.1 (false_from_ne_true _ (λ started. both_ways _ facts.0 (and_from _ _ started (ap not facts.1))))) start.asks (runs_so lawful is) n
 
 pub stands_makes : (g : Setup) (t : Timeline) (st : Standing) (s : Step) (a : Answer) → IsTimely g t → Stands g t st
     → IsLawfulApart g ((s, a) ∷ made_in t)
     → Stands g (Makes (s, a) ∷ t) (passed st (mark_by (requests_in g (Makes (s, a) ∷ t)) (s, a)))
 stands_makes g t st s a timely stands lawful = record {
   files = passed_files st (mark_by (requests_in g (Makes (s, a) ∷ t)) (s, a)) ∙ stands.files;
-  running = behind_mark g t st s a (mark_by (requests_in g (Makes (s, a) ∷ t)) (s, a)) refl timely stands lawful;
+  running = after_mark g t st s a (mark_by (requests_in g (Makes (s, a) ∷ t)) (s, a)) refl timely stands lawful;
 }
 
--- ---- behind an effect
+-- ---- after an effect
 
 taken_one : (b : Bool) (n m : ℕ) (op : Op) (o : Outcome) (taken : Option Outcome)
     → option_map (λ r. taking m o r) (one_of b n op taken) ≡ one_of b n op (if m == n then Some o else taken)
@@ -334,7 +334,7 @@ takes_effect g t st marks n o stands may =
       gives = subst (λ (x : Op). IsOutcome (files_at g t) x o) (sym r.1.0) (outcome_back (files_at g t) may.op o (subst (λ (fs : List FileContents). IsOutcome fs may.op o) stands.files may.gives));
     }
 
--- ---- behind an end
+-- ---- after an end
 
 taken_one_of : (b : Bool) (n : ℕ) (op : Op) (taken : Option Outcome) (o : Outcome)
     → taken_of (one_of b n op taken) ≡ Some o → taken ≡ Some o

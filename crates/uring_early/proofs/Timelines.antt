@@ -29,10 +29,10 @@ use Rattle.uring_timelines.specs.declared.search.Fate.{Fate}
 use Rattle.uring_timelines.specs.declared.search.Fate.TheVariants as fate
 use Rattle.uring_timelines.specs.Search.{IsFated}
 use Rattle.uring_early.specs.Decided.{IsFound, found_by}
-use Rattle.uring_early.specs.Marks.{mark_by, marks_behind, start_mark}
+use Rattle.uring_early.specs.Marks.{mark_by, marks_after, start_mark}
 use Rattle.uring_early.proofs.Standings.{Stands, ends_so, one_of, passes_so, stands_makes, stands_takes, takes_effect}
 
--- these events, the oldest first, behind a history
+-- these events, the oldest first, after a history
 abbrev pub onto : History → List Event → History
 onto before [] = before
 onto before (e ∷ later) = onto (e ∷ before) later
@@ -57,22 +57,22 @@ record HasTimeline (g : Setup) (h : History) : Type 0 where
   timely : IsTimely g timeline
 
 by_moves : (g : Setup) (moves : List Move) (later : List Event) (t : Timeline) (st : Standing)
-    → IsWalk st (marks_behind g (made_in t) later) moves → Stands g t st → IsTimely g t
+    → IsWalk st (marks_after g (made_in t) later) moves → Stands g t st → IsTimely g t
     → IsLawfulApart g (onto (made_in t) later) → HasTimeline g (onto (made_in t) later)
 by_moves g [] [] t st walk stands timely lawful = record { timeline = t; made = refl; timely = timely }
 by_moves g [] (e ∷ later) t st walk stands timely lawful =
-    absurd (let f : marks_behind g (made_in t) (e ∷ later) ≡ [] = walk in cc)
+    absurd (let f : marks_after g (made_in t) (e ∷ later) ≡ [] = walk in cc)
 by_moves g (Pass ∷ moves) [] t st walk stands timely lawful = absurd walk
 by_moves g (Pass ∷ moves) ((s, a) ∷ later) t st walk stands timely lawful =
     by_moves g moves later (Makes (s, a) ∷ t) (passed st (mark_by (requests_in g (Makes (s, a) ∷ t)) (s, a))) walk.1 (stands_makes g t st s a timely stands (lawful_below g later ((s, a) ∷ made_in t) lawful)) (ends_so g t st s a stands walk.0, timely) lawful
 by_moves g (Take n o ∷ moves) [] t st walk stands timely lawful =
     absurd (let f : false ≡ true = walk.0.waits in cc)
 by_moves g (Take n o ∷ moves) (e ∷ later) t st walk stands timely lawful =
-    let taken : TakesEffect g t n o = takes_effect g t st (marks_behind g (made_in t) (e ∷ later)) n o stands walk.0 in
+    let taken : TakesEffect g t n o = takes_effect g t st (marks_after g (made_in t) (e ∷ later)) n o stands walk.0 in
     by_moves g moves (e ∷ later) (Takes n o ∷ t) (took st n o) walk.1 (stands_takes g t st n o stands taken.runs) (taken, timely) lawful
 
 pub lawful_by : (g : Setup) (events : List Event) → IsLawfulApart g (history_of events)
-    → Goes (at_first g.files) (marks_behind g [] events) → IsLawfulEarly g (history_of events)
+    → Goes (at_first g.files) (marks_after g [] events) → IsLawfulEarly g (history_of events)
 lawful_by g events lawful goes =
     let all : onto [] events ≡ history_of events = onto_is events [] ∙ append-nil (history_of events) in
     let t : HasTimeline g (onto [] events) = by_moves g goes.moves events [] (at_first g.files) goes.walk (first_stands g) tt (subst (IsLawfulApart g) (sym all) lawful) in
@@ -80,7 +80,7 @@ lawful_by g events lawful goes =
 
 -- ---- a timeline is moves
 
--- the standing of a search behind a timeline
+-- the standing of a search after a timeline
 abbrev standing_of : Setup → Timeline → Standing
 standing_of g [] = at_first g.files
 standing_of g (Makes e ∷ t) = passed (standing_of g t) (mark_by (requests_in g (Makes e ∷ t)) e)
@@ -102,7 +102,7 @@ record EndsNext (t : Timeline) (later : List Event) : Type 0 where
   is : later ≡ ((step.Finish number, answer.Ended res bytes) ∷ rest)
   free : effect_of t number ≡ None
 
--- behind an effect the next event is the end of one that had taken none before it
+-- after an effect the next event is the end of one that had taken none before it
 abbrev IsNext : Timeline → List Event → Type 0
 IsNext [] later = Unit {0}
 IsNext (Makes e ∷ t) later = Unit {0}
@@ -111,16 +111,16 @@ IsNext (Takes n o ∷ t) later = EndsNext t later
 -- what was taken is what the request ends with later, if it ends
 abbrev EndsSo : Setup → Timeline → List Event → Type 0
 EndsSo g t later = (n : ℕ) (o : Outcome) → effect_of t n ≡ Some o
-    → FitsEnd (end_in (marks_behind g (made_in t) later) n) o
+    → FitsEnd (end_in (marks_after g (made_in t) later) n) o
 
 taken_free : (b : Bool) (n : ℕ) (op : Op) → not (is_some (taken_of (one_of b n op None))) ≡ true
 taken_free true n op = refl
 taken_free false n op = refl
 
 waits_by : (g : Setup) (t : Timeline) (st : Standing) (later : List Event) → Stands g t st → EndsNext t later
-    → awaits st.running (marks_behind g (made_in t) later) ≡ true
+    → awaits st.running (marks_after g (made_in t) later) ≡ true
 waits_by g t st later stands next =
-    ap (λ (l : List Event). awaits st.running (marks_behind g (made_in t) l)) next.is
+    ap (λ (l : List Event). awaits st.running (marks_after g (made_in t) l)) next.is
     ∙ ap (λ (r : Option Running). not (is_some (taken_of r))) (stands.running next.number)
     ∙ ap (λ (o : Option Outcome). not (is_some (taken_of (one_of (is_running (requests_in g t) next.number) next.number (operation_at g t next.number) o)))) next.free
     ∙ taken_free (is_running (requests_in g t) next.number) next.number (operation_at g t next.number)
@@ -128,8 +128,8 @@ waits_by g t st later stands next =
 -- an effect of the timeline is one that a search has
 may_take : (g : Setup) (t : Timeline) (st : Standing) (later : List Event) (n : ℕ) (o : Outcome) → Stands g t st
     → IsLawfulApart g (made_in t) → TakesEffect g t n o → EndsNext t later
-    → FitsEnd (end_in (marks_behind g (made_in t) later) n) o
-    → MayTake st (marks_behind g (made_in t) later) n o
+    → FitsEnd (end_in (marks_after g (made_in t) later) n) o
+    → MayTake st (marks_after g (made_in t) later) n o
 may_take g t st later n o stands lawful taken next fits = record {
   op = operation_at g t n;
   runs =
@@ -196,7 +196,7 @@ ends_before : (g : Setup) (s : Step) (a : Answer) (t : Timeline) (later : List E
     → EndsSo g (Makes (s, a) ∷ t) later → EndsSo g t ((s, a) ∷ later)
 ends_before g (step.Finish k) (answer.Ended res bytes) t later ends so n o taken = by (k == n) refl where
   rest : List Mark
-  rest = marks_behind g ((step.Finish k, answer.Ended res bytes) ∷ made_in t) later
+  rest = marks_after g ((step.Finish k, answer.Ended res bytes) ∷ made_in t) later
 
   by : (b : Bool) → (k == n) ≡ b → FitsEnd (if b then Some (record { res = res; bytes = Some bytes }) else end_in rest n) o
   by true same =
@@ -204,7 +204,7 @@ ends_before g (step.Finish k) (answer.Ended res bytes) t later ends so n o taken
       (ap (λ (x : Outcome). x.res) is, ap (λ (x : Outcome). x.bytes) is)
   by false other = so n o taken
 ends_before g (step.Issue k) answer.Run t later ends so n o taken =
-    subst (λ (x : Option End). FitsEnd x o) (sym (start_ends k n (operation_running (requests_in g (Makes (step.Issue k, answer.Run) ∷ t)) k) (marks_behind g ((step.Issue k, answer.Run) ∷ made_in t) later))) (so n o taken)
+    subst (λ (x : Option End). FitsEnd x o) (sym (start_ends k n (operation_running (requests_in g (Makes (step.Issue k, answer.Run) ∷ t)) k) (marks_after g ((step.Issue k, answer.Run) ∷ made_in t) later))) (so n o taken)
 ends_before g _ a t later ends so n o taken = so n o taken
 
 goes_pass : (st : Standing) (m : Mark) (marks : List Mark) → Passes st.running m → Goes (passed st m) marks
@@ -217,14 +217,14 @@ goes_take st [] n o may later = record { moves = Take n o ∷ later.moves; walk 
 goes_take st (m ∷ marks) n o may later = record { moves = Take n o ∷ later.moves; walk = (may, later.walk) }
 
 back : (g : Setup) (t : Timeline) (later : List Event) → IsTimely g t → IsLawfulApart g (made_in t) → EffectsWait t
-    → IsNext t later → EndsSo g t later → Goes (standing_of g t) (marks_behind g (made_in t) later)
-    → Goes (at_first g.files) (marks_behind g [] (reverse (made_in t) ++ later))
+    → IsNext t later → EndsSo g t later → Goes (standing_of g t) (marks_after g (made_in t) later)
+    → Goes (at_first g.files) (marks_after g [] (reverse (made_in t) ++ later))
 back g [] later timely lawful waits next so goes = goes
 back g (Makes (s, a) ∷ t) later timely lawful waits next so goes =
-    subst (λ (l : List Event). Goes (at_first g.files) (marks_behind g [] l)) (sym (history_of_cons (s, a) (made_in t) later))
-    (back g t ((s, a) ∷ later) timely.1 lawful.1 waits.1 (next_by g (s, a) t later timely.1 waits.0) (ends_before g s a t later timely.0 so) (goes_pass (standing_of g t) (mark_by (requests_in g (Makes (s, a) ∷ t)) (s, a)) (marks_behind g ((s, a) ∷ made_in t) later) (passes_so g t (standing_of g t) s a (stands_of g t timely.1 lawful.1) lawful.0 timely.0) goes))
+    subst (λ (l : List Event). Goes (at_first g.files) (marks_after g [] l)) (sym (history_of_cons (s, a) (made_in t) later))
+    (back g t ((s, a) ∷ later) timely.1 lawful.1 waits.1 (next_by g (s, a) t later timely.1 waits.0) (ends_before g s a t later timely.0 so) (goes_pass (standing_of g t) (mark_by (requests_in g (Makes (s, a) ∷ t)) (s, a)) (marks_after g ((s, a) ∷ made_in t) later) (passes_so g t (standing_of g t) s a (stands_of g t timely.1 lawful.1) lawful.0 timely.0) goes))
 back g (Takes n o ∷ t) later timely lawful waits next so goes =
-    back g t later timely.1 lawful waits (next_before t later next) (ends_before_effect g n o t later timely.0.first so) (goes_take (standing_of g t) (marks_behind g (made_in t) later) n o (may_take g t (standing_of g t) later n o (stands_of g t timely.1 lawful) lawful timely.0 next (so n o (ap (λ (b : Bool). if b then Some o else effect_of t n) (eq-eqb n n refl)))) goes)
+    back g t later timely.1 lawful waits (next_before t later next) (ends_before_effect g n o t later timely.0.first so) (goes_take (standing_of g t) (marks_after g (made_in t) later) n o (may_take g t (standing_of g t) later n o (stands_of g t timely.1 lawful) lawful timely.0 next (so n o (ap (λ (b : Bool). if b then Some o else effect_of t n) (eq-eqb n n refl)))) goes)
 
 -- nothing that is left ends, and nothing is left
 none_next : (t : Timeline) → ends_in_effect t ≡ false → IsNext t []
@@ -233,16 +233,16 @@ none_next (Makes e ∷ t) none = tt
 none_next (Takes n o ∷ t) none = absurd (let f : true ≡ false = none in cc)
 
 pub goes_by : (g : Setup) (events : List Event) → IsLawfulEarly g (history_of events)
-    → Goes (at_first g.files) (marks_behind g [] events)
+    → Goes (at_first g.files) (marks_after g [] events)
 goes_by g events early =
     let late : IsLawfulLate g (history_of events) = early_effects_can_wait g (history_of events) early in
     let t : Timeline = late.timeline in
-    subst (λ (l : List Event). Goes (at_first g.files) (marks_behind g [] l)) (append-nil (reverse (made_in t)) ∙ ap reverse late.made ∙ reverse-reverse events) (back g t [] late.timely (subst (IsLawfulApart g) (sym late.made) early.lawful) late.waits (none_next t late.ends) (λ n o taken. tt) (record { moves = []; walk = refl }))
+    subst (λ (l : List Event). Goes (at_first g.files) (marks_after g [] l)) (append-nil (reverse (made_in t)) ∙ ap reverse late.made ∙ reverse-reverse events) (back g t [] late.timely (subst (IsLawfulApart g) (sym late.made) early.lawful) late.waits (none_next t late.ends) (λ n o taken. tt) (record { moves = []; walk = refl }))
 
 -- ---- what a search comes to
 
 pub decided : (g : Setup) (events : List Event) (come_to : Fate) → IsLawfulApart g (history_of events)
-    → IsFated g.files (marks_behind g [] events) come_to → IsFound g (history_of events) (found_by come_to)
+    → IsFated g.files (marks_after g [] events) come_to → IsFound g (history_of events) (found_by come_to)
 decided g events fate.Explained lawful goes = lawful_by g events lawful goes
 decided g events fate.Over lawful none = (lawful, λ early. none (goes_by g events early))
 decided g events fate.Open lawful left = lawful

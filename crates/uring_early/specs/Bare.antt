@@ -65,11 +65,11 @@ blank (s, a) = (s, blank_answer s a)
 abbrev pub posted_in : Setup → History → ℕ
 posted_in g h = length (world g h).completions.posted
 
--- of these bytes those at the place of the completion that was posted, if one was: there were so many before, and so many behind it
+-- of these bytes those at the place of the completion that was posted, if one was: there were so many before, and so many after it
 abbrev pub bytes_at : List (List ℕ) → ℕ → ℕ → Option (List ℕ)
 bytes_at known before after = if nat_lt before after then slice_get known before else None
 
--- what is known of the bytes that an event gives behind a history
+-- what is known of the bytes that an event gives after a history
 abbrev pub known_by : Setup → List (List ℕ) → History → Event → Option (List ℕ)
 known_by g known before e = bytes_at known (posted_in g before) (posted_in g (e ∷ before))
 
@@ -78,7 +78,7 @@ abbrev pub known_mark : Option (List ℕ) → Requests → Event → Mark
 known_mark known r (step.Finish n, answer.Ended res bytes) = Ends n (record { res = res; bytes = known })
 known_mark known r e = mark_by r e
 
--- what these events have of operations behind a history, the oldest of them first
+-- what these events have of operations after a history, the oldest of them first
 abbrev pub known_marks : Setup → List (List ℕ) → History → List Event → List Mark
 known_marks g known before [] = []
 known_marks g known before (e ∷ later) =

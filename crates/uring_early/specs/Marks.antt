@@ -14,14 +14,14 @@ abbrev pub start_mark : ℕ → Option Op → Mark
 start_mark n (Some op) = Starts n op
 start_mark n None = Idle
 
--- what an event has of operations, by the requests behind it
+-- what an event has of operations, by the requests after it
 abbrev pub mark_by : Requests → Event → Mark
 mark_by r (step.Issue n, answer.Run) = start_mark n (operation_running r n)
 mark_by r (step.Finish n, answer.Ended res bytes) = Ends n (record { res = res; bytes = Some bytes })
 mark_by r event = Idle
 
--- what these events have of operations behind a history, the oldest of them first
-abbrev pub marks_behind : Setup → History → List Event → List Mark
-marks_behind g before [] = []
-marks_behind g before (e ∷ later) =
-    mark_by (world g (e ∷ before)).requests e ∷ marks_behind g (e ∷ before) later
+-- what these events have of operations after a history, the oldest of them first
+abbrev pub marks_after : Setup → History → List Event → List Mark
+marks_after g before [] = []
+marks_after g before (e ∷ later) =
+    mark_by (world g (e ∷ before)).requests e ∷ marks_after g (e ∷ before) later

@@ -138,7 +138,7 @@ fn posted(core: &Core) -> u64
     core.counts().posted
 }
 
-/// Of these bytes those at the place of the completion that was posted, if one was: there were so many before, and so many behind it.
+/// Of these bytes those at the place of the completion that was posted, if one was: there were so many before, and so many after it.
 fn bytes_at(told: &[[u8; 64]], before: u64, after: u64) -> Option<[u8; 64]>
     ensures { result ≡ bare.bytes_at told.now before after }
 {

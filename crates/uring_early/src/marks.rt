@@ -4,7 +4,7 @@ ghost use Rattle.std.specs.Prelude.{◌≡◌, ◌∷◌, [], true, false, IfOk}
 ghost use Rattle.uring_core.specs.Core.{FitsApart};
 ghost use Rattle.uring_core.specs.Histories.{History, history_of, world, IsLawfulApart};
 ghost use Rattle.uring_core.specs.StepAnswers.{CalledForApart};
-ghost use Rattle.uring_early.specs.Marks.{mark_by, marks_behind};
+ghost use Rattle.uring_early.specs.Marks.{mark_by, marks_after};
 
 use std::alloc::AllocError;
 use uring_core::{Answer, Core, Refusal, Step};
@@ -21,7 +21,7 @@ pub(crate) fn add_marks(
     ensures lawful { IfOk result
         (λ all. all ≡ true → IsLawfulApart core.old.setup (history_of events.now)) }
     ensures marks { IfOk result
-        (λ all. all ≡ true → marks.new.items ≡ marks_behind core.old.setup [] events.now) }
+        (λ all. all ≡ true → marks.new.items ≡ marks_after core.old.setup [] events.now) }
     ensures wrong { IfOk result
         (λ all. all ≡ false → IsLawfulApart core.old.setup (history_of events.now) → ⊥) }
 {

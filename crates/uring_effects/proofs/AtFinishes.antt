@@ -23,7 +23,7 @@ use Rattle.uring_laws.proofs.ReadOff.{own_requests}
 use Rattle.uring_laws.proofs.WholeLaws.{lawful_apart}
 use Rattle.uring_effects.specs.Effects.{Makes, Takes, Timeline, made_in, effects_in, effect_of, EndsAsTaken, IsTimely, IsLawfulEarly}
 
--- the effect behind this timeline that the event then ends
+-- the effect after this timeline that the event then ends
 abbrev with_taken : Event → Timeline → Timeline
 with_taken (step.Finish n, answer.Ended res bytes) t = Takes n (record { res = res; bytes = bytes }) ∷ t
 with_taken event t = t

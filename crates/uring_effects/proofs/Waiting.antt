@@ -1,4 +1,4 @@
--- Effects can wait: a step changes places with the effects right before it, up to that of the request that it finishes, since their requests still run behind it, and those that happened last are left out.
+-- Effects can wait: a step changes places with the effects right before it, up to that of the request that it finishes, since their requests still run after it, and those that happened last are left out.
 use Rattle.std.proofs.Common.{◌≡◌, ◌≢◌, ◌==◌, ◌++◌, ◌||◌, ◌<◌, ℕ, ℤ, Bool, true, false, List, [], ◌∷◌, length, Option, Some, if◌then◌else◌, refl, sym, ap, subst, ◌∙◌}
 use Rattle.std.proofs.lemmas.Bool.{and_from, and_parts, both_ways, eq-eqb}
 use Rattle.uring_entry.specs.Preparation.{operation_of}
@@ -79,7 +79,7 @@ step_entry g s a h n lawful running =
 
 -- ---- a step before the effects that happened last, up to that which it ends
 
--- behind this effect, or before it
+-- after this effect, or before it
 abbrev stand : Bool → Step → Answer → ℕ → Outcome → Timeline → Timeline → Timeline
 stand true s a n o t waited = Makes (s, a) ∷ Takes n o ∷ t
 stand false s a n o t waited = Takes n o ∷ waited
@@ -145,7 +145,7 @@ effect_stays g old new n o running same effects asks taken = record {
   gives = subst (λ (l : List Done). IsOutcome (files_left (empty_files g.files) l) (operation_at g new n) o) (sym effects) (subst (λ (x : Op). IsOutcome (files_at g old) x o) (sym asks) taken.gives);
 }
 
--- a step that isn't the end of this effect ends before it as behind it
+-- a step that isn't the end of this effect ends before it as after it
 ends_past : (s : Step) (a : Answer) (n : ℕ) (o : Outcome) (t : Timeline) → is_end_of n (s, a) ≡ false
     → EndsAsTaken (Takes n o ∷ t) (s, a) → EndsAsTaken t (s, a)
 ends_past (step.Finish m) (answer.Ended res bytes) n o t other ends =

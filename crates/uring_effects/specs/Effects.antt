@@ -27,7 +27,7 @@ made_in [] = []
 made_in (Makes event ∷ before) = event ∷ made_in before
 made_in (Takes n outcome ∷ before) = made_in before
 
--- the requests behind a timeline
+-- the requests after a timeline
 abbrev pub requests_in : Setup → Timeline → Requests
 requests_in g t = (world g (made_in t)).requests
 
@@ -93,7 +93,7 @@ abbrev pub EndsLast : Timeline → Event → Type 0
 EndsLast (Takes n outcome ∷ before) event = is_end_of n event ≡ true
 EndsLast before event = Unit {0}
 
--- effects wait: no other step stands right behind one than the finish of its own request
+-- effects wait: no other step stands right after one than the finish of its own request
 abbrev pub EffectsWait : Timeline → Type 0
 EffectsWait [] = Unit {0}
 EffectsWait (Makes event ∷ before) = EndsLast before event × EffectsWait before

@@ -1,7 +1,7 @@
 -- The laws of what a call does besides, and in which order.
 use Rattle.std.proofs.Common.{◌≡◌, Bool, true, false, ◌&&◌, ◌||◌, refl}
 use Rattle.std.proofs.lemmas.Bool.{false≢true}
-use Rattle.uring_enter.specs.GoingOn.Duties.{LooksAfresh, HearsPipes, PassesTime, FindsFiles, KeepsNew, HoldsFiles, WatchesPipes, LetsLie, ShowsEnds, TellsReadiness, HearsApplication, ShowsFlags, TellsEventfd, are_many, ShowsAtLast, WatchesWhatIsHeld, LiesBehindPipes, RegistersAsItEnters}
+use Rattle.uring_enter.specs.GoingOn.Duties.{LooksAfresh, HearsPipes, PassesTime, FindsFiles, KeepsNew, HoldsFiles, WatchesPipes, LetsLie, ShowsEnds, TellsReadiness, HearsApplication, ShowsFlags, TellsEventfd, are_many, ShowsAtLast, WatchesWhatIsHeld, LiesAfterPipes, RegistersAsItEnters}
 
 due : (b : Bool) → b ≡ true → (b && true && true || false) ≡ true
 due true is = refl
@@ -40,8 +40,8 @@ lie true has_watches true are is = refl
 lie true has_watches false are is = is
 lie false has_watches many are is = absurd (false≢true are)
 
-pub lies_behind_pipes : LiesBehindPipes
-lies_behind_pipes r are many = lie r.runs r.has_watches (are_many r) are many
+pub lies_after_pipes : LiesAfterPipes
+lies_after_pipes r are many = lie r.runs r.has_watches (are_many r) are many
 
 pub registers_as_it_enters : RegistersAsItEnters
 registers_as_it_enters is_time_real r LooksAfresh = (λ is. is, λ is. is)

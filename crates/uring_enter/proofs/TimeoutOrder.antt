@@ -38,10 +38,10 @@ later_is_not x y late =
     (and_left (eqb x.expiry y.expiry) (ltb x.number y.number) (ne_eqb x.expiry y.expiry (λ same. omega arith)))
 
 after_is_not : (x y : Timeout) → y.expiry ≡ x.expiry → y.number ≤ x.number → ends_before x y ≡ false
-after_is_not x y same behind =
+after_is_not x y same below =
     or_from (ltb x.expiry y.expiry) (eqb x.expiry y.expiry && ltb x.number y.number)
     (le-ltb x.expiry y.expiry (omega arith))
-    (and_right (eqb x.expiry y.expiry) (ltb x.number y.number) (le-ltb x.number y.number behind))
+    (and_right (eqb x.expiry y.expiry) (ltb x.number y.number) (le-ltb x.number y.number below))
 
 pub before_chain : (x y z : Timeout)
     → ends_before x y ≡ false → ends_before y z ≡ false → ends_before x z ≡ false

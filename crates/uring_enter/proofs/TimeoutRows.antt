@@ -38,7 +38,7 @@ pub first_reached : (rows : List Timeout) (count i posted : ℕ) (t : Timeout) �
     → NoneIsReached (take i rows) posted → is_reached_by posted t ≡ true → IsFirstReached (take count rows) posted t
 first_reached rows count i posted t below within at none is = record {
   before = take i rows;
-  behind = take (count - (i + 1)) (drop (i + 1) rows);
+  after = take (count - (i + 1)) (drop (i + 1) rows);
   split = split_at rows count i t below within at;
   reached = is;
   first = none;

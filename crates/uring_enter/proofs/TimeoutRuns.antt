@@ -87,31 +87,31 @@ changed_is_not number changed expiry t other = is_not_by number expiry t (eqb t.
 started_is_not : (log : List Event) (s : Start) (number : ℕ) → eqb s.number number ≡ false → IsNot number (started log s)
 started_is_not log s number other = eqb-false s.number number other
 
-none_behind : (number : ℕ) (newer earlier : List Event) → starts number newer ≡ false
+none_after : (number : ℕ) (newer earlier : List Event) → starts number newer ≡ false
     → All (IsNot number) (running earlier) → All (IsNot number) (running (newer ++ earlier))
-none_behind number [] earlier quiet none = none
-none_behind number (Started s ∷ newer) earlier quiet none =
+none_after number [] earlier quiet none = none
+none_after number (Started s ∷ newer) earlier quiet none =
     let parts = or_parts (eqb s.number number) (starts number newer) quiet in
     All-push (IsNot number) (running (newer ++ earlier)) (started (newer ++ earlier) s)
-    (none_behind number newer earlier parts.1 none) (started_is_not (newer ++ earlier) s number parts.0)
-none_behind number (Changed changed more ∷ newer) earlier quiet none =
+    (none_after number newer earlier parts.1 none) (started_is_not (newer ++ earlier) s number parts.0)
+none_after number (Changed changed more ∷ newer) earlier quiet none =
     let f : Timeout → Timeout = with_expiry changed (later (time (newer ++ earlier)) more) in
     All-map (IsNot number) f (running (newer ++ earlier))
     (All-weaker (IsNot number) (λ t. IsNot number (f t)) (λ t other. changed_is_not number changed (later (time (newer ++ earlier)) more) t other)
-    (running (newer ++ earlier)) (none_behind number newer earlier quiet none))
-none_behind number (Stopped stopped ∷ newer) earlier quiet none =
-    All-filter (is_other stopped) (IsNot number) (running (newer ++ earlier)) (none_behind number newer earlier quiet none)
-none_behind number (Ended t ∷ newer) earlier quiet none =
-    All-filter (is_other t.number) (IsNot number) (running (newer ++ earlier)) (none_behind number newer earlier quiet none)
-none_behind number (Posted count ∷ newer) earlier quiet none = none_behind number newer earlier quiet none
-none_behind number (Clock now ∷ newer) earlier quiet none = none_behind number newer earlier quiet none
-none_behind number (Slept start stop ∷ newer) earlier quiet none = none_behind number newer earlier quiet none
-none_behind number (Passed t ∷ newer) earlier quiet none = none_behind number newer earlier quiet none
+    (running (newer ++ earlier)) (none_after number newer earlier quiet none))
+none_after number (Stopped stopped ∷ newer) earlier quiet none =
+    All-filter (is_other stopped) (IsNot number) (running (newer ++ earlier)) (none_after number newer earlier quiet none)
+none_after number (Ended t ∷ newer) earlier quiet none =
+    All-filter (is_other t.number) (IsNot number) (running (newer ++ earlier)) (none_after number newer earlier quiet none)
+none_after number (Posted count ∷ newer) earlier quiet none = none_after number newer earlier quiet none
+none_after number (Clock now ∷ newer) earlier quiet none = none_after number newer earlier quiet none
+none_after number (Slept start stop ∷ newer) earlier quiet none = none_after number newer earlier quiet none
+none_after number (Passed t ∷ newer) earlier quiet none = none_after number newer earlier quiet none
 
 pub ends_once : EndsOnce
 ends_once newer earlier t u quiet runs same =
     All-contains (IsNot t.number) (running (newer ++ Ended t ∷ earlier)) u
-    (none_behind t.number newer (Ended t ∷ earlier) quiet (none_after_filter t.number (running earlier))) runs same
+    (none_after t.number newer (Ended t ∷ earlier) quiet (none_after_filter t.number (running earlier))) runs same
 
 -- whoever passes a test is among those that a filter keeps
 abbrev Among : (Timeout → Bool) → List Timeout → Timeout → Type 0

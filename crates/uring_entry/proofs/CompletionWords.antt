@@ -25,10 +25,10 @@ same_words (x ∷ xs) (y ∷ ys) p q e =
     let rest = same_words xs ys p.1 q.1 there in
     cc
 
--- two words, and others behind them
-pub words_behind : (a b : ℕ) (rest more : List ℕ) → a < 2 ^ 64 → b < 2 ^ 64 → rest ≡ more
+-- two words, and others after them
+pub words_after : (a b : ℕ) (rest more : List ℕ) → a < 2 ^ 64 → b < 2 ^ 64 → rest ≡ more
     → AreWords more → AreWords (a ∷ b ∷ (rest ++ []))
-words_behind a b rest more first second same range =
+words_after a b rest more first second same range =
     (first, (second, subst AreWords (sym (append-nil rest ∙ same)) range))
 
 -- the user data, the result and the bytes, as words, are those of a completion

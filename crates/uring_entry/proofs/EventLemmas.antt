@@ -3,7 +3,7 @@ use Rattle.std.proofs.Common.{◌≡◌, ℕ, ◌+◌, ◌<◌, ◌⊎◌, ℤ, 
 use Rattle.std.specs.List.{list_any}
 use Rattle.std.proofs.lemmas.Bool.{and_parts, and_from, or_cases}
 use Rattle.uring_entry.specs.Layout.{Sqe}
-use Rattle.uring_entry.specs.Requests.{Requests, entry_of, has_failed, is_last, is_linked, is_soft, is_joined, some_member, is_in_faulty_group, is_draining, is_behind_failure, is_cancelled, is_doomed, is_candidate, target_of, with_accepted, with_started, with_ended}
+use Rattle.uring_entry.specs.Requests.{Requests, entry_of, has_failed, is_last, is_linked, is_soft, is_joined, some_member, is_in_faulty_group, is_draining, is_after_failure, is_cancelled, is_doomed, is_candidate, target_of, with_accepted, with_started, with_ended}
 use Rattle.uring_entry.proofs.BelowLemmas.{some_below_some, some_below_in, least_below_tells, IsLeast}
 use Rattle.uring_entry.proofs.RequestLemmas.{entry_of_accepted_other}
 
@@ -16,28 +16,28 @@ pub record IsFailureBefore (r : Requests) (n m : ℕ) : Type 0 where
   pub soft : is_soft (entry_of r m) ≡ true
   pub failed : has_failed r m ≡ true
 
-pub is_behind_failure_from : (r : Requests) (n m : ℕ) → IsFailureBefore r n m
-    → is_behind_failure r n ≡ true
-unfolding is_behind_failure
-is_behind_failure_from r n m f =
+pub is_after_failure_from : (r : Requests) (n m : ℕ) → IsFailureBefore r n m
+    → is_after_failure r n ≡ true
+unfolding is_after_failure
+is_after_failure_from r n m f =
     some_below_some (λ k. (is_joined r k n && is_soft (entry_of r k)) && has_failed r k) n m f.before
     (and_from _ _ (and_from _ _ f.joined f.soft) f.failed)
 
-pub is_behind_failure_tells : (r : Requests) (n : ℕ) → is_behind_failure r n ≡ true
+pub is_after_failure_tells : (r : Requests) (n : ℕ) → is_after_failure r n ≡ true
     → (m : ℕ) × IsFailureBefore r n m
-unfolding is_behind_failure
-is_behind_failure_tells r n e =
+unfolding is_after_failure
+is_after_failure_tells r n e =
     let found = some_below_in (λ k. (is_joined r k n && is_soft (entry_of r k)) && has_failed r k) n e in
     let parts = and_parts _ _ found.2 in
     let link = and_parts _ _ parts.0 in
     (found.0, record { before = found.1; joined = link.0; soft = link.1; failed = parts.1 })
 
 pub is_doomed_tells : (r : Requests) (n : ℕ) → is_doomed r n ≡ true
-    → (is_in_faulty_group r n ≡ true) ⊎ ((is_behind_failure r n ≡ true) ⊎ (is_cancelled r n ≡ true))
+    → (is_in_faulty_group r n ≡ true) ⊎ ((is_after_failure r n ≡ true) ⊎ (is_cancelled r n ≡ true))
 unfolding is_doomed
 is_doomed_tells r n e =
     elim (or_cases _ _ e) [
-      | inl group ↦ elim (or_cases _ _ group) [ inl faulty ↦ inl faulty | inr behind ↦ inr (inl behind) ]
+      | inl group ↦ elim (or_cases _ _ group) [ inl faulty ↦ inl faulty | inr after ↦ inr (inl after) ]
       | inr cancelled ↦ inr (inr cancelled)
     ]
 
@@ -64,7 +64,7 @@ unfolding some_member is_joined
 is_draining_started r n k = refl
 
 pub is_doomed_started : (r : Requests) (n k : ℕ) → is_doomed (with_started r n) k ≡ is_doomed r k
-unfolding is_doomed is_behind_failure some_member is_joined
+unfolding is_doomed is_after_failure some_member is_joined
 is_doomed_started r n k = refl
 
 -- An entry that is accepted changes nothing among the earlier requests.

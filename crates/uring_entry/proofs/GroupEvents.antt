@@ -35,7 +35,7 @@ longer : (r : Requests) (entry : Sqe)
     → length (with_accepted r entry).accepted ≡ length r.accepted + 1
 longer r entry = length-append r.accepted (entry ∷ [])
 
--- behind a group that was closed
+-- after a group that was closed
 pub group_accepted : (r : Requests) (entry : Sqe) (from end : ℕ) → IsGroup r from end
     → ((k : ℕ) → suc k ≡ end → is_last r k ≡ true) → IsGroup (with_accepted r entry) from end
 group_accepted r entry from end g closed =

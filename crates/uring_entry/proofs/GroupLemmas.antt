@@ -4,7 +4,7 @@ use Rattle.std.proofs.lemmas.Bool.{cases_lt, cases_Bool, and_left, and_right, an
 use Rattle.std.proofs.Math.Bool.{and-true, and_assoc}
 use Rattle.uring_entry.specs.Layout.{Sqe}
 use Rattle.uring_entry.specs.Below.{some_below, least_below}
-use Rattle.uring_entry.specs.Requests.{Requests, entry_of, has_ended, has_failed, is_soft, is_drain, is_joined, is_in_group, some_member, is_in_faulty_group, is_draining, is_behind_failure, is_cancelled, is_doomed, is_ready, holds_back}
+use Rattle.uring_entry.specs.Requests.{Requests, entry_of, has_ended, has_failed, is_soft, is_drain, is_joined, is_in_group, some_member, is_in_faulty_group, is_draining, is_after_failure, is_cancelled, is_doomed, is_ready, holds_back}
 use Rattle.uring_entry.specs.Preparation.{is_faulty}
 use Rattle.uring_entry.specs.Groups.{IsGroup, first_member, is_before, first_fault, first_drain, first_broken}
 use Rattle.uring_entry.proofs.BelowLemmas.{some_below_none, some_below_some, some_below_same, some_below_between, least_below_out, least_below_tells, is_some_least_below, some_below_in}
@@ -33,10 +33,10 @@ joined_past r from zero n m g lt past within = absurd (omega arith)
 joined_past r from (suc k) n m g lt past within =
     is_joined_no r n m k (omega arith) (omega arith) (g.ends k refl (omega arith))
 
-in_group_behind : (r : Requests) (from end n m : ℕ) → IsGroup r from end → from ≤ n → n < end
+in_group_after : (r : Requests) (from end n m : ℕ) → IsGroup r from end → from ≤ n → n < end
     → m < length r.accepted → n < m
     → is_in_group r m n ≡ (leb from m && ltb m end)
-in_group_behind r from end n m g high lt within behind =
+in_group_after r from end n m g high lt within after =
     let low : min m n ≡ n = omega arith in
     let top : max m n ≡ m = omega arith in
     ap (λ a. is_joined r a (max m n)) low ∙ ap (is_joined r n) top
@@ -52,7 +52,7 @@ pub in_group_member : (r : Requests) (from end n m : ℕ) → IsGroup r from end
     → is_in_group r m n ≡ (leb from m && ltb m end)
 in_group_member r from end n m g high lt within =
     elim (cases_lt n m) [
-      | inl behind ↦ in_group_behind r from end n m g high lt within behind
+      | inl after ↦ in_group_after r from end n m g high lt within after
       | inr before ↦
           let low : min m n ≡ m = omega arith in
           let top : max m n ≡ n = omega arith in
@@ -98,10 +98,10 @@ some_below_least p end n le = go (least_below p end) refl
           | inr high ↦ some_below_none p n (λ j lt. least.before j (omega arith)) ∙ sym (le-ltb k n high)
         ]
 
-pub behind_is : (r : Requests) (from end n : ℕ) → IsGroup r from end → from ≤ n → n < end
-    → is_behind_failure r n ≡ is_before (first_broken r from end) n
-unfolding is_behind_failure first_member
-behind_is r from end n g high lt =
+pub after_is : (r : Requests) (from end n : ℕ) → IsGroup r from end → from ≤ n → n < end
+    → is_after_failure r n ≡ is_before (first_broken r from end) n
+unfolding is_after_failure first_member
+after_is r from end n g high lt =
     some_below_same _ (λ m. leb from m && (is_soft (entry_of r m) && has_failed r m)) n
     (λ m low.
     and_assoc (is_joined r m n) _ _
@@ -114,8 +114,8 @@ pub doomed_is : (r : Requests) (from end n : ℕ) → IsGroup r from end → fro
     ≡ ((is_some (first_fault r from end) || is_before (first_broken r from end) n) || is_cancelled r n)
 unfolding is_doomed
 doomed_is r from end n g high lt =
-    ap (λ b. (b || is_behind_failure r n) || is_cancelled r n) (faulty_is r from end n g high lt)
-    ∙ ap (λ b. (is_some (first_fault r from end) || b) || is_cancelled r n) (behind_is r from end n g high lt)
+    ap (λ b. (b || is_after_failure r n) || is_cancelled r n) (faulty_is r from end n g high lt)
+    ∙ ap (λ b. (is_some (first_fault r from end) || b) || is_cancelled r n) (after_is r from end n g high lt)
 
 -- Whether a request is ready depends on requests that haven't ended.
 
@@ -157,9 +157,9 @@ pub ready_not_alone : (r : Requests) (n m : ℕ) → m < n → has_ended r m ≡
 ready_not_alone r n m low going drains =
     is_ready_no r n m low (and_from _ _ (ap not going) (or_right _ _ drains))
 
-pub ready_not_behind : (r : Requests) (n m : ℕ) → m < n → has_ended r m ≡ false
+pub ready_not_after : (r : Requests) (n m : ℕ) → m < n → has_ended r m ≡ false
     → is_draining r m ≡ true → is_ready r n ≡ false
-ready_not_behind r n m low going drains =
+ready_not_after r n m low going drains =
     is_ready_no r n m low (and_from _ _ (ap not going) (or_left _ _ (or_right _ _ drains)))
 
 -- If the least member of a group that hasn't ended isn't ready, no later request is: what holds it back drains, or the group does, and either holds back all that is later.
@@ -167,19 +167,19 @@ pub ready_not_later : (r : Requests) (from end n k : ℕ) → IsGroup r from end
     → ((m : ℕ) → from ≤ m → m < n → has_ended r m ≡ true) → has_ended r n ≡ false
     → is_ready r n ≡ false → n < k → is_ready r k ≡ false
 unfolding is_ready
-ready_not_later r from end n k g high lt members going waits behind =
+ready_not_later r from end n k g high lt members going waits after =
     let found = some_below_in (holds_back r n) n (not-false _ waits) in
     let m : ℕ = found.0 in
     let parts = and_parts (not (has_ended r m)) _ found.2 in
     let open_yet : has_ended r m ≡ false = not-true _ parts.0 in
     let low : m < n = found.1 in
-    let before : m < k = omega (arith, low, behind) in
+    let before : m < k = omega (arith, low, after) in
     let at_most : m ≤ n = omega (arith, low) in
     elim (or_cases (is_joined r m n || is_draining r m) (is_draining r n) parts.1) [
-      | inr draining ↦ ready_not_behind r k n behind going draining
+      | inr draining ↦ ready_not_after r k n after going draining
       | inl rest ↦
           elim (or_cases (is_joined r m n) (is_draining r m) rest) [
-            | inr draining ↦ ready_not_behind r k m before open_yet draining
+            | inr draining ↦ ready_not_after r k m before open_yet draining
             | inl joined ↦
                 let inside = leb-true from m (sym (joined_member r from end m n g high lt at_most) ∙ joined) in
                 absurd (both_ways _ open_yet (members m inside low))

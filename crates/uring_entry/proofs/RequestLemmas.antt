@@ -12,7 +12,7 @@ use Rattle.std.proofs.Math.Bool.{or-false}
 use Rattle.uring_entry.specs.Layout.{Sqe, zero_entry, opcode_of, len_of}
 use Rattle.uring_entry.specs.declared.operation.opcode.TheConstants.{READ, WRITE}
 use Rattle.uring_entry.specs.Success.{is_success}
-use Rattle.uring_entry.specs.Requests.{Requests, entry_of, has_started, has_ended, has_failed, is_running, is_outstanding, is_last, is_joined, is_in_group, some_member, is_in_faulty_group, is_behind_failure, is_cancelled, is_doomed, is_ready, holds_back, is_issuable, is_candidate, target_of, is_target, targets_of, least_of, with_accepted, with_started, with_ended}
+use Rattle.uring_entry.specs.Requests.{Requests, entry_of, has_started, has_ended, has_failed, is_running, is_outstanding, is_last, is_joined, is_in_group, some_member, is_in_faulty_group, is_after_failure, is_cancelled, is_doomed, is_ready, holds_back, is_issuable, is_candidate, target_of, is_target, targets_of, least_of, with_accepted, with_started, with_ended}
 use Rattle.uring_entry.specs.Preparation.{is_faulty, is_cancel, is_cancel_all, is_transfer}
 use Rattle.uring_entry.proofs.BelowLemmas.{some_below_none, some_below_some, least_below_none, least_below_some, least_below_tells, IsLeast, all_below_in, all_below_there}
 
@@ -46,9 +46,9 @@ pub is_doomed_faulty : (r : Requests) (n : ℕ) → is_in_faulty_group r n ≡ t
 unfolding is_doomed
 is_doomed_faulty r n e = or_left _ _ (or_left _ _ e)
 
-pub is_doomed_behind : (r : Requests) (n : ℕ) → is_behind_failure r n ≡ true → is_doomed r n ≡ true
+pub is_doomed_after : (r : Requests) (n : ℕ) → is_after_failure r n ≡ true → is_doomed r n ≡ true
 unfolding is_doomed
-is_doomed_behind r n e = or_left _ _ (or_right _ _ e)
+is_doomed_after r n e = or_left _ _ (or_right _ _ e)
 
 pub is_doomed_cancelled : (r : Requests) (n : ℕ) → is_cancelled r n ≡ true → is_doomed r n ≡ true
 unfolding is_doomed

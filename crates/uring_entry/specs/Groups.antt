@@ -4,7 +4,7 @@ use Rattle.uring_entry.specs.Below.{least_below}
 use Rattle.uring_entry.specs.Preparation.{is_faulty}
 use Rattle.uring_entry.specs.Requests.{Requests, entry_of, has_failed, is_last, is_soft, is_drain}
 
--- The members of a group are the numbers from its first on and below its end; more may follow only behind the last request accepted.
+-- The members of a group are the numbers from its first on and below its end; more may follow only after the last request accepted.
 pub record IsGroup (r : Requests) (from end : ℕ) : Type 0 where
   pub some : from < end
   pub accepted : end ≤ length r.accepted

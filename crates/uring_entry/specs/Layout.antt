@@ -69,7 +69,7 @@ header opcode flags fd off addr len user_data =
 abbrev pub without_data : List ℕ → Sqe
 without_data words = words ++ replicate 8 0
 
--- up to 64 bytes of data, with zeros behind them
+-- up to 64 bytes of data, with zeros after them
 abbrev pub padded : List ℕ → List ℕ
 padded bytes = bytes ++ replicate (64 - length bytes) 0
 

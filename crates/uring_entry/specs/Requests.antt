@@ -43,7 +43,7 @@ entry_of r n = slice_index_or r.accepted n zero_entry
 abbrev pub is_linked : Sqe → Bool
 is_linked e = has io_link e || has io_hardlink e
 
--- a failure dooms the members behind it: IO_LINK, and not IO_HARDLINK. io_uring_enter(2), IOSQE_IO_LINK and IOSQE_IO_HARDLINK
+-- a failure dooms the members after it: IO_LINK, and not IO_HARDLINK. io_uring_enter(2), IOSQE_IO_LINK and IOSQE_IO_HARDLINK
 abbrev pub is_soft : Sqe → Bool
 is_soft e = has io_link e && not (has io_hardlink e)
 
@@ -93,15 +93,15 @@ some_member r p n = some_below (λ m. is_in_group r m n && p (entry_of r m)) (le
 abbrev pub is_draining : Requests → ℕ → Bool
 is_draining r n = some_member r is_drain n
 
--- whether some member of n's group has a fault. io_uring_enter(2), IOSQE_IO_HARDLINK, for the members behind it; that it dooms the others too is our own rule
+-- whether some member of n's group has a fault. io_uring_enter(2), IOSQE_IO_HARDLINK, for the members after it; that it dooms the others too is our own rule
 abbrev pub is_in_faulty_group : Requests → ℕ → Bool
 is_in_faulty_group r n = some_member r is_faulty n
 
 -- Who is doomed: not started any more, but ended as cancelled.
 
 -- an earlier member of n's group has a soft link and failed. io_uring_enter(2), IOSQE_IO_LINK; that it reaches all later members is our own rule
-unfoldable pub is_behind_failure : Requests → ℕ → Bool
-is_behind_failure r n =
+unfoldable pub is_after_failure : Requests → ℕ → Bool
+is_after_failure r n =
     some_below (λ m. is_joined r m n && is_soft (entry_of r m) && has_failed r m) n
 
 -- a cancel chose n before it started
@@ -110,7 +110,7 @@ is_cancelled r n = list_any (λ m. m == n) r.cancelled
 
 -- whether n is doomed, for one of the three reasons
 unfoldable pub is_doomed : Requests → ℕ → Bool
-is_doomed r n = is_in_faulty_group r n || is_behind_failure r n || is_cancelled r n
+is_doomed r n = is_in_faulty_group r n || is_after_failure r n || is_cancelled r n
 
 -- Who may start.
 

@@ -2,7 +2,7 @@
 use Rattle.std.specs.Prelude.{◌≡◌, ℕ, ◌*◌, ◌^◌, ◌<◌, ◌≤◌, ◌⊎◌, Bool, false, Option, Some, None, unwrap_or}
 use Rattle.std.specs.Int.{IsPowerOfTwo, IsNextPowerOfTwo}
 
--- A pair of rings and its files: the entries of the submission ring and of the completion ring, the number of files, the index word at which both rings begin, whether a call stops before all its positions are taken, as behind an entry with a fault, and whether requests are kept by Linux's rules, as 6.18 was seen to keep them, where they differ from the manual pages'. io_uring_setup(2), sq_entries, cq_entries and IORING_SETUP_SUBMIT_ALL, without which calls stop; the files and the word are our own rule
+-- A pair of rings and its files: the entries of the submission ring and of the completion ring, the number of files, the index word at which both rings begin, whether a call stops before all its positions are taken, as after an entry with a fault, and whether requests are kept by Linux's rules, as 6.18 was seen to keep them, where they differ from the manual pages'. io_uring_setup(2), sq_entries, cq_entries and IORING_SETUP_SUBMIT_ALL, without which calls stop; the files and the word are our own rule
 pub record Setup : Type 0 where
   pub sq : ℕ
   pub cq : ℕ

@@ -112,7 +112,7 @@ is_full size l = staged l - l.seen_head == size
 abbrev pub call_length : Submission → ℕ → ℕ
 call_length l n = min n (pending l)
 
--- whether a call that takes this entry stops behind it: calls of the ring stop, and the entry has a fault. io_uring_setup(2), IORING_SETUP_SUBMIT_ALL; that an entry with a link flag is no exception is our own rule
+-- whether a call that takes this entry stops after it: calls of the ring stop, and the entry has a fault. io_uring_setup(2), IORING_SETUP_SUBMIT_ALL; that an entry with a link flag is no exception is our own rule
 abbrev pub stops_at : Setup → Sqe → Bool
 stops_at g e = g.stops && is_faulty e
 

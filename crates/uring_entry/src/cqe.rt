@@ -5,9 +5,9 @@ ghost use Rattle.std.specs.Prelude.{◌≡◌};
 use crate::payload::{bytes_of_words, words_of_bytes};
 use std::marker::Model;
 
-/// A completion: the user data of its request, the result, and 64 bytes, those that a read gave first and zeros behind them.
+/// A completion: the user data of its request, the result, and 64 bytes, those that a read gave first and zeros after them.
 ///
-/// It has 80 bytes, held as 10 words. The first 16 are placed as in `struct io_uring_cqe`, io_uring(7), Reading completion events, with flags that are always 0; the bytes behind them are our own rule.
+/// It has 80 bytes, held as 10 words. The first 16 are placed as in `struct io_uring_cqe`, io_uring(7), Reading completion events, with flags that are always 0; the bytes after them are our own rule.
 #[derive(Clone, Copy, Debug, PartialEq, Eq)]
 pub struct Cqe {
     user_data: u64,

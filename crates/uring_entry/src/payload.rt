@@ -38,7 +38,7 @@ fn word_at(bytes: &[u8; 64], at: usize) -> u64
     u64::from_le_bytes(eight)
 }
 
-/// Up to 64 bytes, with zeros behind them.
+/// Up to 64 bytes, with zeros after them.
 pub(crate) fn padded_bytes(bytes: &[u8]) -> [u8; 64]
     requires { length bytes.now ≤ 64 }
     ensures { result ≡ padded bytes.now }

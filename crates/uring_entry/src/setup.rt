@@ -7,7 +7,7 @@ ghost use Rattle.uring_entry.specs.Setup.{IsBadCq};
 use crate::bad_setup::BadSetup;
 use std::marker::Model;
 
-/// The sizes of a pair of rings, the number of its files, the word at which both rings begin, whether a submission call stops behind an entry with a fault, and whether requests are kept by Linux's rules. io_uring_setup(2); the files and the word are our own rule.
+/// The sizes of a pair of rings, the number of its files, the word at which both rings begin, whether a submission call stops after an entry with a fault, and whether requests are kept by Linux's rules. io_uring_setup(2); the files and the word are our own rule.
 #[derive(Clone, Copy, Debug, PartialEq, Eq)]
 pub struct Setup {
     sq: u32,
@@ -45,7 +45,7 @@ impl Setup {
 
     /// A set-up with a submission ring of `sq` entries (1 to 4,096) and a completion ring of `cq` entries (1 to 8,192), or of twice the submission ring's, each rounded up to a power of two; `files` files (1 to 64); and rings that begin at the index word `start`.
     ///
-    /// A submission call goes on behind an entry with a fault, and requests are kept by the manual pages' rules: `stopping` and `linux` ask for the others.
+    /// A submission call goes on after an entry with a fault, and requests are kept by the manual pages' rules: `stopping` and `linux` ask for the others.
     ///
     /// `BadSq`, `BadCq` and `BadFiles` come in that order, each if its limit is broken; `BadCq` also if the completion ring is smaller after rounding than the submission ring. Sizes are rounded as in io_uring_setup(2), IORING_SETUP_CQSIZE; the limits are our own rule, and so is that a completion ring of the submission ring's size is taken.
     pub fn new(sq: u32, cq: Option<u32>, files: u32, start: u32) -> Result<Setup, BadSetup>
@@ -76,7 +76,7 @@ impl Setup {
         })
     }
 
-    /// The same set-up for a ring that stops: a submission call ends behind the first entry with a fault that it takes, whether or not that entry has a link flag, and later calls take what it leaves. io_uring_setup(2), IORING_SETUP_SUBMIT_ALL: a ring without that flag; that an entry with a link flag is no exception is our own rule. By Linux's rules it is one: there a call goes on behind it, and ends behind a drain that is refused, and in any ring behind a bad word.
+    /// The same set-up for a ring that stops: a submission call ends after the first entry with a fault that it takes, whether or not that entry has a link flag, and later calls take what it leaves. io_uring_setup(2), IORING_SETUP_SUBMIT_ALL: a ring without that flag; that an entry with a link flag is no exception is our own rule. By Linux's rules it is one: there a call goes on after it, and ends after a drain that is refused, and in any ring after a bad word.
     pub fn stopping(self) -> Setup
         ensures { result ≡ record self { stops = true } }
     {
@@ -128,7 +128,7 @@ impl Setup {
         self.start
     }
 
-    /// Whether a submission call ends before all its positions are taken, as behind an entry with a fault: not unless `stopping` asked for it.
+    /// Whether a submission call ends before all its positions are taken, as after an entry with a fault: not unless `stopping` asked for it.
     pub fn stops(self) -> bool
         ensures value { result ≡ self.stops }
         ensures limits { IsWithinLimits self }

@@ -75,7 +75,7 @@ impl Sqe {
         link || hardlink
     }
 
-    /// Whether a failure dooms the members behind it: `IO_LINK` is set, and `IO_HARDLINK` isn't. io_uring_enter(2), IOSQE_IO_LINK and IOSQE_IO_HARDLINK.
+    /// Whether a failure dooms the members after it: `IO_LINK` is set, and `IO_HARDLINK` isn't. io_uring_enter(2), IOSQE_IO_LINK and IOSQE_IO_HARDLINK.
     pub fn is_soft(&self) -> bool
         ensures { result ≡ spec.is_soft self.now }
     {

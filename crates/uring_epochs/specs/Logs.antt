@@ -103,7 +103,7 @@ abbrev pub finished_as : ℕ → Option Op → Answer → Log → Log
 finished_as n op (answer.Ended res bytes) log = finished_of n op res log
 finished_as n op a log = log
 
--- what a step with its answer makes of the log, as the requests stand before it and behind it
+-- what a step with its answer makes of the log, as the requests stand before it and after it
 abbrev pub logged : Requests → Requests → Step → Answer → Log → Log
 logged r q (step.Issue n) a log = issued_as n (operation_running q n) a log
 logged r q (step.Finish n) a log = finished_as n (operation_running r n) a log

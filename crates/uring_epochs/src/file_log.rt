@@ -336,7 +336,7 @@ impl FileLog {
     }
 }
 
-/// Puts an event behind the others, by this memory.
+/// Puts an event after the others, by this memory.
 fn add_event<M: Memory>(memory: &M, events: &mut Vec<Event>, event: Event) -> Result<(), AllocError>
     ensures { OnOk result (events.new.items ≡ events.old.items ++ event ∷ []) }
 {

@@ -64,7 +64,7 @@ impl Events {
         Ok(())
     }
 
-    /// Records a step with its answer, behind all others. Condition: room for it was asked for.
+    /// Records a step with its answer, after all others. Condition: room for it was asked for.
     pub fn push_reserved(&mut self, step: Step, answer: Answer)
         requires { length self.old.items < self.old.room }
         ensures items { self.new.items ≡ self.old.items ++ (step, answer) ∷ [] }

@@ -45,7 +45,7 @@ is_too_long off len = not (len == 0) && nat_lt max_len (off + len)
 abbrev pub is_past_end : ℕ → ℕ → FileContents → Bool
 is_past_end off len file = not (len == 0) && nat_lt (length file.bytes) (off + len)
 
--- bytes with others written over them from off on: what lies before, zeros if that ends before off, the new bytes, and what lies behind them. No bytes change nothing. io_uring_enter(2), IORING_OP_WRITE
+-- bytes with others written over them from off on: what lies before, zeros if that ends before off, the new bytes, and what lies after them. No bytes change nothing. io_uring_enter(2), IORING_OP_WRITE
 abbrev pub overwritten : List ℕ → ℕ → List ℕ → List ℕ
 overwritten old off new =
     if length new == 0 then old

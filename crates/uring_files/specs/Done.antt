@@ -1,4 +1,4 @@
--- Operations that were carried out on files, one behind the other, and the files that they leave.
+-- Operations that were carried out on files, one after the other, and the files that they leave.
 use Rattle.std.specs.Prelude.{ℕ, List, [], ◌∷◌}
 use Rattle.uring_entry.specs.declared.operation.Op.{Op}
 use Rattle.uring_entry.specs.declared.operation.Outcome.{Outcome}

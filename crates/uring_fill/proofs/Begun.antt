@@ -22,25 +22,25 @@ at_end : {X : Type 0} (xs : List X) (x : X) (rest : List X) → slice_get ((xs +
 at_end [] x rest = refl
 at_end (y ∷ xs) x rest = at_end xs x rest
 
--- what stands behind a beginning
-pub behind_begun : {X : Type 0} (xs : List X) (x : X) (all : List X) → Begins (xs ++ x ∷ []) all
+-- what stands after a beginning
+pub after_begun : {X : Type 0} (xs : List X) (x : X) (all : List X) → Begins (xs ++ x ∷ []) all
     → slice_get all (length xs) ≡ Some x
-behind_begun xs x all b = ap (λ l. slice_get l (length xs)) b.is ∙ at_end xs x b.rest
+after_begun xs x all b = ap (λ l. slice_get l (length xs)) b.is ∙ at_end xs x b.rest
 
-first_behind : {X : Type 0} (xs rest : List X) (x : X) → slice_get (xs ++ rest) (length xs) ≡ Some x
+first_after : {X : Type 0} (xs rest : List X) (x : X) → slice_get (xs ++ rest) (length xs) ≡ Some x
     → Begins (xs ++ x ∷ []) (xs ++ rest)
-first_behind [] [] x e = absurd (let f : None ≡ Some x = e in cc)
-first_behind [] (y ∷ rest) x e =
+first_after [] [] x e = absurd (let f : None ≡ Some x = e in cc)
+first_after [] (y ∷ rest) x e =
     let same : y ≡ x = cc in record { rest = rest; is = ap (λ z. z ∷ rest) same }
-first_behind (y ∷ xs) rest x e =
-    let b : Begins (xs ++ x ∷ []) (xs ++ rest) = first_behind xs rest x e in
+first_after (y ∷ xs) rest x e =
+    let b : Begins (xs ++ x ∷ []) (xs ++ rest) = first_after xs rest x e in
     record { rest = b.rest; is = ap (λ l. y ∷ l) b.is }
 
 -- with it a list begins too
 pub begins_next : {X : Type 0} (xs : List X) (x : X) (all : List X) → Begins xs all
     → slice_get all (length xs) ≡ Some x → Begins (xs ++ x ∷ []) all
 begins_next xs x all b e =
-    subst (λ l. Begins (xs ++ x ∷ []) l) (sym b.is) (first_behind xs b.rest x (sym (ap (λ l. slice_get l (length xs)) b.is) ∙ e))
+    subst (λ l. Begins (xs ++ x ∷ []) l) (sym b.is) (first_after xs b.rest x (sym (ap (λ l. slice_get l (length xs)) b.is) ∙ e))
 
 -- a beginning that is as long as the list is the list
 same_long : {X : Type 0} (xs rest : List X) → length xs ≡ length (xs ++ rest) → xs ≡ xs ++ rest

@@ -16,7 +16,7 @@ use Rattle.uring_linux.specs.LinuxRequests.{LinuxRequests}
 use Rattle.uring_linux.specs.LinuxRequests as kernel
 use Rattle.uring_rules.specs.Rules.{posts, ends_doomed, may_start, is_issuable, doomed_result, cancel_result}
 use Rattle.uring_rules.proofs.RulesLemmas.{issuable_is}
-use Rattle.uring_entry.specs.Requests.{Requests, Ending, entry_of, has_started, has_ended, is_behind_failure, is_drain, is_outstanding, is_running, count_result, result_for, target_of, targets_of, is_target, no_bytes}
+use Rattle.uring_entry.specs.Requests.{Requests, Ending, entry_of, has_started, has_ended, is_after_failure, is_drain, is_outstanding, is_running, count_result, result_for, target_of, targets_of, is_target, no_bytes}
 use Rattle.uring_entry.specs.Completions.{Completions, with_posted, with_flushed, put_by_flush, completion_for}
 use Rattle.uring_entry.proofs.RequestLemmas.{one_success}
 use Rattle.uring_entry.specs.Below.{count_below}
@@ -38,7 +38,7 @@ use Rattle.uring_core.proofs.SoundRings.{IsSoundCompletions}
 use Rattle.uring_fill.specs.Filling.{is_hidden, seen_in, completions_in, GivesAllowed, Begins, IsPart}
 use Rattle.uring_laws.proofs.LinuxSound.{IsSoundLinux, linux_sound, of_linux, starts_so}
 use Rattle.uring_fill.specs.Parts.{is_stale, StandsAt, TellsNext, FinishFits, IsErrorOf, QuietResult, with_none, with_count, with_error, IsIdle}
-use Rattle.uring_fill.proofs.Begun.{begins_next, behind_begun}
+use Rattle.uring_fill.proofs.Begun.{begins_next, after_begun}
 
 -- What an end posts.
 
@@ -51,22 +51,22 @@ posts_on false size l c all b next = b
 posts_next : (told : Bool) (size : ℕ) (l : Completions) (c : Cqe) (all : List Cqe)
     → Begins (cond told (with_posted size l c) l).posted all → told ≡ true
     → slice_get all (length l.posted) ≡ Some c
-posts_next true size l c all b e = behind_begun l.posted c all b
+posts_next true size l c all b e = after_begun l.posted c all b
 posts_next false size l c all b e = absurd cc
 
 -- Who posts as its own entry says.
 
 no_breaker : (r : Requests) (n : ℕ) → kernel.is_doomed r n ≡ false → kernel.breaker_of r n ≡ None
-unfolding is_behind_failure
+unfolding is_after_failure
 no_breaker r n spared =
-    let p = or_parts (kernel.is_in_faulty_group r n) (is_behind_failure r n) spared in
+    let p = or_parts (kernel.is_in_faulty_group r n) (is_after_failure r n) spared in
     ap (λ b. if b then kernel.first_of r n else failed_member_of r n) p.0
     ∙ not_some (failed_member_of r n) (is_some_least_below (is_failure_before r n) n ∙ p.1)
 
 -- by Linux's rules whoever isn't doomed
 spared_posts : (r : Requests) (n : ℕ) (res : ℤ) → kernel.is_doomed r n ≡ false
     → posts true r n res ≡ posts_completion (entry_of r n) res
-spared_posts r n res spared = ap (λ o. kernel.posts_behind r o n res) (no_breaker r n spared)
+spared_posts r n res spared = ap (λ o. kernel.posts_after r o n res) (no_breaker r n spared)
 
 sound_linux : (g : Setup) (h : History) → g.linux ≡ true → IsLawfulApart g h → IsSoundLinux (world g h).requests
 sound_linux g h is =
@@ -460,4 +460,4 @@ seen_part g seen h x p shown next lawful =
 pub part_seen : (g : Setup) (seen : List Event) (h : History) (x : Event) → IsPart g seen (x ∷ h)
     → is_hidden x.0 ≡ false → slice_get seen (length (seen_in h)) ≡ Some x
 part_seen g seen h x p shown =
-    behind_begun (seen_in h) x seen (subst (λ b. Begins (if b then seen_in h else seen_in h ++ x ∷ []) seen) shown p.shows)
+    after_begun (seen_in h) x seen (subst (λ b. Begins (if b then seen_in h else seen_in h ++ x ∷ []) seen) shown p.shows)

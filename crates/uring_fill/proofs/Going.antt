@@ -1,4 +1,4 @@
--- What stays of a history as it goes on, and what goes on behind one that stands for another.
+-- What stays of a history as it goes on, and what goes on after one that stands for another.
 -- By `CompletionMove`, event by event, and over later events by induction.
 use Rattle.std.proofs.Common.{◌≡◌, ℕ, Bool, true, false, cond, List, [], ◌∷◌, ◌++◌, length, if◌then◌else◌, refl, sym, ap, subst, ◌∙◌, ◌⊎◌, inl, inr}
 use Rattle.std.specs.Prelude.{Contains}
@@ -137,7 +137,7 @@ pub record EndsHere (g : Setup) (seen : List Event) (whole : Bool) (far : ℕ) (
   pub so_far : length (seen_in h) ≡ far
   pub is_whole : whole ≡ true → IsWhole g seen h
 
--- one of these events behind it goes on so
+-- one of these events after it goes on so
 pub record GoesNext (g : Setup) (seen : List Event) (whole : Bool) (far : ℕ) (h : History) (next : List Event) : Type 0 where
   pub event : Event
   pub there : Contains next event
@@ -162,7 +162,7 @@ goes_by g seen whole far (x ∷ later) h next here all p so_far is_whole =
       })
     ]
 
--- what stands behind the beginning, as a list
+-- what stands after the beginning, as a list
 pub onto_is : (later : List Event) (h : History) → onto h later ≡ history_of later ++ h
 onto_is [] h = refl
 onto_is (e ∷ later) h = onto_is later (e ∷ h) ∙ sym (history_of_cons e later h)

@@ -1,7 +1,7 @@
 -- In the order in which they are best read.
 -- Lists that begin with others:
 pub mod Begun
--- What stays as a history goes on, and goes on behind another:
+-- What stays as a history goes on, and goes on after another:
 pub mod Going
 pub mod Seeing
 -- Which events go on from a part, and which are added:

@@ -21,20 +21,20 @@ use Rattle.uring_fill.specs.Filling.{is_hidden, seen_in, completions_in, IsPart}
 abbrev pub paths_of : List (Vec Event Global) → List (List Event)
 paths_of todo = map (λ path. path.items) todo
 
--- a history with these events behind it, the oldest of them first
+-- a history with these events after it, the oldest of them first
 abbrev pub onto : History → List Event → History
 onto h [] = h
 onto h (e ∷ later) = onto (e ∷ h) later
 
 -- whether the completion ring's head was stored since the dispatcher last loaded it
-abbrev pub stale_behind : Bool → Step → Bool
-stale_behind stale step.StoreCqHead = true
-stale_behind stale step.Flush = false
-stale_behind stale _ = stale
+abbrev pub stale_after : Bool → Step → Bool
+stale_after stale step.StoreCqHead = true
+stale_after stale step.Flush = false
+stale_after stale _ = stale
 
 abbrev pub is_stale : History → Bool
 is_stale [] = false
-is_stale (e ∷ before) = stale_behind (is_stale before) e.0
+is_stale (e ∷ before) = stale_after (is_stale before) e.0
 
 -- nothing is left of what was seen, and nothing is outstanding
 pub record IsWhole (g : Setup) (seen : List Event) (h : History) : Type 0 where
@@ -142,7 +142,7 @@ abbrev pub AreAllNext : Setup → List Event → History → List Event → Type
 AreAllNext g seen h next = (x : Event) → IsPart g seen (x ∷ h)
     → IsIdle g h x ⊎ Contains next x
 
--- paths were put behind those that are still to be gone on from: this one with each event behind it that goes on from it, and with others
+-- paths were put after those that are still to be gone on from: this one with each event after it that goes on from it, and with others
 pub record HasLonger (g : Setup) (seen path : List Event) (old new : List (List Event)) : Type 0 where
   pub next : List Event
   pub right : AreNext g seen (history_of path) next

@@ -18,7 +18,7 @@ use crate::starts::add_starts;
 use std::alloc::{AllocError, Global};
 use uring_core::{Answer, Core, Cqe, Step};
 
-/// The events that may come next behind these, which are a part that the core shows, with others that can't come: those that are tried first are the last.
+/// The events that may come next after these, which are a part that the core shows, with others that can't come: those that are tried first are the last.
 pub(crate) fn next_events(
     alloc: Global,
     core: &Core,
@@ -128,7 +128,7 @@ fn add_seen(
     }
 }
 
-/// The step that was seen next behind these, if one is left.
+/// The step that was seen next after these, if one is left.
 fn seen_next(seen: &[(Step, Answer)], events: &[(Step, Answer)]) -> Option<(Step, Answer)>
     ensures { result ≡ slice_get seen.now (length (seen_in (history_of events.now))) }
 {

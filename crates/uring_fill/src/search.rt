@@ -320,7 +320,7 @@ fn add_longer(
     done
 }
 
-/// Puts this path with each of these events behind it among those to be gone on from.
+/// Puts this path with each of these events after it among those to be gone on from.
 fn push_longer(
     alloc: Global,
     path: &[(Step, Answer)],
@@ -336,7 +336,7 @@ fn push_longer(
     Ok(())
 }
 
-/// Puts this path with this event behind it among those to be gone on from.
+/// Puts this path with this event after it among those to be gone on from.
 fn push_one(
     alloc: Global,
     path: &[(Step, Answer)],

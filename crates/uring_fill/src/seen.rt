@@ -40,20 +40,20 @@ fn one_if_seen(step: &Step) -> usize
     if is_hidden(step) { 0 } else { 1 }
 }
 
-/// Whether the completion ring's head was stored in these events behind the last flush.
+/// Whether the completion ring's head was stored in these events after the last flush.
 pub(crate) fn is_stale(events: &[(Step, Answer)]) -> bool
     ensures { result ≡ parts.is_stale (history_of events.now) }
 {
     let mut stale = false;
     for event in events {
-        stale = stale_behind(stale, &event.0);
+        stale = stale_after(stale, &event.0);
     }
     stale
 }
 
-/// Whether that is so behind this step, if it was so before it or not as told.
-fn stale_behind(stale: bool, step: &Step) -> bool
-    ensures { result ≡ parts.stale_behind stale step.now }
+/// Whether that is so after this step, if it was so before it or not as told.
+fn stale_after(stale: bool, step: &Step) -> bool
+    ensures { result ≡ parts.stale_after stale step.now }
 {
     match step {
         Step::StoreCqHead => true,

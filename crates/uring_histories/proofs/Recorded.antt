@@ -74,7 +74,7 @@ made_one g old new h s a line r spelt plain some setup fits called text =
       made = (a, (lawful_apart g ((s, a) ∷ h) lawful).0, plain, refl);
     }
 
--- Steps behind steps.
+-- Steps after steps.
 
 made_then : (g : Setup) (h h' h'' : History) (ss ts : List Step) → MadeAfter g h ss h'
     → MadeAfter g h' ts h'' → MadeAfter g h (ss ++ ts) h''
@@ -82,9 +82,9 @@ made_then g h h' h'' [] ts first second = subst (λ k. MadeAfter g k ts h'') fir
 made_then g h h' h'' (s ∷ ss) ts first second =
     (first.0, first.1, first.2, made_then g ((s, first.0) ∷ h) h' h'' ss ts first.3 second)
 
-pub made_behind : (g : Setup) (t t' : Recording) (h : History) (ss ts : List Step) → (first : HasMade g t h ss)
+pub made_after : (g : Setup) (t t' : Recording) (h : History) (ss ts : List Step) → (first : HasMade g t h ss)
     → HasMade g t' first.after ts → HasMade g t' h (ss ++ ts)
-made_behind g t t' h ss ts first second = record {
+made_after g t t' h ss ts first second = record {
   after = second.after;
   recorded = second.recorded;
   made = made_then g h first.after second.after ss ts first.made second.made;

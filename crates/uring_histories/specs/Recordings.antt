@@ -37,7 +37,7 @@ pub record IsRecorded (g : Setup) (t : Recording) (h : History) : Type 0 where
 abbrev pub IsPlain : Answer → Type 0
 IsPlain a = (a ≡ answer.Again → ⊥) × (a ≡ answer.Spent → ⊥)
 
--- these steps were made behind a history, the oldest first, and each was answered as it is called for
+-- these steps were made after a history, the oldest first, and each was answered as it is called for
 abbrev pub MadeAfter : Setup → History → List Step → History → Type 0
 MadeAfter g h [] after = after ≡ h
 MadeAfter g h (s ∷ later) after = (a : Answer) × CalledForApart g (world g h) s a × IsPlain a

@@ -92,7 +92,7 @@ fn write_text<W: Write>(writer: &mut W, text: &str) -> Result<(), PlayFault>
     }
 }
 
-/// This text behind the line of the set-up, and a remark with the outcome.
+/// This text after the line of the set-up, and a remark with the outcome.
 fn with_head(
     alloc: Global,
     setup: &Setup,

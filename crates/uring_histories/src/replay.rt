@@ -167,7 +167,7 @@ fn finish(recording: &mut Recording, alloc: Global, number: u64) -> Result<(), R
     recording.make_numbered(alloc, "finish ", number, &Step::Finish { number })
 }
 
-/// Accepts the call behind those that were accepted.
+/// Accepts the call after those that were accepted.
 fn accept_next(
     recording: &mut Recording,
     alloc: Global,

@@ -187,13 +187,13 @@ alike_then g h k s a lawful other al =
     with_files g (happens g v s a) (happens g w s a) rings (files_then g h k s a apart (lawful_apart g ((s, a) ∷ k) other) al)
 
 pub alike_go_on : (g : Setup) → AlikeGoOnAlike g
-alike_go_on g [] h k lawful al behind = record { lawful = lawful; alike = al }
-alike_go_on g ((s, a) ∷ rest) h k lawful al behind =
-    let before = alike_go_on g rest h k lawful al behind.1 in
-    let called = alike_answer g (world g (rest ++ h)) (world g (rest ++ k)) s a before.alike behind.0 in
+alike_go_on g [] h k lawful al next = record { lawful = lawful; alike = al }
+alike_go_on g ((s, a) ∷ rest) h k lawful al next =
+    let before = alike_go_on g rest h k lawful al next.1 in
+    let called = alike_answer g (world g (rest ++ h)) (world g (rest ++ k)) s a before.alike next.0 in
     record {
       lawful = (called, before.lawful);
-      alike = alike_then g (rest ++ h) (rest ++ k) s a behind (called, before.lawful) before.alike;
+      alike = alike_then g (rest ++ h) (rest ++ k) s a next (called, before.lawful) before.alike;
     }
 
 pub change_anywhere : (g : Setup) → ChangeAnywhere g

@@ -7,15 +7,15 @@ use Rattle.uring_entry.specs.Requests.{Requests, Ending, entry_of, is_joined, is
 use Rattle.uring_entry.specs.Why.{failed_member_of, is_failure_before}
 use Rattle.uring_entry.proofs.BelowLemmas.{least_below_same}
 use Rattle.uring_linux.specs.Drains.{Drains, is_in_some}
-use Rattle.uring_linux.specs.LinuxRequests.{breaker_of, cancel_result, first_of, found_by, is_doomed, is_found, is_in_faulty_group, is_in_turn, is_issuable, next_of, posts_behind}
-use Rattle.uring_laws.proofs.AlikeRequests.{ReadSame, listed, behind_same, outstanding_same, running_same}
+use Rattle.uring_linux.specs.LinuxRequests.{breaker_of, cancel_result, first_of, found_by, is_doomed, is_found, is_in_faulty_group, is_in_turn, is_issuable, next_of, posts_after}
+use Rattle.uring_laws.proofs.AlikeRequests.{ReadSame, listed, after_same, outstanding_same, running_same}
 use Rattle.uring_laws.proofs.AlikeDrains as drains
 
 -- who posts is asked of entries alone, once it is told who broke the group
-pub behind_one : (r : Requests) (s c : List ℕ) (e : List Ending) (o : Option ℕ) (n : ℕ) (res : ℤ)
-    → posts_behind (listed r s c e) o n res ≡ posts_behind r o n res
-behind_one r s c e None n res = refl
-behind_one r s c e (Some m) n res = refl
+pub after_one : (r : Requests) (s c : List ℕ) (e : List Ending) (o : Option ℕ) (n : ℕ) (res : ℤ)
+    → posts_after (listed r s c e) o n res ≡ posts_after r o n res
+after_one r s c e None n res = refl
+after_one r s c e (Some m) n res = refl
 
 module _ (r : Requests) (s c : List ℕ) (e : List Ending) (a : ReadSame r s c e) where
   abbrev q : Requests
@@ -26,7 +26,7 @@ module _ (r : Requests) (s c : List ℕ) (e : List Ending) (a : ReadSame r s c e
   faulty_same n = refl
 
   pub doomed_same : (n : ℕ) → is_doomed q n ≡ is_doomed r n
-  doomed_same n = ap₂ (λ x y. x || y) (faulty_same n) (behind_same r s c e a n)
+  doomed_same n = ap₂ (λ x y. x || y) (faulty_same n) (after_same r s c e a n)
 
   pub turn_same : (n : ℕ) → is_in_turn q n ≡ is_in_turn r n
   turn_same n = drains.turn_same r s c e a.ended n
@@ -58,9 +58,9 @@ module _ (r : Requests) (s c : List ℕ) (e : List Ending) (a : ReadSame r s c e
       ap (λ b. if b then first_of q n else failed_member_of q n) (faulty_same n)
       ∙ ap₂ (λ x y. if is_in_faulty_group r n then x else y) (first_same n) (failed_one_same n)
 
-  pub posts_same : (n : ℕ) (res : ℤ) → posts_behind q (breaker_of q n) n res ≡ posts_behind r (breaker_of r n) n res
+  pub posts_same : (n : ℕ) (res : ℤ) → posts_after q (breaker_of q n) n res ≡ posts_after r (breaker_of r n) n res
   posts_same n res =
-      behind_one r s c e (breaker_of q n) n res ∙ ap (λ (o : Option ℕ). posts_behind r o n res) (breaker_same n)
+      after_one r s c e (breaker_of q n) n res ∙ ap (λ (o : Option ℕ). posts_after r o n res) (breaker_same n)
 
   pub issuable_same : (d : Drains) (n : ℕ) → is_issuable (record { requests = q; drains = d }) n ≡ is_issuable (record { requests = r; drains = d }) n
   issuable_same d n =

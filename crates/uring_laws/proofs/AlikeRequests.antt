@@ -7,7 +7,7 @@ use Rattle.uring_entry.specs.Layout.{addr_of, user_data_of}
 use Rattle.uring_entry.specs.Below.{all_below}
 use Rattle.uring_entry.specs.Preparation.{is_cancel, is_cancel_all}
 use Rattle.uring_entry.specs.Success.{is_success}
-use Rattle.uring_entry.specs.Requests.{Requests, Ending, entry_of, is_outstanding, is_running, is_doomed, is_behind_failure, is_in_faulty_group, some_member, is_joined, is_ready, is_issuable, is_candidate, is_target, is_soft, holds_back, has_started, has_ended, has_failed, is_cancelled, waits_for, target_of, targets_of, result_for, count_result, cancel_result, chosen_by, next_of}
+use Rattle.uring_entry.specs.Requests.{Requests, Ending, entry_of, is_outstanding, is_running, is_doomed, is_after_failure, is_in_faulty_group, some_member, is_joined, is_ready, is_issuable, is_candidate, is_target, is_soft, holds_back, has_started, has_ended, has_failed, is_cancelled, waits_for, target_of, targets_of, result_for, count_result, cancel_result, chosen_by, next_of}
 use Rattle.uring_entry.proofs.BelowLemmas.{some_below_same, least_below_same}
 use Rattle.uring_laws.specs.Swaps.{HaveSame}
 
@@ -56,15 +56,15 @@ module _ (r : Requests) (s c : List ℕ) (e : List Ending) (a : ReadSame r s c e
   pub running_same : (n : ℕ) → is_running q n ≡ is_running r n
   running_same n = ap₂ (λ x y. x && not y) (a.started n) (a.ended n)
 
-  pub behind_same : (n : ℕ) → is_behind_failure q n ≡ is_behind_failure r n
-  unfolding is_behind_failure is_joined
-  behind_same n =
+  pub after_same : (n : ℕ) → is_after_failure q n ≡ is_after_failure r n
+  unfolding is_after_failure is_joined
+  after_same n =
       some_below_same (λ m. is_joined q m n && is_soft (entry_of r m) && has_failed q m) (λ m. is_joined r m n && is_soft (entry_of r m) && has_failed r m) n
       (λ k lt. ap (λ b. is_joined r k n && is_soft (entry_of r k) && b) (a.failed k))
 
   pub doomed_same : (n : ℕ) → is_doomed q n ≡ is_doomed r n
   unfolding is_doomed some_member is_joined
-  doomed_same n = ap₂ (λ x y. is_in_faulty_group r n || x || y) (behind_same n) (a.cancelled n)
+  doomed_same n = ap₂ (λ x y. is_in_faulty_group r n || x || y) (after_same n) (a.cancelled n)
 
   pub ready_same : (n : ℕ) → is_ready q n ≡ is_ready r n
   unfolding is_ready some_member is_joined

@@ -14,7 +14,7 @@ use Rattle.uring_laws.proofs.AlikeRequests.{AreSame, ReadSame, read_same, listed
 use Rattle.uring_laws.proofs.AlikeLinux as by_linux
 use Rattle.uring_laws.proofs.AlikeDrains.{called_same, going_same}
 
--- what is pushed behind both is found in both
+-- what is pushed after both is found in both
 pub pushed : {X : Type 0} (p : X → Bool) (xs ys zs : List X) → list_any p xs ≡ list_any p ys
     → list_any p (xs ++ zs) ≡ list_any p (ys ++ zs)
 pushed p xs ys zs e =

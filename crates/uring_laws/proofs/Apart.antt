@@ -28,10 +28,10 @@ use Rattle.uring_laws.specs.Swaps.{are_disjoint, are_on_others, stay_apart, stay
 abbrev among : (off len k : ℕ) → Bool
 among off len k = nat_le off k && nat_lt k (off + len)
 
-behind : (old new : List ℕ) (off : ℕ) (now : List ℕ) (k : ℕ) → IsWrittenOver old new off now
+past_written : (old new : List ℕ) (off : ℕ) (now : List ℕ) (k : ℕ) → IsWrittenOver old new off now
     → off + length new ≤ k
     → get_or now k 0 ≡ get_or old k 0
-behind old new off now k w high =
+past_written old new off now k w high =
     w.bytes k
     ∙ ap (λ b. if b then get_or new (k - off) 0 else get_or old k 0) (and_right (nat_le off k) (nat_lt k (off + length new)) (le-ltb k (off + length new) high))
 
@@ -88,10 +88,10 @@ over_either old a b o p apart = elim (cases_lt 0 (length a)) [
       ]
 ]
 
--- what lies behind the bytes that were written
-behind_over : (old new : List ℕ) (off at : ℕ) → off + length new ≤ at
+-- what lies after the bytes that were written
+after_over : (old new : List ℕ) (off at : ℕ) → off + length new ≤ at
     → (drop at (overwritten old off new) ≡ drop at old) × (length (overwritten old off new) - at ≡ length old - at)
-behind_over old new off at past = elim (cases_lt 0 (length new)) [
+after_over old new off at past = elim (cases_lt 0 (length new)) [
   | inr none ↦
       let same : overwritten old off new ≡ old = nothing_over old new off (omega arith) in
       (ap (drop at) same, ap (λ xs. length xs - at) same)
@@ -103,7 +103,7 @@ behind_over old new off at past = elim (cases_lt 0 (length new)) [
             (length-drop at (overwritten old off new) ∙ long ∙ sym (length-drop at old))
             (λ k within.
             get_or-drop at (overwritten old off new) k 0
-            ∙ behind old new off (overwritten old off new) (at + k) w (omega (arith, past))
+            ∙ past_written old new off (overwritten old off new) (at + k) w (omega (arith, past))
             ∙ sym (get_or-drop at old k 0)),
         long,
       )
@@ -112,10 +112,10 @@ behind_over old new off at past = elim (cases_lt 0 (length new)) [
 abbrev read_as : ℕ → ℕ → List ℕ → Outcome
 read_as count n xs = record { res = pos (min count n); bytes = padded (take count xs) }
 
-read_behind : (file : FileContents) (new : List ℕ) (off at count : ℕ) → off + length new ≤ at
+read_after : (file : FileContents) (new : List ℕ) (off at count : ℕ) → off + length new ≤ at
     → read_outcome at count (written off new file) ≡ read_outcome at count file
-read_behind file new off at count past =
-    let p = behind_over file.bytes new off at past in
+read_after file new off at count past =
+    let p = after_over file.bytes new off at past in
     ap₂ (read_as count) p.1 p.0
 
 -- Files of which some are changed.
@@ -208,7 +208,7 @@ gives_on_one files (Read own off len) (Write fd at count more) res apart = refl
 gives_on_one files (Read own off len) (Fsync fd) res apart = refl
 gives_on_one files (Write own off len bytes) (Read fd at count) res apart =
     chosen_as_before (int_eq res (pos len)) files own fd (written off (take len bytes)) (read_outcome at count)
-    (λ same file. read_behind file (take len bytes) off at count (let low : off + len ≤ at = leb-true (off + len) at apart in omega (arith, low, few len bytes)))
+    (λ same file. read_after file (take len bytes) off at count (let low : off + len ≤ at = leb-true (off + len) at apart in omega (arith, low, few len bytes)))
 gives_on_one files (Write own off len bytes) (Write fd at count more) res apart =
     chosen_as_before (int_eq res (pos len)) files own fd (written off (take len bytes)) (λ file. ended_with (if is_too_long at count then neg_ℤ EFBIG else pos count)) (λ same file. refl)
 gives_on_one files (Fsync own) (Read fd at count) res apart =

@@ -1,4 +1,4 @@
--- Who can start before a call accepts entries can start behind it, and the other way round, by either's rules. By Linux's no group that was deferred goes on by a call: something else is outstanding then.
+-- Who can start before a call accepts entries can start after it, and the other way round, by either's rules. By Linux's no group that was deferred goes on by a call: something else is outstanding then.
 use Rattle.std.proofs.Common.{◌≡◌, ℕ, ◌<◌, ◌≤◌, ◌==◌, Bool, true, false, not, ◌&&◌, ◌||◌, nat_lt, if◌then◌else◌, List, [], ◌∷◌, length, refl, sym, ap, ap₂, ◌∙◌, arith, ◌⊎◌, inl, inr, length-append}
 use Rattle.std.specs.List.{list_any}
 use Rattle.std.proofs.lemmas.Bool.{and_parts, cases_Bool, both_ways, not-true, not-false, lt-ltb, false_from_ne_true}
@@ -22,9 +22,9 @@ use Rattle.uring_laws.proofs.LinuxSound.{doom_called}
 use Rattle.uring_laws.proofs.StartedRequests.{CanStart}
 use Rattle.uring_laws.proofs.EndedRequests.{unmoved}
 
--- Who is deferred behind a call.
+-- Who is deferred after a call.
 
--- behind one group that is accepted: whoever was taken before it
+-- after one group that is accepted: whoever was taken before it
 module _ (r : Requests) (d : Drains) where
   -- the drains, whether the group was deferred or not
   abbrev after_group : Bool → Drains
@@ -93,8 +93,8 @@ module _ (l : LinuxRequests) (e : Sqe) where
   with_last = with_last_entry longer_by (length l.requests.accepted) l.drains
 
   -- the requests once the entry was accepted, whether another member follows or not
-  abbrev behind : Bool → LinuxRequests
-  behind linked =
+  abbrev after : Bool → LinuxRequests
+  after linked =
       record { requests = longer_by; drains = if linked then with_last else with_group longer_by with_last }
 
   accepted_taken : (n : ℕ) → IsTaken l n → IsTaken (with_accepted l e) n
@@ -105,7 +105,7 @@ module _ (l : LinuxRequests) (e : Sqe) where
     low : l.drains.from ≤ length longer_by.accepted
     low = let le = t.within in omega (arith, le, more)
 
-    go : (linked : Bool) → IsTaken (behind linked) n
+    go : (linked : Bool) → IsTaken (after linked) n
     go true = record { before = t.before; within = low }
     go false = record {
       before = let lt = t.before in let up = group_from longer_by with_last low in omega (arith, lt, up);
@@ -114,7 +114,7 @@ module _ (l : LinuxRequests) (e : Sqe) where
 
   accepted_fewer : (n : ℕ) → IsTaken l n → is_deferred (with_accepted l e) n ≡ true → is_deferred l n ≡ true
   accepted_fewer n t held = go (is_linked e) held where
-    go : (linked : Bool) → is_deferred (behind linked) n ≡ true → is_deferred l n ≡ true
+    go : (linked : Bool) → is_deferred (after linked) n ≡ true → is_deferred l n ≡ true
     go true f = f
     go false f = group_fewer longer_by with_last n t.before f
 
@@ -127,7 +127,7 @@ module _ (l : LinuxRequests) (e : Sqe) where
         let grown = length-append l.requests.accepted (e ∷ []) in
         omega (arith, lt, le, grown)
 
-    go : (linked : Bool) → is_deferred (behind linked) n ≡ true
+    go : (linked : Bool) → is_deferred (after linked) n ≡ true
     go true = held
     go false = group_keeps longer_by with_last k n b.taken.before low b.still b.free held
 
@@ -182,7 +182,7 @@ someone : (r : Requests) (groups : List Deferred) → is_alone r groups ≡ fals
 unfolding is_alone
 someone r groups e = not-false _ e
 
--- between calls, who was accepted is deferred behind a call exactly if it was before
+-- between calls, who was accepted is deferred after a call exactly if it was before
 deferred_called : (l : LinuxRequests) (entries : List Sqe) (n : ℕ) → n < length l.requests.accepted → IsBetween l
     → is_in_some (with_cut (with_entries l entries)).drains.deferred n ≡ is_deferred l n
 deferred_called l entries n within b = elim (cases_Bool (is_deferred l n)) [

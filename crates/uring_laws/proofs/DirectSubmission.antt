@@ -9,7 +9,7 @@ use Rattle.uring_entry.specs.Submission.{Call, place_of, call_length}
 use Rattle.uring_core.specs.Events.{filled_by, staged_by, takes_position, takes_last, opens_call, opened_by, closes_call, is_store_tail, is_load_head}
 use Rattle.uring_laws.specs.Direct.{last_told, since_last, staged_words, published_words, slot_content, taken_since, entries_taken, has_stopped, open_count, open_call, call_counts, taken_count, loaded_head}
 use Rattle.uring_linux.specs.LinuxRequests.{asks_to_skip}
-use Rattle.uring_core.specs.Stops.{open_taken, taken_entries, some_skips, stops_behind}
+use Rattle.uring_core.specs.Stops.{open_taken, taken_entries, some_skips, stops_after}
 use Rattle.uring_core.specs.World.{World}
 use Rattle.uring_core.specs.Histories.{Event, History, world, IsLawfulApart}
 use Rattle.uring_core.specs.declared.step.Step.{Step}
@@ -42,7 +42,7 @@ pub record DirectSubmission (g : Setup) (h : History) (w : World) : Type 0 where
   pub seen : w.submission.seen_head ≡ loaded_head h
   pub opened : IsOpened g h w.submission.call
 
--- an event behind which a call stops takes a position
+-- an event after which a call stops takes a position
 takes_last_takes : (g : Setup) (before : List Sqe) (e : Event) → takes_position e ≡ false
     → takes_last g before e ≡ false
 takes_last_takes g before (step.Take, answer.Entry entry) idle = absurd cc
@@ -77,7 +77,7 @@ still_opened : (g : Setup) (h : History) (e : Event) (call : Option Call) → Sa
 still_opened g h e None same i = tt
 still_opened g h e (Some call) same i = (i.0 ∙ same.taken, i.1 ∙ same.count)
 
--- how many positions the open call takes once it took one more, behind which it may stop
+-- how many positions the open call takes once it took one more, after which it may stop
 count_further : (stops had : Bool) (count before after last : ℕ)
     → count ≡ (if had then before else last) → eqb before count ≡ false → before + 1 ≡ after
     → (if stops then before + 1 else count) ≡ (if stops || had then after else last)
@@ -200,7 +200,7 @@ submission_direct g h w s a v (takes entry call place opened left at valid) soun
       closed = f.closed;
       openings = f.openings;
       seen = i.seen;
-      opened = (f.opened.0, subst (λ xs. (if stops_behind g (some_skips xs || asks_to_skip entry) entry then call.taken + 1 else call.count) ≡ open_count g ((s, a) ∷ h)) entries f.opened.1);
+      opened = (f.opened.0, subst (λ xs. (if stops_after g (some_skips xs || asks_to_skip entry) entry then call.taken + 1 else call.count) ≡ open_count g ((s, a) ∷ h)) entries f.opened.1);
     }
 submission_direct g h w s a v (drops call place opened left at invalid) sound entries i =
     let f = position_taken g h w (s, a) call opened left refl refl refl refl i in

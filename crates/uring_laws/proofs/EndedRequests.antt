@@ -6,22 +6,22 @@ use Rattle.uring_entry.specs.Success.{is_success}
 use Rattle.uring_entry.specs.Requests.{Requests, Ending, entry_of, has_ended, is_outstanding, is_running, is_doomed, is_cancelled, is_draining, is_in_faulty_group, is_joined, is_ready, some_member, holds_back, waits_for, no_bytes, with_ended}
 use Rattle.uring_entry.specs.Why.{failed_member_of, is_failure_before}
 use Rattle.uring_entry.proofs.BelowLemmas.{some_below_none, least_below_same}
-use Rattle.uring_entry.proofs.RequestLemmas.{list_any_push, has_ended_same, has_ended_other, is_ready_yes, is_ready_inside, is_running_ended_other, is_doomed_faulty, is_doomed_behind, is_doomed_cancelled}
-use Rattle.uring_entry.proofs.EventLemmas.{is_doomed_tells, is_behind_failure_tells, is_behind_failure_from}
+use Rattle.uring_entry.proofs.RequestLemmas.{list_any_push, has_ended_same, has_ended_other, is_ready_yes, is_ready_inside, is_running_ended_other, is_doomed_faulty, is_doomed_after, is_doomed_cancelled}
+use Rattle.uring_entry.proofs.EventLemmas.{is_doomed_tells, is_after_failure_tells, is_after_failure_from}
 use Rattle.uring_linux.specs.declared.deferred.Deferred.{Deferred}
 use Rattle.uring_linux.specs.Drains.{Drains, is_in_some, still_deferred}
 use Rattle.uring_linux.specs.LinuxRequests as kernel
-use Rattle.uring_linux.specs.LinuxRequests.{LinuxRequests, breaker_of, first_of, is_alone, is_deferred, is_in_turn, keeps_back, posts_behind}
+use Rattle.uring_linux.specs.LinuxRequests.{LinuxRequests, breaker_of, first_of, is_alone, is_deferred, is_in_turn, keeps_back, posts_after}
 use Rattle.uring_linux.proofs.Deferring.{not_alone}
 use Rattle.uring_rules.specs.Rules.{ends_doomed, may_start, posts, drains_ended}
 use Rattle.uring_core.proofs.ListCounts.{any_kept}
 use Rattle.uring_laws.proofs.AlikeDrains.{going_same}
-use Rattle.uring_laws.proofs.AlikeLinux.{behind_one}
+use Rattle.uring_laws.proofs.AlikeLinux.{after_one}
 use Rattle.std.proofs.Math.Bool.{or_comm}
 use Rattle.uring_linux.proofs.FaultsKept.{faulty_ended}
 use Rattle.uring_linux.proofs.InOrder.{still_fewer}
 use Rattle.uring_laws.proofs.LinuxSound as sound
-use Rattle.uring_laws.proofs.LinuxSound.{IsFirst, behind_end, failure_end, doom_ended, doom_stays, first_ended, turn_first}
+use Rattle.uring_laws.proofs.LinuxSound.{IsFirst, after_end, failure_end, doom_ended, doom_stays, first_ended, turn_first}
 use Rattle.uring_laws.proofs.StartedRequests.{CanStart}
 
 -- m has ended
@@ -37,7 +37,7 @@ waits_not : (r : Requests) (m n : ℕ) → is_ready r n ≡ true → has_ended r
 waits_not r m n ready still low =
     sym (ap (λ b. not b && waits_for r n m) still) ∙ is_ready_inside r n m ready low
 
--- and is in no group behind it
+-- and is in no group after it
 joined_not : (r : Requests) (m n : ℕ) → is_ready r n ≡ true → has_ended r m ≡ false → m < n
     → is_joined r m n ≡ false
 joined_not r m n ready still low =
@@ -50,7 +50,7 @@ module _ (r : Requests) (m : ℕ) (res : ℤ) (bytes : List ℕ) (n : ℕ) where
   doomed_end : (m < n → is_joined r m n ≡ false) → is_doomed q n ≡ is_doomed r n
   unfolding is_doomed some_member is_joined
   doomed_end apart =
-      ap (λ b. is_in_faulty_group r n || b || is_cancelled r n) (behind_end r m res bytes n apart)
+      ap (λ b. is_in_faulty_group r n || b || is_cancelled r n) (after_end r m res bytes n apart)
 
   waits_end : (k : ℕ) → waits_for q n k ≡ waits_for r n k
   unfolding some_member is_joined
@@ -64,16 +64,16 @@ module _ (r : Requests) (m : ℕ) (res : ℤ) (bytes : List ℕ) (n : ℕ) where
       | inr none ↦ and_right _ _ (waits_end k ∙ none)
     ]
 
-  -- who is doomed stays so behind an end
+  -- who is doomed stays so after an end
   stays_doomed : is_doomed r n ≡ true → is_doomed q n ≡ true
   unfolding some_member is_joined
   stays_doomed doomed = elim (is_doomed_tells r n doomed) [
     | inl faulty ↦ is_doomed_faulty q n faulty
     | inr rest ↦
         elim rest [
-          | inl behind ↦
-              let f = is_behind_failure_tells r n behind in
-              is_doomed_behind q n (is_behind_failure_from q n f.0 (record { before = f.1.before; joined = f.1.joined; soft = f.1.soft; failed = any_kept (λ e. (e.number == f.0) && not (is_success (entry_of r f.0) e.res)) r.ended _ f.1.failed }))
+          | inl after ↦
+              let f = is_after_failure_tells r n after in
+              is_doomed_after q n (is_after_failure_from q n f.0 (record { before = f.1.before; joined = f.1.joined; soft = f.1.soft; failed = any_kept (λ e. (e.number == f.0) && not (is_success (entry_of r f.0) e.res)) r.ended _ f.1.failed }))
           | inr cancelled ↦ is_doomed_cancelled q n cancelled
         ]
   ]
@@ -122,7 +122,7 @@ module _ (r : Requests) (m : ℕ) (res : ℤ) (bytes : List ℕ) (n : ℕ) where
   pub posts_end : (linux : Bool) → (linux ≡ true → IsFirst r n) → has_ended r m ≡ false → (other : ℤ)
       → posts linux q n other ≡ posts linux r n other
   posts_end true first still other =
-      behind_one r r.started r.cancelled q.ended (breaker_of q n) n other ∙ ap (λ (o : Option ℕ). posts_behind r o n other) (breaker_end (first refl) still)
+      after_one r r.started r.cancelled q.ended (breaker_of q n) n other ∙ ap (λ (o : Option ℕ). posts_after r o n other) (breaker_end (first refl) still)
   posts_end false first still other = refl
 
 -- Who can start beside an end.
@@ -152,7 +152,7 @@ module _ (l : LinuxRequests) (m : ℕ) (res : ℤ) (bytes : List ℕ) (n : ℕ) 
   spared_ahead false ready spared =
       sym (doomed_end l.requests m res bytes n (joined_not l.requests m n ready still)) ∙ spared
 
-  -- a request that can start can do so behind the end of another, and could before it if it might then
+  -- a request that can start can do so after the end of another, and could before it if it might then
   pub start_past : (linux : Bool) → n ≢ m → CanStart linux l n → CanStart linux (with_end linux l m res bytes) n
   start_past linux differ c = record {
     outstanding = outstanding_end l.requests m res bytes n differ ∙ c.outstanding;
@@ -178,7 +178,7 @@ not_ended r n out =
 pub not_over : (r : Requests) (n : ℕ) → is_running r n ≡ true → has_ended r n ≡ false
 not_over r n running = not-true _ (and_parts _ (not (has_ended r n)) running).1
 
--- whoever is outstanding behind an end isn't the one that ended
+-- whoever is outstanding after an end isn't the one that ended
 pub other_than : (r : Requests) (m : ℕ) (res : ℤ) (bytes : List ℕ) (n : ℕ)
     → is_outstanding (with_ended r m res bytes) n ≡ true → n ≢ m
 other_than r m res bytes n outstanding same =

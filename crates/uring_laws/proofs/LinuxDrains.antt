@@ -121,7 +121,7 @@ module _ (r : Requests) (d : Drains) (i : IsAmid r d) where
     ]
   ]
 
-  -- if none stays deferred behind a group that doesn't drain, what drains has ended
+  -- if none stays deferred after a group that doesn't drain, what drains has ended
   none_left : (alone : Bool) → is_alone r all ≡ alone → is_faulty_from r d.from ≡ false → d.group ≡ false → still_deferred alone all ≡ []
       → (m : ℕ) → m < length r.accepted → HasDrain r m → has_ended r m ≡ true
   none_left false is fine still none m lt other =
@@ -179,7 +179,7 @@ and_right_no a b is none = sym (ap (λ c. c && b) is) ∙ none
 and_left_no : (a b : Bool) → (a && b) ≡ false → b ≡ true → a ≡ false
 and_left_no a b none is = false_from_ne_true a (λ so. both_ways (a && b) none (and_from a b so is))
 
--- a drain is owed behind an entry, if the entry owes one, or one was owed and it may not take that
+-- a drain is owed after an entry, if the entry owes one, or one was owed and it may not take that
 owed_on : (first was let_in granted : Bool) → (first ≡ false → (was || granted) ≡ true)
     → (first ≡ true → (was && not let_in) ≡ true)
     → (if first then was && not let_in else was || granted) ≡ true

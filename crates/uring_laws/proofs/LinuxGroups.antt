@@ -21,7 +21,7 @@ pub record IsTold (r : Requests) (g : Deferred) : Type 0 where
   pub one : (k : ℕ) → g.from ≤ k → suc k < g.end → is_last r k ≡ false
   pub told : g.drains ≡ false → (k : ℕ) → g.from ≤ k → k < g.end → marks r k ≡ false
 
--- such groups, one behind the other, from one number on and before another
+-- such groups, one after the other, from one number on and before another
 abbrev pub AreTold : Requests → ℕ → List Deferred → ℕ → Type 0
 AreTold r = InOrder (IsTold r)
 
@@ -40,7 +40,7 @@ calm r g n is still low high =
       | inl before ↦ and_left _ _ (is_joined_no r (min m n) (max m n) (g.from - 1) (omega (arith, before, low)) (omega (arith, before, low)) (is.begins (g.from - 1) (omega (arith, before))))
       | inr past ↦ elim (cases_lt m g.end) [
         | inl inside ↦ and_right _ _ (is.told still m past inside)
-        | inr behind ↦ and_left _ _ (is_joined_no r (min m n) (max m n) (g.end - 1) (omega (arith, behind, high)) (omega (arith, behind, high)) (is.ends (g.end - 1) (omega (arith, high))))
+        | inr after ↦ and_left _ _ (is_joined_no r (min m n) (max m n) (g.end - 1) (omega (arith, after, high)) (omega (arith, after, high)) (is.ends (g.end - 1) (omega (arith, high))))
       ]
     ])
 
@@ -90,7 +90,7 @@ gone_calm r low (g ∷ rest) high n m t here gone there lt apart = go g.drains r
       drain_calm r g.end rest high n t.3 later out,
       elim (or_cases (is_among m g) (is_in_some rest m) there) [
         | inl also ↦ (let p = among_tells m g also in calm r g m t.2 is p.0 p.1)
-        | inr behind ↦ drain_calm r g.end rest high m t.3 behind (drain_gone r g.end rest high n m t.3 later out lt)
+        | inr after ↦ drain_calm r g.end rest high m t.3 after (drain_gone r g.end rest high n m t.3 later out lt)
       ],
     )
   ]

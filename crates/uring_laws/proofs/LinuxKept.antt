@@ -1,4 +1,4 @@
--- Of groups that drain by Linux's rules: what is so of the requests whatever happened, and stays as more is accepted behind them.
+-- Of groups that drain by Linux's rules: what is so of the requests whatever happened, and stays as more is accepted after them.
 use Rattle.std.proofs.Common.{◌≡◌, ℕ, suc, ◌-◌, ◌<◌, ◌≤◌, ℤ, min, max, length, true, false, not, ◌&&◌, ◌||◌, ◌==◌, List, refl, sym, ◌∙◌, ap, ap₂, arith, ◌⊎◌, inl, inr}
 use Rattle.std.specs.Prelude.{nat_le, nat_lt}
 use Rattle.std.proofs.lemmas.Bool.{cases_lt, both_ways, and_from, and_parts}
@@ -27,7 +27,7 @@ pub record HasDrain (r : Requests) (n : ℕ) : Type 0 where
 abbrev pub Waits : Requests → ℕ → ℕ → Type 0
 Waits r n m = (drains r n ≡ true) ⊎ HasDrain r m
 
--- Requests that more was accepted behind.
+-- Requests that more was accepted after.
 
 -- the same entries and groups below a bound, and all that had ended
 pub record KeepsGroups (r q : Requests) : Type 0 where

@@ -11,11 +11,11 @@ use Rattle.uring_entry.specs.Success.{is_success}
 use Rattle.uring_entry.specs.Preparation.{is_faulty}
 use Rattle.uring_entry.specs.Submission.{entries_of, places_from}
 use Rattle.uring_entry.specs.declared.errno.TheConstants.{EINVAL, EOPNOTSUPP, ECANCELED}
-use Rattle.uring_entry.specs.Requests.{Requests, Ending, no_request, entry_of, has_started, has_ended, has_failed, is_last, is_soft, is_joined, is_in_group, is_behind_failure, with_call, with_started, with_ended}
+use Rattle.uring_entry.specs.Requests.{Requests, Ending, no_request, entry_of, has_started, has_ended, has_failed, is_last, is_soft, is_joined, is_in_group, is_after_failure, with_call, with_started, with_ended}
 use Rattle.uring_entry.specs.Why.{is_failure_before}
 use Rattle.uring_entry.proofs.BelowLemmas.{some_below_same, some_below_between, some_below_out}
 use Rattle.uring_entry.proofs.RequestLemmas.{is_joined_no, list_any_push, has_failed_other}
-use Rattle.uring_entry.proofs.EventLemmas.{is_joined_started, is_joined_ended, is_behind_failure_tells, is_behind_failure_from}
+use Rattle.uring_entry.proofs.EventLemmas.{is_joined_started, is_joined_ended, is_after_failure_tells, is_after_failure_from}
 use Rattle.uring_linux.specs.LinuxRequests.{LinuxRequests, asks_to_drain, asks_to_skip, has_skipped, is_refused_drain, has_fault, is_in_faulty_group, is_doomed, doomed_result, is_in_turn, keeps_back, is_deferred}
 use Rattle.uring_linux.proofs.FaultsKept.{faulty_ended}
 use Rattle.uring_core.specs.World.{World, requests_of, happens, taking_of, taking_entry_of, ending_of}
@@ -51,7 +51,7 @@ pub record IsSoundLinux (r : Requests) : Type 0 where
   pub ended_how : (n : ℕ) → has_ended r n ≡ true → is_doomed r n ≡ true
       → list_any (is_otherwise r n) r.ended ≡ false
 
--- whoever is in its turn is behind no member of its group that hasn't ended
+-- whoever is in its turn is after no member of its group that hasn't ended
 pub turn_first : (r : Requests) (n : ℕ) → is_in_turn r n ≡ true → IsFirst r n
 unfolding is_in_turn
 turn_first r n turn k lt joined =
@@ -61,7 +61,7 @@ turn_first r n turn k lt joined =
 -- A request starts: neither groups nor who is doomed change.
 
 pub doom_started : (r : Requests) (n m : ℕ) → is_doomed (with_started r n) m ≡ is_doomed r m
-unfolding is_in_faulty_group is_behind_failure is_joined
+unfolding is_in_faulty_group is_after_failure is_joined
 doom_started r n m = refl
 
 pub start_linux : (r : Requests) (n : ℕ) → is_doomed r n ≡ false → IsFirst r n → IsSoundLinux r
@@ -76,7 +76,7 @@ start_linux r n spared first s =
 
 -- A request ends.
 
--- by either's rules the end of another counts for nobody who isn't behind it in its group
+-- by either's rules the end of another counts for nobody who isn't after it in its group
 pub failure_end : (r : Requests) (m : ℕ) (res : ℤ) (bytes : List ℕ) (n : ℕ)
     → (m < n → is_joined r m n ≡ false) → (k : ℕ) → k < n
     → is_failure_before (with_ended r m res bytes) n k ≡ is_failure_before r n k
@@ -88,11 +88,11 @@ failure_end r m res bytes n apart k low = elim (cases_eq k m) [
   | inr differ ↦ ap (λ b. is_joined r k n && is_soft (entry_of r k) && b) (has_failed_other r m res bytes k differ)
 ]
 
-pub behind_end : (r : Requests) (m : ℕ) (res : ℤ) (bytes : List ℕ) (n : ℕ)
+pub after_end : (r : Requests) (m : ℕ) (res : ℤ) (bytes : List ℕ) (n : ℕ)
     → (m < n → is_joined r m n ≡ false)
-    → is_behind_failure (with_ended r m res bytes) n ≡ is_behind_failure r n
-unfolding is_behind_failure
-behind_end r m res bytes n apart =
+    → is_after_failure (with_ended r m res bytes) n ≡ is_after_failure r n
+unfolding is_after_failure
+after_end r m res bytes n apart =
     some_below_same (is_failure_before (with_ended r m res bytes) n) (is_failure_before r n) n (failure_end r m res bytes n apart)
 
 module _ (r : Requests) (n : ℕ) (res : ℤ) (bytes : List ℕ) where
@@ -103,7 +103,7 @@ module _ (r : Requests) (n : ℕ) (res : ℤ) (bytes : List ℕ) where
   pub doom_ended : (m : ℕ) → has_ended r n ≡ false → IsFirst r m
       → is_doomed (with_ended r n res bytes) m ≡ is_doomed r m
   doom_ended m still first =
-      ap₂ (λ x y. x || y) (faulty_ended r n res bytes m) (behind_end r n res bytes m (λ lt. false_from_ne_true _ (λ joined. both_ways _ still (first n lt joined))))
+      ap₂ (λ x y. x || y) (faulty_ended r n res bytes m) (after_end r n res bytes m (λ lt. false_from_ne_true _ (λ joined. both_ways _ still (first n lt joined))))
 
   -- the ends of another stay its ends
   ends_kept : (m : ℕ) → (n == m) ≡ false → list_any (is_otherwise r m) r.ended ≡ false
@@ -145,12 +145,12 @@ module _ (r : Requests) (n : ℕ) (res : ℤ) (bytes : List ℕ) where
   -- who is doomed stays so, whoever ends
   pub doom_stays : (m : ℕ) → is_doomed r m ≡ true → is_doomed (with_ended r n res bytes) m ≡ true
   doom_stays m doomed =
-      elim (or_cases (is_in_faulty_group r m) (is_behind_failure r m) doomed) [
+      elim (or_cases (is_in_faulty_group r m) (is_after_failure r m) doomed) [
         | inl faulty ↦ or_left _ _ (faulty_ended r n res bytes m ∙ faulty)
-        | inr behind ↦
-            let t = is_behind_failure_tells r m behind in
+        | inr after ↦
+            let t = is_after_failure_tells r m after in
             let f = t.1 in
-            or_right _ _ (is_behind_failure_from (with_ended r n res bytes) m t.0 (record { before = f.before; joined = is_joined_ended r n res bytes t.0 m ∙ f.joined; soft = f.soft; failed = any_kept (λ e. (e.number == t.0) && not (is_success (entry_of r t.0) e.res)) r.ended _ f.failed }))
+            or_right _ _ (is_after_failure_from (with_ended r n res bytes) m t.0 (record { before = f.before; joined = is_joined_ended r n res bytes t.0 m ∙ f.joined; soft = f.soft; failed = any_kept (λ e. (e.number == t.0) && not (is_success (entry_of r t.0) e.res)) r.ended _ f.failed }))
       ]
 
 -- A call accepts entries, and closes: what stands before it stays.
@@ -187,9 +187,9 @@ module _ (r : Requests) (entries : List Sqe) (cut : (length r.accepted ≡ 0) �
       ∙ some_below_same (λ m. is_in_group (with_call r entries) m n && has_fault (with_call r entries) m) (λ m. is_in_group r m n && has_fault r m) (length r.accepted)
       (λ k lt. ap₂ (λ x y. x && y) (join_kept r entries cut (min k n) (max k n) (omega (arith, lt, below))) (fault_kept k lt))
 
-  behind_kept : (n : ℕ) → n < length r.accepted → is_behind_failure (with_call r entries) n ≡ is_behind_failure r n
-  unfolding is_behind_failure
-  behind_kept n below =
+  after_kept : (n : ℕ) → n < length r.accepted → is_after_failure (with_call r entries) n ≡ is_after_failure r n
+  unfolding is_after_failure
+  after_kept n below =
       some_below_same (λ m. is_joined (with_call r entries) m n && is_soft (entry_of (with_call r entries) m) && has_failed (with_call r entries) m) (λ m. is_joined r m n && is_soft (entry_of r m) && has_failed r m) n
       (λ k lt.
       ap (λ b. b && is_soft (entry_of (with_call r entries) k) && has_failed (with_call r entries) k) (join_kept r entries cut k n below)
@@ -197,7 +197,7 @@ module _ (r : Requests) (entries : List Sqe) (cut : (length r.accepted ≡ 0) �
 
   pub doom_called : (n : ℕ) → n < length r.accepted
       → is_doomed (with_call r entries) n ≡ is_doomed r n
-  doom_called n below = ap₂ (λ x y. x || y) (faulty_kept n below) (behind_kept n below)
+  doom_called n below = ap₂ (λ x y. x || y) (faulty_kept n below) (after_kept n below)
 
   result_kept : (n : ℕ) → n < length r.accepted → doomed_result (with_call r entries) n ≡ doomed_result r n
   result_kept n below =

@@ -3,7 +3,7 @@ use Rattle.std.proofs.Common.{◌≡◌, ℕ, ◌<◌, ◌≤◌, length, Bool, 
 use Rattle.std.specs.Prelude.{if◌then◌else◌, ◌⊎◌, ◌↔◌}
 use Rattle.std.proofs.lemmas.Bool.{cases_lt, and_from, and_parts, or_parts, or_from, both_ways, lt-ltb, le-ltb, not-true, ltb-true}
 use Rattle.uring_entry.specs.Below.{least_below}
-use Rattle.uring_entry.specs.Requests.{Requests, some_member, entry_of, has_ended, is_outstanding, is_running, is_issuable, is_doomed, is_ready, is_in_faulty_group, is_behind_failure, is_cancelled, is_joined, is_draining, waits_for, holds_back, doomed_result, cancel_result, no_bytes}
+use Rattle.uring_entry.specs.Requests.{Requests, some_member, entry_of, has_ended, is_outstanding, is_running, is_issuable, is_doomed, is_ready, is_in_faulty_group, is_after_failure, is_cancelled, is_joined, is_draining, waits_for, holds_back, doomed_result, cancel_result, no_bytes}
 use Rattle.uring_entry.specs.Preparation.{fault_of}
 use Rattle.uring_entry.specs.Why.{is_faulty_member, is_failure_before, faulty_member_of, failed_member_of, first_doom, doom_of, holder_of, since_of, waiting_for, why_of}
 use Rattle.uring_entry.specs.declared.fault.Fault.{Fault}
@@ -149,15 +149,15 @@ unfolding some_member
 no_faulty r n e =
     sym (is_some_least_below (is_faulty_member r n) (length r.accepted)) ∙ ap is_some e
 
-no_failed : (r : Requests) (n : ℕ) → failed_member_of r n ≡ None → is_behind_failure r n ≡ false
-unfolding is_behind_failure
+no_failed : (r : Requests) (n : ℕ) → failed_member_of r n ≡ None → is_after_failure r n ≡ false
+unfolding is_after_failure
 no_failed r n e = sym (is_some_least_below (is_failure_before r n) n) ∙ ap is_some e
 
 doomed_else : (r : Requests) (n : ℕ) → is_in_faulty_group r n ≡ false
-    → is_behind_failure r n ≡ false → is_doomed r n ≡ true → is_cancelled r n ≡ true
+    → is_after_failure r n ≡ false → is_doomed r n ≡ true → is_cancelled r n ≡ true
 unfolding is_doomed
 doomed_else r n a b doomed =
-    go (is_in_faulty_group r n) (is_behind_failure r n) (is_cancelled r n) a b doomed
+    go (is_in_faulty_group r n) (is_after_failure r n) (is_cancelled r n) a b doomed
   where
     go : (x y z : Bool) → x ≡ false → y ≡ false → ((x || y) || z) ≡ true → z ≡ true
     go x y true p q w = refl

@@ -16,7 +16,7 @@ use Rattle.uring_entry.specs.Submission.{Submission, Place, place_of, taken, sta
 use Rattle.uring_core.specs.World.{World, happens, taking, ending, ending_of}
 use Rattle.uring_core.specs.StepAnswers.{CalledForApart, OrAgain, is_spent, place_answer, entry_answer}
 use Rattle.uring_core.specs.Stops.{stops_at_word}
-use Rattle.uring_laws.specs.Standing.{Stands, FreeSlotIsFilled, WordIsStaged, TailPublishes, with_item, with_items, ItemsArePublished, in_call, CallOpens, ends_behind, PositionIsTaken, CallCloses}
+use Rattle.uring_laws.specs.Standing.{Stands, FreeSlotIsFilled, WordIsStaged, TailPublishes, with_item, with_items, ItemsArePublished, in_call, CallOpens, ends_after, PositionIsTaken, CallCloses}
 use Rattle.uring_core.specs.declared.step.Step.TheVariants as step
 use Rattle.uring_core.specs.declared.answer.Answer.{Answer}
 use Rattle.uring_core.specs.declared.answer.Answer.TheVariants as answer
@@ -146,7 +146,7 @@ call_opens g w count asked a s is_open few called =
 took_entry : (g : Setup) (w : World) (count done : ℕ) (word : ℕ) (entry : Option Sqe) (a : Answer)
     → g.stops ≡ false → a ≡ entry_answer entry
     → taking g (in_call w count done) a
-    ≡ in_call w (if ends_behind g (Some (record { word = word; entry = entry })) then done + 1 else count) (done + 1)
+    ≡ in_call w (if ends_after g (Some (record { word = word; entry = entry })) then done + 1 else count) (done + 1)
 took_entry g w count done word None a goes is = ap (taking g (in_call w count done)) is
 took_entry g w count done word (Some entry) a goes is =
     ap (taking g (in_call w count done)) is ∙ ap (λ b. in_call w (if b then done + 1 else count) (done + 1)) (goes_on g _ entry goes)
@@ -159,10 +159,10 @@ position_taken g goes w count asked done a s few low called =
     let place : Place = get_or l.published at (record { word = 0; entry = None }) in
     let is : slice_get l.published at ≡ Some place = slice_get-get_or l.published at _ within in
     let told : a ≡ place_answer (slice_get l.published at) = called ∙ ap (λ b. if b then answer.NoMore else place_answer (slice_get l.published at)) (ne_eqb done asked (λ same. omega arith)) in
-    (told, took_entry g w asked done place.word place.entry a goes (told ∙ ap place_answer is) ∙ ap (λ p. in_call w (if ends_behind g p then done + 1 else asked) (done + 1)) (sym is))
+    (told, took_entry g w asked done place.word place.entry a goes (told ∙ ap place_answer is) ∙ ap (λ p. in_call w (if ends_after g p then done + 1 else asked) (done + 1)) (sym is))
 
 -- by the manual pages' rules no position ends a call there
-ends_none : (g : Setup) (place : Option Place) → g.linux ≡ false → ends_behind g place ≡ false
+ends_none : (g : Setup) (place : Option Place) → g.linux ≡ false → ends_after g place ≡ false
 ends_none g None manual = refl
 ends_none g (Some place) manual = by place.entry
   where

@@ -6,7 +6,7 @@ use Rattle.uring_entry.specs.Requests as manual
 use Rattle.uring_entry.specs.Requests.{Requests, entry_of, is_outstanding, is_running, is_joined, is_ready, some_member, no_bytes}
 use Rattle.uring_entry.proofs.EventLemmas.{is_doomed_started}
 use Rattle.uring_entry.proofs.RequestLemmas.{is_running_started_other}
-use Rattle.uring_linux.specs.LinuxRequests.{LinuxRequests, breaker_of, first_of, is_deferred, is_in_faulty_group, is_in_turn, posts_behind, with_started}
+use Rattle.uring_linux.specs.LinuxRequests.{LinuxRequests, breaker_of, first_of, is_deferred, is_in_faulty_group, is_in_turn, posts_after, with_started}
 use Rattle.uring_rules.specs.Rules.{ends_doomed, may_start, doomed_result, cancel_result, posts, drains_called, drains_ended}
 use Rattle.uring_core.specs.World.{World, requests_of}
 use Rattle.uring_core.specs.StepAnswers.{issue_answer}
@@ -14,7 +14,7 @@ use Rattle.uring_entry.specs.Setup.{Setup}
 use Rattle.uring_core.specs.declared.answer.Answer.{Answer}
 use Rattle.uring_core.specs.declared.answer.Answer.TheVariants as answer
 use Rattle.uring_laws.proofs.AlikeDrains.{called_same, going_same}
-use Rattle.uring_laws.proofs.AlikeLinux.{behind_one}
+use Rattle.uring_laws.proofs.AlikeLinux.{after_one}
 use Rattle.uring_laws.proofs.LinuxSound.{doom_started}
 
 turn_started : (r : Requests) (m n : ℕ) → is_in_turn (manual.with_started r m) n ≡ is_in_turn r n
@@ -43,7 +43,7 @@ breaker_started r m n = refl
 pub posts_started : (linux : Bool) (r : Requests) (m n : ℕ) (res : ℤ)
     → posts linux (manual.with_started r m) n res ≡ posts linux r n res
 posts_started true r m n res =
-    behind_one r (r.started ++ m ∷ []) r.cancelled r.ended (breaker_of (manual.with_started r m) n) n res ∙ ap (λ (o : Option ℕ). posts_behind r o n res) (breaker_started r m n)
+    after_one r (r.started ++ m ∷ []) r.cancelled r.ended (breaker_of (manual.with_started r m) n) n res ∙ ap (λ (o : Option ℕ). posts_after r o n res) (breaker_started r m n)
 posts_started false r m n res = refl
 
 pub drains_ended_started : (linux : Bool) (l : LinuxRequests) (m n : ℕ) (res : ℤ)
@@ -102,7 +102,7 @@ start_called g w n c =
     let r : Requests = w.requests in
     starts_so (is_outstanding r n) (is_running r n) (ends_doomed g.linux r n) (may_start g.linux (requests_of w) n) (is_cancel (entry_of r n)) (doomed_result g.linux r n) (cancel_result g.linux r n) c.outstanding c.idle c.spared c.ready c.no_cancel
 
--- a request that can start could start before another one did, and can behind it
+-- a request that can start could start before another one did, and can after it
 pub start_before : (linux : Bool) (l : LinuxRequests) (m n : ℕ) → n ≢ m
     → CanStart linux (with_started l m) n → CanStart linux l n
 start_before linux l m n differ c = record {
@@ -113,9 +113,9 @@ start_before linux l m n differ c = record {
   no_cancel = c.no_cancel;
 }
 
-pub start_behind : (linux : Bool) (l : LinuxRequests) (m n : ℕ) → n ≢ m → CanStart linux l n
+pub start_after : (linux : Bool) (l : LinuxRequests) (m n : ℕ) → n ≢ m → CanStart linux l n
     → CanStart linux (with_started l m) n
-start_behind linux l m n differ c = record {
+start_after linux l m n differ c = record {
   outstanding = c.outstanding;
   idle = is_running_started_other l.requests m n differ ∙ c.idle;
   spared = ends_doomed_started linux l.requests m n ∙ c.spared;

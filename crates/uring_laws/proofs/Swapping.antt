@@ -25,7 +25,7 @@ use Rattle.uring_core.specs.declared.answer.Answer.TheVariants as answer
 use Rattle.uring_core.proofs.FileHistory.{files_kept}
 use Rattle.uring_core.proofs.RequestEnds.{doomed_fails}
 use Rattle.uring_laws.specs.Swaps.{AreAlike, ChangePlaces, Ends, StartsChange, StartThenEnd, EndThenStart, start_of}
-use Rattle.uring_laws.proofs.StartedRequests.{CanStart, issued_by, can_start, start_called, start_before, start_behind, ends_doomed_started, posts_started, drains_ended_started}
+use Rattle.uring_laws.proofs.StartedRequests.{CanStart, issued_by, can_start, start_called, start_before, start_after, ends_doomed_started, posts_started, drains_ended_started}
 use Rattle.uring_laws.proofs.EndedRequests.{start_past, start_ahead, not_ended, not_over, other_than, either_order}
 use Rattle.uring_laws.proofs.WholeLaws.{lawful_apart}
 
@@ -100,7 +100,7 @@ starts_change g h m n lawful =
     let two : CanStart g.linux (requests_of (begun w m)) n = can_start g (begun w m) n lawful.0 in
     let differ : n ≢ m = λ same. both_ways (is_running (with_started r m) n) two.idle (subst (λ k. is_running (with_started r m) k ≡ true) (sym same) (is_running_started_same r m (not_ended r m one.outstanding))) in
     let two_first : IsLawful g (start_of n ∷ h) = (start_called g w n (start_before g.linux (requests_of w) m n differ two), lawful.1.1) in
-    let both : IsLawful g (start_of m ∷ start_of n ∷ h) = (start_called g (begun w n) m (start_behind g.linux (requests_of w) n m (λ e. differ (sym e)) one), two_first) in
+    let both : IsLawful g (start_of m ∷ start_of n ∷ h) = (start_called g (begun w n) m (start_after g.linux (requests_of w) n m (λ e. differ (sym e)) one), two_first) in
     record {
       lawful = both;
       alike = record {
@@ -186,12 +186,12 @@ is_end g w false n x may = subst (λ z. IsEnd g w n z (step.Issue n)) (sym may.1
   still = not_ended w.requests n may.0.outstanding;
 })
 
--- m may end behind the start of n exactly if it could before it
+-- m may end after the start of n exactly if it could before it
 module _ (g : Setup) (w : World) (n m : ℕ) (x : Outcome) (differ : m ≢ n) (files : files_of g (begun w n) ≡ files_of g w) where
-  may_behind : (runs : Bool) → MayEnd g w runs m x → MayEnd g (begun w n) runs m x
-  may_behind true may =
+  may_after : (runs : Bool) → MayEnd g w runs m x → MayEnd g (begun w n) runs m x
+  may_after true may =
       (is_running_started_other w.requests n m differ ∙ may.0, subst (λ fs. IsOutcome fs (operation_of (entry_of w.requests m)) x) (sym files) may.1)
-  may_behind false may =
+  may_after false may =
       (record { outstanding = may.0.outstanding; idle = is_running_started_other w.requests n m differ ∙ may.0.idle; doomed = ends_doomed_started g.linux w.requests n m ∙ may.0.doomed }, may.1)
 
   may_before : (runs : Bool) → MayEnd g (begun w n) runs m x → MayEnd g w runs m x
@@ -217,12 +217,12 @@ both_orders g h runs m n x differ may can lawful =
     let started : IsLawful g (start_of n ∷ h) = (start_called g w n can, lawful) in
     let files : files_of g (begun w n) ≡ files_of g w = files_kept g (step.Issue n) answer.Run h (lawful_apart g (start_of n ∷ h) started) tt in
     let first : IsEnd g w m x (end_step runs m) = is_end g w runs m x may in
-    let second : IsEnd g (begun w n) m x (end_step runs m) = is_end g (begun w n) runs m x (may_behind g w n m x differ files runs may) in
+    let second : IsEnd g (begun w n) m x (end_step runs m) = is_end g (begun w n) runs m x (may_after g w n m x differ files runs may) in
     let could : CanStart g.linux (requests_of (ended g w m x)) n = start_past (requests_of w) m x.res x.bytes n first.still g.linux (λ e. differ (sym e)) can in
     let same : world g (end_by runs m x ∷ start_of n ∷ h) ≡ world g (start_of n ∷ end_by runs m x ∷ h) = second.makes ∙ (ended_either g w n m x ∙ ap (λ (u : World). begun u n) (sym first.makes)) in
-    let behind : CalledFor g (world g (end_by runs m x ∷ h)) (step.Issue n) answer.Run = subst (λ u. answer.Run ≡ issue_answer g u n) (sym first.makes) (start_called g (ended g w m x) n could) in
+    let after : CalledFor g (world g (end_by runs m x ∷ h)) (step.Issue n) answer.Run = subst (λ u. answer.Run ≡ issue_answer g u n) (sym first.makes) (start_called g (ended g w m x) n could) in
     record {
-      later = record { lawful = (behind, (first.called, lawful)); alike = alike_same g _ _ same };
+      later = record { lawful = (after, (first.called, lawful)); alike = alike_same g _ _ same };
       earlier = record { lawful = (second.called, started); alike = alike_same g _ _ (sym same) };
     }
 

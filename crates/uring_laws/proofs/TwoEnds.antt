@@ -32,12 +32,12 @@ silent : (g : Setup) (w : World) (n : ℕ) (res : ℤ) (bytes : List ℕ) → po
 silent g w n res bytes none =
     ap (λ b. if b then with_posted g.cq w.completions (completion_for (entry_of w.requests n) res bytes) else w.completions) none
 
--- what n posts behind the end of another, on which whether it posts doesn't depend
-posted_behind : (g : Setup) (w : World) (m n : ℕ) (x y : Outcome)
+-- what n posts after the end of another, on which whether it posts doesn't depend
+posted_after : (g : Setup) (w : World) (m n : ℕ) (x y : Outcome)
     → posts g.linux (with_ended w.requests m x.res x.bytes) n y.res ≡ posts g.linux w.requests n y.res
     → with_end_of g (ended g w m x) n y.res y.bytes
     ≡ (if posts g.linux w.requests n y.res then with_posted g.cq (with_end_of g w m x.res x.bytes) (completion_for (entry_of w.requests n) y.res y.bytes) else with_end_of g w m x.res x.bytes)
-posted_behind g w m n x y same =
+posted_after g w m n x y same =
     ap (λ b. if b then with_posted g.cq (with_end_of g w m x.res x.bytes) (completion_for (entry_of w.requests n) y.res y.bytes) else with_end_of g w m x.res x.bytes) same
 
 -- two ends of which one posts nothing
@@ -46,7 +46,7 @@ posted_first : (g : Setup) (w : World) (m n : ℕ) (x y : Outcome) → posts g.l
     → posts g.linux (with_ended w.requests n y.res y.bytes) m x.res ≡ posts g.linux w.requests m x.res
     → with_end_of g (ended g w m x) n y.res y.bytes ≡ with_end_of g (ended g w n y) m x.res x.bytes
 posted_first g w m n x y none later earlier =
-    posted_behind g w m n x y later
+    posted_after g w m n x y later
     ∙ ap (λ (k : Completions). if posts g.linux w.requests n y.res then with_posted g.cq k (completion_for (entry_of w.requests n) y.res y.bytes) else k) (silent g w m x.res x.bytes none)
     ∙ sym (silent g (ended g w n y) m x.res x.bytes (earlier ∙ none))
 
@@ -111,9 +111,9 @@ gives g w false n x may is = absurd cc
 -- Who may end beside the end of another.
 
 module _ (g : Setup) (w : World) (m n : ℕ) (x y : Outcome) (differ : n ≢ m) where
-  may_behind : (runs : Bool) → (runs ≡ true → IsOutcome (files_of g (ended g w m x)) (operation_of (entry_of w.requests n)) y) → MayEnd g w runs n y → MayEnd g (ended g w m x) runs n y
-  may_behind true given may = (is_running_ended_other w.requests m x.res x.bytes n differ ∙ may.0, given refl)
-  may_behind false given may =
+  may_after : (runs : Bool) → (runs ≡ true → IsOutcome (files_of g (ended g w m x)) (operation_of (entry_of w.requests n)) y) → MayEnd g w runs n y → MayEnd g (ended g w m x) runs n y
+  may_after true given may = (is_running_ended_other w.requests m x.res x.bytes n differ ∙ may.0, given refl)
+  may_after false given may =
       (record { outstanding = outstanding_end w.requests m x.res x.bytes n differ ∙ may.0.outstanding; idle = is_running_ended_other w.requests m x.res x.bytes n differ ∙ may.0.idle; doomed = ends_doomed_stays w.requests m x.res x.bytes n g.linux may.0.doomed }, may.1)
 
   may_before : (runs : Bool) → (runs ≡ true → IsOutcome (files_of g w) (operation_of (entry_of w.requests n)) y) → (runs ≡ false → ends_doomed g.linux w.requests n ≡ true) → MayEnd g (ended g w m x) runs n y → MayEnd g w runs n y
@@ -152,7 +152,7 @@ ends_change g h b c m n x y doomed also quiet apart lawful =
     let end_n : IsEnd g w n y (end_step c n) = is_end g w c n y may_n in
     let second : IsLawful g (end_by c n y ∷ h) = (end_n.called, lawful.1.1) in
     let left_n : files_of g u ≡ changed c (files_of g w) e y.res = ap (files_of g) (sym end_n.makes) ∙ leaves g h c n y second in
-    let end_then_m : IsEnd g u m x (end_step b m) = is_end g u b m x (may_behind g w n m y x (λ same. differ (sym same)) b (λ runs. subst (λ fs. IsOutcome fs d x) (sym left_n) (passes.second runs)) may_m) in
+    let end_then_m : IsEnd g u m x (end_step b m) = is_end g u b m x (may_after g w n m y x (λ same. differ (sym same)) b (λ runs. subst (λ fs. IsOutcome fs d x) (sym left_n) (passes.second runs)) may_m) in
     let both : IsLawful g (end_by b m x ∷ end_by c n y ∷ h) = (subst (λ z. CalledFor g z (end_step b m) (answer.Ended x.res x.bytes)) (sym end_n.makes) end_then_m.called, second) in
     let left : world g (end_by c n y ∷ end_by b m x ∷ h) ≡ ended g v n y = subst (λ z. happens g z (end_step c n) (answer.Ended y.res y.bytes) ≡ ended g v n y) (sym end_m.makes) end_then_n.makes in
     let right : world g (end_by b m x ∷ end_by c n y ∷ h) ≡ ended g u m x = subst (λ z. happens g z (end_step b m) (answer.Ended x.res x.bytes) ≡ ended g u m x) (sym end_n.makes) end_then_m.makes in

@@ -1,5 +1,5 @@
 -- A start changes places with each step that is on the rings, by either's rules: `start_then_rings` and `rings_then_start`.
--- Such a step asks nobody who runs; of the requests it changes at most which are accepted, behind all that there are.
+-- Such a step asks nobody who runs; of the requests it changes at most which are accepted, after all that there are.
 use Rattle.std.proofs.Common.{rules, ◌≡◌, ℕ, ◌<◌, ◌==◌, true, not, List, ◌∷◌, length, Option, Some, None, refl, sym, subst, ap, ◌∙◌, ◌⊎◌}
 use Rattle.std.specs.List.{list_any}
 use Rattle.std.proofs.lemmas.Bool.{and_parts, ltb-true}
@@ -61,7 +61,7 @@ made_either g w n s a (closes accepted missed head call opened all told) on =
     closed_either g w n w.submission.call
 made_either g w n s a _ on = search rules
 
--- Who could start before such a step can start behind it, and the other way round.
+-- Who could start before such a step can start after it, and the other way round.
 
 module _ (g : Setup) (w : World) (n : ℕ) (cut : (length w.requests.accepted ≡ 0) ⊎ (list_any (λ c. c == length w.requests.accepted) w.requests.cuts ≡ true)) (so : g.linux ≡ true → IsBetween (requests_of w)) (within : n < length w.requests.accepted) where
   abbrev can : LinuxRequests → Type 0

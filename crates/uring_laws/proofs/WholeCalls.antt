@@ -26,11 +26,11 @@ record NoneRefused (g : Setup) (before : History) (words : List ℕ) (slot : ℕ
   many : length staged ≡ length words + length items
   stands : Stands (with_items (world g before).submission slot items) staged 0
 
--- the events of an item come right behind what was before
-one_behind : (e : Event) (events : List Event) (before : History) (g : Setup)
+-- the events of an item come right after what was before
+one_after : (e : Event) (events : List Event) (before : History) (g : Setup)
     → IsLawfulApart g (history_of (e ∷ events) ++ before)
     → IsLawfulApart g (history_of events ++ e ∷ before)
-one_behind e events before g lawful =
+one_after e events before g lawful =
     subst (IsLawfulApart g) (history_of_cons e events before) lawful
 
 word_goes_in : (g : Setup) (before : History) (words : List ℕ) (slot word : ℕ) (later : List Published) (a : Answer) (answers : List Answer)
@@ -84,21 +84,21 @@ items_go_in g (bad_word word ∷ later) before words slot [] stands low few many
     absurd (omega (arith, many))
 items_go_in g (bad_word word ∷ later) before words slot (a ∷ answers) stands low few many lawful =
     let events : List Event = zip (item_steps (slot + 1) later) answers in
-    let behind : IsLawfulApart g (history_of events ++ (step.Index word, a) ∷ before) = one_behind (step.Index word, a) events before g lawful in
-    let one = word_staged g (world g before) words word a stands (omega arith) (lawful_before g (history_of events) ((step.Index word, a) ∷ before) behind).0 in
+    let after : IsLawfulApart g (history_of events ++ (step.Index word, a) ∷ before) = one_after (step.Index word, a) events before g lawful in
+    let one = word_staged g (world g before) words word a stands (omega arith) (lawful_before g (history_of events) ((step.Index word, a) ∷ before) after).0 in
     word_goes_in g before words slot word later a answers one.0
     (items_go_in g later ((step.Index word, answer.Staged) ∷ before) (words ++ word ∷ []) (slot + 1) answers one.1 (omega arith) (omega (arith, length_push words word)) (omega (arith, many))
-    (subst (λ x. IsLawfulApart g (history_of events ++ (step.Index word, x) ∷ before)) one.0 behind))
+    (subst (λ x. IsLawfulApart g (history_of events ++ (step.Index word, x) ∷ before)) one.0 after))
 items_go_in g (with_entry entry ∷ later) before words slot [] stands low few many lawful =
     absurd (omega (arith, many))
 items_go_in g (with_entry entry ∷ later) before words slot (a ∷ []) stands low few many lawful =
     absurd (omega (arith, many))
 items_go_in g (with_entry entry ∷ later) before words slot (a ∷ b ∷ answers) stands low few many lawful =
     let events : List Event = zip (item_steps (slot + 1) later) answers in
-    let filling : IsLawfulApart g (history_of ((step.Index slot, b) ∷ events) ++ (step.Fill slot entry, a) ∷ before) = one_behind (step.Fill slot entry, a) ((step.Index slot, b) ∷ events) before g lawful in
+    let filling : IsLawfulApart g (history_of ((step.Index slot, b) ∷ events) ++ (step.Fill slot entry, a) ∷ before) = one_after (step.Fill slot entry, a) ((step.Index slot, b) ∷ events) before g lawful in
     let first = slot_filled g (world g before) words slot entry a stands (omega arith) (lawful_before g (history_of ((step.Index slot, b) ∷ events)) ((step.Fill slot entry, a) ∷ before) filling).0 in
     let staging : IsLawfulApart g (history_of events ++ (step.Index slot, b) ∷ (step.Fill slot entry, answer.Filled) ∷ before) =
-    one_behind (step.Index slot, b) events ((step.Fill slot entry, answer.Filled) ∷ before) g (subst (λ x. IsLawfulApart g (history_of ((step.Index slot, b) ∷ events) ++ (step.Fill slot entry, x) ∷ before)) first.0 filling) in
+    one_after (step.Index slot, b) events ((step.Fill slot entry, answer.Filled) ∷ before) g (subst (λ x. IsLawfulApart g (history_of ((step.Index slot, b) ∷ events) ++ (step.Fill slot entry, x) ∷ before)) first.0 filling) in
     let second = word_staged g (world g ((step.Fill slot entry, answer.Filled) ∷ before)) words slot b first.1 (omega arith) (lawful_before g (history_of events) ((step.Index slot, b) ∷ (step.Fill slot entry, answer.Filled) ∷ before) staging).0 in
     entry_goes_in g before words slot entry later a b answers first.0 second.0
     (items_go_in g later ((step.Index slot, answer.Staged) ∷ (step.Fill slot entry, answer.Filled) ∷ before) (words ++ slot ∷ []) (slot + 1) answers second.1 (omega arith) (omega (arith, length_push words slot)) (omega (arith, many))

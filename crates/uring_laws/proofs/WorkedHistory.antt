@@ -59,7 +59,7 @@ none_dropped : positions_dropped ((step.Take, answer.Dropped) ∷ (step.Take, an
     ≡ 0
 none_dropped = refl
 
--- The ring stands empty at first and again behind the call, whose steps are those for its two items.
+-- The ring stands empty at first and again after the call, whose steps are those for its two items.
 
 stands_first : Stands (world setup []).submission [] 0
 stands_first = record { fresh = refl; call = refl; head = refl; waiting = refl }

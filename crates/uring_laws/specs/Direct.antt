@@ -13,7 +13,7 @@ use Rattle.uring_core.specs.Events.{accepted_by, closes_call, end_told_by, entry
 
 -- What a history tells.
 
--- what is told, behind what was told before
+-- what is told, after what was told before
 abbrev pub with_told : {A : Type 0} → List A → Option A → List A
 with_told before None = before
 with_told before (Some x) = before ++ x ∷ []
@@ -109,7 +109,7 @@ loaded_head h = taken_count (before_last is_load_head h)
 abbrev pub entries_taken : History → List Sqe
 entries_taken h = told entry_taken_by h
 
--- whether the call that was opened last stopped: it took a position behind which it stops
+-- whether the call that was opened last stopped: it took a position after which it stops
 abbrev pub has_stopped : Setup → History → Bool
 has_stopped g [] = false
 has_stopped g (event ∷ before) =

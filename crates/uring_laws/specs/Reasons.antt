@@ -1,6 +1,6 @@
 -- What it says of a request why it stands as it does: laws of any requests, by the manual pages' rules but for the answer to an Issue.
 use Rattle.std.specs.Prelude.{◌≡◌, ◌↔◌, ℕ, ◌<◌, ◌≤◌, ℤ, pos, neg_ℤ, Bool, true, false, if◌then◌else◌, length, Some, ◌⊎◌}
-use Rattle.uring_entry.specs.Requests.{Requests, entry_of, has_ended, is_outstanding, is_running, is_candidate, cancel_result, no_bytes, is_issuable, is_doomed, is_ready, is_in_faulty_group, is_behind_failure, is_cancelled, is_joined, is_draining, holds_back}
+use Rattle.uring_entry.specs.Requests.{Requests, entry_of, has_ended, is_outstanding, is_running, is_candidate, cancel_result, no_bytes, is_issuable, is_doomed, is_ready, is_in_faulty_group, is_after_failure, is_cancelled, is_joined, is_draining, holds_back}
 use Rattle.uring_entry.specs.Preparation.{fault_of, is_faulty, is_cancel, is_cancel_all}
 use Rattle.uring_entry.specs.declared.errno.TheConstants.{ENOENT, EALREADY}
 use Rattle.uring_entry.specs.Why.{is_faulty_member, is_failure_before, why_of}
@@ -86,7 +86,7 @@ IsDoomOf r n (FaultOf m) =
 IsDoomOf r n (FailureOf m) =
     (is_in_faulty_group r n ≡ false) × IsLeastOf (is_failure_before r n) n m
 IsDoomOf r n Cancel =
-    (is_in_faulty_group r n ≡ false) × (is_behind_failure r n ≡ false) × (is_cancelled r n ≡ true)
+    (is_in_faulty_group r n ≡ false) × (is_after_failure r n ≡ false) × (is_cancelled r n ≡ true)
 IsDoomOf r n RefusedDrain = ⊥
 
 abbrev pub DoomIsSaid : Type 0

@@ -72,10 +72,10 @@ CallOpens g = (w : World) (count asked : ℕ) (a : Answer) → Stands w.submissi
     → (OrAgain (answer.Call asked) a ⊎ ((a ≡ answer.Spent) × (is_spent w asked ≡ true)))
     × (happens g w (step.Begin asked) (answer.Call asked) ≡ in_call w asked 0)
 
--- whether a call ends behind this position in a ring that goes on: by Linux's rules behind a word that names no slot
-abbrev pub ends_behind : Setup → Option Place → Bool
-ends_behind g None = false
-ends_behind g (Some place) = not (is_some place.entry) && stops_at_word g
+-- whether a call ends after this position in a ring that goes on: by Linux's rules after a word that names no slot
+abbrev pub ends_after : Setup → Option Place → Bool
+ends_after g None = false
+ends_after g (Some place) = not (is_some place.entry) && stops_at_word g
 
 -- in a ring that goes on it takes its positions one by one, whatever their words and entries, and has no more than those taken once one ends it
 abbrev pub PositionIsTaken : Setup → Type 0
@@ -84,7 +84,7 @@ PositionIsTaken g = g.stops ≡ false → (w : World) (count asked done : ℕ) (
     → CalledForApart g (in_call w asked done) step.Take a
     → (a ≡ place_answer (slice_get w.submission.published (taken w.submission + done)))
     × (happens g (in_call w asked done) step.Take a
-    ≡ in_call w (if ends_behind g (slice_get w.submission.published (taken w.submission + done)) then done + 1 else asked) (done + 1))
+    ≡ in_call w (if ends_after g (slice_get w.submission.published (taken w.submission + done)) then done + 1 else asked) (done + 1))
 
 -- the world after such a call, once the application has loaded the head
 abbrev pub after_call : Setup → World → ℕ → World
@@ -122,7 +122,7 @@ item_answers (bad_word word ∷ later) = answer.Staged ∷ item_answers later
 abbrev pub after_items : List Published → List Answer → History → History
 after_items items answers before = history_of (zip (item_steps 0 items) answers) ++ before
 
--- How a whole call is answered, whose items are staged and published, and which is begun: no item is refused, the tail is behind them, they are published as they are, and the call opens unless memory is refused or the numbers are spent.
+-- How a whole call is answered, whose items are staged and published, and which is begun: no item is refused, the tail is after them, they are published as they are, and the call opens unless memory is refused or the numbers are spent.
 pub record WholeCall (g : Setup) (before : History) (items : List Published) (answers : List Answer) (tail begun : Answer) : Type 0 where
   pub none_refused : answers ≡ item_answers items
   pub tail_is : tail

@@ -8,7 +8,7 @@ use Rattle.uring_laws.specs.Direct.{told, last_told, taken_since, has_stopped, c
 use Rattle.uring_core.specs.declared.step.Step.TheVariants as step
 use Rattle.uring_core.specs.declared.answer.Answer.TheVariants as answer
 
--- The open call, which opened with so many positions, takes no more exactly if it took them all, or a position behind which it stops; and exactly then it may close. io_uring_setup(2), IORING_SETUP_SUBMIT_ALL
+-- The open call, which opened with so many positions, takes no more exactly if it took them all, or a position after which it stops; and exactly then it may close. io_uring_setup(2), IORING_SETUP_SUBMIT_ALL
 pub record EndsThere (g : Setup) (h : History) (opened : ℕ) : Type 0 where
   pub no_more : (take_answer (world g h) ≡ answer.NoMore)
       ↔ ((taken_since h ≡ opened) ⊎ (has_stopped g h ≡ true))

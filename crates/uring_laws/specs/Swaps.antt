@@ -1,4 +1,4 @@
--- Which two events that come one behind the other may change places, and what they leave then: worlds that are alike, which no later answer tells apart. Exploring of one order of each class rests on it.
+-- Which two events that come one after the other may change places, and what they leave then: worlds that are alike, which no later answer tells apart. Exploring of one order of each class rests on it.
 use Rattle.std.specs.Prelude.{◌≡◌, ◌≢◌, ◌⊎◌, ◌<◌, ℕ, ◌+◌, Bool, true, false, not, ◌||◌, nat_le, List, ◌∷◌, ◌++◌, length}
 use Rattle.std.specs.List.{list_any}
 use Rattle.std.specs.Option.{option_map_or}
@@ -48,24 +48,24 @@ abbrev pub AlikeAnswerAlike : Setup → Type 0
 AlikeAnswerAlike g = (v w : World) (s : Step) (a : Answer) → AreAlike g v w → CalledFor g v s a
     → CalledFor g w s a
 
--- the events of `rest` are lawful behind k too, and leave a world that is alike to that behind h
+-- the events of `rest` are lawful after k too, and leave a world that is alike to that after h
 pub record GoesOnAlike (g : Setup) (rest h k : History) : Type 0 where
   pub lawful : IsLawful g (rest ++ k)
   pub alike : AreAlike g (world g (rest ++ h)) (world g (rest ++ k))
 
--- Whatever is lawful behind one of two histories that made alike worlds is lawful behind the other, and the worlds stay alike.
+-- Whatever is lawful after one of two histories that made alike worlds is lawful after the other, and the worlds stay alike.
 abbrev pub AlikeGoOnAlike : Setup → Type 0
 AlikeGoOnAlike g = (rest h k : History) → IsLawful g k → AreAlike g (world g h) (world g k)
     → IsLawful g (rest ++ h) → GoesOnAlike g rest h k
 
 -- Events that change places.
 
--- Behind h came x and then y. The other order is lawful too, each event with the same answer, and leaves a world that is alike.
+-- After h came x and then y. The other order is lawful too, each event with the same answer, and leaves a world that is alike.
 pub record ChangePlaces (g : Setup) (h : History) (x y : Event) : Type 0 where
   pub lawful : IsLawful g (x ∷ y ∷ h)
   pub alike : AreAlike g (world g (y ∷ x ∷ h)) (world g (x ∷ y ∷ h))
 
--- If two events change places, they do so in the midst of a history: what came behind them is lawful behind the other order, and all that was posted and the files are the same at the end.
+-- If two events change places, they do so in the midst of a history: what came after them is lawful after the other order, and all that was posted and the files are the same at the end.
 abbrev pub ChangeAnywhere : Setup → Type 0
 ChangeAnywhere g = (rest h : History) (x y : Event) → ChangePlaces g h x y
     → IsLawful g (rest ++ (y ∷ x ∷ h)) → GoesOnAlike g rest (y ∷ x ∷ h) (x ∷ y ∷ h)
@@ -85,12 +85,12 @@ abbrev pub StartsChange : Setup → Type 0
 StartsChange g = (h : History) (m n : ℕ) → IsLawful g (start_of n ∷ start_of m ∷ h)
     → ChangePlaces g h (start_of m) (start_of n)
 
--- A start changes places with the end of another request behind it.
+-- A start changes places with the end of another request after it.
 abbrev pub StartThenEnd : Setup → Type 0
 StartThenEnd g = (h : History) (m n : ℕ) (e : Event) → Ends g.linux (world g h).requests m e → m ≢ n
     → IsLawful g (e ∷ start_of n ∷ h) → ChangePlaces g h (start_of n) e
 
--- An end changes places with the start of a request behind it that might start before it too: by the manual pages' rules it waited for nobody any more, by Linux's it was in its turn and not deferred.
+-- An end changes places with the start of a request after it that might start before it too: by the manual pages' rules it waited for nobody any more, by Linux's it was in its turn and not deferred.
 abbrev pub EndThenStart : Setup → Type 0
 EndThenStart g = (h : History) (m n : ℕ) (e : Event) → Ends g.linux (world g h).requests m e
     → may_start g.linux (requests_of (world g h)) n ≡ true → IsLawful g (start_of n ∷ e ∷ h)
@@ -102,7 +102,7 @@ PostsNothing is_linux r (step.Finish m, answer.Ended res bytes) = posts is_linux
 PostsNothing is_linux r (step.Issue m, answer.Ended res bytes) = posts is_linux r m res ≡ false
 PostsNothing is_linux r _ = ⊥
 
--- Operations on these files with these outcomes that don't meet: the later one could end so on the files before the earlier one, the earlier one behind the later one, and both orders leave the same files.
+-- Operations on these files with these outcomes that don't meet: the later one could end so on the files before the earlier one, the earlier one after the later one, and both orders leave the same files.
 pub record DontMeet (files : List FileContents) (d : Op) (x : Outcome) (e : Op) (y : Outcome) : Type 0 where
   pub first : IsOutcome files e y
   pub second : IsOutcome (after files e y.res) d x
@@ -129,7 +129,7 @@ are_disjoint off len at count = nat_le (off + len) at || nat_le (at + count) off
 abbrev pub are_on_others : Op → Op → Bool
 are_on_others d e = option_map_or (λ fd. not (is_on fd e)) (file_asked d) true
 
--- Whether two operations on one file stay apart: two reads do, two syncs, a read and a sync, a read and a write that lies before it, and two writes with no byte in common. A write behind a read may make the file longer, and a sync notes the writes before it.
+-- Whether two operations on one file stay apart: two reads do, two syncs, a read and a sync, a read and a write that lies before it, and two writes with no byte in common. A write after a read may make the file longer, and a sync notes the writes before it.
 abbrev pub stay_apart_on_one : Op → Op → Bool
 stay_apart_on_one (Read fd off len) (Read other at count) = true
 stay_apart_on_one (Read fd off len) (Write other at count bytes) = nat_le (at + count) off
@@ -158,7 +158,7 @@ IsOnRings (step.Finish n) = ⊥
 IsOnRings step.Next = ⊥
 IsOnRings s = Unit {0}
 
--- A start changes places with whatever the application does, with each step of a submission call and with a flush, behind it or before it, if its request was accepted before both.
+-- A start changes places with whatever the application does, with each step of a submission call and with a flush, after it or before it, if its request was accepted before both.
 abbrev pub StartThenRings : Setup → Type 0
 StartThenRings g = (h : History) (n : ℕ) (s : Step) (a : Answer) → IsOnRings s
     → IsLawful g ((s, a) ∷ start_of n ∷ h) → ChangePlaces g h (start_of n) (s, a)

@@ -23,7 +23,7 @@ pub fn waiting_call_is_taken()
     ensures closes { (g : Setup) → CallCloses g }
 {}
 
-/// An open call takes no more exactly if it took all positions that it opened with, or one behind which it stops: by the manual pages' rules an entry with a fault in a ring that stops; and exactly then it may close. In a ring that goes on, each call that closed took all positions that it opened with, by Linux's rules if no word was dropped.
+/// An open call takes no more exactly if it took all positions that it opened with, or one after which it stops: by the manual pages' rules an entry with a fault in a ring that stops; and exactly then it may close. In a ring that goes on, each call that closed took all positions that it opened with, by Linux's rules if no word was dropped.
 pub fn calls_end_there()
     ensures there { (g : Setup) → OpenCallEndsThere g }
     ensures all { (g : Setup) → CallsTakeAll g }

@@ -9,12 +9,12 @@ pub fn alike_go_on_alike()
     ensures anywhere { (g : Setup) → ChangeAnywhere g }
 {}
 
-/// Two starts, one behind the other, change places.
+/// Two starts, one after the other, change places.
 pub fn starts_change_places()
     ensures { (g : Setup) → StartsChange g }
 {}
 
-/// A start changes places with the end of another request, unless that carries out a cancel: with one behind it always, and with one before it if the request might start then already.
+/// A start changes places with the end of another request, unless that carries out a cancel: with one after it always, and with one before it if the request might start then already.
 pub fn starts_and_ends_change_places()
     ensures later { (g : Setup) → StartThenEnd g }
     ensures earlier { (g : Setup) → EndThenStart g }
@@ -30,7 +30,7 @@ pub fn doomed_ends_change_places()
     ensures { (g : Setup) → DoomedEndsChange g }
 {}
 
-/// Operations that stay apart don't meet: on different files, or on one file with no byte in common, none behind a read that is written, and no sync beside a write.
+/// Operations that stay apart don't meet: on different files, or on one file with no byte in common, none after a read that is written, and no sync beside a write.
 pub fn operations_that_stay_apart()
     ensures { ApartDontMeet }
 {}

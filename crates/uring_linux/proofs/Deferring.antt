@@ -2,13 +2,13 @@
 use Rattle.std.proofs.Common.{◌≡◌, ℕ, suc, ◌-◌, ◌<◌, ◌≤◌, min, max, length, Bool, true, false, not, ◌&&◌, ◌⊎◌, List, [], ◌∷◌, refl, ◌∙◌, ap, arith, inl, inr}
 use Rattle.std.specs.Prelude.{if◌then◌else◌}
 use Rattle.std.proofs.lemmas.Bool.{cases_lt, both_ways, and_left, and_right, and_from, or_from, or_cases, or_left, or_right, lt-ltb, le-leb, false_from_ne_true}
-use Rattle.uring_entry.specs.Requests.{Requests, entry_of, is_last, is_joined, is_in_group, is_soft, is_behind_failure, has_started, has_ended, has_failed}
+use Rattle.uring_entry.specs.Requests.{Requests, entry_of, is_last, is_joined, is_in_group, is_soft, is_after_failure, has_started, has_ended, has_failed}
 use Rattle.uring_entry.proofs.BelowLemmas.{some_below_none, some_below_some}
 use Rattle.uring_entry.proofs.RequestLemmas.{is_joined_no, has_failed_unended}
 use Rattle.uring_linux.specs.declared.deferred.Deferred.{Deferred}
 use Rattle.uring_linux.specs.Drains.{is_among, is_in_some, from_drain, still_deferred}
 use Rattle.uring_linux.specs.LinuxRequests.{has_fault, is_in_faulty_group, is_doomed, is_alone, after_going_on}
-use Rattle.uring_linux.proofs.InOrder.{InOrder, among_tells, order_spans, order_above, order_behind}
+use Rattle.uring_linux.proofs.InOrder.{InOrder, among_tells, order_spans, order_above, order_after}
 
 -- nothing has happened to n
 pub record IsIdle (r : Requests) (n : ℕ) : Type 0 where
@@ -81,10 +81,10 @@ gone_on r low (g ∷ rest) high within h = go (is_alone r (g ∷ rest)) refl
     go true e =
         let some = h.2.some in
         let spans = order_spans (IsWaiting r) g.end rest high h.3 in
-        let behind : List Deferred = if g.drains then rest else from_drain rest in
+        let after : List Deferred = if g.drains then rest else from_drain rest in
         inr
-        (not_alone r behind g.from (omega (arith, some, spans, within)) (h.2.idle g.from (omega arith) some).ended
-        (false_from_ne_true (is_in_some behind g.from) (λ e. let past : g.end ≤ g.from = order_above (IsWaiting r) g.end behind high g.from (order_behind (IsWaiting r) g.end g.drains rest high h.3) e in omega (arith, past, some))))
+        (not_alone r after g.from (omega (arith, some, spans, within)) (h.2.idle g.from (omega arith) some).ended
+        (false_from_ne_true (is_in_some after g.from) (λ e. let past : g.end ≤ g.from = order_above (IsWaiting r) g.end after high g.from (order_after (IsWaiting r) g.end g.drains rest high h.3) e in omega (arith, past, some))))
 
 -- No member is doomed.
 
@@ -96,9 +96,9 @@ outside_joined : (r : Requests) (g : Deferred) (m n : ℕ) → IsWaiting r g →
     → is_joined r m n ≡ false
 outside_joined r g m n w lt le = is_joined_no r m n (g.from - 1) (omega arith) (omega arith) (w.begins (g.from - 1) (omega arith))
 
-pub behind_joined : (r : Requests) (g : Deferred) (n m : ℕ) → IsWaiting r g → n < g.end → g.end ≤ m
+pub after_joined : (r : Requests) (g : Deferred) (n m : ℕ) → IsWaiting r g → n < g.end → g.end ≤ m
     → is_joined r n m ≡ false
-behind_joined r g n m w lt le = is_joined_no r n m (g.end - 1) (omega arith) (omega arith) (w.ends (g.end - 1) (omega arith))
+after_joined r g n m w lt le = is_joined_no r n m (g.end - 1) (omega arith) (omega arith) (w.ends (g.end - 1) (omega arith))
 
 in_group_up : (r : Requests) (m n : ℕ) → m ≤ n → is_in_group r m n ≡ is_joined r m n
 in_group_up r m n le =
@@ -114,7 +114,7 @@ in_group_down r m n le =
 
 pub not_doomed : (r : Requests) (g : Deferred) (n : ℕ) → IsWaiting r g → g.from ≤ n → n < g.end
     → is_doomed r n ≡ false
-unfolding is_in_faulty_group is_behind_failure
+unfolding is_in_faulty_group is_after_failure
 not_doomed r g n w low high =
     or_from _ _
     (some_below_none (λ m. is_in_group r m n && has_fault r m) (length r.accepted)
@@ -124,7 +124,7 @@ not_doomed r g n w low high =
       | inr past ↦
           elim (cases_lt m g.end) [
             | inl inside ↦ and_right _ _ (w.healthy m past inside)
-            | inr behind ↦ and_left _ _ (in_group_down r m n (omega arith) ∙ behind_joined r g n m w high behind)
+            | inr after ↦ and_left _ _ (in_group_down r m n (omega arith) ∙ after_joined r g n m w high after)
           ]
     ]))
     (some_below_none (λ m. is_joined r m n && is_soft (entry_of r m) && has_failed r m) n

@@ -1,4 +1,4 @@
--- Groups with a fault: which they are stays, as more is accepted behind them, starts and ends.
+-- Groups with a fault: which they are stays, as more is accepted after them, starts and ends.
 use Rattle.std.proofs.Common.{◌≡◌, ℕ, suc, ◌<◌, ◌≤◌, ℤ, min, max, length, true, false, not, ◌&&◌, ◌||◌, List, [], ◌∷◌, refl, ◌∙◌, ap, arith, inl, inr, length-append}
 use Rattle.std.specs.Prelude.{nat_le}
 use Rattle.std.proofs.lemmas.Bool.{cases_Bool, both_ways, and_from, and_parts, le-leb, leb-true, false_from_ne_true}

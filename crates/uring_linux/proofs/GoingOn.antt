@@ -11,7 +11,7 @@ use Rattle.uring_linux.specs.LinuxRequests.{LinuxRequests, is_alone, is_in_turn,
 use Rattle.uring_linux.specs.Happenings.{Happening, made_by, MayHaveHappened}
 use Rattle.uring_linux.specs.Laws.{GoesOn}
 use Rattle.uring_linux.specs.LinuxWhy.{least_free_of}
-use Rattle.uring_linux.proofs.Deferring.{HasGoneOn, held_by, behind_joined}
+use Rattle.uring_linux.proofs.Deferring.{HasGoneOn, held_by, after_joined}
 use Rattle.uring_linux.proofs.Reaching.{IsSettled, all_between}
 
 abbrev is_free : LinuxRequests → ℕ → Bool
@@ -56,7 +56,7 @@ free_turn l m s least =
                 let out = not-true (is_deferred l m) (and_parts (is_outstanding r m) (not (is_deferred l m)) least.holds).1 in
                 elim (cases_lt m h.group.end) [
                   | inl inside ↦ absurd (both_ways (is_in_some l.drains.deferred m) out (h.members m past inside))
-                  | inr behind ↦ and_left _ _ (behind_joined r h.group j m h.waiting h.high behind)
+                  | inr after ↦ and_left _ _ (after_joined r h.group j m h.waiting h.high after)
                 ]
           ]
     ]))

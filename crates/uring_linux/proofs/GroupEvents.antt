@@ -24,7 +24,7 @@ fault_accepted r e k lt =
     ap (λ b. b || is_refused_drain (with_accepted r e) k) (entry_same r e is_faulty k lt)
     ∙ ap (λ b. is_faulty (entry_of r k) || b) (refused_accepted r e k lt)
 
--- behind a group that was closed
+-- after a group that was closed
 pub told_closed : (g : Group) (r : Requests) (e : Sqe) → TellsGroup g r
     → ((k : ℕ) → suc k ≡ g.end → is_last r k ≡ true) → has_ended r (length r.accepted) ≡ false
     → TellsGroup g (with_accepted r e)
@@ -135,10 +135,10 @@ ended_stays r n res bytes k e =
       | inr other ↦ has_ended_other r n res bytes k other ∙ e
     ]
 
--- the least member behind an end
-least_behind : (least n : ℕ) (P : ℕ → Type 0) → (least ≡ n → P (n + 1)) → P least
+-- the least member after an end
+least_after : (least n : ℕ) (P : ℕ → Type 0) → (least ≡ n → P (n + 1)) → P least
     → P (if least == n then n + 1 else least)
-least_behind least n P here other =
+least_after least n P here other =
     elim (cases_eq least n) [
       | inl same ↦ subst P (sym (ap (λ b. if b then n + 1 else least) (eq-eqb least n same))) (here same)
       | inr apart ↦ subst P (sym (ap (λ b. if b then n + 1 else least) (ne_eqb least n apart))) other
@@ -155,9 +155,9 @@ told_ended g r n res bytes breaks m going is =
     let few = t.high in
     record {
       group = group_ended r n res bytes g.from g.end t.group;
-      low = least_behind g.least n (λ x. g.from ≤ x) (λ e. omega arith) t.low;
-      high = least_behind g.least n (λ x. x ≤ g.end) (λ e. omega arith) t.high;
-      ended = least_behind g.least n (λ x. (k : ℕ) → g.from ≤ k → k < x → has_ended (with_ended r n res bytes) k ≡ true)
+      low = least_after g.least n (λ x. g.from ≤ x) (λ e. omega arith) t.low;
+      high = least_after g.least n (λ x. x ≤ g.end) (λ e. omega arith) t.high;
+      ended = least_after g.least n (λ x. (k : ℕ) → g.from ≤ k → k < x → has_ended (with_ended r n res bytes) k ≡ true)
           (λ e k le lt.
           elim (cases_lt k n) [
             | inl under ↦ ended_stays r n res bytes k (t.ended k le (omega (arith, under, e)))

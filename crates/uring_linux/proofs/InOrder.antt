@@ -1,11 +1,11 @@
--- Groups that a drain holds back, one behind the other: where their members stand, and who goes on before whom.
+-- Groups that a drain holds back, one after the other: where their members stand, and who goes on before whom.
 use Rattle.std.proofs.Common.{◌≡◌, ℕ, ◌<◌, ◌≤◌, Bool, true, false, not, ◌&&◌, ◌||◌, List, [], ◌∷◌, ◌++◌, refl, arith, ◌⊎◌, inl, inr}
 use Rattle.std.specs.Prelude.{if◌then◌else◌}
 use Rattle.std.proofs.lemmas.Bool.{both_ways, and_right, and_from, and_parts, or_from, or_left, or_right, or_cases, or_parts, not-false, lt-ltb, le-leb, le-ltb, leb-true, ltb-true}
 use Rattle.uring_linux.specs.declared.deferred.Deferred.{Deferred}
 use Rattle.uring_linux.specs.Drains.{is_among, is_in_some, is_none, from_drain, still_deferred}
 
--- groups of which this holds, from one number on and before another, one behind the other
+-- groups of which this holds, from one number on and before another, one after the other
 abbrev pub InOrder : (Deferred → Type 0) → ℕ → List Deferred → ℕ → Type 0
 InOrder P low [] high = low ≤ high
 InOrder P low (g ∷ rest) high = (low ≤ g.from) × (g.from < g.end) × P g × InOrder P g.end rest high
@@ -97,7 +97,7 @@ module _ (P : Deferred → Type 0) where
   order_push low [] high g le some is o = (let e : low ≤ high = o in omega (arith, le, e), some, is, omega arith)
   order_push low (x ∷ rest) high g le some is o = (o.0, o.1, o.2, order_push x.end rest high g le some is o.3)
 
-  -- a member isn't below the first group, nor behind the last
+  -- a member isn't below the first group, nor after the last
   pub order_above : (low : ℕ) (xs : List Deferred) (high k : ℕ) → InOrder P low xs high → is_in_some xs k ≡ true → low ≤ k
   order_above low [] high k o e = absurd (let f : false ≡ true = e in cc)
   order_above low (g ∷ rest) high k o e =
@@ -123,18 +123,18 @@ module _ (P : Deferred → Type 0) where
     go true later = o
     go false later = order_lower low g.end (from_drain rest) high (let a : low ≤ g.from = o.0 in let b : g.from < g.end = o.1 in omega (arith, a, b)) later
 
-  -- those behind the first that go on
-  pub order_behind : (low : ℕ) (drains : Bool) (rest : List Deferred) (high : ℕ) → InOrder P low rest high
+  -- those after the first that go on
+  pub order_after : (low : ℕ) (drains : Bool) (rest : List Deferred) (high : ℕ) → InOrder P low rest high
       → InOrder P low (if drains then rest else from_drain rest) high
-  order_behind low true rest high o = o
-  order_behind low false rest high o = order_drain low rest high o
+  order_after low true rest high o = o
+  order_after low false rest high o = order_drain low rest high o
 
   pub order_still : (alone : Bool) (low : ℕ) (xs : List Deferred) (high : ℕ) → InOrder P low xs high
       → InOrder P low (still_deferred alone xs) high
   order_still alone low [] high o = o
   order_still false low (g ∷ rest) high o = o
   order_still true low (g ∷ rest) high o =
-      order_lower low g.end (if g.drains then rest else from_drain rest) high (let a : low ≤ g.from = o.0 in let b : g.from < g.end = o.1 in omega (arith, a, b)) (order_behind g.end g.drains rest high o.3)
+      order_lower low g.end (if g.drains then rest else from_drain rest) high (let a : low ≤ g.from = o.0 in let b : g.from < g.end = o.1 in omega (arith, a, b)) (order_after g.end g.drains rest high o.3)
 
   pub drain_before : (low : ℕ) (xs : List Deferred) (high n k : ℕ) → InOrder P low xs high → is_in_some xs n ≡ true
       → is_in_some (from_drain xs) n ≡ false → is_in_some (from_drain xs) k ≡ true → n < k
@@ -158,8 +158,8 @@ module _ (P : Deferred → Type 0) where
   still_before false low (g ∷ rest) high n k o here gone stays = absurd (both_ways (is_in_some (g ∷ rest) n) gone here)
   still_before true low (g ∷ rest) high n k o here gone stays = go g.drains gone stays where
     first : is_in_some rest k ≡ true → is_among n g ≡ true → n < k
-    first behind among =
-        let past : g.end ≤ k = order_above g.end rest high k o.3 behind in
+    first after among =
+        let past : g.end ≤ k = order_above g.end rest high k o.3 after in
         let end : n < g.end = (among_tells n g among).1 in
         omega (arith, past, end)
 

@@ -19,7 +19,7 @@ pub turn_is : (r : Requests) (n : ℕ) → is_in_turn r n ≡ not (is_some (leas
 unfolding is_in_turn
 turn_is r n = ap not (sym (is_some_least_below (keeps_back r n) n))
 
--- a search that begins later, behind numbers at which the test fails
+-- a search that begins later, after numbers at which the test fails
 pub first_member_later : (p : ℕ → Bool) (from later n : ℕ) → from ≤ later
     → ((k : ℕ) → from ≤ k → k < later → p k ≡ false)
     → first_member p later n ≡ first_member p from n
@@ -38,7 +38,7 @@ first_member_later p from later n le fails =
       | inr past ↦ ap (λ b. b && p m) (le-leb later m past ∙ sym (le-leb from m (omega arith)))
     ])
 
--- whoever stands right behind a member that hasn't ended isn't in turn
+-- whoever stands right after a member that hasn't ended isn't in turn
 pub not_in_turn : (r : Requests) (n : ℕ) → 0 < n → is_last r (n - 1) ≡ false → has_ended r (n - 1) ≡ false
     → is_in_turn r n ≡ false
 unfolding is_in_turn

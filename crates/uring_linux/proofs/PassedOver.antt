@@ -1,4 +1,4 @@
--- What a search may pass over: requests that have ended, and members of a group behind one that hasn't.
+-- What a search may pass over: requests that have ended, and members of a group after one that hasn't.
 use Rattle.std.proofs.Common.{◌≡◌, ℕ, ◌+◌, ◌-◌, ◌<◌, ◌≤◌, Bool, true, false, not, ◌&&◌, Some, refl, ◌∙◌, ap, arith, inl, inr}
 use Rattle.std.proofs.lemmas.Bool.{cases_lt, and_left, and_right, and_from, le-leb}
 use Rattle.uring_entry.specs.Below.{count_below}
@@ -42,22 +42,22 @@ least_within s r q h here =
     let count = h.count in
     omega arith
 
--- Behind a member that hasn't ended, no member is in turn.
+-- After a member that hasn't ended, no member is in turn.
 
 pub ended_passed : (r : Requests) (n k : ℕ) (g : Group) → IsMember r n g → n < k → k < g.least
     → (is_outstanding r k && is_in_turn r k) ≡ false
-ended_passed r n k g m behind lt =
+ended_passed r n k g m after lt =
     let low = m.low in
     and_left _ _ (and_right _ _ (ap not (m.told.ended k (omega arith) lt)))
 
-pub behind_passed : (r : Requests) (n k : ℕ) (g : Group) → IsMember r n g → has_ended r n ≡ false → n < k
+pub after_passed : (r : Requests) (n k : ℕ) (g : Group) → IsMember r n g → has_ended r n ≡ false → n < k
     → k < g.end → (is_outstanding r k && is_in_turn r k) ≡ false
 unfolding is_in_turn
-behind_passed r n k g m going behind lt =
+after_passed r n k g m going after lt =
     let low = m.low in
     and_right _ _
     (ap not
-    (some_below_some (keeps_back r k) k n behind
+    (some_below_some (keeps_back r k) k n after
     (and_from _ _
     (joined_member r g.from g.end n k m.told.group (omega arith) lt (omega arith) ∙ le-leb g.from n low)
     (ap not going))))

@@ -355,7 +355,7 @@ roomed first items room other r h = record {
   grouped = h.grouped;
 }
 
--- whether skipped success was asked for, behind one more entry
+-- whether skipped success was asked for, after one more entry
 pub skipped_accepted : (r : Requests) (e : Sqe) (b : Bool)
     → b ≡ some_below (λ m. asks_to_skip (entry_of r m)) (length r.accepted)
     → (b || asks_to_skip e) ≡ some_below (λ m. asks_to_skip (entry_of (with_accepted r e) m)) (length r.accepted + 1)

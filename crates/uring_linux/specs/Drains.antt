@@ -9,7 +9,7 @@ pub record Drains : Type 0 where
   pub ring : Bool
   -- whether a drain is owed to the next group
   pub owed : Bool
-  -- the number behind the last group that was accepted: from there on the entries of the next are taken
+  -- the number after the last group that was accepted: from there on the entries of the next are taken
   pub from : ℕ
   -- whether that next group drains, as far as its entries were taken
   pub group : Bool
@@ -32,25 +32,25 @@ is_in_some groups n = list_any (is_among n) groups
 abbrev pub takes_owed : Drains → (is_first is_let_in : Bool) → Bool
 takes_owed d is_first is_let_in = d.owed && (is_first && is_let_in)
 
--- Whether a drain is owed behind an entry: what was owed and isn't taken still is, and a drain that isn't the first of its group owes one.
-abbrev pub owed_behind : Drains → (is_first is_let_in is_drain : Bool) → Bool
-owed_behind d is_first is_let_in is_drain =
+-- Whether a drain is owed after an entry: what was owed and isn't taken still is, and a drain that isn't the first of its group owes one.
+abbrev pub owed_after : Drains → (is_first is_let_in is_drain : Bool) → Bool
+owed_after d is_first is_let_in is_drain =
     if is_first then d.owed && not is_let_in else d.owed || is_drain
 
 -- An entry is taken. From a drain on the ring and the group drain, and from one that is owed.
 abbrev pub with_entry : Drains → (is_first is_let_in is_drain : Bool) → Drains
 with_entry d is_first is_let_in is_drain = record d {
   ring = d.ring || (is_drain || takes_owed d is_first is_let_in);
-  owed = owed_behind d is_first is_let_in is_drain;
+  owed = owed_after d is_first is_let_in is_drain;
   group = d.group || (is_drain || takes_owed d is_first is_let_in);
 }
 
--- the groups behind the first ones that don't drain
+-- the groups after the first ones that don't drain
 abbrev pub from_drain : List Deferred → List Deferred
 from_drain [] = []
 from_drain (g ∷ rest) = if g.drains then g ∷ rest else from_drain rest
 
--- What of these groups stays deferred. If all that is outstanding belongs to them, the first goes on, and with one that doesn't drain those behind it up to the next that drains.
+-- What of these groups stays deferred. If all that is outstanding belongs to them, the first goes on, and with one that doesn't drain those after it up to the next that drains.
 abbrev pub still_deferred : (is_alone : Bool) → List Deferred → List Deferred
 still_deferred is_alone [] = []
 still_deferred is_alone (g ∷ rest) =

@@ -34,7 +34,7 @@ MayHappen l (Call entries) = Unit {0}
 MayHappen l (Start n) = is_issuable l n ≡ true
 MayHappen l (End n res bytes) = (is_running l.requests n || is_issuable l n) ≡ true
 
--- each of these, the newest first, may have happened behind the earlier ones
+-- each of these, the newest first, may have happened after the earlier ones
 abbrev pub MayHaveHappened : List Happening → Type 0
 MayHaveHappened [] = Unit {0}
 MayHaveHappened (h ∷ earlier) = MayHappen (made_by earlier) h × MayHaveHappened earlier

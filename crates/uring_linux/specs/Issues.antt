@@ -7,12 +7,12 @@ use Rattle.uring_dispatch.specs.declared.answers.Posts.{Posts}
 use Rattle.uring_dispatch.specs.declared.answers.Posts.TheVariants.{Completion, Nothing}
 use Rattle.uring_linux.specs.declared.answers.Issued.{Issued}
 use Rattle.uring_linux.specs.declared.answers.Issued.TheVariants.{Run, Ended, NotReady, Running, Unknown}
-use Rattle.uring_linux.specs.LinuxRequests.{LinuxRequests, is_in_turn, is_doomed, is_deferred, doomed_result, cancel_result, posts_behind, breaker_of, with_started, with_ended}
+use Rattle.uring_linux.specs.LinuxRequests.{LinuxRequests, is_in_turn, is_doomed, is_deferred, doomed_result, cancel_result, posts_after, breaker_of, with_started, with_ended}
 
 -- what the end of n with this result posts, which this one's failure brought about or nobody's
 abbrev pub posts_as : Requests → Option ℕ → ℕ → ℤ → Posts
 posts_as r breaker n res =
-    if posts_behind r breaker n res then Completion (user_data_of (entry_of r n)) else Nothing
+    if posts_after r breaker n res then Completion (user_data_of (entry_of r n)) else Nothing
 
 -- what the end of n with this result posts
 abbrev pub posts_of : Requests → ℕ → ℤ → Posts

@@ -6,7 +6,7 @@ use Rattle.uring_entry.specs.Layout.{Sqe, has, addr_of, user_data_of}
 use Rattle.uring_entry.specs.Preparation.{fault_of, is_faulty, is_cancel_all}
 use Rattle.uring_entry.specs.Success.{posts_completion}
 use Rattle.uring_entry.specs.Requests as manual
-use Rattle.uring_entry.specs.Requests.{Requests, entry_of, is_linked, is_drain, is_joined, is_in_group, is_behind_failure, is_outstanding, is_running, has_ended}
+use Rattle.uring_entry.specs.Requests.{Requests, entry_of, is_linked, is_drain, is_joined, is_in_group, is_after_failure, is_outstanding, is_running, has_ended}
 use Rattle.uring_entry.specs.Why.{failed_member_of}
 use Rattle.uring_entry.specs.Below.{some_below, least_below}
 use Rattle.uring_entry.specs.declared.fault.Fault.{Fault}
@@ -25,7 +25,7 @@ no_request = record { requests = manual.no_request; drains = no_drains }
 
 -- Faults, and what counts of flags.
 
--- Linux looks at an entry's operation and flags first. Where one of these is refused, it comes no further: such an entry doesn't drain, and has no drain refused behind it, though it asks to skip. With another fault an entry drains all the same, and drains behind it are refused if it asks to skip. Who posts goes by the flag alone.
+-- Linux looks at an entry's operation and flags first. Where one of these is refused, it comes no further: such an entry doesn't drain, and has no drain refused after it, though it asks to skip. With another fault an entry drains all the same, and drains after it are refused if it asks to skip. Who posts goes by the flag alone.
 abbrev pub is_seen_first : Fault → Bool
 is_seen_first Flags = true
 is_seen_first Opcode = true
@@ -75,9 +75,9 @@ unfoldable pub is_in_faulty_group : Requests → ℕ → Bool
 is_in_faulty_group r n =
     some_below (λ m. is_in_group r m n && has_fault r m) (length r.accepted)
 
--- whether n is doomed: in a group with a fault, or behind a member with a soft link that failed
+-- whether n is doomed: in a group with a fault, or after a member with a soft link that failed
 abbrev pub is_doomed : Requests → ℕ → Bool
-is_doomed r n = is_in_faulty_group r n || is_behind_failure r n
+is_doomed r n = is_in_faulty_group r n || is_after_failure r n
 
 -- what a doomed request ends with: its own fault's number, that of a refused drain first, else ECANCELED
 abbrev pub doomed_result : Requests → ℕ → ℤ
@@ -137,14 +137,14 @@ cancel_result r n =
 unfoldable pub first_of : Requests → ℕ → Option ℕ
 first_of r n = least_below (λ m. is_joined r m n) n
 
--- Whose failure ends n as cancelled, if another's does: in a group with a fault the first member counts for all behind it.
+-- Whose failure ends n as cancelled, if another's does: in a group with a fault the first member counts for all after it.
 abbrev pub breaker_of : Requests → ℕ → Option ℕ
 breaker_of r n = if is_in_faulty_group r n then first_of r n else failed_member_of r n
 
--- Whether the end of n with this result posts a completion, if this one's failure brought it about or nobody's. Behind a member that failed and asks to skip nobody posts, and behind another everybody, whatever its own flags.
-abbrev pub posts_behind : Requests → Option ℕ → ℕ → ℤ → Bool
-posts_behind r None n res = posts_completion (entry_of r n) res
-posts_behind r (Some m) n res = not (has skip_success (entry_of r m))
+-- Whether the end of n with this result posts a completion, if this one's failure brought it about or nobody's. After a member that failed and asks to skip nobody posts, and after another everybody, whatever its own flags.
+abbrev pub posts_after : Requests → Option ℕ → ℕ → ℤ → Bool
+posts_after r None n res = posts_completion (entry_of r n) res
+posts_after r (Some m) n res = not (has skip_success (entry_of r m))
 
 -- What each event makes of it.
 

@@ -19,7 +19,7 @@ pub record Window : Type 0 where
   pub items : List Request
   pub room : ℕ
 
--- the number behind the last request
+-- the number after the last request
 abbrev pub end_of : Window → ℕ
 end_of s = s.first + length s.items
 

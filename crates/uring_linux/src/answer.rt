@@ -36,7 +36,7 @@ impl LinuxDispatch {
         if request.is_running {
             return Issued::Running;
         }
-        if self.window.is_right_behind(n) {
+        if self.window.is_right_after(n) {
             return Issued::NotReady;
         }
         let group = self.window.group_of(request);
@@ -78,7 +78,7 @@ impl Window {
             → IsMember r n group → self.now.first ≤ group.from → result ≡ posts_of r n res }
     {
         let breaker = group.breaker(n);
-        self.posts_behind(breaker, request, res)
+        self.posts_after(breaker, request, res)
     }
 
     /// The kept request `n` ends as it is issued.

@@ -311,7 +311,7 @@ fn less_if(count: u64, is_less: bool) -> u64
     if is_less { count - 1 } else { count }
 }
 
-/// Whether an entry has asked for skipped success by then, behind this one.
+/// Whether an entry has asked for skipped success by then, after this one.
 fn has_skipped(before: bool, entry: &Sqe) -> bool
     ensures { result ≡ (before || asks_to_skip entry.now) }
 {

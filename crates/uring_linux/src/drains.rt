@@ -24,7 +24,7 @@ pub(crate) struct Drains {
     ring: bool,
     // Whether a drain is owed to the next group.
     owed: bool,
-    // The number behind the last group that was accepted.
+    // The number after the last group that was accepted.
     from: u64,
     // Whether the next group drains, as far as its entries were taken.
     group: bool,
@@ -80,7 +80,7 @@ impl Drains {
         is_in_some(&self.deferred, n)
     }
 
-    /// The number behind the last group that was accepted.
+    /// The number after the last group that was accepted.
     pub(crate) fn from(&self) -> u64
         ensures { result ≡ self.now.drains.from }
     {

@@ -10,7 +10,7 @@ ghost use Rattle.uring_linux.specs.Groups as spec;
 pub(crate) struct Group {
     /// The number of its first member.
     pub(crate) from: u64,
-    /// The number behind its last member.
+    /// The number after its last member.
     pub(crate) end: u64,
     /// Every member before this one has ended.
     pub(crate) least: u64,

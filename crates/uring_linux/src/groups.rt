@@ -108,11 +108,11 @@ impl Window {
         }
     }
 
-    /// The next number behind `n` that is to be looked at: the requests in between have ended, or an earlier member of their group hasn't.
-    pub(crate) fn next_behind(&self, n: u64) -> u64
+    /// The next number after `n` that is to be looked at: the requests in between have ended, or an earlier member of their group hasn't.
+    pub(crate) fn next_after(&self, n: u64) -> u64
         requires within { IsWithin self.now n }
         requires limit { n < 2 ^ 63 }
-        ensures behind { n < result }
+        ensures after { n < result }
         ensures high { (r : Requests) → Shows self.now r → result ≤ end_of self.now }
         ensures skipped { (r : Requests) (k : ℕ) → Shows self.now r → n < k → k < result
             → (is_outstanding r k && linux.is_in_turn r k) ≡ false }

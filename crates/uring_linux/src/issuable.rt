@@ -11,7 +11,7 @@ use crate::answers::Issued;
 use crate::dispatch::LinuxDispatch;
 
 impl LinuxDispatch {
-    /// The least request from `n` on, any number, that `issue` doesn't refuse, if there is one: so all of them, in order, from 0 on, each time from the number behind the last. It looks at two members of each group at most. Our own rule.
+    /// The least request from `n` on, any number, that `issue` doesn't refuse, if there is one: so all of them, in order, from 0 on, each time from the number after the last. It looks at two members of each group at most. Our own rule.
     pub fn next_issuable(&self, n: u64) -> Option<u64>
         requires { IsTrue self.now.is_between_calls }
         ensures { (l : LinuxRequests) → ShowsRequests self.now l → result ≡ issuable_from l n }
@@ -22,7 +22,7 @@ impl LinuxDispatch {
             if self.is_issuable(k) {
                 return Some(k);
             }
-            k = self.window.next_behind(k);
+            k = self.window.next_after(k);
         }
         None
     }
@@ -37,7 +37,7 @@ impl LinuxDispatch {
         let mut k = self.window.first();
         while k < end {
             total += self.one(k);
-            k = self.window.next_behind(k);
+            k = self.window.next_after(k);
         }
         total
     }
@@ -57,7 +57,7 @@ impl LinuxDispatch {
                 return Some(n);
             }
             left -= count;
-            n = self.window.next_behind(n);
+            n = self.window.next_after(n);
         }
         None
     }

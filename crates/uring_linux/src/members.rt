@@ -2,7 +2,7 @@
 
 ghost use Rattle.std.specs.Prelude.{◌≡◌, ℕ, ◌<◌, ◌≤◌, true, false, Some};
 ghost use Rattle.uring_entry.specs.Below.{least_below};
-ghost use Rattle.uring_entry.specs.Requests.{Requests, is_behind_failure};
+ghost use Rattle.uring_entry.specs.Requests.{Requests, is_after_failure};
 ghost use Rattle.uring_entry.specs.Why.{failed_member_of};
 ghost use Rattle.uring_linux.specs.Groups.{IsMember, if_before};
 ghost use Rattle.uring_linux.specs.LinuxRequests as linux;
@@ -33,8 +33,8 @@ impl Window {
         self.first_with(Test::Unended, group.least, n)
     }
 
-    /// Whether `n` stands right behind a member of its group that hasn't ended, so that it isn't its turn. It looks at that one alone.
-    pub(crate) fn is_right_behind(&self, n: u64) -> bool
+    /// Whether `n` stands right after a member of its group that hasn't ended, so that it isn't its turn. It looks at that one alone.
+    pub(crate) fn is_right_after(&self, n: u64) -> bool
         requires { IsWithin self.now n }
         ensures { (r : Requests) → Shows self.now r → result ≡ true → linux.is_in_turn r n ≡ false }
     {
@@ -65,8 +65,8 @@ impl Group {
     }
 
     /// Whether a member before `n` has a soft link and failed.
-    fn is_behind_failure(self, n: u64) -> bool
-        ensures { (r : Requests) → IsMember r n self → result ≡ is_behind_failure r n }
+    fn is_after_failure(self, n: u64) -> bool
+        ensures { (r : Requests) → IsMember r n self → result ≡ is_after_failure r n }
     {
         match self.broken {
             Some(m) => m < n,
@@ -78,7 +78,7 @@ impl Group {
     pub(crate) fn is_doomed(self, n: u64) -> bool
         ensures { (r : Requests) → IsMember r n self → result ≡ linux.is_doomed r n }
     {
-        self.is_faulty() || self.is_behind_failure(n)
+        self.is_faulty() || self.is_after_failure(n)
     }
 
     /// The first member before `n` that has a soft link and failed.

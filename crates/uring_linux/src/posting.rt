@@ -11,7 +11,7 @@ use crate::dispatch::LinuxDispatch;
 use uring_dispatch::Posts;
 
 impl LinuxDispatch {
-    /// Whether the end of request `n`, any number, with this result would post a completion: `Some` exactly if it is outstanding. Behind a member that failed and asks to skip nobody posts, and behind another everybody. docs/PROTOCOL.md, By Linux's rules.
+    /// Whether the end of request `n`, any number, with this result would post a completion: `Some` exactly if it is outstanding. After a member that failed and asks to skip nobody posts, and after another everybody. docs/PROTOCOL.md, By Linux's rules.
     pub fn would_post(&self, n: u64, res: i32) -> Option<bool>
         requires { IsTrue self.now.is_between_calls }
         ensures { (l : LinuxRequests) → ShowsRequests self.now l → result ≡ would_post l.requests n res }
@@ -24,7 +24,7 @@ impl LinuxDispatch {
         }
         let group = self.window.group_of(&request);
         let breaker = group.breaker(n);
-        let posts = self.window.posts_behind(breaker, &request, res);
+        let posts = self.window.posts_after(breaker, &request, res);
         Some(is_completion(posts))
     }
 }

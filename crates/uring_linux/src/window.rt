@@ -52,7 +52,7 @@ impl Window {
         }
     }
 
-    /// The number behind the last request.
+    /// The number after the last request.
     pub(crate) fn end(&self) -> u64
         ensures value { result ≡ end_of self.now }
         ensures limit { result + self.now.room < 2 ^ 63 }
@@ -100,7 +100,7 @@ impl Window {
     }
 
     /// What the end of the kept request `n` posts with this result, whose failure ended it or nobody's.
-    pub(crate) fn posts_behind(&self, breaker: Option<u64>, request: &Request, res: i32) -> Posts
+    pub(crate) fn posts_after(&self, breaker: Option<u64>, request: &Request, res: i32) -> Posts
         ensures { (r : Requests) (n : ℕ) → Shows self.now r → Tells request.now r n
             → ((m : ℕ) → breaker ≡ Some m → IsWithin self.now m)
             → result ≡ issues.posts_as r breaker n res }
@@ -251,7 +251,7 @@ impl Window {
         drop_before(&mut self.first, &mut self.items, to);
     }
 
-    /// The number behind the last of the first groups that have ended whole.
+    /// The number after the last of the first groups that have ended whole.
     fn over_to(&self) -> u64
         ensures { IsOver self.now result }
     {
@@ -369,12 +369,12 @@ fn item(items: &VecDeque<Request>, place: usize) -> Option<&Request>
     items.get(place)
 }
 
-/// The number behind a request if it is the last of its group, else that behind the last before.
-fn if_last(request: &Request, behind: u64, before: u64) -> u64
-    ensures last { request.now.is_last ≡ true → result ≡ behind }
+/// The number after a request if it is the last of its group, else that after the last before.
+fn if_last(request: &Request, after: u64, before: u64) -> u64
+    ensures last { request.now.is_last ≡ true → result ≡ after }
     ensures other { request.now.is_last ≡ false → result ≡ before }
 {
-    if request.is_last { behind } else { before }
+    if request.is_last { after } else { before }
 }
 
 /// Drops the requests before this number.

@@ -15,14 +15,14 @@ use Rattle.std.proofs.lemmas.Option.{slice_get_read}
 use Rattle.uring_litmus.proofs.Places.{to_map, at_place}
 
 -- further parts in front change nothing
-pub among_behind : (wanted : List (List ℕ)) (p : List ℕ) (parts : List (List ℕ)) → AreAmong wanted parts
+pub among_after : (wanted : List (List ℕ)) (p : List ℕ) (parts : List (List ℕ)) → AreAmong wanted parts
     → AreAmong wanted (p ∷ parts)
-among_behind [] p parts are = tt
-among_behind (w ∷ wanted) p parts are = (p ∷ are.0, are.1, ap (λ l. p ∷ l) are.2, are.3)
+among_after [] p parts are = tt
+among_after (w ∷ wanted) p parts are = (p ∷ are.0, are.1, ap (λ l. p ∷ l) are.2, are.3)
 
-behind_all : (wanted front parts : List (List ℕ)) → AreAmong wanted parts → AreAmong wanted (front ++ parts)
-behind_all wanted [] parts are = are
-behind_all wanted (p ∷ front) parts are = among_behind wanted p (front ++ parts) (behind_all wanted front parts are)
+after_all : (wanted front parts : List (List ℕ)) → AreAmong wanted parts → AreAmong wanted (front ++ parts)
+after_all wanted [] parts are = are
+after_all wanted (p ∷ front) parts are = among_after wanted p (front ++ parts) (after_all wanted front parts are)
 
 rest_of : {x y : List ℕ} {xs ys : List (List ℕ)} → x ∷ xs ≡ y ∷ ys → xs ≡ ys
 rest_of e = cc
@@ -36,7 +36,7 @@ met_down : (w : List ℕ) (wanted : List (List ℕ)) (p : List ℕ) (parts befor
 met_down w wanted p parts [] after e are = subst (λ l. AreAmong wanted l) (sym (rest_of e)) are
 met_down w wanted p parts (b ∷ before) after e are =
     subst (λ l. AreAmong wanted l) (sym (rest_of e))
-    (behind_all wanted before (w ∷ after) (among_behind wanted w after are))
+    (after_all wanted before (w ∷ after) (among_after wanted w after are))
 
 pub met : (w : List ℕ) (wanted : List (List ℕ)) (p : List ℕ) (parts : List (List ℕ)) → w ≡ p
     → AreAmong (w ∷ wanted) (p ∷ parts) ↔ AreAmong wanted parts
@@ -56,7 +56,7 @@ pub unmet : (w : List ℕ) (wanted : List (List ℕ)) (p : List ℕ) (parts : Li
     → AreAmong (w ∷ wanted) (p ∷ parts) ↔ AreAmong (w ∷ wanted) parts
 unmet w wanted p parts other = (
   λ are. unmet_down w wanted p parts are.0 are.1 other are.2 are.3,
-  λ are. among_behind (w ∷ wanted) p parts are,
+  λ are. among_after (w ∷ wanted) p parts are,
 )
 
 -- among no parts stand none

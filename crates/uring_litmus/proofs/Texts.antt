@@ -8,7 +8,7 @@ use Rattle.std.specs.declared.alloc.Global.{Global}
 use Rattle.uring_litmus.specs.Parts.{texts_of}
 use Rattle.uring_litmus.specs.Listings.{IsNoted}
 
--- a text is put behind others
+-- a text is put after others
 pub one_more : (texts : List (String Global)) (text : String Global)
     → texts_of (texts ++ text ∷ []) ≡ texts_of texts ++ string_bytes text ∷ []
 one_more texts text = map-append string_bytes texts (text ∷ [])

@@ -20,7 +20,7 @@ use Rattle.uring_litmus.specs.Parts.{texts_of, completion_parts, files_texts}
 abbrev pub lines_in : List (Vec (String Global) Global) → List (List (List ℕ))
 lines_in lines = map (λ line. texts_of line.items) lines
 
--- Parts stand among others in their order: the first stands somewhere among them, and the rest behind it.
+-- Parts stand among others in their order: the first stands somewhere among them, and the rest after it.
 abbrev pub AreAmong : List (List ℕ) → List (List ℕ) → Type 0
 AreAmong [] parts = Unit {0}
 AreAmong (first ∷ rest) parts = (before : List (List ℕ)) × (after : List (List ℕ))

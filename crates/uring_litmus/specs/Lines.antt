@@ -8,7 +8,7 @@ use Rattle.uring_outcomes.specs.Outcomes.{Ending}
 use Rattle.uring_litmus.specs.declared.form.Form.{Form}
 use Rattle.uring_litmus.specs.Parts.{IsShown}
 
--- a part behind another
+-- a part after another
 abbrev pub parted : List ℕ → List ℕ
 parted part = codes ", " ++ part
 

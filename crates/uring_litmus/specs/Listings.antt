@@ -79,7 +79,7 @@ pub record Finds (setup : Setup) (endings : List Ending) (is_all : Bool) (left_b
   pub told : IsTold setup.sq bytes (Ok calls)
   pub found : AreFound setup (map accepted_of calls) endings is_all
 
--- Calls were read to the end of the input, and a list of their outcomes was written, which are all if it is said: each line shows one, each outcome has one, sorted by their bytes, each once; with sorted completions each tells in how many orders; and behind them it says how many they are.
+-- Calls were read to the end of the input, and a list of their outcomes was written, which are all if it is said: each line shows one, each outcome has one, sorted by their bytes, each once; with sorted completions each tells in how many orders; and after them it says how many they are.
 pub record Lists (form : Form) (setup : Setup) (most : ℕ) (is_all : Bool) (left_before left_after held_before held_after : Option (List ℕ)) : Type 0 where
   pub endings : List Ending
   pub finding : Finds setup endings is_all left_before left_after

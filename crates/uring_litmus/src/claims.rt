@@ -103,7 +103,7 @@ fn shows(parts: &[String], line: &[String]) -> bool
     wanted.is_empty()
 }
 
-/// The parts that are still wanted behind this part of an outcome.
+/// The parts that are still wanted after this part of an outcome.
 fn without_first<'a>(wanted: &'a [String], part: &str) -> &'a [String]
     ensures { (after : List (List ℕ)) → AreAmong (texts_of wanted.now) (part.now ∷ after)
         ↔ AreAmong (texts_of result.now) after }

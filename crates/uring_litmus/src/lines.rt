@@ -113,7 +113,7 @@ pub(crate) fn join(alloc: Global, parts: &[String]) -> Result<String, AllocError
     Ok(line)
 }
 
-/// Appends these parts, each behind a comma and a blank.
+/// Appends these parts, each after a comma and a blank.
 fn push_rest(alloc: Global, line: &mut String, parts: &[String]) -> Result<(), AllocError>
     ensures { OnOk result
         (string_bytes line.new ≡ string_bytes line.old ++ flat_map parted (texts_of parts.now)) }

@@ -19,7 +19,7 @@ const ORDER: Form = Form {
     has_files: false,
 };
 
-/// These lines, each with a note behind it of how many orders its completions have, if they are sorted; else as they are. The outcomes have the lines of `each`.
+/// These lines, each with a note after it of how many orders its completions have, if they are sorted; else as they are. The outcomes have the lines of `each`.
 pub(crate) fn noted(
     alloc: Global,
     lines: Vec<String>,
@@ -93,7 +93,7 @@ fn with_note(
     note_text(alloc, line, count)
 }
 
-/// A line with this number of orders behind it.
+/// A line with this number of orders after it.
 fn note_text(alloc: Global, line: &str, count: usize) -> Result<String, AllocError>
     ensures { IfOk result
         (λ text. string_bytes text ≡ line.now ++ codes "  # orders " ++ decimal count) }

@@ -20,7 +20,7 @@ use Rattle.uring_core.proofs.LinuxHistories.{StartsSpared}
 
 -- What is so whatever happened.
 
--- whoever isn't deferred behind someone who is, is in a group with a fault
+-- whoever isn't deferred after someone who is, is in a group with a fault
 abbrev OnlyFaultyPass : Requests → ℕ → List Deferred → Type 0
 OnlyFaultyPass r from xs = (n k : ℕ) → n < from → k < n → is_in_some xs k ≡ true
     → is_in_some xs n ≡ false → is_in_faulty_group r n ≡ true
@@ -33,7 +33,7 @@ IsAny g = Unit {0}
 in_order : (l : LinuxRequests) → IsSettled l → InOrder IsAny 0 l.drains.deferred l.drains.from
 in_order l s = order_kept (IsWaiting l.requests) IsAny 0 l.drains.deferred l.drains.from s.waiting (λ g there some within w. tt)
 
--- of the drains behind a group: the ring drains as long as one is deferred, and none is new but that group
+-- of the drains after a group: the ring drains as long as one is deferred, and none is new but that group
 record IsGrouped (r : Requests) (d later : Drains) : Type 0 where
   pub from : later.from ≡ length r.accepted
   pub ring : later.ring ≡ false → later.deferred ≡ []
@@ -68,8 +68,8 @@ group_ordered r d some open_ order ring passed = go (not d.ring || is_faulty_fro
     | inr new ↦ absurd (let from : d.from ≤ k = new.0 in omega (arith, from, lt))
   ]
 
-  behind : (n k : ℕ) → n < length r.accepted → k < n → (not d.ring || is_faulty_from r d.from) ≡ true → is_in_some d.deferred k ≡ true → is_in_some d.deferred n ≡ false → is_in_faulty_group r n ≡ true
-  behind n k lt under e there out = elim (cases_lt n d.from) [
+  after : (n k : ℕ) → n < length r.accepted → k < n → (not d.ring || is_faulty_from r d.from) ≡ true → is_in_some d.deferred k ≡ true → is_in_some d.deferred n ≡ false → is_in_faulty_group r n ≡ true
+  after n k lt under e there out = elim (cases_lt n d.from) [
     | inl before ↦ passed n k before under there out
     | inr past ↦ elim (or_cases (not d.ring) (is_faulty_from r d.from) e) [
       | inl off ↦ absurd (none_in k d.deferred (ring (not-true _ off)) there)
@@ -91,7 +91,7 @@ group_ordered r d some open_ order ring passed = go (not d.ring || is_faulty_fro
   go true e = record {
     from = refl;
     ring = ring;
-    passed = λ n k lt under there out. behind n k lt under e there out;
+    passed = λ n k lt under there out. after n k lt under e there out;
     fewer = λ k lt there. there;
   }
   go false e =
@@ -111,7 +111,7 @@ pub record IsOrdered (l : LinuxRequests) : Type 0 where
   pub known : (n : ℕ) → has_started l.requests n ≡ true → n < l.drains.from
   pub started : (n k : ℕ) → has_started l.requests n ≡ true → is_deferred l k ≡ true → n < k
 
--- a whole group was accepted behind what was ordered
+-- a whole group was accepted after what was ordered
 grouped_ordered : (r : Requests) (d later : Drains) → IsGrouped r d later → d.from < length r.accepted
     → ((n : ℕ) → has_started r n ≡ true → n < d.from)
     → ((n k : ℕ) → has_started r n ≡ true → is_in_some d.deferred k ≡ true → n < k)

@@ -85,7 +85,7 @@ finished_least linux l n a told other is =
     subst (λ k. settling_step None k (least_of l.requests) ≡ Some (step.Finish n)) (sym (next_none (next_of linux l) a told other))
     (subst (λ k. settling_step None None k ≡ Some (step.Finish n)) (sym is) refl)
 
--- events that settle further, behind others that did
+-- events that settle further, after others that did
 
 started_append : (started : Option ℕ) (earlier later : List Event)
     → started_last started (earlier ++ later) ≡ started_last (started_last started earlier) later
@@ -100,7 +100,7 @@ settling_append g before started [] later e l = l
 settling_append g before started ((s, a) ∷ earlier) later e l =
     (e.0, settling_append g ((s, a) ∷ before) (started_by (s, a)) earlier later e.1 (subst (λ h. AreSettling g h (started_last (started_by (s, a)) earlier) later) (history_of_cons (s, a) earlier before) l))
 
--- events that refuse no memory, behind others that refused none
+-- events that refuse no memory, after others that refused none
 pub unrefused_append : (g : Setup) (before : History) (earlier later : List Event)
     → AreUnrefused g before earlier → AreUnrefused g (history_of earlier ++ before) later
     → AreUnrefused g before (earlier ++ later)
@@ -238,12 +238,12 @@ settled_more granted first old new h count more ended same before next =
     let b = before.settles in
     let last = next (history_of b.events ++ h) b.fits in
     let l = last.settles in
-    let behind : AreSettling new.core.setup (history_of b.events ++ h) (started_last None b.events) l.events = subst (λ started. AreSettling new.core.setup (history_of b.events ++ h) started l.events) (sym before.none_started) l.settling in
+    let after : AreSettling new.core.setup (history_of b.events ++ h) (started_last None b.events) l.events = subst (λ started. AreSettling new.core.setup (history_of b.events ++ h) started l.events) (sym before.none_started) l.settling in
     record {
       settles = record {
         events = b.events ++ l.events;
         issues_and_finishes = list_all-append is_issue_or_finish b.events l.events ∙ and_from _ _ b.issues_and_finishes l.issues_and_finishes;
-        settling = settling_append new.core.setup h None b.events l.events (subst (λ g. AreSettling g h None b.events) (sym same) b.settling) behind;
+        settling = settling_append new.core.setup h None b.events l.events (subst (λ g. AreSettling g h None b.events) (sym same) b.settling) after;
         fits = subst (λ k. Fits new k) (sym (history_of_append b.events l.events h)) l.fits;
         many = omega (arith, length-append b.events l.events, l.many, b.many);
         unrefused = λ sure. unrefused_append new.core.setup h b.events l.events (subst (λ g. AreUnrefused g h b.events) (sym same) (b.unrefused sure)) (l.unrefused sure);

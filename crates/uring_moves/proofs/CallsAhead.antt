@@ -109,17 +109,17 @@ module _ (named : ℕ → Bool) (r : Requests) (call : List Sqe) (cut : (length 
             ap (λ b. if b && is_success (entry_of r n) res then (if is_cancel_all (entry_of r n) then targets_of (with_call r call) n else option_to_list (target_of (with_call r call) n)) else []) is
             ∙ sym (ap (λ b. if b && is_success (entry_of r n) res then (if is_cancel_all (entry_of r n) then targets_of r n else option_to_list (target_of r n)) else []) is)
 
--- A move behind the call.
+-- A move after the call.
 
 -- the moment once this call is accepted, and these are left
 abbrev pub called : Moment → List Sqe → List (List Sqe) → Moment
 called m call later = record m { requests = with_call m.requests call; left = later }
 
 module _ (named : ℕ → Bool) (m : Moment) (call : List Sqe) (later : List (List Sqe)) (cut : (length m.requests.accepted ≡ 0) ⊎ (list_any (λ c. c == length m.requests.accepted) m.requests.cuts ≡ true)) (unnamed : AreUnnamed named call) where
-  ended_behind : (n : ℕ) (res : ℤ) → (is_cancel (entry_of m.requests n) ≡ true → named (addr_of (entry_of m.requests n)) ≡ true)
+  ended_after : (n : ℕ) (res : ℤ) → (is_cancel (entry_of m.requests n) ≡ true → named (addr_of (entry_of m.requests n)) ≡ true)
       → n < length m.requests.accepted
       → ended_at_once (called m call later) n res ≡ called (ended_at_once m n res) call later
-  ended_behind n res names low =
+  ended_after n res names low =
       ap₂ (λ chosen posted. record (called m call later) {
         requests = with_ended (record (with_call m.requests call) { cancelled = m.requests.cancelled ++ chosen }) n res no_bytes;
         posted = posted;
@@ -127,9 +127,9 @@ module _ (named : ℕ → Bool) (m : Moment) (call : List Sqe) (later : List (Li
       (chosen_kept named m.requests call cut unnamed n res names low)
       (ap (λ e. posted_with m.posted e res no_bytes) (entry_kept m.requests call cut n low))
 
-  finished_behind : (n : ℕ) → n < length m.requests.accepted
+  finished_after : (n : ℕ) → n < length m.requests.accepted
       → finished (called m call later) n ≡ called (finished m n) call later
-  finished_behind n low =
+  finished_after n low =
       ap (λ e. record (called m call later) {
         requests = with_ended (with_call m.requests call) n (result_of m.files (operation_of e)).res (result_of m.files (operation_of e)).bytes;
         posted = posted_with m.posted e (result_of m.files (operation_of e)).res (result_of m.files (operation_of e)).bytes;
@@ -137,10 +137,10 @@ module _ (named : ℕ → Bool) (m : Moment) (call : List Sqe) (later : List (Li
       })
       (entry_kept m.requests call cut n low)
 
-  issued_behind : (n : ℕ) → (is_cancel (entry_of m.requests n) ≡ true → named (addr_of (entry_of m.requests n)) ≡ true)
+  issued_after : (n : ℕ) → (is_cancel (entry_of m.requests n) ≡ true → named (addr_of (entry_of m.requests n)) ≡ true)
       → n < length m.requests.accepted
       → issued (called m call later) n ≡ called (issued m n) call later
-  issued_behind n names low = by_doom (is_doomed m.requests n) refl where
+  issued_after n names low = by_doom (is_doomed m.requests n) refl where
     r : Requests
     r = m.requests
 
@@ -161,7 +161,7 @@ module _ (named : ℕ → Bool) (m : Moment) (call : List Sqe) (later : List (Li
         if_not (is_doomed q n) _ _ (doom ∙ spared)
         ∙ if_so (is_cancel (entry_of q n)) _ _ (ap is_cancel entry ∙ is)
         ∙ ap (ended_at_once (called m call later) n) (result_kept named r call cut unnamed n (names is) low)
-        ∙ ended_behind n (cancel_result r n) names low
+        ∙ ended_after n (cancel_result r n) names low
         ∙ back (ended_at_once m n (cancel_result r n)) (if_not (is_doomed r n) _ _ spared ∙ if_so (is_cancel (entry_of r n)) _ _ is)
     by_cancel false is spared =
         if_not (is_doomed q n) _ _ (doom ∙ spared)
@@ -172,14 +172,14 @@ module _ (named : ℕ → Bool) (m : Moment) (call : List Sqe) (later : List (Li
     by_doom true is =
         if_so (is_doomed q n) _ _ (doom ∙ is)
         ∙ ap (λ e. ended_at_once (called m call later) n (if is_faulty e then neg_ℤ EINVAL else neg_ℤ ECANCELED)) entry
-        ∙ ended_behind n (doomed_result r n) names low
+        ∙ ended_after n (doomed_result r n) names low
         ∙ back (ended_at_once m n (doomed_result r n)) (if_so (is_doomed r n) _ _ is)
     by_doom false is = by_cancel (is_cancel (entry_of r n)) refl is
 
-  pub issue_behind : (n : ℕ) (next : Moment) → (is_cancel (entry_of m.requests n) ≡ true → named (addr_of (entry_of m.requests n)) ≡ true)
+  pub issue_after : (n : ℕ) (next : Moment) → (is_cancel (entry_of m.requests n) ≡ true → named (addr_of (entry_of m.requests n)) ≡ true)
       → moved m (move.Issue n) ≡ Some next
       → moved (called m call later) (move.Issue n) ≡ Some (called next call later)
-  issue_behind n next names e =
+  issue_after n next names e =
       let r : Requests = m.requests in
       let q : Requests = with_call m.requests call in
       let c = can_of (is_issuable r n) (issued m n) next e in
@@ -187,11 +187,11 @@ module _ (named : ℕ → Bool) (m : Moment) (call : List Sqe) (later : List (Li
       let o = and_parts (is_outstanding r n) (not (is_running r n)) p.0 in
       let low : n < length r.accepted = ltb-true n (length r.accepted) (and_parts (nat_lt n (length r.accepted)) (not (has_ended r n)) o.0).0 in
       let same : is_issuable q n ≡ is_issuable r n = ap (λ b. b && not (is_running r n) && (is_doomed q n || is_ready q n)) (outstanding_kept r call cut n low) ∙ ap₂ (λ d s. is_outstanding r n && not (is_running r n) && (d || s)) (doom_kept r call cut n low) (ready_kept r call cut n low) in
-      can_then (is_issuable q n) (issued (called m call later) n) (called next call later) (same ∙ c.0) (issued_behind n names low ∙ ap (λ y. called y call later) c.1)
+      can_then (is_issuable q n) (issued (called m call later) n) (called next call later) (same ∙ c.0) (issued_after n names low ∙ ap (λ y. called y call later) c.1)
 
-  pub finish_behind : (n : ℕ) (next : Moment) → moved m (move.Finish n) ≡ Some next
+  pub finish_after : (n : ℕ) (next : Moment) → moved m (move.Finish n) ≡ Some next
       → moved (called m call later) (move.Finish n) ≡ Some (called next call later)
-  finish_behind n next e =
+  finish_after n next e =
       let r : Requests = m.requests in
       let q : Requests = with_call m.requests call in
       let c = can_of (is_finishable r n) (finished m n) next e in
@@ -199,4 +199,4 @@ module _ (named : ℕ → Bool) (m : Moment) (call : List Sqe) (later : List (Li
       let low : n < length r.accepted = ltb-true n (length r.accepted) p.0 in
       let l = longer r call cut in
       let can : is_finishable q n ≡ true = ap (λ b. b && is_running r n) (lt-ltb n (length q.accepted) (omega arith)) ∙ p.1 in
-      can_then (is_finishable q n) (finished (called m call later) n) (called next call later) can (finished_behind n low ∙ ap (λ y. called y call later) c.1)
+      can_then (is_finishable q n) (finished (called m call later) n) (called next call later) can (finished_after n low ∙ ap (λ y. called y call later) c.1)

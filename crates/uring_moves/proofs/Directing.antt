@@ -15,7 +15,7 @@ use Rattle.uring_moves.specs.declared.move_of_calls.Move.{Move}
 use Rattle.uring_moves.specs.declared.move_of_calls.Move.TheVariants as move
 use Rattle.uring_moves.proofs.MovesLead.{can_of}
 use Rattle.uring_moves.proofs.Prompting.{IsCalm, one_calm, first_calm, prompt_moves_lead}
-use Rattle.uring_moves.proofs.CallsAhead.{called, issue_behind, finish_behind}
+use Rattle.uring_moves.proofs.CallsAhead.{called, issue_after, finish_after}
 
 -- Moments that run ahead.
 
@@ -51,14 +51,14 @@ left_kept m next (move.Finish n) other e =
     ap (λ (y : Moment). y.left) (sym (can_of (is_finishable m.requests n) (finished m n) next e).1)
 
 -- such a move can be made one call ahead
-one_behind : (named : ℕ → Bool) (m next : Moment) (x : Move) (e : IsNextUnnamed named m)
+one_after : (named : ℕ → Bool) (m next : Moment) (x : Move) (e : IsNextUnnamed named m)
     → (x ≡ move.Accept → ⊥) → IsCalm named m → moved m x ≡ Some next
     → moved (called m e.call e.later) x ≡ Some (called next e.call e.later)
-one_behind named m next move.Accept e other calm made = absurd (other refl)
-one_behind named m next (move.Issue n) e other calm made =
-    issue_behind named m e.call e.later calm.sound.sound.cut_at_end e.unnamed n next (calm.are_named n) made
-one_behind named m next (move.Finish n) e other calm made =
-    finish_behind named m e.call e.later calm.sound.sound.cut_at_end e.unnamed n next made
+one_after named m next move.Accept e other calm made = absurd (other refl)
+one_after named m next (move.Issue n) e other calm made =
+    issue_after named m e.call e.later calm.sound.sound.cut_at_end e.unnamed n next (calm.are_named n) made
+one_after named m next (move.Finish n) e other calm made =
+    finish_after named m e.call e.later calm.sound.sound.cut_at_end e.unnamed n next made
 
 record IsMovedAhead (named : ℕ → Bool) (k : ℕ) (next there : Moment) (x : Move) : Type 0 where
   last : Moment
@@ -74,7 +74,7 @@ moved_ahead named zero m next there x other calm made ahead = record {
   ahead = refl;
 }
 moved_ahead named (suc k) m next there x other calm made (e, ahead) =
-    let f = moved_ahead named k (called m e.call e.later) (called next e.call e.later) there x other (calm_called named m e calm) (one_behind named m next x e other calm made) ahead in
+    let f = moved_ahead named k (called m e.call e.later) (called next e.call e.later) there x other (calm_called named m e calm) (one_after named m next x e other calm made) ahead in
     record {
       last = f.last;
       made = f.made;
@@ -167,7 +167,7 @@ Follows named moves last = (k : ℕ) (m there : Moment) → IsCalm named m → I
     → (IsNextUnnamed named there → ⊥) → ArePrompt named m moves → after_moves m moves ≡ Some last
     → IsLed named there last
 
--- a call is accepted: those ahead have accepted it, or accept it now, and the unnamed ones behind it
+-- a call is accepted: those ahead have accepted it, or accept it now, and the unnamed ones after it
 accept_on : (named : ℕ → Bool) (k : ℕ) (m next there last : Moment) (later : List Move) → Follows named later last
     → IsCalm named m → IsAhead named k m there → (IsNextUnnamed named there → ⊥)
     → IsPrompt named m move.Accept → moved m move.Accept ≡ Some next → ArePrompt named next later

@@ -41,10 +41,10 @@ few_entries [] = omega arith
 few_entries (with_entry entry ∷ later) = let e = few_entries later in omega arith
 few_entries (bad_word word ∷ later) = let e = few_entries later in omega arith
 
--- the items of the positions behind those taken, if these were the ones before
-pub items_behind : (l : Submission) (old new : List Published) → published_items l ≡ old ++ new
+-- the items of the positions after those taken, if these were the ones before
+pub items_after : (l : Submission) (old new : List Published) → published_items l ≡ old ++ new
     → taken l ≡ length old → entries_from l (length new) ≡ entries_in new
-items_behind l old new are reached =
+items_after l old new are reached =
     sym (entries_back (places_from l (length new)))
     ∙ ap entries_in (sym (take-map item (length new) (drop (taken l) l.published)) ∙ ap (take (length new)) (sym (drop-map item (taken l) l.published) ∙ ap₂ drop reached are ∙ drop-append_seam old new) ∙ take-length new)
 

@@ -53,18 +53,18 @@ just : (o : Option Moment) → option_and_then (λ n. Some n) o ≡ o
 just None = refl
 just (Some m) = refl
 
-behind : (first : Option Moment) (later : List Move) (m : Move)
+then_moved : (first : Option Moment) (later : List Move) (m : Move)
     → ((y : Moment) → after_moves y (later ++ m ∷ []) ≡ option_and_then (λ z. moved z m) (after_moves y later))
     → option_and_then (λ y. after_moves y (later ++ m ∷ [])) first
     ≡ option_and_then (λ z. moved z m) (option_and_then (λ y. after_moves y later) first)
-behind None later m next = refl
-behind (Some y) later m next = next y
+then_moved None later m next = refl
+then_moved (Some y) later m next = next y
 
 pub one_move_more : (moves : List Move) (x : Moment) (m : Move)
     → after_moves x (moves ++ m ∷ []) ≡ option_and_then (λ z. moved z m) (after_moves x moves)
 one_move_more [] x m = just (moved x m)
 one_move_more (first ∷ later) x m =
-    behind (moved x first) later m (λ y. one_move_more later y m)
+    then_moved (moved x first) later m (λ y. one_move_more later y m)
 
 comes_on : {moves : List Move} {first : List (List Published)} (g : Setup) (w v : World) (files files' : List FileContents) (m : Move) (c : IsCome g w files moves first)
     → v.submission ≡ w.submission
@@ -256,10 +256,10 @@ come_at_first g = record {
 }
 
 -- one event more, in a history
-pub comes_behind : (g : Setup) (s : Step) (a : Answer) (before : History) → IsLawful (by_manual g) ((s, a) ∷ before)
+pub comes_after : (g : Setup) (s : Step) (a : Answer) (before : History) → IsLawful (by_manual g) ((s, a) ∷ before)
     → RefusesNone (by_manual g) ((s, a) ∷ before) → (c : HasCome (by_manual g) before)
     → IsCome (by_manual g) (world (by_manual g) ((s, a) ∷ before)) (files_of (by_manual g) (world (by_manual g) ((s, a) ∷ before))) (moves_in ((s, a) ∷ before)) c.come.calls
-comes_behind g s a before lawful unrefused c =
+comes_after g s a before lawful unrefused c =
     let apart = lawful_apart (by_manual g) ((s, a) ∷ before) lawful in
     comes g (world (by_manual g) before) s a (change_of (by_manual g) (world (by_manual g) before) s a apart.0) (sound_of (by_manual g) before apart.1) unrefused.0 (files_kept (by_manual g) s a before apart) c.come
 
@@ -269,4 +269,4 @@ pub history_comes : (g : Setup) (h : History) → IsLawful (by_manual g) h → R
 history_comes g [] lawful unrefused = come_at_first (by_manual g)
 history_comes g ((s, a) ∷ before) lawful unrefused =
     let c : HasCome (by_manual g) before = history_comes g before lawful.1 unrefused.1 in
-    record { first = c.come.calls; come = comes_behind g s a before lawful unrefused c }
+    record { first = c.come.calls; come = comes_after g s a before lawful unrefused c }

@@ -29,7 +29,7 @@ use Rattle.uring_moves.specs.Laws.{GoesThrough}
 use Rattle.uring_moves.specs.Recorded.{with_event}
 use Rattle.uring_moves.specs.declared.move_of_calls.Move.{Move}
 use Rattle.uring_moves.specs.declared.move_of_calls.Move.TheVariants as move
-use Rattle.uring_moves.proofs.ItemLists.{item, items_behind, items_more, few_entries}
+use Rattle.uring_moves.proofs.ItemLists.{item, items_after, items_more, few_entries}
 use Rattle.uring_moves.proofs.Reaching.{Reaches, step_on, finish_on, ends_as_called}
 use Rattle.uring_moves.proofs.CallsTaken.{with_call_published, call_is_taken}
 
@@ -82,7 +82,7 @@ call_made g goes manual w files done call b goes_in room =
         none_reaped = b.none_reaped;
         none_stored = b.none_stored;
       },
-      items_behind w2.submission (items_in done) call now reached,
+      items_after w2.submission (items_in done) call now reached,
     ) where
       calls_keep : (l : Submission) (slot : ℕ) (items : List Published) → (with_items l slot items).calls ≡ l.calls
       calls_keep l slot [] = refl

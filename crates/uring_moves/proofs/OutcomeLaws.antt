@@ -1,4 +1,4 @@
--- The laws of `laws.rt`: from `history_comes`, and from `moves_made` with all completions reaped behind it.
+-- The laws of `laws.rt`: from `history_comes`, and from `moves_made` with all completions reaped after it.
 use Rattle.std.proofs.Common.{◌≡◌, false, ℕ, ◌%◌, ◌^◌, ◌≤◌, List, [], ◌∷◌, ◌++◌, length, take, drop, map, sum, refl, sym, ap, ap₂, ◌∙◌, arith, append-nil}
 use Rattle.std.proofs.Math.Seq.{take-length, take-append_seam, drop-append_seam}
 use Rattle.std.proofs.lemmas.List.{take-map}
@@ -39,8 +39,8 @@ same_cut (x ∷ xs) [] lengths items = absurd (omega (arith, ap length lengths))
 same_cut (x ∷ xs) (y ∷ ys) lengths items =
     let n : length x ≡ length y = first_length lengths in
     let here : x ≡ y = sym (take-append_seam x (items_in xs)) ∙ ap₂ take n items ∙ take-append_seam y (items_in ys) in
-    let behind : items_in xs ≡ items_in ys = sym (drop-append_seam x (items_in xs)) ∙ ap₂ drop n items ∙ drop-append_seam y (items_in ys) in
-    ap₂ (λ c cs. c ∷ cs) here (same_cut xs ys (other_lengths lengths) behind)
+    let after : items_in xs ≡ items_in ys = sym (drop-append_seam x (items_in xs)) ∙ ap₂ drop n items ∙ drop-append_seam y (items_in ys) in
+    ap₂ (λ c cs. c ∷ cs) here (same_cut xs ys (other_lengths lengths) after)
 
 -- if closed calls took all positions, what was published is what they took
 pub all_taken : (l : Submission) (calls : List (List Published)) → published_items l ≡ items_in calls

@@ -14,7 +14,7 @@ use Rattle.uring_entry.specs.Layout.{Sqe, zero_entry, addr_of, user_data_of}
 use Rattle.uring_entry.specs.Preparation.{is_cancel, is_cancel_all, operation_of}
 use Rattle.uring_entry.specs.declared.errno.TheConstants.{EALREADY}
 use Rattle.uring_entry.specs.Success.{is_success}
-use Rattle.uring_entry.specs.Requests.{Requests, entry_of, has_started, has_ended, is_outstanding, is_running, is_doomed, is_behind_failure, some_member, is_joined, is_ready, is_issuable, is_candidate, target_of, is_target, targets_of, result_for, count_result, cancel_result, chosen_by, choices_of, doomed_result, no_bytes, with_call, with_started, with_ended}
+use Rattle.uring_entry.specs.Requests.{Requests, entry_of, has_started, has_ended, is_outstanding, is_running, is_doomed, is_after_failure, some_member, is_joined, is_ready, is_issuable, is_candidate, target_of, is_target, targets_of, result_for, count_result, cancel_result, chosen_by, choices_of, doomed_result, no_bytes, with_call, with_started, with_ended}
 use Rattle.uring_entry.proofs.BelowLemmas.{least_below_same, least_below_tells}
 use Rattle.uring_entry.proofs.RequestLemmas.{list_any_push}
 use Rattle.uring_files.specs.Operations.{result_of}
@@ -40,7 +40,7 @@ abbrev as_if : Moment → List ℕ → Moment
 as_if m s = record m { requests = with_starts m.requests s }
 
 doomed_as_if : (r : Requests) (s : List ℕ) (n : ℕ) → is_doomed (with_starts r s) n ≡ is_doomed r n
-unfolding is_doomed is_behind_failure some_member is_joined
+unfolding is_doomed is_after_failure some_member is_joined
 doomed_as_if r s n = refl
 
 ready_as_if : (r : Requests) (s : List ℕ) (n : ℕ) → is_ready (with_starts r s) n ≡ is_ready r n
@@ -412,11 +412,11 @@ ready_chosen : (r : Requests) (chosen : List ℕ) (k : ℕ) → is_ready (record
 unfolding is_ready some_member is_joined
 ready_chosen r chosen k = refl
 
-ready_behind : (r : Requests) (n : ℕ) (res : ℤ) (bytes chosen : List ℕ)
+ready_after : (r : Requests) (n : ℕ) (res : ℤ) (bytes chosen : List ℕ)
     → ((k : ℕ) → is_running r k ≡ true → is_ready r k ≡ true) → (k : ℕ)
     → is_running (with_ended (record r { cancelled = chosen }) n res bytes) k ≡ true
     → is_ready (with_ended (record r { cancelled = chosen }) n res bytes) k ≡ true
-ready_behind r n res bytes chosen ready k running =
+ready_after r n res bytes chosen ready k running =
     ready_end (record r { cancelled = chosen }) n res bytes k (ready_chosen r chosen k ∙ ready k (ran_before r n res bytes chosen k running))
 
 accept_calm : (named : ℕ → Bool) (m next : Moment) → IsCalm named m → moved m move.Accept ≡ Some next → IsCalm named next
@@ -452,7 +452,7 @@ issue_calm named m next n calm can is = subst (IsCalm named) is (by_doom (is_doo
   ends res so =
       subst (IsCalm named) (sym so) (record {
         sound = subst (λ (x : Moment). IsSoundMoment x.requests) so sound_then;
-        ready = ready_behind m.requests n res no_bytes (m.requests.cancelled ++ chosen_by m.requests n res) calm.ready;
+        ready = ready_after m.requests n res no_bytes (m.requests.cancelled ++ chosen_by m.requests n res) calm.ready;
         are_named = calm.are_named;
         will_be = calm.will_be;
       })
@@ -482,7 +482,7 @@ finish_calm named m next n calm can is =
     let o = result_of m.files (operation_of (entry_of m.requests n)) in
     subst (IsCalm named) is (record {
       sound = one_sound m (move.Finish n) (finished m n) (can_then (is_finishable m.requests n) (finished m n) (finished m n) can refl) calm.sound;
-      ready = ready_behind m.requests n o.res o.bytes m.requests.cancelled calm.ready;
+      ready = ready_after m.requests n o.res o.bytes m.requests.cancelled calm.ready;
       are_named = calm.are_named;
       will_be = calm.will_be;
     })

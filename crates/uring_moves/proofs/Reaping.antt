@@ -31,10 +31,10 @@ with_one_reaped g w c =
       completions = with_head_stored (with_reaped (with_tail_loaded (with_flushed g.cq w.completions)) c);
     }
 
-element_behind : (xs : List Cqe) (x : Cqe) (ys : List Cqe)
+element_after : (xs : List Cqe) (x : Cqe) (ys : List Cqe)
     → slice_get (xs ++ x ∷ ys) (length xs) ≡ Some x
-element_behind [] x ys = refl
-element_behind (first ∷ xs) x ys = element_behind xs x ys
+element_after [] x ys = refl
+element_after (first ∷ xs) x ys = element_after xs x ys
 
 next_is : (size : ℕ) (l : Completions) (c : Cqe) (later : List Cqe) → 1 ≤ size
     → l.head ≡ length l.reaped → l.reaped ++ c ∷ later ≡ l.posted
@@ -43,7 +43,7 @@ next_is size l c later some head split =
     let many : length l.posted ≡ length l.reaped + length (c ∷ later) = ap length (sym split) ∙ length-append l.reaped (c ∷ later) in
     ap (λ b. if b then None else slice_get l.posted (length l.reaped)) (ne_eqb (length l.reaped) (put_by_flush size l) (λ same. omega (arith, same, many, head)))
     ∙ ap (λ xs. slice_get xs (length l.reaped)) (sym split)
-    ∙ element_behind l.reaped c later
+    ∙ element_after l.reaped c later
 
 one_reaped : {moves : List Move} (g : Setup) (w : World) (files : List FileContents) (c : Cqe) (later : List Cqe) → 1 ≤ g.cq
     → Reaches g w files moves → w.completions.head ≡ length w.completions.reaped

@@ -90,7 +90,7 @@ one_sound m (move.Finish n) next e i =
     subst (λ (x : Moment). IsSoundMoment x.requests) c.1
     (record { sound = finish_sound r n o.res o.bytes running i.sound; manual = finish_manual r n o.res o.bytes running i.sound i.manual; no_cancel = i.no_cancel })
 
--- what each move keeps holds behind all of them
+-- what each move keeps holds after all of them
 pub kept_on : (P : Moment → Type 0) → ((m next : Moment) (x : Move) → P m → moved m x ≡ Some next → P next)
     → (moves : List Move) (m last : Moment) → P m → after_moves m moves ≡ Some last → P last
 kept_on P keeps [] m last holds e = subst P (ap (λ o. unwrap_or o last) e) holds

@@ -4,7 +4,7 @@ use Rattle.std.proofs.Common.{◌≡◌, ℕ, ◌*◌, ◌^◌, List, [], ◌∷
 use Rattle.std.specs.Option.{option_map}
 use Rattle.uring_entry.specs.Setup.{Setup}
 use Rattle.uring_entry.specs.Layout.{Sqe}
-use Rattle.uring_entry.specs.Requests.{is_doomed, is_ready, is_behind_failure, some_member, is_joined}
+use Rattle.uring_entry.specs.Requests.{is_doomed, is_ready, is_after_failure, some_member, is_joined}
 use Rattle.uring_entry.specs.Submission.{Published, with_entry, bad_word}
 use Rattle.uring_moves.specs.Moments.{Moment, starting, after_moves}
 use Rattle.uring_moves.specs.Outcomes.{entries_in, bad_in, items_in}
@@ -31,25 +31,25 @@ chain = (nop 4 7 ∷ nop 0 8 ∷ []) ∷ []
 
 -- the second may end first
 turned : posted_after loose (Accept ∷ Issue 0 ∷ Issue 1 ∷ Finish 1 ∷ Finish 0 ∷ []) ≡ Some (8 ∷ 7 ∷ [])
-unfolding is_doomed is_ready is_behind_failure some_member is_joined
+unfolding is_doomed is_ready is_after_failure some_member is_joined
 turned = refl
 
 -- but in a chain it isn't issued before the first has ended
 waits : posted_after chain (Accept ∷ Issue 0 ∷ Issue 1 ∷ []) ≡ None
-unfolding is_doomed is_ready is_behind_failure some_member is_joined
+unfolding is_doomed is_ready is_after_failure some_member is_joined
 waits = refl
 
 in_order : posted_after chain (Accept ∷ Issue 0 ∷ Finish 0 ∷ Issue 1 ∷ Finish 1 ∷ []) ≡ Some (7 ∷ 8 ∷ [])
-unfolding is_doomed is_ready is_behind_failure some_member is_joined
+unfolding is_doomed is_ready is_after_failure some_member is_joined
 in_order = refl
 
 -- nothing is issued before its call is accepted, and nothing finished that doesn't run
 not_yet : posted_after loose (Issue 0 ∷ Accept ∷ []) ≡ None
-unfolding is_doomed is_ready is_behind_failure some_member is_joined
+unfolding is_doomed is_ready is_after_failure some_member is_joined
 not_yet = refl
 
 not_running : posted_after loose (Accept ∷ Finish 0 ∷ []) ≡ None
-unfolding is_doomed is_ready is_behind_failure some_member is_joined
+unfolding is_doomed is_ready is_after_failure some_member is_joined
 not_running = refl
 
 -- a bad word is no entry, and is dropped

@@ -62,7 +62,7 @@ pub record IsOutcomeOf (g : Setup) (calls : List (List Published)) (o : CallsOut
   pub history : History
   pub comes : ComesTo g calls history o
 
--- a moment behind which there is none: each call was accepted, and no request is outstanding
+-- a moment after which there is none: each call was accepted, and no request is outstanding
 pub record IsOver (m : Moment) : Type 0 where
   pub none_left : m.left ≡ []
   pub none_outstanding : outstanding_in m.requests ≡ 0

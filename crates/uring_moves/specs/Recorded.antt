@@ -8,7 +8,7 @@ use Rattle.uring_core.specs.declared.answer.Answer.TheVariants as answer
 use Rattle.uring_moves.specs.declared.move_of_calls.Move.{Move}
 use Rattle.uring_moves.specs.declared.move_of_calls.Move.TheVariants as move
 
--- these moves, with that of a step and its answer behind them, if it makes one
+-- these moves, with that of a step and its answer after them, if it makes one
 abbrev pub with_event : Step → Answer → List Move → List Move
 with_event step.End (answer.Taken accepted dropped head) moves = moves ++ move.Accept ∷ []
 with_event (step.Issue n) answer.Run moves = moves ++ move.Issue n ∷ []

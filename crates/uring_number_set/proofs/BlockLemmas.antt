@@ -201,11 +201,11 @@ block_least block n fits some =
       same = omega arith;
       here = ap (bit_at block) place ∙ here;
       before = λ k le lt.
-          let behind : k % 64 ≡ n % 64 + (k - n) = omega arith in
-          ap (bit_at block) behind ∙ sym (bit_at_shr block (n % 64) (k - n)) ∙ low.2 (k - n) (omega arith);
+          let after : k % 64 ≡ n % 64 + (k - n) = omega arith in
+          ap (bit_at block) after ∙ sym (bit_at_shr block (n % 64) (k - n)) ∙ low.2 (k - n) (omega arith);
     }
 
--- The least number of the set from n on: it is in n's block, or else in the first block behind it that isn't zero.
+-- The least number of the set from n on: it is in n's block, or else in the first block after it that isn't zero.
 pub least_within : (s : NumberSet) (n block m : ℕ) → block ≡ block_at s (n / 64)
     → IsLeastOf block n m → IsLeastFrom s n m
 least_within s n block m is l =
@@ -231,11 +231,11 @@ none_from s n block is none zeros k le =
       | inr other ↦ holds_zero s k (zeros (k / 64) (omega arith))
     ]
 
-pub least_behind : (s : NumberSet) (n block place found : ℕ) → block ≡ block_at s (n / 64)
+pub least_after : (s : NumberSet) (n block place found : ℕ) → block ≡ block_at s (n / 64)
     → HasNoneFrom block n → found ≡ block_at s place → 0 < found → found < 2 ^ 64
     → n / 64 + 1 ≤ place → ((i : ℕ) → n / 64 + 1 ≤ i → i < place → block_at s i ≡ 0)
     → IsLeastFrom s n (64 * place + trailing_zeros w64 found)
-least_behind s n block place found is none at_place some fits behind zeros =
+least_after s n block place found is none at_place some fits after zeros =
     let low = bit_at-trailing_zeros w64 found some fits in
     let small : trailing_zeros w64 found < 64 = low.0 in
     record {

@@ -24,7 +24,7 @@ holds s n = bit_at (block_at s (n / 64)) (n % 64) == 1
 abbrev pub start_of : NumberSet → ℕ
 start_of s = 64 * s.first
 
--- the number behind those that are covered
+-- the number after those that are covered
 abbrev pub stop_of : NumberSet → ℕ
 stop_of s = 64 * (s.first + length s.blocks)
 
@@ -104,7 +104,7 @@ pub record HasGrown (old new : NumberSet) (n : ℕ) : Type 0 where
 abbrev pub IsFilledBlock : ℕ → Type 0
 IsFilledBlock block = (0 < block) × (block < 2 ^ 64)
 
--- These blocks begin at this place or behind it, or with one in which a number is; or there are none.
+-- These blocks begin at this place or after it, or with one in which a number is; or there are none.
 abbrev pub HasLetGo : ℕ → List ℕ → ℕ → Type 0
 HasLetGo first blocks place =
     (place ≤ first) ⊎ ((length blocks ≡ 0) ⊎ IsFilledBlock (slice_index_or blocks 0 0))

@@ -73,7 +73,7 @@ impl Blocks {
         self.first
     }
 
-    /// Covers the number `n`, which is at most the one behind those that are covered.
+    /// Covers the number `n`, which is at most the one after those that are covered.
     pub(crate) fn extend(&mut self, n: u64)
         requires follows { n ≤ stop_of self.old }
         requires room { n < self.old.limit }

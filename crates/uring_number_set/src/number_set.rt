@@ -57,7 +57,7 @@ impl NumberSet {
         self.reserve_in(&memory, count)
     }
 
-    /// As `reserve`, by this memory. If it grants an element for each 64 numbers below the one behind those that are covered and these, and one more, there is no error.
+    /// As `reserve`, by this memory. If it grants an element for each 64 numbers below the one after those that are covered and these, and one more, there is no error.
     pub fn reserve_in<M: Memory>(&mut self, memory: &M, count: u64) -> Result<(), AllocError>
         requires { count < 2 ^ 63 }
         ensures ok { OnOk result (stop_of self.old + count ≤ self.new.limit) }
@@ -69,7 +69,7 @@ impl NumberSet {
         self.numbers.reserve_in(memory, count)
     }
 
-    /// Covers the number `n`, which is at most the one behind those that are covered, and below 2^63. There has to be memory for it, as `reserve` gives. No number comes into the set or leaves it.
+    /// Covers the number `n`, which is at most the one after those that are covered, and below 2^63. There has to be memory for it, as `reserve` gives. No number comes into the set or leaves it.
     pub fn extend(&mut self, n: u64)
         requires follows { n ≤ stop_of self.old }
         requires room { n < self.old.limit }

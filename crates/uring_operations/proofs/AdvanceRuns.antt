@@ -1,6 +1,6 @@
 -- The law of the vectors of a message that is moved in parts.
 use Rattle.std.proofs.Common.{◌≡◌, ℕ, zero, suc, ◌+◌, ◌-◌, min, List, [], ◌∷◌, ◌++◌, drop, refl, sym, ap, ◌∙◌, arith}
-use Rattle.uring_operations.specs.Calls.Advances.{places_from, places, LeavesWhatIsBehind}
+use Rattle.uring_operations.specs.Calls.Advances.{places_from, places, LeavesWhatIsAfter}
 
 -- the same places, by other numbers
 same : (from from' size size' moved moved' : ℕ) (later : List ℕ) → from ≡ from' → size ≡ size' → moved ≡ moved'
@@ -11,22 +11,22 @@ same from from' size size' moved moved' later is_from is_size is_moved =
     ∙ ap (λ n. places_from from' size' ++ drop n later) is_moved
 
 -- the bytes of one vector and of others after it
-behind_one : (from size moved : ℕ) (later : List ℕ)
+after_one : (from size moved : ℕ) (later : List ℕ)
     → drop moved (places_from from size ++ later)
     ≡ places_from (from + min moved size) (size - min moved size) ++ drop (moved - min moved size) later
-behind_one from zero moved later =
+after_one from zero moved later =
     same from (from + min moved 0) 0 (0 - min moved 0) moved (moved - min moved 0) later (omega arith) (omega arith) (omega arith)
-behind_one from (suc size) zero later =
+after_one from (suc size) zero later =
     same from (from + min 0 (suc size)) (suc size) (suc size - min 0 (suc size)) 0 (0 - min 0 (suc size)) later (omega arith) (omega arith) (omega arith)
-behind_one from (suc size) (suc moved) later =
-    behind_one (suc from) size moved later
+after_one from (suc size) (suc moved) later =
+    after_one (suc from) size moved later
     ∙ same (suc from + min moved size) (from + min (suc moved) (suc size)) (size - min moved size) (suc size - min (suc moved) (suc size))
     (moved - min moved size) (suc moved - min (suc moved) (suc size)) later (omega arith) (omega arith) (omega arith)
 
-pub leaves_what_is_behind : LeavesWhatIsBehind
-leaves_what_is_behind [] zero = refl
-leaves_what_is_behind [] (suc moved) = refl
-leaves_what_is_behind (v ∷ later) moved =
+pub leaves_what_is_after : LeavesWhatIsAfter
+leaves_what_is_after [] zero = refl
+leaves_what_is_after [] (suc moved) = refl
+leaves_what_is_after (v ∷ later) moved =
     ap (λ rest. places_from (v.from + min moved v.size) (v.size - min moved v.size) ++ rest)
-    (leaves_what_is_behind later (moved - min moved v.size))
-    ∙ sym (behind_one v.from v.size moved (places later))
+    (leaves_what_is_after later (moved - min moved v.size))
+    ∙ sym (after_one v.from v.size moved (places later))

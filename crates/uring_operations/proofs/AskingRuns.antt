@@ -19,8 +19,8 @@ back flags below none =
 is_set : (flags : ℕ) → (bit_and (bit_or flags 2048) 2048 == 0) ≡ false
 is_set flags = ap (λ bits. bits == 0) (and_or_self 2048 flags)
 
-behind : (flags : ℕ) → flags < 2 ^ 32 → bit_and flags 2048 ≡ 0 → flags_after true true (bit_or flags 2048) ≡ Some flags
-behind flags below none =
+after : (flags : ℕ) → flags < 2 ^ 32 → bit_and flags 2048 ≡ 0 → flags_after true true (bit_or flags 2048) ≡ Some flags
+after flags below none =
     ap (λ bits. if not bits then Some (bit_and (bit_or flags 2048) 4294965247) else None) (is_set flags)
     ∙ ap (λ n. Some n) (back flags below none)
 
@@ -35,7 +35,7 @@ flags_in None = 0
 taken_back : (flags asked : ℕ) (is_none : Bool) → flags < 2 ^ 32 → (bit_and flags 2048 == 0) ≡ is_none
     → (if not (not is_none) then Some (bit_or flags 2048) else None) ≡ Some asked → flags_after true true asked ≡ Some flags
 taken_back flags asked true below is was =
-    sym (ap (λ n. flags_after true true n) (ap flags_in was)) ∙ behind flags below (eqb-true (bit_and flags 2048) 0 is)
+    sym (ap (λ n. flags_after true true n) (ap flags_in was)) ∙ after flags below (eqb-true (bit_and flags 2048) 0 is)
 taken_back flags asked false below is was = absurd (false≢true (ap is_none_of (sym was)))
 
 pub takes_back_what_it_asked : TakesBackWhatItAsked

@@ -9,7 +9,7 @@ use Rattle.uring_operations.specs.declared.calls.waiting_call.Turn.{Turn}
 use Rattle.uring_operations.specs.declared.calls.waiting_call.Turn.TheVariants.{Does, Waits, Ends, EndsWithDone}
 use Rattle.uring_operations.specs.Entries.Needs.{is_of_sockets}
 use Rattle.uring_operations.specs.Requests.Readiness.{has_message_flags}
-use Rattle.uring_operations.specs.Calls.CallTries.{polls_first, is_asked, is_connected, is_repeated, waits_for_all, would_wait, ends_with, behind, behind_call, after_connect, after_message, EndsWithWhatCame, LosesNoBytes}
+use Rattle.uring_operations.specs.Calls.CallTries.{polls_first, is_asked, is_connected, is_repeated, waits_for_all, would_wait, ends_with, after, after_call, after_connect, after_message, EndsWithWhatCame, LosesNoBytes}
 use Rattle.uring_entry.specs.Errors.{error}
 
 abbrev end_in : Turn → ℤ
@@ -120,13 +120,13 @@ ends_not turn end without is = false≢true (sym without ∙ ap has_end is)
 pub loses_no_bytes : LosesNoBytes
 loses_no_bytes e c None res end message moved is = absurd (no_end (polls_first e c) (Does Polls) (Does Calls) end refl refl is)
 loses_no_bytes e c (Some Calls) res end message moved is =
-    absurd (ends_not (behind_call e c res) end (moved_call (e.opcode == 16) (int_eq res (error 11)) (has_message_flags e.opcode)
+    absurd (ends_not (after_call e c res) end (moved_call (e.opcode == 16) (int_eq res (error 11)) (has_message_flags e.opcode)
     (after_connect c res) (would_wait e c) (after_message e c res) res
     (no_connect (is_of_sockets e.opcode) (e.opcode == 13) (e.opcode == 16) message) message
     (moved_would (is_asked e) (has_message_flags e.opcode) (c.done == 0) message moved) (moved_message e c res message moved)) is)
 loses_no_bytes e c (Some Polls) res end message moved is = absurd (poll_end (e.opcode == 16) (not (int_eq res (pos 0))) end is)
 loses_no_bytes e c (Some AsksWill) res end message moved is =
-    absurd (ends_not (behind e c AsksWill res) end (chosen_end (int_eq res (pos 0)) Waits (ends_with e c (error 11)) refl
+    absurd (ends_not (after e c AsksWill res) end (chosen_end (int_eq res (pos 0)) Waits (ends_with e c (error 11)) refl
     (moved_end (has_message_flags e.opcode) (c.done == 0) (error 11) message moved)) is)
 loses_no_bytes e c (Some AsksType) res end message moved is = absurd (no_end (int_eq res (pos 0)) EndsWithDone Waits end refl refl is)
 loses_no_bytes e c (Some AsksError) res end message moved is = refl

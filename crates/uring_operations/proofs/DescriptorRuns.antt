@@ -87,11 +87,11 @@ by_status_is true false false i m v ko h h' p ka w w' kind one two is = sym (ap 
 by_entry_is : (a b c s : Bool) (later : Finding) (kind whole : Kind) → (s ≡ true → later ≡ Is kind → kind ≡ whole)
     → by_entry a b c s later ≡ Is kind
     → kind ≡ (if a then Stream else if b then AtOnce else if c then whole else Never)
-by_entry_is true b c s later kind whole behind is = sym (ap kind_in is)
-by_entry_is false true c s later kind whole behind is = sym (ap kind_in is)
-by_entry_is false false false s later kind whole behind is = sym (ap kind_in is)
-by_entry_is false false true false later kind whole behind is = absurd (false≢true (ap has_kind is))
-by_entry_is false false true true later kind whole behind is = behind refl is
+by_entry_is true b c s later kind whole after is = sym (ap kind_in is)
+by_entry_is false true c s later kind whole after is = sym (ap kind_in is)
+by_entry_is false false false s later kind whole after is = sym (ap kind_in is)
+by_entry_is false false true false later kind whole after is = absurd (false≢true (ap has_kind is))
+by_entry_is false false true true later kind whole after is = after refl is
 
 opens_for : (reads one one' two two' : Bool) → one ≡ one' → two ≡ two'
     → (if reads then one else two) ≡ (if reads then one' else two')

@@ -10,7 +10,7 @@ mod requests;
 
 pub use calls::advance::Rest;
 pub use calls::advance::Vector;
-pub use calls::advance::leaves_what_is_behind;
+pub use calls::advance::leaves_what_is_after;
 pub use calls::advance::moved_by;
 pub use calls::advance::rest_of;
 pub use calls::call_results::asks_shut;

@@ -28,36 +28,36 @@ contains_map f xs x there =
 none_there : {X : Type 0} (x : X) → Contains [] x → ⊥
 none_there x there = let low : there.0 < 0 = there.1 in omega (arith, low)
 
--- Moves behind moves.
+-- Moves after moves.
 
-behind : (o : Option Moment) (f h : Moment → Option Moment) → ((y : Moment) → f y ≡ h y)
+then_same : (o : Option Moment) (f h : Moment → Option Moment) → ((y : Moment) → f y ≡ h y)
     → option_and_then f o ≡ option_and_then h o
-behind None f h e = refl
-behind (Some y) f h e = e y
+then_same None f h e = refl
+then_same (Some y) f h e = e y
 
 nested : (o : Option Moment) (f h : Moment → Option Moment)
     → option_and_then (λ y. option_and_then h (f y)) o ≡ option_and_then h (option_and_then f o)
 nested None f h = refl
 nested (Some y) f h = refl
 
-pub moves_behind : (path rest : List Move) (m : Moment)
+pub moves_after : (path rest : List Move) (m : Moment)
     → after_moves m (path ++ rest) ≡ option_and_then (λ y. after_moves y rest) (after_moves m path)
-moves_behind [] rest m = refl
-moves_behind (x ∷ path) rest m =
-    behind (moved m x) (λ y. after_moves y (path ++ rest)) (λ y. option_and_then (λ z. after_moves z rest) (after_moves y path)) (λ y. moves_behind path rest y)
+moves_after [] rest m = refl
+moves_after (x ∷ path) rest m =
+    then_same (moved m x) (λ y. after_moves y (path ++ rest)) (λ y. option_and_then (λ z. after_moves z rest) (after_moves y path)) (λ y. moves_after path rest y)
     ∙ nested (moved m x) (λ y. after_moves y path) (λ z. after_moves z rest)
 
 same_some : (m n : Moment) → Some m ≡ Some n → m ≡ n
 same_some m n e = cc
 
--- the move behind a path is names where it is made
-direct_behind : (names : List ℕ) (path : List Move) (x : Move) (later : List Move) (start m : Moment)
+-- the move after a path is names where it is made
+direct_after : (names : List ℕ) (path : List Move) (x : Move) (later : List Move) (start m : Moment)
     → after_moves start path ≡ Some m → AreDirect (among names) start (path ++ x ∷ later)
     → IsDirect (among names) m x
-direct_behind names [] x later start m leads direct =
+direct_after names [] x later start m leads direct =
     subst (λ y. IsDirect (among names) y x) (same_some start m leads) direct.0
-direct_behind names (first ∷ path) x later start m leads direct =
-    by_first (moved start first) refl leads (λ next. direct_behind names path x later next m) where
+direct_after names (first ∷ path) x later start m leads direct =
+    by_first (moved start first) refl leads (λ next. direct_after names path x later next m) where
       by_first : (next : Option Moment) → moved start first ≡ next → option_and_then (λ n. after_moves n path) next ≡ Some m → ((n : Moment) → after_moves n path ≡ Some m → AreDirect (among names) n (path ++ x ∷ later) → IsDirect (among names) m x) → IsDirect (among names) m x
       by_first None is e go_on = absurd cc
       by_first (Some next) is e go_on = go_on next e (direct.1 next is)
@@ -76,14 +76,14 @@ goes_on g calls names path m last todo after found [] leads longer noted wanted 
     let here : m ≡ last = same_some m last (sym leads ∙ (sym (ap (after_moves (starting g calls)) (append-nil path)) ∙ ends)) in
     inl (subst (λ y. Contains found (ending_of y)) here (noted (subst IsOver (sym here) over)))
 goes_on g calls names path m last todo after found (x ∷ later) leads longer noted wanted ends over =
-    by_next (moved m x) refl behind_path where
-      behind_path : option_and_then (λ n. after_moves n later) (moved m x) ≡ Some last
-      behind_path = sym (ap (option_and_then (λ y. after_moves y (x ∷ later))) leads) ∙ (sym (moves_behind path (x ∷ later) (starting g calls)) ∙ ends)
+    by_next (moved m x) refl after_path where
+      after_path : option_and_then (λ n. after_moves n later) (moved m x) ≡ Some last
+      after_path = sym (ap (option_and_then (λ y. after_moves y (x ∷ later))) leads) ∙ (sym (moves_after path (x ∷ later) (starting g calls)) ∙ ends)
 
       by_next : (next : Option Moment) → moved m x ≡ next → option_and_then (λ n. after_moves n later) next ≡ Some last → Contains found (ending_of last) ⊎ BeginsIn after (path ++ x ∷ later)
       by_next None is e = absurd cc
       by_next (Some next) is e =
-          let among : Contains longer.moves x = longer.next x next is (direct_behind names path x later (starting g calls) m leads wanted) in
+          let among : Contains longer.moves x = longer.next x next is (direct_after names path x later (starting g calls) m leads wanted) in
           let added : Contains (map (λ y. path ++ y ∷ []) longer.moves) (path ++ x ∷ []) = contains_map (λ y. path ++ y ∷ []) longer.moves x among in
           inr (record {
             path = path ++ x ∷ [];
@@ -155,7 +155,7 @@ no_path g calls names path todo found none walk = record {
       | inl old ↦ inr (record { path = b.path; rest = b.rest; there = old; is = b.is })
       | inr this ↦
           let is : moves ≡ path ++ b.rest = b.is ∙ ap (λ p. p ++ b.rest) (sym this) in
-          let fails : ◌≡◌ {A = Option Moment} None (Some last) = sym (ap (option_and_then (λ y. after_moves y b.rest)) none) ∙ (sym (moves_behind path b.rest (starting g calls)) ∙ (sym (ap (after_moves (starting g calls)) is) ∙ ends)) in
+          let fails : ◌≡◌ {A = Option Moment} None (Some last) = sym (ap (option_and_then (λ y. after_moves y b.rest)) none) ∙ (sym (moves_after path b.rest (starting g calls)) ∙ (sym (ap (after_moves (starting g calls)) is) ∙ ends)) in
           absurd cc
     ]
   ];

@@ -34,10 +34,10 @@ accept_keeps m next (call ∷ later) is so =
     let sum : length (m.requests.accepted ++ call) + entry_count later ≡ length m.requests.accepted + entry_count m.left = omega (arith, left, length-append m.requests.accepted call) in
     ap all_of new ∙ sum
 
-can_keep : (can : Bool) (m behind next : Moment) → all_of behind ≡ all_of m
-    → (if can then Some behind else None) ≡ Some next → all_of next ≡ all_of m
-can_keep true m behind next same so = let is : behind ≡ next = cc in ap all_of (sym is) ∙ same
-can_keep false m behind next same so = absurd cc
+can_keep : (can : Bool) (m after next : Moment) → all_of after ≡ all_of m
+    → (if can then Some after else None) ≡ Some next → all_of next ≡ all_of m
+can_keep true m after next same so = let is : after ≡ next = cc in ap all_of (sym is) ∙ same
+can_keep false m after next same so = absurd cc
 
 issue_keeps : (doomed cancel : Bool) (m : Moment) (n : ℕ)
     → all_of (if doomed then ended_at_once m n (doomed_result m.requests n) else

@@ -1,7 +1,7 @@
 -- In the order in which they are best read.
 -- What the dispatcher answers, and the moves:
 pub mod Moving
--- What the run stands at behind a move:
+-- What the run stands at after a move:
 pub mod RunSteps
 -- Moves made one after the other, and what can be made next:
 pub mod Replaying

@@ -1,5 +1,5 @@
 -- What the dispatcher answers, and the moves that it makes: `issue_moves`, `accept_moves` and `finish_moves`.
--- What the run stands at behind them.
+-- What the run stands at after them.
 use Rattle.std.proofs.Common.{◌≡◌, ℕ, suc, ◌+◌, ◌<◌, ◌≤◌, ℤ, neg_ℤ, Bool, true, false, not, ◌&&◌, ◌||◌, nat_lt, nat_le, if◌then◌else◌, List, [], ◌∷◌, ◌++◌, length, drop, get_or, Option, Some, None, refl, sym, subst, ap, ◌∙◌, arith, inl, inr}
 use Rattle.std.specs.Option.{option_and_then}
 use Rattle.std.specs.declared.vec.Vec.{Vec}
@@ -37,7 +37,7 @@ made_so P o next is p = subst (λ x. MadeAs true x P) (sym is) (refl, p)
 pub not_made : (P : Moment → Type 0) (o : Option Moment) → o ≡ None → MadeAs false o P
 not_made P o is = subst (λ x. MadeAs false x P) (sym is) refl
 
--- one move behind a reached moment
+-- one move after a reached moment
 pub reached_on : (calls : List (List Sqe)) (m next : Moment) (x : Move) → IsReached calls m
     → moved m x ≡ Some next → IsReached calls next
 reached_on calls m next x r is = record {
@@ -143,7 +143,7 @@ pub accept_moves : (calls : List (Vec Sqe Global)) (m : Moment) (k : ℕ) (call 
     ≡ Some (record m { requests = with_call m.requests call.items; left = drop (k + 1) (entries_of calls) })
 accept_moves calls m k call left low is = ap (accepted m) (next_left calls m k call left low is)
 
--- none is left behind the last
+-- none is left after the last
 pub none_left : (calls : List (Vec Sqe Global)) (m : Moment) (k : ℕ) → m.left ≡ drop k (entries_of calls)
     → length calls ≤ k → m.left ≡ []
 none_left calls m k left past =

@@ -14,7 +14,7 @@ use Rattle.uring_moves.proofs.MovesLead.{one_move_more}
 use Rattle.uring_moves.specs.Direct.{IsNextUnnamed}
 use Rattle.uring_outcomes.specs.Runs.{among, StandsAt, Stands, MadeAs, LedTo, HasNext, IsQuiet, HasBelow}
 use Rattle.uring_outcomes.specs.declared.run.Run.{Run}
-use Rattle.uring_outcomes.proofs.Covering.{moves_behind}
+use Rattle.uring_outcomes.proofs.Covering.{moves_after}
 use Rattle.uring_outcomes.proofs.Moving.{not_made, issue_can, finish_can, issuable_accepted, finishable_tells}
 
 -- what is so of a move that was made, and of one that wasn't
@@ -64,7 +64,7 @@ led_nowhere calls m path k x old new low is led made =
     let rest : drop k path ≡ x ∷ drop (suc k) path = drop-cons path k x low ∙ ap (λ y. y ∷ drop (suc k) path) (sym is) in
     let split : path ≡ take k path ++ (x ∷ drop (suc k) path) = sym (take-append-drop k path) ∙ ap (λ ys. take k path ++ ys) rest in
     not_made (StandsAt calls new) (after_moves m path)
-    (ap (after_moves m) split ∙ (moves_behind (take k path) (x ∷ drop (suc k) path) m ∙ (ap (option_and_then (λ y. after_moves y (x ∷ drop (suc k) path))) led.leads ∙ ap (option_and_then (λ n. after_moves n (drop (suc k) path))) stops)))
+    (ap (after_moves m) split ∙ (moves_after (take k path) (x ∷ drop (suc k) path) m ∙ (ap (option_and_then (λ y. after_moves y (x ∷ drop (suc k) path))) led.leads ∙ ap (option_and_then (λ n. after_moves n (drop (suc k) path))) stops)))
 
 -- The same by the place of the move.
 

@@ -1,4 +1,4 @@
--- What the run stands at behind each move: an acceptance, an issue that starts its request or ends it, and a finish.
+-- What the run stands at after each move: an acceptance, an issue that starts its request or ends it, and a finish.
 use Rattle.std.proofs.Common.{◌≡◌, ℕ, ◌+◌, ◌<◌, ◌≤◌, ℤ, true, List, [], ◌∷◌, ◌++◌, length, drop, get_or, Option, Some, None, if◌then◌else◌, refl, sym, subst, ap, ap₂, ◌∙◌, arith}
 use Rattle.std.specs.Borrow.{Bor}
 use Rattle.std.specs.Slice.{IsItemAt}
@@ -28,13 +28,13 @@ use Rattle.uring_outcomes.specs.Runs.{entries_of, StandsAt, MadeAs}
 use Rattle.uring_outcomes.specs.declared.run.Run.{Run}
 use Rattle.uring_outcomes.proofs.Moving.{made_so, reached_on, sound_at, issue_moves, entry_told, told_if_outstanding, accept_moves, runs_told, running_outstanding, finish_moves}
 
--- The run stands at the moment behind a move.
-pub stands_behind : (calls : List (List Sqe)) (old new : Run) (m next : Moment) (x : Move)
+-- The run stands at the moment after a move.
+pub stands_after : (calls : List (List Sqe)) (old new : Run) (m next : Moment) (x : Move)
     → StandsAt calls old m → moved m x ≡ Some next
     → ShowsRequests new.dispatch next.requests → new.dispatch.is_between_calls ≡ true
     → new.posted.items ≡ next.posted → new.files ≡ next.files → next.left ≡ drop new.next_call calls
     → MadeAs true (moved m x) (StandsAt calls new)
-stands_behind calls old new m next x at is requests between posted files left =
+stands_after calls old new m next x at is requests between posted files left =
     made_so (StandsAt calls new) (moved m x) next is (record {
       reached = reached_on calls m next x at.reached is;
       requests = requests;
@@ -66,7 +66,7 @@ pub accepts : (calls : List (Vec Sqe Global)) (old new : Run) (m : Moment) (call
     → new.files ≡ old.files → new.next_call ≡ old.next_call + 1
     → MadeAs true (moved m move.Accept) (StandsAt (entries_of calls) new)
 accepts calls old new m call at low is shows between posted files next =
-    stands_behind (entries_of calls) old new m (record m { requests = with_call m.requests call.items; left = drop (old.next_call + 1) (entries_of calls) }) move.Accept at
+    stands_after (entries_of calls) old new m (record m { requests = with_call m.requests call.items; left = drop (old.next_call + 1) (entries_of calls) }) move.Accept at
     (accept_moves calls m old.next_call call at.left low is)
     shows between (posted ∙ at.posted) (files ∙ at.files) (ap (λ k. drop k (entries_of calls)) (sym next))
 
@@ -79,7 +79,7 @@ pub issue_starts : (calls : List (List Sqe)) (old new : Run) (m : Moment) (n : �
     → new.files ≡ old.files → new.next_call ≡ old.next_call
     → MadeAs true (moved m (move.Issue n)) (StandsAt calls new)
 issue_starts calls old new m n op at is shows between posted files next =
-    stands_behind calls old new m (started m n) (move.Issue n) at (issue_moves m n (answer.Run op) is)
+    stands_after calls old new m (started m n) (move.Issue n) at (issue_moves m n (answer.Run op) is)
     shows between (posted ∙ at.posted) (files ∙ at.files) (at.left ∙ ap (λ k. drop k calls) (sym next))
 
 pub issue_ends : (calls : List (List Sqe)) (old new : Run) (m : Moment) (n : ℕ) (res : ℤ) (entry : Sqe)
@@ -91,7 +91,7 @@ pub issue_ends : (calls : List (List Sqe)) (old new : Run) (m : Moment) (n : ℕ
     → new.files ≡ old.files → new.next_call ≡ old.next_call
     → MadeAs true (moved m (move.Issue n)) (StandsAt calls new)
 issue_ends calls old new m n res entry at is told shows between posted files next =
-    stands_behind calls old new m (ended_at_once m n res) (move.Issue n) at (issue_moves m n (answer.Ended res) is)
+    stands_after calls old new m (ended_at_once m n res) (move.Issue n) at (issue_moves m n (answer.Ended res) is)
     shows between
     (posted ∙ ap₂ (λ ps e. posted_with ps e res no_bytes) at.posted (entry_told m.requests n entry told))
     (files ∙ at.files) (at.left ∙ ap (λ k. drop k calls) (sym next))
@@ -118,7 +118,7 @@ running_told calls run n op told m at is told_so none =
     let runs = runs_told m.requests n op is in
     told_if_outstanding m.requests n (running_outstanding m.requests n (sound_at calls m at.reached) runs.0) (none ∙ told_so)
 
--- the requests behind a finish with this answer
+-- the requests after a finish with this answer
 shows_ended : (r : Requests) (n : ℕ) (o : Outcome) (a : Finished) (d : Dispatch) → is_running r n ≡ true
     → a ≡ asked.finished r n → ShowsRequests d (asked.after_finish r n o a)
     → ShowsRequests d (with_ended r n o.res o.bytes)
@@ -141,7 +141,7 @@ finishes calls old new m n op entry o a at is told called answered shows between
     let right : Op = operation_of (entry_of r n) in
     let as_called : o ≡ result_of m.files right = called ∙ ap₂ result_of at.files runs.1 in
     let ended : ShowsRequests new.dispatch (with_ended r n o.res o.bytes) = shows_ended r n o a new.dispatch runs.0 answered shows in
-    stands_behind calls old new m (finished m n) (move.Finish n) at (finish_moves m n (sound_at calls m at.reached) runs.0)
+    stands_after calls old new m (finished m n) (move.Finish n) at (finish_moves m n (sound_at calls m at.reached) runs.0)
     (subst (λ (x : Outcome). ShowsRequests new.dispatch (with_ended r n x.res x.bytes)) as_called ended)
     between
     (posted ∙ ap₂ (λ ps e. posted_with ps e o.res o.bytes) at.posted (entry_told r n entry told) ∙ ap (λ (x : Outcome). posted_with m.posted (entry_of r n) x.res x.bytes) as_called)

@@ -53,7 +53,7 @@ pub record IsWalk (g : Setup) (calls : List (List Sqe)) (names : List ℕ) (todo
   pub right : AreEndings g calls found
   pub once : AreOnce found
 
--- this path with this move behind it, if there is one
+-- this path with this move after it, if there is one
 abbrev pub longer_by : List Move → Option Move → List (List Move)
 longer_by path next = map (λ x. path ++ x ∷ []) (option_to_list next)
 
@@ -63,7 +63,7 @@ abbrev pub TakesPath : Setup → List (List Sqe) → List ℕ → List Move → 
 TakesPath g calls names path todo found todo_after found_after =
     IsWalk g calls names (todo ++ path ∷ []) found → IsWalk g calls names todo_after found_after
 
--- paths were put behind those that are still to be taken: among them this one with each move behind it that can be made next
+-- paths were put after those that are still to be taken: among them this one with each move after it that can be made next
 pub record HasLonger (names : List ℕ) (m : Moment) (path : List Move) (old new : List (List Move)) : Type 0 where
   pub moves : List Move
   pub next : HasNext names m moves
@@ -92,7 +92,7 @@ pub record IsAmid (g : Setup) (calls : List (List Sqe)) (names : List ℕ) (w : 
   pub there : LedTo calls (starting g calls) w.path.items w.run
   pub more : IsOver there.last → ⊥
 
--- its run has made the moves of its path, and this move is to be taken behind them, if there is one
+-- its run has made the moves of its path, and this move is to be taken after them, if there is one
 pub record IsBefore (g : Setup) (calls : List (List Sqe)) (names : List ℕ) (next : Option Move) (w : Walk) : Type 0 where
   pub walk : IsWalk g calls names (paths_of w.todo.items ++ longer_by w.path.items next) w.found.list.items
   pub indexed : IsIndexed w.found

@@ -12,7 +12,7 @@ use uring_entry::Sqe;
 use uring_memory::Memory;
 use uring_moves::Move;
 
-/// Returns one of the moves that can be made next, if there is any, and puts this path with each of the others behind it among those to be taken.
+/// Returns one of the moves that can be made next, if there is any, and puts this path with each of the others after it among those to be taken.
 pub(crate) fn fork<M: Memory>(
     memory: &M,
     alloc: Global,
@@ -38,7 +38,7 @@ pub(crate) fn fork<M: Memory>(
     }
 }
 
-/// Puts this path with each of these moves behind it among those to be taken, by this memory. If it grants whatever is asked for, there is no error.
+/// Puts this path with each of these moves after it among those to be taken, by this memory. If it grants whatever is asked for, there is no error.
 pub fn push_longer<M: Memory>(
     memory: &M,
     alloc: Global,
@@ -56,7 +56,7 @@ pub fn push_longer<M: Memory>(
     Ok(())
 }
 
-/// Puts this path with this move behind it among those to be taken.
+/// Puts this path with this move after it among those to be taken.
 fn push_one<M: Memory>(
     memory: &M,
     alloc: Global,
@@ -73,7 +73,7 @@ fn push_one<M: Memory>(
     Ok(())
 }
 
-/// This path with this move behind it.
+/// This path with this move after it.
 fn with_move<M: Memory>(
     memory: &M,
     alloc: Global,

@@ -37,7 +37,7 @@ pub(crate) fn push_change<M: TextMemory>(
     push_quoted(memory, text, state.as_bytes())
 }
 
-/// Appends a comma behind another change.
+/// Appends a comma after another change.
 fn push_comma<M: TextMemory>(memory: &M, text: &mut String) -> Result<(), AllocError>
     ensures { ((n : ℕ) → M.grants memory.now n) → IsOk result }
 {

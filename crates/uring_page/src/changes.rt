@@ -28,7 +28,7 @@ pub(crate) struct Look<'a> {
     pub(crate) answer: &'a [u8],
 }
 
-/// How requests and completions stood behind the last line.
+/// How requests and completions stood after the last line.
 #[derive(Drop)]
 pub(crate) struct Changes {
     alloc: Global,

@@ -12,9 +12,9 @@ use uring_pictures::{Told, Watcher, watch_byte};
 use uring_text::{TextMemory, TraceFault, is_name};
 use uring_trace::Explainer;
 
-/// Writes to `writer` what the lines of a recorded trace show, of which `report` is what `uring_check::check` wrote without going on behind a fault: up to the first that is wrong or bad, and of that what the report tells. As JSON, or as a page.
+/// Writes to `writer` what the lines of a recorded trace show, of which `report` is what `uring_check::check` wrote without going on after a fault: up to the first that is wrong or bad, and of that what the report tells. As JSON, or as a page.
 ///
-/// A call that was answered `again` is shown as a line that changes nothing. A write that ended for want of memory is the last line that is shown, since what is made behind it has other files.
+/// A call that was answered `again` is shown as a line that changes nothing. A write that ended for want of memory is the last line that is shown, since what is made after it has other files.
 ///
 /// - `Write`: a write failed or took no byte, or 2^64 - 1 writes were made. What is written is cut short.
 /// - `Memory`: memory was refused. Nothing is written.
@@ -98,7 +98,7 @@ fn record_all<M: TextMemory>(
     let mut number: u64 = 1;
     let mut rest = trace;
     for _ in 0..trace.len() {
-        let Some((line, behind)) = next_line(rest) else {
+        let Some((line, after)) = next_line(rest) else {
             break;
         };
         if number == last {
@@ -108,12 +108,12 @@ fn record_all<M: TextMemory>(
             break;
         }
         number = number.saturating_add(1);
-        rest = behind;
+        rest = after;
     }
     Ok(())
 }
 
-/// The first line, without its end, and what stands behind it.
+/// The first line, without its end, and what stands after it.
 fn next_line(bytes: &[u8]) -> Option<(&[u8], &[u8])> {
     if bytes.is_empty() {
         return None;
@@ -200,7 +200,7 @@ fn split_record(line: &[u8]) -> (&[u8], &[u8]) {
     (line, b"")
 }
 
-/// What a report tells behind its first line, without the last end of a line.
+/// What a report tells after its first line, without the last end of a line.
 fn told_of(report: &[u8]) -> &[u8] {
     let end = report.iter().position(|byte| *byte == b'\n').unwrap_or(0);
     let told = report.get(end..).unwrap_or_default();

@@ -8,7 +8,7 @@ use uring_entry::opcode;
 use uring_machine::{Sqe, SqeFlags};
 use uring_text::{TextMemory, push_number, push_operation, push_signed, push_text};
 
-/// Appends the members of an entry, behind another member. Here and below, and in all that is recorded: if the memory grants whatever is asked for, there is no error. Numbers of 64 bits are strings, since many readers of JSON keep 53.
+/// Appends the members of an entry, after another member. Here and below, and in all that is recorded: if the memory grants whatever is asked for, there is no error. Numbers of 64 bits are strings, since many readers of JSON keep 53.
 pub(crate) fn push_entry<M: TextMemory>(
     memory: &M,
     text: &mut String,

@@ -55,7 +55,7 @@ fn push_plain<M: TextMemory>(memory: &M, text: &mut String, code: u8) -> Result<
     text.push(code as char)
 }
 
-/// Appends a member of an object that is a string, behind another.
+/// Appends a member of an object that is a string, after another.
 pub(crate) fn push_member<M: TextMemory>(
     memory: &M,
     text: &mut String,
@@ -68,7 +68,7 @@ pub(crate) fn push_member<M: TextMemory>(
     push_quoted(memory, text, bytes)
 }
 
-/// Appends a member of an object that is a number, behind another.
+/// Appends a member of an object that is a number, after another.
 pub(crate) fn push_count<M: TextMemory>(
     memory: &M,
     text: &mut String,
@@ -81,7 +81,7 @@ pub(crate) fn push_count<M: TextMemory>(
     push_number(memory, text, number)
 }
 
-/// Appends a member of an object that is an array of these elements, behind another.
+/// Appends a member of an object that is an array of these elements, after another.
 pub(crate) fn push_array<M: TextMemory>(
     memory: &M,
     text: &mut String,

@@ -19,7 +19,7 @@ pub(crate) struct Request {
     /// The first member of its chain.
     pub(crate) chain: u64,
 
-    /// How it stood behind the last line.
+    /// How it stood after the last line.
     pub(crate) why: Why,
 
     /// The line at which it was issued.
@@ -71,7 +71,7 @@ impl Requests {
         Ok(())
     }
 
-    /// The first member of the chain of the next request: a chain ends with its call, and behind an entry without a link.
+    /// The first member of the chain of the next request: a chain ends with its call, and after an entry without a link.
     fn next_chain(&self, is_first: bool) -> u64 {
         match self.all.last() {
             Some(before) if !is_first && before.entry.is_linked() => before.chain,

@@ -17,7 +17,7 @@ pub(crate) fn write_head<W: Write>(writer: &mut W, writes: &mut Calls) -> Result
     write_all(writer, head_0::PIECE.as_bytes(), writes)
 }
 
-/// Writes what stands behind the data.
+/// Writes what stands after the data.
 pub(crate) fn write_tail<W: Write>(writer: &mut W, writes: &mut Calls) -> Result<(), TraceFault>
     ensures { IfErr result (λ fault. fault ≡ TraceFault.Write) }
 {

@@ -8,7 +8,7 @@ use Rattle.uring_rules.specs.Rules.{why_of}
 use Rattle.uring_entry.specs.declared.why.Why.{Why}
 use Rattle.uring_pictures.specs.Graphs.{arrows_below, arrows_text, call_of, first_of, is_chained, member_before, placed_text, in_chain, node_text, line_text, row_text}
 
--- a part, and what is behind it
+-- a part, and what is after it
 two_parts : (front so after part more : List ℕ) → so ≡ front ++ part → after ≡ so ++ more
     → after ≡ front ++ (part ++ more)
 two_parts front so after part more a b =

@@ -83,7 +83,7 @@ unended_by r n false sound beyond is = is
 unended_by r n true sound beyond is =
     let within : n < length r.accepted = sound.ended_accepted n is in absurd (omega (arith, within, beyond))
 
--- the entries that are kept, seen from the requests behind the call
+-- the entries that are kept, seen from the requests after the call
 has_all : (r : Requests) (more : List Sqe) → IsSoundRequests r → HasAll r.accepted (with_call r more)
 has_all r more sound = record {
   front = sym (take-append-le (length r.accepted) r.accepted more (omega arith) ∙ take_all (length r.accepted) r.accepted (omega arith));

@@ -7,7 +7,7 @@ use Rattle.uring_entry.proofs.RequestLemmas.{is_joined_yes, is_joined_no, is_joi
 use Rattle.uring_pictures.specs.Graphs.{first_of, member_before}
 use Rattle.uring_pictures.specs.Members.{IsFirst, IsBefore}
 
--- a member behind which the group goes on is joined with the next request too, and one that is joined with the next is with this one
+-- a member after which the group goes on is joined with the next request too, and one that is joined with the next is with this one
 on : (r : Requests) (m n : ℕ) → is_last r n ≡ false → is_joined r m n ≡ true
     → is_joined r m (suc n) ≡ true
 on r m n goes joined =

@@ -120,7 +120,7 @@ follows_passed at setup a kept kept' number number' before counts empty next f =
   keeps = f.keeps;
 }
 
--- the end of the input, behind the end of a line
+-- the end of the input, after the end of a line
 pub followed_none : (at : Option ℕ) (setup : Setup) (a : Accepted) (kept : KeptLine) (number : ℕ) (bytes : List ℕ)
     → ((line : List ℕ) → kept ≡ kept_of line → line ≡ [])
     → Following at setup a kept number bytes → Followed at setup a bytes

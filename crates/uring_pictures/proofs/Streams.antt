@@ -39,7 +39,7 @@ ended_in (Ok done) s s' none none' new new' e e' a b finish w = λ setup before 
     (new, new', subst (λ (l : List ℕ). Appends e e' l) w.2 w.1, finish setup before told noted (nothing_yet (telling_on setup) s before told noted none none' a b h))
 ended_in (Err f) s s' none none' new new' e e' a b finish w = tt
 
--- What was read so far: the reader had a left and has r, and what is noted was held behind x and makes e.
+-- What was read so far: the reader had a left and has r, and what is noted was held after x and makes e.
 abbrev pub Far : Setup → Known → Known → Known → Known → Explainer → Type 0
 Far setup a r x e s = (bytes : List ℕ) × (text : List ℕ) × (notes : List ℕ) × Consumes a r bytes
     × Appends x e notes × HasTold setup s bytes text notes

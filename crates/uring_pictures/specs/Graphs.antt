@@ -48,7 +48,7 @@ abbrev pub standing_text : Why → List ℕ
 standing_text (Waits m since) = codes "waits"
 standing_text why = why_text why
 
--- the name of a flag behind a comma, if it is set
+-- the name of a flag after a comma, if it is set
 abbrev pub flag_text : ℕ → List ℕ → Sqe → List ℕ
 flag_text flag name e = if has flag e then codes ", " ++ name else []
 

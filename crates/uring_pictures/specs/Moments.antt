@@ -1,4 +1,4 @@
--- The moment behind some line of a trace. Our own rule.
+-- The moment after some line of a trace. Our own rule.
 use Rattle.std.specs.Prelude.{ℕ, Bool, true, nat_le, List, [], ◌∷◌, length, Option, Some, None, if◌then◌else◌}
 use Rattle.uring_trace.specs.Explanations.{line_number}
 

@@ -153,7 +153,7 @@ fn count_up_to(numbers: &[u64], number: u64) -> u64
     count
 }
 
-/// Adds the entries of the requests behind those that are there, up to so many in all.
+/// Adds the entries of the requests after those that are there, up to so many in all.
 fn add_entries<M: Memory>(
     memory: &M,
     machine: &Machine,

@@ -22,9 +22,9 @@ use uring_trace::Explainer;
 /// Most bytes that are read at once.
 const CHUNK: usize = 512;
 
-/// Reads the lines of an explanation from `reader`, makes their steps on a new machine of this set-up, and writes to `writer`, once the input has ended, the graph of the requests that are outstanding behind the line of this number, from 1 on, or behind the last one, in Graphviz's language: no answers. `Ok` tells whether a line was bad.
+/// Reads the lines of an explanation from `reader`, makes their steps on a new machine of this set-up, and writes to `writer`, once the input has ended, the graph of the requests that are outstanding after the line of this number, from 1 on, or after the last one, in Graphviz's language: no answers. `Ok` tells whether a line was bad.
 ///
-/// A request is a node: an ellipse if it runs, an octagon if it is doomed, a box if it waits, a diamond if it may start; with its operation, flags and user data, in the cluster of its call and of its chain. From one that waits an arrow leads to the outstanding member of its chain before it, and a dashed one to the least request that it waits for if one of their groups drains, each with the reason. Each bad line, also behind that line, is noted with its number on `errors`.
+/// A request is a node: an ellipse if it runs, an octagon if it is doomed, a box if it waits, a diamond if it may start; with its operation, flags and user data, in the cluster of its call and of its chain. From one that waits an arrow leads to the outstanding member of its chain before it, and a dashed one to the least request that it waits for if one of their groups drains, each with the reason. Each bad line, also after that line, is noted with its number on `errors`.
 ///
 /// - `Read`: a read failed, or 2^64 - 1 reads were made. Nothing is drawn.
 /// - `Write`: a write failed or took no byte, or 2^64 - 1 writes were made. The graph or the notes are cut short.
@@ -72,7 +72,7 @@ pub fn graph_in<M: TextMemory, R: Read, W: Write, E: Write>(
     drawn
 }
 
-/// Takes in all lines, and draws the graph of the moment behind one of them.
+/// Takes in all lines, and draws the graph of the moment after one of them.
 fn draw_moment<M: TextMemory, R: Read, W: Write, E: Write>(
     memory: &M,
     alloc: Global,

@@ -1,4 +1,4 @@
-//! The moment behind some line of a trace: the requests as the lines up to it have left them.
+//! The moment after some line of a trace: the requests as the lines up to it have left them.
 
 ghost use Rattle.std.specs.Prelude.{◌≡◌, ◌≢◌, ◌+◌, ◌-◌, ◌^◌, ◌++◌, ◌∷◌, [], ℕ, List, min, true, Option, IfOk, IsOk, OnOk, MatchOption};
 ghost use Rattle.uring_entry.specs.Setup.{Setup};

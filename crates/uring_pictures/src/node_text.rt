@@ -144,7 +144,7 @@ fn push_flags<M: TextMemory>(memory: &M, text: &mut String, entry: &Sqe) -> Resu
     )
 }
 
-/// Appends the name of a flag behind a comma, if it is set.
+/// Appends the name of a flag after a comma, if it is set.
 fn push_flag<M: TextMemory>(
     memory: &M,
     text: &mut String,

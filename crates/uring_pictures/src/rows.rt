@@ -114,7 +114,7 @@ impl Timeline {
         Ok(())
     }
 
-    /// Notes how a request stands behind this line. One that has ended by it posted a completion, if one was posted.
+    /// Notes how a request stands after this line. One that has ended by it posted a completion, if one was posted.
     fn look_at<M: Memory>(
         &mut self,
         memory: &M,

@@ -44,7 +44,7 @@ pub trait Watcher {
     ) -> Result<(), AllocError>
         ensures { ((n : ℕ) → M.grants memory.now n) → IsOk result };
 
-    /// Ends the input, at whose end this was told of what stands behind the last end of a line.
+    /// Ends the input, at whose end this was told of what stands after the last end of a line.
     fn end_input<M: TextMemory>(
         &mut self,
         memory: &M,

@@ -31,11 +31,11 @@ use Rattle.uring_play.specs.Totals.{accepted_in, accepted_of}
 
 -- ---- a ring that is closed stays so while results are taken in
 
-closed_behind : (g : Setup) (results : List JobResult) (h : History)
+closed_after : (g : Setup) (results : List JobResult) (h : History)
     → (world g (history_of (map finish_of results) ++ h)).is_closed ≡ (world g h).is_closed
-closed_behind g [] h = refl
-closed_behind g (r ∷ results) h =
-    ap (λ (k : History). (world g k).is_closed) (history_of_cons (finish_of r) (map finish_of results) h) ∙ closed_behind g results (finish_of r ∷ h)
+closed_after g [] h = refl
+closed_after g (r ∷ results) h =
+    ap (λ (k : History). (world g k).is_closed) (history_of_cons (finish_of r) (map finish_of results) h) ∙ closed_after g results (finish_of r ∷ h)
 
 closed_later : (g : Setup) (trace : List Event) (results : List JobResult)
     → (world g (history_of (trace ++ map finish_of results))).is_closed
@@ -45,7 +45,7 @@ closed_later g trace results =
     let none = append-nil (history_of (trace ++ map finish_of results)) in
     let first = append-nil (history_of trace) in
     ap (λ (k : History). (world g k).is_closed) (sym none ∙ both ∙ ap (λ (k : History). history_of (map finish_of results) ++ k) first)
-    ∙ closed_behind g results (history_of trace)
+    ∙ closed_after g results (history_of trace)
 
 -- ---- all went through
 
@@ -118,7 +118,7 @@ accepted_total g trace lawful =
     let counted : sum (told accepted_by (history_of trace ++ [])) ≡ length (world g (history_of trace)).requests.accepted = ap (λ (k : History). sum (told accepted_by k)) none ∙ direct.counted in
     omega (arith, all, counted)
 
--- ---- the ends behind their threads
+-- ---- the ends after their threads
 
 -- there are still as many workers
 pub as_many : (before after : List Worker) → StayWorkers before after

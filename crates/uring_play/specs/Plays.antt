@@ -24,7 +24,7 @@ use Rattle.uring_play_text.specs.declared.play_fault.PlayFault.TheVariants as fa
 abbrev pub made_by : Setup → List Event → World
 made_by g trace = world g (history_of trace)
 
--- A play of these calls: a lawful trace that published exactly their items, in order, and took them in by calls of these lengths, by Linux's rules cut behind each word that names no slot; of its requests none is outstanding, and these are all the completions that it posted, in the order in which it reaped them: none waits.
+-- A play of these calls: a lawful trace that published exactly their items, in order, and took them in by calls of these lengths, by Linux's rules cut after each word that names no slot; of its requests none is outstanding, and these are all the completions that it posted, in the order in which it reaped them: none waits.
 pub record IsPlay (g : Setup) (calls : List (List Item)) (trace : List Event) (completions : List Cqe) : Type 0 where
   pub lawful : IsLawful g (history_of trace)
   pub published : published_items (made_by g trace).submission

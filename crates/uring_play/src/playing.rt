@@ -14,7 +14,7 @@ use uring_core::Cqe;
 use uring_play_text::{PlayFault, read_calls, write_out};
 use uring_threads::{Open, Report, Setup};
 
-/// Reads all of `reader` as calls of a play over this set-up, plays them with so many workers, and writes the completions of all requests to `writer`, sorted, and then how many requests were accepted and how many words dropped. Conditions: there are 1 to 8 workers, and calls of the set-up go on behind an entry with a fault. Our own rule.
+/// Reads all of `reader` as calls of a play over this set-up, plays them with so many workers, and writes the completions of all requests to `writer`, sorted, and then how many requests were accepted and how many words dropped. Conditions: there are 1 to 8 workers, and calls of the set-up go on after an entry with a fault. Our own rule.
 ///
 /// The application, the dispatcher and each worker have a thread of their own; nothing is written before all have ended, and then all completions were reaped and none waits. That they end isn't promised.
 ///
@@ -42,7 +42,7 @@ pub fn play<R: Threads + Wait + Copy + Send + 'static, I: Read, O: Write>(
     write_played(alloc, writer, played)
 }
 
-/// Plays as `play` does, over words that the two sides of each ring share in place of lanes. Conditions: there are 1 to 8 workers, and calls of the set-up go on behind an entry with a fault. Our own rule.
+/// Plays as `play` does, over words that the two sides of each ring share in place of lanes. Conditions: there are 1 to 8 workers, and calls of the set-up go on after an entry with a fault. Our own rule.
 ///
 /// What is written, and when `Read`, `Line`, `Long`, `Memory` and `Write` come, is as `play` says.
 pub fn play_shared<R: Threads + Wait + Copy + Send + 'static, I: Read, O: Write>(

@@ -1,4 +1,4 @@
-//! The ends of a play, settled behind its threads.
+//! The ends of a play, settled after its threads.
 ghost use Rattle.std.specs.Prelude.{◌≡◌, ◌++◌, List, true, [], length, IfOk, IsTrue, OnOk};
 ghost use Rattle.uring_entry.specs.Requests.{outstanding_in};
 ghost use Rattle.uring_ports.specs.declared.item.Item.{Item};
@@ -21,7 +21,7 @@ pub(crate) struct Played {
     pub completions: Vec<Cqe>,
 }
 
-/// Settles all ends, and takes the completions that weren't received behind those that were. `AllocError`: out of memory; or one of the threads was, and so left something undone.
+/// Settles all ends, and takes the completions that weren't received after those that were. `AllocError`: out of memory; or one of the threads was, and so left something undone.
 pub(crate) fn settle_all<K: KernelPort>(alloc: Global, ends: Ends<K>) -> Result<Played, AllocError>
     ensures { IfOk result
         (λ played. (calls : List (List Item)) → Submits calls ends.application
@@ -47,7 +47,7 @@ pub(crate) fn settle_all<K: KernelPort>(alloc: Global, ends: Ends<K>) -> Result<
     }
 }
 
-/// The play of this report, if the threads did all that was to be done, with the completions that weren't received behind these, which were. `AllocError`: they didn't; or out of memory.
+/// The play of this report, if the threads did all that was to be done, with the completions that weren't received after these, which were. `AllocError`: they didn't; or out of memory.
 fn whole_play(is_over: bool, report: Report<Open>, received: Vec<Cqe>) -> Result<Played, AllocError>
     ensures { IfOk result (λ played. IsWhole is_over report received.items played) }
 {

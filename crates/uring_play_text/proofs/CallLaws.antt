@@ -8,7 +8,7 @@ use Rattle.uring_play_text.specs.Calls.{AreItemLines, IsCall, AreCalls}
 use Rattle.uring_play_text.specs.Faults.{last_block}
 use Rattle.uring_play_text.specs.Scripts.{one_call}
 
--- an element put behind the last part
+-- an element put after the last part
 abbrev pub onto_last : {X : Type 0} → X → List (List X) → List (List X)
 onto_last x [] = []
 onto_last x (part ∷ []) = (part ++ x ∷ []) ∷ []

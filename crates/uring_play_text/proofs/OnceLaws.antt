@@ -79,7 +79,7 @@ some_list : {X : Type 0} (l : List X) → 0 < length l → (x : X) × (xs : List
 some_list [] lt = absurd (omega arith)
 some_list (x ∷ xs) lt = (x, xs, refl)
 
--- a line of a call, behind others of it
+-- a line of a call, after others of it
 among : (size : ℕ) (a : Block) (line : Line) (b : Block) (items : List Item)
     → AreItemLines size (a ++ line ∷ b) items
     → (i : Item) × IsItemLine size line i × (length a < length items)
@@ -124,7 +124,7 @@ good size before line after calls keeps h =
     let parts = some_list (blocks_of after) (some_part is_blank after) in
     inside size (blocks_of before) line parts.0 parts.1 calls (some_part is_blank before) (subst (λ (l : List Block). AreCalls size l calls) (split_among is_blank before line after parts.0 parts.1 keeps parts.2) h)
 
--- the line is faulty behind these lines
+-- the line is faulty after these lines
 abbrev IsFaulty : ℕ → Block → Line → Type 0
 IsFaulty size before line = IsBadLine size line
     ⊎ ((i : Item) × IsItemLine size line i × (size ≤ length (open_block before)))

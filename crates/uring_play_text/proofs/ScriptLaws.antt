@@ -78,7 +78,7 @@ long_first size lines line n calls call i is le h =
     let size_is : length (open_block lines) ≡ length call = ap length last ∙ as_many size h.last call h.call_is.lines_are in
     (reached size lines line n calls call h, i, is, omega arith)
 
--- a line behind the first faulty one
+-- a line after the first faulty one
 abbrev reaches_more : (size : ℕ) (lines : List (List ℕ)) (line : List ℕ) (k : ℕ)
     → (r : Reaches size lines k) → Reaches size (lines ++ line ∷ []) k
 reaches_more size lines line k r = record {

@@ -14,7 +14,7 @@ last_block (block ∷ next ∷ blocks) = last_block (next ∷ blocks)
 abbrev pub open_block : List (List ℕ) → List (List ℕ)
 open_block lines = last_block (blocks_of lines)
 
--- The k-th line, counted from 1, stands behind lines without a fault: they spell calls.
+-- The k-th line, counted from 1, stands after lines without a fault: they spell calls.
 pub record Reaches (size : ℕ) (lines : List (List ℕ)) (k : ℕ) : Type 0 where
   pub before : List (List ℕ)
   pub line : List ℕ

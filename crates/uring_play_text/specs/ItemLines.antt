@@ -6,7 +6,7 @@ use Rattle.uring_text.specs.Forms.{SpellsEntry}
 use Rattle.uring_ports.specs.declared.item.Item.{Item}
 use Rattle.uring_ports.specs.declared.item.Item.TheVariants as item
 
--- The tokens spell the item, for a submission ring of this size: an entry as behind `fill SLOT` in a trace, or `bad` and a word that isn't below the size.
+-- The tokens spell the item, for a submission ring of this size: an entry as after `fill SLOT` in a trace, or `bad` and a word that isn't below the size.
 abbrev pub SpellsItem : ℕ → List (List ℕ) → Item → Type 0
 SpellsItem size tokens (item.Entry entry) = SpellsEntry tokens entry
 SpellsItem size tokens (item.Bad word) = (token : List ℕ) × (tokens ≡ codes "bad" ∷ token ∷ [])

@@ -42,7 +42,7 @@ impl Script {
         }
     }
 
-    /// Takes in the next line, which is none if it has more than 300 bytes, by this memory. Behind a faulty line no line counts. Here and below: if the memory grants whatever is asked for, memory is no reason of an error.
+    /// Takes in the next line, which is none if it has more than 300 bytes, by this memory. After a faulty line no line counts. Here and below: if the memory grants whatever is asked for, memory is no reason of an error.
     pub(crate) fn take_line<M: Memory>(
         &mut self,
         memory: &M,

@@ -108,7 +108,7 @@ owed_from_call : (call : List Item) → owed_from 0 (items_before 0 call) ≡ 0
 owed_from_call [] = refl
 owed_from_call (x ∷ xs) = owed_from_items 0 0 x xs
 
--- behind whole calls nothing is owed
+-- after whole calls nothing is owed
 pub owed_calls : (calls : List (List Item)) → owed (messages_of_calls calls) ≡ 0
 owed_calls [] = refl
 owed_calls (call ∷ calls) = rw (owed_from_append, owed_from_call) (owed_calls calls)

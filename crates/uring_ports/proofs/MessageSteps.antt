@@ -20,7 +20,7 @@ pub closed_calls : (ms : List Message) → AreWhole ms → has_close_mark ms ≡
     → ms ≡ messages_of_calls (calls_of ms) ++ close_mark ∷ []
 closed_calls ms are_whole closed = sym are_whole ∙ ap (λ b. messages_of_calls (calls_of ms) ++ (if b then close_mark ∷ [] else [])) closed
 
--- nothing is owed behind whole messages with no close mark
+-- nothing is owed after whole messages with no close mark
 pub nothing_owed : (ms : List Message) → AreWhole ms → has_close_mark ms ≡ false → owed ms ≡ 0
 nothing_owed ms are_whole open' = ap owed (open_calls ms are_whole open') ∙ owed_calls (calls_of ms)
 
@@ -55,7 +55,7 @@ sends_call ms items are_whole open' some =
     let is = messages_with_call ms items are_whole open' in
     record { put = stands _ (with_call (put_of ms) items) all_some is; whole = whole _ (with_call (put_of ms) items) all_some is }
 
--- the close mark behind all calls
+-- the close mark after all calls
 pub sends_close : (ms : List Message) → AreWhole ms → has_close_mark ms ≡ false
     → Sent (ms ++ close_mark ∷ []) (with_close (put_of ms))
 sends_close ms are_whole open' =
@@ -87,7 +87,7 @@ pub item_may_follow : (ms : List Message) (left : ℕ) (xs : List Item) (x : Ite
 item_may_follow ms left xs x open' none =
     (no_mark ms (suc left) xs open', continues ms left xs x none)
 
--- behind whole messages with no close mark, the close mark may follow
+-- after whole messages with no close mark, the close mark may follow
 pub close_may_follow : (ms : List Message) → AreWhole ms → has_close_mark ms ≡ false
     → MayFollow ms close_mark
 close_may_follow ms are_whole open' = (open', rw (nothing_owed ms are_whole open') (λ _. refl))
@@ -101,7 +101,7 @@ pub next_item : (ms : List Message) (m : Message) (left : ℕ) → owed ms ≡ s
     → m ≡ item_before left m.item
 next_item ms m left more may = rw more at may.1
 
--- behind whole messages with no close mark, a message that closes is the close mark
+-- after whole messages with no close mark, a message that closes is the close mark
 pub next_close : (ms : List Message) (m : Message) → AreWhole ms → MayFollow ms m → m.closes ≡ true
     → m ≡ close_mark
 next_close ms m are_whole may closes =
@@ -146,9 +146,9 @@ mark_stays past known closed =
     close_mark_append past known ∙ ap (λ b. b || has_close_mark known) closed
 
 -- nothing follows a close mark
-pub nothing_behind : (past known : List Message) → AreWhole past → AreWhole (past ++ known)
+pub nothing_after : (past known : List Message) → AreWhole past → AreWhole (past ++ known)
     → has_close_mark past ≡ true → known ≡ []
-nothing_behind past known past_whole all_whole closed =
+nothing_after past known past_whole all_whole closed =
     let same = same_closed past (past ++ known) past_whole all_whole closed (mark_stays past known closed) (calls_of_closed past known past_whole closed) in
     append_cancel_left past known [] (same ∙ sym (append-nil past))
 
@@ -167,7 +167,7 @@ leaves_closed : (past known : List Message) → AreWhole past → AreWhole (past
 leaves_closed past known past_whole all_whole closed = record {
   rest = [];
   calls = append-nil (calls_of past) ∙ sym (calls_of_closed past known past_whole closed);
-  items = ap items_of (nothing_behind past known past_whole all_whole closed);
+  items = ap items_of (nothing_after past known past_whole all_whole closed);
   closed = λ e. (mark_stays past known closed, refl);
 }
 
@@ -176,7 +176,7 @@ by_mark : (past known : List Message) (b : Bool) → AreWhole past → AreWhole 
 by_mark past known true past_whole all_whole is = leaves_closed past known past_whole all_whole is
 by_mark past known false past_whole all_whole is = leaves_open past known past_whole is
 
--- what is left of all behind a beginning of it, both whole
+-- what is left of all after a beginning of it, both whole
 pub leaves : (past known all : List Message) → AreWhole past → AreWhole all → past ++ known ≡ all
     → LeavesItems (put_of all) (put_of past) (items_of known)
 leaves past known all past_whole all_whole is =

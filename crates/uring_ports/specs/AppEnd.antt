@@ -25,7 +25,7 @@ pub record AppEnd : Type 0 where
 abbrev pub submits : AppEnd → List Item → AppEnd
 submits a items = record a { submitted = with_call a.submitted items }
 
--- the close mark behind all calls
+-- the close mark after all calls
 abbrev pub closes : AppEnd → AppEnd
 closes a = record a { submitted = with_close a.submitted }
 

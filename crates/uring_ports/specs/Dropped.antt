@@ -1,7 +1,7 @@
 -- The dropped word, which the dispatcher stores and the application loads, if such a word lies between the ends. Our own rule.
 use Rattle.std.specs.Prelude.{◌≡◌, ℕ, List, [], ◌∷◌, ◌++◌, Option, Some, None}
 
--- this word behind those stored or loaded before, if there is such a word
+-- this word after those stored or loaded before, if there is such a word
 abbrev pub with_word : Option (List ℕ) → ℕ → Option (List ℕ)
 with_word None word = None
 with_word (Some words) word = Some (words ++ word ∷ [])

@@ -31,7 +31,7 @@ abbrev pub with_first : Item → List (List Item) → List (List Item)
 with_first x [] = (x ∷ []) ∷ []
 with_first x (call ∷ calls) = (x ∷ call) ∷ calls
 
--- an item that so many more of its call follow, in front of the calls behind it
+-- an item that so many more of its call follow, in front of the calls after it
 abbrev pub with_item : ℕ → Item → List (List Item) → List (List Item)
 with_item zero x calls = (x ∷ []) ∷ calls
 with_item (suc left) x calls = with_first x calls
@@ -55,7 +55,7 @@ has_close_mark (m ∷ ms) = m.closes || has_close_mark ms
 abbrev pub put_of : List Message → Put
 put_of ms = record { calls = calls_of ms; closed = has_close_mark ms }
 
--- whole calls, and nothing behind the close mark
+-- whole calls, and nothing after the close mark
 abbrev pub AreWhole : List Message → Type 0
 AreWhole ms = messages_of (put_of ms) ≡ ms
 
@@ -73,7 +73,7 @@ abbrev pub Continues : ℕ → Message → Type 0
 Continues zero m = m.closes ≡ true → m ≡ close_mark
 Continues (suc left) m = m ≡ item_before left m.item
 
--- this message may be sent behind these
+-- this message may be sent after these
 abbrev pub MayFollow : List Message → Message → Type 0
 MayFollow before m = (has_close_mark before ≡ false) × Continues (owed before) m
 

@@ -16,7 +16,7 @@ pub record Sizes : Type 0 where
 abbrev pub sizes_of : Setup → Sizes
 sizes_of s = record { sq = s.sq; cq = s.cq }
 
--- all that went one way: the items call by call, and whether the close mark went behind them
+-- all that went one way: the items call by call, and whether the close mark went after them
 pub record Put : Type 0 where
   pub calls : List (List Item)
   pub closed : Bool
@@ -29,7 +29,7 @@ nothing_put = record { calls = []; closed = false }
 abbrev pub with_call : Put → List Item → Put
 with_call p items = record { calls = p.calls ++ items ∷ []; closed = p.closed }
 
--- the close mark behind all calls
+-- the close mark after all calls
 abbrev pub with_close : Put → Put
 with_close p = record { calls = p.calls; closed = true }
 
@@ -41,7 +41,7 @@ items_of_calls calls = flat_map (λ call. call) calls
 abbrev pub places_of : Put → ℕ
 places_of p = length (items_of_calls p.calls) + (if p.closed then 1 else 0)
 
--- what a pull of a ring of this size took: one whole call, the close mark behind all calls, or nothing
+-- what a pull of a ring of this size took: one whole call, the close mark after all calls, or nothing
 abbrev pub Pulls : ℕ → Put → Pulled → List Item → Put → Type 0
 Pulls size old pulled.Call items new =
     (0 < length items) × (length items ≤ size) × (old.closed ≡ false) × (new ≡ with_call old items)

@@ -22,7 +22,7 @@ pub const CLOSE_MARK: Message = Message {
     closes: true,
 };
 
-/// Calls go through whole, one behind the other, and nothing follows the close mark.
+/// Calls go through whole, one after the other, and nothing follows the close mark.
 #[derive(Clone, Copy)]
 pub struct WholeCalls;
 

@@ -57,7 +57,7 @@ pub trait AppPort: Drop {
         ensures got { got self.new ≡ got self.old }
         ensures dropped { dropped self.new ≡ dropped self.old };
 
-    /// Puts the close mark behind all calls, or returns false and puts nothing.
+    /// Puts the close mark after all calls, or returns false and puts nothing.
     ///
     /// It puts the mark if fewer items than the submission ring's size were put.
     fn close(&mut self) -> bool
@@ -141,7 +141,7 @@ pub trait KernelPort: Sized + Drop {
 
     /// Takes one whole call, or the close mark, or nothing. The items of the call replace what `items` held.
     ///
-    /// `Nothing` says only that this end looked and saw no whole call and no close mark. Behind the close mark it needn't look.
+    /// `Nothing` says only that this end looked and saw no whole call and no close mark. After the close mark it needn't look.
     fn pull(&mut self, items: &mut Vec<Item>) -> Pulled
         requires { (sizes self.old).sq ≤ vec_capacity items.old }
         ensures pulled { Pulls (sizes self.old).sq (pulled self.old) result items.new.items

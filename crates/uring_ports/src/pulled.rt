@@ -9,7 +9,7 @@ pub enum Pulled {
     /// The items of one call, all of them.
     Call,
 
-    /// The close mark, behind all calls.
+    /// The close mark, after all calls.
     Close,
 
     /// Nothing: this end saw no whole call and no close mark.

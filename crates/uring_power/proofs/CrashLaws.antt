@@ -1,4 +1,4 @@
--- The laws of `laws.rt`: from `told`, and from `moves_made` with all completions reaped behind it.
+-- The laws of `laws.rt`: from `told`, and from `moves_made` with all completions reaped after it.
 use Rattle.std.proofs.Common.{◌≡◌, false, ℕ, ℤ, ◌≤◌, List, [], ◌∷◌, ◌++◌, length, take, drop, map, refl, sym, subst, ap, ap₂, ◌∙◌, arith, append_assoc}
 use Rattle.std.specs.Prelude.{pos, slice_index_or}
 use Rattle.std.proofs.Math.Seq.{take-append_seam, drop-append_seam}
@@ -26,7 +26,7 @@ use Rattle.uring_power.proofs.LogMoves.{IsTold, told}
 
 -- Calls are the first of others by their lengths and their items.
 
--- the calls that come behind these
+-- the calls that come after these
 record Rest (some all : List (List Published)) : Type 0 where
   rest : List (List Published)
   split : some ++ rest ≡ all
@@ -45,8 +45,8 @@ first_of_cut (x ∷ xs) (y ∷ ys) later more lengths items =
     let n : length x ≡ length y = first_length lengths in
     let whole : x ++ (items_in xs ++ more) ≡ y ++ items_in ys = sym (append_assoc x (items_in xs) more) ∙ items in
     let here : x ≡ y = sym (take-append_seam x (items_in xs ++ more)) ∙ ap₂ take n whole ∙ take-append_seam y (items_in ys) in
-    let behind : items_in xs ++ more ≡ items_in ys = sym (drop-append_seam x (items_in xs ++ more)) ∙ ap₂ drop n whole ∙ drop-append_seam y (items_in ys) in
-    let r = first_of_cut xs ys later more (other_lengths lengths) behind in
+    let after : items_in xs ++ more ≡ items_in ys = sym (drop-append_seam x (items_in xs ++ more)) ∙ ap₂ drop n whole ∙ drop-append_seam y (items_in ys) in
+    let r = first_of_cut xs ys later more (other_lengths lengths) after in
     record { rest = r.rest; split = ap₂ (λ c cs. c ∷ cs) here r.split }
 
 -- what is left by one log is left by one that is the same

@@ -2,7 +2,7 @@
 -- The laws:
 pub mod LogMoves
 pub mod CrashLaws
--- Trials, and what is shown behind them:
+-- Trials, and what is shown after them:
 pub mod Lists
 pub mod Trying
 pub mod Showing

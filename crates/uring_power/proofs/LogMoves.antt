@@ -30,7 +30,7 @@ use Rattle.uring_moves.specs.Recorded.{with_event, moves_in}
 use Rattle.uring_moves.specs.declared.move_of_calls.Move.{Move}
 use Rattle.uring_moves.specs.declared.move_of_calls.Move.TheVariants as move
 use Rattle.uring_moves.proofs.MovesMade.{moment_of}
-use Rattle.uring_moves.proofs.MovesLead.{HasCome, come_at_first, comes_behind, one_move_more, silent_makes_none}
+use Rattle.uring_moves.proofs.MovesLead.{HasCome, come_at_first, comes_after, one_move_more, silent_makes_none}
 use Rattle.uring_power.specs.Moves.{log_moved, log_past, log_along}
 
 -- One move more.
@@ -135,17 +135,17 @@ pub told : (g : Setup) (h : History) → IsLawful (by_manual g) h → RefusesNon
 told g [] lawful unrefused = record { has = come_at_first (by_manual g); logs = λ unit fd rest. refl }
 told g ((s, a) ∷ before) lawful unrefused =
     let t : IsTold (by_manual g) before = told g before lawful.1 unrefused.1 in
-    let c = comes_behind g s a before lawful unrefused t.has in
+    let c = comes_after g s a before lawful unrefused t.has in
     let w : World = world (by_manual g) before in
     let change : Change (by_manual g) w s a = change_of (by_manual g) w s a (lawful_apart (by_manual g) ((s, a) ∷ before) lawful).0 in
     record {
       has = record { first = t.has.come.calls; come = c };
       logs = λ unit fd rest.
-          let behind : List (List Sqe) = map entries_in c.more ++ rest in
-          let same : map entries_in c.calls ++ rest ≡ map entries_in t.has.come.calls ++ behind = ap (λ cs. map entries_in cs ++ rest) c.grows ∙ ap (λ xs. xs ++ rest) (map-append entries_in t.has.come.calls c.more) ∙ append_assoc (map entries_in t.has.come.calls) (map entries_in c.more) rest in
-          let start : Moment = starting (by_manual g) (map entries_in t.has.come.calls ++ behind) in
+          let after : List (List Sqe) = map entries_in c.more ++ rest in
+          let same : map entries_in c.calls ++ rest ≡ map entries_in t.has.come.calls ++ after = ap (λ cs. map entries_in cs ++ rest) c.grows ∙ ap (λ xs. xs ++ rest) (map-append entries_in t.has.come.calls c.more) ∙ append_assoc (map entries_in t.has.come.calls) (map entries_in c.more) rest in
+          let start : Moment = starting (by_manual g) (map entries_in t.has.come.calls ++ after) in
           let leads : after_moves start (with_event s a (moves_in before)) ≡ Some (moment_of (world (by_manual g) ((s, a) ∷ before)) (files_of (by_manual g) (world (by_manual g) ((s, a) ∷ before))) rest) = subst (λ xs. after_moves (starting (by_manual g) xs) (with_event s a (moves_in before)) ≡ Some (moment_of (world (by_manual g) ((s, a) ∷ before)) (files_of (by_manual g) (world (by_manual g) ((s, a) ∷ before))) rest)) same (c.leads rest) in
           ap (λ xs. log_along (with_event s a (moves_in before)) (starting (by_manual g) xs) (empty_log unit fd)) same
-          ∙ event_logs g w (moves_in before) start behind (empty_log unit fd) (t.has.come.leads behind) s a _ change unrefused.0 leads
-          ∙ ap (logged w.requests (happens (by_manual g) w s a).requests s a) (t.logs unit fd behind);
+          ∙ event_logs g w (moves_in before) start after (empty_log unit fd) (t.has.come.leads after) s a _ change unrefused.0 leads
+          ∙ ap (logged w.requests (happens (by_manual g) w s a).requests s a) (t.logs unit fd after);
     }

@@ -1,4 +1,4 @@
--- What may be left of files, with one file more; and what is shown behind moves, by the logs that they make.
+-- What may be left of files, with one file more; and what is shown after moves, by the logs that they make.
 use Rattle.std.proofs.Common.{◌≡◌, ℕ, suc, ◌+◌, ◌<◌, pos, Bool, true, false, inl, inr, List, [], ◌∷◌, ◌++◌, length, get_or, map, Option, Some, None, Result, Ok, Err, if◌then◌else◌, refl, sym, subst, ap, ap₂, ◌∙◌, arith}
 use Rattle.std.specs.Prelude.{Contains, slice_get, slice_index_or, IfErr, IsErrAnd}
 use Rattle.std.specs.Option.{option_map}
@@ -21,7 +21,7 @@ use Rattle.uring_power.specs.Shown.{Crash}
 use Rattle.uring_power.specs.Moves.{log_moved, log_past, log_along}
 use Rattle.uring_outcomes.specs.declared.run.Run.{Run}
 use Rattle.uring_power.specs.Found.{IsReason}
-use Rattle.uring_power.specs.Trials.{logs_behind, HasMade, AreLeftOf, Shows, AreShown, Widens, IsTooMany, IsCrowdedBy, IsShownBehind, with_file, spread_over}
+use Rattle.uring_power.specs.Trials.{logs_after, HasMade, AreLeftOf, Shows, AreShown, Widens, IsTooMany, IsCrowdedBy, IsShownAfter, with_file, spread_over}
 use Rattle.uring_power.specs.declared.fault.CrashFault.{CrashFault}
 use Rattle.uring_power.specs.declared.fault.CrashFault.TheVariants.{Memory, Spent, Images}
 use Rattle.uring_power.proofs.Lists.{IsGot, Before, Last, got, got_before, got_last, HasLast, has_last, contained, is_in, in_map, from_map, in_spread, from_spread}
@@ -111,7 +111,7 @@ shown_more posted logs log old new shown w = record {
       in_spread (λ x. map (with_file x) w.images) old before c (is_in old before there)
       (subst (Contains (map (with_file before) w.images)) (sym is) (contained (map (with_file before) w.images) (with_file before l.last) (in_map (with_file before) w.images l.last image)))
 
--- What is shown behind moves.
+-- What is shown after moves.
 
 later_keeps : (late : Bool) (old new : Log) → Keeps old new → Keeps old (if late then old else new)
 later_keeps true old new k = (refl, refl)
@@ -136,9 +136,9 @@ along_keeps (first ∷ later) m log =
           (b.0 ∙ a.0, b.1 ∙ a.1)
 
 -- the log of the file at a place
-pub log_behind : (unit : ℕ) (g : Setup) (calls : List (List Sqe)) (moves : List Move) (place : ℕ) → place < g.files
-    → slice_get (logs_behind unit g calls moves) place ≡ Some (log_along moves (starting g calls) (empty_log unit (pos place)))
-log_behind unit g calls moves place low =
+pub log_after : (unit : ℕ) (g : Setup) (calls : List (List Sqe)) (moves : List Move) (place : ℕ) → place < g.files
+    → slice_get (logs_after unit g calls moves) place ≡ Some (log_along moves (starting g calls) (empty_log unit (pos place)))
+log_after unit g calls moves place low =
     let files = first_files g.files [] in
     let many : length files ≡ g.files = first_many g.files [] in
     let bytes : (file_at files place).bytes ≡ [] = ap (λ (f : FileContents). f.bytes) (first_at g.files [] place low) in
@@ -150,7 +150,7 @@ logs_many unit from [] = refl
 logs_many unit from (f ∷ more) = ap suc (logs_many unit (suc from) more)
 
 pub many_logs : (unit : ℕ) (g : Setup) (calls : List (List Sqe)) (moves : List Move)
-    → length (logs_behind unit g calls moves) ≡ g.files
+    → length (logs_after unit g calls moves) ≡ g.files
 many_logs unit g calls moves =
     length-map (logs_on unit 0 (first_files g.files [])) (log_along moves (starting g calls)) ∙ (logs_many unit 0 (first_files g.files []) ∙ first_many g.files [])
 
@@ -174,25 +174,25 @@ module _ (unit : ℕ) (g : Setup) (calls : List (List Sqe)) (moves : List Move) 
       (subst (λ bs. IsImage (log_along moves (starting g calls) (empty_log unit (pos place))).volume.unit bs (log_along moves (starting g calls) (empty_log unit (pos place))).volume.history now) (sym k.1)
       (subst (λ u. IsImage u [] (log_along moves (starting g calls) (empty_log unit (pos place))).volume.history now) (sym k.0) image))
 
-  pub shown_behind : Shows m.posted (logs_behind unit g calls moves) c → IsShownBehind unit g calls moves m c
-  shown_behind shows = record {
+  pub shown_after : Shows m.posted (logs_after unit g calls moves) c → IsShownAfter unit g calls moves m c
+  shown_after shows = record {
     posts = shows.posts;
     left = record {
       many = shows.left.many ∙ many_logs unit g calls moves;
-      each = λ place low. image_by place _ refl (slice_index_or c.left place []) (shows.left.each place _ (log_behind unit g calls moves place low));
+      each = λ place low. image_by place _ refl (slice_index_or c.left place []) (shows.left.each place _ (log_after unit g calls moves place low));
     };
   }
 
-  pub shows_behind : IsShownBehind unit g calls moves m c → Shows m.posted (logs_behind unit g calls moves) c
-  shows_behind shown = record {
+  pub shows_after : IsShownAfter unit g calls moves m c → Shows m.posted (logs_after unit g calls moves) c
+  shows_after shown = record {
     posts = shown.posts;
     left = record {
       many = shown.left.many ∙ sym (many_logs unit g calls moves);
       each = λ place log is.
-          let within : place < length (logs_behind unit g calls moves) = slice_get_within (logs_behind unit g calls moves) place log is in
-          let many : length (logs_behind unit g calls moves) ≡ g.files = many_logs unit g calls moves in
+          let within : place < length (logs_after unit g calls moves) = slice_get_within (logs_after unit g calls moves) place log is in
+          let many : length (logs_after unit g calls moves) ≡ g.files = many_logs unit g calls moves in
           let low : place < g.files = omega (arith, within, many) in
-          let same : Some log ≡ Some (log_along moves (starting g calls) (empty_log unit (pos place))) = sym is ∙ log_behind unit g calls moves place low in
+          let same : Some log ≡ Some (log_along moves (starting g calls) (empty_log unit (pos place))) = sym is ∙ log_after unit g calls moves place low in
           image_of place log (let e : log ≡ log_along moves (starting g calls) (empty_log unit (pos place)) = cc in e) (slice_index_or c.left place []) (shown.left.each place low);
     };
   }
@@ -210,18 +210,18 @@ pub err_told : {T E : Type 0} (r : Result T E) (P : E → Type 0) (e : E) → Is
 err_told (Ok x) P e is p = tt
 err_told (Err x) P e is p = subst P (sym is) p
 
--- the reason, by the logs behind moves
+-- the reason, by the logs after moves
 pub reason_of : (unit : ℕ) (g : Setup) (calls : List (List Sqe)) (moves : List Move) (run : Run) (logs : List Log) (most : ℕ) (e : CrashFault)
     → HasMade unit g calls moves run logs → IsCrowdedBy logs most e → IsReason unit g calls most e
 reason_of unit g calls moves run logs most Memory h many = tt
 reason_of unit g calls moves run logs most Spent h many = absurd many
 reason_of unit g calls moves run logs most Images h (place, (log, (is, (ways, are_many)))) =
-    let got : slice_get (logs_behind unit g calls moves) place ≡ Some log = sym (ap (λ (ls : List Log). slice_get ls place) h.are) ∙ is in
-    let within : place < length (logs_behind unit g calls moves) = slice_get_within (logs_behind unit g calls moves) place log got in
-    let count : length (logs_behind unit g calls moves) ≡ g.files = many_logs unit g calls moves in
+    let got : slice_get (logs_after unit g calls moves) place ≡ Some log = sym (ap (λ (ls : List Log). slice_get ls place) h.are) ∙ is in
+    let within : place < length (logs_after unit g calls moves) = slice_get_within (logs_after unit g calls moves) place log got in
+    let count : length (logs_after unit g calls moves) ≡ g.files = many_logs unit g calls moves in
     let low : place < g.files = omega (arith, within, count) in
     let along : Log = log_along moves (starting g calls) (empty_log unit (pos place)) in
-    let both : Some log ≡ Some along = sym got ∙ log_behind unit g calls moves place low in
+    let both : Some log ≡ Some along = sym got ∙ log_after unit g calls moves place low in
     let same : log ≡ along = cc in
     let k = along_keeps moves (starting g calls) (empty_log unit (pos place)) in
     let there : AreTheImages along.volume.unit along.volume.first along.volume.history ways = subst (λ (l : Log). AreTheImages l.volume.unit l.volume.first l.volume.history ways) same are_many.0 in

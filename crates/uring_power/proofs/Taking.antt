@@ -8,12 +8,12 @@ use Rattle.uring_entry.specs.Layout.{Sqe}
 use Rattle.uring_moves.specs.Moments.{Moment, starting, moved, after_moves}
 use Rattle.uring_moves.specs.declared.move_of_calls.Move.{Move}
 use Rattle.uring_outcomes.specs.Walks.{BeginsIn}
-use Rattle.uring_outcomes.proofs.Covering.{moves_behind}
+use Rattle.uring_outcomes.proofs.Covering.{moves_after}
 use Rattle.uring_power.specs.Shown.{Crash}
 use Rattle.uring_power.specs.Found.{AreAllCrashes}
-use Rattle.uring_power.specs.Trials.{logs_behind, AreShown, IsShownBehind, IsWalk, TakesPath}
+use Rattle.uring_power.specs.Trials.{logs_after, AreShown, IsShownAfter, IsWalk, TakesPath}
 use Rattle.uring_power.proofs.Lists.{none_there, contained, is_in, in_map}
-use Rattle.uring_power.proofs.Showing.{shown_behind, shows_behind}
+use Rattle.uring_power.proofs.Showing.{shown_after, shows_after}
 
 same_some : (m n : Moment) → Some m ≡ Some n → m ≡ n
 same_some m n e = cc
@@ -32,15 +32,15 @@ module _ (unit : ℕ) (g : Setup) (calls : List (List Sqe)) (path : List Move) (
   -- what begins with it goes on from it by a move that can be made, unless it ends there
   goes_on : (todo : List (List Move)) (next : List Move) (found : List Crash) (rest : List Move) (last : Moment) (c : Crash)
       → ((x : Move) (n : Moment) → moved m x ≡ Some n → Contains next x)
-      → ((d : Crash) → IsShownBehind unit g calls path m d → Contains found d)
-      → after_moves (starting g calls) (path ++ rest) ≡ Some last → IsShownBehind unit g calls (path ++ rest) last c
+      → ((d : Crash) → IsShownAfter unit g calls path m d → Contains found d)
+      → after_moves (starting g calls) (path ++ rest) ≡ Some last → IsShownAfter unit g calls (path ++ rest) last c
       → Contains found c ⊎ BeginsIn (todo ++ map (λ x. path ++ x ∷ []) next) (path ++ rest)
   goes_on todo next found [] last c all noted ends shown =
       let end : path ++ [] ≡ path = append-nil path in
       let here : last ≡ m = same_some last m (sym ends ∙ (ap (after_moves (starting g calls)) end ∙ leads)) in
-      inl (noted c (subst (λ y. IsShownBehind unit g calls path y c) here (subst (λ ms. IsShownBehind unit g calls ms last c) end shown)))
+      inl (noted c (subst (λ y. IsShownAfter unit g calls path y c) here (subst (λ ms. IsShownAfter unit g calls ms last c) end shown)))
   goes_on todo next found (x ∷ later) last c all noted ends shown =
-      by_next (moved m x) refl (sym (ap (option_and_then (λ y. after_moves y (x ∷ later))) leads) ∙ (sym (moves_behind path (x ∷ later) (starting g calls)) ∙ ends)) where
+      by_next (moved m x) refl (sym (ap (option_and_then (λ y. after_moves y (x ∷ later))) leads) ∙ (sym (moves_after path (x ∷ later) (starting g calls)) ∙ ends)) where
         by_next : (o : Option Moment) → moved m x ≡ o → option_and_then (λ n. after_moves n later) o ≡ Some last
             → Contains found c ⊎ BeginsIn (todo ++ map (λ x. path ++ x ∷ []) next) (path ++ x ∷ later)
         by_next None is e = absurd cc
@@ -53,7 +53,7 @@ module _ (unit : ℕ) (g : Setup) (calls : List (List Sqe)) (path : List Move) (
 
   pub path_taken : (todo : List (List Move)) (next : List Move) (shown found : List Crash)
       → ((x : Move) (n : Moment) → moved m x ≡ Some n → Contains next x)
-      → AreShown m.posted (logs_behind unit g calls path) shown
+      → AreShown m.posted (logs_after unit g calls path) shown
       → TakesPath unit g calls path todo found (todo ++ map (λ x. path ++ x ∷ []) next) (found ++ shown)
   path_taken todo next shown found all are walk = record {
     covered = λ moves last c ends so. elim (walk.covered moves last c ends so) [
@@ -68,13 +68,13 @@ module _ (unit : ℕ) (g : Setup) (calls : List (List Sqe)) (path : List Move) (
         | inr this ↦
             let is : moves ≡ path ++ b.rest = b.is ∙ ap (λ p. p ++ b.rest) (sym this) in
             subst (λ xs. Contains (found ++ shown) c ⊎ BeginsIn (todo ++ map (λ x. path ++ x ∷ []) next) xs) (sym is)
-            (goes_on todo next (found ++ shown) b.rest last c all (λ d behind. Contains-append_right found shown d (are.all d (shows_behind unit g calls path m d behind))) (sym (ap (after_moves (starting g calls)) is) ∙ ends) (subst (λ ms. IsShownBehind unit g calls ms last c) is so))
+            (goes_on todo next (found ++ shown) b.rest last c all (λ d after. Contains-append_right found shown d (are.all d (shows_after unit g calls path m d after))) (sym (ap (after_moves (starting g calls)) is) ∙ ends) (subst (λ ms. IsShownAfter unit g calls ms last c) is so))
       ]
     ];
     right = λ c there. elim (Contains-append_cases found shown c there) [
       | inl old ↦ walk.right c old
       | inr new ↦
-          let s : IsShownBehind unit g calls path m c = shown_behind unit g calls path m c (are.right c new) in
+          let s : IsShownAfter unit g calls path m c = shown_after unit g calls path m c (are.right c new) in
           record { moves = path; last = m; leads = leads; posts = s.posts; left = s.left }
     ];
   }
@@ -91,7 +91,7 @@ no_path unit g calls path todo found none walk = record {
       | inl old ↦ inr (record { path = b.path; rest = b.rest; there = old; is = b.is })
       | inr this ↦
           let is : moves ≡ path ++ b.rest = b.is ∙ ap (λ p. p ++ b.rest) (sym this) in
-          let fails : ◌≡◌ {A = Option Moment} None (Some last) = sym (ap (option_and_then (λ y. after_moves y b.rest)) none) ∙ (sym (moves_behind path b.rest (starting g calls)) ∙ (sym (ap (after_moves (starting g calls)) is) ∙ ends)) in
+          let fails : ◌≡◌ {A = Option Moment} None (Some last) = sym (ap (option_and_then (λ y. after_moves y b.rest)) none) ∙ (sym (moves_after path b.rest (starting g calls)) ∙ (sym (ap (after_moves (starting g calls)) is) ∙ ends)) in
           absurd cc
     ]
   ];

@@ -1,4 +1,4 @@
--- What a trial has made behind a move: the run stands as the moves lead, and each log is what they make of it.
+-- What a trial has made after a move: the run stands as the moves lead, and each log is what they make of it.
 use Rattle.std.proofs.Common.{◌≡◌, ℕ, ◌+◌, ◌<◌, ℤ, Bool, true, false, not, ◌&&◌, ◌||◌, ◌==◌, List, [], ◌∷◌, ◌++◌, length, take, drop, get_or, map, Option, Some, None, Result, Ok, Err, if◌then◌else◌, refl, sym, subst, ap, ap₂, ◌∙◌}
 use Rattle.std.specs.Prelude.{IfOk, IfSome}
 use Rattle.std.specs.Option.{option_and_then}
@@ -23,9 +23,9 @@ use Rattle.uring_outcomes.proofs.Moving.{issue_can, finish_can, finishable_tells
 use Rattle.uring_outcomes.specs.declared.run.Run.{Run}
 use Rattle.uring_outcomes.proofs.Replaying.{IsMade, made_tells, not_made_tells}
 use Rattle.uring_outcomes.proofs.RunSteps.{running_asks}
-use Rattle.uring_outcomes.proofs.Covering.{moves_behind}
+use Rattle.uring_outcomes.proofs.Covering.{moves_after}
 use Rattle.uring_power.specs.Moves.{log_moved, log_along}
-use Rattle.uring_power.specs.Trials.{logs_behind, HasMade, HasTried}
+use Rattle.uring_power.specs.Trials.{logs_after, HasMade, HasTried}
 use Rattle.uring_power.proofs.LogMoves.{log_more, runs_now, running_op_is}
 
 -- What an issue makes of a log.
@@ -76,12 +76,12 @@ finish_logs m next n op res log is asked called =
 
 -- A move more.
 
--- all logs, behind one move more
+-- all logs, after one move more
 logs_on_by : (unit : ℕ) (g : Setup) (calls : List (List Sqe)) (moves : List Move) (m next : Moment) (x : Move) (f : Log → Log) (old new : List Log)
     → after_moves (starting g calls) moves ≡ Some m → moved m x ≡ Some next
-    → old ≡ logs_behind unit g calls moves → new ≡ map f old
+    → old ≡ logs_after unit g calls moves → new ≡ map f old
     → ((log : Log) → f log ≡ log_moved m x log)
-    → new ≡ logs_behind unit g calls (moves ++ x ∷ [])
+    → new ≡ logs_after unit g calls (moves ++ x ∷ [])
 logs_on_by unit g calls moves m next x f old new leads is logs noted each =
     let first : List Log = logs_on unit 0 (first_files g.files []) in
     noted ∙ ap (map f) logs ∙ map_twice f (log_along moves (starting g calls)) first
@@ -145,7 +145,7 @@ stopped_on unit g calls path k d run logs made low is tried =
     let none : after_moves start (take (k + 1) path) ≡ None = ap (after_moves start) (take_more path k d low) ∙ tried.stopped is in
     record {
       made = λ is. absurd cc;
-      stopped = λ is. ap (after_moves start) (sym (take-append-drop (k + 1) path)) ∙ (moves_behind (take (k + 1) path) (drop (k + 1) path) start ∙ ap (option_and_then (λ y. after_moves y (drop (k + 1) path))) none);
+      stopped = λ is. ap (after_moves start) (sym (take-append-drop (k + 1) path)) ∙ (moves_after (take (k + 1) path) (drop (k + 1) path) start ∙ ap (option_and_then (λ y. after_moves y (drop (k + 1) path))) none);
     }
 
 -- a path that was made to its end

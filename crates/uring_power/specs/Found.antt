@@ -20,7 +20,7 @@ AreCrashes unit g calls found = (c : Crash) → Contains found c → CanShow uni
 abbrev pub AreAllCrashes : ℕ → Setup → List (List Sqe) → List Crash → Type 0
 AreAllCrashes unit g calls found = (c : Crash) → Contains found c ↔ CanShow unit g calls c
 
--- Behind some moves a file may be left in more ways than this.
+-- After some moves a file may be left in more ways than this.
 pub record MayBeMany (unit : ℕ) (g : Setup) (calls : List (List Sqe)) (most : ℕ) : Type 0 where
   pub moves : List Move
   pub last : Moment

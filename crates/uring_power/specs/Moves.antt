@@ -1,4 +1,4 @@
--- What a power failure may show of calls, by moves: it comes behind any that can be made, each list of them by itself. None can be left out: a request that has started, and hasn't ended, may have left any part of its bytes.
+-- What a power failure may show of calls, by moves: it comes after any that can be made, each list of them by itself. None can be left out: a request that has started, and hasn't ended, may have left any part of its bytes.
 use Rattle.std.specs.Prelude.{◌≡◌, ℕ, ◌||◌, List, [], ◌∷◌, Option, Some, None, if◌then◌else◌}
 use Rattle.uring_entry.specs.Setup.{Setup}
 use Rattle.uring_entry.specs.Layout.{Sqe}
@@ -20,7 +20,7 @@ log_moved m (move.Issue n) log =
 log_moved m (move.Finish n) log =
     finished n (operation_of (entry_of m.requests n)) (result_of m.files (operation_of (entry_of m.requests n))).res log
 
--- what is made of the moment behind a move, if there is one, and else this log
+-- what is made of the moment after a move, if there is one, and else this log
 abbrev pub log_past : (Moment → Log) → Log → Option Moment → Log
 log_past go log None = log
 log_past go log (Some next) = go next

@@ -29,7 +29,7 @@ pub record AreLeft (unit files : ℕ) (log : ℤ → Log) (left : List (List ℕ
   pub each : (place : ℕ) → place < files
       → IsImage unit [] (log (pos place)).volume.history (slice_index_or left place [])
 
--- A power failure may show this of calls: it comes behind a history that has begun them, on files that were empty at first. Whatever was posted by then may have been reaped and acknowledged.
+-- A power failure may show this of calls: it comes after a history that has begun them, on files that were empty at first. Whatever was posted by then may have been reaped and acknowledged.
 pub record MayShow (unit : ℕ) (g : Setup) (calls : List (List Published)) (c : Crash) : Type 0 where
   pub history : History
   pub begun : HasBegun g calls history

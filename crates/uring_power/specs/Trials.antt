@@ -19,17 +19,17 @@ use Rattle.uring_power.specs.declared.fault.CrashFault.TheVariants.{Memory, Spen
 
 -- Trials.
 
--- the logs of all files, from descriptor 0 on, behind these moves
-abbrev pub logs_behind : ℕ → Setup → List (List Sqe) → List Move → List Log
-logs_behind unit g calls moves =
+-- the logs of all files, from descriptor 0 on, after these moves
+abbrev pub logs_after : ℕ → Setup → List (List Sqe) → List Move → List Log
+logs_after unit g calls moves =
     map (log_along moves (starting g calls)) (logs_on unit 0 (first_files g.files []))
 
--- These moves were made: the run stands behind them, and the logs are what they make of them.
+-- These moves were made: the run stands after them, and the logs are what they make of them.
 pub record HasMade (unit : ℕ) (g : Setup) (calls : List (List Sqe)) (moves : List Move) (run : Run) (logs : List Log) : Type 0 where
   pub last : Moment
   pub leads : after_moves (starting g calls) moves ≡ Some last
   pub at : StandsAt calls run last
-  pub are : logs ≡ logs_behind unit g calls moves
+  pub are : logs ≡ logs_after unit g calls moves
 
 -- whether these moves were made: if they weren't, they can't be
 pub record HasTried (unit : ℕ) (g : Setup) (calls : List (List Sqe)) (moves : List Move) (all : Bool) (run : Run) (logs : List Log) : Type 0 where
@@ -84,15 +84,15 @@ IsCrowdedBy logs most Spent = ⊥
 
 -- Walks.
 
--- behind these moves, which lead to this moment, a power failure may show this
-pub record IsShownBehind (unit : ℕ) (g : Setup) (calls : List (List Sqe)) (moves : List Move) (m : Moment) (c : Crash) : Type 0 where
+-- after these moves, which lead to this moment, a power failure may show this
+pub record IsShownAfter (unit : ℕ) (g : Setup) (calls : List (List Sqe)) (moves : List Move) (m : Moment) (c : Crash) : Type 0 where
   pub posts : m.posted ≡ c.posted
   pub left : AreLeft unit g.files (λ fd. log_along moves (starting g calls) (empty_log unit fd)) c.left
 
--- How the walk stands: what is shown behind moves is among what was found, or they begin with a path that is still to be taken; and each that was found is one.
+-- How the walk stands: what is shown after moves is among what was found, or they begin with a path that is still to be taken; and each that was found is one.
 pub record IsWalk (unit : ℕ) (g : Setup) (calls : List (List Sqe)) (todo : List (List Move)) (found : List Crash) : Type 0 where
   pub covered : (moves : List Move) (last : Moment) (c : Crash)
-      → after_moves (starting g calls) moves ≡ Some last → IsShownBehind unit g calls moves last c
+      → after_moves (starting g calls) moves ≡ Some last → IsShownAfter unit g calls moves last c
       → Contains found c ⊎ BeginsIn todo moves
   pub right : (c : Crash) → Contains found c → CanShow unit g calls c
 

@@ -53,7 +53,7 @@ impl Crash {
     }
 }
 
-/// A copy of these lists of bytes, with one more behind them.
+/// A copy of these lists of bytes, with one more after them.
 fn one_more(alloc: Global, lists: &[Vec<u8>], bytes: &[u8]) -> Result<Vec<Vec<u8>>, AllocError>
     ensures { IfOk result (λ more. map (λ b. b.items) more.items ≡ map (λ b. b.items) lists.now ++ bytes.now ∷ []) }
 {
@@ -65,7 +65,7 @@ fn one_more(alloc: Global, lists: &[Vec<u8>], bytes: &[u8]) -> Result<Vec<Vec<u8
     Ok(more)
 }
 
-/// Puts a copy of these bytes behind these lists.
+/// Puts a copy of these bytes after these lists.
 fn push_copy(alloc: Global, lists: &mut Vec<Vec<u8>>, bytes: &[u8]) -> Result<(), AllocError>
     ensures { OnOk result (map (λ b. b.items) lists.new.items ≡ map (λ b. b.items) lists.old.items ++ bytes.now ∷ []) }
 {

@@ -1,4 +1,4 @@
-//! The walk over all lists of moves, with what a power failure may show behind each.
+//! The walk over all lists of moves, with what a power failure may show after each.
 
 ghost use Rattle.std.specs.Prelude.{◌≡◌, ◌<◌, ◌++◌, ◌∷◌, [], ℕ, List, true, false, IfOk, IfErr, OnOk};
 ghost use Rattle.uring_moves.specs.declared.move_of_calls.Move.{Move};
@@ -26,7 +26,7 @@ pub struct FoundCrashes {
     pub is_all: bool,
 }
 
-/// What a power failure may show of these calls, at any moment, on files of this set-up that were empty at first, of which each unit of so many bytes is left by itself. The walk stops behind so many paths; what it has found by then it may show, and whether these are all is told. Each call has the entries that it accepts.
+/// What a power failure may show of these calls, at any moment, on files of this set-up that were empty at first, of which each unit of so many bytes is left by itself. The walk stops after so many paths; what it has found by then it may show, and whether these are all is told. Each call has the entries that it accepts.
 ///
 /// `Memory`: memory was refused.
 /// `Spent`: the calls have more than 2^63 - 1 entries.
@@ -139,7 +139,7 @@ impl Walk {
         Ok(true)
     }
 
-    /// Takes a path: notes what a power failure may show behind it, and leaves the paths that are longer by one move to be taken.
+    /// Takes a path: notes what a power failure may show after it, and leaves the paths that are longer by one move to be taken.
     fn take(
         &mut self,
         alloc: Global,
@@ -182,7 +182,7 @@ impl Walk {
         self.note(alloc, setup, unit, calls, path, images, trial)
     }
 
-    /// Notes what a power failure may show behind this path, whose moves the trial has made, and leaves the paths that are longer by one move to be taken.
+    /// Notes what a power failure may show after this path, whose moves the trial has made, and leaves the paths that are longer by one move to be taken.
     fn note(
         &mut self,
         alloc: Global,

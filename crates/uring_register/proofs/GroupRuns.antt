@@ -62,7 +62,7 @@ pub gives_what_was_provided : GivesWhatWasProvided
 gives_what_was_provided [] n low = grind (arith, low)
 gives_what_was_provided (Provided asked ∷ earlier) n low = elim (cases_lt n (provided earlier)) [
   | inl before ↦ inl (subst (λ b. IsProvided earlier b) (sym (stays (Provided asked) earlier n before)) (gives_what_was_provided earlier n before))
-  | inr behind ↦ inr (n - provided earlier, omega (arith, low, behind), grind (arith, behind))
+  | inr after ↦ inr (n - provided earlier, omega (arith, low, after), grind (arith, after))
 ]
 gives_what_was_provided (Removed count ∷ earlier) n low = gives_what_was_provided earlier n low
 gives_what_was_provided (Took ∷ earlier) n low = gives_what_was_provided earlier n low

@@ -34,7 +34,7 @@ none : (words : ℕ → ℕ) (from end start slot : ℕ) → GivesNoneBy words f
     → (slot < start) ⊎ (start ≤ slot) → words slot ≡ 0 → ⊥
 none words from end start slot found low high side zero = elim side [
   | inl before ↦ found.1 slot low before zero
-  | inr behind ↦ found.0 slot behind high zero
+  | inr after ↦ found.0 slot after high zero
 ]
 
 pub gives_what_is_free : GivesWhatIsFree

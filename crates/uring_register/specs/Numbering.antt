@@ -7,13 +7,13 @@ use Rattle.uring_register.specs.declared.numbering.RowOnto.TheVariants.{Does, Fa
 use Rattle.uring_entry.specs.Errors.{is_below}
 
 -- what is done after this, once that went well: the row is read, -14 (EFAULT), and looked at with its descriptor, -22, -9 and -95; a number is looked for, -16 (EBUSY), and the ring gets it, -24 (EMFILE), which is told in the row
-abbrev pub behind_row : Option RowStage → RowOnto
-behind_row None = Does Reads
-behind_row (Some Reads) = Does Judges
-behind_row (Some Judges) = Does Places
-behind_row (Some Places) = Does Fills
-behind_row (Some Fills) = Does Tells
-behind_row (Some Tells) = IsDone
+abbrev pub after_row : Option RowStage → RowOnto
+after_row None = Does Reads
+after_row (Some Reads) = Does Judges
+after_row (Some Judges) = Does Places
+after_row (Some Places) = Does Fills
+after_row (Some Fills) = Does Tells
+after_row (Some Tells) = IsDone
 
 abbrev pub has_filled : Option RowStage → Bool
 has_filled (Some Tells) = true
@@ -22,5 +22,5 @@ has_filled _ = false
 -- the first fault ends it; a ring whose number can't be told loses it again
 abbrev pub next_of_row : Option RowStage → ℤ → RowOnto
 next_of_row last res =
-    if not (is_below res) then behind_row last else
+    if not (is_below res) then after_row last else
     if has_filled last then Empties res else Fails res

@@ -47,12 +47,12 @@ pub fn next_of_row(last: Option<RowStage>, res: i32) -> RowOnto
             RowOnto::Fails(res)
         }
     } else {
-        behind_row(last)
+        after_row(last)
     }
 }
 
-fn behind_row(last: Option<RowStage>) -> RowOnto
-    ensures { result ≡ spec.behind_row last }
+fn after_row(last: Option<RowStage>) -> RowOnto
+    ensures { result ≡ spec.after_row last }
 {
     match last {
         None => RowOnto::Does(RowStage::Reads),

@@ -46,7 +46,7 @@ put_shows g q l x rest spare i s room oldest =
     λ k d from to. cells_after_write q.cells (λ (n : ℕ). get_or l.posted n d) d x g.start g.cq (length l.reaped) l.put (q.tail % q.size) (subst IsPowerOfTwo s.size i.power) limit cells_length low near cell_of_tail (first ∙ get_or_default l.posted l.put x d more) (λ n lower upper. s.cells n d lower upper) k from to in
     assumption
 
--- A completion is posted, and waits behind the others.
+-- A completion is posted, and waits after the others.
 pub wait_shows : (g : Setup) (q : Cq) (l : Completions) (x : Cqe) (room spare : ℕ)
     → ShowsCompletions g q l
     → ShowsCompletions g (record q { room = room; spare = spare; posted = (q.posted + 1) % 2 ^ 64; overflow = q.overflow ++ x ∷ [] }) (record l { posted = l.posted ++ x ∷ [] })
@@ -86,7 +86,7 @@ post_puts g q l x room i s open_ring =
     subst (λ (xs : List Cqe). ShowsCompletions g (record q { room = room; posted = (q.posted + 1) % 2 ^ 64; tail = (q.tail + 1) % 2 ^ 32; cells = set q.cells (q.tail % q.size) x; overflow = xs }) (record l1 { put = l.put + 1 })) (sym none) shown in
     subst (λ (b : Bool). ShowsCompletions g (record q { room = room; posted = (q.posted + 1) % 2 ^ 64; tail = (q.tail + 1) % 2 ^ 32; cells = set q.cells (q.tail % q.size) x }) (record l1 { put = cond b (l.put + 1) l.put })) (sym open_ring) at_none
 
--- A post that finds the ring full, or others waiting, leaves the completion behind them.
+-- A post that finds the ring full, or others waiting, leaves the completion after them.
 pub post_waits : (g : Setup) (q : Cq) (l : Completions) (x : Cqe) (room spare : ℕ)
     → ShowsCompletions g q l
     → has_room g.cq l ≡ false

@@ -77,7 +77,7 @@ after_take l Dropped = taken_on l l.call
 after_take l NoCallToTake = l
 after_take l NoMore = l
 
--- the answer to an end of the call that is open, if there is one: the call's entries, the words dropped with this call's, and the head's word behind it
+-- the answer to an end of the call that is open, if there is one: the call's entries, the words dropped with this call's, and the head's word after it
 abbrev pub end_of : Setup → Submission → Option Call → EndAnswer
 end_of g l None = NoCallToEnd
 end_of g l (Some call) =

@@ -60,7 +60,7 @@ pub struct Taken {
     /// The words dropped since the ring was made, modulo 2^32. io_uring_setup(2), on `dropped`.
     pub dropped: u32,
 
-    /// The head's index word, behind the call's positions: any 32 bits.
+    /// The head's index word, after the call's positions: any 32 bits.
     pub head: u32,
 }
 

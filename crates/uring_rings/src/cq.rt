@@ -139,7 +139,7 @@ impl Cq {
         Ok(())
     }
 
-    /// Posts a completion, which takes one of the posts promised: into the ring if none waits and the ring holds fewer than its size above the head last loaded by `flush`, else behind the others that wait. io_uring_setup(2), IORING_FEAT_NODROP; that the head counts as last loaded is our own rule.
+    /// Posts a completion, which takes one of the posts promised: into the ring if none waits and the ring holds fewer than its size above the head last loaded by `flush`, else after the others that wait. io_uring_setup(2), IORING_FEAT_NODROP; that the head counts as last loaded is our own rule.
     ///
     /// Condition: a post is promised.
     pub fn post(&mut self, completion: Cqe)
@@ -208,7 +208,7 @@ impl Cq {
         Some(self.cells[cell])
     }
 
-    /// The application stores the head, behind what it reaped, and returns its word. io_uring(7), Reading completion events.
+    /// The application stores the head, after what it reaped, and returns its word. io_uring(7), Reading completion events.
     pub fn store_head(&mut self) -> u32
         ensures answer { (g : Setup) (l : Completions) → ShowsCompletions g self.old l →
             result ≡ word_of g.start (length l.reaped) }

@@ -215,7 +215,7 @@ impl Sq {
         BeginAnswer::Call(count)
     }
 
-    /// Copies the entry of the open call's next position, or returns `Dropped` if its word names no slot. The call goes on behind such a word: our own rule.
+    /// Copies the entry of the open call's next position, or returns `Dropped` if its word names no slot. The call goes on after such a word: our own rule.
     ///
     /// Refused with `NoCall` if no call is open, and with `NoMore` if all positions of the open call are taken.
     pub fn take(&mut self) -> TakeAnswer

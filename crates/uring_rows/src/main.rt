@@ -1,6 +1,6 @@
 //! Runs worked rows, and says of each whether a trace answers it as wanted.
 //!
-//! Standard input names the rows, a line each, as `links/hard_link_holds`. A row's steps lie in NAME.trace and the wanted answers in NAME.answers. NAME.setup has four numbers: the entries of the submission ring and of the completion ring, the files, and the word at which both rings begin; behind them the word `stops` if the ring stops, and `linux` if it keeps Linux's rules. A row without it runs on 4, 4, 2 and 0.
+//! Standard input names the rows, a line each, as `links/hard_link_holds`. A row's steps lie in NAME.trace and the wanted answers in NAME.answers. NAME.setup has four numbers: the entries of the submission ring and of the completion ring, the files, and the word at which both rings begin; after them the word `stops` if the ring stops, and `linux` if it keeps Linux's rules. A row without it runs on 4, 4, 2 and 0.
 #![tactic(auto)]
 
 mod rows;

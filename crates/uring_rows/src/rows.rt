@@ -12,7 +12,7 @@ pub(crate) enum Verdict {
     /// The answers are the wanted ones.
     Same,
 
-    /// The answers differ from the wanted ones, behind as many lines that are the same.
+    /// The answers differ from the wanted ones, after as many lines that are the same.
     Differs { lines: usize },
 
     /// The set-up isn't four numbers and words that are known, or they are no set-up.

@@ -27,7 +27,7 @@ entries_requests l [] = ap (λ ys. record l.requests { accepted = ys }) (sym (ap
 entries_requests l (x ∷ xs) =
     entries_requests (with_accepted l x) xs ∙ ap (λ ys. record l.requests { accepted = ys }) (append_assoc l.requests.accepted (x ∷ []) xs)
 
--- entries one by one and the cut behind them are a whole call
+-- entries one by one and the cut after them are a whole call
 pub whole_call : (is_linux : Bool) (l : LinuxRequests) (xs : List Sqe)
     → cut_by is_linux (all_accepted_by is_linux l xs) ≡ called_by is_linux l xs
 whole_call true l xs =

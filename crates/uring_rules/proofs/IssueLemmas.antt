@@ -37,7 +37,7 @@ end_by_linux l n res bytes =
     ap (λ alone. record { requests = manual.with_ended l.requests n res bytes; drains = record l.drains { deferred = still_deferred alone l.drains.deferred } })
     (alone_alike l.requests n res bytes no_bytes l.drains.deferred)
 
--- what either dispatcher shows behind an end
+-- what either dispatcher shows after an end
 pub end_manual : (d : Dispatch) (l : LinuxRequests) (n : ℕ) (res : ℤ) (bytes : List ℕ) (posted : Option Posts)
     → manual_dispatch.ShowsRequests d (manual_answers.after_end l.requests n res bytes posted)
     → manual_dispatch.ShowsRequests d (after_end false l n res bytes posted).requests

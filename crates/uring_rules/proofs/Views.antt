@@ -49,7 +49,7 @@ pub told_linux : {A : Type 0} (f : Bool → A) (a : A) (k : Kind) (x : Rules) (d
     → a ≡ f true → a ≡ f x.linux
 told_linux f a k x d v e told = told ∙ ap f (is_linux k x d v e)
 
--- what the one shows behind an event, the whole shows
+-- what the one shows after an event, the whole shows
 pub manual_goes : (f : Bool → LinuxRequests) (k m : Kind) (x : Rules) (d e : Dispatch) → rules_of k ≡ x → k ≡ Manual d → m ≡ Manual e
     → manual.ShowsRequests e (f false).requests → ShowsRequests (rules_of m) (f x.linux)
 manual_goes f k m x d e v is new h =
@@ -62,7 +62,7 @@ linux_goes f k m x d e v is new h =
     subst (λ b. ShowsRequests (rules_of m) (f b)) (is_linux k x d v is)
     (subst (λ (y : Kind). ShowsRequests (rules_of y) (f true)) (sym new) (over_linux e (f true) h))
 
--- and behind one that is answered
+-- and after one that is answered
 pub manual_answers : {A : Type 0} (f : Bool → A → LinuxRequests) (a b : A) (k m : Kind) (x : Rules) (d e : Dispatch) → a ≡ b → rules_of k ≡ x → k ≡ Manual d → m ≡ Manual e
     → manual.ShowsRequests e (f false b).requests → ShowsRequests (rules_of m) (f x.linux a)
 manual_answers f a b k m x d e same v is new h =

@@ -11,7 +11,7 @@ use Rattle.uring_dispatch.specs.Cancels as manual_cancels
 use Rattle.uring_dispatch.specs.declared.answers.Found.{Found}
 use Rattle.uring_linux.specs.Drains.{Drains}
 use Rattle.uring_linux.specs.LinuxRequests as linux
-use Rattle.uring_linux.specs.LinuxRequests.{LinuxRequests, is_in_turn, is_deferred, posts_behind, breaker_of, with_cut}
+use Rattle.uring_linux.specs.LinuxRequests.{LinuxRequests, is_in_turn, is_deferred, posts_after, breaker_of, with_cut}
 use Rattle.uring_linux.specs.Happenings.{with_entries}
 use Rattle.uring_linux.specs.LinuxWhy as linux_why
 use Rattle.uring_linux.specs.LinuxCancels as linux_cancels
@@ -39,7 +39,7 @@ cancel_result is_linux r n =
 -- whether the end of n with this result posts a completion
 abbrev pub posts : (is_linux : Bool) → Requests → ℕ → ℤ → Bool
 posts is_linux r n res =
-    if is_linux then posts_behind r (breaker_of r n) n res else posts_completion (entry_of r n) res
+    if is_linux then posts_after r (breaker_of r n) n res else posts_completion (entry_of r n) res
 
 -- whether something can be done with n: it is to end as doomed, or may start
 abbrev pub is_issuable : (is_linux : Bool) → LinuxRequests → ℕ → Bool

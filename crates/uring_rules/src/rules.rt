@@ -232,7 +232,7 @@ impl Rules {
         }
     }
 
-    /// The least request from `n` on, any number, that `issue` doesn't refuse, if there is one: so all of them, in order, from 0 on, each time from the number behind the last. Our own rule.
+    /// The least request from `n` on, any number, that `issue` doesn't refuse, if there is one: so all of them, in order, from 0 on, each time from the number after the last. Our own rule.
     pub fn next_issuable(&self, n: u64) -> Option<u64>
         requires { IsTrue self.now.is_between_calls }
         ensures { (l : LinuxRequests) → ShowsRequests self.now l

@@ -97,7 +97,7 @@ far_flat : (s j remark line : List ℕ)
     ≡ s ++ j ++ (codes "# " ++ (remark ++ line ++ 10 ∷ []))
 far_flat s j remark line = simp (append-nil, append_assoc)
 
--- a text of a history with a remark behind it
+-- a text of a history with a remark after it
 pub tells_far : (g : Setup) (h : History) (a b c d e remark line : List ℕ) → IsLawfulApart g h
     → Tells g h a [] → b ≡ a ++ codes "# " → c ≡ b ++ remark → d ≡ c ++ line → e ≡ d ++ 10 ∷ []
     → TellsFar g e

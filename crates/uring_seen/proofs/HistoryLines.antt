@@ -31,7 +31,7 @@ pub record LineThere (lines : List (List ℕ)) (k : ℕ) (e : Event) : Type 0 wh
   pub there : slice_get lines k ≡ Some line
   pub shows : Shows line e
 
--- an event that comes behind so many of them
+-- an event that comes after so many of them
 pub paired_at : (lines : List (List ℕ)) (first rest : List Event) (e : Event)
     → ArePaired lines (first ++ e ∷ rest) → LineThere lines (length first) e
 paired_at (l ∷ lines) [] rest e paired = record { line = l; there = refl; shows = paired.0 }

@@ -50,7 +50,7 @@ reads_passed g lines seen line passed r = record {
   ];
 }
 
--- an event of the line behind these is the one that was read
+-- an event of the line after these is the one that was read
 event_is : (g : Setup) (seen : History) (line : List ℕ) (s : Step) (a : Answer) (e : Event) (past : History)
     → Shows line (s, a) → IsOnly g seen s (text_of a) a → Shows line e → past ≡ seen → LastSeen g e past
     → e ≡ (s, a)
@@ -92,7 +92,7 @@ reads_wrong g lines seen line s text is none r = λ h lawful shown. elim shown [
       none event.0.1 may once.1 (subst (λ (u : Step). IsBare u event.0.1) once.0 event.3.bare)
 ]
 
--- lines behind those that nothing shows
+-- lines after those that nothing shows
 pub never_later : (g : Setup) (later lines : List (List ℕ)) → ShowsNever g lines
     → ShowsNever g (later ++ lines)
 never_later g [] lines never = never
@@ -111,7 +111,7 @@ pub one_more : (lines : List (List ℕ)) (i : ℕ) (line : List ℕ) → slice_g
 one_more lines i line is =
     ap reverse (take_more lines i line (slice_get_within lines i line is) ∙ ap (λ (x : List ℕ). take i lines ++ x ∷ []) (get_or_from_slice_get lines i line line is)) ∙ reverse-append (take i lines) (line ∷ [])
 
--- all lines, the newest first, behind the first ones
+-- all lines, the newest first, after the first ones
 pub split_lines : (lines : List (List ℕ)) (i : ℕ)
     → reverse lines ≡ reverse (drop i lines) ++ reverse (take i lines)
 split_lines lines i = ap reverse (sym (take-append-drop i lines)) ∙ reverse-append (take i lines) (drop i lines)
@@ -139,7 +139,7 @@ pub record AreRead (g : Setup) (first : List (List ℕ)) (core : Core) (events :
   pub fits : FitsApart core (submitted (history_of events))
   pub paired : ArePaired shown events
 
--- what was made of a line behind any events that the core follows
+-- what was made of a line after any events that the core follows
 abbrev pub IsSeen : Core → Core → List ℕ → Sight → Type 0
 IsSeen old new line x = (events : History) → FitsApart old (submitted events) → IsSight new events line x
 

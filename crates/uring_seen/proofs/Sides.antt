@@ -160,7 +160,7 @@ submitted_visible (e ∷ h) = go (is_hidden e.0) refl (submitted_visible h) wher
   go true is before = before ∙ sym (ap (λ (b : Bool). if b then e ∷ submitted h else submitted h) (hidden_other e.0 is))
   go false is before = ap (λ (k : History). if is_submitting e.0 then e ∷ k else k) before
 
--- what may be shown behind these events of such a step is called for behind those of them alone
+-- what may be shown after these events of such a step is called for after those of them alone
 pub may_submitted : (g : Setup) (seen : History) (s : Step) (a : Answer) → is_submitting s ≡ true
     → MayShow g seen s a → CalledForApart g (world g (submitted seen)) s a
 may_submitted g seen s a of m =

@@ -121,27 +121,27 @@ pub unparted_none : (text mid : List ℕ) → IsFramed text mid → IsUnparted m
 unparted_none text mid f none = λ c is.
     none_and_one (decimal c.user_data) (signed_decimal c.res) (subst HasNoBlank (middle_is text mid c f is) none)
 
-parts_are : (text mid before behind : List ℕ) (c : Cqe) → IsFramed text mid → IsParted mid before behind
-    → IsCompletion text c → (before ≡ decimal c.user_data) × (behind ≡ signed_decimal c.res)
-parts_are text mid before behind c f p is =
-    blank_once before behind (decimal c.user_data) (signed_decimal c.res) p.first (decimal_unbroken c.user_data is.bare.0) (sym p.whole ∙ middle_is text mid c f is)
+parts_are : (text mid before after : List ℕ) (c : Cqe) → IsFramed text mid → IsParted mid before after
+    → IsCompletion text c → (before ≡ decimal c.user_data) × (after ≡ signed_decimal c.res)
+parts_are text mid before after c f p is =
+    blank_once before after (decimal c.user_data) (signed_decimal c.res) p.first (decimal_unbroken c.user_data is.bare.0) (sym p.whole ∙ middle_is text mid c f is)
 
 -- with a number before it
-pub number_none : (text mid before behind : List ℕ) → IsFramed text mid → IsParted mid before behind
+pub number_none : (text mid before after : List ℕ) → IsFramed text mid → IsParted mid before after
     → IsNoNumber (2 ^ 64) before → IsNoCompletion text
-number_none text mid before behind f p none = λ c is.
-    none c.user_data ((parts_are text mid before behind c f p is).0, is.bare.0)
+number_none text mid before after f p none = λ c is.
+    none c.user_data ((parts_are text mid before after c f p is).0, is.bare.0)
 
--- and a result behind it
-pub result_none : (text mid before behind : List ℕ) → IsFramed text mid → IsParted mid before behind
-    → ((z : ℤ) → IsFile z → signed_decimal z ≡ behind → ⊥) → IsNoCompletion text
-result_none text mid before behind f p none = λ c is.
-    none c.res is.bare.1 (sym (parts_are text mid before behind c f p is).1)
+-- and a result after it
+pub result_none : (text mid before after : List ℕ) → IsFramed text mid → IsParted mid before after
+    → ((z : ℤ) → IsFile z → signed_decimal z ≡ after → ⊥) → IsNoCompletion text
+result_none text mid before after f p none = λ c is.
+    none c.res is.bare.1 (sym (parts_are text mid before after c f p is).1)
 
-pub completion_read : (text mid before behind : List ℕ) (n : ℕ) (z : ℤ) → IsFramed text mid
-    → IsParted mid before behind → SpellsNumber (2 ^ 64) before n → (signed_decimal z ≡ behind) × IsFile z
+pub completion_read : (text mid before after : List ℕ) (n : ℕ) (z : ℤ) → IsFramed text mid
+    → IsParted mid before after → SpellsNumber (2 ^ 64) before n → (signed_decimal z ≡ after) × IsFile z
     → IsCompletion text (record { user_data = n; res = z; payload = no_bytes })
-completion_read text mid before behind n z f p number result = record {
+completion_read text mid before after n z f p number result = record {
   text_is =
       bare_text n z
       ∙ ap (λ (l : List ℕ). codes "cqe " ++ ((l ++ 32 ∷ signed_decimal z) ++ codes " -")) (sym number.0)

@@ -257,7 +257,7 @@ pub none_never : (core : Core) (h : History) (a : Answer) (text : List ℕ) → 
 none_never core h a text none other fits = λ b called text_is sized.
     other (ap text_of (sym (none_is a b none (called ∙ sym fits.lawful.0))) ∙ text_is)
 
--- what a text comes to behind which a completion without bytes is reaped
+-- what a text comes to after which a completion without bytes is reaped
 pub completed_shown : (c d : Cqe) (text : List ℕ) → c.payload ≡ no_bytes → CompletesTo c text d
     → text_of (answer.Reaped d) ≡ text → IsCompleted c text (sight.Shown step.Reap (answer.Reaped d))
 completed_shown c d text none to same =

@@ -74,7 +74,7 @@ IsOnly g seen s text a = (b : Answer) → MayShow g seen s b → text_of b ≡ t
 abbrev pub HasNoAnswer : Setup → History → Step → List ℕ → Type 0
 HasNoAnswer g seen s text = (b : Answer) → MayShow g seen s b → text_of b ≡ text → IsBare s b → ⊥
 
--- What was made of a step with the text of an answer behind these events, and what the core fits then.
+-- What was made of a step with the text of an answer after these events, and what the core fits then.
 abbrev pub IsSeenAs : Core → History → Step → List ℕ → Sight → Type 0
 IsSeenAs core seen s text (sight.Shown s' a) =
     (s' ≡ s) × (text_of a ≡ text) × (is_hidden s ≡ false) × IsBare s a
@@ -83,7 +83,7 @@ IsSeenAs core seen s text sight.Wrong = HasNoAnswer core.setup seen s text
 IsSeenAs core seen s text sight.Hidden = is_hidden s ≡ true
 IsSeenAs core seen s text _ = ⊥
 
--- What was made of a line behind these events.
+-- What was made of a line after these events.
 abbrev pub IsSight : Core → History → List ℕ → Sight → Type 0
 IsSight core seen line sight.Passed = IsPassed line × FitsApart core (submitted seen)
 IsSight core seen line (sight.Shown s a) = Shows line (s, a)
@@ -113,9 +113,9 @@ IsFramed text mid = text ≡ codes "cqe " ++ (mid ++ codes " -")
 abbrev pub IsUnframed : List ℕ → Type 0
 IsUnframed text = (mid : List ℕ) → IsFramed text mid → ⊥
 
--- what stands before and behind the first blank of a text
-pub record IsParted (text before behind : List ℕ) : Type 0 where
-  pub whole : text ≡ before ++ 32 ∷ behind
+-- what stands before and after the first blank of a text
+pub record IsParted (text before after : List ℕ) : Type 0 where
+  pub whole : text ≡ before ++ 32 ∷ after
   pub first : AllByRecursion (λ b. b ≢ 32) before
 
 -- the text has no blank

@@ -50,7 +50,7 @@ HasNoFilling g lines = (h : History) → Fills g lines h → ⊥
 abbrev pub IsFar : Setup → List Event → History → Type 0
 IsFar g seen h = IsLawfulApart g h × Begins (seen_in h) seen
 
--- the text tells a lawful history, and behind it a remark
+-- the text tells a lawful history, and after it a remark
 abbrev pub TellsFar : Setup → List ℕ → Type 0
 TellsFar g text = (h : History) × IsLawfulApart g h × ((rest : List ℕ) × Tells g h text (codes "# " ++ rest))
 

@@ -73,7 +73,7 @@ IsEarlyIn given (first ∷ rest) found =
 abbrev pub IsEarlyText : Setup → List ℕ → Early → Type 0
 IsEarlyText given bytes found = IsEarlyIn given (lines_in bytes) found
 
--- Glue. What was made of a step with the text of an answer behind events of which a core knows no bytes.
+-- Glue. What was made of a step with the text of an answer after events of which a core knows no bytes.
 
 -- any answer of this text that is called for there is this one, but for the bytes of a finish
 abbrev pub IsOnlyWritten : Setup → History → Step → List ℕ → Answer → Type 0
@@ -126,7 +126,7 @@ pub record HasText (c : Cqe) (text : List ℕ) (d : Cqe) : Type 0 where
   pub sized : AreBytes d.payload 64 64
   pub text_is : completion_text d ≡ text
 
--- 64 bytes are these, with zeros behind them
+-- 64 bytes are these, with zeros after them
 abbrev pub IsPadded : Option (List ℕ) → List ℕ → Type 0
 IsPadded None room = ⊥
 IsPadded (Some bytes) room = room ≡ bytes ++ drop (length bytes) no_bytes
@@ -141,7 +141,7 @@ pub record CompletesTo (c : Cqe) (text : List ℕ) (d : Cqe) : Type 0 where
   pub sized : AreBytes d.payload 64 64
   pub only : (e : Cqe) → HasText c text e → e ≡ d
 
--- what was made of a text behind which this completion without bytes is reaped
+-- what was made of a text after which this completion without bytes is reaped
 abbrev pub IsCompleted : Cqe → List ℕ → Sight → Type 0
 IsCompleted c text (sight.Shown s a) = (d : Cqe) × (s ≡ step.Reap) × (a ≡ answer.Reaped d)
     × (blank_completion d ≡ c) × HasText c text d × ((e : Cqe) → HasText c text e → e ≡ d)

@@ -20,10 +20,10 @@ pub enum Early {
     /// It is that of a history of so many steps that is lawful by early effects.
     Lawful(u64),
 
-    /// It is that of no history that is lawful apart from what operations gave: the line of this number, from 1 on, has an answer that its step never has behind the lines before it.
+    /// It is that of no history that is lawful apart from what operations gave: the line of this number, from 1 on, has an answer that its step never has after the lines before it.
     Wrong(u64),
 
-    /// It is that of no such history either, though each line may stand behind those before it: a completion has data whose request ended as it was issued.
+    /// It is that of no such history either, though each line may stand after those before it: a completion has data whose request ended as it was issued.
     Unlawful,
 
     /// It is that of no history that is lawful by early effects.

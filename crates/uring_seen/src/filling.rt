@@ -52,9 +52,9 @@ struct Seen<'a> {
 /// Looks for a history that shows what was seen of new rings of this set-up. `input` has it: a recorded trace, as `uring_check::check` reads one apart from what operations give, but without the steps that can't be seen from outside, which are issues, finishes and flushes. The first line may say the set-up. It looks at so many histories at most.
 ///
 /// - `Found`: the text is the line of the set-up, and each step of the history with its answer. The history is lawful apart from what operations give, each of these gives what it may give (`uring_results::may_end`), each request has ended, and each completion has been reaped.
-/// - `Nothing`: there is none. The text is a lawful history that comes far, and behind it a remark with the first line that it doesn't show.
+/// - `Nothing`: there is none. The text is a lawful history that comes far, and after it a remark with the first line that it doesn't show.
 /// - `GaveUp`: some were left. The text is as of `Nothing`.
-/// - `Bad`: a line is no step with ` = ` and a text behind it, or a step that can't be seen, or the first line misses its set-up. The text names it by its number, from 1 on, and says what is wrong with it.
+/// - `Bad`: a line is no step with ` = ` and a text after it, or a step that can't be seen, or the first line misses its set-up. The text names it by its number, from 1 on, and says what is wrong with it.
 ///
 /// `AllocError`: memory was refused.
 pub fn fill_text(alloc: Global, setup: &Setup, input: &[u8], most: u64) -> Result<Told, AllocError>
@@ -286,7 +286,7 @@ fn told_reach(
     })
 }
 
-/// What is said of the line that no history shows, behind `# `.
+/// What is said of the line that no history shows, after `# `.
 fn remark_of(verdict: Verdict) -> &'static str {
     match verdict {
         Verdict::GaveUp => "gave up before: ",
@@ -294,7 +294,7 @@ fn remark_of(verdict: Verdict) -> &'static str {
     }
 }
 
-/// The text of a history, with a remark on a line behind it.
+/// The text of a history, with a remark on a line after it.
 fn far_text(
     alloc: Global,
     setup: &Setup,

@@ -44,9 +44,9 @@ pub(crate) fn completion_of(text: &[u8]) -> Option<Cqe>
     ensures { MatchOption result (IsNoCompletion text.now) (IsCompletion text.now) }
 {
     let middle = framed(text)?;
-    let (before, behind) = parted(middle)?;
+    let (before, after) = parted(middle)?;
     let user_data = spelled_long(before)?;
-    let res = spelled_signed(behind)?;
+    let res = spelled_signed(after)?;
     Some(Cqe::new(user_data, res, [0; 64]))
 }
 
@@ -58,7 +58,7 @@ fn framed(text: &[u8]) -> Option<&[u8]>
     Some(rest.strip_suffix(b" -")?)
 }
 
-/// What stands before and behind the first blank.
+/// What stands before and after the first blank.
 fn parted(text: &[u8]) -> Option<(&[u8], &[u8])>
     ensures { MatchOption result (IsUnparted text.now)
         (λ parts. IsParted text.now parts.0.now parts.1.now) }

@@ -42,7 +42,7 @@ fn is_dash(token: &[u8]) -> bool
     token == b"-".as_slice()
 }
 
-/// So many bytes that a token spells, and zeros behind them.
+/// So many bytes that a token spells, and zeros after them.
 fn decoded(token: &[u8], count: usize) -> Option<[u8; 64]>
     requires { count ≤ 64 }
     ensures { MatchOption result (hex_of count token.now ≡ None)

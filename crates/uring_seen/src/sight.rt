@@ -57,7 +57,7 @@ pub(crate) fn see(alloc: Global, core: &mut Core, line: &[u8]) -> Result<Sight, 
     }
 }
 
-/// What stands before and behind the ` = ` of a line of at most 300 bytes.
+/// What stands before and after the ` = ` of a line of at most 300 bytes.
 pub(crate) fn split_short(line: &[u8]) -> Option<(&[u8], &[u8])>
     ensures { MatchOption result (IsNoRecord line.now)
         (λ parts. IsSplit line.now parts.0.now parts.1.now × (length line.now ≤ 300)) }

@@ -32,12 +32,12 @@ left_size (Some rest) = length rest.now + 1
 abbrev pub words : List (Bor (List ℕ)) → List (List ℕ)
 words tokens = map (λ token. token.now) tokens
 
--- a token more, and what is left behind it
-pub cut_more : (all : List (List ℕ)) (before after : List (Bor (List ℕ))) (token rest : Bor (List ℕ)) (left behind : Option (Bor (List ℕ)))
+-- a token more, and what is left after it
+pub cut_more : (all : List (List ℕ)) (before after : List (Bor (List ℕ))) (token rest : Bor (List ℕ)) (left over : Option (Bor (List ℕ)))
     → left ≡ Some rest → after ≡ before ++ token ∷ []
-    → IfSome behind (λ b. tokens_of rest.now ≡ token.now ∷ tokens_of b.now)
-    → IfNone behind (tokens_of rest.now ≡ token.now ∷ [])
-    → words before ++ left_tokens left ≡ all → words after ++ left_tokens behind ≡ all
+    → IfSome over (λ b. tokens_of rest.now ≡ token.now ∷ tokens_of b.now)
+    → IfNone over (tokens_of rest.now ≡ token.now ∷ [])
+    → words before ++ left_tokens left ≡ all → words after ++ left_tokens over ≡ all
 cut_more all before after token rest left (Some b) is made some none told =
     ap (λ (t : List (Bor (List ℕ))). words t ++ tokens_of b.now) made
     ∙ ap (λ (t : List (List ℕ)). t ++ tokens_of b.now) (map-append (λ (t : Bor (List ℕ)). t.now) before (token ∷ []))
@@ -51,8 +51,8 @@ cut_more all before after token rest left None is made some none told =
     ∙ ap (λ (o : Option (Bor (List ℕ))). words before ++ left_tokens o) (sym is) ∙ told
 
 -- less is left
-pub cut_less : (rest : Bor (List ℕ)) (left behind : Option (Bor (List ℕ))) → left ≡ Some rest
-    → IfSome behind (λ b. length b.now < length rest.now) → left_size behind < left_size left
+pub cut_less : (rest : Bor (List ℕ)) (left over : Option (Bor (List ℕ))) → left ≡ Some rest
+    → IfSome over (λ b. length b.now < length rest.now) → left_size over < left_size left
 cut_less rest left (Some b) is shorter = rw is (omega (arith, shorter))
 cut_less rest left None is shorter = rw is (omega arith)
 

@@ -4,7 +4,7 @@ use Rattle.std.specs.Prelude.{slice_index, ◌/◌, ◌%◌}
 use Rattle.std.proofs.lemmas.List.{at_drop_more, at_drop_all}
 use Rattle.hex.specs.Hex.{encode_with, encode_lower, lower_digits}
 
--- a byte's two digits, and those of the bytes behind it
+-- a byte's two digits, and those of the bytes after it
 pub hex_more : (all mid new bytes : List ℕ) (i b : ℕ) → i < length bytes → b ≡ slice_index bytes i
     → new ≡ mid ++ slice_index lower_digits (b / 16) ∷ [] ++ slice_index lower_digits (b % 16) ∷ []
     → mid ++ encode_lower (drop i bytes) ≡ all → new ++ encode_lower (drop (i + 1) bytes) ≡ all

@@ -20,7 +20,7 @@ last_end (x ∷ a) (c ∷ b) r s hr hs e =
     let same = last_end a b r s hr hs (tail-eq_of_cons-eq e) in
     (ap (λ (y : ℕ). y ∷ a) (head-eq_of_cons-eq e) ∙ ap (λ (l : List ℕ). c ∷ l) same.0, same.1)
 
--- the newest line, between what stands before it and behind it
+-- the newest line, between what stands before it and after it
 newest : (line rest : List ℕ) (before : List (List ℕ))
     → joined (line ∷ before) ++ rest ≡ (joined before ++ line) ++ 10 ∷ rest
 newest line rest before = simp append_assoc refl

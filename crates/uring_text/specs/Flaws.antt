@@ -5,12 +5,12 @@ use Rattle.uring_text.specs.Places.{place_text}
 use Rattle.uring_text.specs.Visible.{visible}
 use Rattle.uring_text.specs.declared.reach.Reach.{Reach}
 
--- the column of the first byte behind so many blanks of a line, from 1 on
-abbrev pub column_behind : List ℕ → ℕ → ℕ
-column_behind [] blanks = 1
-column_behind (b ∷ line) blanks =
+-- the column of the first byte after so many blanks of a line, from 1 on
+abbrev pub column_after : List ℕ → ℕ → ℕ
+column_after [] blanks = 1
+column_after (b ∷ line) blanks =
     if blanks == 0 then 1 else
-    column_behind line (if b == 32 then blanks - 1 else blanks) + 1
+    column_after line (if b == 32 then blanks - 1 else blanks) + 1
 
 -- what stands where these tokens are left
 abbrev pub found_text : List (List ℕ) → List ℕ
@@ -25,5 +25,5 @@ stop_text column tokens = codes "column " ++ decimal column ++ codes ": " ++ fou
 -- where a line of these tokens stops fitting, what stands there and what may
 abbrev pub flaw_text : List ℕ → List (List ℕ) → Reach → List ℕ
 flaw_text line tokens reach =
-    stop_text (column_behind line reach.tokens) (drop reach.tokens tokens)
+    stop_text (column_after line reach.tokens) (drop reach.tokens tokens)
     ++ (codes ", wanted: " ++ place_text reach.wanted)

@@ -1,4 +1,4 @@
--- The forms in which entries are written: a name, and behind it tokens of given kinds, each of which says a part. The language is our own rule.
+-- The forms in which entries are written: a name, and after it tokens of given kinds, each of which says a part. The language is our own rule.
 use Rattle.std.specs.Prelude.{◌≡◌, ℕ, ℤ, pos, ◌^◌, ◌*◌, ◌==◌, List, [], ◌∷◌, ◌++◌, length, codes, decimal, Option, Some, None, if◌then◌else◌}
 use Rattle.std.specs.Fmt.{signed_decimal}
 use Rattle.std.specs.Option.{option_map_or}
@@ -147,7 +147,7 @@ SayParts (kind ∷ kinds) (token ∷ tokens) q =
     (p : Parts) × SayParts kinds tokens p × SaysPart kind token p q
 SayParts _ _ q = ⊥
 
--- A form: a name, and what the tokens behind it say.
+-- A form: a name, and what the tokens after it say.
 pub record Form : Type 0 where
   pub name : Name
   pub parts : Parts

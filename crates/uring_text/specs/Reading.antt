@@ -104,7 +104,7 @@ Fits name.Write p = length p.bytes ≤ 64
 Fits name.Raw p = length p.bytes ≡ 128
 Fits other p = Unit {0}
 
--- the form of this name, by the tokens behind it
+-- the form of this name, by the tokens after it
 abbrev pub form_named : Name → List (List ℕ) → Option Form
 form_named name tokens =
     option_map (λ parts. record { name = name; parts = parts }) (parts_of (kinds_of name) tokens)

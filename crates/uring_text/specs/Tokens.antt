@@ -16,7 +16,7 @@ flag_value letter =
     if letter == 65 then 16 else
     if letter == 83 then 64 else 0
 
--- no byte of a token comes again behind it
+-- no byte of a token comes again after it
 abbrev pub NoneAgain : List ℕ → Type 0
 NoneAgain [] = Unit {0}
 NoneAgain (b ∷ bs) = AllByRecursion (λ c. c ≢ b) bs × NoneAgain bs

@@ -8,7 +8,7 @@ use crate::forms::Name;
 use crate::parts::Parts;
 use uring_entry::Sqe;
 
-/// The entry that these tokens spell, if they spell one: a name, as `nop` or `write`, and what follows it in a line behind `fill SLOT`.
+/// The entry that these tokens spell, if they spell one: a name, as `nop` or `write`, and what follows it in a line after `fill SLOT`.
 pub fn spelled_entry(tokens: &[&[u8]]) -> Option<Sqe>
     ensures spells { MatchOption result (IsNoEntry (map (λ token. token.now) tokens.now))
         (λ entry. SpellsEntry (map (λ token. token.now) tokens.now) entry) }

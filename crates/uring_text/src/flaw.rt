@@ -1,7 +1,7 @@
 //! The words for the first place at which a line isn't one of the language.
 
 ghost use Rattle.std.specs.Prelude.{◌≡◌, ◌≤◌, ◌++◌, ℕ, OnOk, IsOk, length, map, string_bytes, codes};
-ghost use Rattle.uring_text.specs.Flaws.{column_behind, found_text, stop_text, flaw_text};
+ghost use Rattle.uring_text.specs.Flaws.{column_after, found_text, stop_text, flaw_text};
 ghost use Rattle.uring_text.specs.Places.{place_text};
 
 use crate::growth::{TextMemory, push_number, push_text};
@@ -40,7 +40,7 @@ pub fn push_flaw_in<M: TextMemory>(
         ≡ string_bytes text.old ++ flaw_text line.now (map (λ token. token.now) tokens.now) reach) }
     ensures granted { ((n : ℕ) → M.grants memory.now n) → IsOk result }
 {
-    let column = column_behind(line, reach.tokens);
+    let column = column_after(line, reach.tokens);
     let (_, rest) = tokens.split_at(reach.tokens);
     push_stop(memory, text, column, rest)?;
     push_wanted(memory, text, reach.wanted)
@@ -97,9 +97,9 @@ fn push_found<M: TextMemory>(
     push_text(memory, text, "`")
 }
 
-/// The column of the first byte behind so many blanks of a line, from 1 on.
-fn column_behind(line: &[u8], blanks: usize) -> usize
-    ensures { result ≡ column_behind line.now blanks }
+/// The column of the first byte after so many blanks of a line, from 1 on.
+fn column_after(line: &[u8], blanks: usize) -> usize
+    ensures { result ≡ column_after line.now blanks }
 {
     let mut left = blanks;
     for (i, byte) in line.iter().enumerate() {

@@ -110,7 +110,7 @@ impl Name {
         }
     }
 
-    /// What the tokens behind it say, one each.
+    /// What the tokens after it say, one each.
     pub(crate) fn kinds(self) -> &'static [Kind]
         ensures { result.now ≡ spec.kinds_of self }
     {

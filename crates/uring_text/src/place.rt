@@ -60,13 +60,13 @@ pub enum Place {
     /// The name of an entry's form.
     Form,
 
-    /// What is to be shown, behind `show`.
+    /// What is to be shown, after `show`.
     Shown,
 
     /// A token of this kind.
     Token(Kind),
 
-    /// ` = ` and an answer, behind a step.
+    /// ` = ` and an answer, after a step.
     Answer,
 
     /// The end of the line.

@@ -7,13 +7,13 @@ use crate::forms::Name;
 use crate::place::{Kind, Place, is_of_kind};
 use crate::tokens::is_name;
 
-/// How many tokens of a line fit, from the first on, and what may stand behind them.
+/// How many tokens of a line fit, from the first on, and what may stand after them.
 #[derive(Clone, Copy, Debug, PartialEq, Eq)]
 pub struct Reach {
     /// How many tokens fit.
     pub tokens: usize,
 
-    /// What may stand behind them.
+    /// What may stand after them.
     pub wanted: Place,
 }
 
@@ -37,7 +37,7 @@ impl Reach {
     }
 }
 
-/// How far tokens fit these kinds, one each, with nothing behind them.
+/// How far tokens fit these kinds, one each, with nothing after them.
 pub fn kinds_reach(kinds: &[Kind], tokens: &[&[u8]]) -> Reach
     ensures reach { result ≡ kinds_reach kinds.now (map (λ token. token.now) tokens.now) }
     ensures few { result.tokens ≤ length tokens.now }

@@ -27,19 +27,19 @@ pub fn split_tokens_in<'a, M: Memory>(
     let mut tokens = Vec::new(alloc);
     let mut left = Some(line);
     while let Some(rest) = left {
-        let (token, behind) = first_token(rest);
+        let (token, after) = first_token(rest);
         memory.reserve(&mut tokens, 1)?;
         tokens.push_reserved(token);
-        left = behind;
+        left = after;
     }
     Ok(tokens)
 }
 
-/// The first token of a line, and what stands behind the blank that ends it, if one does.
+/// The first token of a line, and what stands after the blank that ends it, if one does.
 fn first_token(line: &[u8]) -> (&[u8], Option<&[u8]>)
     ensures some { IfSome result.1
-        (λ behind. tokens_of line.now ≡ result.0.now ∷ tokens_of behind.now) }
-    ensures shorter { IfSome result.1 (λ behind. length behind.now < length line.now) }
+        (λ after. tokens_of line.now ≡ result.0.now ∷ tokens_of after.now) }
+    ensures shorter { IfSome result.1 (λ after. length after.now < length line.now) }
     ensures none { IfNone result.1 (tokens_of line.now ≡ result.0.now ∷ []) }
 {
     for (i, byte) in line.iter().enumerate() {

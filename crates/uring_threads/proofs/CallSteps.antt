@@ -8,12 +8,12 @@ use Rattle.uring_core.specs.World.{World, happens, beginning}
 use Rattle.uring_core.specs.StepAnswers.{CalledForApart, is_spent, place_answer}
 use Rattle.uring_entry.specs.Setup.{Setup}
 use Rattle.uring_entry.specs.Submission.{Submission, Place, taken}
-use Rattle.uring_laws.specs.Standing.{Stands, in_call, after_call, ends_behind}
+use Rattle.uring_laws.specs.Standing.{Stands, in_call, after_call, ends_after}
 use Rattle.uring_laws.proofs.Standing.{call_opens, call_closes, position_taken}
 use Rattle.uring_core.specs.declared.step.Step.TheVariants as step
 use Rattle.uring_core.specs.declared.answer.Answer.{Answer}
 use Rattle.uring_core.specs.declared.answer.Answer.TheVariants as answer
-use Rattle.uring_threads.specs.Calls.{calls_behind, calls_left, ends_of}
+use Rattle.uring_threads.specs.Calls.{calls_after, calls_left, ends_of}
 use Rattle.uring_threads.specs.Kept.{Kept, now, Grows}
 use Rattle.uring_threads.specs.Taking.{IsFirst}
 use Rattle.uring_threads.specs.Tallies.{Appends, none_counted, calls_counted}
@@ -59,13 +59,13 @@ pub between_stands : (v w : World) (count done : ℕ) → v ≡ in_call w count 
 between_stands v w count done at s =
     subst (λ (u : World). Stands (between_calls u).submission [] count) (sym at) (record { fresh = s.fresh; call = refl; head = s.head; waiting = s.waiting })
 
--- A position that an open call took, of this set-up: what it was, and what is left behind it.
+-- A position that an open call took, of this set-up: what it was, and what is left after it.
 pub record TookNext (b : Kept) (g : Setup) (w : World) (count done : ℕ) (x : Answer) : Type 0 where
   pub place : Place
   pub answer : x ≡ place_answer (Some place)
   pub next : drop (taken w.submission + done) w.submission.published
       ≡ place ∷ drop (taken w.submission + (done + 1)) w.submission.published
-  pub world : now b ≡ in_call w (if ends_behind g (Some place) then done + 1 else count) (done + 1)
+  pub world : now b ≡ in_call w (if ends_after g (Some place) then done + 1 else count) (done + 1)
 
 took_next : (a b : Kept) (w : World) (count done : ℕ) (x : Answer) → a.setup.stops ≡ false
     → Stands (between_calls w).submission [] count → done < count → now a ≡ in_call w count done
@@ -81,7 +81,7 @@ took_next a b w count done x goes s low at g called =
       place = place;
       answer = one.0 ∙ ap place_answer is;
       next = drop_more l.published (taken l + done) (record { word = 0; entry = None }) within ∙ ap (λ n. place ∷ drop n l.published) (omega arith);
-      world = grown a b step.Take x g ∙ ap (λ v. happens a.setup v step.Take x) at ∙ one.1 ∙ ap (λ p. in_call w (if ends_behind a.setup p then done + 1 else count) (done + 1)) is;
+      world = grown a b step.Take x g ∙ ap (λ v. happens a.setup v step.Take x) at ∙ one.1 ∙ ap (λ p. in_call w (if ends_after a.setup p then done + 1 else count) (done + 1)) is;
     }
 
 -- it took it of the positions that waited as the call opened
@@ -93,49 +93,49 @@ took_of a k b w count done x goes same s opened low at g called =
     subst (λ (u : Setup). TookNext b u (now a) count done x) same
     (took_next k b (now a) count done x (ap (λ (u : Setup). u.stops) same ∙ goes) (between_stands (now a) w count 0 opened s) low at g called)
 
--- whether the call ends behind it, as the code tests it
+-- whether the call ends after it, as the code tests it
 pub ends_as : (b : Kept) (g s : Setup) (w : World) (count done : ℕ) (x : Answer) (ended is : Bool) → s ≡ g
-    → ((place : Place) → x ≡ place_answer (Some place) → ended ≡ ends_behind s (Some place))
-    → ended ≡ is → (t : TookNext b g w count done x) → ends_behind g (Some t.place) ≡ is
+    → ((place : Place) → x ≡ place_answer (Some place) → ended ≡ ends_after s (Some place))
+    → ended ≡ is → (t : TookNext b g w count done x) → ends_after g (Some t.place) ≡ is
 ends_as b g s w count done x ended is same tests e t =
-    ap (λ u. ends_behind u (Some t.place)) (sym same) ∙ sym (tests t.place t.answer) ∙ e
+    ap (λ u. ends_after u (Some t.place)) (sym same) ∙ sym (tests t.place t.answer) ∙ e
 
 -- what is left of a list of places, seen from one place of it
 ends_next : (g : Setup) (before after : List Place) (place : Place) (done : ℕ) (ends : Bool) (calls : List ℕ)
-    → before ≡ place ∷ after → ends_behind g (Some place) ≡ ends
-    → calls_behind (ends_of g before) done ≡ calls → calls_behind (ends ∷ ends_of g after) done ≡ calls
-ends_next g before after place done ends calls is e at = ap (λ b. calls_behind (b ∷ ends_of g after) done) (sym e) ∙ ap (λ xs. calls_behind (ends_of g xs) done) (sym is) ∙ at
+    → before ≡ place ∷ after → ends_after g (Some place) ≡ ends
+    → calls_after (ends_of g before) done ≡ calls → calls_after (ends ∷ ends_of g after) done ≡ calls
+ends_next g before after place done ends calls is e at = ap (λ b. calls_after (b ∷ ends_of g after) done) (sym e) ∙ ap (λ xs. calls_after (ends_of g xs) done) (sym is) ∙ at
 
--- the call ends behind it
+-- the call ends after it
 pub ended_there : (g : Setup) (before after : List Place) (place : Place) (done : ℕ) (calls : List ℕ)
-    → before ≡ place ∷ after → ends_behind g (Some place) ≡ true
-    → calls_behind (ends_of g before) done ≡ calls
-    → calls ≡ (done + 1) ∷ calls_behind (ends_of g after) 0
-unfolding calls_behind
+    → before ≡ place ∷ after → ends_after g (Some place) ≡ true
+    → calls_after (ends_of g before) done ≡ calls
+    → calls ≡ (done + 1) ∷ calls_after (ends_of g after) 0
+unfolding calls_after
 ended_there g before after place done calls is e at =
-    sym (ends_next g before after place done true calls is e at) ∙ ap (λ n. n ∷ calls_behind (ends_of g after) 0) (omega arith)
+    sym (ends_next g before after place done true calls is e at) ∙ ap (λ n. n ∷ calls_after (ends_of g after) 0) (omega arith)
 
 -- or goes on
 pub gone_on : (g : Setup) (before after : List Place) (place : Place) (done : ℕ) (calls : List ℕ)
-    → before ≡ place ∷ after → ends_behind g (Some place) ≡ false
-    → calls_behind (ends_of g before) done ≡ calls
-    → calls_behind (ends_of g after) (done + 1) ≡ calls
-unfolding calls_behind
+    → before ≡ place ∷ after → ends_after g (Some place) ≡ false
+    → calls_after (ends_of g before) done ≡ calls
+    → calls_after (ends_of g after) (done + 1) ≡ calls
+unfolding calls_after
 gone_on g before after place done calls is e at =
-    ap (calls_behind (ends_of g after)) (omega arith) ∙ ends_next g before after place done false calls is e at
+    ap (calls_after (ends_of g after)) (omega arith) ∙ ends_next g before after place done false calls is e at
 
 -- or took all
 pub all_taken : (g : Setup) (left : List Place) (count : ℕ) (calls : List ℕ) → 0 < count → left ≡ []
-    → calls_behind (ends_of g left) count ≡ calls → calls ≡ count ∷ calls_behind (ends_of g left) 0
-unfolding calls_behind
+    → calls_after (ends_of g left) count ≡ calls → calls ≡ count ∷ calls_after (ends_of g left) 0
+unfolding calls_after
 all_taken g left zero calls some none at = absurd (omega (arith, some))
 all_taken g left (suc count) calls some none at =
-    sym at ∙ ap (λ xs. calls_behind (ends_of g xs) (suc count)) none ∙ ap (λ xs. suc count ∷ calls_behind (ends_of g xs) 0) (sym none)
+    sym at ∙ ap (λ xs. calls_after (ends_of g xs) (suc count)) none ∙ ap (λ xs. suc count ∷ calls_after (ends_of g xs) 0) (sym none)
 
--- none is left behind as many as waited
-pub none_behind : (w : World) (count : ℕ) → Stands (between_calls w).submission [] count
+-- none is left after as many as waited
+pub none_after : (w : World) (count : ℕ) → Stands (between_calls w).submission [] count
     → drop (taken w.submission + count) w.submission.published ≡ []
-none_behind w count s = drop_of_length-le w.submission.published (let q = s.waiting in omega arith)
+none_after w count s = drop_of_length-le w.submission.published (let q = s.waiting in omega arith)
 
 -- it took so many positions and closed, and the head was loaded
 pub closed_now : (a t e b : Kept) (count n : ℕ) (y z : Answer) → Stands (now a).submission [] count
@@ -151,22 +151,22 @@ closed_now a t e b count n y z s few at end called load same =
 -- which was the first of the calls that were left
 pub first_made : (g : Setup) (w v : World) (count n : ℕ) → Stands w.submission [] count → 0 < n → n ≤ count
     → calls_left g w.submission
-    ≡ n ∷ calls_behind (ends_of g (drop (taken w.submission + n) w.submission.published)) 0
+    ≡ n ∷ calls_after (ends_of g (drop (taken w.submission + n) w.submission.published)) 0
     → v ≡ after_call g w n → IsFirst g w.submission v.submission count (made.Taken n)
 first_made g w v count n s some few first is =
     let l : Submission = w.submission in
     let more : taken (after_call g w n).submission ≡ taken l + n = sum_by_push (λ x. x) l.calls n in
     subst (λ (u : World). IsFirst g w.submission u.submission count (made.Taken n)) (sym is)
-    (some, few, first ∙ ap (λ k. n ∷ calls_behind (ends_of g (drop k l.published)) 0) (sym more), record { fresh = s.fresh; call = refl; head = refl; waiting = omega (arith, s.waiting, more) })
+    (some, few, first ∙ ap (λ k. n ∷ calls_after (ends_of g (drop k l.published)) 0) (sym more), record { fresh = s.fresh; call = refl; head = refl; waiting = omega (arith, s.waiting, more) })
 
 -- as it was said of the world in which it had opened
 pub opened_first : (g : Setup) (w o v : World) (count n : ℕ) → o ≡ in_call w count 0
     → Stands w.submission [] count → 0 < n → n ≤ count
     → calls_left g o.submission
-    ≡ n ∷ calls_behind (ends_of g (drop (taken o.submission + n) o.submission.published)) 0
+    ≡ n ∷ calls_after (ends_of g (drop (taken o.submission + n) o.submission.published)) 0
     → v ≡ after_call g w n → IsFirst g w.submission v.submission count (made.Taken n)
 opened_first g w o v count n at s some few first is =
-    first_made g w v count n s some few (subst (λ (u : World). calls_left g u.submission ≡ n ∷ calls_behind (ends_of g (drop (taken u.submission + n) u.submission.published)) 0) at first) is
+    first_made g w v count n s some few (subst (λ (u : World). calls_left g u.submission ≡ n ∷ calls_after (ends_of g (drop (taken u.submission + n) u.submission.published)) 0) at first) is
 
 -- what a call that opened appends
 pub call_counts : (a o t e b : Kept) (count : ℕ) (x y z : Answer) → Grows a o (step.Begin count, x)

@@ -10,12 +10,12 @@ use Rattle.uring_entry.specs.Layout.{Sqe}
 use Rattle.uring_entry.specs.Submission.{Submission, Published, with_entry, bad_word, place_of, taken, with_published}
 use Rattle.uring_core.specs.Stops.{stops_at_word}
 use Rattle.uring_core.specs.World.{World}
-use Rattle.uring_laws.specs.Standing.{Stands, after_call, ends_behind, with_item, with_items}
+use Rattle.uring_laws.specs.Standing.{Stands, after_call, ends_after, with_item, with_items}
 use Rattle.uring_laws.proofs.Standing.{words_of, items_fresh, items_keep}
 use Rattle.uring_ports.specs.Items.{all_published_as}
 use Rattle.uring_ports.specs.declared.item.Item.{Item}
 use Rattle.uring_ports.specs.declared.item.Item.TheVariants as item
-use Rattle.uring_threads.specs.Calls.{calls_behind, calls_of, calls_left, ends_behind_item, ends_of, after_calls}
+use Rattle.uring_threads.specs.Calls.{calls_after, calls_of, calls_left, ends_after_item, ends_of, after_calls}
 use Rattle.uring_threads.specs.Kept.{Kept, now}
 use Rattle.uring_threads.specs.Taking.{HaveMade, IsFirst}
 use Rattle.uring_threads.specs.Tallies.{calls_counted, Appends}
@@ -25,23 +25,23 @@ use Rattle.uring_threads.proofs.TraceSteps.{appends_none, appends_then}
 -- Lengths of calls.
 
 -- they have all positions together
-sum_calls : (ends : List Bool) (before : ℕ) → sum (calls_behind ends before) ≡ before + length ends
-unfolding calls_behind
+sum_calls : (ends : List Bool) (before : ℕ) → sum (calls_after ends before) ≡ before + length ends
+unfolding calls_after
 sum_calls [] zero = refl
 sum_calls [] (suc before) = sum_by-cons (λ x. x) (suc before) [] ∙ omega arith
-sum_calls (true ∷ later) before = sum_by-cons (λ x. x) (suc before) (calls_behind later 0) ∙ omega (arith, sum_calls later 0)
+sum_calls (true ∷ later) before = sum_by-cons (λ x. x) (suc before) (calls_after later 0) ∙ omega (arith, sum_calls later 0)
 sum_calls (false ∷ later) before = sum_calls later (suc before) ∙ omega arith
 
 pub sum_left : (g : Setup) (l : Submission) (count : ℕ) → Stands l [] count
     → sum (calls_left g l) ≡ count
 sum_left g l count s =
     sum_calls (ends_of g (drop (taken l) l.published)) 0
-    ∙ omega (arith, s.waiting, length-map (drop (taken l) l.published) (λ place. ends_behind g (Some place)), length-drop (taken l) l.published)
+    ∙ omega (arith, s.waiting, length-map (drop (taken l) l.published) (λ place. ends_after g (Some place)), length-drop (taken l) l.published)
 
 -- none is left where no position waits
 pub none_left : (g : Setup) (l : Submission) → Stands l [] 0 → calls_left g l ≡ []
-unfolding calls_behind
-none_left g l s = ap (λ places. calls_behind (ends_of g places) 0) (drop_of_length-le l.published (let q = s.waiting in omega arith))
+unfolding calls_after
+none_left g l s = ap (λ places. calls_after (ends_of g places) 0) (drop_of_length-le l.published (let q = s.waiting in omega arith))
 
 -- a word that names no slot
 word_ends : (size word : ℕ) (linux : Bool) (entry : Sqe)
@@ -54,10 +54,10 @@ word_ends size word linux entry =
           ap (λ b. not (is_some (if b then Some entry else None)) && linux) high ∙ ap (λ b. b && linux) (sym (le-leb size word (ltb-false word size high)))
     ]
 
--- a call ends behind the positions of its items as it does behind these
+-- a call ends after the positions of its items as it does after these
 ends_published : (g : Setup) (content : ℕ → Sqe) (slot : ℕ) (items : List Item) → slot + length items ≤ g.sq
     → ends_of g (map (place_of g.sq content) (words_of slot (all_published_as items)))
-    ≡ map (ends_behind_item g) items
+    ≡ map (ends_after_item g) items
 ends_published g content slot [] few = refl
 ends_published g content slot (item.Entry entry ∷ later) few =
     ap₂ (λ b bs. b ∷ bs) (ap (λ b. not (is_some (if b then Some (content slot) else None)) && stops_at_word g) (lt-ltb slot g.sq (omega arith))) (ends_published g content (slot + 1) later (omega arith))
@@ -81,8 +81,8 @@ published_left g l items fresh s few =
     let words = items_fresh l 0 (all_published_as items) ∙ ap (λ ws. ws ++ words_of 0 (all_published_as items)) fresh in
     let whole : (with_published g.sq l').published ≡ l.published ++ map (place_of g.sq l'.content) (words_of 0 (all_published_as items)) = ap₂ (λ ps ws. ps ++ map (place_of g.sq l'.content) ws) (items_keep l 0 (all_published_as items)) words in
     let from : taken l' ≡ length l.published = ap sum (items_keep_calls l 0 (all_published_as items)) ∙ omega (arith, s.waiting) in
-    let behind : drop (taken l') (with_published g.sq l').published ≡ map (place_of g.sq l'.content) (words_of 0 (all_published_as items)) = ap₂ drop from whole ∙ drop-append_seam l.published (map (place_of g.sq l'.content) (words_of 0 (all_published_as items))) in
-    ap (λ places. calls_behind (ends_of g places) 0) behind ∙ ap (λ ends. calls_behind ends 0) (ends_published g l'.content 0 items (omega arith))
+    let after : drop (taken l') (with_published g.sq l').published ≡ map (place_of g.sq l'.content) (words_of 0 (all_published_as items)) = ap₂ drop from whole ∙ drop-append_seam l.published (map (place_of g.sq l'.content) (words_of 0 (all_published_as items))) in
+    ap (λ places. calls_after (ends_of g places) 0) after ∙ ap (λ ends. calls_after ends 0) (ends_published g l'.content 0 items (omega arith))
 
 -- The world after calls.
 
@@ -92,11 +92,11 @@ unfolding after_calls
 after_snoc g w [] n = refl
 after_snoc g w (first ∷ later) n = after_snoc g (after_call g w first) later n
 
-pub calls_after : (g : Setup) (w : World) (done : List ℕ)
+pub calls_add_up : (g : Setup) (w : World) (done : List ℕ)
     → (after_calls g w done).submission.calls ≡ w.submission.calls ++ done
 unfolding after_calls
-calls_after g w [] = sym (append-nil w.submission.calls)
-calls_after g w (first ∷ later) = calls_after g (after_call g w first) later ∙ append_assoc w.submission.calls (first ∷ []) later
+calls_add_up g w [] = sym (append-nil w.submission.calls)
+calls_add_up g w (first ∷ later) = calls_add_up g (after_call g w first) later ∙ append_assoc w.submission.calls (first ∷ []) later
 
 -- what no call changes stays
 pub kept_after : {A : Type 0} (g : Setup) (f : World → A)

@@ -9,7 +9,7 @@ use Rattle.uring_threads.specs.Delivered.{KeepsAllBut, on_completions, with_reap
 use Rattle.uring_threads.specs.Kept.{Kept, now, Grows, IsUnmoved}
 use Rattle.uring_threads.specs.Tallies.{Tally, Appends, none_counted, reaps_counted}
 use Rattle.uring_threads.specs.Turns.{IsDelivered}
-use Rattle.uring_threads.proofs.TraceSteps.{grown, unmoved_now, appends_one, appends_then, appends_behind}
+use Rattle.uring_threads.proofs.TraceSteps.{grown, unmoved_now, appends_one, appends_then, appends_after}
 
 reaps_are : (k n : ℕ) → k ≡ n
     → ◌≡◌ {A = Tally} (record { items = 0; issues = 0; finishes = 0; reaps = k; calls = 0; closes = 0 }) (reaps_counted n)
@@ -33,4 +33,4 @@ module _ (a room flushed loaded reaped b : Kept) (x y z : Answer) (all : List Cq
   row_counts n p =
       let last : Appends loaded b (reaps_counted n) = appends_then loaded reaped b (reaps_counted n) none_counted (reaps_counted n) p (appends_one reaped b (step.StoreCqHead, z) none_counted store refl refl) (reaps_are (n + 0) n (omega arith)) in
       let later : Appends flushed b (reaps_counted n) = appends_then flushed loaded b none_counted (reaps_counted n) (reaps_counted n) (appends_one flushed loaded (step.LoadCqTail, y) none_counted load refl refl) last (reaps_are (0 + n) n (omega arith)) in
-      appends_behind a room b (reaps_counted n) u (appends_then room flushed b none_counted (reaps_counted n) (reaps_counted n) (appends_one room flushed (step.Flush, x) none_counted flush refl refl) later (reaps_are (0 + n) n (omega arith)))
+      appends_after a room b (reaps_counted n) u (appends_then room flushed b none_counted (reaps_counted n) (reaps_counted n) (appends_one room flushed (step.Flush, x) none_counted flush refl refl) later (reaps_are (0 + n) n (omega arith)))

@@ -117,5 +117,5 @@ pub few_between : (workers : ℕ) (a b c d : Kept) (t u : Tally) → Appends a b
 few_between workers a b c d t u p none few q no_more = λ k.
     let before = none_taken_in a b t p none workers k in
     let some = few k in
-    let behind = none_taken_in c d u q no_more workers k in
-    omega (arith, before, some, behind)
+    let after = none_taken_in c d u q no_more workers k in
+    omega (arith, before, some, after)

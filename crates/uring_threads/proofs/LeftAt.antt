@@ -1,4 +1,4 @@
--- What is left at a place: of the jobs sent to it, those behind the operations that were carried out are of the requests that run.
+-- What is left at a place: of the jobs sent to it, those after the operations that were carried out are of the requests that run.
 -- By counting how often a number stands among what was sent, carried out and started.
 use Rattle.std.proofs.Common.{◌≡◌, ◌≢◌, ℕ, ◌+◌, ◌≤◌, ◌==◌, List, [], ◌∷◌, ◌++◌, map, Bool, true, false, not, ◌&&◌, cond, refl, sym, ◌∙◌, ap, arith, inl, inr, append-nil}
 use Rattle.std.specs.Prelude.{slice_index_or}

@@ -131,7 +131,7 @@ pub pulled_as : (from : ℕ) (g : Setup) (before after : Put) (what : Pulled) (i
 pulled_as from g before after what items taken steps sizes same p t =
     (what, items, subst (λ n. Pulls n before what items after) sizes p, subst (λ xs. IsTaken g what xs steps) same t)
 
--- what waited, and what was pulled behind it
+-- what waited, and what was pulled after it
 pub intake_recorded : (a b c : Kept) (i : Intake) (before after : Put) (xs ys : List Step)
     → IsAgain a.setup (now a).submission i xs → IsPulled a.setup before after ys → Records a b xs
     → Records b c ys
@@ -139,7 +139,7 @@ pub intake_recorded : (a b c : Kept) (i : Intake) (before after : Put) (xs ys : 
 intake_recorded a b c i before after xs ys again pulled p q =
     record { again = xs; pulled = ys; is_again = again; is_pulled = pulled; row = records_then a b c xs ys p q }
 
--- what waited, and nothing behind it
+-- what waited, and nothing after it
 pub again_recorded : (a b : Kept) (i : Intake) (put : Put)
     → (steps : List Step) × IsAgain a.setup (now a).submission i steps × Records a b steps
     → RecordsIntake a b i put put

@@ -92,7 +92,7 @@ module _ (g : Setup) (w : World) (put pulled : Put) (i : Intake) (r : Report) (s
   pub closes_all : ClosesOnlyAllTaken put r
   closes_all = λ closed.
       let pulled_closed : pulled.closed ≡ true = sym t.closed ∙ sym posts.is_closed ∙ closed in
-      let none : waiting_in i ≡ 0 = none_behind i (t.shut ∙ pulled_closed) in
+      let none : waiting_in i ≡ 0 = none_after i (t.shut ∙ pulled_closed) in
       let stands : Stands w.submission [] 0 = subst (Stands w.submission []) none t.stands in
       let last = leaves.closed pulled_closed in
       let calls : pulled.calls ≡ put.calls = sym (append-nil pulled.calls) ∙ ap (λ rest. pulled.calls ++ rest) (sym last.1) ∙ leaves.calls in
@@ -103,10 +103,10 @@ module _ (g : Setup) (w : World) (put pulled : Put) (i : Intake) (r : Report) (s
             ∙ ap (λ (s : Setup). flat_map (calls_of s) put.calls) (sym same);
         taken = ap taken posts.submission ∙ omega (arith, stands.waiting) ∙ ap (λ (l : Submission). length l.published) (sym posts.submission);
       } where
-        none_behind : (i : Intake) → is_shut i ≡ true → waiting_in i ≡ 0
-        none_behind (intake.Waiting count) shut = absurd (let f : false ≡ true = shut in cc)
-        none_behind (intake.Spent count) shut = absurd (let f : false ≡ true = shut in cc)
-        none_behind _ shut = refl
+        none_after : (i : Intake) → is_shut i ≡ true → waiting_in i ≡ 0
+        none_after (intake.Waiting count) shut = absurd (let f : false ≡ true = shut in cc)
+        none_after (intake.Spent count) shut = absurd (let f : false ≡ true = shut in cc)
+        none_after _ shut = refl
 
 -- The ring is closed once, if at all.
 
@@ -244,7 +244,7 @@ few_unreaped a b rs most all few =
     subst (λ es. length (unreaped (world b.setup (history_of es)).completions) ≤ length (unreaped (now a).completions) + most) (sym all.trace)
     (subst (λ g. length (unreaped (world g (history_of (a.trace ++ map finish_of rs))).completions) ≤ length (unreaped (now a).completions) + most) (sym all.setup) (omega (arith, posts, counted)))
 
--- a list behind which others stand is taken whole
+-- a list after which others stand is taken whole
 pub take_whole : {X : Type 0} (n : ℕ) (xs others : List X) → length xs ≡ n
     → take n (xs ++ others) ≡ xs
 take_whole n xs others same =

@@ -25,12 +25,12 @@ use Rattle.uring_threads.proofs.SameLanes.{set_cases}
 use Rattle.uring_threads.proofs.Settling.{none_waits, same_work}
 
 -- what wasn't received waits
-waits_behind : (before waiting all : List JobResult) → all ≡ before ++ waiting
+waits_after : (before waiting all : List JobResult) → all ≡ before ++ waiting
     → drop (length before) all ≡ waiting
-waits_behind before waiting all same = ap (drop (length before)) same ∙ behind before waiting where
-  behind : (xs ys : List JobResult) → drop (length xs) (xs ++ ys) ≡ ys
-  behind [] ys = refl
-  behind (x ∷ xs) ys = behind xs ys
+waits_after before waiting all same = ap (drop (length before)) same ∙ later before waiting where
+  later : (xs ys : List JobResult) → drop (length xs) (xs ++ ys) ≡ ys
+  later [] ys = refl
+  later (x ∷ xs) ys = later xs ys
 
 waiting_append : (ls ms : List WorkLanes) (ws vs : List Worker) → length ls ≡ length ws
     → all_waiting (ls ++ ms) (ws ++ vs) ≡ all_waiting ls ws ++ all_waiting ms vs
@@ -136,7 +136,7 @@ module _ (a b c : Kept) (ls ms : List WorkLanes) (ws vs : List Worker) (count fi
   took : TakesAll a c (all_waiting (take (count + 1) ls) (take (count + 1) ws))
   took =
       let waits : waiting_at (get_or ls count d) (get_or ws count e) ≡ one.trace.0 =
-      ap₂ waiting_at (sym (s.lanes_stay count d (omega arith))) (sym (s.workers_stay count e (omega arith))) ∙ waits_behind (results_received (get_or ms count d)) one.trace.0 (results_of (get_or vs count e).done) one.trace.1 in
+      ap₂ waiting_at (sym (s.lanes_stay count d (omega arith))) (sym (s.workers_stay count e (omega arith))) ∙ waits_after (results_received (get_or ms count d)) one.trace.0 (results_of (get_or vs count e).done) one.trace.1 in
       subst (TakesAll a c) (ap (λ rs. all_waiting (take count ls) (take count ws) ++ rs) (sym waits) ∙ sym (waiting_more ls ws d e count of.many lt))
       (takes_then a b c (all_waiting (take count ls) (take count ws)) one.trace.0 s.recorded one.trace.2)
 

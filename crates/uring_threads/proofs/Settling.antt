@@ -223,7 +223,7 @@ same_work g f workers h later k work sent taken is = record {
 record AreDrained (g : Setup) (workers : ℕ) (h : History) (works : ℕ → Work) (count : ℕ) : Type 0 where
   lawful : IsLawfulApart g h
   before : (k : ℕ) → k < count → IsWork g workers h k (drained (works k))
-  behind : (k : ℕ) → count ≤ k → k < workers → IsWork g workers h k (works k)
+  after : (k : ℕ) → count ≤ k → k < workers → IsWork g workers h k (works k)
 
 taken_in_append : (earlier later : List JobResult) (h : History)
     → with_taken_in (earlier ++ later) h ≡ with_taken_in later (with_taken_in earlier h)
@@ -237,13 +237,13 @@ unfolding drained
 drain_first g workers h works lawful are zero le = record {
   lawful = lawful;
   before = λ k lt. absurd (omega arith);
-  behind = λ k from lt. are k lt;
+  after = λ k from lt. are k lt;
 }
 drain_first g workers h works lawful are (suc count) le =
     let so_far = drain_first g workers h works lawful are count (omega arith) in
     let there : History = with_taken_in (waiting_of works count) h in
     let work : Work = works count in
-    let one = drain g workers there count work.done work.untaken work.waiting so_far.lawful (so_far.behind count (omega arith) (omega arith)) in
+    let one = drain g workers there count work.done work.untaken work.waiting so_far.lawful (so_far.after count (omega arith) (omega arith)) in
     subst (λ last. AreDrained g workers last works (suc count)) (sym (taken_in_append (waiting_of works count) work.waiting h))
     (record {
       lawful = one.lawful;
@@ -251,7 +251,7 @@ drain_first g workers h works lawful are (suc count) le =
         | inl same ↦ subst (λ j. IsWork g workers (with_taken_in work.waiting there) j (drained (works j))) (sym same) one.own
         | inr other ↦ same_work g g workers there (with_taken_in work.waiting there) k (drained (works k)) (one.sent k) (one.others k other) (so_far.before k (omega arith))
       ];
-      behind = λ k from lt. same_work g g workers there (with_taken_in work.waiting there) k (works k) (one.sent k) (one.others k (λ same. omega (arith, same))) (so_far.behind k (omega arith) lt);
+      after = λ k from lt. same_work g g workers there (with_taken_in work.waiting there) k (works k) (one.sent k) (one.others k (λ same. omega (arith, same))) (so_far.after k (omega arith) lt);
     })
 
 pub settles : (g : Setup) → Settles g

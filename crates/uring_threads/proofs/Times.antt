@@ -36,7 +36,7 @@ times_any p (x ∷ xs) some =
       | inr other ↦ let none = cond-false {A = ℕ} (p x) 1 0 other in or_right _ _ (times_any p xs (omega arith))
     ]
 
--- what is told comes behind what was told
+-- what is told comes after what was told
 pub times_told : {X : Type 0} (p : X → Bool) (xs : List X) (o : Option X)
     → times p xs ≤ times p (with_told xs o)
 times_told p xs None = omega arith

@@ -79,7 +79,7 @@ appends_then a b c t u v p q sums =
       setup = q.setup ∙ p.setup;
     }
 
--- behind where nothing happened
-pub appends_behind : (a b c : Kept) (t : Tally) → IsUnmoved a b → Appends b c t → Appends a c t
-appends_behind a b c t u q =
+-- after where nothing happened
+pub appends_after : (a b c : Kept) (t : Tally) → IsUnmoved a b → Appends b c t → Appends a c t
+appends_after a b c t u q =
     record { events = q.events; trace = q.trace ∙ ap (λ es. es ++ q.events) u.trace; tally = q.tally; served = q.served; room = omega (arith, u.room, q.room); setup = q.setup ∙ u.setup }

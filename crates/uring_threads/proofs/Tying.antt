@@ -13,7 +13,7 @@ use Rattle.uring_ports.specs.declared.item.Item.{Item}
 use Rattle.uring_threads.specs.Calls.{calls_of, calls_left}
 use Rattle.uring_threads.specs.Taking.{intake_after, HaveMade, HasBegun, TakesIn}
 use Rattle.uring_threads.specs.Turns.{Tied, IsGivenUpAsSpent, is_shut}
-use Rattle.uring_threads.proofs.CallsMade.{items_keep_calls, none_left, published_left, calls_after, kept_after}
+use Rattle.uring_threads.proofs.CallsMade.{items_keep_calls, none_left, published_left, calls_add_up, kept_after}
 use Rattle.uring_entry.specs.Setup.{Setup}
 use Rattle.uring_core.specs.declared.step.Step.TheVariants as step
 use Rattle.uring_core.specs.declared.answer.Answer.{Answer}
@@ -49,7 +49,7 @@ tied_begun a b put count x t h =
     let m : List ℕ = h.made in
     record {
       published = λ good. ap (λ ps. map (λ (p : Place). item_of p.word p.entry) ps) (ap (λ (v : World). v.submission.published) h.have.world ∙ kept_after a.setup (λ (v : World). v.submission.published) (λ v n. refl) w m) ∙ t.published good;
-      calls = ap (λ ns. ns ++ calls_left a.setup (now b).submission) (ap (λ (v : World). v.submission.calls) h.have.world ∙ calls_after a.setup w m)
+      calls = ap (λ ns. ns ++ calls_left a.setup (now b).submission) (ap (λ (v : World). v.submission.calls) h.have.world ∙ calls_add_up a.setup w m)
           ∙ append_assoc w.submission.calls m (calls_left a.setup (now b).submission)
           ∙ ap (λ ns. w.submission.calls ++ ns) h.have.calls
           ∙ t.calls;
@@ -148,12 +148,12 @@ pub tied_still : (a r : Kept) (put : Put) (i : Intake) → IsUnmoved a r
     → Tied a.setup (now a) put i → Tied a.setup (now r) put i
 tied_still a r put i u t = subst (λ w. Tied a.setup w put i) (sym (unmoved_now a r u)) t
 
-pub takes_behind : (a r b : Kept) (n : ℕ) → IsUnmoved a r → TakesIn r b n → TakesIn a b n
-takes_behind a r b n u p = takes_then a r b 0 n n (takes_nothing a r u) p (omega arith)
+pub takes_after : (a r b : Kept) (n : ℕ) → IsUnmoved a r → TakesIn r b n → TakesIn a b n
+takes_after a r b n u p = takes_then a r b 0 n n (takes_nothing a r u) p (omega arith)
 
-pub completions_behind : (a r b : Kept) → IsUnmoved a r → (now b).completions ≡ (now r).completions
+pub completions_after : (a r b : Kept) → IsUnmoved a r → (now b).completions ≡ (now r).completions
     → (now b).completions ≡ (now a).completions
-completions_behind a r b u same = same ∙ ap (λ (w : World). w.completions) (unmoved_now a r u)
+completions_after a r b u same = same ∙ ap (λ (w : World). w.completions) (unmoved_now a r u)
 
 -- what waits, as it stands then
 pub call_waits : (a r : Kept) (put : Put) (count : ℕ) (i : Intake) → IsUnmoved a r
@@ -217,7 +217,7 @@ tied_shut a b x before after i ready g called tied pulled =
 pub takes_shut : (a b : Kept) (x : Answer) → Grows a b (step.Close, x) → TakesIn a b 0
 takes_shut a b x g = takes_close a b (appends_one a b (step.Close, x) close_counted g refl refl)
 
--- what a pull took in behind a retry
+-- what a pull took in after a retry
 pub ok_then : {E : Type 0} (r : Result ℕ E) (a b c : Kept) → TakesIn a b 0
     → IfOk r (λ n. TakesIn b c n) → IfOk r (λ n. TakesIn a c n)
 ok_then (Ok n) a b c p q = takes_then a b c 0 n n p q (omega arith)

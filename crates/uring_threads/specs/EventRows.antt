@@ -28,7 +28,7 @@ step_of e = e.0
 abbrev pub steps_of : Kept → List Step
 steps_of k = map step_of k.trace
 
--- These steps were recorded, behind all others.
+-- These steps were recorded, after all others.
 abbrev pub Records : Kept → Kept → List Step → Type 0
 Records old new steps = steps_of new ≡ steps_of old ++ steps
 
@@ -37,7 +37,7 @@ abbrev pub item_row : ℕ → Item → List Step
 item_row slot (item.Entry entry) = step.Fill slot entry ∷ step.Index slot ∷ []
 item_row slot (item.Bad word) = step.Index word ∷ []
 
--- The items of a call are put, the first into this slot and each other into the one behind.
+-- The items of a call are put, the first into this slot and each other into the one after.
 abbrev pub items_row : ℕ → List Item → List Step
 items_row slot [] = []
 items_row slot (x ∷ more) = item_row slot x ++ items_row (slot + 1) more
@@ -78,7 +78,7 @@ IsPulled g before after steps =
     (what : Pulled) × (items : List Item) × Pulls g.sq before what items after
     × IsTaken g what items steps
 
--- The rows of a turn's first part: what waits, and what was pulled behind it.
+-- The rows of a turn's first part: what waits, and what was pulled after it.
 pub record RecordsIntake (old new : Kept) (i : Intake) (before after : Put) : Type 0 where
   pub again : List Step
   pub pulled : List Step

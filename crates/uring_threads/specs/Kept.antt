@@ -23,7 +23,7 @@ now k = world k.setup (history k)
 abbrev pub next_in : Kept → Option ℕ
 next_in k = next_of k.setup.linux (requests_of (now k))
 
--- The trace has this event more, behind all others.
+-- The trace has this event more, after all others.
 pub record Grows (old new : Kept) (event : Event) : Type 0 where
   pub trace : new.trace ≡ old.trace ++ event ∷ []
   pub room : old.room ≤ new.room

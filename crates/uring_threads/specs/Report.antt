@@ -78,7 +78,7 @@ abbrev pub PublishesItems : Put → Report → Type 0
 PublishesItems submitted r = published_items (left_by r).submission ++ all_published_as r.unsent
     ≡ all_published_as (items_of_calls submitted.calls)
 
--- The calls begin the calls that were submitted, each as long as it was submitted, by Linux's rules cut behind each word that names no slot.
+-- The calls begin the calls that were submitted, each as long as it was submitted, by Linux's rules cut after each word that names no slot.
 abbrev pub BeginsCalls : Put → Report → Type 0
 BeginsCalls submitted r =
     IsPrefix (left_by r).submission.calls (flat_map (calls_of r.setup) submitted.calls)

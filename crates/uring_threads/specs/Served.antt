@@ -14,7 +14,7 @@ use Rattle.uring_threads.specs.declared.intake.Intake.TheVariants as intake
 use Rattle.uring_threads.specs.declared.turns.Turn.{Turn}
 use Rattle.uring_workers.specs.WorkLanes.{AreSameLanes, SomeIsFull}
 
--- So many items were pulled, behind which the intake stands like this. If none was, and it is ready for the next call, the port has looked, and shows no whole call and no close mark.
+-- So many items were pulled, after which the intake stands like this. If none was, and it is ready for the next call, the port has looked, and shows no whole call and no close mark.
 abbrev pub PullsMost : Intake → ℕ → (before after : SeenCalls) → Type 0
 PullsMost i items before after = i ≡ intake.Ready → items ≡ 0 → FindsNoCall before after
 
@@ -52,7 +52,7 @@ pub record HasTurned {E : Type 0} (old new : Kernel) (answer : Result Turn E) : 
       (λ turn. count_by starts_request new.kept.trace < 64 → next_in new.kept ≡ None)
   -- if memory was refused too it appended events, and none of them is refused
   pub err : OnErr answer ((t : Tally) × Appends old.kept new.kept t)
-  -- its events are rows of steps, one behind the other, also if memory was refused
+  -- its events are rows of steps, one after the other, also if memory was refused
   pub rows : RecordsTurn old.kept new.kept old.intake old.pulled new.pulled answer
   -- of each worker at most 64 results are taken in, also if memory was refused
   pub few_results : TakesFewResults (length old.lanes) old.kept new.kept

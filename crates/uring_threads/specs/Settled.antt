@@ -48,7 +48,7 @@ abbrev pub IsUntaken : (ℕ → Work) → ℕ → ℕ → Type 0
 IsUntaken works workers n =
     (k : ℕ) × (k < workers) × (list_any (λ job. job.number == n) (works k).untaken ≡ true)
 
--- A result that waits at a worker can be taken in: its request runs, and is that worker's. Those behind it wait next; no job is sent by it, and of no other worker is anything taken in.
+-- A result that waits at a worker can be taken in: its request runs, and is that worker's. Those after it wait next; no job is sent by it, and of no other worker is anything taken in.
 pub record IsTakenIn (g : Setup) (workers : ℕ) (h : History) (k : ℕ) (work : Work) (r : JobResult) : Type 0 where
   pub runs : is_running (world g h).requests r.number ≡ true
   pub own : place_of workers g.files (operation_of (entry_of (world g h).requests r.number)) ≡ k

@@ -115,7 +115,7 @@ calls_counted n = record { items = 0; issues = 0; finishes = 0; reaps = 0; calls
 abbrev pub close_counted : Tally
 close_counted = record { items = 0; issues = 0; finishes = 0; reaps = 0; calls = 0; closes = 1 }
 
--- The trace goes on with events of this tally, behind all others. No result that it takes in, no issue and no reap of them was refused.
+-- The trace goes on with events of this tally, after all others. No result that it takes in, no issue and no reap of them was refused.
 pub record Appends (old new : Kept) (t : Tally) : Type 0 where
   pub events : List Event
   pub trace : new.trace ≡ old.trace ++ events

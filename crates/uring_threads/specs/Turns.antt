@@ -34,7 +34,7 @@ abbrev pub IsGivenUpAsSpent : World → Intake → Type 0
 IsGivenUpAsSpent w (intake.Spent count) = is_spent w count ≡ true
 IsGivenUpAsSpent w _ = Unit {0}
 
--- All that was pulled is in the submission ring: its items, in order, are published, if they are items of a ring of this size; its calls were begun, each as long as it was pulled, by Linux's rules cut behind each word that names no slot, but for those that wait or were given up; and the ring is closed once the close mark was pulled. Between calls the ring stands.
+-- All that was pulled is in the submission ring: its items, in order, are published, if they are items of a ring of this size; its calls were begun, each as long as it was pulled, by Linux's rules cut after each word that names no slot, but for those that wait or were given up; and the ring is closed once the close mark was pulled. Between calls the ring stands.
 pub record Tied (g : Setup) (w : World) (pulled : Put) (i : Intake) : Type 0 where
   pub published : AreItems g.sq (items_of_calls pulled.calls)
       → published_items w.submission ≡ all_published_as (items_of_calls pulled.calls)

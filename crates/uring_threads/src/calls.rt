@@ -1,12 +1,12 @@
 //! Submission calls: the items of one call published, and the calls that take them.
 ghost use Rattle.std.specs.Prelude.{◌≡◌, ℕ, ◌+◌, ◌*◌, ◌<◌, ◌≤◌, [], ◌∷◌, ◌++◌, length, drop, replicate, false, true, Some};
 ghost use Rattle.uring_entry.specs.Submission.{Place, taken};
-ghost use Rattle.uring_laws.specs.Standing.{Stands, in_call, ends_behind};
+ghost use Rattle.uring_laws.specs.Standing.{Stands, in_call, ends_after};
 ghost use Rattle.uring_core.specs.StepAnswers.{is_spent, place_answer};
 ghost use Rattle.uring_core.specs.World.{World};
 ghost use Rattle.uring_core.specs.declared.step.Step.TheVariants as step;
 ghost use Rattle.uring_ports.specs.Items.{all_published_as};
-ghost use Rattle.uring_threads.specs.Calls.{calls_behind, calls_left, ends_of};
+ghost use Rattle.uring_threads.specs.Calls.{calls_after, calls_left, ends_of};
 ghost use Rattle.uring_threads.specs.EventRows.{Records, items_row, call_row};
 ghost use Rattle.uring_threads.specs.Kept.{now};
 ghost use Rattle.uring_threads.specs.Rows.{with_items_published, with_call_made};
@@ -47,10 +47,10 @@ pub enum Begun {
     Spent(u32),
 }
 
-/// Whether a call of a ring that goes on ends behind a position that was answered so: by Linux's rules, behind a word that names no slot.
+/// Whether a call of a ring that goes on ends after a position that was answered so: by Linux's rules, after a word that names no slot.
 fn is_ended(setup: Setup, answer: &Answer) -> bool
     ensures { (place : Place) → answer.now ≡ place_answer (Some place)
-        → result ≡ ends_behind setup (Some place) }
+        → result ≡ ends_after setup (Some place) }
 {
     matches!(answer, Answer::Dropped) && setup.is_linux()
 }
@@ -66,7 +66,7 @@ fn take_positions(kept: &mut Kept, count: u32) -> u32
     ensures world { now kept.new ≡ in_call (now kept.old) result result }
     ensures call { calls_left kept.old.setup (now kept.old).submission
         ≡ result
-        ∷ calls_behind (ends_of kept.old.setup (drop (taken (now kept.old).submission + result) (now kept.old).submission.published)) 0 }
+        ∷ calls_after (ends_of kept.old.setup (drop (taken (now kept.old).submission + result) (now kept.old).submission.published)) 0 }
     ensures tally { Appends kept.old kept.new none_counted }
     ensures row { Records kept.old kept.new (replicate result step.Take) }
     ensures length { length kept.new.trace ≤ length kept.old.trace + result }

@@ -18,7 +18,7 @@ use uring_core::{Answer, Core, Counts, Cqe, Op, Outcome, Setup, Step};
 use uring_events::Events;
 use uring_memory::Memory;
 
-/// A core with the trace of all its steps and their answers, the oldest first. The core always fits this trace: no step is left out, and none made up. Its calls don't stop behind an entry with a fault.
+/// A core with the trace of all its steps and their answers, the oldest first. The core always fits this trace: no step is left out, and none made up. Its calls don't stop after an entry with a fault.
 #[derive(Drop)]
 pub struct Kept {
     core: Core,

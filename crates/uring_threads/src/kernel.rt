@@ -54,7 +54,7 @@ impl<P: KernelPort> Kernel<P> {
     ghost use Rattle.uring_threads.specs.Report.{IsSameKernel};
 
     /// The dispatcher's end over a fresh port and fresh lanes of 1 to 8 workers, worker 0's first, with an empty trace and room for the items of a whole ring.
-    #[tactic(auto, unfolding(crate::specs::Calls::calls_behind))]
+    #[tactic(auto, unfolding(crate::specs::Calls::calls_after))]
     pub(crate) fn new(kept: Kept, port: P, items: Vec<Item>, lanes: Vec<WorkLanes>) -> Kernel<P>
         requires trace { kept.trace ≡ [] }
         requires sizes { P.sizes port ≡ sizes_of kept.setup }

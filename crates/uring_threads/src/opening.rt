@@ -20,7 +20,7 @@ use uring_workers::{Gate, WorkLanes, Worker, open_all_in};
 /// Why there are no ends.
 #[derive(Clone, Copy, Debug, PartialEq, Eq)]
 pub enum LanesFault {
-    /// A call of the set-up stops behind an entry with a fault, so that it wouldn't take all that was submitted as one: our own rule.
+    /// A call of the set-up stops after an entry with a fault, so that it wouldn't take all that was submitted as one: our own rule.
     Stops,
 
     /// There aren't 1 to 8 gates, one for each worker: our own rule.
@@ -30,7 +30,7 @@ pub enum LanesFault {
     NoMemory,
 }
 
-/// The ends of this set-up over two fresh ports of one pair: the application's, the dispatcher's, and those of the workers, one behind each gate, in the gates' order. A worker is known by its place, from 0.
+/// The ends of this set-up over two fresh ports of one pair: the application's, the dispatcher's, and those of the workers, one after each gate, in the gates' order. A worker is known by its place, from 0.
 ///
 /// `Stops` comes exactly if calls of the set-up stop, and is tested first; else `BadWorkers` exactly if there aren't 1 to 8 gates; else `NoMemory` if memory was refused.
 pub fn ends<K: KernelPort, G: Gate>(
@@ -87,7 +87,7 @@ pub fn ends_in<M: LaneMemory, K: KernelPort, G: Gate>(
     }
 }
 
-/// The ends of this set-up over lanes: the application's, the dispatcher's, and those of the workers, one behind each gate, in the gates' order. A worker is known by its place, from 0.
+/// The ends of this set-up over lanes: the application's, the dispatcher's, and those of the workers, one after each gate, in the gates' order. A worker is known by its place, from 0.
 ///
 /// `Stops` comes exactly if calls of the set-up stop, and is tested first; else `BadWorkers` exactly if there aren't 1 to 8 gates; else `NoMemory` if memory was refused.
 pub fn lanes<G: Gate>(
@@ -131,7 +131,7 @@ pub fn lanes_in<M: LaneMemory, G: Gate>(
     ends_in(memory, alloc, setup, gates, app, kernel)
 }
 
-/// All the ends of this set-up over shared words: the application's, the dispatcher's, and those of the workers, one behind each gate, in the gates' order. A worker is known by its place, from 0.
+/// All the ends of this set-up over shared words: the application's, the dispatcher's, and those of the workers, one after each gate, in the gates' order. A worker is known by its place, from 0.
 ///
 /// `Stops` comes exactly if the set-up's calls stop, and is tested first; else `BadWorkers` exactly if there aren't 1 to 8 gates; else `NoMemory` if memory was refused.
 pub fn words<G: Gate>(
@@ -225,7 +225,7 @@ fn open_trace<M: Memory>(
     Ok((kept, items))
 }
 
-/// What this set-up has beside its ports, with a worker behind each gate. Conditions: its calls don't stop, and there are at most 8 gates.
+/// What this set-up has beside its ports, with a worker after each gate. Conditions: its calls don't stop, and there are at most 8 gates.
 fn open_inner<M: LaneMemory, G: Gate>(
     memory: &M,
     alloc: Global,

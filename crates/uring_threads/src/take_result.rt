@@ -10,7 +10,7 @@ use uring_core::{Answer, Core, Outcome, Step};
 use uring_events::Events;
 use uring_memory::Memory;
 
-/// Ends the request of this number with this outcome, and records that behind the trace: answers as `Core::finish`.
+/// Ends the request of this number with this outcome, and records that after the trace: answers as `Core::finish`.
 ///
 /// Any number and any outcome may come. A number that isn't running is answered `NotRunning`, which is recorded too, and nothing else changes. Room in the trace is asked for first: at `AllocError` nothing changes.
 pub fn take_result(

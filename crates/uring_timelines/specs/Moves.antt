@@ -50,14 +50,14 @@ pub record Standing : Type 0 where
 abbrev pub at_first : ℕ → Standing
 at_first count = record { files = empty_files count; running = [] }
 
--- behind a mark
+-- after a mark
 abbrev pub passed : Standing → Mark → Standing
 passed s (Starts n op) =
     record s { running = s.running ++ record { number = n; op = op; taken = None } ∷ [] }
 passed s (Ends n e) = record s { running = without s.running n }
 passed s Idle = s
 
--- behind an effect
+-- after an effect
 abbrev pub took : Standing → ℕ → Outcome → Standing
 took s n o =
     record {

@@ -31,12 +31,12 @@ left_at marks s = drop s.place marks
 abbrev pub GoesOn : List Mark → Seat → Type 0
 GoesOn marks s = Goes s.standing (left_at marks s)
 
--- behind the next mark
+-- after the next mark
 abbrev pub passed_at : List Mark → Seat → Seat
 passed_at marks s =
     record { standing = passed s.standing (slice_index_or marks s.place Idle); place = s.place + 1 }
 
--- behind this effect
+-- after this effect
 abbrev pub took_at : Seat → Taker → Seat
 took_at s x = record { standing = took s.standing x.number x.outcome; place = s.place }
 
@@ -54,7 +54,7 @@ pub record OneGoes (marks : List Mark) (todo : List Seat) : Type 0 where
   pub there : Contains todo seat
   pub goes : GoesOn marks seat
 
--- it has so many files, and stands before one of the marks or behind all
+-- it has so many files, and stands before one of the marks or after all
 pub record IsPlaced (count : ℕ) (marks : List Mark) (s : Seat) : Type 0 where
   pub count_is : length s.standing.files ≡ count
   pub within : s.place ≤ length marks

@@ -84,7 +84,7 @@ fn search_one(
     go_on(alloc, count, marks, state, todo)
 }
 
-/// Goes on from this state, unless it stands behind all marks.
+/// Goes on from this state, unless it stands after all marks.
 fn go_on(
     alloc: Global,
     count: u32,
@@ -163,7 +163,7 @@ fn branch(
     Ok(())
 }
 
-/// Puts this state behind each of these effects among those to be gone on from, the last in its own memory.
+/// Puts this state after each of these effects among those to be gone on from, the last in its own memory.
 fn push_all(
     alloc: Global,
     count: u32,
@@ -188,7 +188,7 @@ fn push_all(
     push_last(alloc, marks, state, &last, todo)
 }
 
-/// Puts this state behind this effect among those to be gone on from, in its own memory.
+/// Puts this state after this effect among those to be gone on from, in its own memory.
 fn push_last(
     alloc: Global,
     marks: &[Mark],
@@ -205,7 +205,7 @@ fn push_last(
     Ok(())
 }
 
-/// Puts this state behind each of these effects among those to be gone on from.
+/// Puts this state after each of these effects among those to be gone on from.
 fn push_others(
     alloc: Global,
     count: u32,
@@ -226,7 +226,7 @@ fn push_others(
     Ok(())
 }
 
-/// Puts this state behind this effect among those to be gone on from.
+/// Puts this state after this effect among those to be gone on from.
 fn push_other(
     alloc: Global,
     count: u32,

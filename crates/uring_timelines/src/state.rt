@@ -51,7 +51,7 @@ impl State {
         })
     }
 
-    /// Whether it stands behind the last mark.
+    /// Whether it stands after the last mark.
     pub(crate) fn is_over(&self, marks: &[Mark]) -> bool
         ensures { IsTrue result ↔ (self.now.place ≡ length marks.now) }
     {

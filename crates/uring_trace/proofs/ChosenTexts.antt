@@ -13,7 +13,7 @@ use Rattle.uring_entry.specs.declared.why.Why.TheVariants.{NeverAccepted, HasEnd
 use Rattle.uring_entry.specs.declared.why.Doom.{Doom}
 use Rattle.uring_trace.specs.Chosen.{chose_text, is_open, spaced}
 
--- ---- numbers behind spaces
+-- ---- numbers after spaces
 
 pub spaced_more : (xs ys : List ℕ) → spaced (xs ++ ys) ≡ spaced xs ++ spaced ys
 spaced_more [] ys = refl

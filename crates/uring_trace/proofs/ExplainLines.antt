@@ -13,7 +13,7 @@ use Rattle.uring_core.specs.declared.answer.Answer.{Answer}
 use Rattle.uring_core.specs.declared.step.Step.{Step}
 use Rattle.uring_entry.specs.declared.why.Why.{Why}
 use Rattle.uring_dispatch.specs.declared.answers.Found.{Found}
-use Rattle.uring_trace.specs.Chosen.{behind_text}
+use Rattle.uring_trace.specs.Chosen.{after_text}
 use Rattle.uring_trace.specs.Reasons.{kept_reason, reason_text}
 use Rattle.uring_trace.specs.Text.{text_of}
 use Rattle.uring_trace.specs.declared.reason_text.Reason.{Reason}
@@ -43,16 +43,16 @@ four_parts i a b c = simp append_assoc refl
 
 pub line_reasoned : (before one two three four : List ℕ) (answer : Answer) (why w : Option Why) (found f : Option Found) (kept : Option Reason) (chosen c : Option (List ℕ))
     → one ≡ before ++ text_of answer → two ≡ one ++ reason_text kept
-    → three ≡ two ++ behind_text chosen → four ≡ ended three
+    → three ≡ two ++ after_text chosen → four ≡ ended three
     → kept ≡ kept_reason answer why found → why ≡ w → found ≡ f → chosen ≡ c
-    → four ≡ before ++ ended (text_of answer ++ (reason_text (kept_reason answer w f) ++ behind_text c))
-line_reasoned before one two three four answer why w found f kept chosen c said told behind end is asked sought all =
+    → four ≡ before ++ ended (text_of answer ++ (reason_text (kept_reason answer w f) ++ after_text c))
+line_reasoned before one two three four answer why w found f kept chosen c said told last end is asked sought all =
     let reason : kept ≡ kept_reason answer w f = is ∙ ap (λ (x : Option Why). kept_reason answer x found) asked ∙ ap (λ (x : Option Found). kept_reason answer w x) sought in
-    let tail = reason_text kept ++ behind_text chosen in
-    let whole : three ≡ before ++ (text_of answer ++ tail) = behind ∙ ap (λ (l : List ℕ). l ++ behind_text chosen) (told ∙ ap (λ (l : List ℕ). l ++ reason_text kept) said) ∙ four_parts before (text_of answer) (reason_text kept) (behind_text chosen) in
+    let tail = reason_text kept ++ after_text chosen in
+    let whole : three ≡ before ++ (text_of answer ++ tail) = last ∙ ap (λ (l : List ℕ). l ++ after_text chosen) (told ∙ ap (λ (l : List ℕ). l ++ reason_text kept) said) ∙ four_parts before (text_of answer) (reason_text kept) (after_text chosen) in
     let so : four ≡ before ++ ended (text_of answer ++ tail) = end ∙ ap ended whole ∙ append_assoc before (text_of answer ++ tail) (10 ∷ []) in
-    subst (λ (x : Option (List ℕ)). four ≡ before ++ ended (text_of answer ++ (reason_text (kept_reason answer w f) ++ behind_text x))) all
-    (subst (λ (r : Option Reason). four ≡ before ++ ended (text_of answer ++ (reason_text r ++ behind_text chosen))) reason so)
+    subst (λ (x : Option (List ℕ)). four ≡ before ++ ended (text_of answer ++ (reason_text (kept_reason answer w f) ++ after_text x))) all
+    (subst (λ (r : Option Reason). four ≡ before ++ ended (text_of answer ++ (reason_text r ++ after_text chosen))) reason so)
 
 -- what becomes of a line: a step, a question, a remark, or a bad one
 

@@ -58,7 +58,7 @@ beginning telling s bytes told noted more h =
     (subst (λ (l : List ℕ). ExplainsBeginning telling (bytes ++ more) l noted) (sym (append-nil told))
     (explain_beginning telling s.machine s.line s.number s.has_bad bytes told noted more h))
 
--- the same bytes, with nothing behind them
+-- the same bytes, with nothing after them
 beginning_here : (telling : Telling) (s : Explainer) (bytes told noted : List ℕ)
     → HasToldBy telling s bytes told noted → ExplainsBeginning telling bytes told noted
 beginning_here telling s bytes told noted h =

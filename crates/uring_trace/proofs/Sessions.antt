@@ -36,7 +36,7 @@ took_byte manner m is_echo kept kept' before text b ne more h = record {
   fits = h.fits;
 }
 
--- a step was made, and its answer appended behind what stands before it
+-- a step was made, and its answer appended after what stands before it
 pub told_step : (granted : Type 0) (old new : Machine) (is_echo : Bool) (line before middle told after : List ℕ) (s : Step) (a : Answer)
     → IsStep line s → middle ≡ before ++ step_text is_echo line → told ≡ text_of a
     → after ≡ middle ++ told

@@ -16,7 +16,7 @@ is_open (Waits m since) = true
 is_open MayStart = true
 is_open _ = false
 
--- numbers, each behind a space
+-- numbers, each after a space
 abbrev pub spaced : List ℕ → List ℕ
 spaced [] = []
 spaced (m ∷ more) = codes " " ++ decimal m ++ spaced more
@@ -41,7 +41,7 @@ abbrev pub chosen_told : (is_linux : Bool) → LinuxRequests → Step → Option
 chosen_told is_linux l (step.Issue n) = chosen_for is_linux l.requests n (why_of is_linux l n)
 chosen_told is_linux l _ = None
 
--- the same behind an answer
-abbrev pub behind_text : Option (List ℕ) → List ℕ
-behind_text (Some told) = codes "  # " ++ told
-behind_text None = []
+-- the same after an answer
+abbrev pub after_text : Option (List ℕ) → List ℕ
+after_text (Some told) = codes "  # " ++ told
+after_text None = []

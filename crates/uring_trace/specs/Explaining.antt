@@ -110,7 +110,7 @@ abbrev pub TookBoth : Telling → Result (Unit {0}) TraceFault → Explainer →
 TookBoth telling (Ok done) s bytes text notes = HasToldBy telling s bytes text notes
 TookBoth telling (Err e) s bytes text notes = WritesBoth telling (Err e) bytes text notes
 
--- what was written to the two streams for the bytes that were given, behind what was told and noted before
+-- what was written to the two streams for the bytes that were given, after what was told and noted before
 abbrev pub WroteBoth : Option (List ℕ) → Option (List ℕ) → Option (List ℕ) → Option (List ℕ)
     → List ℕ → List ℕ → (List ℕ → List ℕ → Type 0) → Type 0
 WroteBoth w w' e e' told noted P = (written : List ℕ) × (more_notes : List ℕ) × Appends w w' written

@@ -77,7 +77,7 @@ noted_of number line (Asked question) = []
 noted_of number line Remark = []
 noted_of number line Bad = bad_note number line
 
--- the number of a line behind so many others, from 1 on; 2^64 - 1 is the number of every later one
+-- the number of a line after so many others, from 1 on; 2^64 - 1 is the number of every later one
 abbrev pub line_number : ℕ → ℕ
 line_number before = min (before + 1) (2 ^ 64 - 1)
 

@@ -21,7 +21,7 @@ is_alone name =
     || bytes_eq name (codes "reap") || bytes_eq name (codes "cqhead") || bytes_eq name (codes "close")
     || bytes_eq name (codes "next")
 
--- the kinds of the tokens behind the name of a step, other than `fill`
+-- the kinds of the tokens after the name of a step, other than `fill`
 abbrev pub step_kinds : List ℕ → Option (List Kind)
 step_kinds name =
     if bytes_eq name (codes "index") then Some (kind.Word ∷ []) else
@@ -29,7 +29,7 @@ step_kinds name =
     if bytes_eq name (codes "issue") || bytes_eq name (codes "finish") then Some (kind.Number ∷ []) else
     if is_alone name then Some [] else None
 
--- how far the tokens behind `fill` fit
+-- how far the tokens after `fill` fit
 abbrev pub fill_reach : List (List ℕ) → Reach
 fill_reach [] = reach_at (place.Token kind.Slot)
 fill_reach (slot ∷ tokens) =
@@ -42,14 +42,14 @@ step_reach (name ∷ tokens) =
     if bytes_eq name (codes "fill") then further (fill_reach tokens) else
     named_reach place.Step (step_kinds name) tokens
 
--- the kinds of the tokens behind the name of what is to be shown
+-- the kinds of the tokens after the name of what is to be shown
 abbrev pub shown_kinds : List ℕ → Option (List Kind)
 shown_kinds name =
     if bytes_eq name (codes "counts") || bytes_eq name (codes "sizes") || bytes_eq name (codes "overflow") || bytes_eq name (codes "requests") then Some [] else
     if bytes_eq name (codes "why") then Some (kind.Number ∷ []) else
     if bytes_eq name (codes "file") then Some (kind.File ∷ []) else None
 
--- how far the tokens behind `show` fit
+-- how far the tokens after `show` fit
 abbrev pub shown_reach : List (List ℕ) → Reach
 shown_reach [] = reach_at place.Shown
 shown_reach (name ∷ tokens) = named_reach place.Shown (shown_kinds name) tokens

@@ -19,7 +19,7 @@ use Rattle.uring_core.specs.declared.step.Step.{Step}
 use Rattle.uring_core.specs.declared.step.Step.TheVariants as step
 use Rattle.uring_core.specs.declared.answer.Answer.{Answer}
 use Rattle.uring_core.specs.declared.answer.Answer.TheVariants as answer
-use Rattle.uring_trace.specs.Chosen.{behind_text, chosen_told}
+use Rattle.uring_trace.specs.Chosen.{after_text, chosen_told}
 use Rattle.uring_trace.specs.declared.reason_text.Reason.{Reason}
 use Rattle.uring_trace.specs.declared.reason_text.Reason.TheVariants.{Stands, Finds}
 
@@ -47,7 +47,7 @@ abbrev pub end_reason : Option Why → Option Found → Option Reason
 end_reason (Some (IsDoomed doom)) found = Some (Stands (IsDoomed doom))
 end_reason _ found = finding found
 
--- what of these is told behind this answer: of one that runs already nothing
+-- what of these is told after this answer: of one that runs already nothing
 abbrev pub kept_reason : Answer → Option Why → Option Found → Option Reason
 kept_reason (answer.Ended res bytes) why found = end_reason why found
 kept_reason answer.Running why found = None
@@ -60,7 +60,7 @@ reason_of g w s a =
 
 -- The text of a reason.
 
--- a number, and words behind it
+-- a number, and words after it
 abbrev pub numbered : ℕ → List ℕ → List ℕ
 numbered n words = decimal n ++ words
 
@@ -90,13 +90,13 @@ found_text Nobody = codes "found none"
 found_text (Running m) = numbered m (codes " is running")
 found_text (Chosen m) = codes "chose " ++ decimal m
 
--- what stands behind an answer
+-- what stands after an answer
 abbrev pub reason_text : Option Reason → List ℕ
 reason_text None = []
 reason_text (Some (Stands why)) = codes "  # " ++ why_text why
 reason_text (Some (Finds found)) = codes "  # " ++ found_text found
 
--- all that stands behind an answer, by the world before the step: its reason, and whom a cancel of all chose
+-- all that stands after an answer, by the world before the step: its reason, and whom a cancel of all chose
 abbrev pub reasons_text : Setup → World → Step → Answer → List ℕ
 reasons_text g w s a =
-    reason_text (reason_of g w s a) ++ behind_text (chosen_told g.linux (requests_of w) s)
+    reason_text (reason_of g w s a) ++ after_text (chosen_told g.linux (requests_of w) s)

@@ -43,7 +43,7 @@ sizes_text g =
 abbrev pub overflow_of : Completions → List Cqe
 overflow_of l = drop l.put l.posted
 
--- a completion behind a comma and a space, if there is one
+-- a completion after a comma and a space, if there is one
 abbrev pub listed_text : Option Cqe → List ℕ
 listed_text None = []
 listed_text (Some c) = codes ", " ++ completion_text c
@@ -58,7 +58,7 @@ abbrev pub overflow_text : List Cqe → List ℕ
 overflow_text completions =
     codes "overflow " ++ decimal (length completions) ++ list_text completions
 
--- a request behind a comma and a space, if it is outstanding: its number, its user data, its operation, and how it stands
+-- a request after a comma and a space, if it is outstanding: its number, its user data, its operation, and how it stands
 abbrev pub row_text : ℕ → Option Sqe → Why → List ℕ
 row_text n None why = []
 row_text n (Some e) why =

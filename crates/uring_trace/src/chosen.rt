@@ -8,7 +8,7 @@ ghost use Rattle.uring_rules.specs.Rules.{why_of};
 ghost use Rattle.uring_core.specs.Core.{FitsApart};
 ghost use Rattle.uring_core.specs.Histories.{History, world};
 ghost use Rattle.uring_core.specs.World.{requests_of};
-ghost use Rattle.uring_trace.specs.Chosen.{behind_text, chose_text, chosen_for, chosen_of, chosen_told, is_open, spaced};
+ghost use Rattle.uring_trace.specs.Chosen.{after_text, chose_text, chosen_for, chosen_of, chosen_told, is_open, spaced};
 
 use std::alloc::{AllocError, Global};
 use uring_machine::{Core, Sqe, Step, Why};
@@ -115,7 +115,7 @@ fn chose<M: TextMemory>(
     told
 }
 
-/// Who was chosen, of numbers that each stand behind a space.
+/// Who was chosen, of numbers that each stand after a space.
 #[tactic(auto, using(crate::proofs::ChosenTexts::empty_chose, crate::proofs::ChosenTexts::some_chose))]
 fn told_by<M: TextMemory>(memory: &M, alloc: Global, targets: &str) -> Result<String, AllocError>
     ensures told { IfOk result
@@ -146,7 +146,7 @@ fn text_of<M: TextMemory>(
     Ok(text)
 }
 
-/// The targets of a cancel of all with this number and entry, each behind a space, by the manual pages' rules.
+/// The targets of a cancel of all with this number and entry, each after a space, by the manual pages' rules.
 fn targets<M: TextMemory>(
     memory: &M,
     alloc: Global,
@@ -174,7 +174,7 @@ fn targets<M: TextMemory>(
     Ok(text)
 }
 
-/// Appends a number behind a space, if it is a target's.
+/// Appends a number after a space, if it is a target's.
 fn push_target<M: TextMemory>(
     memory: &M,
     text: &mut String,
@@ -220,15 +220,15 @@ fn is_open(why: Why) -> bool
     matches!(why, Why::Waits { .. } | Why::MayStart)
 }
 
-/// Appends whom a cancel of all dooms behind an answer, if that is told.
-pub(crate) fn push_behind<M: TextMemory>(
+/// Appends whom a cancel of all dooms after an answer, if that is told.
+pub(crate) fn push_after<M: TextMemory>(
     memory: &M,
     text: &mut String,
     told: &Option<String>,
 ) -> Result<(), AllocError>
     ensures told { OnOk result
         (string_bytes text.new
-        ≡ string_bytes text.old ++ behind_text (option_map (λ t. string_bytes t) told.now)) }
+        ≡ string_bytes text.old ++ after_text (option_map (λ t. string_bytes t) told.now)) }
     ensures granted { ((n : ℕ) → M.grants memory.now n) → IsOk result }
 {
     match told {

@@ -9,7 +9,7 @@ ghost use Rattle.uring_trace.specs.Explaining.{TellsStep, TellsShown};
 ghost use Rattle.uring_trace.specs.Flaws.{line_flaw};
 
 use crate::answer_text::push_answer_in;
-use crate::chosen::{chosen_text, push_behind};
+use crate::chosen::{chosen_text, push_after};
 use crate::flaws::{Language, push_line_flaw_in};
 use crate::questions::{Question, read_question};
 use crate::reason_text::{ask, keep, push_reason, seek};
@@ -303,7 +303,7 @@ fn tell_step<M: TextMemory>(
     let answer = machine.step_in(memory, *step);
     push_answer_in(memory, text, &answer)?;
     push_reason(memory, text, keep(&answer, why, found))?;
-    push_behind(memory, text, &chosen)?;
+    push_after(memory, text, &chosen)?;
     push_text(memory, text, "\n")
 }
 

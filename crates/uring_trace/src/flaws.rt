@@ -121,7 +121,7 @@ fn step_reach(tokens: &[&[u8]]) -> Reach
     }
 }
 
-/// The kinds of the tokens behind the name of a step, other than `fill`.
+/// The kinds of the tokens after the name of a step, other than `fill`.
 fn step_kinds(name: &[u8]) -> Option<&'static [Kind]>
     ensures { option_map (λ kinds. kinds.now) result ≡ step_kinds name.now }
 {
@@ -150,7 +150,7 @@ fn is_alone(name: &[u8]) -> bool
         || is_name(name, "next")
 }
 
-/// How far the tokens behind `fill` fit.
+/// How far the tokens after `fill` fit.
 fn fill_reach(tokens: &[&[u8]]) -> Reach
     ensures reach { result ≡ fill_reach (map (λ token. token.now) tokens.now) }
     ensures few { result.tokens ≤ length tokens.now }
@@ -172,7 +172,7 @@ fn asked_reach(tokens: &[&[u8]]) -> Reach
     }
 }
 
-/// How far the tokens behind `show` fit.
+/// How far the tokens after `show` fit.
 fn shown_reach(tokens: &[&[u8]]) -> Reach
     ensures reach { result ≡ shown_reach (map (λ token. token.now) tokens.now) }
     ensures few { result.tokens ≤ length tokens.now }
@@ -186,7 +186,7 @@ fn shown_reach(tokens: &[&[u8]]) -> Reach
     }
 }
 
-/// The kinds of the tokens behind the name of what is to be shown.
+/// The kinds of the tokens after the name of what is to be shown.
 fn shown_kinds(name: &[u8]) -> Option<&'static [Kind]>
     ensures { option_map (λ kinds. kinds.now) result ≡ shown_kinds name.now }
 {

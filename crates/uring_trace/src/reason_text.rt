@@ -44,7 +44,7 @@ pub(crate) fn seek(machine: &Machine, step: &Step) -> Option<Found>
     }
 }
 
-/// What of these is told behind an answer.
+/// What of these is told after an answer.
 pub(crate) fn keep(answer: &Answer, why: Option<Why>, found: Option<Found>) -> Option<Reason>
     ensures { result ≡ kept_reason answer.now why found }
 {
@@ -85,7 +85,7 @@ fn stands(why: Option<Why>) -> Option<Reason>
     }
 }
 
-/// Appends what stands behind an answer, by this memory. If it grants whatever is asked for, there is no error.
+/// Appends what stands after an answer, by this memory. If it grants whatever is asked for, there is no error.
 pub(crate) fn push_reason<M: TextMemory>(
     memory: &M,
     text: &mut String,
@@ -104,7 +104,7 @@ pub(crate) fn push_reason<M: TextMemory>(
     }
 }
 
-/// Appends what a cancel of one request found, as behind an answer of `explain`.
+/// Appends what a cancel of one request found, as after an answer of `explain`.
 pub fn push_found(text: &mut String, found: Found) -> Result<(), AllocError>
     ensures { OnOk result (string_bytes text.new ≡ string_bytes text.old ++ found_text found) }
 {
@@ -143,7 +143,7 @@ fn push_numbered<M: TextMemory>(
     push_text(memory, text, said)
 }
 
-/// Appends why a request stands as it does, as behind an answer of `explain`.
+/// Appends why a request stands as it does, as after an answer of `explain`.
 pub fn push_why(text: &mut String, why: Why) -> Result<(), AllocError>
     ensures { OnOk result (string_bytes text.new ≡ string_bytes text.old ++ why_text why) }
 {

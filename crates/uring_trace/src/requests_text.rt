@@ -31,7 +31,7 @@ pub(crate) fn push_requests<M: TextMemory>(
     Ok(())
 }
 
-/// Appends a request with this entry behind a comma and a space, if it is outstanding.
+/// Appends a request with this entry after a comma and a space, if it is outstanding.
 fn push_row<M: TextMemory>(
     memory: &M,
     text: &mut String,

@@ -139,7 +139,7 @@ impl Session {
         push_bytes(memory, text, b"\n")
     }
 
-    /// Makes the step that the line is, and appends its answer without a line end, behind the line if steps are written too. A line that is no step is answered `bad line`.
+    /// Makes the step that the line is, and appends its answer without a line end, after the line if steps are written too. A line that is no step is answered `bad line`.
     fn answer_line<M: TextMemory>(
         &mut self,
         memory: &M,

@@ -103,7 +103,7 @@ fn push_overflow<M: TextMemory>(
     Ok(())
 }
 
-/// Appends a completion behind a comma and a space, if there is one.
+/// Appends a completion after a comma and a space, if there is one.
 fn push_listed<M: TextMemory>(
     memory: &M,
     text: &mut String,

@@ -3,10 +3,10 @@ use Rattle.std.proofs.Common.{◌≡◌, ◌≢◌, ℕ, ◌+◌, ◌<◌, ◌�
 use Rattle.std.proofs.lemmas.Bool.{and_parts, and_left, and_right, and_from, or_right, cases_eq, cases_Bool, not-true}
 use Rattle.uring_entry.specs.Setup.{Setup}
 use Rattle.uring_entry.specs.Preparation.{is_cancel}
-use Rattle.uring_entry.specs.Requests.{Requests, entry_of, has_ended, is_outstanding, is_running, is_last, is_joined, is_behind_failure, no_bytes, with_ended}
+use Rattle.uring_entry.specs.Requests.{Requests, entry_of, has_ended, is_outstanding, is_running, is_last, is_joined, is_after_failure, no_bytes, with_ended}
 use Rattle.uring_entry.proofs.BelowLemmas.{some_below_none}
-use Rattle.uring_entry.proofs.RequestLemmas.{is_joined_yes, is_joined_inside, is_doomed_behind, has_ended_same, has_ended_other, is_running_ended_other, has_failed_same, never_success}
-use Rattle.uring_entry.proofs.EventLemmas.{is_joined_ended, is_behind_failure_from}
+use Rattle.uring_entry.proofs.RequestLemmas.{is_joined_yes, is_joined_inside, is_doomed_after, has_ended_same, has_ended_other, is_running_ended_other, has_failed_same, never_success}
+use Rattle.uring_entry.proofs.EventLemmas.{is_joined_ended, is_after_failure_from}
 use Rattle.uring_linux.specs.LinuxRequests.{is_in_turn, keeps_back}
 use Rattle.uring_rules.specs.Rules.{ends_doomed, may_start, doomed_result, cancel_result}
 use Rattle.uring_core.specs.World.{World, requests_of}
@@ -21,12 +21,12 @@ use Rattle.uring_laws.proofs.LinuxSound.{IsFirst, linux_sound}
 use Rattle.uring_uses.specs.Simulations.{IsNextInChain}
 
 module _ (r : Requests) (n below : ℕ) (bytes : List ℕ) (next : IsNextInChain r n) where
-  -- who failed with a negative result has the next behind its failure, if a soft link joins them
-  next_behind : is_behind_failure (with_ended r n (negsuc below) bytes) (n + 1) ≡ true
-  next_behind =
+  -- who failed with a negative result has the next after its failure, if a soft link joins them
+  next_after : is_after_failure (with_ended r n (negsuc below) bytes) (n + 1) ≡ true
+  next_after =
       let unended : has_ended r n ≡ false = not-true _ (and_parts _ _ next.runs).1 in
       let last : (k : ℕ) → n ≤ k → k < n + 1 → is_last r k ≡ false = λ k from to. subst (λ j. is_last r j ≡ false) (let same : n ≡ k = omega (arith, from, to) in same) next.joined in
-      is_behind_failure_from (with_ended r n (negsuc below) bytes) (n + 1) n
+      is_after_failure_from (with_ended r n (negsuc below) bytes) (n + 1) n
       (record {
         before = omega arith;
         joined = is_joined_ended r n (negsuc below) bytes n (n + 1) ∙ is_joined_yes r n (n + 1) last;
@@ -54,8 +54,8 @@ module _ (r : Requests) (n below : ℕ) (bytes : List ℕ) (next : IsNextInChain
   -- so it ends as doomed
   pub next_ends : (linux : Bool) → (linux ≡ true → IsFirst r n)
       → ends_doomed linux (with_ended r n (negsuc below) bytes) (n + 1) ≡ true
-  next_ends true first = and_from _ _ (next_turn (first refl)) (or_right _ _ next_behind)
-  next_ends false first = is_doomed_behind (with_ended r n (negsuc below) bytes) (n + 1) next_behind
+  next_ends true first = and_from _ _ (next_turn (first refl)) (or_right _ _ next_after)
+  next_ends false first = is_doomed_after (with_ended r n (negsuc below) bytes) (n + 1) next_after
 
 -- whose failure it is makes no difference to the result
 same_result : (linux : Bool) (r : Requests) (n k : ℕ) (res : ℤ) (bytes : List ℕ)

@@ -55,7 +55,7 @@ under_parts w k under =
 
 pub record_is_kept : (h : History) (w : Write) (s : ℕ) → has_ended h w.number ≡ false
     → EndsBy w.off h → IsKept (with_record h w s) w
-record_is_kept h w s none behind = record {
+record_is_kept h w s none after = record {
   issued = inl refl;
   safe = record_is_safe h w s none;
   last = λ m k among differs under over. elim among [
@@ -63,21 +63,21 @@ record_is_kept h w s none behind = record {
     | inr old ↦
         let own = under_parts w k under in
         let its = under_parts m k over in
-        let before : m.off + length m.bytes ≤ w.off = behind m old in
+        let before : m.off + length m.bytes ≤ w.off = after m old in
         absurd (omega (arith, own.0, its.1, before))
   ];
 }
 
 pub kept_stays : (h : History) (w : Write) (s : ℕ) (v : Write) → EndsBy w.off h → IsKept h v
     → IsKept (with_record h w s) v
-kept_stays h w s v behind kept = record {
+kept_stays h w s v after kept = record {
   issued = inr kept.issued;
   safe = or_right (is_covered (SyncIssued s Whole ∷ WriteEnded w.number ∷ WriteIssued w ∷ h) s v && not (is_given_up h v)) (is_safe h v) kept.safe;
   last = λ m k among differs under over. elim among [
     | inl same ↦
         let own = under_parts v k under in
         let its = under_parts w k (subst (λ (x : Write). is_under x k ≡ true) same over) in
-        let before : v.off + length v.bytes ≤ w.off = behind v kept.issued in
+        let before : v.off + length v.bytes ≤ w.off = after v kept.issued in
         absurd (omega (arith, own.1, its.0, before))
     | inr old ↦ or_right (w.number == v.number && has_ended h m.number) (is_before h m.number v.number) (kept.last m k old differs under over)
   ];
@@ -85,9 +85,9 @@ kept_stays h w s v behind kept = record {
 
 pub ends_later : (h : History) (w : Write) (s : ℕ) → EndsBy w.off h
     → EndsBy (w.off + length w.bytes) (with_record h w s)
-ends_later h w s behind = λ m among. elim among [
+ends_later h w s after = λ m among. elim among [
   | inl same ↦ subst (λ (x : Write). x.off + length x.bytes ≤ w.off + length w.bytes) (sym same) (omega arith)
-  | inr old ↦ let before : m.off + length m.bytes ≤ w.off = behind m old in omega arith
+  | inr old ↦ let before : m.off + length m.bytes ≤ w.off = after m old in omega arith
 ]
 
 just_begun : (n : ℕ) (ns : List ℕ) → is_one_of n (ns ++ n ∷ []) ≡ true
@@ -133,17 +133,17 @@ next_is_open v n sound same = false_from_ne_true (has_ended v.history n) (λ is.
 pub commit_keeps : (old new : Volume) (end : ℕ) (bytes : List ℕ) (n : ℕ) → IsSound old
     → EndsBy end old.history → IsCommitted old new end bytes n
     → IsKept new.history (record { number = n; off = end; bytes = bytes })
-commit_keeps old new end bytes n sound behind made =
+commit_keeps old new end bytes n sound after made =
     subst (λ h. IsKept h (record { number = n; off = end; bytes = bytes })) (sym made.history)
-    (record_is_kept old.history (record { number = n; off = end; bytes = bytes }) made.s (next_is_open old n sound made.number) behind)
+    (record_is_kept old.history (record { number = n; off = end; bytes = bytes }) made.s (next_is_open old n sound made.number) after)
 
 pub commit_leaves : (old new : Volume) (end : ℕ) (bytes : List ℕ) (n : ℕ)
     → EndsBy end old.history → IsCommitted old new end bytes n
     → (w : Write) → IsKept old.history w → IsKept new.history w
-commit_leaves old new end bytes n behind made w kept =
-    subst (λ h. IsKept h w) (sym made.history) (kept_stays old.history (record { number = n; off = end; bytes = bytes }) made.s w behind kept)
+commit_leaves old new end bytes n after made w kept =
+    subst (λ h. IsKept h w) (sym made.history) (kept_stays old.history (record { number = n; off = end; bytes = bytes }) made.s w after kept)
 
 pub commit_ends : (old new : Volume) (end : ℕ) (bytes : List ℕ) (n : ℕ) → EndsBy end old.history
     → IsCommitted old new end bytes n → EndsBy (end + length bytes) new.history
-commit_ends old new end bytes n behind made =
-    subst (λ h. EndsBy (end + length bytes) h) (sym made.history) (ends_later old.history (record { number = n; off = end; bytes = bytes }) made.s behind)
+commit_ends old new end bytes n after made =
+    subst (λ h. EndsBy (end + length bytes) h) (sym made.history) (ends_later old.history (record { number = n; off = end; bytes = bytes }) made.s after)

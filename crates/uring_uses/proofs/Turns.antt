@@ -154,7 +154,7 @@ turn_goes_on old asked h a same quiet some fits other =
     let lawful : IsLawfulApart old.setup h = subst (λ g. IsLawfulApart g h) same fits.lawful.1 in
     some_next old.setup.linux (requests_of (world old.setup h)) a (λ n least. least_goes_on old.setup h n lawful least) quiet some (next_told old asked h a same fits) other
 
--- it can be issued behind this history
+-- it can be issued after this history
 abbrev IsNext : Setup → History → ℕ → Type 0
 IsNext g h n = by_rules.is_issuable g.linux (requests_of (world g h)) n ≡ true
 

@@ -43,10 +43,10 @@ run_first linux g w n m is lt joined =
       by_rules true ready = turn_first w.requests n (and_parts _ _ ready).0 m lt joined
       by_rules false ready = ready_first w.requests n ready m lt joined
 
-pub run_behind_ended : (g : Setup) (w : World) (n m : ℕ) → answer.Run ≡ issue_answer g w n → m < n
+pub run_after_ended : (g : Setup) (w : World) (n m : ℕ) → answer.Run ≡ issue_answer g w n → m < n
     → is_joined w.requests m n ≡ true
     → has_ended w.requests m ≡ true
-run_behind_ended g w n m is lt joined = run_first g.linux g w n m is lt joined
+run_after_ended g w n m is lt joined = run_first g.linux g w n m is lt joined
 
 -- by the manual pages' rules what a request that runs waits for has ended
 pub run_waits_for_none : (g : Setup) (w : World) (n m : ℕ) → g.linux ≡ false

@@ -28,7 +28,7 @@ pub record IsIdle (core : Core) (before : History) : Type 0 where
   pub none_outstanding : (n : ℕ)
       → is_outstanding (world core.setup (events ++ before)).requests n ≡ false
 
--- Request n runs, and n + 1 waits behind its soft link, in the same chain.
+-- Request n runs, and n + 1 waits after its soft link, in the same chain.
 pub record IsNextInChain (r : Requests) (n : ℕ) : Type 0 where
   pub runs : is_running r n ≡ true
   pub soft : is_soft (entry_of r n) ≡ true

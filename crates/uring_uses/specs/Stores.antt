@@ -1,4 +1,4 @@
--- A log on a volume, one record behind the other. Our own rule.
+-- A log on a volume, one record after the other. Our own rule.
 use Rattle.std.specs.Prelude.{ℕ, ◌+◌, ◌≤◌, length}
 use Rattle.uring_volume.specs.Writes.{Write}
 use Rattle.uring_volume.specs.Events.{History, writes}

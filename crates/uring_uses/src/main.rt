@@ -56,9 +56,9 @@ fn print_starts(rt: &HostRuntime, machine: &mut Machine, steps: &[Step]) -> Resu
     let second = starts(machine, 1);
     let first = starts(machine, 0);
     machine.step(Step::Finish { number: 0 });
-    let behind = starts(machine, 1);
+    let after = starts(machine, 1);
     println!(rt;
-        "one step\n  request 1 starts: {second}\n  request 0 starts: {first}\n  request 0 ended, and request 1 starts: {behind}"
+        "one step\n  request 1 starts: {second}\n  request 0 starts: {first}\n  request 0 ended, and request 1 starts: {after}"
     )?;
     Ok(())
 }
@@ -141,7 +141,7 @@ fn print_disk(rt: &HostRuntime, disk: &Disk) -> Result<()> {
     Ok(())
 }
 
-/// A failure from outside, and the member behind it.
+/// A failure from outside, and the member after it.
 fn show_broken_chain(rt: &HostRuntime, setup: &Setup) -> Result<()> {
     let mut core = Core::new(rt.alloc(), setup)?;
     submit(&mut core, &soft_chain());

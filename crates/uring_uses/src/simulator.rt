@@ -42,7 +42,7 @@ fn end_next(core: &mut Core, disk: &mut Disk)
     core.finish(number, disk.carry_out(&op));
 }
 
-/// Finishes a running request with EIO, and issues the one behind it. If a soft link joins them, that one ends as cancelled: it is never carried out.
+/// Finishes a running request with EIO, and issues the one after it. If a soft link joins them, that one ends as cancelled: it is never carried out.
 pub fn break_chain(core: &mut Core, number: u64) -> Answer
     requires { number + 1 < 2 ^ 64 }
     ensures setup { core.new.setup ≡ core.old.setup }

@@ -11,11 +11,11 @@ use uring_volume::{BeginError, SyncRange, Volume};
 /// Writes a record at the end of the log, and returns the number of its write, which acknowledges it: it is safe, and what was safe before stays so. Condition: no earlier write goes past that end.
 pub fn commit(log: &mut Volume, end: u64, bytes: Vec<u8>) -> Result<u64, BeginError>
     requires room { end + length bytes.items < 2 ^ 63 }
-    requires behind { EndsBy end log.old.history }
+    requires after { EndsBy end log.old.history }
     ensures safe { IfOk result (λ n.
         IsKept log.new.history (record { number = n; off = end; bytes = bytes.items })) }
     ensures stay { OnOk result ((w : Write) → IsKept log.old.history w → IsKept log.new.history w) }
-    ensures behind { OnOk result (EndsBy (end + length bytes.items) log.new.history) }
+    ensures after { OnOk result (EndsBy (end + length bytes.items) log.new.history) }
 {
     log.is_sound();
     let write = log.begin_write(end, bytes)?;

@@ -129,11 +129,11 @@ of_joined (b ∷ more) es z among = elim (in_either z (map (λ e. b ++ e) es) (j
 
 in_joined : (bs es : List (List ℕ)) (b e : List ℕ) → IsIn b bs → IsIn e es
     → IsIn (b ++ e) (joined bs es)
-in_joined [] es b e among behind = absurd among
-in_joined (c ∷ more) es b e (inl same) behind =
-    in_left (b ++ e) (map (λ x. c ++ x) es) (joined more es) (subst (λ y. IsIn (b ++ e) (map (λ x. y ++ x) es)) same (in_map (λ x. b ++ x) e es behind))
-in_joined (c ∷ more) es b e (inr later) behind =
-    in_right (b ++ e) (map (λ x. c ++ x) es) (joined more es) (in_joined more es b e later behind)
+in_joined [] es b e among after = absurd among
+in_joined (c ∷ more) es b e (inl same) after =
+    in_left (b ++ e) (map (λ x. c ++ x) es) (joined more es) (subst (λ y. IsIn (b ++ e) (map (λ x. y ++ x) es)) same (in_map (λ x. b ++ x) e es after))
+in_joined (c ∷ more) es b e (inr later) after =
+    in_right (b ++ e) (map (λ x. c ++ x) es) (joined more es) (in_joined more es b e later after)
 
 map_once : (b : List ℕ) (es : List (List ℕ)) → IsEachOnce es → IsEachOnce (map (λ e. b ++ e) es)
 map_once b [] once = tt

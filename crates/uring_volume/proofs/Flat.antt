@@ -54,7 +54,7 @@ flat_below bound choices (suc n) some below m among =
       ]
     ]
 
--- the choice for the length, and behind it those for the units
+-- the choice for the length, and after it those for the units
 abbrev both : List ℕ → (ℕ → List ℕ) → ℕ → List ℕ
 both whole choices zero = whole
 both whole choices (suc i) = choices i

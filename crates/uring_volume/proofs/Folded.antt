@@ -384,18 +384,18 @@ reverse_filter p (e ∷ es) = elim (cases_Bool (p e)) [
       ∙ append-nil (filter p (reverse es)))
 ]
 
-issued_behind : (xs ys : History) → issued (xs ++ ys) ≡ issued ys ++ issued xs
-issued_behind [] ys = sym (append-nil (issued ys))
-issued_behind (WriteIssued w ∷ xs) ys =
-    ap (λ ws. ws ++ w ∷ []) (issued_behind xs ys) ∙ append_assoc (issued ys) (issued xs) (w ∷ [])
-issued_behind (WriteEnded k ∷ xs) ys = issued_behind xs ys
-issued_behind (SyncIssued s range ∷ xs) ys = issued_behind xs ys
-issued_behind (SyncEnded s ∷ xs) ys = issued_behind xs ys
-issued_behind (SyncFailed s ∷ xs) ys = issued_behind xs ys
+issued_after : (xs ys : History) → issued (xs ++ ys) ≡ issued ys ++ issued xs
+issued_after [] ys = sym (append-nil (issued ys))
+issued_after (WriteIssued w ∷ xs) ys =
+    ap (λ ws. ws ++ w ∷ []) (issued_after xs ys) ∙ append_assoc (issued ys) (issued xs) (w ∷ [])
+issued_after (WriteEnded k ∷ xs) ys = issued_after xs ys
+issued_after (SyncIssued s range ∷ xs) ys = issued_after xs ys
+issued_after (SyncEnded s ∷ xs) ys = issued_after xs ys
+issued_after (SyncFailed s ∷ xs) ys = issued_after xs ys
 
 issued_first : (e : Event) (es : List Event)
     → issued (reverse (e ∷ es)) ≡ issued (e ∷ []) ++ issued (reverse es)
-issued_first e es = ap issued (reverse-append (e ∷ []) es) ∙ issued_behind (reverse es) (e ∷ [])
+issued_first e es = ap issued (reverse-append (e ∷ []) es) ∙ issued_after (reverse es) (e ∷ [])
 
 -- the write whose issue stands at index i
 pub issued_at : (es : List Event) (i : ℕ) (e : Event) (w : Write) → i < length es
@@ -505,7 +505,7 @@ pub none_later : (p : Write → Bool) (es : List Event) (i : ℕ) (e : Event) �
     → list_any p (issued (reverse (take (i + 1) es))) ≡ false
 none_later p es i e within at out none =
     ap (λ h. list_any p (issued h)) (newest es i e within ∙ ap (λ d. d ∷ reverse (take i es)) (sym at))
-    ∙ ap (list_any p) (issued_behind (e ∷ []) (reverse (take i es)))
+    ∙ ap (list_any p) (issued_after (e ∷ []) (reverse (take i es)))
     ∙ list_any-append p (issued (reverse (take i es))) (issued (e ∷ []))
     ∙ or_from (list_any p (issued (reverse (take i es)))) (list_any p (issued (e ∷ []))) none out
 

@@ -14,7 +14,7 @@ zeros zero k = refl
 zeros (suc n) zero = refl
 zeros (suc n) (suc k) = zeros n k
 
--- zeros behind a file change no byte of it
+-- zeros after a file change no byte of it
 pub padded : (xs : List ℕ) (n k : ℕ) → get_or (xs ++ replicate n 0) k 0 ≡ get_or xs k 0
 padded [] n k = zeros n k
 padded (x ∷ xs) n zero = refl

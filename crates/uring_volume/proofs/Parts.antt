@@ -1,4 +1,4 @@
--- The parts of a choice: what stands before the first 0, and what stands behind it.
+-- The parts of a choice: what stands before the first 0, and what stands after it.
 use Rattle.std.proofs.Common.{◌≡◌, ◌==◌, ◌<◌, ◌-◌, ℕ, zero, suc, List, [], ◌∷◌, length, get_or, take, drop, refl, sym, ap, ◌∙◌, arith}
 use Rattle.std.proofs.lemmas.List.{take_all, length-drop}
 use Rattle.std.proofs.lemmas.Bool.{cond-true, cond-false, eq-eqb, ne_eqb}
@@ -45,6 +45,6 @@ part_none (n ∷ later) none j =
     part_none later (later_none n later (length later) none) j
     ∙ sym (cond-false (n == 0) (part later j) (part later (suc j)) (ne_eqb n 0 (isnt_end n later (length later) none)))
 
--- all of a list behind an index
-pub all_behind : (choice : List ℕ) (n : ℕ) → take (length choice - n) (drop n choice) ≡ drop n choice
-all_behind choice n = take_all (length choice - n) (drop n choice) (omega (arith, length-drop n choice))
+-- all of a list after an index
+pub all_after : (choice : List ℕ) (n : ℕ) → take (length choice - n) (drop n choice) ≡ drop n choice
+all_after choice n = take_all (length choice - n) (drop n choice) (omega (arith, length-drop n choice))

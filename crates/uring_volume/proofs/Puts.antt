@@ -52,15 +52,15 @@ of_put same x y xs =
       | inr right ↦ elim right [ inl is ↦ inr is | inr none ↦ absurd none ]
     ])
 
-once_behind : {X : Type 0} (y : X) (xs : List X) → IsEachOnce xs → (IsIn y xs → ⊥)
+once_after : {X : Type 0} (y : X) (xs : List X) → IsEachOnce xs → (IsIn y xs → ⊥)
     → IsEachOnce (xs ++ y ∷ [])
-once_behind y [] once new = (λ none. none, tt)
-once_behind y (x ∷ xs) once new = (
+once_after y [] once new = (λ none. none, tt)
+once_after y (x ∷ xs) once new = (
   λ among. elim (in_either x xs (y ∷ []) among) [
     | inl left ↦ once.0 left
     | inr right ↦ elim right [ inl is ↦ new (inl (sym is)) | inr none ↦ none ]
   ],
-  once_behind y xs once.1 (λ among. new (inr among)),
+  once_after y xs once.1 (λ among. new (inr among)),
 )
 
 pub put_once : {X : Type 0} (same : X → X → Bool) (y : X) (xs : List X) → Tells same
@@ -68,7 +68,7 @@ pub put_once : {X : Type 0} (same : X → X → Bool) (y : X) (xs : List X) → 
 put_once same y xs tells once =
     cond_both (list_any (λ z. same z y) xs) xs (xs ++ y ∷ []) (λ zs. IsEachOnce zs)
     (λ _. once)
-    (λ out. once_behind y xs once (λ among. both_ways (list_any (λ z. same z y) xs) out (is_any (λ z. same z y) y xs among (tells.itself y))))
+    (λ out. once_after y xs once (λ among. both_ways (list_any (λ z. same z y) xs) out (is_any (λ z. same z y) y xs among (tells.itself y))))
 
 -- The tests.
 

@@ -99,7 +99,7 @@ kept_more f p xs i x len next b within at is made =
           ∙ ap (λ n. length_over n (filter p (map f (drop (i + 1) xs)))) (sym (made ∙ cond-false b (max len (end_of (f x))) len (is ∙ is_out)))
     ])
 
--- none is left behind the last one
+-- none is left after the last one
 pub kept_all : {X : Type 0} (f : X → Write) (p : Write → Bool) (xs : List X) (i len : ℕ)
     → length xs ≤ i → len ≡ length_over len (filter p (map f (drop i xs)))
 kept_all f p xs i len past = sym (ap (λ ys. length_over len (filter p (map f ys))) (drop_all i xs past))

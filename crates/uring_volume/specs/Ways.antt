@@ -23,7 +23,7 @@ same_write v w = v.number == w.number && (v.off == w.off && pointwise nat_eq v.b
 abbrev pub same_way : Way → Way → Bool
 same_way s t = pointwise nat_eq s.now t.now && pointwise same_write s.rest t.rest
 
--- x behind these, if it isn't one of them
+-- x after these, if it isn't one of them
 abbrev pub put_by : {X : Type 0} → (X → X → Bool) → List X → X → List X
 put_by same xs x = if list_any (λ y. same y x) xs then xs else xs ++ x ∷ []
 
@@ -71,7 +71,7 @@ abbrev pub unit_contents : ℕ → List ℕ → History → ℕ → ℕ → List
 unit_contents u first h len i =
     contents_of h (u * i) (filter (is_on u i) (issued h)) (bytes_from first (u * i) (min u (len - u * i)))
 
--- each of these with each of those behind it
+-- each of these with each of those after it
 abbrev pub joined : List (List ℕ) → List (List ℕ) → List (List ℕ)
 joined [] ends = []
 joined (b ∷ more) ends = map (λ e. b ++ e) ends ++ joined more ends

@@ -82,7 +82,7 @@ impl Piece {
         &self.bytes
     }
 
-    /// The offset behind its last byte.
+    /// The offset after its last byte.
     pub fn end(&self) -> u64
         ensures value { result ≡ self.now.off + length self.now.bytes }
         ensures bound { result < 2 ^ 63 }

@@ -5,7 +5,7 @@ ghost use Rattle.std.specs.Prelude.{◌≡◌, ◌+◌, ◌-◌, ◌≤◌, ◌+
 use std::alloc::{AllocError, Global};
 use uring_memory::Memory;
 
-/// Puts an item behind the others, by this memory. If it grants whatever is asked for, there is no error.
+/// Puts an item after the others, by this memory. If it grants whatever is asked for, there is no error.
 pub fn push<M: Memory, T: Drop>(memory: &M, list: &mut Vec<T>, item: T) -> Result<(), AllocError>
     ensures items { OnOk result (list.new.items ≡ list.old.items ++ item ∷ []) }
     ensures granted { ((n : ℕ) → M.grants memory.now n) → IsOk result }
@@ -15,7 +15,7 @@ pub fn push<M: Memory, T: Drop>(memory: &M, list: &mut Vec<T>, item: T) -> Resul
     Ok(())
 }
 
-/// These bytes with zeros behind them up to a length, as `push` takes memory.
+/// These bytes with zeros after them up to a length, as `push` takes memory.
 pub fn grown<M: Memory>(
     memory: &M,
     alloc: Global,

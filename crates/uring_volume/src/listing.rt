@@ -85,7 +85,7 @@ fn least_length_with(events: &[Event], pieces: &[&Piece], n: u64, first: u64) ->
     len
 }
 
-/// Puts a length behind these, if it isn't among them. Here and below: if the memory grants whatever is asked for, there is no error.
+/// Puts a length after these, if it isn't among them. Here and below: if the memory grants whatever is asked for, there is no error.
 fn put_length<M: Memory>(memory: &M, lengths: &mut Vec<u64>, len: u64) -> Result<(), AllocError>
     ensures put { OnOk result (lengths.new.items ≡ put_by nat_eq lengths.old.items len) }
     ensures granted { ((n : ℕ) → M.grants memory.now n) → IsOk result }
@@ -173,7 +173,7 @@ fn unit_contents<M: Memory>(
     contents(memory, alloc, events, from, on, bytes)
 }
 
-/// Some bytes with others behind them.
+/// Some bytes with others after them.
 fn with_end<M: Memory>(
     memory: &M,
     alloc: Global,
@@ -189,7 +189,7 @@ fn with_end<M: Memory>(
     Ok(file)
 }
 
-/// Puts a front with each of these ends behind some files.
+/// Puts a front with each of these ends after some files.
 fn put_joined<M: Memory>(
     memory: &M,
     alloc: Global,
@@ -251,7 +251,7 @@ fn fronts<M: Memory>(
     Ok(files)
 }
 
-/// Moves these files behind others.
+/// Moves these files after others.
 fn move_all<M: Memory>(
     memory: &M,
     files: &mut Vec<Vec<u8>>,

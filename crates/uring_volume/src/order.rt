@@ -39,7 +39,7 @@ pub fn has_one_before(events: &[Event], rest: &[&Piece], n: u64) -> bool
     false
 }
 
-/// Puts those of these writes that have number `n` behind others.
+/// Puts those of these writes that have number `n` after others.
 pub fn push_named<'a, M: Memory>(
     memory: &M,
     pieces: &[&'a Piece],
@@ -58,7 +58,7 @@ pub fn push_named<'a, M: Memory>(
     Ok(())
 }
 
-/// Moves the writes of number `n` behind those that are left already.
+/// Moves the writes of number `n` after those that are left already.
 fn move_named<'a, M: Memory>(
     memory: &M,
     rest: &mut Vec<&'a Piece>,

@@ -58,7 +58,7 @@ pub enum ImagesError {
     TooMany,
 }
 
-/// Puts an item behind the others, where there is room for it.
+/// Puts an item after the others, where there is room for it.
 fn put<T: Drop>(items: &mut Vec<T>, item: T)
     requires { vec_len items.old < vec_capacity items.old }
     ensures items { items.new.items ≡ items.old.items ++ item ∷ [] }

@@ -45,7 +45,7 @@ fn has_bytes(found: &[Vec<u8>], bytes: &[u8]) -> bool
     false
 }
 
-/// Puts these bytes behind those found, if they aren't among them.
+/// Puts these bytes after those found, if they aren't among them.
 fn put_bytes<M: Memory>(
     memory: &M,
     alloc: Global,
@@ -106,7 +106,7 @@ fn has_way(ways: &[Way], rest: &[&Piece], now: &[u8]) -> bool
     false
 }
 
-/// Puts a way behind these, if it isn't among them.
+/// Puts a way after these, if it isn't among them.
 fn put_way<'a, M: Memory>(
     memory: &M,
     ways: &mut Vec<Way<'a>>,
@@ -183,7 +183,7 @@ fn stepped<'a, M: Memory>(
     Ok(Way { rest, now: left })
 }
 
-/// Puts the ways on from one behind others, by each of its writes that may come next.
+/// Puts the ways on from one after others, by each of its writes that may come next.
 fn put_steps<'a, M: Memory>(
     memory: &M,
     alloc: Global,
@@ -239,7 +239,7 @@ fn has_safe(events: &[Event], rest: &[&Piece]) -> bool
     false
 }
 
-/// Puts the bytes of those ways behind those found on which no safe write is still to come.
+/// Puts the bytes of those ways after those found on which no safe write is still to come.
 fn put_found<M: Memory>(
     memory: &M,
     alloc: Global,

@@ -5,7 +5,7 @@ use Rattle.uring_entry.specs.IndexWords.{word_of}
 use Rattle.uring_words.specs.Slots.{held_from}
 use Rattle.uring_words.specs.Submission.Calls.{AreWhole}
 use Rattle.uring_words.specs.Submission.Rule.{Agree}
-use Rattle.uring_words.specs.Submission.Steps.{with_first_behind, tail_stored, head_loaded, all_given}
+use Rattle.uring_words.specs.Submission.Steps.{with_first_after, tail_stored, head_loaded, all_given}
 use Rattle.uring_words.specs.declared.submission.view.AppSide.{AppSide}
 use Rattle.uring_words.specs.declared.submission.view.KernelSide.{KernelSide}
 use Rattle.uring_words.specs.declared.submission.view.Position.{Position}
@@ -48,11 +48,11 @@ pub keeps_tail_stored : (words : List ℕ) (homes : List (Option Position)) (a :
     → (h : Agree words homes a d) → length a.published + (length written + length blank) ≡ a.end
     → length written + length blank ≤ a.size
     → w ≡ word_of a.start (length a.published + length written) → AreWhole (a.published ++ written)
-    → Agree (set words 0 w) (after homes (with_first_behind a.start a.size (length a.published) blank written) (held_from a.start a.size (length a.published + length written) blank)) (tail_stored a written) d
+    → Agree (set words 0 w) (after homes (with_first_after a.start a.size (length a.published) blank written) (held_from a.start a.size (length a.published + length written) blank)) (tail_stored a written) d
 keeps_tail_stored words homes a d w blank written h many few is_word whole =
     let s = h.sized in
     let n : ℕ = length a.published in
-    let held = with_first_behind a.start a.size n blank written in
+    let held = with_first_after a.start a.size n blank written in
     let kept = held_from a.start a.size (n + length written) blank in
     let fits : a.size ≤ 2 ^ 32 = omega (arith, s.limit) in
     let long = length-append a.published written in

@@ -22,7 +22,7 @@ close_mark_append [] ys none = refl
 close_mark_append (position.Close ∷ ps) ys none = absurd (false≢true (sym none))
 close_mark_append (_ ∷ ps) ys none = close_mark_append ps ys none
 
--- whole calls behind whole calls are whole
+-- whole calls after whole calls are whole
 whole_append : (b : Bool) (xs ys : List Position) → AreWholeFrom b xs
     → has_close_mark xs ≡ false → AreWhole ys → AreWholeFrom b (xs ++ ys)
 whole_append b [] ys h none w = let P : Bool → Type 0 = λ c. AreWholeFrom c ys in subst P (sym h) w
@@ -30,7 +30,7 @@ whole_append b (position.More x ∷ ps) ys h none w = whole_append true ps ys h 
 whole_append b (position.Last x ∷ ps) ys h none w = whole_append false ps ys h none w
 whole_append b (position.Close ∷ ps) ys h none w = absurd (false≢true (sym none))
 
--- what is behind whole calls is whole
+-- what is after whole calls is whole
 pub whole_rest : (b : Bool) (xs ys : List Position) → AreWholeFrom b xs → has_close_mark xs ≡ false
     → AreWholeFrom b (xs ++ ys) → AreWhole ys
 whole_rest b [] ys h none w = let P : Bool → Type 0 = λ c. AreWholeFrom c ys in subst P h w
@@ -81,7 +81,7 @@ pub record Holding (ps : List Position) (put : Put) : Type 0 where
   pub is : put_of ps ≡ put
   pub whole : AreWhole ps
 
--- one call behind all calls
+-- one call after all calls
 pub holds_call : (xs : List Position) (front : List Item) (last : Item) → AreWhole xs
     → has_close_mark xs ≡ false
     → Holding (xs ++ (all_more front ++ position.Last last ∷ [])) (with_call (put_of xs) (front ++ last ∷ []))
@@ -95,7 +95,7 @@ holds_call xs front last whole none =
       whole = whole_append false xs call whole none (call_is_whole false front last);
     }
 
--- the close mark behind all calls
+-- the close mark after all calls
 pub holds_close : (xs : List Position) → AreWhole xs → has_close_mark xs ≡ false
     → Holding (xs ++ position.Close ∷ []) (with_close (put_of xs))
 holds_close xs whole none =
@@ -134,13 +134,13 @@ none_of_both : (xs ys : List Position) → xs ++ ys ≡ [] → ys ≡ []
 none_of_both [] ys none = none
 none_of_both (x ∷ xs) ys none = absurd (omega (arith, ap length none))
 
--- nothing is behind the close mark
-nothing_behind : (b : Bool) (xs ys : List Position) → AreWholeFrom b (xs ++ ys)
+-- nothing is after the close mark
+nothing_after : (b : Bool) (xs ys : List Position) → AreWholeFrom b (xs ++ ys)
     → has_close_mark xs ≡ true → ys ≡ []
-nothing_behind b [] ys h closed = absurd (false≢true closed)
-nothing_behind b (position.More x ∷ ps) ys h closed = nothing_behind true ps ys h closed
-nothing_behind b (position.Last x ∷ ps) ys h closed = nothing_behind false ps ys h closed
-nothing_behind b (position.Close ∷ ps) ys h closed = none_of_both ps ys h.1
+nothing_after b [] ys h closed = absurd (false≢true closed)
+nothing_after b (position.More x ∷ ps) ys h closed = nothing_after true ps ys h closed
+nothing_after b (position.Last x ∷ ps) ys h closed = nothing_after false ps ys h closed
+nothing_after b (position.Close ∷ ps) ys h closed = none_of_both ps ys h.1
 
 -- items that others follow aren't whole calls
 not_whole : (xs : List Item) → AreWholeFrom true (all_more xs) → ⊥
@@ -166,7 +166,7 @@ leaves_either : (b : Bool) (all old new : List Position) → all ≡ old ++ new 
     → AreWhole old → has_close_mark old ≡ b → LeavesItems (put_of all) (put_of old) (items_of new)
 leaves_either true all old new is whole old_whole closed =
     let whole' = subst AreWhole is whole in
-    let none = nothing_behind false old new whole' closed in
+    let none = nothing_after false old new whole' closed in
     let same : all ≡ old = is ∙ ap (λ l. old ++ l) none ∙ append-nil old in
     record {
       rest = [];

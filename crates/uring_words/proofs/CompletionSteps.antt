@@ -72,10 +72,10 @@ last_is : (v : ℕ) (vs : List ℕ) → (before : List ℕ) × (v ∷ vs ≡ bef
 last_is v [] = ([], refl)
 last_is v (x ∷ xs) = let r = last_is x xs in (v ∷ r.0, ap (λ l. v ∷ l) r.1)
 
-last_behind : (v : ℕ) (before : List ℕ) (w : ℕ) (after : List ℕ)
+last_after : (v : ℕ) (before : List ℕ) (w : ℕ) (after : List ℕ)
     → last_of v (before ++ w ∷ after) ≡ last_of w after
-last_behind v [] w after = refl
-last_behind v (x ∷ xs) w after = last_behind x xs w after
+last_after v [] w after = refl
+last_after v (x ∷ xs) w after = last_after x xs w after
 
 -- the word that stands there is the last that was had
 pub had_last : (v : ℕ) (vs ws : List ℕ) → WereHad (v ∷ vs) ws
@@ -84,7 +84,7 @@ had_last v vs [] h = let r = last_is v vs in (r.0, [], r.1, tt)
 had_last v vs (w ∷ ws) h =
     let rest = had_last w h.1 ws h.3 in
     let P : ℕ → Type 0 = λ x. WereHad (w ∷ h.1) (ws ++ x ∷ []) in
-    (h.0, h.1, h.2, subst P (sym (last_behind 0 h.0 w h.1) ∙ sym (ap (last_of 0) h.2)) rest)
+    (h.0, h.1, h.2, subst P (sym (last_after 0 h.0 w h.1) ∙ sym (ap (last_of 0) h.2)) rest)
 
 -- the dropped word is stored
 pub keeps_dropped_stored : (words : List ℕ) (homes : List (Option Cqe)) (a : AppSide) (d : KernelSide) (w : ℕ)

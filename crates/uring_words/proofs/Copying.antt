@@ -12,9 +12,9 @@ use Rattle.uring_ports.specs.Ports.{Pulls, with_call}
 use Rattle.uring_words.specs.Places.{place_of}
 use Rattle.uring_words.specs.Slots.{held_from}
 use Rattle.uring_words.specs.Submission.Calls.{AreWhole, all_more, has_close_mark, items_of, put_of}
-use Rattle.uring_words.specs.Submission.Ends.{AreRead, End, IsWriter, ReaderRests, ReadsCall, Writes, tail_behind}
+use Rattle.uring_words.specs.Submission.Ends.{AreRead, End, IsWriter, ReaderRests, ReadsCall, Writes, tail_after}
 use Rattle.uring_words.specs.Submission.Rule.{BothAgree}
-use Rattle.uring_words.specs.Submission.Steps.{Holder, with_first_behind, head_stored, tail_stored, StoresHead, StoresTail}
+use Rattle.uring_words.specs.Submission.Steps.{Holder, with_first_after, head_stored, tail_stored, StoresHead, StoresTail}
 use Rattle.uring_words.specs.declared.sides.View.{View}
 use Rattle.uring_words.specs.declared.submission.view.AppSide.{AppSide}
 use Rattle.uring_words.specs.declared.submission.view.KernelSide.{KernelSide}
@@ -23,12 +23,12 @@ use Rattle.uring_words.specs.declared.submission.view.Position.TheVariants as po
 use Rattle.uring_words.proofs.CallLemmas.{holds_call, holds_close, more_length, more_append, never_open, close_is_first}
 use Rattle.uring_words.proofs.Plays.{stores_head, stores_tail}
 use Rattle.uring_words.proofs.Standing.{at_place}
-use Rattle.uring_words.proofs.Turning.{part_done, next_of, stands_first, is_next, goes_behind, turns_behind}
+use Rattle.uring_words.proofs.Turning.{part_done, next_of, stands_first, is_next, goes_after, turns_after}
 
--- The application's end, which callers see as e, and which has room for a front and one position more, has written the front; word: the index word of the place behind it.
+-- The application's end, which callers see as e, and which has room for a front and one position more, has written the front; word: the index word of the place after it.
 module _ {seat table : TableId} {v : View AppSide KernelSide} {held : List (ℕ × Position)} {size tail end : ℕ} (i : IsWriter seat table v held size tail end)
     (e : End) (seen : record { table = seat; knows = v } ≡ e) (front : List Item) (last : Position) (room : length e.knows.app.published + (length front + 1) ≤ e.knows.app.end)
-    (m : Holder) (word : ℕ) (wrote : Writes (v, held) m (all_more front)) (at : word ≡ tail_behind (v, held) (length front)) where
+    (m : Holder) (word : ℕ) (wrote : Writes (v, held) m (all_more front)) (at : word ≡ tail_after (v, held) (length front)) where
   abbrev written : List Position
   written = all_more front ++ last ∷ []
 
@@ -48,19 +48,19 @@ module _ {seat table : TableId} {v : View AppSide KernelSide} {held : List (ℕ 
       (at_place v.app.start size v.app.size (length v.app.published + length front) word i.fits.sized i.fits.power at).0
       ∙ ap (λ (k : ℕ). place_of v.app.start v.app.size (length v.app.published + k)) (sym (more_length front))
 
-  -- the place behind the front is first
+  -- the place after the front is first
   pub last_stands_first : (x : Position) × (m.1 ≡ (word % size, x) ∷ rest m.1)
   last_stands_first = stands_first v.app.start v.app.size (length v.app.published) (length (all_more front)) (word % size) i.blank (all_more front) m v (wrote i.blank i.holds) enough place
 
   -- The last position is written there.
   module _ (after : Holder) (moved : after ≡ (m.0, rest m.1 ++ (word % size, last) ∷ [])) where
-    all_written : after ≡ (v, with_first_behind v.app.start v.app.size (length v.app.published) left written)
+    all_written : after ≡ (v, with_first_after v.app.start v.app.size (length v.app.published) left written)
     all_written =
-        goes_behind v.app.start v.app.size (length v.app.published) (length (all_more front)) (word % size) i.blank (all_more front) m v (wrote i.blank i.holds) enough place last after refl moved
+        goes_after v.app.start v.app.size (length v.app.published) (length (all_more front)) (word % size) i.blank (all_more front) m v (wrote i.blank i.holds) enough place last after refl moved
         ∙ ap (λ (k : ℕ). (v, held_from v.app.start v.app.size (length v.app.published + k) left ++ held_from v.app.start v.app.size (length v.app.published) written)) (sym (length-append (all_more front) (last ∷ [])))
 
-    behind : (word + 1) % 2 ^ 32 ≡ word_of v.app.start (length v.app.published + length written)
-    behind = omega (arith, at, many)
+    word_after : (word + 1) % 2 ^ 32 ≡ word_of v.app.start (length v.app.published + length written)
+    word_after = omega (arith, at, many)
 
     -- the tail is stored
     pub tail_allowed : (slots id : ℕ) → AreWhole (e.knows.app.published ++ written)
@@ -70,7 +70,7 @@ module _ {seat table : TableId} {v : View AppSide KernelSide} {held : List (ℕ 
         let P : Holder → Type 0 = λ x. Allows BothAgree slots id x 0 (λ _. next) (λ _. StoresTail (step slots 0 next 0 none) x next) in
         let short = length-drop (length (all_more front) + 1) i.blank in
         let whole' = subst (λ (x : End). AreWhole (x.knows.app.published ++ written)) (sym seen) whole in
-        subst P (sym all_written) (stores_tail slots id v (with_first_behind v.app.start v.app.size (length v.app.published) left written) next left written i.is_app refl (omega (arith, enough, many, more_length front, i.many)) (omega (arith, enough, many, more_length front, i.few, i.fits.sized)) (omega (arith, i.fits.most, i.fits.sized)) behind whole')
+        subst P (sym all_written) (stores_tail slots id v (with_first_after v.app.start v.app.size (length v.app.published) left written) next left written i.is_app refl (omega (arith, enough, many, more_length front, i.many)) (omega (arith, enough, many, more_length front, i.few, i.fits.sized)) (omega (arith, i.fits.most, i.fits.sized)) word_after whole')
 
     -- and with it what was written is published
     module _ (slots : ℕ) (stored : Holder) (told : StoresTail (step slots 0 ((word + 1) % 2 ^ 32) 0 none) after ((word + 1) % 2 ^ 32) stored) where
@@ -78,7 +78,7 @@ module _ {seat table : TableId} {v : View AppSide KernelSide} {held : List (ℕ 
       tail_published =
           let next : ℕ = (word + 1) % 2 ^ 32 in
           let P : Holder → Type 0 = λ x. StoresTail (step slots 0 next 0 none) x next stored in
-          subst P all_written told left written refl behind
+          subst P all_written told left written refl word_after
 
       pub publishes : IsWriter seat table stored.0 stored.1 size ((word + 1) % 2 ^ 32) end
       publishes =
@@ -87,7 +87,7 @@ module _ {seat table : TableId} {v : View AppSide KernelSide} {held : List (ℕ 
           rw tail_published (record {
             fits = i.fits;
             is_app = i.is_app;
-            tail_word = behind ∙ ap (word_of v.app.start) (sym longer);
+            tail_word = word_after ∙ ap (word_of v.app.start) (sym longer);
             end_word = i.end_word;
             blank = left;
             holds = ap (λ (k : ℕ). held_from v.app.start v.app.size k left) (sym longer);
@@ -110,7 +110,7 @@ module _ (b : Holder) (k place : ℕ) (m after : Holder) (x : Position)
   pub one_read : after ≡ (b.0, part_done b.0.kernel.start b.0.kernel.size (length b.0.kernel.taken) (k + 1) b.0.kernel.known (take (k + 1) b.0.kernel.known))
   one_read =
       let d = b.0.kernel in
-      turns_behind d.start d.size (length d.taken) k place d.known (take k d.known) m b.0 is below at x after refl (sym (length-take-le k d.known (omega arith))) read moved
+      turns_after d.start d.size (length d.taken) k place d.known (take k d.known) m b.0 is below at x after refl (sym (length-take-le k d.known (omega arith))) read moved
 
   pub read_next : (drop k b.0.kernel.known ≡ x ∷ drop (k + 1) b.0.kernel.known) × (take (k + 1) b.0.kernel.known ≡ take k b.0.kernel.known ++ x ∷ [])
   read_next =
@@ -126,7 +126,7 @@ module _ (b : Holder) (k place : ℕ) (m after : Holder) (x : Position)
     pub front_more : (item : Item) → x ≡ position.More item → take (k + 1) b.0.kernel.known ≡ all_more (items ++ item ∷ [])
     front_more item same = read_next.1 ∙ (λ i. front i ++ same i ∷ []) ∙ sym (more_append items (item ∷ []))
 
-    all_read : after ≡ (b.0, with_first_behind b.0.kernel.start b.0.kernel.size (length b.0.kernel.taken) (drop (k + 1) b.0.kernel.known) (take (k + 1) b.0.kernel.known))
+    all_read : after ≡ (b.0, with_first_after b.0.kernel.start b.0.kernel.size (length b.0.kernel.taken) (drop (k + 1) b.0.kernel.known) (take (k + 1) b.0.kernel.known))
     all_read =
         let d = b.0.kernel in
         let many : k + 1 ≡ length (take (k + 1) d.known) = sym (length-take-le (k + 1) d.known (omega arith)) in
@@ -135,19 +135,19 @@ module _ (b : Holder) (k place : ℕ) (m after : Holder) (x : Position)
     -- the last item of a call
     pub reads_last : (item : Item) (all : List Item) (next : ℕ) → x ≡ position.Last item → all ≡ items ++ item ∷ []
         → next ≡ word_of b.0.kernel.start (length b.0.kernel.taken + (k + 1)) → ReadsCall b after pulled.Call all next
-    reads_last item all next same is_all behind = record {
+    reads_last item all next same is_all word_after = record {
       read = take (k + 1) b.0.kernel.known;
       others = drop (k + 1) b.0.kernel.known;
       known = sym (take-append-drop (k + 1) b.0.kernel.known);
       is = all_read;
       holds = (items, item, is_all, read_next.1 ∙ (λ i. front i ++ same i ∷ []));
-      next_word = behind ∙ ap (λ (j : ℕ). word_of b.0.kernel.start (length b.0.kernel.taken + j)) (sym (length-take-le (k + 1) b.0.kernel.known (omega arith)));
+      next_word = word_after ∙ ap (λ (j : ℕ). word_of b.0.kernel.start (length b.0.kernel.taken + j)) (sym (length-take-le (k + 1) b.0.kernel.known (omega arith)));
     }
 
     -- the close mark, in front of which is no item
     pub reads_close : (next : ℕ) → x ≡ position.Close → AreWhole b.0.kernel.known
         → next ≡ word_of b.0.kernel.start (length b.0.kernel.taken + (k + 1)) → ReadsCall b after pulled.Close items next
-    reads_close next same whole behind =
+    reads_close next same whole word_after =
         let d = b.0.kernel in
         let parts : d.known ≡ all_more items ++ position.Close ∷ drop (k + 1) d.known = sym (take-append-drop k d.known) ∙ (λ i. front i ++ read_next.0 i) ∙ ap (λ y. all_more items ++ y ∷ drop (k + 1) d.known) same in
         let first : items ≡ [] = close_is_first items (drop (k + 1) d.known) (subst AreWhole parts whole) in
@@ -157,7 +157,7 @@ module _ (b : Holder) (k place : ℕ) (m after : Holder) (x : Position)
           known = sym (take-append-drop (k + 1) d.known);
           is = all_read;
           holds = (first, read_next.1 ∙ (λ i. front i ++ same i ∷ []) ∙ ap (λ l. all_more l ++ position.Close ∷ []) first);
-          next_word = behind ∙ ap (λ (j : ℕ). word_of d.start (length d.taken + j)) (sym (length-take-le (k + 1) d.known (omega arith)));
+          next_word = word_after ∙ ap (λ (j : ℕ). word_of d.start (length d.taken + j)) (sym (length-take-le (k + 1) d.known (omega arith)));
         }
 
 -- what is known ends a call
@@ -167,14 +167,14 @@ call_ends known k items whole some all front =
     let same : known ≡ all_more items = sym (take_all k known all) ∙ front in
     never_open items (omega (arith, ap length same, more_length items)) (subst AreWhole same whole)
 
--- the head is stored behind what was read
+-- the head is stored after what was read
 pub head_allowed : (slots id : ℕ) (b m : Holder) (what : Pulled) (items : List Item) (next : ℕ) → ReadsCall b m what items next
     → b.0.is_kernel ≡ true → length b.0.kernel.known ≤ 4096
     → Allows BothAgree slots id m 1 (λ _. next) (λ _. StoresHead (step slots 1 next 0 none) m next)
 head_allowed slots id b m what items next r is_kernel few =
     let d = b.0.kernel in
     let P : Holder → Type 0 = λ x. Allows BothAgree slots id x 1 (λ _. next) (λ _. StoresHead (step slots 1 next 0 none) x next) in
-    subst P (sym r.is) (stores_head slots id b.0 (with_first_behind d.start d.size (length d.taken) r.others r.read) next r.others r.read is_kernel refl r.known few r.next_word)
+    subst P (sym r.is) (stores_head slots id b.0 (with_first_after d.start d.size (length d.taken) r.others r.read) next r.others r.read is_kernel refl r.known few r.next_word)
 
 -- and with it that is taken
 pub head_taken : (slots : ℕ) (b m after : Holder) (what : Pulled) (items : List Item) (next : ℕ) → (r : ReadsCall b m what items next)

@@ -20,7 +20,7 @@ module _ {S : Type 0} where
   after-length homes old new =
       ap length (changes-homes homes old new) ∙ with_taken-length (with_given homes old) new ∙ with_given-length homes old
 
-  -- one part is given behind another
+  -- one part is given after another
   given_both : (homes : List (Option S)) (xs ys : List (ℕ × S))
       → with_given homes (xs ++ ys) ≡ with_given (with_given homes xs) ys
   given_both homes [] ys = refl
@@ -42,7 +42,7 @@ module _ {S : Type 0} (start size : ℕ) (power : IsPowerOfTwo size) (fits : siz
       → StandFrom start size (after homes old new) count xs
   stand_after homes old new count xs = subst (λ hs. StandFrom start size hs count xs) (sym (changes-homes homes old new))
 
-  -- More slots are taken, behind those that the seat holds.
+  -- More slots are taken, after those that the seat holds.
   module _ (homes : List (Option S)) (long : length homes ≡ size) (count : ℕ) (held more : List S) where
     abbrev old : List (ℕ × S)
     old = held_from start size count held
@@ -62,7 +62,7 @@ module _ {S : Type 0} (start size : ℕ) (power : IsPowerOfTwo size) (fits : siz
         let both = length-append held more in
         stand_after homes old new other xs (more_stands start size power fits homes count other held more xs (λ a b l m n o. clear a b l (omega arith) n o) h)
 
-  -- The slots that stand behind the others, with values of earlier counts, are given, and the others kept.
+  -- The slots that stand after the others, with values of earlier counts, are given, and the others kept.
   module _ (homes : List (Option S)) (long : length homes ≡ size) (count : ℕ) (kept done : List S) where
     abbrev front : List (ℕ × S)
     front = held_from start size (count + length done) kept

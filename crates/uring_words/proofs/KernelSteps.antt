@@ -4,7 +4,7 @@ use mathlib.Core.Option.{Option}
 use Rattle.uring_entry.specs.IndexWords.{word_of}
 use Rattle.uring_words.specs.Slots.{held_from, StandFrom}
 use Rattle.uring_words.specs.Submission.Rule.{Agree}
-use Rattle.uring_words.specs.Submission.Steps.{with_first_behind, tail_loaded, head_stored}
+use Rattle.uring_words.specs.Submission.Steps.{with_first_after, tail_loaded, head_stored}
 use Rattle.uring_words.specs.declared.submission.view.AppSide.{AppSide}
 use Rattle.uring_words.specs.declared.submission.view.KernelSide.{KernelSide}
 use Rattle.uring_words.specs.declared.submission.view.Position.{Position}
@@ -42,11 +42,11 @@ keeps_tail_loaded words homes a d h =
 pub keeps_head_stored : (words : List ℕ) (homes : List (Option Position)) (a : AppSide) (d : KernelSide) (w : ℕ) (others read : List Position)
     → (h : Agree words homes a d) → d.known ≡ read ++ others
     → w ≡ word_of a.start (length d.taken + length read)
-    → Agree (set words 1 w) (after homes (with_first_behind a.start a.size (length d.taken) others read) (held_from a.start a.size (length d.taken + length read) others)) a (head_stored d read others)
+    → Agree (set words 1 w) (after homes (with_first_after a.start a.size (length d.taken) others read) (held_from a.start a.size (length d.taken + length read) others)) a (head_stored d read others)
 keeps_head_stored words homes a d w others read h known is_word =
     let s = h.sized in
     let n : ℕ = length d.taken in
-    let held = with_first_behind a.start a.size n others read in
+    let held = with_first_after a.start a.size n others read in
     let kept = held_from a.start a.size (n + length read) others in
     let fits : a.size ≤ 2 ^ 32 = omega (arith, s.limit) in
     let count = all_published words homes a d h in

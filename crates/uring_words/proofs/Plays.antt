@@ -7,7 +7,7 @@ use Rattle.uring_entry.specs.IndexWords.{word_of}
 use Rattle.uring_words.specs.Slots.{app_has, held_from, kernel_has, StandFrom}
 use Rattle.uring_words.specs.Submission.Calls.{AreWhole}
 use Rattle.uring_words.specs.Submission.Rule.{BothAgree}
-use Rattle.uring_words.specs.Submission.Steps.{with_first_behind, tail_stored, head_loaded, all_given, tail_loaded, head_stored, StoresTail, LoadsHead, GivesAll, LoadsTail, StoresHead}
+use Rattle.uring_words.specs.Submission.Steps.{with_first_after, tail_stored, head_loaded, all_given, tail_loaded, head_stored, StoresTail, LoadsHead, GivesAll, LoadsTail, StoresHead}
 use Rattle.uring_words.specs.declared.sides.View.{View}
 use Rattle.uring_words.specs.declared.submission.view.AppSide.{AppSide}
 use Rattle.uring_words.specs.declared.submission.view.KernelSide.{KernelSide}
@@ -24,7 +24,7 @@ same_count start n m k few few' e = omega arith
 module _ (slots id : ℕ) (v : View AppSide KernelSide) (held : List (ℕ × Position)) where
   -- the tail is stored
   pub stores_tail : (word : ℕ) (blank written : List Position) → v.is_app ≡ true
-      → held ≡ with_first_behind v.app.start v.app.size (length v.app.published) blank written
+      → held ≡ with_first_after v.app.start v.app.size (length v.app.published) blank written
       → length v.app.published + (length written + length blank) ≡ v.app.end
       → length written + length blank ≤ v.app.size → v.app.size ≤ 4096
       → word ≡ word_of v.app.start (length v.app.published + length written)
@@ -34,7 +34,7 @@ module _ (slots id : ℕ) (v : View AppSide KernelSide) (held : List (ℕ × Pos
       app_hands slots id 0 (λ _. word) (λ ws. set ws 0 word) (λ _. refl) v held (λ _. StoresTail (step slots 0 word 0 none) (v, held) word) is_app (λ words homes d h both.
       let a = v.app in
       let n : ℕ = length a.published in
-      let old = with_first_behind a.start a.size n blank written in
+      let old = with_first_after a.start a.size n blank written in
       let new = held_from a.start a.size (n + length written) blank in
       let fits : a.size ≤ 2 ^ 32 = omega arith in (
         old,
@@ -141,7 +141,7 @@ module _ (slots id : ℕ) (v : View AppSide KernelSide) (held : List (ℕ × Pos
 
   -- the head is stored
   pub stores_head : (word : ℕ) (others read : List Position) → v.is_kernel ≡ true
-      → held ≡ with_first_behind v.kernel.start v.kernel.size (length v.kernel.taken) others read
+      → held ≡ with_first_after v.kernel.start v.kernel.size (length v.kernel.taken) others read
       → v.kernel.known ≡ read ++ others → length v.kernel.known ≤ 4096
       → word ≡ word_of v.kernel.start (length v.kernel.taken + length read)
       → Allows BothAgree slots id (v, held) 1 (λ _. word) (λ _. StoresHead (step slots 1 word 0 none) (v, held) word)
@@ -153,10 +153,10 @@ module _ (slots id : ℕ) (v : View AppSide KernelSide) (held : List (ℕ × Pos
       let fits : a.size ≤ 2 ^ 32 = omega (arith, s.limit) in
       let parts : length d.known ≡ length read + length others = ap length known ∙ length-append read others in
       let published = all_published words homes a d h in (
-        with_first_behind a.start a.size n others read,
+        with_first_after a.start a.size n others read,
         held_from a.start a.size (n + length read) others,
         head_stored d read others,
-        holds ∙ (λ i. with_first_behind (s.start i) (s.size i) n others read),
+        holds ∙ (λ i. with_first_after (s.start i) (s.size i) n others read),
         give_valid a.start a.size s.power fits homes s.places n others read (omega (arith, h.all, h.room)),
         keeps_head_stored words homes a d word others read h known (is_word ∙ ap (λ k. word_of k (n + length read)) s.start),
         λ others' read' same known' found.

@@ -68,7 +68,7 @@ module _ {S : Type 0} where
   with_taken-length homes (x ∷ xs) =
       length-set (with_taken homes xs) x.0 none ∙ with_taken-length homes xs
 
-  -- what is at home once a seat that held the slots of xs holds those of ys behind them too: it gives all back, and takes all
+  -- what is at home once a seat that held the slots of xs holds those of ys after them too: it gives all back, and takes all
   abbrev pub taken_more : (start size : ℕ) (homes : List (Option S)) (k : ℕ) (xs ys : List S) → List (Option S)
   taken_more start size homes k xs ys =
       with_taken (with_given homes (held_from start size k xs)) (held_from start size k (xs ++ ys))
@@ -162,7 +162,7 @@ module _ {S : Type 0} (start size : ℕ) (power : IsPowerOfTwo size) (fits : siz
         subst P (sym (takes_all-homes homes (held_from start size (j + 1) ys))) stays.0,
       )
 
-  -- two parts that stand one behind the other are one
+  -- two parts that stand one after the other are one
   pub stand_both : (homes : List (Option S)) (k n : ℕ) (xs ys : List S) → n ≡ k + length xs
       → StandFrom start size homes k xs → StandFrom start size homes n ys
       → StandFrom start size homes k (xs ++ ys)

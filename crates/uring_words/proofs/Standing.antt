@@ -33,8 +33,8 @@ apart start size j k power fits before near e =
 pub next_turn : (start size k : ℕ) → IsPowerOfTwo size → size ≤ 2 ^ 32
     → place_of start size (k + size) ≡ place_of start size k
 next_turn start size k power fits =
-    let behind : start + (k + size) ≡ (start + k) + size = omega arith in
+    let after : start + (k + size) ≡ (start + k) + size = omega arith in
     cell_of_count size start (k + size) power fits
-    ∙ ap (λ (n : ℕ). n % size) behind
+    ∙ ap (λ (n : ℕ). n % size) after
     ∙ add-mod_right (start + k) size
     ∙ sym (cell_of_count size start k power fits)

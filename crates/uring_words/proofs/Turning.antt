@@ -1,11 +1,11 @@
--- The first slot that a seat holds goes behind the others.
+-- The first slot that a seat holds goes after the others.
 use Rattle.std.proofs.Common.{◌≡◌, ℕ, zero, suc, ◌+◌, ◌<◌, List, [], ◌∷◌, ◌++◌, drop, take, length, refl, sym, ◌∙◌, ap, arith, append_assoc}
 use Rattle.atomic_table.specs.Table.{rest, turned}
 use Rattle.uring_words.specs.Places.{place_of}
 use Rattle.uring_words.specs.Slots.{held_from}
 
 module _ {S : Type 0} where
-  -- one element of a list, with those in front of it and those behind it
+  -- one element of a list, with those in front of it and those after it
   pub next_of : (k : ℕ) (xs : List S) → k < length xs
       → (x : S) × (drop k xs ≡ x ∷ drop (k + 1) xs) × (take (k + 1) xs ≡ take k xs ++ x ∷ [])
   next_of k [] below = absurd (omega arith)
@@ -31,7 +31,7 @@ module _ {S : Type 0} where
   value_of x [] = x
   value_of x (y ∷ ys) = y.1
 
-  -- the slots from a count on, of which k are done and stand behind the others
+  -- the slots from a count on, of which k are done and stand after the others
   abbrev pub part_done : (start size count k : ℕ) → List S → List S → List (ℕ × S)
   part_done start size count k all done =
       held_from start size (count + k) (drop k all) ++ held_from start size count done
@@ -53,11 +53,11 @@ module _ {S : Type 0} where
     pub is_next : (x : S) → me.1 ≡ (place, x) ∷ rest me.1 → x ≡ (next_of k all below).0
     is_next x read = ap (λ (l : List (ℕ × S)). value_of x l) (sym read ∙ first)
 
-    -- and goes behind the others with some value
-    pub goes_behind : (x : S) (after : V × List (ℕ × S)) → k ≡ length done
+    -- and goes after the others with some value
+    pub goes_after : (x : S) (after : V × List (ℕ × S)) → k ≡ length done
         → after ≡ (me.0, rest me.1 ++ (place, x) ∷ [])
         → after ≡ (v, part_done start size count (k + 1) all (done ++ x ∷ []))
-    goes_behind x after many moved =
+    goes_after x after many moved =
         let ahead = held_from start size (count + (k + 1)) (drop (k + 1) all) in
         moved ∙ (λ i. ((is i).0, ap rest first i ++ (at i, x) ∷ []))
         ∙ ap (λ l. (v, l)) (append_assoc ahead (held_from start size count done) ((place_of start size (count + k), x) ∷ [])
@@ -65,10 +65,10 @@ module _ {S : Type 0} where
         ∙ ap (λ l. ahead ++ l) (sym (held_more start size count done x)))
 
     -- with the value that it had
-    pub turns_behind : (x : S) (after : V × List (ℕ × S)) → done ≡ take k all → k ≡ length done
+    pub turns_after : (x : S) (after : V × List (ℕ × S)) → done ≡ take k all → k ≡ length done
         → me.1 ≡ (place, x) ∷ rest me.1 → after ≡ (me.0, turned me.1)
         → after ≡ (v, part_done start size count (k + 1) all (take (k + 1) all))
-    turns_behind x after same many read moved =
+    turns_after x after same many read moved =
         let n = next_of k all below in
-        goes_behind x after many (moved ∙ ap (λ l. (me.0, turned l)) read)
+        goes_after x after many (moved ∙ ap (λ l. (me.0, turned l)) read)
         ∙ ap (λ l. (v, part_done start size count (k + 1) all l)) (ap (λ l. l ++ x ∷ []) same ∙ ap (λ y. take k all ++ y ∷ []) (is_next x read) ∙ sym n.2)

@@ -17,7 +17,7 @@ module _ {S : Type 0} where
   held_from start size count (x ∷ xs) =
       (place_of start size count, x) ∷ held_from start size (count + 1) xs
 
-  -- these values are at home, which is where no seat holds them: the first stands at this count, and each other one behind it
+  -- these values are at home, which is where no seat holds them: the first stands at this count, and each other one after it
   abbrev pub StandFrom : (start size : ℕ) → List (Option S) → ℕ → List S → Type 0
   StandFrom start size homes count [] = Unit {0}
   StandFrom start size homes count (x ∷ xs) =

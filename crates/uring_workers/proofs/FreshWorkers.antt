@@ -1,4 +1,4 @@
--- One worker more behind fresh ones, in order.
+-- One worker more after fresh ones, in order.
 use Rattle.std.proofs.Common.{◌≡◌, ℕ, ◌<◌, List, [], ◌∷◌, ◌++◌, length, get_or, ◌≤◌, inl, inr, sym, subst, ap, ◌∙◌, arith}
 use Rattle.std.proofs.Math.Seq.{get_or-append_seam}
 use Rattle.std.proofs.lemmas.Bool.{cases_lt}
@@ -17,8 +17,8 @@ each_next : {X : Type 0} (P : ℕ → X → Type 0) (xs : List X) (x : X)
 each_next P xs x all last k d low =
     elim (cases_lt k (length xs)) [
       | inl before ↦ subst (P k) (sym (get_or_append_left xs (x ∷ []) d k before)) (all k d before)
-      | inr behind ↦
-          let here : length xs ≡ k = omega (arith, low, behind, length-append xs (x ∷ [])) in
+      | inr after ↦
+          let here : length xs ≡ k = omega (arith, low, after, length-append xs (x ∷ [])) in
           subst (λ i. P i (get_or (xs ++ x ∷ []) i d)) here (subst (P (length xs)) (sym (get_or-append_seam xs x [] d)) last)
     ]
 

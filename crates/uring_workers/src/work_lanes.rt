@@ -23,7 +23,7 @@ pub struct WorkLanes {
     pub results: Consumer<JobResult>,
 }
 
-/// A worker with so many empty files behind this gate, and the dispatcher's ends of its lanes. If the memory grants as many elements as a lane holds, and as there are files, there is no error.
+/// A worker with so many empty files after this gate, and the dispatcher's ends of its lanes. If the memory grants as many elements as a lane holds, and as there are files, there is no error.
 pub fn open_lanes<M: LaneMemory, G: Gate>(
     memory: &M,
     alloc: Global,
@@ -49,7 +49,7 @@ pub fn open_lanes<M: LaneMemory, G: Gate>(
     Ok((WorkLanes { jobs, results }, worker))
 }
 
-/// Workers behind these gates, in their order, each with so many empty files, and the dispatcher's ends of their lanes. Condition: there are at most 8.
+/// Workers after these gates, in their order, each with so many empty files, and the dispatcher's ends of their lanes. Condition: there are at most 8.
 pub fn open_all<G: Gate>(
     alloc: Global,
     files: u32,
@@ -82,7 +82,7 @@ pub fn open_all_in<M: LaneMemory, G: Gate>(
     Ok((lanes, workers))
 }
 
-/// One worker more, behind those that are there.
+/// One worker more, after those that are there.
 fn open_next<M: LaneMemory, G: Gate>(
     memory: &M,
     alloc: Global,

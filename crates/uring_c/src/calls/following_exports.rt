@@ -14,7 +14,7 @@ pub extern "C" fn wulgach_duties_after_end(
     is_stream: bool,
     is_draining: bool,
 ) -> u32
-    ensures { result ≡ word_of_end (spec.behind_end has_file has_instance is_stream is_draining) }
+    ensures { result ≡ word_of_end (spec.after_end has_file has_instance is_stream is_draining) }
 {
     end_word(duties_after_end(has_file, has_instance, is_stream, is_draining))
 }
@@ -28,7 +28,7 @@ fn end_word(duties: AfterEnd) -> u32
         | bit(8, duties.looks_at_counts)
         | bit(16, duties.unwatches)
         | bit(32, duties.forgets_descriptor)
-        | bit(64, duties.looks_behind)
+        | bit(64, duties.looks_after)
         | bit(128, duties.lets_start)
         | bit(256, duties.ends_drain)
         | bit(512, duties.leaves)

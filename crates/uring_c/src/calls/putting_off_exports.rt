@@ -1,16 +1,16 @@
-//! What waits behind a completion that was put off, for C: a function of `c/wulgach_taking.h`.
+//! What waits after a completion that was put off, for C: a function of `c/wulgach_taking.h`.
 ghost use Rattle.std.specs.Prelude.{◌≡◌};
 ghost use Rattle.uring_enter.specs.GoingOn.PuttingOff as spec;
 ghost use Rattle.uring_c.specs.PuttingOffForm.{coming_of, word_of_order};
 
-use uring_enter::{Coming, Order, order_behind};
+use uring_enter::{Coming, Order, order_after};
 
 /// Returns whether this comes now, where a completion was put off or none, and memory was refused for it again just before or wasn't.
 #[unsafe(no_mangle)]
 pub extern "C" fn wulgach_order_after(what: u32, is_put_off: bool, is_refused: bool) -> u32
-    ensures { result ≡ word_of_order (spec.order_behind (coming_of what) is_put_off is_refused) }
+    ensures { result ≡ word_of_order (spec.order_after (coming_of what) is_put_off is_refused) }
 {
-    match order_behind(coming(what), is_put_off, is_refused) {
+    match order_after(coming(what), is_put_off, is_refused) {
         Order::Comes => 0,
         Order::PostsFirst => 1,
         Order::Waits => 2,

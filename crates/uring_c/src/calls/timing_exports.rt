@@ -6,7 +6,7 @@ ghost use Rattle.uring_operations.specs.Requests.Courses.{KeepsCourse};
 ghost use Rattle.uring_operations.specs.Requests.Afresh as afresh;
 ghost use Rattle.uring_operations.specs.Entries.Clocks as clocks;
 ghost use Rattle.uring_enter.specs.Cancels.Awaiting.{KeepsAwaiting, Look, HasSeen, HasEnded, may_see};
-ghost use Rattle.uring_operations.specs.Chains.Timings.{Happened, Starts, IsFound, Ends, was_found, runs, runs_behind};
+ghost use Rattle.uring_operations.specs.Chains.Timings.{Happened, Starts, IsFound, Ends, was_found, runs, runs_after};
 ghost use Rattle.uring_enter.specs.Rings.Visits as visits;
 ghost use Rattle.uring_c.specs.ChangingForm.{word_of_changing};
 ghost use Rattle.uring_c.specs.RingForm.{word_of_timing, word_of_visit, word_of_awaited, word_of_turn};
@@ -50,9 +50,9 @@ pub extern "C" fn wulgach_timing_after_start(
 ) -> u32
     ensures { (t : Timing) × (result ≡ word_of_timing t)
         × ((log : List Happened) → is_found ≡ was_found timeout.now log
-        → runs_behind t (runs timeout.now log) ≡ runs timeout.now (Starts request.now ∷ log)) }
+        → runs_after t (runs timeout.now log) ≡ runs timeout.now (Starts request.now ∷ log)) }
 {
-    timing_word(timeout.behind_start(request, is_found))
+    timing_word(timeout.after_start(request, is_found))
 }
 
 /// The same when a cancel finds a request.
@@ -60,7 +60,7 @@ pub extern "C" fn wulgach_timing_after_start(
 pub extern "C" fn wulgach_timing_after_finding(timeout: &Member, request: &Member) -> u32
     ensures { (t : Timing) × (result ≡ word_of_timing t)
         × ((log : List Happened)
-        → runs_behind t (runs timeout.now log) ≡ runs timeout.now (IsFound request.now ∷ log)) }
+        → runs_after t (runs timeout.now log) ≡ runs timeout.now (IsFound request.now ∷ log)) }
 {
     timing_word(timeout.after_finding(request))
 }
@@ -70,9 +70,9 @@ pub extern "C" fn wulgach_timing_after_finding(timeout: &Member, request: &Membe
 pub extern "C" fn wulgach_timing_after_end(timeout: &Member, request: &Member) -> u32
     ensures { (t : Timing) × (result ≡ word_of_timing t)
         × ((log : List Happened)
-        → runs_behind t (runs timeout.now log) ≡ runs timeout.now (Ends request.now ∷ log)) }
+        → runs_after t (runs timeout.now log) ≡ runs timeout.now (Ends request.now ∷ log)) }
 {
-    timing_word(timeout.behind_end(request))
+    timing_word(timeout.after_end(request))
 }
 
 fn timing_word(timing: Timing) -> u32

@@ -85,15 +85,15 @@ pub extern "C" fn wulgach_flags_after(
     was_asked: bool,
     is_known: bool,
     flags: u32,
-    behind: &mut u32,
+    after: &mut u32,
 ) -> bool
-    ensures { MatchOption (asking.flags_after was_asked is_known flags) ((result ≡ false) × (behind.new ≡ behind.old))
-        (λ set. (result ≡ true) × (behind.new ≡ set)) }
+    ensures { MatchOption (asking.flags_after was_asked is_known flags) ((result ≡ false) × (after.new ≡ after.old))
+        (λ set. (result ≡ true) × (after.new ≡ set)) }
 {
     let Some(set) = flags_after(was_asked, is_known, flags) else {
         return false;
     };
-    *behind = set;
+    *after = set;
     true
 }
 

@@ -65,10 +65,10 @@ pub extern "C" fn wulgach_synced_bytes(entry: &Submission, bytes: &mut SyncedByt
 
 /// Whether a path is of the folder that counts as the disk, or below.
 #[unsafe(no_mangle)]
-pub extern "C" fn wulgach_is_on_disk(begins_with_folder: bool, behind: u8) -> bool
-    ensures { result ≡ spec.is_on_disk begins_with_folder behind }
+pub extern "C" fn wulgach_is_on_disk(begins_with_folder: bool, after: u8) -> bool
+    ensures { result ≡ spec.is_on_disk begins_with_folder after }
 {
-    is_on_disk(begins_with_folder, behind)
+    is_on_disk(begins_with_folder, after)
 }
 
 /// Returns what an open does that has these flags.

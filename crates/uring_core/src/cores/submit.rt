@@ -32,7 +32,7 @@ pub enum NotSubmitted {
 }
 
 impl Core {
-    /// Makes all steps of a submission call of these entries at once: `LoadHead`; for each entry a `Fill` of the slot of its place, from 0, and an `Index`; `StoreTail`; a `Begin` of as many positions; a `Take` for each entry; and `End`, whose answer it returns. A ring that stops behind an entry with a fault leaves those after it published, for a later `Begin`.
+    /// Makes all steps of a submission call of these entries at once: `LoadHead`; for each entry a `Fill` of the slot of its place, from 0, and an `Index`; `StoreTail`; a `Begin` of as many positions; a `Take` for each entry; and `End`, whose answer it returns. A ring that stops after an entry with a fault leaves those after it published, for a later `Begin`.
     pub fn submit(&mut self, entries: &[Sqe]) -> Result<Answer, NotSubmitted>
         ensures setup { self.new.setup ≡ self.old.setup }
         ensures fits { IfOk result

@@ -25,7 +25,7 @@ abbrev pub has_any : List Timeout → Bool
 has_any [] = false
 has_any (t ∷ rows) = true
 
--- until when a call waits that waits so long at most, and begins to wait behind this log: after its submission
+-- until when a call waits that waits so long at most, and begins to wait after this log: after its submission
 abbrev pub deadline : List Event → Option ℕ → Option ℕ
 deadline log None = None
 deadline log (Some more) = Some (later (time log) more)

@@ -75,9 +75,9 @@ abbrev pub NotifiesAtLast : Type 0
 NotifiesAtLast = (is_posted : Bool) → parts_of_send is_posted ≡ (Sent ∷ Notice ∷ [])
 
 -- a completion comes after the call that submitted its request if the request ends in another call on the ring, be that one of io_uring_register(2): a cancel, by which what it finds ends. No call on the ring has submitted a message of another ring, or the tag of what is registered: such a one comes after them all. That a message does is our own rule
-abbrev pub is_behind : Posted → Bool
-is_behind end = end.is_message || not (end.call == end.ended)
+abbrev pub is_after : Posted → Bool
+is_after end = end.is_message || not (end.call == end.ended)
 
 -- an eventfd is told of each completion, or only of those that come after the call that submitted their request
 abbrev pub tells : Posted → Bool → Bool
-tells end is_async_alone = is_behind end || not is_async_alone
+tells end is_async_alone = is_after end || not is_async_alone

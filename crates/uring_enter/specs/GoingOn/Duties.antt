@@ -193,8 +193,8 @@ WatchesWhatIsHeld = (r : Resting) → r.runs ≡ true
     × (r.has_new ≡ true → comes_before (at_return r) KeepsNew HoldsFiles ≡ true)
 
 -- where many requests wait as a call returns, they become dormant after the pipes that are watched: so none does that was told of a write
-abbrev pub LiesBehindPipes : Type 0
-LiesBehindPipes = (r : Resting) → r.runs ≡ true → are_many r ≡ true
+abbrev pub LiesAfterPipes : Type 0
+LiesAfterPipes = (r : Resting) → r.runs ≡ true → are_many r ≡ true
     → comes_before (at_return r) WatchesPipes LetsLie ≡ true
 
 -- a call of io_uring_register(2) that may post completions does what one of io_uring_enter(2) does as it begins, and as it returns

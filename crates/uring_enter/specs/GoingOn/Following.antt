@@ -9,7 +9,7 @@ pub data EndDuty : Type 0 where
   LooksAtCounts : EndDuty
   Unwatches : EndDuty
   ForgetsDescriptor : EndDuty
-  LooksBehind : EndDuty
+  LooksAfter : EndDuty
   LetsStart : EndDuty
   EndsDrain : EndDuty
   Leaves : EndDuty
@@ -23,7 +23,7 @@ end_place StopsTimeout = 2
 end_place LooksAtCounts = 3
 end_place Unwatches = 4
 end_place ForgetsDescriptor = 5
-end_place LooksBehind = 6
+end_place LooksAfter = 6
 end_place LetsStart = 7
 end_place EndsDrain = 8
 end_place Leaves = 9
@@ -36,22 +36,22 @@ is_end_due d StopsTimeout = d.stops_timeout
 is_end_due d LooksAtCounts = d.looks_at_counts
 is_end_due d Unwatches = d.unwatches
 is_end_due d ForgetsDescriptor = d.forgets_descriptor
-is_end_due d LooksBehind = d.looks_behind
+is_end_due d LooksAfter = d.looks_after
 is_end_due d LetsStart = d.lets_start
 is_end_due d EndsDrain = d.ends_drain
 is_end_due d Leaves = d.leaves
 is_end_due d HasEnds = d.has_ends
 
 -- after each end all of this is done, but that only what was polled for is polled for no more, only of one that may have had to wait for its descriptor anything tells, and only one that drains ends to do so
-abbrev pub behind_end : (has_file has_instance is_stream is_draining : Bool) → AfterEnd
-behind_end has_file has_instance is_stream is_draining = record {
+abbrev pub after_end : (has_file has_instance is_stream is_draining : Bool) → AfterEnd
+after_end has_file has_instance is_stream is_draining = record {
   keeps_completion = true;
   counts = true;
   stops_timeout = true;
   looks_at_counts = true;
   unwatches = has_file || has_instance;
   forgets_descriptor = is_stream;
-  looks_behind = true;
+  looks_after = true;
   lets_start = true;
   ends_drain = is_draining;
   leaves = true;

@@ -1,4 +1,4 @@
--- What waits behind a completion that was put off, since the core was refused memory for it, by what has happened, the newest first. Our own rules: the core was given it as a request of its own, so it can be given nothing else before; and what happens to a request is told in its order. A request that is carried out ends whatever is put off, and isn't told of here.
+-- What waits after a completion that was put off, since the core was refused memory for it, by what has happened, the newest first. Our own rules: the core was given it as a request of its own, so it can be given nothing else before; and what happens to a request is told in its order. A request that is carried out ends whatever is put off, and isn't told of here.
 use Rattle.std.specs.Prelude.{◌≡◌, Bool, true, false, not, List, [], ◌∷◌, if◌then◌else◌}
 use Rattle.uring_enter.specs.declared.going_on.putting_off.Coming.{Coming}
 use Rattle.uring_enter.specs.declared.going_on.putting_off.Coming.TheVariants.{Submission, Posting, End}
@@ -35,14 +35,14 @@ after_refusal Posting = Waits
 after_refusal End = Comes
 
 -- whether something comes now: where nothing is put off, at once; else the core is given first what is
-abbrev pub order_behind : Coming → (is_put_off is_refused : Bool) → Order
-order_behind what is_put_off is_refused =
+abbrev pub order_after : Coming → (is_put_off is_refused : Bool) → Order
+order_after what is_put_off is_refused =
     if not is_put_off then Comes else
     if is_refused then after_refusal what else PostsFirst
 
 -- the same, by what has happened
 abbrev pub order_by : List Happening → Coming → Order
-order_by log what = order_behind what (is_put_off log) (is_refused log)
+order_by log what = order_after what (is_put_off log) (is_refused log)
 
 -- a run: each thing comes in its turn
 abbrev pub IsRun : List Happening → Type 0

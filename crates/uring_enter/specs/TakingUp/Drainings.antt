@@ -1,4 +1,4 @@
--- Which outstanding requests drain, by what has happened, the newest first. io_uring_enter(2), IOSQE_IO_DRAIN. That a completion which belongs to no end of a request waits behind them by the manual pages' rules is our own rule: it is a request of its own to the core, and so would wait. By Linux's rules it is a request whose entry has a fault, and so waits for no drain.
+-- Which outstanding requests drain, by what has happened, the newest first. io_uring_enter(2), IOSQE_IO_DRAIN. That a completion which belongs to no end of a request waits after them by the manual pages' rules is our own rule: it is a request of its own to the core, and so would wait. By Linux's rules it is a request whose entry has a fault, and so waits for no drain.
 use Rattle.std.specs.Prelude.{◌≡◌, ℕ, ◌+◌, ◌-◌, Bool, true, false, not, ◌&&◌, ◌||◌, ◌==◌, ◌⊎◌, length, List, [], ◌∷◌, if◌then◌else◌}
 use Rattle.uring_enter.specs.TakingUp.CoreEntries.{is_drain}
 use Rattle.uring_operations.specs.Calls.Means.{changes_slots}

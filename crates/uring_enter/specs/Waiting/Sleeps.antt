@@ -24,9 +24,9 @@ comes_to log None can_be_woken = None
 comes_to log (Some at) can_be_woken =
     if can_be_woken || nat_le (left log at) nap then Some at else None
 
-abbrev pub behind_end : List Event → Option ℕ → List Event
-behind_end log None = log
-behind_end log (Some at) = Clock at ∷ log
+abbrev pub after_end : List Event → Option ℕ → List Event
+after_end log None = log
+after_end log (Some at) = Clock at ∷ log
 
 -- to when a sleep has come: to its end only if nothing has ended it before, which ppoll(2) says by 0. One that a descriptor, a signal or an error has ended adds only what a clock says
 abbrev pub reached : Option ℕ → ℤ → Option ℕ
@@ -34,7 +34,7 @@ reached end came = if int_eq came (pos 0) then end else None
 
 -- what has happened after a sleep
 abbrev pub after_sleep : List Event → Option ℕ → ℤ → List Event
-after_sleep log end came = behind_end log (reached end came)
+after_sleep log end came = after_end log (reached end came)
 
 -- what a sleep lets pass by a clock: where time is real it is what the clock says since the ring's time began, and else what was slept is added
 abbrev pub passes : (is_real : Bool) → (origin start stop : ℕ) → Event

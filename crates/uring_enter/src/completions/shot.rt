@@ -2,7 +2,7 @@
 
 ghost use Rattle.std.specs.Prelude.{◌≡◌, List};
 ghost use Rattle.uring_enter.specs.Completions.Showing.{Change, KeepsShown};
-ghost use Rattle.uring_enter.specs.Completions.Shots.{NotifiesAtLast, TellsABufferOnce, brings, comes_of_ring, completion_flags, end_of_send, goes_on, has_room, is_behind, shot_of, tells, untold_after};
+ghost use Rattle.uring_enter.specs.Completions.Shots.{NotifiesAtLast, TellsABufferOnce, brings, comes_of_ring, completion_flags, end_of_send, goes_on, has_room, is_after, shot_of, tells, untold_after};
 
 use crate::completions::posted::Posted;
 use crate::completions::showing::Shown;
@@ -145,12 +145,12 @@ impl Posted {
     pub fn tells(&self, is_async_alone: bool) -> bool
         ensures { result ≡ tells self.now is_async_alone }
     {
-        self.is_behind() || !is_async_alone
+        self.is_after() || !is_async_alone
     }
 
     /// Whether it comes after the call that submitted its request.
-    fn is_behind(&self) -> bool
-        ensures { result ≡ is_behind self.now }
+    fn is_after(&self) -> bool
+        ensures { result ≡ is_after self.now }
     {
         self.is_message || self.call != self.ended
     }

@@ -2,7 +2,7 @@
 
 ghost use Rattle.std.specs.Prelude.{◌≡◌};
 ghost use Rattle.uring_enter.specs.GoingOn.Duties as spec;
-ghost use Rattle.uring_enter.specs.GoingOn.Duties.{ShowsAtLast, TellsOfWhatIsShown, WatchesWhatIsHeld, LiesBehindPipes, RegistersAsItEnters, HearsBeforeItPosts, NeedsNoAsking};
+ghost use Rattle.uring_enter.specs.GoingOn.Duties.{ShowsAtLast, TellsOfWhatIsShown, WatchesWhatIsHeld, LiesAfterPipes, RegistersAsItEnters, HearsBeforeItPosts, NeedsNoAsking};
 
 use crate::call::reply::Reply;
 
@@ -272,8 +272,8 @@ pub fn watches_what_is_held()
 {}
 
 /// Of many that wait those become dormant after the pipes that are watched.
-pub fn lies_behind_pipes()
-    ensures { LiesBehindPipes }
+pub fn lies_after_pipes()
+    ensures { LiesAfterPipes }
 {}
 
 /// A call of io_uring_register(2) that may post completions does what any call does as it begins, and as it returns.

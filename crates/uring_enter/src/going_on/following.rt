@@ -25,7 +25,7 @@ pub struct AfterEnd {
     pub forgets_descriptor: bool,
 
     /// Those that run are looked at again, if it may let one be finished.
-    pub looks_behind: bool,
+    pub looks_after: bool,
 
     /// Those are noted that it lets start.
     pub lets_start: bool,
@@ -47,7 +47,7 @@ pub fn duties_after_end(
     is_stream: bool,
     is_draining: bool,
 ) -> AfterEnd
-    ensures { result ≡ spec.behind_end has_file has_instance is_stream is_draining }
+    ensures { result ≡ spec.after_end has_file has_instance is_stream is_draining }
 {
     AfterEnd {
         keeps_completion: true,
@@ -56,7 +56,7 @@ pub fn duties_after_end(
         looks_at_counts: true,
         unwatches: has_file || has_instance,
         forgets_descriptor: is_stream,
-        looks_behind: true,
+        looks_after: true,
         lets_start: true,
         ends_drain: is_draining,
         leaves: true,

@@ -1,4 +1,4 @@
-//! What waits behind a completion that was put off, since the core was refused memory for it. Our own rule.
+//! What waits after a completion that was put off, since the core was refused memory for it. Our own rule.
 
 ghost use Rattle.std.specs.Prelude.{◌≡◌};
 ghost use Rattle.uring_enter.specs.GoingOn.PuttingOff as spec;
@@ -31,8 +31,8 @@ pub enum Order {
 }
 
 /// Whether this comes now, where a completion was put off or none, and memory was refused for it again just before or wasn't.
-pub fn order_behind(what: Coming, is_put_off: bool, is_refused: bool) -> Order
-    ensures { result ≡ spec.order_behind what is_put_off is_refused }
+pub fn order_after(what: Coming, is_put_off: bool, is_refused: bool) -> Order
+    ensures { result ≡ spec.order_after what is_put_off is_refused }
 {
     if !is_put_off {
         return Order::Comes;

@@ -4,7 +4,7 @@ ghost use Rattle.std.specs.Prelude.{◌≡◌, List, ◌∷◌};
 ghost use Rattle.uring_operations.specs.declared.entries.timeout.Timeout.{Timeout};
 ghost use Rattle.uring_operations.specs.Entries.Timeouts.{Event};
 ghost use Rattle.uring_enter.specs.Time.Kept.{KeepsTime};
-ghost use Rattle.uring_enter.specs.Waiting.Sleeps.{behind_end, after_sleep, lasts_at_most, comes_to, passes, reached, IsSpan};
+ghost use Rattle.uring_enter.specs.Waiting.Sleeps.{after_end, after_sleep, lasts_at_most, comes_to, passes, reached, IsSpan};
 
 use crate::time::times::Times;
 use uring_operations::left_until;
@@ -87,7 +87,7 @@ impl Times {
     /// Time moves on to then, if it does.
     fn come_to(&mut self, end: Option<u64>)
         ensures { (log : List Event) (rows : List Timeout) → KeepsTime log self.old rows
-            → KeepsTime (behind_end log end) self.new rows }
+            → KeepsTime (after_end log end) self.new rows }
     {
         if let Some(at) = end {
             self.move_to(at);

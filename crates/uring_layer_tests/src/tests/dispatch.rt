@@ -144,7 +144,7 @@ impl EachCall {
     }
 }
 
-/// What is first wrong of a call of one entry and all that comes behind.
+/// What is first wrong of a call of one entry and all that comes after.
 fn first_wrong_of_one(dispatch: &mut Dispatch) -> Result<Option<usize>, Fail>
     requires { IsTrue dispatch.old.is_between_calls }
 {
@@ -221,7 +221,7 @@ enum Case {
     EachCall,
     RefusedReserves,
 
-    /// With ample memory room is made for 5,000 requests at once, behind as many that were accepted.
+    /// With ample memory room is made for 5,000 requests at once, after as many that were accepted.
     Thousands,
 }
 

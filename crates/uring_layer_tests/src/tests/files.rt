@@ -182,7 +182,7 @@ fn are_right_of_a_full_file(files: &mut Files) -> [bool; 4] {
     ]
 }
 
-/// Writes behind gaps in a file that isn't empty, up to its largest size.
+/// Writes after gaps in a file that isn't empty, up to its largest size.
 static GAPS: [Transfer; 9] = [
     (0, 0, 3, 3),
     (0, 4, 1, 1),
@@ -195,8 +195,8 @@ static GAPS: [Transfer; 9] = [
     (0, 3, 1, 1),
 ];
 
-/// In each of 64 files a write of 5 bytes, and one of 6 behind a gap. How many ended otherwise.
-fn failures_behind_gaps(files: &mut Files) -> usize {
+/// In each of 64 files a write of 5 bytes, and one of 6 after a gap. How many ended otherwise.
+fn failures_after_gaps(files: &mut Files) -> usize {
     let mut failures: usize = 0;
     for fd in 0..64u8 {
         let first = write(files, i32::from(fd), 0, b"first");
@@ -209,7 +209,7 @@ fn failures_behind_gaps(files: &mut Files) -> usize {
 }
 
 /// Whether the writes to one file end as they should, and what it has and how it stands then.
-fn are_right_behind_gaps(file: &mut Files) -> [bool; 3] {
+fn are_right_after_gaps(file: &mut Files) -> [bool; 3] {
     let wrong = first_wrong_write(file, &GAPS);
     let bytes = [
         file.byte(0, 3),
@@ -226,11 +226,11 @@ fn are_right_behind_gaps(file: &mut Files) -> [bool; 3] {
 
 /// Whether all the writes to 64 files end as they should, and how the last file stands then.
 fn are_right_in_many(files: &mut Files) -> [bool; 2] {
-    let failures = failures_behind_gaps(files);
+    let failures = failures_after_gaps(files);
     [failures == 0, files.state(63) == standing(63_006, 2, 0)]
 }
 
-/// Two writes of one file, the second behind a gap: their results, how the file stood after each, and three of its bytes.
+/// Two writes of one file, the second after a gap: their results, how the file stood after each, and three of its bytes.
 #[derive(Clone, Copy)]
 struct Grown {
     results: (i32, i32),
@@ -296,7 +296,7 @@ enum Case {
     Edges,
     FullFile,
 
-    /// With ample memory no write is out of memory, however far it lies behind a file's end, and however many files there are.
+    /// With ample memory no write is out of memory, however far it lies after a file's end, and however many files there are.
     GapsInOne,
     GapsInMany,
 
@@ -310,7 +310,7 @@ fn first_wrong(files: &mut Files, case: Case) -> Option<usize> {
         Case::InTurn => first_false(&in_turn(files).are_right()),
         Case::Edges => first_false(&are_right_at_the_edges(files)),
         Case::FullFile => first_false(&are_right_of_a_full_file(files)),
-        Case::GapsInOne => first_false(&are_right_behind_gaps(files)),
+        Case::GapsInOne => first_false(&are_right_after_gaps(files)),
         Case::GapsInMany => first_false(&are_right_in_many(files)),
         Case::GrowsOrStays => first_false(&[grow_twice(files).is_right()]),
     }

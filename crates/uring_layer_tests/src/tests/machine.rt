@@ -43,7 +43,7 @@ enum Case {
     /// It tells what Begin would be answered: where nothing is published, where an entry is, and once it is closed.
     TellsBegin,
 
-    /// It tells a wrong Tail, and goes on by the right answer of the step behind it.
+    /// It tells a wrong Tail, and goes on by the right answer of the step after it.
     GoesOn,
 }
 

@@ -86,7 +86,7 @@ impl Machine {
         self.core.next()
     }
 
-    /// The least request from this number on, any number, that can be issued: so all of them, in order, from 0 on, each time from the number behind the last. It is no step, and so not part of a history.
+    /// The least request from this number on, any number, that can be issued: so all of them, in order, from 0 on, each time from the number after the last. It is no step, and so not part of a history.
     pub fn next_issuable(&self, number: u64) -> Option<u64>
         ensures { (h : History) → Fits self.now h
             → result ≡ issuable_from self.now.core.setup.linux (requests_of (world self.now.core.setup h)) number }

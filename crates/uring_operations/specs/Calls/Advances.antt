@@ -35,6 +35,6 @@ places [] = []
 places (v ∷ later) = places_from v.from v.size ++ places later
 
 -- so none is moved twice, and none is left out
-abbrev pub LeavesWhatIsBehind : Type 0
-LeavesWhatIsBehind = (vectors : List Vector) (moved : ℕ)
+abbrev pub LeavesWhatIsAfter : Type 0
+LeavesWhatIsAfter = (vectors : List Vector) (moved : ℕ)
     → places (left_of vectors moved) ≡ drop moved (places vectors)

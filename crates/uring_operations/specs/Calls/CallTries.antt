@@ -62,8 +62,8 @@ after_connect c res =
     if int_eq res (error 115) || c.has_begun && int_eq res (error 114) then Waits else
     if is_connected c res then Ends (pos 0) else Ends res
 
-abbrev pub behind_call : Submission → Call → ℤ → Turn
-behind_call e c res =
+abbrev pub after_call : Submission → Call → ℤ → Turn
+after_call e c res =
     if e.opcode == 16 then after_connect c res else
     if int_eq res (error 11) then would_wait e c else
     if has_message_flags e.opcode then after_message e c res else Ends res
@@ -78,16 +78,16 @@ abbrev pub after_error : Submission → ℤ → Turn
 after_error e res = if e.opcode == 16 && int_eq res (pos 0) then Does Calls else Ends res
 
 -- what is done next, after what was done last, which came to `res`: a question to a number that is 0 for no. After a call, `done` has what it has moved too
-abbrev pub behind : Submission → Call → Doing → ℤ → Turn
-behind e c Calls res = behind_call e c res
-behind e c Polls res = after_poll e (not (int_eq res (pos 0)))
-behind e c AsksWill res = if int_eq res (pos 0) then Waits else ends_with e c (error 11)
-behind e c AsksType res = if int_eq res (pos 0) then EndsWithDone else Waits
-behind e c AsksError res = after_error e res
+abbrev pub after : Submission → Call → Doing → ℤ → Turn
+after e c Calls res = after_call e c res
+after e c Polls res = after_poll e (not (int_eq res (pos 0)))
+after e c AsksWill res = if int_eq res (pos 0) then Waits else ends_with e c (error 11)
+after e c AsksType res = if int_eq res (pos 0) then EndsWithDone else Waits
+after e c AsksError res = after_error e res
 
 abbrev pub next_of : Submission → Call → Option Doing → ℤ → Turn
 next_of e c None res = begins e c
-next_of e c (Some doing) res = behind e c doing res
+next_of e c (Some doing) res = after e c doing res
 
 -- a descriptor was found ready
 abbrev pub was_ready : Option Doing → ℤ → Bool

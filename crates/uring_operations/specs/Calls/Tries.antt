@@ -45,19 +45,19 @@ abbrev pub unless : Bool → ℤ → Step
 unless is_end res = if is_end then Ends res else Does Finds
 
 -- what is done next, after a task that came to `res`; of what is found out about the descriptor, `res` is that of the call before. A read that was made at once and hasn't moved all is made once more, unless a stream gave what it moved; so is what was tried at an offset, on what has none (-29, ESPIPE)
-abbrev pub behind : Transfer → Task → ℤ → Step
-behind t (Calls AtOnce) res = unless (is_all res t.length) res
-behind t (Calls Tried) res = unless (not (int_eq res (error 29))) res
-behind t (Calls Plain) res = Ends res
-behind t (Calls Nonblocking) res = after_asking t res
-behind t (Calls Unwilling) res = unless_waiting t res
-behind t Finds res = if t.is_stream && has_moved res then Ends res else carries_out t
-behind t Polls res = if int_eq res (pos 0) then Waits else Does (Calls Unwilling)
+abbrev pub after : Transfer → Task → ℤ → Step
+after t (Calls AtOnce) res = unless (is_all res t.length) res
+after t (Calls Tried) res = unless (not (int_eq res (error 29))) res
+after t (Calls Plain) res = Ends res
+after t (Calls Nonblocking) res = after_asking t res
+after t (Calls Unwilling) res = unless_waiting t res
+after t Finds res = if t.is_stream && has_moved res then Ends res else carries_out t
+after t Polls res = if int_eq res (pos 0) then Waits else Does (Calls Unwilling)
 
 -- what is done next
 abbrev pub next_of : Transfer → Option Task → ℤ → Step
 next_of t None res = begins t
-next_of t (Some task) res = behind t task res
+next_of t (Some task) res = after t task res
 
 -- a stream that has no offsets is moved at none: 2^64 - 1. io_uring_prep_read(3)
 abbrev pub offset_of : Transfer → ℕ → ℕ
@@ -91,4 +91,4 @@ TellsWhatCame = (t : Transfer) (last : Option Task) (res end : ℤ) → next_of 
 -- what a stream has given is told: no call is made after that
 abbrev pub LosesNothing : Type 0
 LosesNothing = (t : Transfer) (task : Task) (n : ℕ) (how : How) → t.is_stream ≡ true
-    → behind t task (pos (suc n)) ≡ Does (Calls how) → task ≡ Polls
+    → after t task (pos (suc n)) ≡ Does (Calls how) → task ≡ Polls

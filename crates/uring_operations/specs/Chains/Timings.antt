@@ -36,7 +36,7 @@ runs timeout (Ends request ∷ earlier) =
     runs timeout earlier && not (is_timed_by timeout request || request.number == timeout.number)
 
 -- whether it runs after what is to be done
-abbrev pub runs_behind : Timing → Bool → Bool
-runs_behind Stays runs = runs
-runs_behind Begins _ = true
-runs_behind Stops _ = false
+abbrev pub runs_after : Timing → Bool → Bool
+runs_after Stays runs = runs
+runs_after Begins _ = true
+runs_after Stops _ = false

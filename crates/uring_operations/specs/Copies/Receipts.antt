@@ -19,8 +19,8 @@ after_name r = field_of r.flags 48 4 ∷ field_of r.control_size 40 8 ∷ []
 abbrev pub told : Received → List Field
 told r = if r.has_name then field_of r.name_size 8 4 ∷ after_name r else after_name r
 
-abbrev pub next_told : Received → (behind : ℕ) → Option Field
-next_told r behind = nth (told r) behind
+abbrev pub next_told : Received → (after : ℕ) → Option Field
+next_told r after = nth (told r) after
 
 -- what stands in front of each message of one that goes on, four words of 32 bits: how many bytes the address has, which may be more than had room, and the control data; how many the message has; and its flags
 abbrev pub front_of : Received → (size : ℕ) → Front

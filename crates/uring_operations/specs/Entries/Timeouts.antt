@@ -122,8 +122,8 @@ NoneIsReached rows count = (t : Timeout) → Contains rows t → is_reached_by c
 -- a timeout is the first of these whose count is reached: none before it has one that is. Those that run stand in the order in which they started
 pub record IsFirstReached (rows : List Timeout) (count : ℕ) (t : Timeout) : Type 0 where
   pub before : List Timeout
-  pub behind : List Timeout
-  pub split : rows ≡ before ++ t ∷ behind
+  pub after : List Timeout
+  pub split : rows ≡ before ++ t ∷ after
   pub reached : is_reached_by count t ≡ true
   pub first : NoneIsReached before count
 

@@ -47,8 +47,8 @@ synced_bytes e =
     if e.off == 0 && e.len == 0 then None else Some (record { begin = e.off; length = e.len })
 
 -- whether a path is of the folder that counts as the disk, or below: it begins with the folder's, after which it ends (0) or goes on with a slash (47). Our own rule
-abbrev pub is_on_disk : (begins_with_folder : Bool) → (behind : ℕ) → Bool
-is_on_disk begins_with_folder behind = begins_with_folder && (behind == 0 || behind == 47)
+abbrev pub is_on_disk : (begins_with_folder : Bool) → (after : ℕ) → Bool
+is_on_disk begins_with_folder after = begins_with_folder && (after == 0 || after == 47)
 
 -- what an open does to a file and its names: with O_PATH (2^21) nothing; with O_TMPFILE (2^22, with O_DIRECTORY, 2^16) it makes a file without a name; where nothing is, with O_CREAT (64) one with a name; and of a regular file that is there, with O_TRUNC (512), it takes the bytes, unless that one mustn't be there: O_EXCL (128) with O_CREAT. open(2)
 abbrev pub open_logged : (flags : ℕ) → (is_there is_regular : Bool) → LoggedOpen

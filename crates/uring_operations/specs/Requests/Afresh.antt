@@ -62,7 +62,7 @@ AsksWhatWasChanged = (begins_afresh : Bool) → is_done (changing_by begins_afre
     × (comes_before (changing_by begins_afresh) Unwatches AsksEvents ≡ true)
     × (comes_before (changing_by begins_afresh) AsksEvents Looks ≡ true)
 
--- a cancel by io_uring_register(2) waits for the requests that a cancel has found, and that haven't ended: IORING_REGISTER_SYNC_CANCEL. One that hasn't started starts first, and so ends too, if the core lets it start; the kernel waits for none that waits behind others
+-- a cancel by io_uring_register(2) waits for the requests that a cancel has found, and that haven't ended: IORING_REGISTER_SYNC_CANCEL. One that hasn't started starts first, and so ends too, if the core lets it start; the kernel waits for none that waits after others
 abbrev pub awaited : List Fact → (may_start : Bool) → Awaited
 awaited log may_start =
     if has_ended log then NotAwaited else

@@ -2,7 +2,7 @@
 
 ghost use Rattle.std.specs.Prelude.{◌≡◌, ◌+◌, ◌-◌, ◌^◌, ◌<◌};
 ghost use Rattle.uring_operations.specs.Calls.Advances as spec;
-ghost use Rattle.uring_operations.specs.Calls.Advances.{LeavesWhatIsBehind};
+ghost use Rattle.uring_operations.specs.Calls.Advances.{LeavesWhatIsAfter};
 
 /// A vector: `struct iovec`.
 #[repr(C)]
@@ -48,6 +48,6 @@ pub fn rest_of(vector: &Vector, moved: u64) -> Rest
 }
 
 /// Where each vector is moved on in turn, the bytes that are left are those after the ones that were moved.
-pub fn leaves_what_is_behind()
-    ensures { LeavesWhatIsBehind }
+pub fn leaves_what_is_after()
+    ensures { LeavesWhatIsAfter }
 {}

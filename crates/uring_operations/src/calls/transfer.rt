@@ -86,7 +86,7 @@ pub fn next_step(transfer: &Transfer, last: Option<Task>, res: i32) -> Step
 {
     match last {
         None => begins(transfer),
-        Some(task) => behind(transfer, task, res),
+        Some(task) => after(transfer, task, res),
     }
 }
 
@@ -115,8 +115,8 @@ fn carries_out(transfer: &Transfer) -> Step
     }
 }
 
-fn behind(transfer: &Transfer, task: Task, res: i32) -> Step
-    ensures { result ≡ spec.behind transfer.now task res }
+fn after(transfer: &Transfer, task: Task, res: i32) -> Step
+    ensures { result ≡ spec.after transfer.now task res }
 {
     match task {
         Task::Calls(How::AtOnce) => unless(is_all(res, transfer.length), res),

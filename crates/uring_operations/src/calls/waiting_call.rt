@@ -75,7 +75,7 @@ pub fn next_turn(entry: &Submission, call: &Call, last: Option<Doing>, res: i32)
 {
     match last {
         None => begins(entry, call),
-        Some(Doing::Calls) => behind_call(entry, call, res),
+        Some(Doing::Calls) => after_call(entry, call, res),
         Some(Doing::Polls) => after_poll(entry, res != 0),
         Some(Doing::AsksWill) => {
             if res == 0 {
@@ -154,8 +154,8 @@ fn after_message(entry: &Submission, call: &Call, res: i32) -> Turn
     }
 }
 
-fn behind_call(entry: &Submission, call: &Call, res: i32) -> Turn
-    ensures { result ≡ spec.behind_call entry.now call.now res }
+fn after_call(entry: &Submission, call: &Call, res: i32) -> Turn
+    ensures { result ≡ spec.after_call entry.now call.now res }
 {
     if entry.opcode == 16 {
         after_connect(call, res)

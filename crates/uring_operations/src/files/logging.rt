@@ -135,10 +135,10 @@ pub fn synced_bytes(entry: &Submission) -> Option<SyncedBytes>
 }
 
 /// Whether a path is of the folder that counts as the disk, or below: whether it begins with the folder's, and the letter after that, or 0.
-pub fn is_on_disk(begins_with_folder: bool, behind: u8) -> bool
-    ensures { result ≡ spec.is_on_disk begins_with_folder behind }
+pub fn is_on_disk(begins_with_folder: bool, after: u8) -> bool
+    ensures { result ≡ spec.is_on_disk begins_with_folder after }
 {
-    begins_with_folder && (behind == 0 || behind == b'/')
+    begins_with_folder && (after == 0 || after == b'/')
 }
 
 /// What an open does that has these flags. open(2).

@@ -97,7 +97,7 @@ fn carries_out_all(kernel: &mut Kernel<KernelLanes>, workers: &mut [Worker<Open>
 }
 
 /// Whether four more items are put and no more, and nothing comes back.
-fn is_full_behind_four(app: &mut AppEnd<AppLanes>) -> bool {
+fn is_full_after_four(app: &mut AppEnd<AppLanes>) -> bool {
     let four = items(&[Nop(2), Nop(3), Nop(4), Nop(5)]);
     app.submit(&four[..4]) == Ok(())
         && app.submit(&four[..1]) == Err(SubmitRefusal::Full)
@@ -139,7 +139,7 @@ fn go_on_without_dispatcher(ends: Lanes) -> bool {
         mut workers,
     } = ends;
     drop(kernel);
-    let right = works(&mut workers, &FIRST_DONE) && is_full_behind_four(&mut app);
+    let right = works(&mut workers, &FIRST_DONE) && is_full_after_four(&mut app);
     drop(app);
     drop(workers);
     right

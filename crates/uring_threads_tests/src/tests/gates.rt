@@ -44,7 +44,7 @@ fn was_shown(shown: &Shown, times: u64, number: u64, len: u64) -> bool {
         && shown.len.load(Ordering::SeqCst) == len
 }
 
-/// Whether two writes of two bytes each, one behind the other, are carried out, the gate being shown the file as the first left it.
+/// Whether two writes of two bytes each, one after the other, are carried out, the gate being shown the file as the first left it.
 fn goes_through<K: KernelPort, G: Gate>(ends: &mut Ends<K, G>, shown: &Shown) -> bool {
     let first = Item::Entry(Sqe::write(1, 0, 0, 0, &[97, 98]));
     let second = Item::Entry(Sqe::write(2, 0, 0, 2, &[99, 100]));
@@ -56,7 +56,7 @@ fn goes_through<K: KernelPort, G: Gate>(ends: &mut Ends<K, G>, shown: &Shown) ->
     submitted && taken && before && one && two
 }
 
-/// Whether worker 0 carries out this job, its gate being shown it as the one behind so many others, with file 0 of this length.
+/// Whether worker 0 carries out this job, its gate being shown it as the one after so many others, with file 0 of this length.
 fn works<K: KernelPort, G: Gate>(
     ends: &mut Ends<K, G>,
     shown: &Shown,

@@ -35,7 +35,7 @@ fn check_and_tell(
     right: Result<bool, Fail>,
     was_refused: bool,
 ) -> Result<(), Fail> {
-    check(rt, right, "what stands behind a refusal")?;
+    check(rt, right, "what stands after a refusal")?;
     if was_refused {
         println!(rt; "refused")?;
     }

@@ -74,7 +74,7 @@ fn item(put: Put) -> Item {
     }
 }
 
-/// These items, and words that name no slot behind them.
+/// These items, and words that name no slot after them.
 pub fn items(puts: &[Put]) -> [Item; 5] {
     let mut items = [Item::Bad(u32::MAX); 5];
     for (item_there, put) in items.iter_mut().zip(puts) {

@@ -1,4 +1,4 @@
--- What positions hold: items, call by call, and the close mark behind all calls. Our own rule.
+-- What positions hold: items, call by call, and the close mark after all calls. Our own rule.
 use Rattle.std.specs.Prelude.{◌≡◌, Bool, true, false, List, [], ◌∷◌}
 use Rattle.uring_ports.specs.declared.item.Item.{Item}
 use Rattle.uring_ports.specs.Messages.{with_first}
@@ -31,14 +31,14 @@ items_of (position.More x ∷ ps) = x ∷ items_of ps
 items_of (position.Last x ∷ ps) = x ∷ items_of ps
 items_of (position.Close ∷ ps) = items_of ps
 
--- the rest of a call if inside is true, then whole calls, and nothing behind the close mark
+-- the rest of a call if inside is true, then whole calls, and nothing after the close mark
 abbrev pub AreWholeFrom : Bool → List Position → Type 0
 AreWholeFrom inside [] = inside ≡ false
 AreWholeFrom inside (position.More x ∷ ps) = AreWholeFrom true ps
 AreWholeFrom inside (position.Last x ∷ ps) = AreWholeFrom false ps
 AreWholeFrom inside (position.Close ∷ ps) = (inside ≡ false) × (ps ≡ [])
 
--- whole calls, and nothing behind the close mark
+-- whole calls, and nothing after the close mark
 abbrev pub AreWhole : List Position → Type 0
 AreWhole ps = AreWholeFrom false ps
 

@@ -10,7 +10,7 @@ use Rattle.uring_words.specs.Slots.{SlotsFit, held_from}
 use Rattle.uring_words.specs.Submission.Calls.{AreWhole, all_more}
 use Rattle.uring_words.specs.Submission.Layout.{word_count}
 use Rattle.uring_words.specs.Submission.Rule.{tail_seen}
-use Rattle.uring_words.specs.Submission.Steps.{Holder, with_first_behind, head_loaded}
+use Rattle.uring_words.specs.Submission.Steps.{Holder, with_first_after, head_loaded}
 use Rattle.uring_words.specs.declared.submission.view.AppSide.{AppSide}
 use Rattle.uring_words.specs.declared.submission.view.KernelSide.{KernelSide}
 use Rattle.uring_words.specs.declared.submission.view.Position.{Position}
@@ -49,9 +49,9 @@ pub record IsWriter (seat table : TableId) (v : View AppSide KernelSide) (held :
 abbrev pub WriterRests : AppSide → Type 0
 WriterRests a = AreWhole a.published
 
--- the index word of the place that is so many behind the last one published
-abbrev pub tail_behind : Holder → ℕ → ℕ
-tail_behind h count = word_of h.0.app.start (length h.0.app.published + count)
+-- the index word of the place that is so many after the last one published
+abbrev pub tail_after : Holder → ℕ → ℕ
+tail_after h count = word_of h.0.app.start (length h.0.app.published + count)
 
 -- The places that an application's seat holds are so many at least, whatever stands there, in a ring of this size; the index word of the first of them.
 pub record HoldsRoom (h : Holder) (size tail count : ℕ) : Type 0 where
@@ -67,11 +67,11 @@ pub record LooksInVain (before after : End) (count : ℕ) : Type 0 where
   pub looked : before.knows.app.looks < after.knows.app.looks
   pub room : after.knows.app.end < length after.knows.app.published + count
 
--- Of the places that an application's seat holds, the first were written, and went behind the others.
+-- Of the places that an application's seat holds, the first were written, and went after the others.
 abbrev pub Writes : Holder → Holder → List Position → Type 0
 Writes before after written = let a = before.0.app in (blank : List Position)
     → before.1 ≡ held_from a.start a.size (length a.published) blank
-    → after ≡ (before.0, with_first_behind a.start a.size (length a.published) (drop (length written) blank) written)
+    → after ≡ (before.0, with_first_after a.start a.size (length a.published) (drop (length written) blank) written)
 
 -- The dispatcher's end: the places that it holds are those of the positions that it knows; its index words of the tail that it last saw and of the head.
 pub record IsReader (seat table : TableId) (v : View AppSide KernelSide) (held : List (ℕ × Position)) (size tail head : ℕ) : Type 0 where
@@ -82,7 +82,7 @@ pub record IsReader (seat table : TableId) (v : View AppSide KernelSide) (held :
   pub head_word : head ≡ word_of v.kernel.start (length v.kernel.taken)
   pub few : length v.kernel.known ≤ size
 
--- between two calls: what was taken is whole calls, and what is known behind it too
+-- between two calls: what was taken is whole calls, and what is known after it too
 pub record ReaderRests (d : KernelSide) : Type 0 where
   pub known : AreWhole (d.taken ++ d.known)
   pub whole : AreWhole d.taken
@@ -113,13 +113,13 @@ AreRead pulled.Call items read = (front : List Item) × (last : Item)
 AreRead pulled.Close items read = (items ≡ []) × (read ≡ position.Close ∷ [])
 AreRead pulled.Nothing items read = ⊥
 
--- Of the places that a dispatcher's seat holds, the first were read, of one call or the close mark, and went behind the others. next: the index word of the place behind them
+-- Of the places that a dispatcher's seat holds, the first were read, of one call or the close mark, and went after the others. next: the index word of the place after them
 pub record ReadsCall (before after : Holder) (what : Pulled) (items : List Item) (next : ℕ) : Type 0 where
   pub read : List Position
   pub others : List Position
   pub known : before.0.kernel.known ≡ read ++ others
   pub is : after
-      ≡ (before.0, with_first_behind before.0.kernel.start before.0.kernel.size (length before.0.kernel.taken) others read)
+      ≡ (before.0, with_first_after before.0.kernel.start before.0.kernel.size (length before.0.kernel.taken) others read)
   pub holds : AreRead what items read
   pub next_word : next ≡ word_of before.0.kernel.start (length before.0.kernel.taken + length read)
 

@@ -1,4 +1,4 @@
--- What each step on the submission ring's table changes of what its seat knows and holds, and what it tells. Of a step at the seat `before`, `found` is the word loaded or stored, and `st.word` the index in the table at which it stands: each load that tells something is named by its index. Of the slots that a seat holds, those that it has written or read stand behind the others.
+-- What each step on the submission ring's table changes of what its seat knows and holds, and what it tells. Of a step at the seat `before`, `found` is the word loaded or stored, and `st.word` the index in the table at which it stands: each load that tells something is named by its index. Of the slots that a seat holds, those that it has written or read stand after the others.
 use Rattle.std.specs.Prelude.{◌≡◌, ℕ, ◌+◌, ◌≤◌, true, List, [], ◌++◌, length}
 use Rattle.atomic_table.specs.Table.{Me, Step}
 use Rattle.uring_entry.specs.IndexWords.{word_of}
@@ -15,9 +15,9 @@ use Rattle.uring_words.specs.declared.sides.View.{View}
 abbrev pub Holder : Type 0
 Holder = Me Position (View AppSide KernelSide)
 
--- what a seat holds of the places from this count on, in a ring that begins here: those behind the first, with these values, and then the first, with those
-abbrev pub with_first_behind : (start size count : ℕ) → List Position → List Position → List (ℕ × Position)
-with_first_behind start size count others first =
+-- what a seat holds of the places from this count on, in a ring that begins here: those after the first, with these values, and then the first, with those
+abbrev pub with_first_after : (start size count : ℕ) → List Position → List Position → List (ℕ × Position)
+with_first_after start size count others first =
     held_from start size (count + length first) others ++ held_from start size count first
 
 -- The application's steps.
@@ -29,7 +29,7 @@ tail_stored a written = record a { published = a.published ++ written }
 -- What was written is published, as many positions as the word stored says, and the seat holds their places no longer.
 abbrev pub StoresTail : Step Position → Holder → ℕ → Holder → Type 0
 StoresTail st before found after = let a = before.0.app in (blank written : List Position)
-    → before.1 ≡ with_first_behind a.start a.size (length a.published) blank written
+    → before.1 ≡ with_first_after a.start a.size (length a.published) blank written
     → found ≡ word_of a.start (length a.published + length written)
     → after ≡ app_has before (tail_stored a written) (held_from a.start a.size (length a.published + length written) blank)
 
@@ -84,7 +84,7 @@ head_stored d read others = record d { taken = d.taken ++ read; known = others }
 -- What was read is taken, as many positions as the word stored says, and the seat holds their places no longer.
 abbrev pub StoresHead : Step Position → Holder → ℕ → Holder → Type 0
 StoresHead st before found after = let d = before.0.kernel in (others read : List Position)
-    → before.1 ≡ with_first_behind d.start d.size (length d.taken) others read
+    → before.1 ≡ with_first_after d.start d.size (length d.taken) others read
     → d.known ≡ read ++ others
     → found ≡ word_of d.start (length d.taken + length read)
     → after ≡ kernel_has before (head_stored d read others) (held_from d.start d.size (length d.taken + length read) others)

@@ -11,7 +11,7 @@ pub struct AppSide {
     /// The completions that it got, oldest first.
     pub got: LinkedList<Cqe>,
 
-    /// Those behind them that it knows to be put, oldest first.
+    /// Those after them that it knows to be put, oldest first.
     pub known: LinkedList<Cqe>,
 
     /// How often it loaded the tail.

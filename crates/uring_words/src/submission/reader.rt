@@ -37,7 +37,7 @@ impl Model for CallReader {
     ghost invariant = { λ e. IsReader e.seat.table_id (arc_value e.ring).shared.table_id e.seat.me.0 e.seat.me.1 e.size e.tail e.head };
 }
 
-/// Reads the first place that the seat holds, which goes behind the others.
+/// Reads the first place that the seat holds, which goes after the others.
 fn read_first(words: &Words, seat: &mut Seat, place: usize) -> Position
     requires table { seat.old.table_id ≡ words.now.table_id }
     requires first { (position : Position)
@@ -51,7 +51,7 @@ fn read_first(words: &Words, seat: &mut Seat, place: usize) -> Position
     position
 }
 
-/// Reads one whole call, or the close mark, from the place of this index word on: so many positions are known to be there, and their places are this seat's. The index word of the place behind them comes too.
+/// Reads one whole call, or the close mark, from the place of this index word on: so many positions are known to be there, and their places are this seat's. The index word of the place after them comes too.
 fn read_call(
     words: &Words,
     seat: &mut Seat,

@@ -39,7 +39,7 @@ pub struct KernelSide {
     /// The positions that it took, oldest first.
     pub taken: LinkedList<Position>,
 
-    /// The positions behind them that it knows to be published, oldest first.
+    /// The positions after them that it knows to be published, oldest first.
     pub known: LinkedList<Position>,
 
     /// How often it loaded the tail.

@@ -3,7 +3,7 @@ ghost use Rattle.std.specs.Prelude.{◌≡◌, ◌+◌, ◌<◌, ◌≤◌, true
 ghost use Rattle.atomic_table.specs.Table.{rest};
 ghost use Rattle.uring_ports.specs.Ports.{places_of, with_call, with_close};
 ghost use Rattle.uring_words.specs.Submission.Calls.{all_more, put_of, has_close_mark, AreWhole};
-ghost use Rattle.uring_words.specs.Submission.Ends.{app_knows, tail_behind, HoldsRoom, WriterRests, LooksInVain, Writes};
+ghost use Rattle.uring_words.specs.Submission.Ends.{app_knows, tail_after, HoldsRoom, WriterRests, LooksInVain, Writes};
 ghost use Rattle.uring_words.specs.Submission.Steps.{all_given, head_loaded, tail_stored};
 ghost use Rattle.uring_words.specs.declared.submission.view.Position.{Position};
 
@@ -37,7 +37,7 @@ impl Model for CallWriter {
     ghost invariant = { λ e. IsWriter e.seat.table_id (arc_value e.ring).shared.table_id e.seat.me.0 e.seat.me.1 e.size e.tail e.end };
 }
 
-/// Writes a position into the first place that the seat holds, which goes behind the others.
+/// Writes a position into the first place that the seat holds, which goes after the others.
 fn write_first(words: &Words, seat: &mut Seat, place: usize, position: Position)
     requires table { seat.old.table_id ≡ words.now.table_id }
     requires first { (old : Position) × (seat.old.me.1 ≡ (place, old) ∷ rest seat.old.me.1) }
@@ -49,13 +49,13 @@ fn write_first(words: &Words, seat: &mut Seat, place: usize, position: Position)
     seat.turn();
 }
 
-/// Writes items that others of their call follow, from the place of this index word on, which are this seat's. The index word of the place behind them.
+/// Writes items that others of their call follow, from the place of this index word on, which are this seat's. The index word of the place after them.
 fn write_front(words: &Words, seat: &mut Seat, size: u32, tail: u32, items: &[Item]) -> u32
     requires table { seat.old.table_id ≡ words.now.table_id }
     requires held { HoldsRoom seat.old.me size tail (length items.now) }
     ensures table { seat.new.table_id ≡ seat.old.table_id }
     ensures written { Writes seat.old.me seat.new.me (all_more items.now) }
-    ensures tail { result ≡ tail_behind seat.old.me (length items.now) }
+    ensures tail { result ≡ tail_after seat.old.me (length items.now) }
 {
     let mut next = tail;
     for item in items {
@@ -102,7 +102,7 @@ impl CallWriter {
         count <= self.free()
     }
 
-    /// Publishes items that others of their call follow, and this position behind them, for all of which there is room.
+    /// Publishes items that others of their call follow, and this position after them, for all of which there is room.
     fn publish(&mut self, front: &[Item], last: Position)
         requires room { length self.old.knows.app.published + (length front.now + 1)
             ≤ self.old.knows.app.end }

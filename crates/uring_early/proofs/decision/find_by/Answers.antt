@@ -5,7 +5,7 @@ use Rattle.uring_core.specs.Histories.{history_of, IsLawfulApart}
 use Rattle.uring_timelines.specs.declared.mark.Mark.{Mark}
 use Rattle.uring_timelines.specs.Search.{IsFated}
 use Rattle.uring_early.specs.Decided.{IsFound}
-use Rattle.uring_early.specs.Marks.{marks_behind}
+use Rattle.uring_early.specs.Marks.{marks_after}
 use Rattle.uring_early.proofs.Timelines.{decided}
 use Rattle.uring_early.proofs.decision.find_by.Goals as goal
 
@@ -13,5 +13,5 @@ pub returns : goal.returns
 returns c =
     let made : c.in_ok-lawful.field-0 ≡ true = search (rules, not-false) in
     let lawful = subst (λ (s : Setup). IsLawfulApart s (history_of c.args.events.now)) c.in_ok-core.ensures.setup (c.in_ok-lawful.ensures.lawful made) in
-    let fated = subst (λ (ms : List Mark). IsFated c.files.result ms c.in_ok-fate.fate) (c.as_slice.ensures.value ∙ c.in_ok-lawful.ensures.marks made ∙ ap (λ (s : Setup). marks_behind s [] c.args.events.now) c.in_ok-core.ensures.setup) c.in_ok-fate.ensures in
-    subst (IsFound c.args.setup.now (history_of c.args.events.now)) (sym c.found_by.ensures) (decided c.args.setup.now c.args.events.now c.in_ok-fate.fate lawful (subst (λ (n : ℕ). IsFated n (marks_behind c.args.setup.now [] c.args.events.now) c.in_ok-fate.fate) c.files.ensures.value fated))
+    let fated = subst (λ (ms : List Mark). IsFated c.files.result ms c.in_ok-fate.fate) (c.as_slice.ensures.value ∙ c.in_ok-lawful.ensures.marks made ∙ ap (λ (s : Setup). marks_after s [] c.args.events.now) c.in_ok-core.ensures.setup) c.in_ok-fate.ensures in
+    subst (IsFound c.args.setup.now (history_of c.args.events.now)) (sym c.found_by.ensures) (decided c.args.setup.now c.args.events.now c.in_ok-fate.fate lawful (subst (λ (n : ℕ). IsFated n (marks_after c.args.setup.now [] c.args.events.now) c.in_ok-fate.fate) c.files.ensures.value fated))

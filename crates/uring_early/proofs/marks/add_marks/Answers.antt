@@ -5,7 +5,7 @@ use Rattle.uring_core.specs.Core.{FitsApart}
 use Rattle.uring_core.specs.Histories.{history_of, world}
 use Rattle.uring_core.proofs.Following.{history_of_snoc}
 use Rattle.uring_timelines.specs.declared.mark.Mark.{Mark}
-use Rattle.uring_early.specs.Marks.{mark_by, marks_behind}
+use Rattle.uring_early.specs.Marks.{mark_by, marks_after}
 use Rattle.uring_early.proofs.Marking.{marks_more, taken_next, wrong_from}
 use Rattle.uring_early.proofs.marks.add_marks.Goals as goal
 
@@ -22,9 +22,9 @@ loop-event-preserved c =
       fits = subst (FitsApart c.follow_one.new.core) (sym (ap history_of grown ∙ history_of_snoc earlier c.event-item.result)) fits;
       marks =
           c.in_ok-push.ensures.items ∙ ap (λ (ms : List Mark). ms ++ c.mark_of.result ∷ []) c.loop-event.invariant.marks
-          ∙ ap (λ (m : Mark). marks_behind c.args.core.now.setup [] earlier ++ m ∷ []) (c.mark_of.ensures (c.event-item.result ∷ history_of earlier) fits ∙ ap (λ (s : Setup). mark_by (world s (c.event-item.result ∷ history_of earlier)).requests c.event-item.result) setup)
+          ∙ ap (λ (m : Mark). marks_after c.args.core.now.setup [] earlier ++ m ∷ []) (c.mark_of.ensures (c.event-item.result ∷ history_of earlier) fits ∙ ap (λ (s : Setup). mark_by (world s (c.event-item.result ∷ history_of earlier)).requests c.event-item.result) setup)
           ∙ sym (marks_more c.args.core.now.setup earlier c.event-item.result)
-          ∙ ap (marks_behind c.args.core.now.setup []) (sym grown);
+          ∙ ap (marks_after c.args.core.now.setup []) (sym grown);
     }
 
 pub returns-then-not-branch-clause-wrong : goal.returns-then-not-branch-clause-wrong

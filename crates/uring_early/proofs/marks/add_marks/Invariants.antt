@@ -1,7 +1,7 @@
 use Rattle.std.proofs.Common.{◌≡◌, [], take}
 use Rattle.uring_core.specs.Core.{FitsApart}
 use Rattle.uring_core.specs.Histories.{history_of}
-use Rattle.uring_early.specs.Marks.{marks_behind}
+use Rattle.uring_early.specs.Marks.{marks_after}
 use Rattle.uring_early.proofs.marks.add_marks.Given as goal
 
 -- the events so far are a lawful history, and their marks are there
@@ -9,5 +9,5 @@ abbrev pub invariant-loop-event : goal.invariant-loop-event
 invariant-loop-event l = record {
   setup : l.core.setup ≡ l.fn.core.setup;
   fits : FitsApart l.core (history_of (take l.event-index l.events));
-  marks : l.marks.items ≡ marks_behind l.fn.core.setup [] (take l.event-index l.events);
+  marks : l.marks.items ≡ marks_after l.fn.core.setup [] (take l.event-index l.events);
 }

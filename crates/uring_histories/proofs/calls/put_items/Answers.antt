@@ -3,7 +3,7 @@ use Rattle.std.proofs.lemmas.List.{take_all}
 use Rattle.uring_laws.specs.Standing.{item_steps}
 use Rattle.uring_ports.specs.Items.{published_as, all_published_as}
 use Rattle.uring_histories.specs.Recordings.{steps_of_item}
-use Rattle.uring_histories.proofs.Recorded.{made_behind, same_made, none_made, items_more}
+use Rattle.uring_histories.proofs.Recorded.{made_after, same_made, none_made, items_more}
 use Rattle.uring_histories.proofs.calls.put_items.Goals as goal
 
 pub loop-slot-init : goal.loop-slot-init
@@ -16,7 +16,7 @@ loop-slot-preserved c = λ g h r.
     let before = c.loop-slot.invariant g h r in
     let now = c.in_ok-put_item.ensures g before.after before.recorded in
     same_made g _ h _ _ (items_more items i c.index-items-slot.result (search rules) c.index-items-slot.is)
-    (made_behind g _ _ h (item_steps 0 (all_published_as (take i items))) (steps_of_item i (published_as c.index-items-slot.result)) before now)
+    (made_after g _ _ h (item_steps 0 (all_published_as (take i items))) (steps_of_item i (published_as c.index-items-slot.result)) before now)
 
 pub returns : goal.returns
 returns c = λ g h r.

@@ -4,7 +4,7 @@ use Rattle.uring_core.specs.declared.step.Step.TheVariants as step
 use Rattle.uring_laws.specs.Standing.{item_steps}
 use Rattle.uring_ports.specs.Items.{all_published_as}
 use Rattle.uring_histories.specs.Recordings.{take_steps, call_steps}
-use Rattle.uring_histories.proofs.Recorded.{made_behind, same_made, steps_for, whole_call}
+use Rattle.uring_histories.proofs.Recorded.{made_after, same_made, steps_for, whole_call}
 use Rattle.uring_histories.proofs.calls.submit.Goals as goal
 
 pub returns : goal.returns
@@ -19,9 +19,9 @@ returns c = λ g h r.
     on_ok_weaker c.make-3.result
     (λ head.
     same_made g c.make-3.new.self h (steps_for items n) (call_steps items) (whole_call c.args.items.now n c.requires)
-    (made_behind g _ _ h (item_steps 0 items) _ put
-    (made_behind g _ _ put.after (step.StoreTail ∷ []) _ tail
-    (made_behind g _ _ tail.after (step.Begin n ∷ []) _ begun
-    (made_behind g _ _ begun.after (take_steps n) _ taken
-    (made_behind g _ _ taken.after (step.End ∷ []) (step.LoadHead ∷ []) ended head))))))
+    (made_after g _ _ h (item_steps 0 items) _ put
+    (made_after g _ _ put.after (step.StoreTail ∷ []) _ tail
+    (made_after g _ _ tail.after (step.Begin n ∷ []) _ begun
+    (made_after g _ _ begun.after (take_steps n) _ taken
+    (made_after g _ _ taken.after (step.End ∷ []) (step.LoadHead ∷ []) ended head))))))
     (c.make-3.ensures g ended.after ended.recorded)

@@ -1,7 +1,7 @@
 use Rattle.std.proofs.Common.{◌≡◌, [], ◌∷◌, ap, arith}
 use Rattle.uring_core.specs.declared.step.Step.TheVariants as step
 use Rattle.uring_histories.specs.Recordings.{take_steps}
-use Rattle.uring_histories.proofs.Recorded.{made_behind, same_made, none_made, takes_more}
+use Rattle.uring_histories.proofs.Recorded.{made_after, same_made, none_made, takes_more}
 use Rattle.uring_histories.proofs.calls.take_all.Goals as goal
 
 pub loop-taken-init : goal.loop-taken-init
@@ -12,7 +12,7 @@ loop-taken-preserved c = λ g h r.
     let n = c.loop-taken._taken in
     let before = c.loop-taken.invariant g h r in
     same_made g _ h _ _ (takes_more n)
-    (made_behind g _ _ h (take_steps n) (step.Take ∷ []) before (c.in_ok-make.ensures g before.after before.recorded))
+    (made_after g _ _ h (take_steps n) (step.Take ∷ []) before (c.in_ok-make.ensures g before.after before.recorded))
 
 pub returns : goal.returns
 returns c = λ g h r.

@@ -14,7 +14,7 @@ enum Event {
     LoadTail(u32),
     Reap(Option<u64>),
     StoreHead(u32),
-    /// Every place of what isn't reaped, with none behind the last.
+    /// Every place of what isn't reaped, with none after the last.
     Rest(&'static [u64]),
     /// How many were posted, and how many reaped.
     Counts(u64, u64),
@@ -34,7 +34,7 @@ fn ring_of(alloc: Global, size: u32, start: u32) -> Result<Cq, Fail> {
     Ok(Cq::new(alloc, &setup)?)
 }
 
-/// Whether these are all that isn't reaped, with none behind the last.
+/// Whether these are all that isn't reaped, with none after the last.
 fn is_rest(ring: &Cq, wanted: &[u64]) -> bool {
     for (i, user_data) in wanted.iter().enumerate() {
         if ring.rest(i as u64) != Some(completion(*user_data)) {
@@ -53,7 +53,7 @@ fn posts(ring: &mut Cq, user_data: u64) -> bool {
     true
 }
 
-/// Posts so many that were promised. Whether all rest, the last behind the others.
+/// Posts so many that were promised. Whether all rest, the last after the others.
 fn posts_promised(ring: &mut Cq, count: u64) -> Result<bool, AllocError> {
     ring.reserve(count)?;
     ring.reserve(count)?;
@@ -134,7 +134,7 @@ const POST_BEHIND_OTHERS: &[Event] = &[
 static HISTORIES: [(&str, u32, u32, &[Event]); 4] = [
     ("two across the wrap", 2, u32::MAX, TWO_ACROSS_THE_WRAP),
     (
-        "a post stays behind those that wait",
+        "a post stays after those that wait",
         2,
         0,
         POST_BEHIND_OTHERS,
@@ -212,7 +212,7 @@ fn rounds_across_every_wrap(rt: HostRuntime) -> Result<(), Fail> {
     check_done(&rt, first_wrong_rounds(rt.alloc()), "rounds")
 }
 
-/// Three posts are promised, and more than memory holds is asked for behind the first of them. Whether that was refused.
+/// Three posts are promised, and more than memory holds is asked for after the first of them. Whether that was refused.
 fn is_refused(ring: &mut Cq) -> Result<bool, AllocError> {
     ring.reserve(3)?;
     ring.post(completion(1));

@@ -64,7 +64,7 @@ const CANCELLED_BY_LINUX: &[Event] = &[
     Tells(IsLinux(true)),
 ];
 
-/// The first fails though it asked to skip, and the one behind it posts.
+/// The first fails though it asked to skip, and the one after it posts.
 const FAILED_BY_THE_MANUAL_PAGES: &[Event] = &[
     SILENT_CHAIN,
     Starts(0),
@@ -75,7 +75,7 @@ const FAILED_BY_THE_MANUAL_PAGES: &[Event] = &[
     Tells(WouldPost(0, -5, None)),
 ];
 
-/// The same, and the one behind it doesn't post.
+/// The same, and the one after it doesn't post.
 const FAILED_BY_LINUX: &[Event] = &[
     SILENT_CHAIN,
     Starts(0),
@@ -124,7 +124,7 @@ const OWED_DRAIN: &[Event] = &[
     Starts(3),
 ];
 
-/// A request of a later call waits for a running request that was accepted behind the drain in its own call.
+/// A request of a later call waits for a running request that was accepted after the drain in its own call.
 const HELD_BY_A_LATER_ONE: &[Event] = &[
     Call(&[Nop(1, DRAIN), Nop(2, 0)]),
     Starts(0),
@@ -154,7 +154,7 @@ const CANCELS: &[Event] = &[
     Starts(1),
 ];
 
-/// Behind a failure that skips nobody posts, also in a chain with a fault whose head skips.
+/// After a failure that skips nobody posts, also in a chain with a fault whose head skips.
 const SILENT_MEMBERS: &[Event] = &[
     Call(&[Nop(1, LINK | SKIP), Faulty(2, 0)]),
     Ends(0, -125, true),
@@ -167,7 +167,7 @@ const SILENT_MEMBERS: &[Event] = &[
     Ends(3, -125, false),
 ];
 
-/// Of a chain with a fault the second is told to be doomed in its turn, and not before. Behind it a drain and one behind that are deferred while a request runs, and a drain behind skipped success is refused.
+/// Of a chain with a fault the second is told to be doomed in its turn, and not before. After it a drain and one after that are deferred while a request runs, and a drain after skipped success is refused.
 const REASONS: &[Event] = &[
     Call(&[Nop(0, LINK), Faulty(1, 0)]),
     Tells(Stands(0, Why::IsDoomed(Doom::FaultOf(1)))),
@@ -191,7 +191,7 @@ const REASONS: &[Event] = &[
     Tells(Waits(4, 3, Since::Deferred)),
 ];
 
-/// A chain of two, a drain and one behind it, each in its turn; then all but the last have been let go.
+/// A chain of two, a drain and one after it, each in its turn; then all but the last have been let go.
 const COUNTS: &[Event] = &[
     Call(&[Nop(0, LINK), Nop(1, 0)]),
     Call(&[Nop(2, DRAIN)]),

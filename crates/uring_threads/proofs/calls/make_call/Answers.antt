@@ -4,7 +4,7 @@ use Rattle.uring_entry.specs.Submission.{taken}
 use Rattle.uring_laws.specs.Standing.{Stands, in_call}
 use Rattle.uring_core.specs.World.{World, beginning}
 use Rattle.uring_core.specs.declared.step.Step.TheVariants as step
-use Rattle.uring_threads.specs.Calls.{calls_behind, calls_left, ends_of}
+use Rattle.uring_threads.specs.Calls.{calls_after, calls_left, ends_of}
 use Rattle.uring_threads.specs.Kept.{now}
 use Rattle.uring_threads.specs.Tallies.{calls_counted}
 use Rattle.uring_threads.proofs.CallSteps.{begun_cases, begun_spent, opened_now, closed_now, opened_first, call_counts}
@@ -61,7 +61,7 @@ returns g c =
       world = is;
       first =
           opened_first c.args.kept.now.setup (now c.args.kept.now) (now o) (now c.step_reserved-2.new.self) c.args.count n opened c.requires.stands took.some took.few
-          (subst (λ (s : Setup). calls_left s (now o).submission ≡ n ∷ calls_behind (ends_of s (drop (taken (now o).submission + n) (now o).submission.published)) 0) begin.setup took.call) is;
+          (subst (λ (s : Setup). calls_left s (now o).submission ≡ n ∷ calls_after (ends_of s (drop (taken (now o).submission + n) (now o).submission.published)) 0) begin.setup took.call) is;
       tally = call_counts c.args.kept.now o t c.step_reserved.new.self c.step_reserved-2.new.self c.args.count c.step_reserved_in.result c.step_reserved.result c.step_reserved-2.result begin took.tally end load;
       row = call_recorded c.args.kept.now o t c.step_reserved.new.self c.step_reserved-2.new.self c.args.count n c.step_reserved_in.result c.step_reserved.result c.step_reserved-2.result begin took.row end load;
       spent = λ same. absurd cc;

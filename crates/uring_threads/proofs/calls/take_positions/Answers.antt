@@ -1,10 +1,10 @@
 use Rattle.std.proofs.Common.{◌≡◌, ◌+◌, ◌∷◌, drop, true, false, if◌then◌else◌, refl, ap, subst, ◌∙◌, arith}
 use Rattle.uring_entry.specs.Submission.{Submission, taken}
 use Rattle.uring_laws.specs.Standing.{in_call}
-use Rattle.uring_threads.specs.Calls.{calls_behind, calls_left, ends_of}
+use Rattle.uring_threads.specs.Calls.{calls_after, calls_left, ends_of}
 use Rattle.uring_threads.specs.Kept.{now}
 use Rattle.uring_threads.specs.Tallies.{none_counted}
-use Rattle.uring_threads.proofs.CallSteps.{all_taken, between_stands, ended_there, ends_as, gone_on, none_behind, took_of}
+use Rattle.uring_threads.proofs.CallSteps.{all_taken, between_stands, ended_there, ends_as, gone_on, none_after, took_of}
 use Rattle.uring_core.specs.declared.step.Step.TheVariants as step
 use Rattle.uring_threads.proofs.Recording.{records_more}
 use Rattle.uring_threads.proofs.TraceSteps.{grown_length, appends_one, appends_then}
@@ -43,6 +43,6 @@ returns-clause-call c =
     let l : Submission = (now c.args.kept.now).submission in
     let same : c.loop-done.done ≡ c.args.count = omega (arith, c.loop-done.auto.done-end, c.loop-done-test.false) in
     let stands = between_stands (now c.args.kept.now) c.requires.in_call.0 c.args.count 0 c.requires.in_call.2 c.requires.in_call.1 in
-    let none = ap (λ n. drop (taken l + n) l.published) same ∙ none_behind (now c.args.kept.now) c.args.count stands in
-    subst (λ n. calls_left c.args.kept.now.setup l ≡ n ∷ calls_behind (ends_of c.args.kept.now.setup (drop (taken l + n) l.published)) 0) same
+    let none = ap (λ n. drop (taken l + n) l.published) same ∙ none_after (now c.args.kept.now) c.args.count stands in
+    subst (λ n. calls_left c.args.kept.now.setup l ≡ n ∷ calls_after (ends_of c.args.kept.now.setup (drop (taken l + n) l.published)) 0) same
     (all_taken c.args.kept.now.setup (drop (taken l + c.loop-done.done) l.published) c.loop-done.done (calls_left c.args.kept.now.setup l) (omega (arith, same, c.requires.some)) none i.calls)

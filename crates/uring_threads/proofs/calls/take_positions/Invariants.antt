@@ -2,7 +2,7 @@ use Rattle.std.proofs.Common.{◌≡◌, ◌+◌, ◌≤◌, drop, length, repli
 use Rattle.uring_entry.specs.Submission.{taken}
 use Rattle.uring_laws.specs.Standing.{in_call}
 use Rattle.uring_core.specs.declared.step.Step.TheVariants as step
-use Rattle.uring_threads.specs.Calls.{calls_behind, calls_left, ends_of}
+use Rattle.uring_threads.specs.Calls.{calls_after, calls_left, ends_of}
 use Rattle.uring_threads.specs.EventRows.{Records}
 use Rattle.uring_threads.specs.Kept.{now}
 use Rattle.uring_threads.specs.Tallies.{Appends, none_counted}
@@ -13,7 +13,7 @@ abbrev pub invariant-loop-done : goal.invariant-loop-done
 invariant-loop-done l = record {
   events : length l.kept.trace ≤ length l.initial.kept.trace + l.done;
   world : now l.kept ≡ in_call (now l.initial.kept) l.count l.done;
-  calls : calls_behind (ends_of l.initial.kept.setup (drop (taken (now l.initial.kept).submission + l.done) (now l.initial.kept).submission.published)) l.done
+  calls : calls_after (ends_of l.initial.kept.setup (drop (taken (now l.initial.kept).submission + l.done) (now l.initial.kept).submission.published)) l.done
       ≡ calls_left l.initial.kept.setup (now l.initial.kept).submission;
   tally : Appends l.initial.kept l.kept none_counted;
   row : Records l.initial.kept l.kept (replicate l.done step.Take);

@@ -6,7 +6,7 @@ use Rattle.uring_threads.specs.Kept.{now}
 use Rattle.uring_threads.specs.Turns.{Tied, is_shut}
 use Rattle.uring_threads.proofs.Recording.{none_pulled, pulled_as, records_none, records_then}
 use Rattle.uring_threads.proofs.Closing.{once_unmoved}
-use Rattle.uring_threads.proofs.Tying.{completions_behind, pulled_at, takes_behind, takes_nothing, tied_still}
+use Rattle.uring_threads.proofs.Tying.{completions_after, pulled_at, takes_after, takes_nothing, tied_still}
 use Rattle.uring_threads.proofs.intake.pull_call.Goals as goal
 use Rattle.uring_threads.proofs.Collecting.{on_err}
 
@@ -34,10 +34,10 @@ returns-clause-tied g c =
     subst (λ (s : Setup). Tied s (now c.take_pulled.new.kept) after c.take_pulled.new.intake) c.reserve.ensures.unmoved.setup (c.take_pulled.ensures.tied before after at.0 at.1)
 
 pub returns-clause-completions : goal.returns-clause-completions
-returns-clause-completions g c = completions_behind c.args.kept.now c.reserve.new.self c.take_pulled.new.kept c.reserve.ensures.unmoved c.take_pulled.ensures.completions
+returns-clause-completions g c = completions_after c.args.kept.now c.reserve.new.self c.take_pulled.new.kept c.reserve.ensures.unmoved c.take_pulled.ensures.completions
 
 pub returns-clause-taken : goal.returns-clause-taken
-returns-clause-taken g c = takes_behind c.args.kept.now c.reserve.new.self c.take_pulled.new.kept c.take_pulled.result c.reserve.ensures.unmoved c.take_pulled.ensures.taken
+returns-clause-taken g c = takes_after c.args.kept.now c.reserve.new.self c.take_pulled.new.kept c.take_pulled.result c.reserve.ensures.unmoved c.take_pulled.ensures.taken
 
 pub returns-in_err-reserve-clause-row : goal.returns-in_err-reserve-clause-row
 returns-in_err-reserve-clause-row g c =

@@ -7,8 +7,8 @@ use Rattle.uring_threads.specs.Turns.{ClosesOnce, Tied, awaits_memory}
 use Rattle.uring_threads.proofs.Recording.{none_again, records_none}
 use Rattle.uring_threads.proofs.BegunRows.{row_begun}
 use Rattle.uring_threads.proofs.Closing.{once_begun, once_unmoved}
-use Rattle.uring_threads.proofs.TraceSteps.{appends_behind}
-use Rattle.uring_threads.proofs.Tying.{begun_completions, call_waits, completions_behind, takes_behind, takes_calls, takes_nothing, tied_again, tied_still}
+use Rattle.uring_threads.proofs.TraceSteps.{appends_after}
+use Rattle.uring_threads.proofs.Tying.{begun_completions, call_waits, completions_after, takes_after, takes_calls, takes_nothing, tied_again, tied_still}
 use Rattle.uring_threads.proofs.intake.retry.Goals as goal
 
 pub begin_calls-requires-clause-not_closed : goal.begin_calls-requires-clause-not_closed
@@ -21,7 +21,7 @@ pub returns-in_err-reserve : goal.returns-in_err-reserve
 returns-in_err-reserve g c =
     record {
       tied = λ put. tied_still c.args.kept.now c.reserve.new.self put c.args.intake.now c.reserve.ensures.unmoved;
-      completions = completions_behind c.args.kept.now c.reserve.new.self c.reserve.new.self c.reserve.ensures.unmoved refl;
+      completions = completions_after c.args.kept.now c.reserve.new.self c.reserve.new.self c.reserve.ensures.unmoved refl;
       taken = takes_nothing c.args.kept.now c.reserve.new.self c.reserve.ensures.unmoved;
       row = ([], subst (λ i. IsAgain c.args.kept.now.setup (now c.args.kept.now).submission i []) (sym c.in-Waiting.is) (inl refl), records_none c.args.kept.now c.reserve.new.self c.reserve.ensures.unmoved);
       once = once_unmoved c.args.kept.now c.reserve.new.self c.args.intake.now c.reserve.ensures.unmoved;
@@ -35,15 +35,15 @@ returns-in_ok-reserve g c =
       tied = λ put tied.
           subst (Tied c.args.kept.now.setup (now c.begin_calls.new.kept) put) (sym c.after.ensures)
           (tied_again c.args.kept.now c.reserve.new.self c.begin_calls.new.kept put c.in-Waiting.count c.args.intake.now c.begin_calls.result c.reserve.ensures.unmoved c.in-Waiting.is c.begin_calls.ensures.begun tied);
-      completions = completions_behind c.args.kept.now c.reserve.new.self c.begin_calls.new.kept c.reserve.ensures.unmoved (begun_completions c.reserve.new.self c.begin_calls.new.kept c.begin_calls.result c.begin_calls.ensures.begun);
-      taken = takes_behind c.args.kept.now c.reserve.new.self c.begin_calls.new.kept 0 c.reserve.ensures.unmoved (takes_calls c.reserve.new.self c.begin_calls.new.kept c.begin_calls.ensures.begun.made _ c.begin_calls.ensures.begun.have);
+      completions = completions_after c.args.kept.now c.reserve.new.self c.begin_calls.new.kept c.reserve.ensures.unmoved (begun_completions c.reserve.new.self c.begin_calls.new.kept c.begin_calls.result c.begin_calls.ensures.begun);
+      taken = takes_after c.args.kept.now c.reserve.new.self c.begin_calls.new.kept 0 c.reserve.ensures.unmoved (takes_calls c.reserve.new.self c.begin_calls.new.kept c.begin_calls.ensures.begun.made _ c.begin_calls.ensures.begun.have);
       row =
           let row = row_begun c.args.kept.now c.reserve.new.self c.begin_calls.new.kept c.begin_calls.result c.reserve.ensures.unmoved c.begin_calls.ensures.begun in
           (row.0, subst (λ i. IsAgain c.args.kept.now.setup (now c.args.kept.now).submission i row.0) (sym c.in-Waiting.is) (inr row.1), row.2);
       once = λ once.
           subst (ClosesOnce c.begin_calls.new.kept) (sym c.after.ensures)
           (once_begun c.args.kept.now c.begin_calls.new.kept _ c.args.intake.now c.begin_calls.result
-          (appends_behind c.args.kept.now c.reserve.new.self c.begin_calls.new.kept _ c.reserve.ensures.unmoved c.begin_calls.ensures.begun.have.appends) refl (λ o. subst (ClosesOnce c.args.kept.now) c.in-Waiting.is o) once);
+          (appends_after c.args.kept.now c.reserve.new.self c.begin_calls.new.kept _ c.reserve.ensures.unmoved c.begin_calls.ensures.begun.have.appends) refl (λ o. subst (ClosesOnce c.args.kept.now) c.in-Waiting.is o) once);
       granted = λ all. refl;
       begun = λ all. ap awaits_memory c.after.ensures ∙ c.begin_calls.ensures.granted all;
     }

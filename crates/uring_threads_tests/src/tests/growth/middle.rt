@@ -12,7 +12,7 @@ use uring_entry::Cqe;
 use uring_threads::{Counts, Item, KernelLanes};
 use uring_words::KernelWords;
 
-/// Calls of a no-op, of two, and of a bad word and a no-op, and how often the dispatcher and the worker have turns behind each: one no-op is delivered then and not reaped, two are issued of which the worker did the first, and the last call stays.
+/// Calls of a no-op, of two, and of a bad word and a no-op, and how often the dispatcher and the worker have turns after each: one no-op is delivered then and not reaped, two are issued of which the worker did the first, and the last call stays.
 static CALLS: [(&[Put], u64); 3] = [
     (&[Nop(1)], 2),
     (&[Nop(2), Nop(3)], 1),
@@ -27,7 +27,7 @@ fn turn_and_work<K: Ports>(made: &mut Made<K>) -> bool {
     first || second
 }
 
-/// Submits a call, and has turns behind it. Whether a turn was refused memory.
+/// Submits a call, and has turns after it. Whether a turn was refused memory.
 fn submit_and_turn<K: Ports>(made: &mut Made<K>, call: &[Put], turns: u64) -> bool {
     submits(made, call, Ok(()));
     let mut was_refused = false;
@@ -37,7 +37,7 @@ fn submit_and_turn<K: Ports>(made: &mut Made<K>, call: &[Put], turns: u64) -> bo
     was_refused
 }
 
-/// Has all calls submitted, with the turns behind them. Whether a turn was refused memory.
+/// Has all calls submitted, with the turns after them. Whether a turn was refused memory.
 fn go_to_the_middle<K: Ports>(made: &mut Made<K>) -> bool {
     let mut was_refused = false;
     for (call, turns) in &CALLS {

@@ -72,7 +72,7 @@ impl Progress {
         }
     }
 
-    /// Submits the next call, or closes behind the last one.
+    /// Submits the next call, or closes after the last one.
     fn submit(&mut self, made: &mut Lanes) {
         if self.submitted >= CALLS {
             self.is_closed |= made.close().is_ok();
@@ -204,8 +204,8 @@ fn judged(report: &Report<Open>, progress: &Progress) -> (bool, bool) {
     )
 }
 
-/// Whether settling these ends behind a play that went so is right. It notes if memory was refused.
-fn settle_behind(
+/// Whether settling these ends after a play that went so is right. It notes if memory was refused.
+fn settle_after(
     alloc: Global,
     made: Lanes,
     progress: &Progress,
@@ -228,14 +228,14 @@ fn play(alloc: Global, was_refused: &mut bool) -> Result<bool, Fail> {
         Ok(mut made) => {
             let mut progress = Progress::new();
             progress.go_rounds(&mut made, 40);
-            settle_behind(alloc, made, &progress, was_refused)
+            settle_after(alloc, made, &progress, was_refused)
         }
         Err(fail) => Err(fail),
     }
 }
 
 #[test]
-fn a_play_goes_on_behind_a_refusal(rt: HostRuntime) -> Result<(), Fail> {
+fn a_play_goes_on_after_a_refusal(rt: HostRuntime) -> Result<(), Fail> {
     let mut was_refused = false;
     let right = play(rt.alloc(), &mut was_refused);
     check_and_tell(&rt, right, was_refused)

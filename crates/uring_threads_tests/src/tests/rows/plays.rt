@@ -214,7 +214,7 @@ const BESIDE_A_RESULT: &[Row] = &[
     Turn(1, 1, 1, 1),
 ];
 
-/// Calls are taken in behind four completions that fill the ring, with one and then three that wait. Once one of the four is reaped there is room for one.
+/// Calls are taken in after four completions that fill the ring, with one and then three that wait. Once one of the four is reaped there is room for one.
 const BEHIND_COMPLETIONS: &[Row] = &[
     Submit(&[Nop(1), Nop(2), Nop(3), Nop(4)]),
     Turn(4, 4, 0, 0),
@@ -243,7 +243,7 @@ const BEHIND_COMPLETIONS: &[Row] = &[
     Turn(0, 0, 0, 0),
 ];
 
-/// The dropped word is seen at first, behind a call with one word that names no slot, behind the turn that takes it in, and once more; then behind a turn that takes in two such words, and behind one that takes in nothing.
+/// The dropped word is seen at first, after a call with one word that names no slot, after the turn that takes it in, and once more; then after a turn that takes in two such words, and after one that takes in nothing.
 const DROPPED: &[Row] = &[
     Dropped(0),
     Submit(&[Bad(9), Silent(5)]),
@@ -266,7 +266,7 @@ const FULL: &[Row] = &[
     Submit(&[Nop(3)]),
 ];
 
-/// Five no-ops go round, one behind the other.
+/// Five no-ops go round, one after the other.
 const FIVE_ROUNDS: &[Row] = &[
     Submit(&[Nop(1)]),
     Turn(1, 1, 0, 0),
@@ -382,7 +382,7 @@ static PLAYS: [Play; 15] = [
         rows: DROPPED,
     },
     Play {
-        name: "by Linux's rules a turn takes in what stands behind them",
+        name: "by Linux's rules a turn takes in what stands after them",
         rings: Rings::OfFourByLinux,
         workers: 2,
         times: 1,

@@ -1,5 +1,5 @@
 use Rattle.uring_core.specs.Histories.{world}
-use Rattle.uring_uses.proofs.Waiting.{run_behind_ended, run_waits_for_none}
+use Rattle.uring_uses.proofs.Waiting.{run_after_ended, run_waits_for_none}
 use Rattle.uring_uses.proofs.one_step.starts.Goals as goal
 
 pub returns-in-Run-clause-in_order : goal.returns-in-Run-clause-in_order
@@ -8,4 +8,4 @@ returns-in-Run-clause-in_order c = λ runs manual h m fits lt waits.
 
 pub returns-in-Run-clause-links : goal.returns-in-Run-clause-links
 returns-in-Run-clause-links c = λ runs h m fits lt joined.
-    run_behind_ended c.args.machine.now.core.setup (world c.args.machine.now.core.setup h) c.args.number m (c.in-Run.ensures.called h fits) lt joined
+    run_after_ended c.args.machine.now.core.setup (world c.args.machine.now.core.setup h) c.args.number m (c.in-Run.ensures.called h fits) lt joined

@@ -1,7 +1,7 @@
 use Rattle.std.proofs.Common.{◌+◌, ◌∙◌, length, drop, ap, add-one, arith}
 use Rattle.std.proofs.lemmas.List.{drop_all}
 use Rattle.uring_volume.specs.Choices.{part}
-use Rattle.uring_volume.proofs.Parts.{NoneBelow, part_first, part_later, part_all, part_none, all_behind}
+use Rattle.uring_volume.proofs.Parts.{NoneBelow, part_first, part_later, part_all, part_none, all_after}
 use Rattle.uring_volume.proofs.crash.first_part.Goals as goal
 
 pub returns-then-n-eq0-clause-first : goal.returns-then-n-eq0-clause-first
@@ -10,7 +10,7 @@ returns-then-n-eq0-clause-first c =
 
 pub returns-then-n-eq0-clause-rest : goal.returns-then-n-eq0-clause-rest
 returns-then-n-eq0-clause-rest c =
-    λ j. ap (λ ns. part ns j) (all_behind c.args.choice.now (c.loop-i.i + 1) ∙ ap (λ n. drop n c.args.choice.now) (add-one c.loop-i.i))
+    λ j. ap (λ ns. part ns j) (all_after c.args.choice.now (c.loop-i.i + 1) ∙ ap (λ n. drop n c.args.choice.now) (add-one c.loop-i.i))
     ∙ part_later c.args.choice.now c.loop-i.i c.loop-i.invariant c.loop-i-test.true c.if-n-eq0.true j
 
 pub returns-clause-first : goal.returns-clause-first
@@ -21,5 +21,5 @@ returns-clause-first c =
 pub returns-clause-rest : goal.returns-clause-rest
 returns-clause-rest c =
     let none : NoneBelow c.args.choice.now (length c.args.choice.now) = λ k below. c.loop-i.invariant k (omega arith) in
-    λ j. ap (λ ns. part ns j) (all_behind c.args.choice.now (length c.args.choice.now) ∙ drop_all (length c.args.choice.now) c.args.choice.now (omega arith))
+    λ j. ap (λ ns. part ns j) (all_after c.args.choice.now (length c.args.choice.now) ∙ drop_all (length c.args.choice.now) c.args.choice.now (omega arith))
     ∙ part_none c.args.choice.now none j

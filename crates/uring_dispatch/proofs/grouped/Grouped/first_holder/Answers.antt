@@ -14,10 +14,10 @@ plain None e = refl
 plain (Some x) e = absurd (both_ways (is_some (Some x)) e refl)
 
 -- no group drains from a number before this one on, if the first that drains doesn't begin before it
-first-behind : (w : Window) (g : Groups) (r : Requests) (b : Group) (from : ℕ) → AreHeld w g r
+first-after : (w : Window) (g : Groups) (r : Requests) (b : Group) (from : ℕ) → AreHeld w g r
     → IsFirstDraining g b → from ≤ b.from → (key number : ℕ)
     → drain_of (group_at g key) ≡ Some number → from ≤ number
-first-behind w g r b from h f le key number d =
+first-after w g r b from h f le key number d =
     let shown = h.groups f.key b f.here in
     let member = first_member_inside _ b.from b.end f.number (sym shown.drain ∙ f.drains) in
     let least = f.first key number d in
@@ -37,7 +37,7 @@ pub returns-in-Some-2-clause-holds : goal.returns-in-Some-2-clause-holds
 returns-in-Some-2-clause-holds c = λ r h.
     first_own _ _ r c.args.n c.args.request.now c.group_of-group.result c.args.self.now.sound h c.requires c.group_of-group.ensures.group
     (plain c.group_of-group.result.drain (sym c.is_some.ensures ∙ c.if-is_some.false))
-    (first-behind _ _ r c.in-Some-first_draining.first c.group_of-group.result.from h c.in-Some-first_draining.ensures c.if-first-group.false)
+    (first-after _ _ r c.in-Some-first_draining.first c.group_of-group.result.from h c.in-Some-first_draining.ensures c.if-first-group.false)
 
 pub returns-in-None-first_draining-clause-holds : goal.returns-in-None-first_draining-clause-holds
 returns-in-None-first_draining-clause-holds c = λ r h.

@@ -2,7 +2,7 @@ use Rattle.std.proofs.Common.{sym, ◌∙◌, ap, not, arith, inl, inr}
 use Rattle.std.proofs.lemmas.Bool.{cases_Bool, both_ways}
 use Rattle.uring_entry.proofs.BelowLemmas.{is_some_value}
 use Rattle.uring_dispatch.specs.Window.{at}
-use Rattle.uring_dispatch.proofs.HeldLemmas.{not_least, behind_barrier, not_alone, ready_held}
+use Rattle.uring_dispatch.proofs.HeldLemmas.{not_least, after_barrier, not_alone, ready_held}
 use Rattle.uring_dispatch.proofs.grouped.Grouped.is_ready.Goals as goal
 
 pub returns-then-group-n : goal.returns-then-group-n
@@ -14,7 +14,7 @@ pub returns-then-has_barrier_before : goal.returns-then-has_barrier_before
 returns-then-has_barrier_before c = λ r h.
     let q = is_some_value (at c.args.self.now.window c.args.n) c.requires.there in
     sym
-    (behind_barrier _ _ r c.args.n q.0 c.args.group.now c.args.self.now.sound h q.1 (c.requires.group q.0 q.1)
+    (after_barrier _ _ r c.args.n q.0 c.args.group.now c.args.self.now.sound h q.1 (c.requires.group q.0 q.1)
     (c.has_barrier_before.ensures.held c.if-has_barrier_before.true))
 
 pub returns-then-is_none : goal.returns-then-is_none

@@ -77,14 +77,14 @@ returns-then-least-group-clause-others c = λ k ne head beside.
     in
     stands_ended_last _ _ _ _ c.args.n _ _ c.least_left-least.result k c.args.self.now.sound ends c.least_left-least.ensures (omega arith) ne
 
-pub behind_failure-doomed_end-requires : goal.behind_failure-doomed_end-requires
-behind_failure-doomed_end-requires c =
+pub after_failure-doomed_end-requires : goal.after_failure-doomed_end-requires
+after_failure-doomed_end-requires c =
     (in_group _ _ c.args.n _ _ c.args.self.now.sound c.end_one-request.ensures.request (c.requires.group _ c.end_one-request.ensures.request)).1
 
 pub returns-clause-doomed : goal.returns-clause-doomed
 returns-clause-doomed c =
     let kept = c.args.self.now.sound.kept _ c.args.group.now (c.requires.group _ c.end_one-request.ensures.request) in
-    omega (arith, kept.end, c.behind_failure-doomed_end.ensures.within)
+    omega (arith, kept.end, c.after_failure-doomed_end.ensures.within)
 
 pub returns-clause-others : goal.returns-clause-others
 returns-clause-others c = λ k ne head beside.
@@ -92,4 +92,4 @@ returns-clause-others c = λ k ne head beside.
     record { there = c.end_one-request.ensures.request; changes = c.end_one-request.ensures.changes; end = c.end_one-request.ensures.end; group = (c.requires.group _ c.end_one-request.ensures.request); exchange = c.update.ensures.changes }
     in
     stands_ended_more _ _ _ _ c.args.n _ c.args.group.now _ c.least_left-least.result k c.breaks-is_break.result c.args.self.now.sound ends c.least_left-least.ensures refl refl c.earlier_of-broken.ensures
-    (λ breaks lt. elim beside [ inl low ↦ inl low | inr past ↦ inr (c.behind_failure-doomed_end.ensures.doomed breaks k past lt) ]) ne head
+    (λ breaks lt. elim beside [ inl low ↦ inl low | inr past ↦ inr (c.after_failure-doomed_end.ensures.doomed breaks k past lt) ]) ne head

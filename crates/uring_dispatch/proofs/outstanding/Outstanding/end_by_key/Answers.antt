@@ -1,5 +1,5 @@
 use Rattle.std.proofs.Common.{arith}
-use Rattle.uring_dispatch.proofs.WaitingLemmas.{tell_outstanding, tell_behind, tell_kept, keeps_both, forgotten_listed, forgotten_keeps, end_listed}
+use Rattle.uring_dispatch.proofs.WaitingLemmas.{tell_outstanding, tell_after, tell_kept, keeps_both, forgotten_listed, forgotten_keeps, end_listed}
 use Rattle.uring_dispatch.proofs.ByData.{found_on, found_dropped, goes_ended}
 use Rattle.uring_dispatch.proofs.outstanding.Outstanding.end_by_key.Goals as goal
 
@@ -17,7 +17,7 @@ relist_range-requires c = λ k from to.
     let doomed = c.take_out-others.ensures.doomed in
     let own = forgotten_listed _ c.take_out-others.new.self.groups _ _ c.args.n c.take_out-others.ensures.gone.here c.forget.ensures.heads c.forget.ensures.doomed in
     let keeps = forgotten_keeps _ _ _ _ c.args.n own c.forget.ensures.heads c.forget.ensures.doomed in
-    tell_kept _ _ _ _ _ (tell_kept _ _ _ _ _ (tell_behind _ _ _ c.args.n k c.args.self.now.listed c.take_out-others.ensures.there from (omega arith)) keeps) c.relist_other.ensures.keeps
+    tell_kept _ _ _ _ _ (tell_kept _ _ _ _ _ (tell_after _ _ _ c.args.n k c.args.self.now.listed c.take_out-others.ensures.there from (omega arith)) keeps) c.relist_other.ensures.keeps
 
 pub invariant_of-self : goal.invariant_of-self
 invariant_of-self c = (c.take_out-others.new.self.sound, tt)

@@ -28,17 +28,17 @@ returns-then-request-2-clause-issued c = λ l g.
     let t = h.told c.args.n c.in-Some.request.now here in
     sym (asked l c.args.n true true _ _ _ (outstanding_going _ _ l.requests c.args.n h here c.if-request.false) (sym t.running ∙ c.if-request-2.true) refl refl refl)
 
-pub is_right_behind-requires : goal.is_right_behind-requires
-is_right_behind-requires c = at_within _ c.args.n c.in-Some.request.now (sym c.in-Some.ensures)
+pub is_right_after-requires : goal.is_right_after-requires
+is_right_after-requires c = at_within _ c.args.n c.in-Some.request.now (sym c.in-Some.ensures)
 
-pub returns-then-is_right_behind-clause-issued : goal.returns-then-is_right_behind-clause-issued
-returns-then-is_right_behind-clause-issued c = λ l g.
+pub returns-then-is_right_after-clause-issued : goal.returns-then-is_right_after-clause-issued
+returns-then-is_right_after-clause-issued c = λ l g.
     let h = shown c.self.inside.window c.self.inside.drains c.self.inside.has_skipped c.self.inside.room c.self.inside.is_between_calls l (subst (λ (d : LinuxDispatch). ShowsRequests d l) (sym c.self.view_is) g) in
     let here = sym c.in-Some.ensures in
     let t = h.told c.args.n c.in-Some.request.now here in
     sym
     (asked l c.args.n true false false _ _ (outstanding_going _ _ l.requests c.args.n h here c.if-request.false) (sym t.running ∙ c.if-request-2.false)
-    (c.is_right_behind.ensures l.requests h c.if-is_right_behind.true) refl refl)
+    (c.is_right_after.ensures l.requests h c.if-is_right_after.true) refl refl)
 
 pub returns-then-not-is_in_turn-clause-issued : goal.returns-then-not-is_in_turn-clause-issued
 returns-then-not-is_in_turn-clause-issued c = λ l g.

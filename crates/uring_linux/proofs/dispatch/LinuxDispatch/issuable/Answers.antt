@@ -20,8 +20,8 @@ loop-k-init c = record {
   within = omega arith;
 }
 
-pub next_behind-k-requires-clause-within : goal.next_behind-k-requires-clause-within
-next_behind-k-requires-clause-within c =
+pub next_after-k-requires-clause-within : goal.next_after-k-requires-clause-within
+next_after-k-requires-clause-within c =
     let first = ap (λ (d : LinuxDispatch). d.held.window.first) c.self.view_is in
     record { low = omega (arith, c.loop-k.invariant.low); high = omega arith }
 
@@ -30,18 +30,18 @@ overflow_add-total c = omega (arith, c.loop-k.invariant.within, c.one-total.ensu
 
 pub loop-k-preserved : goal.loop-k-preserved
 loop-k-preserved c = record {
-  low = omega (arith, c.loop-k.invariant.low, c.next_behind-k.ensures.behind);
+  low = omega (arith, c.loop-k.invariant.low, c.next_after-k.ensures.after);
   high = λ l g.
       let h = shown_as c.self.inside.window c.self.inside.drains c.self.inside.has_skipped c.self.inside.room c.self.inside.is_between_calls _ l c.self.view_is g in
-      omega (arith, c.next_behind-k.ensures.high l.requests h);
+      omega (arith, c.next_after-k.ensures.high l.requests h);
   counted = λ l g.
       let h = shown_as c.self.inside.window c.self.inside.drains c.self.inside.has_skipped c.self.inside.room c.self.inside.is_between_calls _ l c.self.view_is g in
       let so_far = c.loop-k.invariant.counted l g in
       let more = next_count (is_issuable l) c.loop-k.k in
       let here = c.one-total.ensures.value l g in
-      let passed = count_passed (is_issuable l) c.loop-k.k c.next_behind-k.result c.next_behind-k.ensures.behind (λ i behind lt. passed_issuable l i (c.next_behind-k.ensures.skipped l.requests i h behind lt)) in
+      let passed = count_passed (is_issuable l) c.loop-k.k c.next_after-k.result c.next_after-k.ensures.after (λ i after lt. passed_issuable l i (c.next_after-k.ensures.skipped l.requests i h after lt)) in
       omega arith;
-  within = omega (arith, c.loop-k.invariant.within, c.one-total.ensures.few, c.next_behind-k.ensures.behind);
+  within = omega (arith, c.loop-k.invariant.within, c.one-total.ensures.few, c.next_after-k.ensures.after);
 }
 
 pub returns : goal.returns

@@ -11,7 +11,7 @@ pub loop-k-init : goal.loop-k-init
 loop-k-init c =
     let first = ap (λ (d : LinuxDispatch). d.held.window.first) c.self.view_is in
     record {
-      behind = omega arith;
+      after = omega arith;
       low = omega arith;
       passed = λ l g i lt.
           elim (cases_lt i c.args.n) [
@@ -25,24 +25,24 @@ returns-then-is_issuable c = λ l g.
     let end = ap (λ (d : LinuxDispatch). d.accepted) c.self.view_is in
     sym
     (least_below_some (λ i. leb c.args.n i && is_issuable l i) (length l.requests.accepted) c.loop-k.k (omega (arith, end, g.accepted))
-    (and_from _ _ (le-leb c.args.n c.loop-k.k c.loop-k.invariant.behind) (sym (c.is_issuable.ensures l g) ∙ c.if-is_issuable.true))
+    (and_from _ _ (le-leb c.args.n c.loop-k.k c.loop-k.invariant.after) (sym (c.is_issuable.ensures l g) ∙ c.if-is_issuable.true))
     (c.loop-k.invariant.passed l g))
 
-pub next_behind-k-requires-clause-within : goal.next_behind-k-requires-clause-within
-next_behind-k-requires-clause-within c =
+pub next_after-k-requires-clause-within : goal.next_after-k-requires-clause-within
+next_after-k-requires-clause-within c =
     let first = ap (λ (d : LinuxDispatch). d.held.window.first) c.self.view_is in
     record { low = omega (arith, c.loop-k.invariant.low); high = omega arith }
 
 pub loop-k-preserved : goal.loop-k-preserved
 loop-k-preserved c = record {
-  behind = omega (arith, c.loop-k.invariant.behind, c.next_behind-k.ensures.behind);
-  low = omega (arith, c.loop-k.invariant.low, c.next_behind-k.ensures.behind);
+  after = omega (arith, c.loop-k.invariant.after, c.next_after-k.ensures.after);
+  low = omega (arith, c.loop-k.invariant.low, c.next_after-k.ensures.after);
   passed = λ l g i lt.
       elim (cases_lt i c.loop-k.k) [
         | inl before ↦ c.loop-k.invariant.passed l g i before
         | inr past ↦
             elim (cases_lt c.loop-k.k i) [
-              | inl behind ↦ and_right _ _ (passed_issuable l i (c.next_behind-k.ensures.skipped l.requests i (shown_as c.self.inside.window c.self.inside.drains c.self.inside.has_skipped c.self.inside.room c.self.inside.is_between_calls _ l c.self.view_is g) behind lt))
+              | inl after ↦ and_right _ _ (passed_issuable l i (c.next_after-k.ensures.skipped l.requests i (shown_as c.self.inside.window c.self.inside.drains c.self.inside.has_skipped c.self.inside.room c.self.inside.is_between_calls _ l c.self.view_is g) after lt))
               | inr here ↦ and_right _ _ (ap (is_issuable l) (omega (arith, past, here)) ∙ sym (c.is_issuable.ensures l g) ∙ c.if-is_issuable.false)
             ]
       ];

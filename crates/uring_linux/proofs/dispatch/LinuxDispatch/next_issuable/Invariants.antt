@@ -5,7 +5,7 @@ use Rattle.uring_linux.proofs.dispatch.LinuxDispatch.next_issuable.Given as goal
 
 abbrev pub invariant-loop-k : goal.invariant-loop-k
 invariant-loop-k l = record {
-  behind : l.n ≤ l.k;
+  after : l.n ≤ l.k;
   low : l.self.held.window.first ≤ l.k;
   passed : (r : LinuxRequests) → ShowsRequests l.self r → (i : ℕ) → i < l.k → (leb l.n i && is_issuable r i) ≡ false;
 }

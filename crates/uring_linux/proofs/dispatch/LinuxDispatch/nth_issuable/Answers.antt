@@ -21,8 +21,8 @@ loop-n-init c = record {
       omega arith;
 }
 
-pub next_behind-n-requires-clause-within : goal.next_behind-n-requires-clause-within
-next_behind-n-requires-clause-within c =
+pub next_after-n-requires-clause-within : goal.next_after-n-requires-clause-within
+next_after-n-requires-clause-within c =
     let first = ap (λ (d : LinuxDispatch). d.held.window.first) c.self.view_is in
     record { low = omega (arith, c.loop-n.invariant.low); high = omega arith }
 
@@ -39,16 +39,16 @@ returns-then-left-count c = λ l g.
 
 pub loop-n-preserved : goal.loop-n-preserved
 loop-n-preserved c = record {
-  low = omega (arith, c.loop-n.invariant.low, c.next_behind-n.ensures.behind);
+  low = omega (arith, c.loop-n.invariant.low, c.next_after-n.ensures.after);
   high = λ l g.
       let h = shown_as c.self.inside.window c.self.inside.drains c.self.inside.has_skipped c.self.inside.room c.self.inside.is_between_calls _ l c.self.view_is g in
-      omega (arith, c.next_behind-n.ensures.high l.requests h);
+      omega (arith, c.next_after-n.ensures.high l.requests h);
   counted = λ l g.
       let h = shown_as c.self.inside.window c.self.inside.drains c.self.inside.has_skipped c.self.inside.room c.self.inside.is_between_calls _ l c.self.view_is g in
       let so_far = c.loop-n.invariant.counted l g in
       let more = next_count (is_issuable l) c.loop-n.n in
       let here = c.one-count.ensures.value l g in
-      let passed = count_passed (is_issuable l) c.loop-n.n c.next_behind-n.result c.next_behind-n.ensures.behind (λ i behind lt. passed_issuable l i (c.next_behind-n.ensures.skipped l.requests i h behind lt)) in
+      let passed = count_passed (is_issuable l) c.loop-n.n c.next_after-n.result c.next_after-n.ensures.after (λ i after lt. passed_issuable l i (c.next_after-n.ensures.skipped l.requests i h after lt)) in
       omega arith;
 }
 

@@ -5,7 +5,7 @@ use Rattle.uring_linux.proofs.window.Window.posts.Goals as goal
 
 pub returns : goal.returns
 returns c = λ r s t m kept.
-    let posts = rw (to_z-of_z w32 c.args.res (search rules)) at c.posts_behind.ensures in
+    let posts = rw (to_z-of_z w32 c.args.res (search rules)) at c.posts_after.ensures in
     let high = m.high in
     let within = m.told.group.accepted in
     let count = s.count in

@@ -23,7 +23,7 @@ found : (s : NumberSet) (from skip i : ℕ) → skip ≡ from - s.first → IsFi
     → IsFirstBlock s from (s.first + i)
 found s from skip i e f =
     let within = f.within in
-    let behind = f.from_on in
+    let after = f.from_on in
     record {
       from_on = omega arith;
       filled = λ zero. f.filled (sym (at_place s.first s.blocks i) ∙ zero);

@@ -1,6 +1,6 @@
 use Rattle.std.proofs.Common.{◌≡◌, ◌≤◌, ℕ, ◌+◌, ◌/◌, Option, Some, None, MatchOption, false, ◌∙◌, sym, pos_of_ne-zero}
 use Rattle.uring_number_set.specs.NumberSet.{NumberSet, block_at, holds, IsLeastFrom, HasNoneFrom}
-use Rattle.uring_number_set.proofs.BlockLemmas.{none_from, least_within, least_behind}
+use Rattle.uring_number_set.proofs.BlockLemmas.{none_from, least_within, least_after}
 use Rattle.uring_number_set.proofs.blocks.Blocks.least_from.Goals as goal
 
 pub returns-in-Some : goal.returns-in-Some
@@ -24,4 +24,4 @@ pub returns : goal.returns
 returns c =
     let some = pos_of_ne-zero (λ e. c.in_ok-place.ensures.filled (sym c.block-2.ensures.value ∙ e)) in
     rw c.lowest.ensures
-    (least_behind c.args.self.now c.args.n c.block.result c.in_ok-place.place c.block-2.result c.block.ensures.value c.in_default.ensures c.block-2.ensures.value some c.block-2.type_inv c.in_ok-place.ensures.from_on c.in_ok-place.ensures.before)
+    (least_after c.args.self.now c.args.n c.block.result c.in_ok-place.place c.block-2.result c.block.ensures.value c.in_default.ensures c.block-2.ensures.value some c.block-2.type_inv c.in_ok-place.ensures.from_on c.in_ok-place.ensures.before)

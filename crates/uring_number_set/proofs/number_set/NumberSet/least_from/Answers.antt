@@ -1,6 +1,6 @@
 use Rattle.std.proofs.Common.{◌≡◌, ◌≤◌, ℕ, ◌+◌, ◌/◌, Option, Some, None, MatchOption, false, ◌∙◌, sym, refl, pos_of_ne-zero}
 use Rattle.uring_number_set.specs.NumberSet.{NumberSet, block_at, holds, IsFilled, IsLeastFrom, HasNoneFrom}
-use Rattle.uring_number_set.proofs.BlockLemmas.{none_from, least_within, least_behind, filled_none, filled_some, limit_least}
+use Rattle.uring_number_set.proofs.BlockLemmas.{none_from, least_within, least_after, filled_none, filled_some, limit_least}
 use Rattle.uring_number_set.proofs.number_set.NumberSet.least_from.Goals as goal
 
 pub returns-in-Some : goal.returns-in-Some
@@ -29,7 +29,7 @@ lowest-requires c =
 pub returns : goal.returns
 returns c =
     let some = pos_of_ne-zero (λ e. filled_some c.self.inside.numbers c.self.inside.filled c.in_ok-place.place c.self.invariant c.in_ok-place.ensures.here (sym c.block-2.ensures.value ∙ e)) in
-    let least = least_behind c.self.inside.numbers c.args.n c.block.result c.in_ok-place.place c.block-2.result c.block.ensures.value c.in_default.ensures c.block-2.ensures.value some c.block-2.type_inv c.in_ok-place.ensures.from
+    let least = least_after c.self.inside.numbers c.args.n c.block.result c.in_ok-place.place c.block-2.result c.block.ensures.value c.in_default.ensures c.block-2.ensures.value some c.block-2.type_inv c.in_ok-place.ensures.from
     (λ k le lt. filled_none c.self.inside.numbers c.self.inside.filled k c.self.invariant (c.in_ok-place.ensures.before k le lt))
     in
     rw (← c.self.view_is) (rw c.lowest.ensures (limit_least c.self.inside.numbers _ _ _ least))

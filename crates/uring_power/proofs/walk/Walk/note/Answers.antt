@@ -6,7 +6,7 @@ use Rattle.uring_outcomes.specs.Runs.{entries_of}
 use Rattle.uring_outcomes.specs.Walks.{paths_of}
 use Rattle.uring_power.specs.Found.{IsReason}
 use Rattle.uring_power.specs.Shown.{Crash}
-use Rattle.uring_power.specs.Trials.{logs_behind, HasMade, AreShown, TakesPath}
+use Rattle.uring_power.specs.Trials.{logs_after, HasMade, AreShown, TakesPath}
 use Rattle.uring_power.proofs.Showing.{err_told, reason_of}
 use Rattle.uring_power.proofs.Taking.{path_taken}
 use Rattle.uring_power.proofs.walk.Walk.note.Goals as goal
@@ -28,9 +28,9 @@ returns-clause-takes c =
     let found = c.args.self.now.found.items in
     let shown = c.in_ok-shown.shown.items in
     let posted : c.as_slice.result.now ≡ h.last.posted = c.as_slice.ensures.value ∙ h.at.posted in
-    let logs : c.as_slice-2.result.now ≡ logs_behind c.args.unit c.args.setup.now calls path = c.as_slice-2.ensures.value ∙ h.are in
-    let are : AreShown h.last.posted (logs_behind c.args.unit c.args.setup.now calls path) shown =
-    subst (λ (ps : List Cqe). AreShown ps (logs_behind c.args.unit c.args.setup.now calls path) shown) posted
+    let logs : c.as_slice-2.result.now ≡ logs_after c.args.unit c.args.setup.now calls path = c.as_slice-2.ensures.value ∙ h.are in
+    let are : AreShown h.last.posted (logs_after c.args.unit c.args.setup.now calls path) shown =
+    subst (λ (ps : List Cqe). AreShown ps (logs_after c.args.unit c.args.setup.now calls path) shown) posted
     (subst (λ (ls : List Log). AreShown c.as_slice.result.now ls shown) logs c.in_ok-shown.ensures.shown) in
     let pushed : paths_of c.push_longer-left.new.todo.items ≡ todo ++ map (λ x. path ++ x ∷ []) moves = c.in_ok-left.ensures.pushed ∙ ap (λ (xs : List Move). todo ++ map (λ x. path ++ x ∷ []) xs) c.as_slice-3.ensures.value in
     let noted : c.append.new.self.items ≡ found ++ shown = c.in_ok-append.ensures.items in

@@ -5,7 +5,7 @@ use Rattle.uring_words.specs.declared.submission.view.Position.TheVariants as po
 use Rattle.uring_words.proofs.CallLemmas.{more_length, more_append}
 use Rattle.uring_words.proofs.Handing.{held-length}
 use Rattle.uring_words.proofs.Standing.{at_place}
-use Rattle.uring_words.proofs.Turning.{part_done, stands_first, goes_behind}
+use Rattle.uring_words.proofs.Turning.{part_done, stands_first, goes_after}
 use Rattle.uring_words.proofs.submission.writer.write_front.Goals as goal
 
 pub write_first-requires-clause-first : goal.write_first-requires-clause-first
@@ -35,7 +35,7 @@ loop-item-preserved c =
       next = omega (arith, inv.next);
       written = λ blank holds.
           let all : length room.blank ≡ length blank = sym (held-length a.start a.size n room.blank) ∙ ap length (sym room.holds ∙ holds) ∙ held-length a.start a.size n blank in
-          goes_behind a.start a.size n k (c.loop-item.next % c.args.size) blank (all_more (take k items)) c.loop-item.seat.me v (inv.written blank holds) (omega (arith, room.many, c.loop-item-test.true)) at.0 (position.More x) c.write_first.new.seat.me many c.write_first.ensures.written
+          goes_after a.start a.size n k (c.loop-item.next % c.args.size) blank (all_more (take k items)) c.loop-item.seat.me v (inv.written blank holds) (omega (arith, room.many, c.loop-item-test.true)) at.0 (position.More x) c.write_first.new.seat.me many c.write_first.ensures.written
           ∙ ap (λ ps. (v, part_done a.start a.size n (k + 1) blank ps)) longer;
     }
 

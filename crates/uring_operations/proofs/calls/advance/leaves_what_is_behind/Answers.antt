@@ -1,5 +1,0 @@
-use Rattle.uring_operations.proofs.AdvanceRuns.{leaves_what_is_behind}
-use Rattle.uring_operations.proofs.calls.advance.leaves_what_is_behind.Goals as goal
-
-pub returns : goal.returns
-returns c = leaves_what_is_behind
