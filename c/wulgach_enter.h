@@ -208,6 +208,18 @@ bool wulgach_polls_instance(uint64_t dormant);
 /* Whether a sleep polls what tells of writes to pipes, of which so many are watched: there are any. */
 bool wulgach_polls_writes(uint64_t watched);
 
+/* ---- the thread's signals ---- */
+
+/* Whether signals are blocked as a call begins that gets events (IORING_ENTER_GETEVENTS) and waits for so many: unless the program's handlers are quiet, which is that
+ * none calls io_uring or leaves a call, and the call can't sleep. Our own rule. */
+bool wulgach_blocks_at_begin(bool are_quiet, bool gets, uint32_t min_complete);
+
+/* Whether they are before the calls of an operation, where they are open: but for a read of what is no stream, a signal may end them early, or come of them. */
+bool wulgach_blocks_before(bool is_read, bool is_stream);
+
+/* Whether a call that came to this, where they were open, is made once more, with signals blocked: one has ended it (-4). */
+bool wulgach_is_made_again(bool was_open, int32_t res);
+
 /* ---- its last arguments ---- */
 
 /* The last argument of a call, as far as it was read. */

@@ -1,14 +1,17 @@
 /* What a program calls in the place of the C library's syscall(), mmap() and close(): the layer answers the three calls of
  * io_uring, and hands on all others. liburing's sources call wulgach_polled_syscall, wulgach_mmap and wulgach_close. A program
  * that maps its rings by mmap itself calls wulgach_syscall: its descriptors are memory, and don't poll. Where a call was trapped,
- * all signals are blocked already: wulgach_blocked_enter is told which the thread has blocked else. Whoever hears of a program's closes asks
- * wulgach_may_name_ring before one, and calls wulgach_look_for_closed after it.
+ * all signals are blocked already: wulgach_blocked_enter is told which the thread has blocked else; or none is, where wulgach_leaves_signals_open says that
+ * none need be, and it is told so. Whoever hears of a program's closes asks wulgach_may_name_ring before one, and calls wulgach_look_for_closed after it. One
+ * that hears all calls wulgach_hear_closes, if the user says so.
  */
 #define _GNU_SOURCE
 #include "callers.h"
 #include "descriptors.h"
 #include "enter.h"
 #include "process.h"
+#include "reached.h"
+#include "signals.h"
 #include "sleepers.h"
 
 #include <errno.h>
@@ -27,6 +30,8 @@ SEEN void *wulgach_mmap(void *at, size_t size, int protection, int flags, int fd
 SEEN int wulgach_close(int fd);
 SEEN bool wulgach_may_name_ring(int fd);
 SEEN void wulgach_look_for_closed(void);
+SEEN void wulgach_hear_closes(void);
+SEEN bool wulgach_leaves_signals_open(const long words[6]);
 
 /* A thread isn't cancelled in the middle of a call, as it isn't in the kernel's: the layer's own calls of the C library would end there,
  * with its locks held. Sleeps that were left by a jump are left first. (it is inlined: where it stands on the stack is where the call does) */
@@ -162,6 +167,11 @@ int wulgach_close(int fd)
     return (int)returned(result);
 }
 
+bool wulgach_leaves_signals_open(const long words[6])
+{
+    return leaves_signals_open((uint32_t)words[2], (uint32_t)words[3]);
+}
+
 bool wulgach_may_name_ring(int fd)
 {
     return may_be_ring(fd);
@@ -170,9 +180,15 @@ bool wulgach_may_name_ring(int fd)
 /* (a child of vfork has its parent's memory, and descriptors of its own: its closes leave the parent's rings. A process that isn't known has made none) */
 void wulgach_look_for_closed(void)
 {
+    note_close();
     if (!is_known_process())
         return;
     int before = forbid_cancellation();
     let_go_in_handler();
     allow_cancellation(before);
+}
+
+void wulgach_hear_closes(void)
+{
+    hear_closes();
 }

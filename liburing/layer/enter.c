@@ -15,6 +15,7 @@
 #include "progress.h"
 #include "restrictions.h"
 #include "ring.h"
+#include "signals.h"
 #include "submit.h"
 #include "trace.h"
 #include "waiting.h"
@@ -307,12 +308,13 @@ static int64_t enter_by(int fd, struct waiting *waiting)
 
 int64_t enter(int fd, uint32_t to_submit, uint32_t min_complete, uint32_t flags, const void *argument, size_t size, const sigset_t *signals)
 {
-    sigset_t own, given;
+    sigset_t given;
+    struct call_signals own;
     struct waiting waiting = {
         .to_submit = to_submit,
         .min_complete = min_complete,
         .is_trapped = signals != NULL,
-        .signals = signals ? signals : &own,
+        .signals = signals ? signals : &own.own,
         .mask = (uintptr_t)argument,
         .mask_size = size,
         .given = &given,
@@ -320,9 +322,9 @@ int64_t enter(int fd, uint32_t to_submit, uint32_t min_complete, uint32_t flags,
     };
     /* Operations are carried out in the call, where the kernel's would be out of a signal's reach. */
     if (!signals)
-        block_signals(&own);
+        begin_signals(&own, leaves_signals_open(min_complete, flags));
     int64_t result = enter_by(fd, &waiting);
     if (!signals)
-        pthread_sigmask(SIG_SETMASK, &own, NULL);
+        end_signals(&own);
     return result;
 }

@@ -3,6 +3,7 @@
  */
 #define _GNU_SOURCE
 #include "glance.h"
+#include "signals.h"
 #include "wulgach_waits.h"
 
 #include <errno.h>
@@ -107,6 +108,8 @@ static int ask_select(struct pollfd *polled, nfds_t count, const struct timespec
 int poll_now(struct pollfd *polled, nfds_t count)
 {
     static const struct timespec now;
+    /* (where nothing is ready a signal that comes is an error) */
+    block_signals_of_call();
     int came = poll(polled, count, 0);
     return came < 0 && wulgach_asks_select(-errno) ? ask_select(polled, count, &now, NULL) : came;
 }

@@ -6,6 +6,7 @@
 #include "means.h"
 #include "numbers.h"
 #include "operations.h"
+#include "signals.h"
 
 #include <errno.h>
 #include <fcntl.h>
@@ -47,6 +48,7 @@ static int look_up(const struct request *request)
 void look_for_pipe(struct request *request)
 {
     struct stat status;
+    block_signals_of_call();
     int fd = look_up(request);
     request->has_found_pipe = fd >= 0 && fstat(fd, &status) == 0 && S_ISFIFO(status.st_mode);
     if (request->has_found_pipe) {

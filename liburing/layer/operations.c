@@ -128,9 +128,14 @@ static struct wulgach_vectors vectors_of(const struct request *request)
 /* Makes the call in the way that the library said. A read is made by the kernel's call itself, which is quicker than the C library's. */
 static int32_t make_in_way(const struct request *request, const struct wulgach_system_call *call, uint32_t way)
 {
-    if (way == WULGACH_CALL_UNWILLING)
+    if (way == WULGACH_CALL_UNWILLING) {
+        block_signals_of_call();
         return make_unwilling_transfer(call, request->fd);
-    return request->needs.is_read ? make_passing_call(call) : make_call(call);
+    }
+    if (!request->needs.is_read)
+        return make_call(call);
+    int32_t res = make_passing_call(call);
+    return was_interrupted(res) ? make_passing_call(call) : res;
 }
 
 /* Makes it, and once more of a socket that was shut down: a datagram may have come just before that. */
@@ -279,6 +284,8 @@ static int32_t call_with_buffer(struct ring *ring, struct request *request, bool
 /* Makes its calls, of half of its bytes or of all, and takes back the signal that comes of them. */
 static int32_t call_for(struct ring *ring, struct request *request, bool is_half)
 {
+    if (wulgach_blocks_before(request->needs.is_read, request->standing.is_stream))
+        block_signals_of_call();
     if (is_half && !request->needs.selects)
         shorten(request);
     int32_t res = request->needs.selects ? call_with_buffer(ring, request, is_half) : call_or_wait(ring, request);

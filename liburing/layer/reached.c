@@ -1,4 +1,5 @@
-/* By which descriptors a ring is reached: each asks the kernel, since a program closes, copies and uses numbers again unheard. */
+/* By which descriptors a ring is reached: each asks the kernel, since a program closes, copies and uses numbers again unheard. Where the user says that each
+ * close of a ring's descriptor is heard, what was asked holds until the next. */
 #define _GNU_SOURCE
 #include "reached.h"
 #include "readiness.h"
@@ -20,9 +21,30 @@ bool is_reached_by(const struct ring *ring, int fd)
     return fstat(fd, &status) == 0 && status.st_dev == ring->device && status.st_ino == ring->inode;
 }
 
-bool is_still_reached_by(const struct ring *ring, int fd)
+/* How many closes were heard, and one; 0: they aren't. */
+static uint64_t closes;
+
+void hear_closes(void)
 {
-    return ring->ready_fd >= 0 ? is_still_polled_by(ring, fd) : is_reached_by(ring, fd);
+    __atomic_store_n(&closes, 1, __ATOMIC_SEQ_CST);
+}
+
+void note_close(void)
+{
+    if (__atomic_load_n(&closes, __ATOMIC_RELAXED) != 0)
+        __atomic_add_fetch(&closes, 1, __ATOMIC_SEQ_CST);
+}
+
+bool is_still_reached_by(struct ring *ring, int fd)
+{
+    /* (a close that comes while it is asked has it asked again) */
+    uint64_t now = __atomic_load_n(&closes, __ATOMIC_SEQ_CST);
+    if (now != 0 && ring->known_at == now && ring->known_fd == fd)
+        return true;
+    bool is_reached = ring->ready_fd >= 0 ? is_still_polled_by(ring, fd) : is_reached_by(ring, fd);
+    ring->known_at = is_reached ? now : 0;
+    ring->known_fd = fd;
+    return is_reached;
 }
 
 /* One of the descriptors in a part of the list of all that is open on a ring, or -1. */

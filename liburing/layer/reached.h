@@ -7,8 +7,12 @@
 /* Whether a descriptor is open on this ring, */
 bool is_reached_by(const struct ring *ring, int fd);
 
-/* and whether one that was is so still. */
-bool is_still_reached_by(const struct ring *ring, int fd);
+/* and whether one that was is so still. The lock of all rings is held. */
+bool is_still_reached_by(struct ring *ring, int fd);
+
+/* From here on each close of a ring's descriptor is heard, by which it may get another's number or none; and one was. */
+void hear_closes(void);
+void note_close(void);
 
 /* A descriptor that is open on a ring in this process: the one that was found last, or another; negative: there is none. Where that can't be
  * found out, the last. */

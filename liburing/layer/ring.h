@@ -43,6 +43,8 @@ struct ring {
     uint32_t left;                      /* what is left undone with it, since a child that a handler has forked is back from its parent's sleep */
     int fd;                             /* the first descriptor, or the one that was found last: it may be closed, or another file's by now */
     int called_fd;                      /* the one of the call that has its lock, or of the last one */
+    int known_fd;                       /* where closes are heard: one that was open on it after so many of them, */
+    uint64_t known_at;                  /* or 0 */
     int ready_fd;                       /* an eventfd, if the descriptor polls; or negative: the descriptor is memory */
     uint64_t mark;                      /* and by what that descriptor is known, or 0: by the eventfd alone */
     bool is_readable;                   /* the eventfd is set, */

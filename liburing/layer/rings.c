@@ -18,6 +18,7 @@
 #include "readiness.h"
 #include "ring.h"
 #include "server.h"
+#include "signals.h"
 #include "strict.h"
 #include "trace.h"
 #include "whole_calls.h"
@@ -219,6 +220,7 @@ int setup(uint32_t entries, struct io_uring_params *params, bool is_polled)
     block_signals(&own);
     read_policy();
     read_injection();
+    read_handlers();
     int result = set_up(entries, params, is_polled);
     allow_signals(&own);
     return result;

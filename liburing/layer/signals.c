@@ -1,14 +1,71 @@
-/* SIGXFSZ and SIGPIPE. The kernel sends them to the thread that made the call, and a thread's own signals are taken before its process's: so the
- * call's is taken first, if there is one. Which of those that are taken is the call's is the library's decision.
+/* The signals of a thread that calls; and SIGXFSZ and SIGPIPE. The kernel sends these to the thread that made the call, and a thread's own signals are taken
+ * before its process's: so the call's is taken first, if there is one. Which of those that are taken is the call's is the library's decision.
+ *
+ * A handler that comes amid a call may call io_uring, or leave by a jump: so all are blocked in a call, for two system calls. Where WULGACH_HANDLERS says that no
+ * handler does anything of the kind, they are blocked from where one would be seen, as the library says; and before looks that a signal ends.
  */
 #define _GNU_SOURCE
 #include "signals.h"
+#include "fault.h"
 #include "process.h"
 #include "wulgach_calls.h"
+#include "wulgach_enter.h"
 
+#include <linux/io_uring.h>
+#include <stdlib.h>
+#include <string.h>
 #include <sys/resource.h>
 #include <sys/syscall.h>
 #include <unistd.h>
+
+static bool are_quiet;      /* the handlers; read when a ring is set up */
+
+void read_handlers(void)
+{
+    const char *word = getenv("WULGACH_HANDLERS");
+    are_quiet = word && strcmp(word, "quiet") == 0;
+    demand(are_quiet || !word || !*word || strcmp(word, "any") == 0, "WULGACH_HANDLERS is any or quiet");
+}
+
+bool leaves_signals_open(uint32_t min_complete, uint32_t flags)
+{
+    return !wulgach_blocks_at_begin(are_quiet, flags & IORING_ENTER_GETEVENTS, min_complete);
+}
+
+/* The call that this thread is in, if none is blocked there yet. */
+static __thread struct call_signals *open_call;
+
+void begin_signals(struct call_signals *signals, bool is_open)
+{
+    signals->are_blocked = !is_open;
+    open_call = is_open ? signals : NULL;
+    if (!is_open)
+        block_signals(&signals->own);
+}
+
+void block_signals_of_call(void)
+{
+    if (!open_call)
+        return;
+    block_signals(&open_call->own);
+    open_call->are_blocked = true;
+    open_call = NULL;
+}
+
+bool was_interrupted(int32_t res)
+{
+    bool is_made_again = wulgach_is_made_again(open_call != NULL, res);
+    if (is_made_again)
+        block_signals_of_call();
+    return is_made_again;
+}
+
+void end_signals(const struct call_signals *signals)
+{
+    open_call = NULL;
+    if (signals->are_blocked)
+        allow_signals(&signals->own);
+}
 
 /* Whether it is taken back, by how long a file may get. */
 static bool is_to_be_taken(uint32_t signal)

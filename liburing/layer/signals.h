@@ -1,10 +1,32 @@
-/* The signals that a file grew too large, and that nobody reads what was written. */
+/* The signals of a thread that calls; and those that a file grew too large, and that nobody reads what was written. */
 #ifndef SIGNALS_H
 #define SIGNALS_H
 
 #include <signal.h>
 #include <stdbool.h>
 #include <stdint.h>
+
+/* Reads what the user says of the program's handlers. */
+void read_handlers(void);
+
+/* Whether a call of io_uring_enter(2), which waits for so many completions where its flags say so, leaves signals open as it begins. */
+bool leaves_signals_open(uint32_t min_complete, uint32_t flags);
+
+/* The signals of a thread in a call. */
+struct call_signals {
+    sigset_t own;           /* those that it has blocked else, */
+    bool are_blocked;       /* where all are */
+};
+
+/* A call begins and ends, with signals open or blocked. */
+void begin_signals(struct call_signals *signals, bool is_open);
+void end_signals(const struct call_signals *signals);
+
+/* What comes now may be ended by a signal, or bring one: from here on none may come. */
+void block_signals_of_call(void);
+
+/* Whether a signal has ended what came to this, so that it is to be done once more: none may come then. */
+bool was_interrupted(int32_t res);
 
 /* Takes back the signal of this number that a call has brought, which in a kernel goes to a worker of its own: SIGXFSZ or SIGPIPE, or none (0). It is
  * blocked. One that the program was sent stays pending. */

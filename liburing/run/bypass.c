@@ -10,29 +10,101 @@
 
 #include <cpuid.h>
 #include <errno.h>
+#include <stdlib.h>
 #include <string.h>
+#include <unistd.h>
 
 long wulgach_blocked_enter(const long words[6], const sigset_t *signals);
+bool wulgach_leaves_signals_open(const long words[6]);
 long enter_bypassed(const long words[6], uintptr_t stack);
 extern const uint8_t bypass_all[];
 __thread uintptr_t bypass_stack;
 
 /* What a bypass saves of vectors: that of x87, of 16, 32 and 64 bytes, and masks; and what of them this processor has. It takes so much
  * room at most. */
-enum { VECTORS = 0xe7, ROOM = 2560 };
+enum { OF_64 = 0x40, VECTORS = 0xe7, ROOM = 2560 };
 uint32_t bypassed_vectors __attribute__((visibility("hidden")));
 
-/* All signals are blocked as in the trap, and may come as it ends. The program's stack stood 192 bytes above the words. */
+/* Whether the user says that no vector of 64 bytes is kept over a call (WULGACH_VECTORS). Then no more than 32 bytes of each are saved, by plain moves, which take next
+ * to no time; those of 64 would slow the processor down. */
+uint32_t are_vectors_short __attribute__((visibility("hidden")));
+
+/* On the stack, from its top on: 32 vectors of 32 bytes, 8 masks, and how numbers are rounded; and behind the room which way was taken: 0, all is saved; 1, of the first vectors 16
+ * bytes are; 2, 32. What isn't in use isn't written, since a program that has none of it would be slow after that. The state of x87, of which nothing here has an instruction, stays. */
+#define OF_FIRST "0,1,2,3,4,5,6,7,8,9,10,11,12,13,14,15"
+#define OF_FURTHER "16,17,18,19,20,21,22,23,24,25,26,27,28,29,30,31"
+#define OF_MASKS "0,1,2,3,4,5,6,7"
+#define EACH(numbers, line) ".irp n," numbers "\n\t" line "\n\t.endr\n\t"
+
+#define SAVE_VECTORS                                                \
+    "cmpl $0, are_vectors_short(%rip)\n\t"                          \
+    "je 4f\n\t"                                                     \
+    "mov $1, %ecx\n\t"                                              \
+    "xgetbv\n\t"                                                    \
+    "stmxcsr 1088(%rsp)\n\t"                                        \
+    "test $0x04, %al\n\t"                                           \
+    "jnz 1f\n\t"                                                    \
+    EACH(OF_FIRST, "movaps %xmm\\n, \\n*32(%rsp)")                  \
+    "jmp 2f\n"                                                      \
+    "1:\tmov $2, %ecx\n\t"                                          \
+    EACH(OF_FIRST, "vmovdqa %ymm\\n, \\n*32(%rsp)")                 \
+    "vzeroupper\n"                                                  \
+    "2:\tmov %ecx, 2560(%rsp)\n\t"                                  \
+    "testb $0x40, bypassed_vectors(%rip)\n\t"                       \
+    "jz 5f\n\t"                                                     \
+    EACH(OF_FURTHER, "vmovdqa64 %ymm\\n, \\n*32(%rsp)")             \
+    EACH(OF_MASKS, "kmovq %k\\n, 1024+\\n*8(%rsp)")                 \
+    "jmp 5f\n"                                                      \
+    "4:\txor %eax, %eax\n\t"                                        \
+    "mov %eax, 2560(%rsp)\n\t"                                      \
+    EACH(OF_MASKS, "mov %rax, 512+\\n*8(%rsp)")                     \
+    "mov bypassed_vectors(%rip), %eax\n\t"                          \
+    "xor %edx, %edx\n\t"                                            \
+    "xsavec64 (%rsp)\n"                                             \
+    "5:\n\t"
+
+#define PUT_VECTORS_BACK                                            \
+    "mov 2560(%rsp), %ecx\n\t"                                      \
+    "test %ecx, %ecx\n\t"                                           \
+    "jz 4f\n\t"                                                     \
+    "testb $0x40, bypassed_vectors(%rip)\n\t"                       \
+    "jz 1f\n\t"                                                     \
+    EACH(OF_FURTHER, "vmovdqa64 \\n*32(%rsp), %ymm\\n")             \
+    EACH(OF_MASKS, "kmovq 1024+\\n*8(%rsp), %k\\n")                 \
+    "1:\tcmp $2, %ecx\n\t"                                          \
+    "je 2f\n\t"                                                     \
+    "testb $0x04, bypassed_vectors(%rip)\n\t"                       \
+    "jz 3f\n\t"                                                     \
+    "vzeroupper\n"                                                  \
+    "3:\n\t"                                                        \
+    EACH(OF_FIRST, "movaps \\n*32(%rsp), %xmm\\n")                  \
+    "ldmxcsr 1088(%rsp)\n\t"                                        \
+    "jmp 5f\n"                                                      \
+    "2:\n\t"                                                        \
+    EACH(OF_FIRST, "vmovdqa \\n*32(%rsp), %ymm\\n")                 \
+    "ldmxcsr 1088(%rsp)\n\t"                                        \
+    "jmp 5f\n"                                                      \
+    "4:\tmov bypassed_vectors(%rip), %eax\n\t"                      \
+    "xor %edx, %edx\n\t"                                            \
+    "xrstor64 (%rsp)\n"                                             \
+    "5:\n\t"
+
+/* All signals are blocked as in the trap, and may come as it ends; but where the layer says that they needn't be. The program's stack stood 192 bytes above
+ * the words. */
 __attribute__((used)) long enter_bypassed(const long words[6], uintptr_t stack)
 {
     int kept = errno;
     sigset_t before;
-    sigemptyset(&before);
-    set_mask(~OPEN_IN_TRAP, &before);
+    bool is_open = wulgach_leaves_signals_open(words);
+    if (!is_open) {
+        sigemptyset(&before);
+        set_mask(~OPEN_IN_TRAP, &before);
+    }
     const void *caller = wulgach_note_caller(stack == HERE ? NULL : (const void *)((uintptr_t)words + 192));
-    long result = wulgach_blocked_enter(words, &before);
+    long result = wulgach_blocked_enter(words, is_open ? NULL : &before);
     wulgach_note_caller(caller);
-    put_mask_back(&before);
+    if (!is_open)
+        put_mask_back(&before);
     errno = kept;
     return result;
 }
@@ -67,26 +139,13 @@ __asm__(".text\n"
         "cmp $1, %rcx\n\t"
         "cmove %rsp, %rcx\n\t"
         "and $-64, %rcx\n\t"
-        "lea -2560(%rcx), %rsp\n\t"
-        "xor %eax, %eax\n\t"
-        "mov %rax, 512(%rsp)\n\t"
-        "mov %rax, 520(%rsp)\n\t"
-        "mov %rax, 528(%rsp)\n\t"
-        "mov %rax, 536(%rsp)\n\t"
-        "mov %rax, 544(%rsp)\n\t"
-        "mov %rax, 552(%rsp)\n\t"
-        "mov %rax, 560(%rsp)\n\t"
-        "mov %rax, 568(%rsp)\n\t"
-        "mov bypassed_vectors(%rip), %eax\n\t"
-        "xor %edx, %edx\n\t"
-        "xsavec64 (%rsp)\n\t"
+        "lea -2624(%rcx), %rsp\n\t"
+        SAVE_VECTORS
         "lea 8(%rbp), %rdi\n\t"
         "mov -8(%rbp), %rsi\n\t"
         "call enter_bypassed\n\t"
         "mov %rax, %r8\n\t"
-        "mov bypassed_vectors(%rip), %eax\n\t"
-        "xor %edx, %edx\n\t"
-        "xrstor64 (%rsp)\n\t"
+        PUT_VECTORS_BACK
         "lea -8(%rbp), %rsp\n\t"
         "pop %rcx\n\t"
         "mov bypass_stack@gottpoff(%rip), %rax\n\t"
@@ -124,6 +183,28 @@ static uint32_t room_of(uint32_t vectors)
     return room;
 }
 
+/* Whether the processor says what is in use, and has vectors and masks in the parts that are saved so. */
+static bool has_parts(void)
+{
+    enum { SAYS_IN_USE = 4, LONG_MASKS = 1 << 30 };
+    static const uint32_t shorter_too = 1u << 31;
+    uint32_t a, b, c, d;
+    if (!__get_cpuid_count(13, 1, &a, &b, &c, &d) || !(a & SAYS_IN_USE))
+        return false;
+    return !(bypassed_vectors & OF_64) || (__get_cpuid_count(7, 0, &a, &b, &c, &d) && b & LONG_MASKS && b & shorter_too);
+}
+
+static bool reads_short(void)
+{
+    const char *word = getenv("WULGACH_VECTORS");
+    if (!word || !*word || strcmp(word, "whole") == 0)
+        return false;
+    if (strcmp(word, "short") == 0)
+        return true;
+    say("WULGACH_VECTORS is whole or short", "");
+    _exit(125);
+}
+
 bool can_bypass(void)
 {
     enum { SYSTEM_SAVES = 1 << 27, SAVES_COMPACTLY = 2 };
@@ -132,6 +213,7 @@ bool can_bypass(void)
         return false;
     __asm__("xgetbv" : "=a"(low), "=d"(high) : "c"(0));
     bypassed_vectors = low & VECTORS;
+    are_vectors_short = reads_short() && has_parts();
     return room_of(bypassed_vectors) <= ROOM;
 }
 

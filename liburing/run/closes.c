@@ -14,11 +14,13 @@
 #include <dlfcn.h>
 #include <errno.h>
 #include <stdlib.h>
+#include <string.h>
 #include <sys/syscall.h>
 #include <unistd.h>
 
 bool wulgach_may_name_ring(int fd);
 void wulgach_look_for_closed(void);
+void wulgach_hear_closes(void);
 
 static struct {
     int (*close)(int);
@@ -36,6 +38,18 @@ __attribute__((constructor)) static void find_real(void)
     *(void **)&real.closefrom = dlsym(RTLD_NEXT, "closefrom");
     *(void **)&real.dup2 = dlsym(RTLD_NEXT, "dup2");
     *(void **)&real.dup3 = dlsym(RTLD_NEXT, "dup3");
+}
+
+/* Whether the user says that the program closes rings so alone. */
+__attribute__((constructor)) static void read_environment(void)
+{
+    const char *word = getenv("WULGACH_CLOSES");
+    if (word && strcmp(word, "heard") == 0) {
+        wulgach_hear_closes();
+    } else if (word && *word && strcmp(word, "any") != 0) {
+        say("WULGACH_CLOSES is any or heard", "");
+        _exit(125);
+    }
 }
 
 /* Another library's constructor may be first. */

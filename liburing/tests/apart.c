@@ -1,6 +1,6 @@
 /* A program that is linked with nothing of ours, and does what reaches the layer beside its calls. It is run by uring-run.
  *
- *   apart closes | handlers | jumps | masks | stacks
+ *   apart closes | handlers | jumps | masks | numbers | stacks
  *
  * Status 0: all was as it is to be. Else a line says what wasn't.
  */
@@ -145,6 +145,108 @@ static void closes(void)
     }
     accepts();
     closed_in_a_call();
+}
+
+/* ---- a number that a ring has had ---- */
+
+static long call_by_number(int fd)
+{
+    return call(SYS_io_uring_enter, fd, 0, 0, 0, 0, 0);
+}
+
+/* Carries a no-op out on a ring that has made none. */
+static void want_no_op(const struct ring *ring)
+{
+    publish(ring, (struct io_uring_sqe){.opcode = IORING_OP_NOP});
+    WANT(enter(ring, 1, 1, NULL) == 1);
+    WANT(__atomic_load_n((uint32_t *)(ring->cq + ring->params.cq_off.tail), __ATOMIC_ACQUIRE) == 1);
+}
+
+/* After its close it is no ring's, or that of the next, or another file's, though a copy of its descriptor is open. */
+static void numbers_of_one(bool has_copy)
+{
+    int null = open("/dev/null", O_RDONLY);
+    struct ring ring = set_up(0);
+    int fd = ring.fd, copy = has_copy ? dup(fd) : -1;
+    WANT(null >= 0 && call_by_number(fd) == 0 && call_by_number(fd) == 0);
+    WANT(close(fd) == 0 && call_by_number(fd) == -9);
+    struct ring other = set_up(0);
+    WANT(other.fd == fd);
+    want_no_op(&other);
+    WANT(dup2(null, fd) == fd && call_by_number(fd) == -95);
+    WANT(!has_copy || (dup2(copy, fd) == fd && call_by_number(fd) == 0 && call_by_number(copy) == 0));
+    WANT(close_range((unsigned)fd, (unsigned)fd, 0) == 0 && call_by_number(fd) == -9);
+    if (has_copy) {
+        ring.fd = copy;
+        want_no_op(&ring);
+        WANT(dup3(null, copy, O_CLOEXEC) == copy && call_by_number(copy) == -95 && close(copy) == 0);
+    }
+    WANT(close(null) == 0);
+    unmap(&ring);
+    unmap(&other);
+}
+
+/* A child closes its descriptors, and its parent's are there still. */
+static void number_in_child(void)
+{
+    int status;
+    struct ring ring = set_up(0);
+    WANT(call_by_number(ring.fd) == 0);
+    pid_t child = fork();
+    if (child == 0) {
+        WANT(close(ring.fd) == 0 && call_by_number(ring.fd) == -9);
+        struct ring own = set_up(0);
+        WANT(own.fd == ring.fd);
+        want_no_op(&own);
+        WANT(close(own.fd) == 0 && call_by_number(own.fd) == -9);
+        _exit(0);
+    }
+    WANT(waitpid(child, &status, 0) == child && status == 0);
+    close_in_child(ring.fd);
+    want_no_op(&ring);
+    WANT(close(ring.fd) == 0);
+    unmap(&ring);
+}
+
+static volatile int is_number_closed;
+
+static void *call_till_closed(void *of)
+{
+    const struct ring *ring = of;
+    long result;
+    int was_closed;
+    do {
+        was_closed = __atomic_load_n(&is_number_closed, __ATOMIC_SEQ_CST);
+        result = call_by_number(ring->fd);
+        WANT(result == (was_closed ? -9 : result) && (result == 0 || result == -9));
+    } while (!was_closed);
+    return NULL;
+}
+
+/* What another thread calls after a close is refused. */
+static void number_of_threads(void)
+{
+    for (int i = 0; i < 100; i++) {
+        pthread_t thread;
+        struct ring ring = set_up(0);
+        is_number_closed = 0;
+        WANT(pthread_create(&thread, NULL, call_till_closed, &ring) == 0);
+        usleep((useconds_t)(i * 7));
+        WANT(close(ring.fd) == 0);
+        __atomic_store_n(&is_number_closed, 1, __ATOMIC_SEQ_CST);
+        WANT(pthread_join(thread, NULL) == 0);
+        unmap(&ring);
+    }
+}
+
+static void numbers(void)
+{
+    for (int i = 0; i < 3; i++) {
+        numbers_of_one(false);
+        numbers_of_one(true);
+    }
+    number_in_child();
+    number_of_threads();
 }
 
 static const struct ring *called;
@@ -356,6 +458,8 @@ int main(int argc, char **argv)
         handlers();
     else if (strcmp(name, "masks") == 0)
         masks();
+    else if (strcmp(name, "numbers") == 0)
+        numbers();
     else if (strcmp(name, "stacks") == 0)
         stacks();
     else if (strcmp(name, "jumps") == 0)

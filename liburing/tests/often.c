@@ -1,13 +1,13 @@
 /* A program that is linked with nothing of ours and calls io_uring_enter often at one place, so that uring-run rewrites it: what a call
  * keeps, and what has to be left as it is.
  *
- *   often places | registers | signals | threads | small | fork | cancel | lines [WORD]
+ *   often places | registers | vectors | signals | threads | small | fork | cancel | lines [WORD]
  *
  * With another word nothing is to be rewritten. Status 0: all was as it is to be. Else a line says what wasn't.
  */
 #define _GNU_SOURCE
 #include "places.h"
-#include "registers.h"
+#include "vectors.h"
 
 #include <errno.h>
 #include <linux/io_uring.h>
@@ -94,6 +94,16 @@ static void want_rewritten(call_function *call, bool is_rewritten)
 {
     const uint8_t *code = (const uint8_t *)(uintptr_t)call;
     WANT(code[NUMBER_AT] == (is_rewritten && !is_none_wanted ? JUMP : NUMBER));
+}
+
+/* Somewhere in its first bytes a function jumps to another place, in the place of a number. */
+static void want_jump(void (*function)(void))
+{
+    static const uint8_t rest[] = {0x0f, 0x05};
+    const uint8_t *code = (const uint8_t *)(uintptr_t)function;
+    while (memcmp(code + 5, rest, sizeof rest) != 0)
+        code++;
+    WANT(*code == (is_none_wanted ? NUMBER : JUMP));
 }
 
 /* ---- what is asked ---- */
@@ -368,12 +378,64 @@ static void lines(void)
     want_rewritten(plain, true);
 }
 
+/* An open, for which a path's end is looked for, as the C library does with masks where there are any. It ends with an error, and its completion is reaped. */
+static void call_wide(const struct ring *ring, void (*call)(void), uint64_t number)
+{
+    publish(ring, (struct io_uring_sqe){.opcode = IORING_OP_OPENAT, .fd = -1, .addr = (uintptr_t)"there/is/no/such/file/as/this/one", .user_data = number});
+    memset(wide.vectors_after, 0x55, sizeof wide.vectors_after);
+    call();
+    WANT(reap(ring) == number);
+}
+
+static void want_vectors(size_t length)
+{
+    for (unsigned i = 0; i < 32; i++)
+        WANT(memcmp(wide.vectors[i], wide.vectors_after[i], length) == 0);
+    WANT(memcmp(wide.masks, wide.masks_after, sizeof wide.masks) == 0);
+}
+
+/* Vectors of 64 bytes, masks and x87 are kept (of vectors 32 bytes, where the user says that this is enough), also where the upper halves of the first aren't in use; and where a program has no more than their first 16 bytes in use, no more are
+ * after it. */
+static void vectors(void)
+{
+    enum { UPPER = 0x44 };
+    struct ring ring = set_up();
+    const char *said = getenv("WULGACH_VECTORS");
+    bool are_short = said && strcmp(said, "short") == 0;
+    if (!has_wide_vectors())
+        return;
+    wide.fd = ring.fd;
+    for (unsigned i = 1; i <= OFTEN; i++) {
+        for (unsigned j = 0; j < sizeof wide.vectors; j++)
+            wide.vectors[j / 64][j % 64] = (uint8_t)(i + j * 37 + j / 64 * 11);
+        for (unsigned j = 0; j < 8; j++)
+            wide.masks[j] = 0x9e3779b97f4a7c15u * (i + j);
+        wide.top = i / 7.0;
+        call_wide(&ring, call_with_all, i);
+        want_vectors(are_short ? 32 : 64);
+        WANT(wide.top_after == i / 7.0);
+        memset(wide.masks_after, 0, sizeof wide.masks_after);
+        call_wide(&ring, call_with_halves, i + 2 * OFTEN);
+        want_vectors(32);
+        call_wide(&ring, call_with_quarters, i + OFTEN);
+        for (unsigned j = 0; j < 16; j++) {
+            WANT(memcmp(wide.vectors[j], wide.vectors_after[j], 16) == 0);
+            for (unsigned k = 16; k < 64; k++)
+                WANT(wide.vectors_after[j][k] == 0);
+        }
+        WANT(i < OFTEN || is_none_wanted || !(wide.in_use_after & UPPER));
+    }
+    want_jump(call_with_all);
+    want_jump(call_with_halves);
+    want_jump(call_with_quarters);
+}
+
 int main(int argc, char **argv)
 {
     static const struct {
         const char *name;
         void (*run)(void);
-    } tests[] = {{"places", try_places}, {"registers", registers}, {"signals", signals}, {"threads", threads}, {"small", small}, {"fork", forked}, {"cancel", cancel}, {"lines", lines}};
+    } tests[] = {{"places", try_places}, {"registers", registers}, {"vectors", vectors}, {"signals", signals}, {"threads", threads}, {"small", small}, {"fork", forked}, {"cancel", cancel}, {"lines", lines}};
     is_none_wanted = argc > 2;
     for (size_t i = 0; argc > 1 && i < sizeof tests / sizeof *tests; i++)
         if (strcmp(argv[1], tests[i].name) == 0) {

@@ -22,6 +22,7 @@ pub mod reaching_exports;
 pub mod ring_exports;
 pub mod set_up_exports;
 pub mod shown_exports;
+pub mod signal_exports;
 pub mod sleeper_exports;
 pub mod sleeping_exports;
 pub mod stepping_exports;

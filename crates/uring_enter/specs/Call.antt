@@ -9,3 +9,4 @@ pub mod Reaching
 pub mod Unknown
 pub mod Passages
 pub mod Slept
+pub mod Signals

@@ -8,6 +8,7 @@ pub mod laws;
 pub mod passage;
 pub mod reaching;
 pub mod reply;
+pub mod signals;
 pub mod slept;
 pub mod unknown;
 pub mod wait;

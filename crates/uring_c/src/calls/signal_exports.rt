@@ -1,0 +1,29 @@
+//! From where on a thread's signals are blocked in a call, for C: functions of `c/wulgach_enter.h`.
+ghost use Rattle.std.specs.Prelude.{◌≡◌};
+ghost use Rattle.uring_enter.specs.Call.Signals as spec;
+
+use uring_enter::{blocks_at_begin, blocks_before, is_made_again};
+
+/// Whether signals are blocked as a call begins.
+#[unsafe(no_mangle)]
+pub extern "C" fn wulgach_blocks_at_begin(are_quiet: bool, gets: bool, min_complete: u32) -> bool
+    ensures { result ≡ spec.blocks_at_begin are_quiet gets min_complete }
+{
+    blocks_at_begin(are_quiet, gets, min_complete)
+}
+
+/// Whether signals are blocked before the calls of an operation.
+#[unsafe(no_mangle)]
+pub extern "C" fn wulgach_blocks_before(is_read: bool, is_stream: bool) -> bool
+    ensures { result ≡ spec.blocks_before is_read is_stream }
+{
+    blocks_before(is_read, is_stream)
+}
+
+/// Whether a call is made once more, with signals blocked.
+#[unsafe(no_mangle)]
+pub extern "C" fn wulgach_is_made_again(was_open: bool, res: i32) -> bool
+    ensures { result ≡ spec.is_made_again was_open res }
+{
+    is_made_again(was_open, res)
+}
