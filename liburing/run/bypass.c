@@ -13,7 +13,7 @@
 #include <string.h>
 
 long wulgach_blocked_enter(const long words[6], const sigset_t *signals);
-long enter_bypassed(const long words[6], uintptr_t stack);
+long enter_bypassed(const long words[6]);
 extern const uint8_t bypass_all[];
 __thread uintptr_t bypass_stack;
 
@@ -23,13 +23,13 @@ enum { VECTORS = 0xe7, ROOM = 2560 };
 uint32_t bypassed_vectors __attribute__((visibility("hidden")));
 
 /* All signals are blocked as in the trap, and may come as it ends. The program's stack stood 192 bytes above the words. */
-__attribute__((used)) long enter_bypassed(const long words[6], uintptr_t stack)
+__attribute__((used)) long enter_bypassed(const long words[6])
 {
     int kept = errno;
     sigset_t before;
     sigemptyset(&before);
     set_mask(~OPEN_IN_TRAP, &before);
-    const void *caller = wulgach_note_caller(stack == HERE ? NULL : (const void *)((uintptr_t)words + 192));
+    const void *caller = wulgach_note_caller(is_on(&large_stack, (uintptr_t)words) ? NULL : (const void *)((uintptr_t)words + 192));
     long result = wulgach_blocked_enter(words, &before);
     wulgach_note_caller(caller);
     put_mask_back(&before);
@@ -37,7 +37,8 @@ __attribute__((used)) long enter_bypassed(const long words[6], uintptr_t stack)
     return result;
 }
 
-/* On the stack stand the end of the call and the program's 128 bytes. The flags are put as a handler has them: a program that is stepped
+/* On the stack stand the end of the call and the program's 128 bytes. Where the call's own stack isn't to be taken, and there is no other, it makes
+ * the call itself, and is trapped. What is pushed takes 64 bytes of the stack in r11, if that is the call's own. The flags are put as a handler has them: a program that is stepped
  * through isn't while signals are blocked. */
 __asm__(".text\n"
         ".hidden bypass_all\n"
@@ -52,6 +53,15 @@ __asm__(".text\n"
         "popfq\n\t"
         "mov bypass_stack@gottpoff(%rip), %rax\n\t"
         "mov %fs:(%rax), %rcx\n\t"
+        "mov large_stack@gottpoff(%rip), %rax\n\t"
+        "mov %rsp, %r11\n\t"
+        "sub %fs:(%rax), %r11\n\t"
+        "cmp %fs:8(%rax), %r11\n\t"
+        "mov %rcx, %r11\n\t"
+        "cmovb %rsp, %r11\n\t"
+        "cmp $1, %r11\n\t"
+        "je 1f\n\t"
+        "mov bypass_stack@gottpoff(%rip), %rax\n\t"
         "movq $0, %fs:(%rax)\n\t"
         "push %r9\n\t"
         "push %r8\n\t"
@@ -64,10 +74,8 @@ __asm__(".text\n"
         ".cfi_def_cfa %rbp, 200\n\t"
         ".cfi_offset %rbp, -200\n\t"
         "push %rcx\n\t"
-        "cmp $1, %rcx\n\t"
-        "cmove %rsp, %rcx\n\t"
-        "and $-64, %rcx\n\t"
-        "lea -2560(%rcx), %rsp\n\t"
+        "and $-64, %r11\n\t"
+        "lea -2624(%r11), %rsp\n\t"
         "xor %eax, %eax\n\t"
         "mov %rax, 512(%rsp)\n\t"
         "mov %rax, 520(%rsp)\n\t"
@@ -81,7 +89,6 @@ __asm__(".text\n"
         "xor %edx, %edx\n\t"
         "xsavec64 (%rsp)\n\t"
         "lea 8(%rbp), %rdi\n\t"
-        "mov -8(%rbp), %rsi\n\t"
         "call enter_bypassed\n\t"
         "mov %rax, %r8\n\t"
         "mov bypassed_vectors(%rip), %eax\n\t"
@@ -109,6 +116,18 @@ __asm__(".text\n"
         "lea 136(%rsp), %rsp\n\t"
         ".cfi_def_cfa %rsp, 0\n\t"
         ".cfi_register %rip, %rcx\n\t"
+        "jmp *%rcx\n"
+        "1:\n\t"
+        ".cfi_def_cfa %rsp, 144\n\t"
+        ".cfi_offset %rip, -136\n\t"
+        "popfq\n\t"
+        ".cfi_def_cfa %rsp, 136\n\t"
+        "mov (%rsp), %rcx\n\t"
+        "lea 136(%rsp), %rsp\n\t"
+        ".cfi_def_cfa %rsp, 0\n\t"
+        ".cfi_register %rip, %rcx\n\t"
+        "mov $426, %eax\n\t"
+        "lea -2(%rcx), %rcx\n\t"
         "jmp *%rcx\n\t"
         ".cfi_endproc\n"
         ".size bypass_all, .-bypass_all\n");
