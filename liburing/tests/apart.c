@@ -244,8 +244,7 @@ static char *make_stack(size_t size)
 /* A stack for signals, on which the kernel's part of one has room, and a little more. */
 static void *call_beside_signals(void *of)
 {
-    const unsigned long least = 51;
-    const size_t size = getauxval(least) + 512 > 4096 ? getauxval(least) + 512 : 4096;
+    const size_t least = getauxval(AT_MINSIGSTKSZ) + 512, size = least > 4096 ? least : 4096;
     const stack_t signals = {.ss_sp = make_stack(size), .ss_size = size}, none = {.ss_flags = SS_DISABLE};
     WANT(sigaltstack(&signals, NULL) == 0);
     call_on_small(of);
