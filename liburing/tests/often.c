@@ -236,20 +236,21 @@ static void *meet_signals_beside(void *none)
 }
 
 /* Signals come at any time, and their handlers call too; one ends a call that waits. In a thread with a stack for signals they come once
- * on that one, and once on the one on which it calls. */
+ * on that one, and once on the one on which it calls; so in one with a stack that is small, which calls on another, too. */
 static void signals(void)
 {
     struct sigaction action = {.sa_handler = call_in_handler};
+    pthread_attr_t attributes;
     pthread_t started;
     sigset_t all;
-    WANT(sigaction(SIGALRM, &action, NULL) == 0);
+    WANT(sigaction(SIGALRM, &action, NULL) == 0 && pthread_attr_init(&attributes) == 0 && pthread_attr_setstacksize(&attributes, 1 << 16) == 0);
     meet_signals();
     sigfillset(&all);
     pthread_sigmask(SIG_SETMASK, &all, NULL);
-    for (int i = 0; i < 2; i++) {
-        WANT(pthread_create(&started, NULL, meet_signals_beside, NULL) == 0 && pthread_join(started, NULL) == 0);
-        action.sa_flags = SA_ONSTACK;
+    for (int i = 0; i < 4; i++) {
+        action.sa_flags = i < 2 ? 0 : SA_ONSTACK;
         WANT(sigaction(SIGALRM, &action, NULL) == 0);
+        WANT(pthread_create(&started, i % 2 == 0 ? NULL : &attributes, meet_signals_beside, NULL) == 0 && pthread_join(started, NULL) == 0);
     }
 }
 
