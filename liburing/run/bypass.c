@@ -37,8 +37,8 @@ __attribute__((used)) long enter_bypassed(const long words[6])
     return result;
 }
 
-/* On the stack stand the end of the call and the program's 128 bytes. Where the call's own stack isn't to be taken, and there is no other, it makes
- * the call itself, and is trapped. What is pushed takes 64 bytes of the stack in r11, if that is the call's own. The flags are put as a handler has them: a program that is stepped
+/* On the stack stand the end of the call and the program's 128 bytes. What follows runs where r11 says: here, if this stack is large, 64 bytes of
+ * it below, or on the thread's; and if there is none, the call itself is made, and trapped. The flags are put as a handler has them: a program that is stepped
  * through isn't while signals are blocked. */
 __asm__(".text\n"
         ".hidden bypass_all\n"
@@ -60,7 +60,7 @@ __asm__(".text\n"
         "mov %rcx, %r11\n\t"
         "cmovb %rsp, %r11\n\t"
         "cmp $1, %r11\n\t"
-        "je 1f\n\t"
+        "je 9f\n\t"
         "mov bypass_stack@gottpoff(%rip), %rax\n\t"
         "movq $0, %fs:(%rax)\n\t"
         "push %r9\n\t"
@@ -74,8 +74,9 @@ __asm__(".text\n"
         ".cfi_def_cfa %rbp, 200\n\t"
         ".cfi_offset %rbp, -200\n\t"
         "push %rcx\n\t"
-        "and $-64, %r11\n\t"
-        "lea -2624(%r11), %rsp\n\t"
+        "lea -64(%r11), %rcx\n\t"
+        "and $-64, %rcx\n\t"
+        "lea -2560(%rcx), %rsp\n\t"
         "xor %eax, %eax\n\t"
         "mov %rax, 512(%rsp)\n\t"
         "mov %rax, 520(%rsp)\n\t"
@@ -117,7 +118,7 @@ __asm__(".text\n"
         ".cfi_def_cfa %rsp, 0\n\t"
         ".cfi_register %rip, %rcx\n\t"
         "jmp *%rcx\n"
-        "1:\n\t"
+        "9:\n\t"
         ".cfi_def_cfa %rsp, 144\n\t"
         ".cfi_offset %rip, -136\n\t"
         "popfq\n\t"
