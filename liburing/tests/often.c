@@ -330,7 +330,7 @@ static void *call_on_others(void *none)
     call_beside(within + 64, ROOM);
     for (int i = 0; i < 64; i++)
         WANT(within[i] == 7);
-    for (size_t size = 4 * PAGE; size >= (is_none_wanted ? 2 * PAGE : 2048); size /= 2)
+    for (size_t size = 2 * PAGE; size >= (is_none_wanted ? 2 * PAGE : 2048); size /= 2)
         run_coroutine(size);
     no_ops(&of_handler, plain, OFTEN);
     WANT(munmap(memory, PAGE + ROOM) == 0);
@@ -342,7 +342,7 @@ static void small(void)
     pthread_t started;
     pthread_attr_t attributes;
     pthread_attr_init(&attributes);
-    WANT(pthread_attr_setstacksize(&attributes, 20480) == 0);
+    WANT(pthread_attr_setstacksize(&attributes, 16384) == 0);
     for (int i = 0; i < 3; i++)
         WANT(pthread_create(&started, &attributes, call_on_small, NULL) == 0 && pthread_join(started, NULL) == 0);
     want_rewritten(plain, true);
