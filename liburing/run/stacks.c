@@ -155,7 +155,6 @@ static bool change_memory(void)
  * and a trap has its frame there. */
 static void leave(ucontext_t *at)
 {
-    madvise(own + SIGNAL_STACK, STACK, MADV_DONTNEED);      /* the marks of its sleeps are gone */
     if ((uintptr_t)at - (uintptr_t)own < WHOLE && !change_memory())
         return;
     is_in_use = false;

@@ -437,10 +437,29 @@ static void *leave_in_coroutines(void *of)
     return NULL;
 }
 
+/* Sleeps once, calls, and closes the ring, which is gone. */
+static void leave_and_close(void)
+{
+    int read, ends[2];
+    struct ring ring = set_up(0);
+    WANT(pipe(ends) == 0 && call(SYS_io_uring_register, ring.fd, IORING_REGISTER_FILES, (long)&ends[1], 1, 0, 0) == 0 && close(ends[1]) == 0);
+    read = ends[0];
+    WANT(pipe(ends) == 0);
+    publish(&ring, (struct io_uring_sqe){.opcode = IORING_OP_POLL_ADD, .fd = ends[0], .poll32_events = POLLIN});
+    WANT(enter(&ring, 1, 0, NULL) == 1);
+    unmap(&ring);
+    of_jumps = &ring;
+    leave_sleep(0);
+    WANT(enter(&ring, 0, 0, NULL) == 0 && is_held(read));
+    WANT(close(ring.fd) == 0 && !is_held(read));
+    WANT(close(read) == 0 && close(ends[0]) == 0 && close(ends[1]) == 0);
+}
+
 /* A coroutine leaves sleeps by jumps: that takes no descriptors for long, and its thread calls and has no stack for signals after that. */
 static void jump_in_coroutines(struct ring *ring)
 {
     pthread_t thread;
+    run_coroutine(65536, leave_and_close);
     int before = count_descriptors();
     leave_in_coroutines(ring);
     WANT(count_descriptors() <= before + 8);
