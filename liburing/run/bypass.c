@@ -16,7 +16,7 @@
 
 long wulgach_blocked_enter(const long words[6], const sigset_t *signals);
 bool wulgach_leaves_signals_open(const long words[6]);
-long enter_bypassed(const long words[6], uintptr_t stack);
+long enter_bypassed(const long words[6]);
 extern const uint8_t bypass_all[];
 __thread uintptr_t bypass_stack;
 
@@ -91,7 +91,7 @@ uint32_t are_vectors_short __attribute__((visibility("hidden")));
 
 /* All signals are blocked as in the trap, and may come as it ends; but where the layer says that they needn't be. The program's stack stood 192 bytes above
  * the words. */
-__attribute__((used)) long enter_bypassed(const long words[6], uintptr_t stack)
+__attribute__((used)) long enter_bypassed(const long words[6])
 {
     int kept = errno;
     sigset_t before;
@@ -100,7 +100,7 @@ __attribute__((used)) long enter_bypassed(const long words[6], uintptr_t stack)
         sigemptyset(&before);
         set_mask(~OPEN_IN_TRAP, &before);
     }
-    const void *caller = wulgach_note_caller(stack == HERE ? NULL : (const void *)((uintptr_t)words + 192));
+    const void *caller = wulgach_note_caller(is_on(&large_stack, (uintptr_t)words) ? NULL : (const void *)((uintptr_t)words + 192));
     long result = wulgach_blocked_enter(words, is_open ? NULL : &before);
     wulgach_note_caller(caller);
     if (!is_open)
@@ -109,7 +109,8 @@ __attribute__((used)) long enter_bypassed(const long words[6], uintptr_t stack)
     return result;
 }
 
-/* On the stack stand the end of the call and the program's 128 bytes. The flags are put as a handler has them: a program that is stepped
+/* On the stack stand the end of the call and the program's 128 bytes. What follows runs where r11 says: here, if this stack is large, 64 bytes of
+ * it below, or on the thread's; and if there is none, the call itself is made, and trapped. The flags are put as a handler has them: a program that is stepped
  * through isn't while signals are blocked. */
 __asm__(".text\n"
         ".hidden bypass_all\n"
@@ -124,6 +125,15 @@ __asm__(".text\n"
         "popfq\n\t"
         "mov bypass_stack@gottpoff(%rip), %rax\n\t"
         "mov %fs:(%rax), %rcx\n\t"
+        "mov large_stack@gottpoff(%rip), %rax\n\t"
+        "mov %rsp, %r11\n\t"
+        "sub %fs:(%rax), %r11\n\t"
+        "cmp %fs:8(%rax), %r11\n\t"
+        "mov %rcx, %r11\n\t"
+        "cmovb %rsp, %r11\n\t"
+        "cmp $1, %r11\n\t"
+        "je 9f\n\t"
+        "mov bypass_stack@gottpoff(%rip), %rax\n\t"
         "movq $0, %fs:(%rax)\n\t"
         "push %r9\n\t"
         "push %r8\n\t"
@@ -136,13 +146,11 @@ __asm__(".text\n"
         ".cfi_def_cfa %rbp, 200\n\t"
         ".cfi_offset %rbp, -200\n\t"
         "push %rcx\n\t"
-        "cmp $1, %rcx\n\t"
-        "cmove %rsp, %rcx\n\t"
+        "lea -64(%r11), %rcx\n\t"
         "and $-64, %rcx\n\t"
         "lea -2624(%rcx), %rsp\n\t"
         SAVE_VECTORS
         "lea 8(%rbp), %rdi\n\t"
-        "mov -8(%rbp), %rsi\n\t"
         "call enter_bypassed\n\t"
         "mov %rax, %r8\n\t"
         PUT_VECTORS_BACK
@@ -168,6 +176,18 @@ __asm__(".text\n"
         "lea 136(%rsp), %rsp\n\t"
         ".cfi_def_cfa %rsp, 0\n\t"
         ".cfi_register %rip, %rcx\n\t"
+        "jmp *%rcx\n"
+        "9:\n\t"
+        ".cfi_def_cfa %rsp, 144\n\t"
+        ".cfi_offset %rip, -136\n\t"
+        "popfq\n\t"
+        ".cfi_def_cfa %rsp, 136\n\t"
+        "mov (%rsp), %rcx\n\t"
+        "lea 136(%rsp), %rsp\n\t"
+        ".cfi_def_cfa %rsp, 0\n\t"
+        ".cfi_register %rip, %rcx\n\t"
+        "mov $426, %eax\n\t"
+        "lea -2(%rcx), %rcx\n\t"
         "jmp *%rcx\n\t"
         ".cfi_endproc\n"
         ".size bypass_all, .-bypass_all\n");

@@ -31,8 +31,19 @@ void write_bypass(uint8_t *page, const uint8_t *number, const uint8_t *call);
 /* Writes a jump that stands at `from`, and returns where its bytes end. */
 uint8_t *put_jump(uint8_t *at, const uint8_t *from, const uint8_t *to);
 
-/* A bypass calls on this stack of the thread: none (0), so that it has to be trapped, or that where it is (HERE), or one from here down.
- * While it is called it is none. */
+/* The stack that the thread was made with, if that is large and known; else it has no size. */
+struct stack {
+    uintptr_t lowest, size;
+};
+extern __thread struct stack large_stack __attribute__((tls_model("initial-exec"), visibility("hidden")));
+
+static inline bool is_on(const struct stack *stack, uintptr_t at)
+{
+    return at - stack->lowest < stack->size;
+}
+
+/* A bypass that is on that stack calls there, and another one on this stack of the thread: none (0), so that each has to be trapped, none but
+ * that large one (HERE), or one from here down. While it is called it is none. */
 enum { NONE, HERE };
 extern __thread uintptr_t bypass_stack __attribute__((tls_model("initial-exec"), visibility("hidden")));
 

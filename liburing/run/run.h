@@ -48,8 +48,10 @@ struct sock_fprog;
 /* Adds a filter of our own for system calls. The kernel was told before that the process takes no new privileges. */
 bool add_filter(const struct sock_fprog *program);
 
-/* Whether a signal came on a stack of its own, which may be small, or on a thread's that is; and calling a function on one that is large. */
+/* Whether a call was trapped on a stack that may be small, as any other than the one that the thread was made with; what the program says of where its
+ * signals come; and calling a function on one that is large. */
 bool wants_own_stack(const ucontext_t *at);
+void note_signal_stack(const stack_t *stack);
 void call_on_own_stack(ucontext_t *at, void (*function)(void *), void *argument);
 
 /* Tells the layer where the stack stands of a call that runs on another one, or NULL, and returns what it was told before. */

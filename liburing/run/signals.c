@@ -144,6 +144,16 @@ SEEN int sighold(int number)
     return number == SIGSYS ? 0 : call(number);
 }
 
+SEEN int sigaltstack(const stack_t *stack, stack_t *before)
+{
+    long result = pass(SYS_sigaltstack, (long)stack, (long)before, 0, 0, 0, 0);
+    if (result == 0 && stack)
+        note_signal_stack(stack);
+    if (result < 0)
+        errno = (int)-result;
+    return result < 0 ? -1 : 0;
+}
+
 SEEN int pthread_sigmask(int how, const sigset_t *set, sigset_t *before)
 {
     sigset_t copy;

@@ -1,6 +1,7 @@
-/* A program may have its signals on a stack of its own, as the runtime of Go, whose other stacks are small; and a thread may have been made with a small
- * one (pthread_attr_setstacksize(3)). The layer wants more than these have: so it runs on one that is mapped for the thread. Meanwhile other signals come on another part of that:
- * the program's own signal stack holds the frame that this call returns to.
+/* A program may have its signals on a stack of its own, as the runtime of Go, whose other stacks are small; coroutines have stacks that the
+ * program made (makecontext(3)); and a thread may have been made with a small one (pthread_attr_setstacksize(3)). The layer wants more than
+ * these may have: so it runs on one that is mapped for the thread, unless it is called on the stack that the thread was made with, and that is
+ * large. Meanwhile other signals come on another part of that, where the program's own signal stack holds the frame that this call returns to.
  */
 #define _GNU_SOURCE
 #include "rewriting.h"
@@ -9,16 +10,30 @@
 #include <pthread.h>
 #include <stddef.h>
 #include <stdint.h>
+#include <sys/auxv.h>
 #include <sys/mman.h>
+#include <sys/resource.h>
 #include <unistd.h>
 
 /* Of a thread's memory the lowest part is for signals, the next for traps, and the last for bypasses. */
 enum { SIGNAL_STACK = 1 << 17, STACK = 1 << 20, WHOLE = SIGNAL_STACK + 2 * STACK };
 
-/* Of a thread: its memory, and other of as much, where the frame of a trap may stand; whether a trapped call is on it, where that was made, and the program's signal stack then; and the memory of the innermost. */
+/* A thread was made with a small stack if it is below this. */
+enum { LARGE = 1 << 17 };
+
+/* The stack that the thread was made with, once that is known, and the same if it is large. */
+static __thread struct stack made_with;
+static __thread bool is_made_with_known;
+__thread struct stack large_stack;
+
+/* Where the program said that the thread's signal stack is. */
+static __thread uintptr_t signals_at;
+
+/* Of a thread: its memory, and other of as much, where the frame of a trap may stand; whether a trapped call is on it, where that was made, where its
+ * trap's frame stands, and the program's signal stack then; and the memory of the innermost. */
 static __thread char *own, *spare;
 static __thread bool is_in_use;
-static __thread uintptr_t used_from;
+static __thread uintptr_t used_from, used_frame;
 static __thread stack_t used_before;
 static __thread const char *innermost;
 static pthread_key_t key;
@@ -60,18 +75,66 @@ static uintptr_t caller_of(const ucontext_t *at)
     return (uintptr_t)at->uc_mcontext.gregs[REG_RSP];
 }
 
-/* Whether the call that is on the thread's memory was left by a jump: its handlers run on the layer's memory, and this call is made on the
- * thread's own stack. */
-static bool is_left(const ucontext_t *at)
+static void note_made_with(uintptr_t lowest, size_t size)
+{
+    made_with = (struct stack){lowest, size};
+    is_made_with_known = true;
+    if (size >= LARGE && !is_on(&made_with, signals_at))
+        large_stack = made_with;
+}
+
+/* Where signals come on a part of the stack that the thread was made with, that isn't told from the rest, and counts as small. */
+void note_signal_stack(const stack_t *stack)
+{
+    if (stack->ss_flags & SS_DISABLE)
+        return;
+    signals_at = (uintptr_t)stack->ss_sp;
+    if (is_on(&made_with, signals_at))
+        large_stack.size = 0;
+}
+
+/* That of the process's first thread grows from the end of what the program was started with, down to its limit. Where there is none, nothing
+ * else stands so near. */
+__attribute__((constructor)) static void note_first_stack(void)
+{
+    const uintptr_t page = 4096, far = (uintptr_t)1 << 40, top = (getauxval(AT_EXECFN) + page) / page * page;
+    struct rlimit limit;
+    if (top > page && getrlimit(RLIMIT_STACK, &limit) == 0) {
+        uintptr_t size = limit.rlim_cur < far ? limit.rlim_cur : far;
+        note_made_with(top - size, size);
+    }
+}
+
+static void find_made_with(void)
 {
     pthread_attr_t attributes;
     void *lowest = NULL;
     size_t size = 0;
-    if (!is_in_use || pthread_getattr_np(pthread_self(), &attributes) != 0)
+    if (is_made_with_known)
+        return;
+    if (pthread_getattr_np(pthread_self(), &attributes) == 0) {
+        pthread_attr_getstack(&attributes, &lowest, &size);
+        pthread_attr_destroy(&attributes);
+    }
+    note_made_with((uintptr_t)lowest, size);
+}
+
+/* Whether the frame of a trap that stands below its call, or that call, is written over by this one's. */
+static bool is_written_over(const ucontext_t *at)
+{
+    enum { LONGEST = 1 << 14 };
+    uintptr_t caller = caller_of(at), frame = (uintptr_t)at;
+    return caller - frame < LONGEST && used_from - used_frame < LONGEST && frame <= used_from && used_frame <= caller;
+}
+
+/* Whether the call that is on the thread's memory was left by a jump: its handlers run on the layer's memory, and this call and that one are made on the
+ * stack that the thread was made with; or on another, this one where that one was. */
+static bool is_left(const ucontext_t *at)
+{
+    if (!is_in_use)
         return false;
-    pthread_attr_getstack(&attributes, &lowest, &size);
-    pthread_attr_destroy(&attributes);
-    return caller_of(at) - (uintptr_t)lowest < size && used_from - (uintptr_t)lowest < size;
+    find_made_with();
+    return (is_on(&made_with, caller_of(at)) && is_on(&made_with, used_from)) || is_written_over(at);
 }
 
 /* Takes the thread's other memory: handlers of a call on this one would write over the trap's frame. Returns whether there is any. */
@@ -99,27 +162,12 @@ static void leave(ucontext_t *at)
         at->uc_stack = used_before;
 }
 
-/* Whether the thread was made with a small stack. That of the process's first thread grows. */
-static bool has_small_stack(void)
-{
-    enum { SMALL = 1 << 17 };
-    static __thread bool is_known, is_small;
-    pthread_attr_t attributes;
-    size_t size = SMALL;
-    if (is_known || getpid() == gettid())
-        return is_small;
-    if (pthread_getattr_np(pthread_self(), &attributes) == 0) {
-        pthread_attr_getstacksize(&attributes, &size);
-        pthread_attr_destroy(&attributes);
-    }
-    is_known = true;
-    is_small = size < SMALL;
-    return is_small;
-}
-
 bool wants_own_stack(const ucontext_t *at)
 {
-    return is_on_signal_stack(at) || has_small_stack();
+    if (is_on_signal_stack(at))
+        return true;
+    find_made_with();
+    return !is_on(&large_stack, caller_of(at));
 }
 
 struct task {
@@ -131,9 +179,12 @@ struct task {
 static void run(void *argument)
 {
     struct task *task = argument;
-    sigaltstack(&task->signals, NULL);
+    bool has_signal_stack = task->before.ss_size > 0;
+    if (has_signal_stack)
+        sigaltstack(&task->signals, NULL);
     task->function(task->argument);
-    sigaltstack(&task->before, NULL);
+    if (has_signal_stack)
+        sigaltstack(&task->before, NULL);
 }
 
 static void call_on(char *top, void (*function)(void *), void *argument)
@@ -154,12 +205,14 @@ static void make_own(void)
         pthread_setspecific(key, own);
 }
 
-/* Once: a bypass that a signal has left by a jump may still be on its stack. */
+/* Once, and once more for calls on other stacks than the one that the thread was made with: a bypass that a signal has left by a jump may still be
+ * on its stack, and then there is none. */
 void allow_bypass(const ucontext_t *at)
 {
     static __thread bool is_allowed;
-    if (is_allowed)
+    if (is_allowed && bypass_stack != HERE)
         return;
+    find_made_with();
     if (wants_own_stack(at))
         make_own();
     is_allowed = true;
@@ -170,6 +223,7 @@ static void note_use(const ucontext_t *at)
 {
     is_in_use = true;
     used_from = caller_of(at);
+    used_frame = (uintptr_t)at;
     used_before = at->uc_stack;
 }
 

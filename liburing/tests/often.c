@@ -20,6 +20,7 @@
 #include <sys/mman.h>
 #include <sys/time.h>
 #include <sys/wait.h>
+#include <ucontext.h>
 #include <unistd.h>
 
 #define WANT(is_so)                                                                                                    \
@@ -245,20 +246,21 @@ static void *meet_signals_beside(void *none)
 }
 
 /* Signals come at any time, and their handlers call too; one ends a call that waits. In a thread with a stack for signals they come once
- * on that one, and once on the one on which it calls. */
+ * on that one, and once on the one on which it calls; so in one with a stack that is small, which calls on another, too. */
 static void signals(void)
 {
     struct sigaction action = {.sa_handler = call_in_handler};
+    pthread_attr_t attributes;
     pthread_t started;
     sigset_t all;
-    WANT(sigaction(SIGALRM, &action, NULL) == 0);
+    WANT(sigaction(SIGALRM, &action, NULL) == 0 && pthread_attr_init(&attributes) == 0 && pthread_attr_setstacksize(&attributes, 1 << 16) == 0);
     meet_signals();
     sigfillset(&all);
     pthread_sigmask(SIG_SETMASK, &all, NULL);
-    for (int i = 0; i < 2; i++) {
-        WANT(pthread_create(&started, NULL, meet_signals_beside, NULL) == 0 && pthread_join(started, NULL) == 0);
-        action.sa_flags = SA_ONSTACK;
+    for (int i = 0; i < 4; i++) {
+        action.sa_flags = i < 2 ? 0 : SA_ONSTACK;
         WANT(sigaction(SIGALRM, &action, NULL) == 0);
+        WANT(pthread_create(&started, i % 2 == 0 ? NULL : &attributes, meet_signals_beside, NULL) == 0 && pthread_join(started, NULL) == 0);
     }
 }
 
@@ -294,15 +296,68 @@ static void *call_on_small(void *none)
     return none;
 }
 
+static ucontext_t outside, inside;
+
+static void call_in_coroutine(void)
+{
+    no_ops(&of_handler, plain, 4);
+}
+
+/* A coroutine, below whose stack there is a page that can't be touched. */
+static void run_coroutine(size_t size)
+{
+    const size_t page = 4096, room = (size + page - 1) / page * page;
+    char *memory = mmap(NULL, page + room, PROT_READ | PROT_WRITE, MAP_PRIVATE | MAP_ANONYMOUS, -1, 0);
+    WANT(memory != MAP_FAILED && mprotect(memory, page, PROT_NONE) == 0 && getcontext(&inside) == 0);
+    inside.uc_stack = (stack_t){.ss_sp = memory + page, .ss_size = size};
+    inside.uc_link = &outside;
+    makecontext(&inside, call_in_coroutine, 0);
+    WANT(swapcontext(&outside, &inside) == 0 && munmap(memory, page + room) == 0);
+}
+
+/* Signals come on memory of this stack, or elsewhere, from now on, and their handler calls. */
+static void call_beside(char *memory, size_t size)
+{
+    const stack_t of_signals = {.ss_sp = memory, .ss_size = size}, none = {.ss_flags = SS_DISABLE};
+    WANT(sigaltstack(&of_signals, NULL) == 0);
+    handled = 0;
+    WANT(raise(SIGUSR1) == 0 && raise(SIGUSR1) == 0 && handled == 2);
+    WANT(sigaltstack(&none, NULL) == 0);
+}
+
+/* Its calls are rewritten on the stack that it was made with: then it calls at the same place on others, some so small that a trap has no room, and in the end
+ * on that one again. */
+static void *call_on_others(void *none)
+{
+    enum { PAGE = 4096, ROOM = 3 * PAGE };
+    const struct sigaction action = {.sa_handler = call_in_handler, .sa_flags = SA_ONSTACK};
+    char *memory = mmap(NULL, PAGE + ROOM, PROT_READ | PROT_WRITE, MAP_PRIVATE | MAP_ANONYMOUS, -1, 0), within[ROOM + 64];
+    of_handler = set_up();
+    WANT(memory != MAP_FAILED && mprotect(memory, PAGE, PROT_NONE) == 0 && sigaction(SIGUSR1, &action, NULL) == 0);
+    memset(within, 7, sizeof within);
+    no_ops(&of_handler, plain, OFTEN);
+    call_beside(memory + PAGE, ROOM);
+    call_beside(within + 64, ROOM);
+    for (int i = 0; i < 64; i++)
+        WANT(within[i] == 7);
+    for (size_t size = 2 * PAGE; size >= (is_none_wanted ? 2 * PAGE : 2048); size /= 2)
+        run_coroutine(size);
+    no_ops(&of_handler, plain, OFTEN);
+    WANT(munmap(memory, PAGE + ROOM) == 0);
+    return none;
+}
+
 static void small(void)
 {
     pthread_t started;
     pthread_attr_t attributes;
     pthread_attr_init(&attributes);
-    WANT(pthread_attr_setstacksize(&attributes, 20480) == 0);
+    WANT(pthread_attr_setstacksize(&attributes, 16384) == 0);
     for (int i = 0; i < 3; i++)
         WANT(pthread_create(&started, &attributes, call_on_small, NULL) == 0 && pthread_join(started, NULL) == 0);
     want_rewritten(plain, true);
+    call_on_others(NULL);
+    WANT(pthread_create(&started, NULL, call_on_others, NULL) == 0 && pthread_join(started, NULL) == 0);
 }
 
 static void want_success(pid_t child)
