@@ -151,13 +151,20 @@ bool wulgach_asks_anew(bool is_pipe, uint32_t access, uint32_t *flags);
  * file; and if it is opened to read or to write, and not for both. */
 bool wulgach_looks_at_path(const struct wulgach_submission *entry, uint64_t how);
 
-/* Returns with which flags it is looked up: for itself alone (O_PATH), and followed as its open follows it (O_NOFOLLOW). And those with which the pipe is
- * opened that was found so, through its link in /proc: its open's but O_NOFOLLOW, and O_NONBLOCK. */
-uint64_t wulgach_looking_flags(const struct wulgach_submission *entry, uint64_t how);
-uint64_t wulgach_found_flags(const struct wulgach_submission *entry, uint64_t how);
+/* How a path is opened: the fields of struct open_how (openat2(2)). */
+struct wulgach_how {
+    uint64_t flags, mode, resolve;
+};
 
-/* Whether its path is opened in the place of that, whose opening came to this: after -2 (ENOENT) there is no /proc. Our own rule. */
-bool wulgach_opens_by_path(int32_t res);
+/* Writes how it is looked up, where `how` is its struct open_how, or zeros: for itself alone (O_PATH), followed as its open follows it (O_NOFOLLOW),
+ * and resolved so. And how the pipe is opened that was found by that, through its link in /proc: with its open's flags but O_NOFOLLOW and O_DIRECT,
+ * with O_NONBLOCK, its mode, and no way to resolve it. */
+void wulgach_looking_how(const struct wulgach_submission *entry, const struct wulgach_how *how, struct wulgach_how *looking);
+void wulgach_found_how(const struct wulgach_submission *entry, const struct wulgach_how *how, struct wulgach_how *found);
+
+/* Returns the descriptor that is polled for a request whose path was looked up, and names a pipe or doesn't, where this is its entry's: none (-1) of a
+ * pipe, since nothing tells that its other end is open. Our own rule. */
+int32_t wulgach_polled_after_path(int32_t fd, bool names_pipe);
 
 /* A request stands so whose path was looked up as it starts, and names a pipe or doesn't: if it does, it may have to wait for its descriptor, though
  * it has none. Our own rule. */
@@ -182,14 +189,25 @@ uint64_t wulgach_unwilling_flags(uint64_t flags);
  * for (open(2)). */
 bool wulgach_opens_again(int32_t res);
 
-/* Whether it is asked if someone has the named pipe open to write, or has had, that an entry opens, whose open came to this: of what was opened to read. And
- * whether that open waits, with O_NONBLOCK: if it came to -6 (ENXIO), and is to write; and if it is to read, until a writer was found. */
-bool wulgach_asks_writer(const struct wulgach_submission *entry, uint64_t how, int32_t res);
-bool wulgach_opening_waits(const struct wulgach_submission *entry, uint64_t how, int32_t res, bool has_writer);
-
-/* Whether someone has it open to write, or has had since: poll(2) shows something of it; or a tee(2) of a byte that isn't to wait, if one can be made (`knows`),
- * came to this, bytes or an error number's negative, and not to 0. */
+/* Whether someone has a pipe open to write that was opened to read, or has had since: poll(2) shows something of it; or a tee(2) of a byte that isn't to
+ * wait, if one can be made (`knows`), came to this, bytes or an error number's negative, and not to 0. */
 bool wulgach_has_writer(bool shows, bool knows, int32_t teed);
+
+/* What is done for the open of a pipe that was found. */
+enum wulgach_opening_step {
+    WULGACH_OPENING_ENDS = 0,           /* it ends with what is written: a descriptor, or the negative of an error number */
+    WULGACH_OPENING_WAITS = 1,          /* it waits for its other end */
+    WULGACH_OPENING_BY_PATH = 2,        /* its path is opened, and not to wait */
+    WULGACH_OPENING_BY_LINK = 3,        /* what was found is, as wulgach_found_how has it */
+    WULGACH_OPENING_ASKS_WRITER = 4     /* it is asked if someone has it open to write, or has had (wulgach_has_writer): 0 if nobody has */
+};
+
+/* Returns what is next of it (enum wulgach_opening_step), after what was done last, which came to `res`, and writes what it ends with, if it ends. `last`
+ * is 0 at first, and WULGACH_OPENING_WAITS where it has waited; `opened` is the descriptor by which it is open, or negative. Its path is opened first,
+ * and ends it with whatever that is refused with, but -6 (ENXIO) where it is to write: then it waits, and what was found is opened from then on, whose
+ * path may name nothing by then. To read it waits until someone has it open to write, or has had. With O_DIRECT, which no pipe has, it waits as
+ * well, and ends with -22 (EINVAL) then: the caller closes what it has opened. */
+uint32_t wulgach_opening_next(const struct wulgach_submission *entry, uint64_t how, int32_t opened, uint32_t last, int32_t res, int32_t *end);
 
 /* ---- what a call came to ---- */
 
@@ -249,11 +267,29 @@ struct wulgach_rest {
 uint64_t wulgach_moved_by(int32_t came_to);
 void wulgach_rest_of(const struct wulgach_vector *vector, uint64_t moved, struct wulgach_rest *rest);
 
-/* Whether it matters after a call of this entry, which was asked not to wait and came to this, whether its socket was shut down for reading
- * (shutdown(2)): after -11 (EAGAIN) of a read or a receive that may wait, and doesn't go on. And what that counts as where it was: 0, since no
- * datagram comes any more; but -11 where its descriptor isn't to wait (O_NONBLOCK), unless it is a RECV. A stream's call comes to 0 by itself. */
-bool wulgach_asks_shut(const struct wulgach_submission *entry, int32_t came_to);
-int32_t wulgach_shut_result(const struct wulgach_submission *entry, int32_t came_to, bool is_shut, bool isnt_to_wait);
+/* Writes the call by which a socket is asked whether it was shut down for writing, or its peer for reading: a send of no bytes, which doesn't wait and
+ * gives no signal. And whether it was, of which that came to this: to -32 (EPIPE). */
+void wulgach_breaking_call(int32_t fd, struct wulgach_system_call *call);
+bool wulgach_is_broken(int32_t sent);
+
+/* Whether nothing more comes from a descriptor of which a look that doesn't wait came to this, and shows these events: its socket was shut down for
+ * reading, or its peer for writing (POLLRDHUP). */
+bool wulgach_is_shut(int32_t came, uint16_t events);
+
+/* What is done after a call whose socket may have been shut down for reading. */
+enum wulgach_shutting {
+    WULGACH_SHUTTING_ENDS = 0,          /* the call came to what is written */
+    WULGACH_SHUTTING_ASKS = 1,          /* its socket is asked whether it was (wulgach_is_shut): 0 if it wasn't */
+    WULGACH_SHUTTING_CALLS_AGAIN = 2,   /* it was: the call is made once more */
+    WULGACH_SHUTTING_ASKS_WILL = 3      /* its descriptor is asked whether it isn't to wait (O_NONBLOCK): 0 if it is */
+};
+
+/* Returns what is next after a call of this entry, which was asked not to wait (enum wulgach_shutting), and writes what that came to, if it is known.
+ * `last` is 0 after the call itself, which came to `res`; then it is what was done last, which came to that. After -11 (EAGAIN) of a read or a
+ * receive that may wait, and doesn't go on, its socket is asked whether it was shut down for reading (shutdown(2)). If it was, the call is made
+ * once more, since a datagram may have come just before that; and where it finds nothing again it came to 0, since none comes any more, but to -11
+ * where its descriptor isn't to wait, unless it is a RECV. A stream's call comes to 0 by itself. */
+uint32_t wulgach_shutting_next(const struct wulgach_submission *entry, uint32_t last, int32_t res, int32_t *end);
 
 /* Whether an operation has taken its provided buffer though it moved nothing: a transfer at the end of its file, but a READ_MULTISHOT hasn't. */
 bool wulgach_takes_for_nothing(uint8_t code);

@@ -204,6 +204,10 @@ enum wulgach_glance {
  * wulgach_counts_as_ready has it. */
 uint32_t wulgach_glance_of(bool is_impatient, bool is_of_many, int32_t came, uint16_t events);
 
+/* The same of one whose descriptor has shown nothing, once more is known of it, as that its socket listens: it isn't looked at again, and is ready if it
+ * has become impatient. Our own rule. */
+uint32_t wulgach_unshown_glance(bool is_impatient);
+
 /* Whether a request whose socket was found unready, of this family and type (socket(2)), is ready all the same if that was shut down for writing, or its
  * peer for reading: a write or a send by a local socket of streams (AF_UNIX, SOCK_STREAM), of which no poll(2) tells that. It is asked by a send of no
  * bytes, which comes to -32 (EPIPE) then; and who sleeps naps meanwhile. */

@@ -77,6 +77,11 @@ enum wulgach_turn {
  * made; and bytes that were moved are told. A connect that comes to -103 (ECONNABORTED) is made once more: the one call after a call. */
 uint32_t wulgach_call_next(const struct wulgach_submission *entry, const struct wulgach_call *call, uint32_t last, int32_t res, int32_t *end);
 
+/* Whether an operation counts as begun that has moved so many bytes (`has_begun`): a connect is told 1 as it begins. And whether its call counts as made
+ * once more (`was_repeated`), where it did before or didn't, `last` was done last, and `next` is next: it did, or both are calls. */
+bool wulgach_counts_as_begun(uint64_t done);
+bool wulgach_is_call_repeated(bool was_repeated, uint32_t last, uint32_t next);
+
 /* Which events a poll finds there, where poll(2) or epoll_wait(2), which doesn't wait, came to this and shows these: none of a call that
  * failed, so that the poll waits on. */
 uint16_t wulgach_present_of(int32_t came, uint16_t events);

@@ -3,6 +3,7 @@
 #include "wulgach_calls.h"
 
 #include <fcntl.h>
+#include <poll.h>
 #include <signal.h>
 #include <stddef.h>
 #include <stdio.h>
@@ -208,6 +209,26 @@ static bool looks(uint8_t code, uint32_t flags, uint64_t how, bool is_async)
     return wulgach_looks_at_path(&entry, how);
 }
 
+/* Whether this is next of an open of a pipe, which ends with that, or with nothing, 7. */
+static bool steps(const struct wulgach_submission *entry, int32_t opened, uint32_t last, int32_t res, uint32_t next, int32_t end)
+{
+    int32_t came = 7;
+    return wulgach_opening_next(entry, 0, opened, last, res, &came) == next && came == end;
+}
+
+static void look_at_steps(const struct wulgach_submission *reads, const struct wulgach_submission *writes)
+{
+    enum { ENDS = WULGACH_OPENING_ENDS, WAITS = WULGACH_OPENING_WAITS, PATH = WULGACH_OPENING_BY_PATH, LINK = WULGACH_OPENING_BY_LINK, ASKS = WULGACH_OPENING_ASKS_WRITER };
+    struct wulgach_submission reads_past = opening(OPENAT, O_DIRECT, true), writes_past = opening(OPENAT, O_DIRECT | O_WRONLY, true);
+    demand(steps(reads, -1, 0, 0, PATH, 7) && steps(writes, -1, 0, 0, PATH, 7), "its path is opened first");
+    demand(steps(reads, -1, PATH, -13, ENDS, -13) && steps(writes, -1, PATH, -11, ENDS, -11) && steps(reads, -1, PATH, -6, ENDS, -6) && steps(reads, -1, PATH, -22, ENDS, -22), "what is refused");
+    demand(steps(writes, -1, PATH, -6, WAITS, 7) && steps(writes, 3, PATH, 3, ENDS, 3) && steps(reads, 3, PATH, 3, ASKS, 7), "what is opened by its path");
+    demand(steps(reads, 3, ASKS, 1, ENDS, 3) && steps(reads, 3, ASKS, 0, WAITS, 7) && steps(reads, 3, WAITS, 0, ASKS, 7) && steps(writes, -1, WAITS, 0, LINK, 7), "what waits");
+    demand(steps(writes, -1, LINK, -6, WAITS, 7) && steps(writes, 4, LINK, 4, ENDS, 4) && steps(writes, -1, LINK, -24, ENDS, -24) && steps(writes, -1, LINK, -2, PATH, 7), "what is opened by its link");
+    demand(steps(&reads_past, -1, PATH, -22, LINK, 7) && steps(&reads_past, 3, LINK, 3, ASKS, 7) && steps(&reads_past, 3, ASKS, 1, ENDS, -22) && steps(&reads_past, -1, LINK, -2, ENDS, -22) && steps(&reads_past, -1, PATH, 3, ENDS, 3), "with O_DIRECT, to read");
+    demand(steps(&writes_past, -1, PATH, -22, ENDS, -22) && steps(&writes_past, -1, PATH, -6, WAITS, 7) && steps(&writes_past, 4, LINK, 4, ENDS, -22), "and to write");
+}
+
 static void look_at_opens(void)
 {
     demand(opens(OPENAT, 0, 0, false) == WULGACH_OPENS_AT_ONCE && opens(OPENAT2, O_NONBLOCK, O_RDWR, false) == WULGACH_OPENS_AT_ONCE, "which open is asked not to wait");
@@ -216,9 +237,18 @@ static void look_at_opens(void)
     demand(looks(OPENAT, O_CREAT, 0, false) && looks(OPENAT2, 0, O_TRUNC | O_WRONLY, false) && looks(OPENAT2, O_RDWR, O_WRONLY, true), "which path is looked at");
     demand(!looks(OPENAT, 0, O_CREAT, false) && !looks(OPENAT, O_CREAT | O_RDWR, 0, true) && !looks(OPENAT, O_NONBLOCK, 0, true) && !looks(OPENAT2, 0, O_PATH, true) && !looks(CLOSE, 0, 0, true), "and which isn't");
     struct wulgach_submission reads = opening(OPENAT, O_NOFOLLOW | O_CLOEXEC, false), writes = opening(OPENAT, O_WRONLY | O_APPEND, false);
-    demand(wulgach_looking_flags(&reads, 0) == (O_PATH | O_CLOEXEC | O_NOFOLLOW) && wulgach_looking_flags(&writes, O_NOFOLLOW) == (O_PATH | O_CLOEXEC), "how it is looked up");
-    demand(wulgach_found_flags(&reads, 0) == (O_NONBLOCK | O_CLOEXEC) && wulgach_found_flags(&writes, O_RDWR) == (O_WRONLY | O_APPEND | O_NONBLOCK), "how what was found is opened");
-    demand(wulgach_opens_by_path(-2) && !wulgach_opens_by_path(-6) && !wulgach_opens_by_path(3), "where there is no /proc");
+    struct wulgach_submission other = opening(OPENAT2, 0, true);
+    struct wulgach_how none = {0}, how = {.flags = O_WRONLY | O_CREAT | O_DIRECT, .mode = 0600, .resolve = 8}, so;
+    wulgach_looking_how(&reads, &none, &so);
+    demand(so.flags == (O_PATH | O_CLOEXEC | O_NOFOLLOW) && so.mode == 0 && so.resolve == 0, "how it is looked up");
+    wulgach_looking_how(&other, &how, &so);
+    demand(so.flags == (O_PATH | O_CLOEXEC) && so.mode == 0 && so.resolve == 8, "and how it is resolved");
+    wulgach_found_how(&reads, &none, &so);
+    demand(so.flags == (O_NONBLOCK | O_CLOEXEC) && so.mode == 0 && so.resolve == 0, "how what was found is opened");
+    wulgach_found_how(&other, &how, &so);
+    demand(so.flags == (O_WRONLY | O_CREAT | O_NONBLOCK) && so.mode == 0600 && so.resolve == 0, "with its mode, and not resolved so");
+    demand(wulgach_polled_after_path(5, false) == 5 && wulgach_polled_after_path(5, true) == -1, "what is polled for it");
+    look_at_steps(&reads, &writes);
     demand(wulgach_unwilling_flags(O_RDWR | O_CREAT) == (O_RDWR | O_CREAT | O_NONBLOCK) && wulgach_unwilling_flags((uint64_t)1 << 63) == ((uint64_t)1 << 63 | O_NONBLOCK), "how an open is asked not to wait");
     struct wulgach_standing file = {.has_found_buffer = true}, stream = {.is_stream = true};
     wulgach_standing_after_path(&file, false);
@@ -226,8 +256,6 @@ static void look_at_opens(void)
     demand(!file.is_stream && stream.is_stream, "a path that names no pipe");
     wulgach_standing_after_path(&file, true);
     demand(file.is_stream && file.has_found_buffer, "one that names a pipe");
-    demand(wulgach_asks_writer(&reads, 0, 3) && !wulgach_asks_writer(&reads, 0, -2) && !wulgach_asks_writer(&writes, 0, 3), "whose writer is asked for");
-    demand(wulgach_opening_waits(&writes, 0, -6, false) && !wulgach_opening_waits(&writes, 0, 3, false) && wulgach_opening_waits(&reads, 1, 3, false) && !wulgach_opening_waits(&reads, 0, 3, true) && !wulgach_opening_waits(&reads, 0, -2, false), "which open waits");
     demand(wulgach_has_writer(true, false, 0) && wulgach_has_writer(false, true, -11) && wulgach_has_writer(false, true, 1) && !wulgach_has_writer(false, true, 0) && !wulgach_has_writer(false, false, -11), "who has a pipe open to write");
     demand(wulgach_is_layers_lock(WULGACH_LOCKED_BYTE, 1) && !wulgach_is_layers_lock(WULGACH_LOCKED_BYTE, 0) && !wulgach_is_layers_lock(0, 1), "whose lock a layer's is");
 }
@@ -291,6 +319,13 @@ static void ask_descriptors(void)
     demand(wulgach_flags_after(true, true, flags, &flags) && flags == (O_APPEND | 2), "what is taken back");
 }
 
+/* Whether this is next after a call of an entry, which came to that, or to nothing, 7. */
+static bool shuts(const struct wulgach_submission *entry, uint32_t last, int32_t res, uint32_t next, int32_t end)
+{
+    int32_t came = 7;
+    return wulgach_shutting_next(entry, last, res, &came) == next && came == end;
+}
+
 static void look_at_results(void)
 {
     demand(wulgach_opens_again(-11) && !wulgach_opens_again(-6) && !wulgach_opens_again(3), "a lease");
@@ -302,10 +337,16 @@ static void look_at_results(void)
     demand(wulgach_tells_message(&receive, 0) && !wulgach_tells_message(&receive, -11) && !wulgach_tells_message(&send, 5), "what is told of a message");
     demand(wulgach_told_result(5, true) == 5 && wulgach_told_result(5, false) == -14, "one that can't be told");
     struct wulgach_submission going_on = {.opcode = 27, .ioprio = 2}, hasty = {.opcode = 27, .op_flags = 64}, read = {.opcode = 22}, unwilling = {.opcode = 22, .op_flags = 8};
-    demand(wulgach_asks_shut(&receive, -11) && wulgach_asks_shut(&read, -11) && !wulgach_asks_shut(&receive, -107) && !wulgach_asks_shut(&send, -11), "whether a socket was shut down");
-    demand(!wulgach_asks_shut(&going_on, -11) && !wulgach_asks_shut(&hasty, -11) && !wulgach_asks_shut(&unwilling, -11), "where that doesn't matter");
-    demand(wulgach_shut_result(&read, -11, true, false) == 0 && wulgach_shut_result(&read, -11, false, false) == -11 && wulgach_shut_result(&read, 5, true, false) == 5, "a socket that was shut down");
-    demand(wulgach_shut_result(&read, -11, true, true) == -11 && wulgach_shut_result(&receive, -11, true, true) == -11 && wulgach_shut_result(&hasty, -11, true, true) == 0, "one that isn't to wait");
+    enum { ENDS = WULGACH_SHUTTING_ENDS, ASKS = WULGACH_SHUTTING_ASKS, AGAIN = WULGACH_SHUTTING_CALLS_AGAIN, WILL = WULGACH_SHUTTING_ASKS_WILL };
+    demand(shuts(&receive, 0, -11, ASKS, 7) && shuts(&read, 0, -11, ASKS, 7) && shuts(&receive, 0, -107, ENDS, -107) && shuts(&send, 0, -11, ENDS, -11), "whether a socket was shut down");
+    demand(shuts(&going_on, 0, -11, ENDS, -11) && shuts(&hasty, 0, -11, ENDS, -11) && shuts(&unwilling, 0, -11, ENDS, -11), "where that doesn't matter");
+    demand(shuts(&read, ASKS, 0, ENDS, -11) && shuts(&read, ASKS, 1, AGAIN, 7) && shuts(&read, AGAIN, 5, ENDS, 5) && shuts(&read, AGAIN, -11, WILL, 7) && shuts(&read, WILL, 0, ENDS, 0), "a socket that was shut down");
+    demand(shuts(&read, WILL, 1, ENDS, -11) && shuts(&receive, WILL, 1, ENDS, -11) && shuts(&hasty, WILL, 1, ENDS, 0), "one that isn't to wait");
+    struct wulgach_system_call sent;
+    wulgach_breaking_call(-1, &sent);
+    demand(sent.number == 44 && sent.first == UINT64_MAX && sent.second == 0 && sent.third == 0 && sent.fourth == (MSG_DONTWAIT | MSG_NOSIGNAL) && sent.fifth == 0 && sent.sixth == 0, "how a socket is asked whether it is broken");
+    demand(wulgach_is_broken(-32) && !wulgach_is_broken(-11) && !wulgach_is_broken(0), "and whether it is");
+    demand(wulgach_is_shut(1, POLLRDHUP | POLLIN) && !wulgach_is_shut(1, POLLIN) && !wulgach_is_shut(0, POLLRDHUP) && !wulgach_is_shut(-22, POLLRDHUP), "whether it is shut");
     struct wulgach_submission reads_on = {.opcode = 49, .off = 4096}, without_offset = {.opcode = 49, .off = UINT64_MAX};
     demand(wulgach_offset_after(&reads_on, 16) == 4112 && wulgach_offset_after(&reads_on, -11) == 4096 && wulgach_offset_after(&without_offset, 16) == UINT64_MAX && wulgach_offset_after(&read, 16) == 0, "where a read that goes on reads next");
     demand(wulgach_takes_for_nothing(22) && !wulgach_takes_for_nothing(49) && !wulgach_takes_for_nothing(27), "what takes a buffer at the end of its file");

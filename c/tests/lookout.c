@@ -349,6 +349,7 @@ static void lie(void)
     demand(wulgach_is_found_ready(true, false, true, false) && wulgach_is_found_ready(false, true, false, false) && !wulgach_is_found_ready(false, true, true, false) && wulgach_is_found_ready(false, true, true, true) && !wulgach_is_found_ready(false, false, false, false), "what is found ready");
     demand(wulgach_asks_breaking(false, true, true) && wulgach_asks_breaking(false, false, false) && !wulgach_asks_breaking(true, false, false) && !wulgach_asks_breaking(false, true, false), "for what that is asked");
     demand(wulgach_glance_of(true, true, -1, 0) == WULGACH_GLANCE_READY && wulgach_glance_of(false, true, -1, 0) == WULGACH_GLANCE_ASKS_ALONE && wulgach_glance_of(false, false, -1, 0) == WULGACH_GLANCE_READY && wulgach_glance_of(false, true, 1, 4) == WULGACH_GLANCE_READY && wulgach_glance_of(false, true, 1, 0) == WULGACH_GLANCE_UNREADY, "a look");
+    demand(wulgach_unshown_glance(true) == WULGACH_GLANCE_READY && wulgach_unshown_glance(false) == WULGACH_GLANCE_UNREADY, "one that has shown nothing");
 }
 
 static void miss(void)

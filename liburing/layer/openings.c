@@ -35,14 +35,25 @@ static int32_t open_unwilling(const struct request *request, struct wulgach_syst
     return make_call(&call);
 }
 
+static struct wulgach_how how_of(const struct request *request)
+{
+    const struct open_how *how = request->how;
+    return how ? (struct wulgach_how){how->flags, how->mode, how->resolve} : (struct wulgach_how){0};
+}
+
+/* Opens a path so, by the call that its request asks for. Returns a descriptor, or -1. */
+static int open_so(const struct request *request, int folder, const char *path, const struct wulgach_how *so)
+{
+    struct open_how how = {.flags = so->flags, .mode = so->mode, .resolve = so->resolve};
+    return request->how ? (int)syscall(SYS_openat2, folder, path, &how, sizeof how) : openat(folder, path, (int)how.flags, (mode_t)how.mode);
+}
+
 /* Looks a path up, as its open does: a descriptor of what it names, for that alone, or -1. */
 static int look_up(const struct request *request)
 {
-    uint64_t flags = wulgach_looking_flags(submission_of(&request->entry), how_flags(request));
-    if (!request->how)
-        return openat(request->entry.fd, request->path, (int)flags);
-    struct open_how how = {.flags = flags, .resolve = request->how->resolve};
-    return (int)syscall(SYS_openat2, request->entry.fd, request->path, &how, sizeof how);
+    struct wulgach_how how = how_of(request), looking;
+    wulgach_looking_how(submission_of(&request->entry), &how, &looking);
+    return open_so(request, request->entry.fd, request->path, &looking);
 }
 
 void look_for_pipe(struct request *request)
@@ -54,28 +65,28 @@ void look_for_pipe(struct request *request)
     if (request->has_found_pipe) {
         request->found_pipe = moved_high(fd);
         keep_for_later(request->found_pipe);
-        /* (nothing tells that the other end is open, least of all what the path begins at) */
-        request->fd = -1;
     } else if (fd >= 0) {
         close(fd);
     }
+    request->fd = wulgach_polled_after_path(request->fd, request->has_found_pipe);
     wulgach_standing_after_path(&request->standing, request->has_found_pipe);
 }
 
-static uint64_t found_flags_of(const struct request *request)
+static struct wulgach_how found_how_of(const struct request *request)
 {
-    return wulgach_found_flags(submission_of(&request->entry), how_flags(request));
+    struct wulgach_how how = how_of(request), found;
+    wulgach_found_how(submission_of(&request->entry), &how, &found);
+    return found;
 }
 
-/* Opens the pipe that was found, by its name in /proc, or by its path where there is no /proc. */
-static int32_t open_found(const struct request *request, const struct wulgach_system_call *call)
+/* Opens the pipe that was found, by its link in /proc. */
+static int32_t open_found(const struct request *request)
 {
     char name[40];
-    struct open_how how = {.flags = found_flags_of(request), .mode = request->how ? request->how->mode : 0};
+    struct wulgach_how found = found_how_of(request);
     snprintf(name, sizeof name, "/proc/thread-self/fd/%d", request->found_pipe);
-    int fd = request->how ? (int)syscall(SYS_openat2, AT_FDCWD, name, &how, sizeof how) : openat(AT_FDCWD, name, (int)how.flags, 0);
-    int32_t res = fd < 0 ? -errno : fd;
-    return wulgach_opens_by_path(res) ? open_unwilling(request, *call) : res;
+    int fd = open_so(request, AT_FDCWD, name, &found);
+    return fd < 0 ? -errno : fd;
 }
 
 /* What a tee comes to of it, which takes nothing out. False: no pipe can be made for that. */
@@ -118,31 +129,53 @@ static int32_t open_at_once(const struct request *request, const struct wulgach_
     return fd;
 }
 
-/* Whether the open of a pipe waits that came to this. */
-static bool waits_for_other(const struct request *request, int32_t fd)
+/* Does what the library said is next, and says what that came to. */
+static int32_t open_further(struct request *request, const struct wulgach_system_call *call, uint32_t step)
 {
-    const struct wulgach_submission *entry = submission_of(&request->entry);
-    bool has_other = wulgach_asks_writer(entry, how_flags(request), fd) && has_writer(fd);
-    return wulgach_opening_waits(entry, how_flags(request), fd, has_other);
+    if (step == WULGACH_OPENING_ASKS_WRITER)
+        return has_writer(request->opened);
+    int32_t fd = step == WULGACH_OPENING_BY_LINK ? open_found(request) : open_unwilling(request, *call);
+    request->is_opened = fd >= 0;
+    request->opened = fd;
+    return fd;
+}
+
+/* What is next after the last step, which came to this, or with what it ends. */
+static uint32_t next_step(const struct request *request, uint32_t last, int32_t *res)
+{
+    int32_t opened = request->is_opened ? request->opened : -1;
+    return wulgach_opening_next(submission_of(&request->entry), how_flags(request), opened, last, *res, res);
+}
+
+/* Gives what was opened to the application, or closes what it ends without. */
+static void let_pipe_go(struct request *request, int32_t res, bool was_kept)
+{
+    request->is_opened = false;
+    if (res != request->opened) {
+        close_kept(request->opened, false);
+        return;
+    }
+    if (was_kept)
+        give_to_application(res, found_how_of(request).flags & O_CLOEXEC);
+    let_wait(res);
 }
 
 /* Opens the pipe that was found. Returns the same, or WOULD_WAIT. */
 static int32_t open_pipe(struct request *request, const struct wulgach_system_call *call)
 {
-    bool was_opened = request->is_opened;
-    int32_t fd = was_opened ? request->opened : open_found(request, call);
-    request->is_opened = fd >= 0;
-    request->opened = fd;
-    if (waits_for_other(request, fd)) {
-        if (fd >= 0 && !was_opened)
-            keep_for_later(fd);
+    bool was_kept = request->is_opened;
+    int32_t res = 0;
+    uint32_t *step = &request->opening;
+    while ((*step = next_step(request, *step, &res)) > WULGACH_OPENING_WAITS)
+        res = open_further(request, call, *step);
+    if (*step == WULGACH_OPENING_WAITS) {
+        if (request->is_opened && !was_kept)
+            keep_for_later(request->opened);
         return WOULD_WAIT;
     }
-    request->is_opened = false;
-    if (was_opened)
-        give_to_application(fd, found_flags_of(request) & O_CLOEXEC);
-    let_wait(fd);
-    return fd;
+    if (request->is_opened)
+        let_pipe_go(request, res, was_kept);
+    return res;
 }
 
 int32_t open_by(struct request *request, const struct wulgach_system_call *call, uint32_t way)

@@ -138,22 +138,25 @@ static int32_t make_in_way(const struct request *request, const struct wulgach_s
     return was_interrupted(res) ? make_passing_call(call) : res;
 }
 
-/* Makes it, and once more of a socket that was shut down: a datagram may have come just before that. */
-static int32_t make_unless_shut(const struct request *request, const struct wulgach_system_call *call, uint32_t way, bool *is_found_shut)
+/* The call of a transfer, and the way in which it is made. */
+struct transfer_call {
+    const struct request *request;
+    struct wulgach_system_call call;
+    uint32_t way;
+};
+
+static int32_t call_once(void *with)
 {
-    int32_t res = make_in_way(request, call, way);
-    if (!wulgach_asks_shut(submission_of(&request->entry), res) || !is_shut(request->fd))
-        return res;
-    *is_found_shut = true;
-    return wulgach_shut_result(submission_of(&request->entry), make_in_way(request, call, way), true, is_not_to_wait(request));
+    const struct transfer_call *call = with;
+    return make_in_way(call->request, &call->call, call->way);
 }
 
 static int32_t call_transfer(const struct request *request, struct wulgach_transfer *transfer, uint32_t way)
 {
     struct wulgach_vectors vectors = vectors_of(request);
-    struct wulgach_system_call call;
-    wulgach_transfer_call(submission_of(&request->entry), &vectors, transfer, way, &call);
-    int32_t res = make_unless_shut(request, &call, way, &transfer->is_shut);
+    struct transfer_call call = {.request = request, .way = way};
+    wulgach_transfer_call(submission_of(&request->entry), &vectors, transfer, way, &call.call);
+    int32_t res = call_unless_shut(request, call_once, &call, &transfer->is_shut);
     if (way == WULGACH_CALL_AT_ONCE && res == -EOPNOTSUPP)
         note_slow(request->fd);
     return res;

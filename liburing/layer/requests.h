@@ -53,6 +53,7 @@ struct request {
     bool has_called;                /* it was carried out, and would have waited, */
     bool has_found_pipe;            /* its path names a pipe that it is to open and may have to wait for, by this descriptor for its path alone */
     int found_pipe;
+    uint32_t opening;               /* what was done last for that (enum wulgach_opening_step), or 0 */
     bool is_opened;                 /* a named pipe was opened to read, by this descriptor, and waits for who writes; */
     int opened;
     uint32_t vain;                  /* so often since its descriptor was last found not to be ready as a sleep began */

@@ -3,10 +3,13 @@
 #define _GNU_SOURCE
 #include "sockets.h"
 #include "copying.h"
+#include "glance.h"
 #include "means.h"
+#include "numbers.h"
 #include "operations.h"
 #include "ring.h"
 #include "wulgach_tries.h"
+#include "wulgach_waits.h"
 
 #include <errno.h>
 #include <fcntl.h>
@@ -14,6 +17,7 @@
 #include <poll.h>
 #include <stdlib.h>
 #include <string.h>
+#include <sys/epoll.h>
 #include <sys/socket.h>
 #include <unistd.h>
 
@@ -202,27 +206,80 @@ bool asks_broken(const struct request *request)
 
 bool is_broken(const struct request *request)
 {
-    return asks_broken(request) && send(request->fd, "", 0, MSG_DONTWAIT | MSG_NOSIGNAL) < 0 && errno == EPIPE;
+    if (!asks_broken(request))
+        return false;
+    struct wulgach_system_call call;
+    wulgach_breaking_call(request->fd, &call);
+    return wulgach_is_broken(make_call(&call));
 }
 
-bool is_shut(int fd)
+static int make_instance(void)
+{
+    return epoll_create1(EPOLL_CLOEXEC);
+}
+
+/* What an epoll instance tells of a descriptor now, as poll(2) does. Negative: there is none, or it doesn't take the descriptor. */
+static int ask_instance_now(struct pollfd *at)
+{
+    int instance = made_high(make_instance), came = -1;
+    struct epoll_event event = {.events = (uint16_t)at->events};
+    if (instance >= 0 && epoll_ctl(instance, EPOLL_CTL_ADD, at->fd, &event) == 0)
+        came = epoll_wait(instance, &event, 1, 0);
+    if (came > 0)
+        at->revents = (short)event.events;
+    if (instance >= 0)
+        close(instance);
+    return came;
+}
+
+/* Whether a descriptor is a socket that nothing more comes from: it was shut down for reading, or its peer for writing. (select(2), by which others are
+ * looked at where poll(2) refuses to, tells only that it can be read: as of one with an error, or with what has come meanwhile) */
+static bool is_shut(int fd)
 {
     struct pollfd at = {.fd = fd, .events = POLLRDHUP};
-    return poll(&at, 1, 0) > 0 && at.revents & POLLRDHUP;
+    int came = poll(&at, 1, 0);
+    if (came < 0 && wulgach_asks_select(-errno)) {
+        came = ask_instance_now(&at);
+        if (came < 0)
+            came = poll_now(&at, 1);
+    }
+    return wulgach_is_shut(came, (uint16_t)at.revents);
 }
 
-static int32_t call_once(struct ring *ring, struct request *request, uint64_t *filled)
+int32_t call_unless_shut(const struct request *request, int32_t (*call)(void *), void *with, bool *is_found_shut)
 {
-    return filled ? receive_into_buffer(request, filled) : carry_out_by_means(ring, request);
+    const struct wulgach_submission *entry = submission_of(&request->entry);
+    uint32_t step = WULGACH_SHUTTING_ENDS;
+    int32_t res = call(with);
+    while ((step = wulgach_shutting_next(entry, step, res, &res)) != WULGACH_SHUTTING_ENDS) {
+        if (step == WULGACH_SHUTTING_ASKS)
+            res = is_shut(request->fd);
+        else if (step == WULGACH_SHUTTING_ASKS_WILL)
+            res = is_not_to_wait(request);
+        else
+            res = call(with);
+        *is_found_shut |= step == WULGACH_SHUTTING_CALLS_AGAIN;
+    }
+    return res;
 }
 
-/* Makes the call, and after one that finds nothing once more where no more can come: a datagram may have come just before that. */
-static int32_t call_unless_shut(struct ring *ring, struct request *request, uint64_t *filled)
+/* The call of a request, and how much of its buffer that fills, if it fills one. */
+struct turn_call {
+    struct ring *ring;
+    struct request *request;
+    uint64_t *filled;
+};
+
+static int32_t call_once(void *with)
 {
-    int32_t res = call_once(ring, request, filled);
-    if (!wulgach_asks_shut(submission_of(&request->entry), res) || !is_shut(request->fd))
-        return res;
-    return wulgach_shut_result(submission_of(&request->entry), call_once(ring, request, filled), true, is_not_to_wait(request));
+    struct turn_call *call = with;
+    return call->filled ? receive_into_buffer(call->request, call->filled) : carry_out_by_means(call->ring, call->request);
+}
+
+static int32_t call_in_turn(struct ring *ring, struct request *request, uint64_t *filled)
+{
+    bool is_found_shut = false;
+    return call_unless_shut(request, call_once, &(struct turn_call){ring, request, filled}, &is_found_shut);
 }
 
 /* Does what the library said is next, and says what that came to. */
@@ -230,7 +287,7 @@ static int32_t take_turn(struct ring *ring, struct request *request, uint32_t tu
 {
     switch (turn) {
     case WULGACH_TURN_CALLS:
-        return call_unless_shut(ring, request, filled);
+        return call_in_turn(ring, request, filled);
     case WULGACH_TURN_POLLS:
         return is_polled(request);
     case WULGACH_TURN_ASKS_WILL:
@@ -250,7 +307,7 @@ static struct wulgach_call call_of(const struct request *request)
         .control = request->control,
         .is_stream = request->standing.is_stream,
         .is_impatient = is_impatient(request),
-        .has_begun = request->done > 0,
+        .has_begun = wulgach_counts_as_begun(request->done),
         .was_repeated = request->was_repeated,
     };
 }
@@ -266,7 +323,7 @@ int32_t call_socket(struct ring *ring, struct request *request)
         struct wulgach_call call = call_of(request);
         last = turn;
         turn = wulgach_call_next(entry, &call, last, res, &res);
-        request->was_repeated |= turn == WULGACH_TURN_CALLS && last == WULGACH_TURN_CALLS;
+        request->was_repeated = wulgach_is_call_repeated(request->was_repeated, last, turn);
         if (turn <= WULGACH_TURN_WAITS)
             break;
         res = take_turn(ring, request, turn, fills ? &filled : NULL);

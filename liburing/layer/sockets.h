@@ -16,8 +16,8 @@ int copy_address(struct request *request, uint64_t from, size_t size);
 /* Carries the operation out: its result, or WOULD_WAIT. */
 int32_t call_socket(struct ring *ring, struct request *request);
 
-/* Whether a descriptor is a socket that nothing more comes from: it was shut down for reading, or its peer for writing. */
-bool is_shut(int fd);
+/* Makes a call of a request's, and once more of a socket that was shut down for reading, as the library says: what that comes to. */
+int32_t call_unless_shut(const struct request *request, int32_t (*call)(void *), void *with, bool *is_found_shut);
 
 /* What a socket says of itself (getsockopt(2), SOL_SOCKET), or 0 of what is none. */
 int option_of(int fd, int name);

@@ -30,8 +30,7 @@ void look_first(const struct ring *ring, struct request *request)
     if (wulgach_asks_listening(&request->needs, is_found)) {
         ask_listening(request);
         request->is_tried_first = wulgach_is_tried_first(submission_of(&request->entry), (uint32_t)option_of(request->fd, SO_RCVLOWAT));
-        /* (its descriptor has shown nothing) */
-        is_found = is_glanced_ready(request, wulgach_glance_of(is_impatient(request), false, 0, 0));
+        is_found = is_glanced_ready(request, wulgach_unshown_glance(is_impatient(request)));
     }
     note_look(ring, request, is_found);
 }

@@ -6,6 +6,7 @@
 #define _GNU_SOURCE
 #include "engines.h"
 
+#include <netinet/in.h>
 #include <poll.h>
 #include <pthread.h>
 #include <sched.h>
@@ -123,12 +124,43 @@ static void receive_with_none(void)
     check(pthread_join(thread, NULL) == 0);
 }
 
+/* A socket of datagrams that was shut down for reading: a receive that waits ends with 0. */
+static void receive_shut(int fd, rlim_t most)
+{
+    struct ring ring;
+    char bytes[8];
+    make_ring(&ring, 8, 0, 0);
+    check(shutdown(fd, SHUT_RD) == 0);
+    allow_descriptors(0, most);
+    put_transfer(&ring, IORING_OP_RECV, 0, 0, fd, bytes, sizeof bytes, 0);
+    check(enter(&ring, 1, 1, IORING_ENTER_GETEVENTS) == 1);
+    check(reap(&ring).res == 0);
+}
+
+static void receive_shut_with_none(void)
+{
+    int ends[2];
+    check(socketpair(AF_UNIX, SOCK_DGRAM, 0, ends) == 0);
+    receive_shut(ends[0], 0);
+}
+
+static void receive_shut_with_none_of_its_own(void)
+{
+    struct sockaddr_in address = {.sin_family = AF_INET, .sin_addr.s_addr = htonl(INADDR_LOOPBACK)};
+    socklen_t size = sizeof address;
+    int fd = socket(AF_INET, SOCK_DGRAM, 0);
+    check(bind(fd, (void *)&address, size) == 0 && getsockname(fd, (void *)&address, &size) == 0 && connect(fd, (void *)&address, size) == 0);
+    receive_shut(fd, 1024);
+}
+
 static void test_few_descriptors(void)
 {
     in_child(wait_with_few);
     in_child(wait_with_none);
     in_child(wait_with_none_of_its_own);
     in_child(receive_with_none);
+    in_child(receive_shut_with_none);
+    in_child(receive_shut_with_none_of_its_own);
 }
 
 /* The parameters are told before there is a descriptor. */

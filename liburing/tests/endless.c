@@ -187,6 +187,67 @@ static void test_refused_opens(void)
     close_ring(&ring);
 }
 
+/* Has a folder keep its pipes from others, if that may be said here: it is sticky, and the pipe is another user's (fs.protected_fifos). */
+static bool protect_pipe(const char *name, char *before)
+{
+    int protection = open("/proc/sys/fs/protected_fifos", O_RDWR);
+    bool is_protected = geteuid() == 0 && protection >= 0 && pread(protection, before, 1, 0) == 1 && (*before != '0' || pwrite(protection, "1", 1, 0) == 1);
+    close(protection);
+    return is_protected && chmod(name, 0666) == 0 && chown(name, 65534, 65534) == 0 && chmod(".", 01777) == 0 && chown(".", 1, 1) == 0;
+}
+
+static void let_protection_be(const char *before)
+{
+    int protection = open("/proc/sys/fs/protected_fifos", O_WRONLY);
+    check(protection >= 0 && pwrite(protection, before, 1, 0) == 1 && close(protection) == 0);
+}
+
+/* What its path's own open is refused with ends one that would wait: by how it is to be resolved, and by a folder that keeps its pipes from others. Seen at a
+ * ring of Linux 6.18. */
+static void test_refused_paths(void)
+{
+    struct ring ring;
+    struct open_how hows[] = {{.flags = O_RDONLY | O_CREAT, .mode = 0600, .resolve = RESOLVE_CACHED}, {.flags = O_WRONLY | O_TRUNC, .resolve = RESOLVE_CACHED}};
+    char name[] = "/tmp/unwilling-XXXXXX", before;
+    check(mkdtemp(name) && chdir(name) == 0 && mkfifo("fifo", 0600) == 0);
+    make_ring(&ring, 8, 0, 0);
+    for (int i = 0; i < 2; i++) {
+        struct io_uring_sqe *entry = put_plain(&ring, IORING_OP_OPENAT2, 0, AT_FDCWD);
+        entry->addr = (uintptr_t)"fifo";
+        entry->off = (uintptr_t)&hows[i];
+        entry->len = sizeof *hows;
+        check(enter(&ring, 1, 0, 0) == 1 && ends_with(&ring, -EAGAIN));
+    }
+    if (protect_pipe("fifo", &before)) {
+        bool is_refused = true;
+        for (int i = 0; i < 2; i++) {
+            put_open(&ring, 0, "fifo", O_CREAT | (i ? O_WRONLY : O_RDONLY));
+            is_refused &= enter(&ring, 1, 0, 0) == 1 && ends_with(&ring, -EACCES);
+        }
+        let_protection_be(&before);
+        check(is_refused);
+    }
+    check(unlink("fifo") == 0 && rmdir(name) == 0);
+    close_ring(&ring);
+}
+
+/* One with O_DIRECT, which no pipe has, is told so once the other end is open, and leaves nothing open. Seen at a ring of Linux 6.18. */
+static void test_direct_opens(void)
+{
+    struct ring ring;
+    char name[] = "/tmp/unwilling-XXXXXX";
+    check(mkdtemp(name) && chdir(name) == 0 && mkfifo("fifo", 0600) == 0);
+    make_ring(&ring, 8, 0, 0);
+    for (int i = 0; i < 2; i++) {
+        put_open(&ring, 0, "fifo", O_CREAT | O_DIRECT | (i ? O_WRONLY : O_RDONLY));
+        check(enter(&ring, 1, 0, 0) == 1 && is_waiting(&ring));
+        int other = open("fifo", (i ? O_RDONLY : O_WRONLY) | O_NONBLOCK);
+        check(other >= 0 && ends_with(&ring, -EINVAL) && close(other) == 0);
+    }
+    check(descriptor_of("fifo") < 0 && unlink("fifo") == 0 && rmdir(name) == 0);
+    close_ring(&ring);
+}
+
 /* One that a kernel asks not to wait: to read it is open at once, and to write it finds nobody who reads. */
 static void test_opened_at_once(void)
 {
@@ -276,6 +337,8 @@ int main(int count, char **words)
         {"opened meanwhile", test_opened_meanwhile},
         {"found once", test_found_once},
         {"refused opens", test_refused_opens},
+        {"refused paths", test_refused_paths},
+        {"direct opens", test_direct_opens},
         {"opened at once", test_opened_at_once},
         {"not ordinary", test_not_ordinary},
         {"connected", test_connected},

@@ -14,6 +14,7 @@ pub mod CopyingForm
 pub mod SleepForm
 pub mod MeansForm
 pub mod OpeningForm
+pub mod ShuttingForm
 pub mod PinningForm
 pub mod UnknownForm
 pub mod StartForm

@@ -9,7 +9,9 @@ ghost use Rattle.uring_c.specs.PassageForm.{word_of_glance, word_of_answered, wo
 ghost use Rattle.uring_c.specs.RingForm.{known_if};
 
 use uring_enter::{Answered, Gone, Lookout, Waiter, answer_of, dormant_events, takes_descriptor};
-use uring_operations::{Glance, Submission, asks_breaking, asks_broken, glance_of, is_found_ready};
+use uring_operations::{
+    Glance, Submission, asks_breaking, asks_broken, glance_of, is_found_ready, unshown_glance,
+};
 
 /// Returns what a poll(2), of one descriptor or of many, says of a request.
 #[unsafe(no_mangle)]
@@ -21,7 +23,21 @@ pub extern "C" fn wulgach_glance_of(
 ) -> u32
     ensures { result ≡ word_of_glance (glances.glance_of is_impatient is_of_many came events) }
 {
-    match glance_of(is_impatient, is_of_many, came, events) {
+    glance_word(glance_of(is_impatient, is_of_many, came, events))
+}
+
+/// Returns what is found of a request whose descriptor has shown nothing, once more is known of it.
+#[unsafe(no_mangle)]
+pub extern "C" fn wulgach_unshown_glance(is_impatient: bool) -> u32
+    ensures { result ≡ word_of_glance (glances.unshown_glance is_impatient) }
+{
+    glance_word(unshown_glance(is_impatient))
+}
+
+fn glance_word(glance: Glance) -> u32
+    ensures { result ≡ word_of_glance glance }
+{
+    match glance {
         Glance::Unready => 0,
         Glance::Ready => 1,
         Glance::AsksAlone => 2,

@@ -3,16 +3,18 @@ ghost use Rattle.std.specs.Prelude.{◌≡◌, true, false, MatchOption};
 ghost use Rattle.uring_operations.specs.Calls.CallResults as results;
 ghost use Rattle.uring_operations.specs.Calls.Means as spec;
 ghost use Rattle.uring_operations.specs.Calls.Parts as parts;
+ghost use Rattle.uring_operations.specs.Requests.Readiness as ready;
 ghost use Rattle.uring_operations.specs.Calls.TransferCalls.{call_of};
 ghost use Rattle.uring_c.specs.MeansForm.{words, by_list, words_of_means, fault_of_word, can_have_one};
 ghost use Rattle.uring_crossing.specs.WaitForm.{task_of};
+ghost use Rattle.uring_c.specs.ShuttingForm.{word_of_shutting, end_of_shutting, shutting_of};
 
 use uring_crossing::wait_words::task;
 use uring_operations::{
-    Fault, Held, Listed, Means, Submission, SystemCall, Transfer, Vectors, asks_anew, asks_end,
-    asks_shut, can_have, control_of, done_result, has_begun, is_stream_type, means_of,
-    moved_so_far, offset_after, placed_result, shut_result, takes_for_nothing, tells_message,
-    told_result, transfer_call,
+    Fault, Held, Listed, Means, Shutting, Submission, SystemCall, Transfer, Vectors, asks_anew,
+    asks_end, breaking_call, can_have, control_of, done_result, has_begun, is_broken, is_shut,
+    is_stream_type, means_of, moved_so_far, offset_after, placed_result, shutting_next,
+    takes_for_nothing, tells_message, told_result, transfer_call,
 };
 
 /// By what an operation is carried out: `struct wulgach_means` of the header.
@@ -206,25 +208,76 @@ pub extern "C" fn wulgach_told_result(came_to: i32, is_told: bool) -> i32
     told_result(came_to, is_told)
 }
 
-/// Whether it matters after a call of this entry that came to this whether its socket was shut down for reading.
+/// Writes the call by which a socket is asked whether it was shut down for writing.
 #[unsafe(no_mangle)]
-pub extern "C" fn wulgach_asks_shut(entry: &Submission, came_to: i32) -> bool
-    ensures { result ≡ results.asks_shut entry.now came_to }
+pub extern "C" fn wulgach_breaking_call(fd: i32, call: &mut SystemCall)
+    ensures { call.new ≡ ready.breaking_call fd }
 {
-    asks_shut(entry, came_to)
+    *call = breaking_call(fd);
 }
 
-/// What a call counts as that came to this, where its socket was shut down for reading or wasn't.
+/// Whether a socket was, of which that came to this.
 #[unsafe(no_mangle)]
-pub extern "C" fn wulgach_shut_result(
-    entry: &Submission,
-    came_to: i32,
-    is_shut: bool,
-    isnt_to_wait: bool,
-) -> i32
-    ensures { result ≡ results.shut_result entry.now came_to is_shut isnt_to_wait }
+pub extern "C" fn wulgach_is_broken(sent: i32) -> bool
+    ensures { result ≡ ready.is_broken sent }
 {
-    shut_result(entry, came_to, is_shut, isnt_to_wait)
+    is_broken(sent)
+}
+
+/// Whether nothing more comes from a descriptor of which a look that doesn't wait came to this, and shows these events.
+#[unsafe(no_mangle)]
+pub extern "C" fn wulgach_is_shut(came: i32, events: u16) -> bool
+    ensures { result ≡ ready.is_shut came events }
+{
+    is_shut(came, events)
+}
+
+fn shutting_word(step: Shutting) -> u32
+    ensures { result ≡ word_of_shutting step }
+{
+    match step {
+        Shutting::Ends(_) => 0,
+        Shutting::AsksShut => 1,
+        Shutting::CallsAgain => 2,
+        Shutting::AsksWill => 3,
+    }
+}
+
+fn shutting_end(step: Shutting, old: i32) -> i32
+    ensures { result ≡ end_of_shutting step old }
+{
+    match step {
+        Shutting::Ends(res) => res,
+        _ => old,
+    }
+}
+
+/// What was done, by its word. `None`: the call itself.
+fn shutting(word: u32) -> Option<Shutting>
+    ensures { result ≡ shutting_of word }
+{
+    match word {
+        1 => Some(Shutting::AsksShut),
+        2 => Some(Shutting::CallsAgain),
+        3 => Some(Shutting::AsksWill),
+        _ => None,
+    }
+}
+
+/// Returns what is next after a call of this entry, where what was done last came to `res`, and writes what the call came to, if that is known.
+#[unsafe(no_mangle)]
+pub extern "C" fn wulgach_shutting_next(
+    entry: &Submission,
+    last: u32,
+    res: i32,
+    end: &mut i32,
+) -> u32
+    ensures next { result ≡ word_of_shutting (results.shutting_next entry.now (shutting_of last) res) }
+    ensures end { end.new ≡ end_of_shutting (results.shutting_next entry.now (shutting_of last) res) end.old }
+{
+    let step = shutting_next(entry, shutting(last), res);
+    *end = shutting_end(step, *end);
+    shutting_word(step)
 }
 
 /// Whether an operation has taken its provided buffer though it moved nothing.

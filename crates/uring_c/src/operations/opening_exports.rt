@@ -1,12 +1,12 @@
 //! How paths are opened, for C: functions of `c/wulgach_calls.h`.
 ghost use Rattle.std.specs.Prelude.{◌≡◌};
 ghost use Rattle.uring_operations.specs.Files.PipeOpens as opens;
-ghost use Rattle.uring_c.specs.OpeningForm.{word_of_opening};
+ghost use Rattle.uring_c.specs.OpeningForm.{word_of_opening, word_of_opening_step, opening_end, opening_step_of};
 ghost use Rattle.uring_c.specs.PinningForm.{known_of};
 
 use uring_operations::{
-    Opening, Standing, Submission, asks_writer, found_flags, has_writer, looking_flags,
-    looks_at_path, opening_of, opening_waits, opens_again, opens_by_path, standing_after_path,
+    OpenHow, Opening, OpeningStep, Standing, Submission, found_how, has_writer, looking_how,
+    looks_at_path, opening_next, opening_of, opens_again, polled_after_path, standing_after_path,
     unwilling_flags,
 };
 
@@ -18,28 +18,28 @@ pub extern "C" fn wulgach_looks_at_path(entry: &Submission, how: u64) -> bool
     looks_at_path(entry, how)
 }
 
-/// Returns with which flags it is looked up.
+/// Writes how it is looked up.
 #[unsafe(no_mangle)]
-pub extern "C" fn wulgach_looking_flags(entry: &Submission, how: u64) -> u64
-    ensures { result ≡ opens.looking_flags entry.now how }
+pub extern "C" fn wulgach_looking_how(entry: &Submission, how: &OpenHow, looking: &mut OpenHow)
+    ensures { looking.new ≡ opens.looking_how entry.now how.now }
 {
-    looking_flags(entry, how)
+    *looking = looking_how(entry, how);
 }
 
-/// Returns with which flags the pipe is opened that was found by that.
+/// Writes how the pipe is opened that was found by that.
 #[unsafe(no_mangle)]
-pub extern "C" fn wulgach_found_flags(entry: &Submission, how: u64) -> u64
-    ensures { result ≡ opens.found_flags entry.now how }
+pub extern "C" fn wulgach_found_how(entry: &Submission, how: &OpenHow, found: &mut OpenHow)
+    ensures { found.new ≡ opens.found_how entry.now how.now }
 {
-    found_flags(entry, how)
+    *found = found_how(entry, how);
 }
 
-/// Whether its path is opened in the place of that, whose opening came to this.
+/// Returns the descriptor that is polled for a request whose path was looked up, and names a pipe or doesn't, where this is its entry's.
 #[unsafe(no_mangle)]
-pub extern "C" fn wulgach_opens_by_path(res: i32) -> bool
-    ensures { result ≡ opens.opens_by_path res }
+pub extern "C" fn wulgach_polled_after_path(fd: i32, names_pipe: bool) -> i32
+    ensures { result ≡ opens.polled_after_path fd names_pipe }
 {
-    opens_by_path(res)
+    polled_after_path(fd, names_pipe)
 }
 
 /// Returns with which flags a path is opened that is asked not to wait, whose open has these.
@@ -78,14 +78,6 @@ pub extern "C" fn wulgach_opens_again(res: i32) -> bool
     opens_again(res)
 }
 
-/// Whether it is asked if someone has the named pipe open to write that an entry opens, whose open came to this.
-#[unsafe(no_mangle)]
-pub extern "C" fn wulgach_asks_writer(entry: &Submission, how: u64, res: i32) -> bool
-    ensures { result ≡ opens.asks_writer entry.now how res }
-{
-    asks_writer(entry, how, res)
-}
-
 /// Whether someone has a pipe open to write that was opened to read, or has had since.
 #[unsafe(no_mangle)]
 pub extern "C" fn wulgach_has_writer(shows: bool, knows: bool, teed: i32) -> bool
@@ -95,15 +87,54 @@ pub extern "C" fn wulgach_has_writer(shows: bool, knows: bool, teed: i32) -> boo
     has_writer(shows, teed)
 }
 
-/// Whether the open of a named pipe waits that came to this without waiting.
+fn step_word(step: OpeningStep) -> u32
+    ensures { result ≡ word_of_opening_step step }
+{
+    match step {
+        OpeningStep::Ends(_) => 0,
+        OpeningStep::Waits => 1,
+        OpeningStep::ByPath => 2,
+        OpeningStep::ByLink => 3,
+        OpeningStep::AsksWriter => 4,
+    }
+}
+
+fn step_end(step: OpeningStep, old: i32) -> i32
+    ensures { result ≡ opening_end step old }
+{
+    match step {
+        OpeningStep::Ends(res) => res,
+        _ => old,
+    }
+}
+
+/// The step of a word. `None`: nothing was done.
+fn opening_step(word: u32) -> Option<OpeningStep>
+    ensures { result ≡ opening_step_of word }
+{
+    match word {
+        1 => Some(OpeningStep::Waits),
+        2 => Some(OpeningStep::ByPath),
+        3 => Some(OpeningStep::ByLink),
+        4 => Some(OpeningStep::AsksWriter),
+        _ => None,
+    }
+}
+
+/// Returns what is next of the open of a named pipe that was found, after what was done last, which came to `res`, and writes what it ends with, if it ends.
 #[unsafe(no_mangle)]
-pub extern "C" fn wulgach_opening_waits(
+pub extern "C" fn wulgach_opening_next(
     entry: &Submission,
     how: u64,
+    opened: i32,
+    last: u32,
     res: i32,
-    has_writer: bool,
-) -> bool
-    ensures { result ≡ opens.opening_waits entry.now how res has_writer }
+    end: &mut i32,
+) -> u32
+    ensures next { result ≡ word_of_opening_step (opens.opening_next entry.now how opened (opening_step_of last) res) }
+    ensures end { end.new ≡ opening_end (opens.opening_next entry.now how opened (opening_step_of last) res) end.old }
 {
-    opening_waits(entry, how, res, has_writer)
+    let step = opening_next(entry, how, opened, opening_step(last), res);
+    *end = step_end(step, *end);
+    step_word(step)
 }

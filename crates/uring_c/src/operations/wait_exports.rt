@@ -15,9 +15,9 @@ use uring_crossing::wait_words::{
 };
 use uring_operations::{
     Call, Known, Nature, Needs, Patience, PollStart, Submission, Transfer, Trial, asks_instance,
-    asks_listening, buffer_fault, counts_as_ready, instance_events, is_impatient, is_tried_first,
-    needs_as, needs_of, next_finding, next_step, next_turn, no_buffer_fault, poll_result,
-    poll_start, polling_fault, present_of, start_fault,
+    asks_listening, buffer_fault, counts_as_begun, counts_as_ready, instance_events,
+    is_call_repeated, is_impatient, is_tried_first, needs_as, needs_of, next_finding, next_step,
+    next_turn, no_buffer_fault, poll_result, poll_start, polling_fault, present_of, start_fault,
 };
 
 /// Writes what the operation of an entry needs.
@@ -107,6 +107,22 @@ pub extern "C" fn wulgach_call_next(
     let turn = next_turn(entry, call, doing(last), res);
     *end = turn_end(turn, *end);
     turn_word(turn)
+}
+
+/// Whether an operation counts as begun that has moved so many bytes.
+#[unsafe(no_mangle)]
+pub extern "C" fn wulgach_counts_as_begun(done: u64) -> bool
+    ensures { result ≡ called.counts_as_begun done }
+{
+    counts_as_begun(done)
+}
+
+/// Whether the call of an operation counts as made once more, where it did before or didn't, this was done last, and that is next.
+#[unsafe(no_mangle)]
+pub extern "C" fn wulgach_is_call_repeated(was_repeated: bool, last: u32, next: u32) -> bool
+    ensures { result ≡ called.is_call_repeated was_repeated (doing_of last) (doing_of next) }
+{
+    is_call_repeated(was_repeated, doing(last), doing(next))
 }
 
 /// Which events a poll finds there, where poll(2) or epoll_wait(2) came to this and shows these.

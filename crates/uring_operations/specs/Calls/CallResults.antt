@@ -1,7 +1,9 @@
 -- What a request makes of the result of a system call, where that is more than the result.
-use Rattle.std.specs.Prelude.{ℕ, ℤ, pos, ◌+◌, ◌-◌, ◌^◌, ◌%◌, min, Bool, not, ◌&&◌, ◌||◌, ◌==◌, if◌then◌else◌}
+use Rattle.std.specs.Prelude.{◌≡◌, ℕ, ℤ, pos, ◌+◌, ◌-◌, ◌^◌, ◌%◌, min, Bool, true, false, not, ◌&&◌, ◌||◌, ◌==◌, Option, Some, None, if◌then◌else◌}
 use Rattle.std.specs.Ordering.{int_eq}
 use Rattle.uring_operations.specs.declared.entries.submission.Submission.{Submission}
+use Rattle.uring_operations.specs.declared.calls.call_results.Shutting.{Shutting}
+use Rattle.uring_operations.specs.declared.calls.call_results.Shutting.TheVariants.{Ends, AsksShut, CallsAgain, AsksWill}
 use Rattle.uring_entry.specs.Errors.{error, is_below}
 use Rattle.uring_operations.specs.Entries.NoOps.{signed}
 use Rattle.uring_operations.specs.Entries.Clocks.{has_some}
@@ -31,6 +33,19 @@ asks_shut e came_to =
 abbrev pub shut_result : Submission → ℤ → (is_shut isnt_to_wait : Bool) → ℤ
 shut_result e came_to is_shut isnt_to_wait =
     if int_eq came_to (error 11) && is_shut && (not isnt_to_wait || e.opcode == 27) then pos 0 else came_to
+
+-- a datagram may have come just before it was shut down, or while that is asked: so the call is made once more, and what that comes to counts. What is next, after what was done last, which came to `res`, a question to a number that is 0 for no; None: after the call itself, which has come to -11 (EAGAIN) wherever the socket is asked
+abbrev pub shutting_next : Submission → Option Shutting → ℤ → Shutting
+shutting_next e None res = if asks_shut e res then AsksShut else Ends res
+shutting_next e (Some AsksShut) res = if int_eq res (pos 0) then Ends (error 11) else CallsAgain
+shutting_next e (Some CallsAgain) res = if int_eq res (error 11) then AsksWill else Ends res
+shutting_next e (Some AsksWill) res = Ends (shut_result e (error 11) true (not (int_eq res (pos 0))))
+shutting_next e (Some (Ends end)) res = Ends end
+
+-- so what the call comes to that is made once more is what came of it, unless it found nothing again
+abbrev pub ShuttingLosesNothing : Type 0
+ShuttingLosesNothing = (e : Submission) (res : ℤ) → int_eq res (error 11) ≡ false
+    → shutting_next e (Some CallsAgain) res ≡ Ends res
 
 -- whether an operation has taken its provided buffer though it moved nothing: a transfer has, at the end of its file, but not a READ_MULTISHOT, which ends there. What Linux 6.18 was seen to do
 abbrev pub takes_for_nothing : ℕ → Bool

@@ -89,6 +89,18 @@ abbrev pub next_of : Submission → Call → Option Doing → ℤ → Turn
 next_of e c None res = begins e c
 next_of e c (Some doing) res = after e c doing res
 
+-- a connect counts as begun once 1 is noted of it as what it has moved (`has_begun`); the bytes of others don't matter for that
+abbrev pub counts_as_begun : (done : ℕ) → Bool
+counts_as_begun done = not (done == 0)
+
+abbrev pub is_call : Option Doing → Bool
+is_call (Some Calls) = true
+is_call _ = false
+
+-- a call counts as made once more if one comes right after another, and does so ever after
+abbrev pub is_call_repeated : (was_repeated : Bool) → (last next : Option Doing) → Bool
+is_call_repeated was_repeated last next = was_repeated || is_call last && is_call next
+
 -- a descriptor was found ready
 abbrev pub was_ready : Option Doing → ℤ → Bool
 was_ready (Some Polls) res = not (int_eq res (pos 0))

@@ -1,9 +1,12 @@
 -- How a path is opened, so that nobody sleeps until the other end of a named pipe is open. fifo(7); open(2), O_NONBLOCK; but where our own rule is named.
-use Rattle.std.specs.Prelude.{◌≡◌, ℕ, ℤ, pos, ◌-◌, ◌^◌, Option, Some, None, Bool, true, false, not, ◌&&◌, ◌||◌, ◌==◌, nat_lt, if◌then◌else◌}
+use Rattle.std.specs.Prelude.{◌≡◌, ℕ, ℤ, pos, negsuc, ◌-◌, ◌^◌, Option, Some, None, Bool, true, false, not, ◌&&◌, ◌||◌, ◌==◌, nat_lt, if◌then◌else◌}
 use Rattle.std.specs.Ordering.{int_eq}
 use Rattle.std.specs.Int.RustNames.{bit_and, bit_or}
 use Rattle.uring_operations.specs.declared.files.pipe_open.Opening.{Opening}
 use Rattle.uring_operations.specs.declared.files.pipe_open.Opening.TheVariants.{Plain, AtOnce, Pipe}
+use Rattle.uring_operations.specs.declared.files.pipe_open.OpenHow.{OpenHow}
+use Rattle.uring_operations.specs.declared.files.pipe_open.OpeningStep.{OpeningStep}
+use Rattle.uring_operations.specs.declared.files.pipe_open.OpeningStep.TheVariants.{Ends, Waits, ByPath, ByLink, AsksWriter}
 use Rattle.uring_operations.specs.declared.requests.ready.Standing.{Standing}
 use Rattle.uring_operations.specs.declared.entries.submission.Submission.{Submission}
 use Rattle.uring_operations.specs.Entries.Clocks.{has_some}
@@ -35,17 +38,25 @@ looks_at_path e how =
 abbrev pub looking_flags : Submission → (how : ℕ) → ℕ
 looking_flags e how = bit_or 2621440 (bit_and (flags_of e how) 131072)
 
--- what was found is opened through its link in /proc, which is to be followed: with the flags of its open but O_NOFOLLOW, and not to wait (O_NONBLOCK, 2048). proc_pid_fd(5)
-abbrev pub found_flags : Submission → (how : ℕ) → ℕ
-found_flags e how = bit_or (bit_and (flags_of e how) (2 ^ 64 - 1 - 131072)) 2048
+-- and resolved as its open resolves it, so that what it finds is what that opens. openat2(2), `resolve`
+abbrev pub looking_how : Submission → OpenHow → OpenHow
+looking_how e how = record { flags = looking_flags e how.flags; mode = 0; resolve = how.resolve }
 
--- after -2 (ENOENT) there is no /proc, since what was found is there as long as its descriptor: then its path is opened, which may name another by now. Our own rule
-abbrev pub opens_by_path : ℤ → Bool
-opens_by_path res = int_eq res (error 2)
+-- what was found is opened through its link in /proc, which is to be followed: with the flags of its open but O_NOFOLLOW, and not to wait (O_NONBLOCK, 2048). proc_pid_fd(5). And without O_DIRECT (16384), since a kernel refuses that of a pipe which is open by then: so whoever waits for this end finds it open. open(2)
+abbrev pub found_flags : Submission → (how : ℕ) → ℕ
+found_flags e how = bit_or (bit_and (flags_of e how) (2 ^ 64 - 1 - 147456)) 2048
+
+-- and with its mode, which is nothing's but has to be one. How a path is to be resolved isn't meant for the link
+abbrev pub found_how : Submission → OpenHow → OpenHow
+found_how e how = record { flags = found_flags e how.flags; mode = how.mode; resolve = 0 }
 
 -- and one that names a pipe counts as a request that may have to wait for its descriptor, though it has none: so it runs, and is carried out again, until the other end is open. Our own rule
 abbrev pub standing_after_path : Standing → (names_pipe : Bool) → Standing
 standing_after_path s names_pipe = record s { is_stream = s.is_stream || names_pipe }
+
+-- none is polled for it: what its path begins at tells nothing of the pipe's other end, nor does any other descriptor
+abbrev pub polled_after_path : ℤ → (names_pipe : Bool) → ℤ
+polled_after_path fd names_pipe = if names_pipe then error 1 else fd
 
 -- how the call is made: of the pipe that was found, without waiting; of another path that is asked not to wait, at once; and any other as it stands
 abbrev pub opening_of : Submission → (how : ℕ) → (names_pipe : Bool) → Opening
@@ -61,21 +72,66 @@ opens_again res = int_eq res (error 11)
 abbrev pub is_to_write : Submission → (how : ℕ) → Bool
 is_to_write e how = bit_and (flags_of e how) 3 == 1
 
--- an open that is to wait is asked not to as well. To write it finds nobody who reads (-6, ENXIO), and waits then; to read it is open at once, so that who writes can open it, and waits until someone has, or has had, it open to write
-abbrev pub opening_waits : Submission → (how : ℕ) → ℤ → (has_writer : Bool) → Bool
-opening_waits e how res has_writer =
-    if is_to_write e how then int_eq res (error 6) else not (is_below res) && not has_writer
-
 -- someone has it open to write, or has had since it was opened to read, if poll(2) shows something, which are bytes or that the last has closed it; or if a tee(2) that isn't to wait, of a byte of it, came to something else than its end, 0. None: nothing could be teed into, and nobody is known to have
 abbrev pub has_writer : (shows : Bool) → Option ℤ → Bool
 has_writer shows None = shows
 has_writer shows (Some teed) = shows || not (int_eq teed (pos 0))
 
--- so whether someone has is asked of what was opened to read
-abbrev pub asks_writer : Submission → (how : ℕ) → ℤ → Bool
-asks_writer e how res = not (is_to_write e how) && not (is_below res)
+-- whether it asks to pass by the cache (O_DIRECT, 16384), which no named pipe can: a kernel says so (-22, EINVAL) once it has opened it, and so waits for the other end before. open(2); what Linux 6.18 was seen to do
+abbrev pub is_direct : Submission → (how : ℕ) → Bool
+is_direct e how = has_some (flags_of e how) 16384
 
--- where it isn't asked it doesn't matter
-abbrev pub AsksWhereItMatters : Type 0
-AsksWhereItMatters = (e : Submission) (how : ℕ) (res : ℤ) → asks_writer e how res ≡ false
-    → opening_waits e how res true ≡ opening_waits e how res false
+-- what the open of a pipe ends with that has this descriptor
+abbrev pub opened_result : Submission → (how : ℕ) → ℤ → ℤ
+opened_result e how fd = if is_direct e how then error 22 else fd
+
+-- an open that is to wait is asked not to as well. To write it finds nobody who reads (-6, ENXIO), and waits then. fifo(7)
+abbrev pub after_writing : (res end : ℤ) → OpeningStep
+after_writing (negsuc below) end = if int_eq (negsuc below) (error 6) then Waits else Ends (negsuc below)
+after_writing (pos n) end = Ends end
+
+-- to read it is open at once, so that who writes can open it, and waits until someone has, or has had, it open to write
+abbrev pub after_reading : ℤ → OpeningStep
+after_reading (negsuc below) = Ends (negsuc below)
+after_reading (pos n) = AsksWriter
+
+-- the first open is by its path, so that whatever the kernel refuses of that is refused: rights, a folder's protection of pipes, a way to resolve it. What asks for O_DIRECT is refused for that after all else, and so may wait: it is opened without, to read, and whoever writes finds it so
+abbrev pub after_path : Submission → (how : ℕ) → ℤ → OpeningStep
+after_path e how res =
+    if is_to_write e how then after_writing res res else
+    if not (is_direct e how) then after_reading res else
+    if int_eq res (error 22) then ByLink else Ends res
+
+-- after -2 (ENOENT) there is no /proc, since what was found is there as long as its descriptor: then its path is opened, which may name another by now, or what was refused is. Our own rule
+abbrev pub after_link : Submission → (how : ℕ) → ℤ → OpeningStep
+after_link e how res =
+    if is_to_write e how then
+    (if int_eq res (error 2) then ByPath else after_writing res (opened_result e how res)) else
+    if int_eq res (error 2) then Ends (error 22) else after_reading res
+
+-- one that has waited is open already, to read, and waits for who writes; or it is opened once more, where its path may name nothing by then
+abbrev pub after_waiting : (opened : ℤ) → OpeningStep
+after_waiting opened = if is_below opened then ByLink else AsksWriter
+
+abbrev pub after_asking : Submission → (how : ℕ) → (opened : ℤ) → (has_writer : Bool) → OpeningStep
+after_asking e how opened has_writer = if has_writer then Ends (opened_result e how opened) else Waits
+
+-- what is next, after what was done last, which came to `res`: a question to a number that is 0 for no
+abbrev pub opening_next : Submission → (how : ℕ) → (opened : ℤ) → Option OpeningStep → ℤ → OpeningStep
+opening_next e how opened None res = ByPath
+opening_next e how opened (Some ByPath) res = after_path e how res
+opening_next e how opened (Some ByLink) res = after_link e how res
+opening_next e how opened (Some AsksWriter) res = after_asking e how opened (not (int_eq res (pos 0)))
+opening_next e how opened (Some Waits) res = after_waiting opened
+opening_next e how opened (Some (Ends end)) res = Ends end
+
+-- what the open of a path is refused with ends it, but for what waits: that nobody reads, and that a pipe has no O_DIRECT
+abbrev pub EndsWithItsFault : Type 0
+EndsWithItsFault = (e : Submission) (how : ℕ) (opened res : ℤ) → is_below res ≡ true
+    → int_eq res (error 6) ≡ false → int_eq res (error 22) ≡ false
+    → opening_next e how opened (Some ByPath) res ≡ Ends res
+
+-- what is opened to read by its path has no end but an error: who writes is asked for before
+abbrev pub WaitsForItsWriter : Type 0
+WaitsForItsWriter = (e : Submission) (how : ℕ) (opened res end : ℤ) → is_to_write e how ≡ false
+    → is_direct e how ≡ false → opening_next e how opened (Some ByPath) res ≡ Ends end → is_below end ≡ true

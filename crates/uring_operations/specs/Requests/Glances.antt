@@ -14,6 +14,10 @@ glance_of is_impatient is_of_many came events =
     if is_of_many && is_below came then AsksAlone else
     if counts_as_ready came events then Ready else Unready
 
+-- one whose descriptor has shown nothing is found so again once its socket was asked whether it listens, though it isn't looked at once more: ready if it has become impatient by that. Our own rule
+abbrev pub unshown_glance : (is_impatient : Bool) → Glance
+unshown_glance is_impatient = if is_impatient then Ready else Unready
+
 -- a socket of AF_UNIX (1) and SOCK_STREAM (1) that was shut down for writing alone, or whose peer was for reading, shows nothing in poll(2), and what writes to it ends with -32 (EPIPE): so a write or a send that waits for room is ready there. That is asked by a send of no bytes, which such a socket makes nothing of else. unix(7), shutdown(2); what Linux 6.18 was seen to do
 abbrev pub asks_broken : Submission → (family kind : ℕ) → Bool
 asks_broken e family kind = family == 1 && kind == 1 && (is_write e.opcode || is_send e.opcode)

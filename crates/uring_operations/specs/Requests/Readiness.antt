@@ -1,5 +1,5 @@
 -- When a request that runs can be finished without waiting. io_uring_enter(2), at each operation; but where our own rule is named.
-use Rattle.std.specs.Prelude.{◌≡◌, ℕ, ℤ, pos, Bool, true, false, not, ◌&&◌, ◌||◌, ◌==◌, nat_lt, if◌then◌else◌}
+use Rattle.std.specs.Prelude.{◌≡◌, ℕ, ℤ, pos, negsuc, Bool, true, false, not, ◌&&◌, ◌||◌, ◌==◌, nat_lt, if◌then◌else◌}
 use Rattle.std.specs.Ordering.{int_eq}
 use Rattle.uring_operations.specs.declared.entries.submission.Submission.{Submission}
 use Rattle.uring_operations.specs.declared.entries.needs.Needs.{Needs}
@@ -11,7 +11,10 @@ use Rattle.uring_operations.specs.declared.requests.ready.Wanted.{Wanted}
 use Rattle.uring_operations.specs.declared.requests.ready.Wanted.TheVariants.{Count, Posting, Buffer, Readiness}
 use Rattle.uring_operations.specs.declared.requests.ready.Look.{Look}
 use Rattle.uring_operations.specs.declared.requests.ready.Look.TheVariants.{Asks, Waits, Finishes}
-use Rattle.uring_entry.specs.Errors.{is_below}
+use Rattle.uring_operations.specs.declared.calls.system_call.SystemCall.{SystemCall}
+use Rattle.uring_operations.specs.Calls.SystemCalls.{of_four, word_of}
+use Rattle.uring_operations.specs.Calls.SystemCalls as sys
+use Rattle.uring_entry.specs.Errors.{error, is_below}
 use Rattle.uring_operations.specs.Entries.Clocks.{has_some}
 use Rattle.uring_operations.specs.Entries.Needs.{is_transfer, is_read, is_write, is_send, is_receive, is_of_sockets, is_splice, takes_urgent}
 
@@ -31,6 +34,18 @@ can_finish s n has_to_wait is_cancelled m =
 -- whether a descriptor counts as ready, by what a poll(2) that doesn't wait came to and the events that it shows: if there is one; and if it failed, so that the descriptor's own call tells of that, or would wait. poll(2); that is our own rule
 abbrev pub counts_as_ready : ℤ → ℕ → Bool
 counts_as_ready came events = is_below came || not (events == 0)
+
+-- a socket is asked whether it was shut down for writing by a send (sendto(2)) of no bytes, which isn't to wait (MSG_DONTWAIT, 64), nor gives a signal (MSG_NOSIGNAL, 16384); which tells that by -32 (EPIPE). send(2)
+abbrev pub breaking_call : ℤ → SystemCall
+breaking_call fd = of_four sys.sendto (word_of fd) 0 0 16448
+
+abbrev pub is_broken : ℤ → Bool
+is_broken sent = int_eq sent (error 32)
+
+-- nothing more comes from a descriptor that shows POLLRDHUP (8192): its socket was shut down for reading, or its peer for writing. poll(2); of datagrams what Linux 6.18 was seen to do
+abbrev pub is_shut : ℤ → ℕ → Bool
+is_shut (negsuc below) events = false
+is_shut (pos n) events = not (n == 0) && has_some events 8192
 
 -- whether a call that sleeps polls the descriptor of a request that runs: it may have to wait for that
 abbrev pub polls : Standing → Bool

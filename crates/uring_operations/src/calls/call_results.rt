@@ -2,6 +2,7 @@
 
 ghost use Rattle.std.specs.Prelude.{◌≡◌};
 ghost use Rattle.uring_operations.specs.Calls.CallResults as spec;
+ghost use Rattle.uring_operations.specs.Calls.CallResults.{ShuttingLosesNothing};
 
 use crate::calls::advance::moved_by;
 use crate::calls::waiting_call::is_asked;
@@ -31,7 +32,7 @@ pub fn told_result(came_to: i32, is_told: bool) -> i32
 }
 
 /// Whether it matters after a call of this entry that came to this whether its socket was shut down for reading.
-pub fn asks_shut(entry: &Submission, came_to: i32) -> bool
+fn asks_shut(entry: &Submission, came_to: i32) -> bool
     ensures { result ≡ spec.asks_shut entry.now came_to }
 {
     if came_to != -11 || goes_on(entry) {
@@ -43,12 +44,64 @@ pub fn asks_shut(entry: &Submission, came_to: i32) -> bool
 }
 
 /// What a call of this entry counts as that came to this, where its socket was shut down for reading or wasn't, and its descriptor isn't to wait or is.
-pub fn shut_result(entry: &Submission, came_to: i32, is_shut: bool, isnt_to_wait: bool) -> i32
+fn shut_result(entry: &Submission, came_to: i32, is_shut: bool, isnt_to_wait: bool) -> i32
     ensures { result ≡ spec.shut_result entry.now came_to is_shut isnt_to_wait }
 {
     let is_end = is_shut && (!isnt_to_wait || entry.opcode == 27);
     if came_to == -11 && is_end { 0 } else { came_to }
 }
+
+/// What is done after a call whose socket may have been shut down for reading.
+#[derive(Clone, Copy, Drop)]
+pub enum Shutting {
+    /// It came to this.
+    Ends(i32),
+
+    /// Its socket is asked whether it was: 0 if it wasn't.
+    AsksShut,
+
+    /// It was: the call is made once more.
+    CallsAgain,
+
+    /// Its descriptor is asked whether it isn't to wait: 0 if it is.
+    AsksWill,
+}
+
+/// What is next after a call of this entry, where the last thing that was done is this, and came to `res`. `None`: the call.
+pub fn shutting_next(entry: &Submission, last: Option<Shutting>, res: i32) -> Shutting
+    ensures { result ≡ spec.shutting_next entry.now last res }
+{
+    match last {
+        None => {
+            if asks_shut(entry, res) {
+                Shutting::AsksShut
+            } else {
+                Shutting::Ends(res)
+            }
+        }
+        Some(Shutting::AsksShut) => {
+            if res != 0 {
+                Shutting::CallsAgain
+            } else {
+                Shutting::Ends(-11)
+            }
+        }
+        Some(Shutting::CallsAgain) => {
+            if res == -11 {
+                Shutting::AsksWill
+            } else {
+                Shutting::Ends(res)
+            }
+        }
+        Some(Shutting::AsksWill) => Shutting::Ends(shut_result(entry, -11, true, res != 0)),
+        Some(Shutting::Ends(end)) => Shutting::Ends(end),
+    }
+}
+
+/// A datagram that came while a socket was asked is received.
+pub fn shutting_loses_nothing()
+    ensures { ShuttingLosesNothing }
+{}
 
 /// Whether an operation has taken its provided buffer though it moved nothing: a transfer at the end of its file, but for one that goes on.
 pub fn takes_for_nothing(code: u8) -> bool

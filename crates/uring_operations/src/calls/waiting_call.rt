@@ -95,6 +95,29 @@ pub fn next_turn(entry: &Submission, call: &Call, last: Option<Doing>, res: i32)
     }
 }
 
+/// Whether an operation counts as begun that has moved so many bytes: a connect is told 1 as it begins.
+pub fn counts_as_begun(done: u64) -> bool
+    ensures { result ≡ spec.counts_as_begun done }
+{
+    done != 0
+}
+
+/// Whether the call of an operation counts as made once more, where it did before or didn't: it is next, and was what was done last.
+pub fn is_call_repeated(was_repeated: bool, last: Option<Doing>, next: Option<Doing>) -> bool
+    ensures { result ≡ spec.is_call_repeated was_repeated last next }
+{
+    was_repeated || is_call(last) && is_call(next)
+}
+
+fn is_call(what: Option<Doing>) -> bool
+    ensures { result ≡ spec.is_call what }
+{
+    match what {
+        Some(Doing::Calls) => true,
+        _ => false,
+    }
+}
+
 fn begins(entry: &Submission, call: &Call) -> Turn
     ensures { result ≡ spec.begins entry.now call.now }
 {

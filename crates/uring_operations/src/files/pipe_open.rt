@@ -2,7 +2,7 @@
 
 ghost use Rattle.std.specs.Prelude.{◌≡◌};
 ghost use Rattle.uring_operations.specs.Files.PipeOpens as spec;
-ghost use Rattle.uring_operations.specs.Files.PipeOpens.{AsksWhereItMatters};
+ghost use Rattle.uring_operations.specs.Files.PipeOpens.{EndsWithItsFault, WaitsForItsWriter};
 
 use crate::entries::submission::Submission;
 use crate::requests::ready::Standing;
@@ -18,6 +18,34 @@ pub enum Opening {
 
     /// The pipe that was found is opened so, and its other end is waited for.
     Pipe,
+}
+
+/// How a path is opened: the fields of a `struct open_how`. openat2(2).
+#[repr(C)]
+#[derive(Clone, Copy, Drop)]
+pub struct OpenHow {
+    pub flags: u64,
+    pub mode: u64,
+    pub resolve: u64,
+}
+
+/// What is done for the open of a named pipe that was found.
+#[derive(Clone, Copy, Drop)]
+pub enum OpeningStep {
+    /// It ends with this: a descriptor, or the negative of an error number.
+    Ends(i32),
+
+    /// It waits for its other end.
+    Waits,
+
+    /// Its path is opened, and not to wait.
+    ByPath,
+
+    /// What was found is opened so, through its link in /proc.
+    ByLink,
+
+    /// It is asked whether someone has it open to write, or has had: 0 if nobody has.
+    AsksWriter,
 }
 
 /// The flags of an entry's open, whose `struct open_how` has these, if it has one. openat2(2).
@@ -54,17 +82,39 @@ fn goes_to_worker(entry: &Submission, flags: u64) -> bool
 }
 
 /// With which flags the path of an entry is looked up: for itself alone, and followed as its open follows it. open(2), O_PATH and O_NOFOLLOW.
-pub fn looking_flags(entry: &Submission, how: u64) -> u64
+fn looking_flags(entry: &Submission, how: u64) -> u64
     ensures { result ≡ spec.looking_flags entry.now how }
 {
     0x28_0000 | flags_of(entry, how) & 0x2_0000
 }
 
-/// With which flags the pipe is opened that was found by that, through a link of that name in /proc: as its open says, and not to wait.
-pub fn found_flags(entry: &Submission, how: u64) -> u64
+/// With which flags the pipe is opened that was found by that, through a link of that name in /proc: as its open says, and not to wait; but by the cache (O_DIRECT), and followed.
+fn found_flags(entry: &Submission, how: u64) -> u64
     ensures { result ≡ spec.found_flags entry.now how }
 {
-    flags_of(entry, how) & !0x2_0000 | 0x800
+    flags_of(entry, how) & !0x2_4000 | 0x800
+}
+
+/// How the path of an entry is looked up whose `struct open_how` is this, if it has one: resolved as its open resolves it.
+pub fn looking_how(entry: &Submission, how: &OpenHow) -> OpenHow
+    ensures { result ≡ spec.looking_how entry.now how.now }
+{
+    OpenHow {
+        flags: looking_flags(entry, how.flags),
+        mode: 0,
+        resolve: how.resolve,
+    }
+}
+
+/// How the pipe is opened that was found by that, through its link in /proc, which no way to resolve a path is meant for.
+pub fn found_how(entry: &Submission, how: &OpenHow) -> OpenHow
+    ensures { result ≡ spec.found_how entry.now how.now }
+{
+    OpenHow {
+        flags: found_flags(entry, how.flags),
+        mode: how.mode,
+        resolve: 0,
+    }
 }
 
 /// With which flags a path is opened that is asked not to wait, whose open has these.
@@ -74,11 +124,11 @@ pub fn unwilling_flags(flags: u64) -> u64
     flags | 0x800
 }
 
-/// Whether the path is opened in the place of the pipe that was found by it, whose opening through its link came to this: there is no /proc.
-pub fn opens_by_path(res: i32) -> bool
-    ensures { result ≡ spec.opens_by_path res }
+/// The descriptor that is polled for a request whose path was looked up, and names a pipe or doesn't, where this is its entry's: none of a pipe, since nothing tells that its other end is open. Our own rule.
+pub fn polled_after_path(fd: i32, names_pipe: bool) -> i32
+    ensures { result ≡ spec.polled_after_path fd names_pipe }
 {
-    res == -2
+    if names_pipe { -1 } else { fd }
 }
 
 /// How a request stands whose path was looked up as it starts, and names a pipe or doesn't. Our own rule.
@@ -111,13 +161,6 @@ pub fn opens_again(res: i32) -> bool
     res == -11
 }
 
-/// Whether it is asked, of the named pipe that an entry opens, if someone has it open to write, or has had, where its open came to this without waiting.
-pub fn asks_writer(entry: &Submission, how: u64, res: i32) -> bool
-    ensures { result ≡ spec.asks_writer entry.now how res }
-{
-    flags_of(entry, how) & 3 != 1 && res >= 0
-}
-
 /// Whether someone has a pipe open to write that was opened to read, or has had since: poll(2) shows something of it or nothing, and a tee(2) of it came to this. `None`: none could be made. tee(2), RETURN VALUE.
 pub fn has_writer(shows: bool, teed: Option<i32>) -> bool
     ensures { result ≡ spec.has_writer shows teed }
@@ -128,18 +171,122 @@ pub fn has_writer(shows: bool, teed: Option<i32>) -> bool
     }
 }
 
-/// Whether the open of a named pipe waits that came to this without waiting; `has_writer`: its other end was found open, or to have been.
-pub fn opening_waits(entry: &Submission, how: u64, res: i32, has_writer: bool) -> bool
-    ensures { result ≡ spec.opening_waits entry.now how res has_writer }
+/// Whether an open is to write alone.
+fn is_to_write(entry: &Submission, how: u64) -> bool
+    ensures { result ≡ spec.is_to_write entry.now how }
 {
-    if flags_of(entry, how) & 3 == 1 {
-        res == -6
+    flags_of(entry, how) & 3 == 1
+}
+
+/// Whether an open asks to pass by the cache.
+fn is_direct(entry: &Submission, how: u64) -> bool
+    ensures { result ≡ spec.is_direct entry.now how }
+{
+    flags_of(entry, how) & 0x4000 != 0
+}
+
+/// What the open of a pipe ends with that has this descriptor.
+fn opened_result(entry: &Submission, how: u64, fd: i32) -> i32
+    ensures { result ≡ spec.opened_result entry.now how fd }
+{
+    if is_direct(entry, how) { -22 } else { fd }
+}
+
+/// What comes after a pipe was opened to write, which came to this; `end`: with what it ends if it has a descriptor.
+fn after_writing(res: i32, end: i32) -> OpeningStep
+    ensures { result ≡ spec.after_writing res end }
+{
+    if res == -6 {
+        OpeningStep::Waits
+    } else if res < 0 {
+        OpeningStep::Ends(res)
     } else {
-        res >= 0 && !has_writer
+        OpeningStep::Ends(end)
     }
 }
 
-/// Whether someone has the pipe open to write is asked only where that matters.
-pub fn asks_writer_where_it_matters()
-    ensures { AsksWhereItMatters }
+/// What comes after it was opened to read.
+fn after_reading(res: i32) -> OpeningStep
+    ensures { result ≡ spec.after_reading res }
+{
+    if res < 0 {
+        OpeningStep::Ends(res)
+    } else {
+        OpeningStep::AsksWriter
+    }
+}
+
+fn after_path(entry: &Submission, how: u64, res: i32) -> OpeningStep
+    ensures { result ≡ spec.after_path entry.now how res }
+{
+    if is_to_write(entry, how) {
+        after_writing(res, res)
+    } else if !is_direct(entry, how) {
+        after_reading(res)
+    } else if res == -22 {
+        OpeningStep::ByLink
+    } else {
+        OpeningStep::Ends(res)
+    }
+}
+
+fn after_link(entry: &Submission, how: u64, res: i32) -> OpeningStep
+    ensures { result ≡ spec.after_link entry.now how res }
+{
+    match (is_to_write(entry, how), res == -2) {
+        (true, true) => OpeningStep::ByPath,
+        (true, false) => after_writing(res, opened_result(entry, how, res)),
+        (false, true) => OpeningStep::Ends(-22),
+        (false, false) => after_reading(res),
+    }
+}
+
+fn after_waiting(opened: i32) -> OpeningStep
+    ensures { result ≡ spec.after_waiting opened }
+{
+    if opened < 0 {
+        OpeningStep::ByLink
+    } else {
+        OpeningStep::AsksWriter
+    }
+}
+
+fn after_asking(entry: &Submission, how: u64, opened: i32, has_writer: bool) -> OpeningStep
+    ensures { result ≡ spec.after_asking entry.now how opened has_writer }
+{
+    if has_writer {
+        OpeningStep::Ends(opened_result(entry, how, opened))
+    } else {
+        OpeningStep::Waits
+    }
+}
+
+/// What is next of the open of a named pipe that was found, after what was done last, which came to `res`. `None`: nothing was done. `how`: the flags of its `struct open_how`, if it has one; `opened`: the descriptor by which it is open, or negative.
+pub fn opening_next(
+    entry: &Submission,
+    how: u64,
+    opened: i32,
+    last: Option<OpeningStep>,
+    res: i32,
+) -> OpeningStep
+    ensures { result ≡ spec.opening_next entry.now how opened last res }
+{
+    match last {
+        None => OpeningStep::ByPath,
+        Some(OpeningStep::ByPath) => after_path(entry, how, res),
+        Some(OpeningStep::ByLink) => after_link(entry, how, res),
+        Some(OpeningStep::AsksWriter) => after_asking(entry, how, opened, res != 0),
+        Some(OpeningStep::Waits) => after_waiting(opened),
+        Some(OpeningStep::Ends(end)) => OpeningStep::Ends(end),
+    }
+}
+
+/// What a path's own open is refused with ends it.
+pub fn ends_with_its_fault()
+    ensures { EndsWithItsFault }
+{}
+
+/// What is opened to read by its path doesn't end so: who writes is asked for before.
+pub fn waits_for_its_writer()
+    ensures { WaitsForItsWriter }
 {}

@@ -34,6 +34,16 @@ pub fn glance_of(is_impatient: bool, is_of_many: bool, came: i32, events: u16) -
     }
 }
 
+/// What is found of a request whose descriptor has shown nothing, once more is known of it than was when it was looked at: it is looked at no more. Our own rule.
+pub fn unshown_glance(is_impatient: bool) -> Glance
+    ensures { result ≡ spec.unshown_glance is_impatient }
+{
+    match is_impatient {
+        true => Glance::Ready,
+        false => Glance::Unready,
+    }
+}
+
 /// Whether a request whose socket was found unready, of this family and type, is ready all the same if that was shut down for writing, which is asked by a send of no bytes: where no poll(2) tells of it, it writes or sends by a local socket of streams. Who sleeps naps for it. unix(7), shutdown(2)
 pub fn asks_broken(entry: &Submission, family: u32, kind: u32) -> bool
     ensures { result ≡ spec.asks_broken entry.now family kind }

@@ -6,6 +6,7 @@ ghost use Rattle.uring_operations.specs.Requests.Courses.{KeepsCourse, is_cancel
 ghost use Rattle.uring_operations.specs.Requests.Readiness as spec;
 ghost use Rattle.uring_operations.specs.Requests.Readiness.{FinishesWhatCan, LooksOnce, NeedsNoLook, PollsWhatMatters};
 
+use crate::calls::system_call::{SENDTO, SystemCall, word_of};
 use crate::entries::needs::{
     Needs, is_of_sockets, is_read, is_receive, is_send, is_splice, is_transfer, is_write,
     takes_urgent,
@@ -54,6 +55,27 @@ pub fn counts_as_ready(came: i32, events: u16) -> bool
     ensures { result ≡ spec.counts_as_ready came events }
 {
     came < 0 || events != 0
+}
+
+/// The call by which a socket is asked whether it was shut down for writing: a send of no bytes, which doesn't wait and gives no signal. send(2), MSG_DONTWAIT and MSG_NOSIGNAL
+pub fn breaking_call(fd: i32) -> SystemCall
+    ensures { result ≡ spec.breaking_call fd }
+{
+    SystemCall::of_four(SENDTO, word_of(fd), 0, 0, 0x4040)
+}
+
+/// Whether a socket was shut down for writing of which that came to this.
+pub fn is_broken(sent: i32) -> bool
+    ensures { result ≡ spec.is_broken sent }
+{
+    sent == -32
+}
+
+/// Whether nothing more comes from a descriptor of which a look that doesn't wait came to this, and shows these events: its socket was shut down for reading, or its peer for writing. poll(2), POLLRDHUP
+pub fn is_shut(came: i32, events: u16) -> bool
+    ensures { result ≡ spec.is_shut came events }
+{
+    came > 0 && events & 0x2000 != 0
 }
 
 /// What is asked of a moment.
