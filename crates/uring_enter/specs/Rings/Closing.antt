@@ -11,6 +11,22 @@ use Rattle.uring_enter.specs.declared.rings.closing.SleepOnto.TheVariants.{Does,
 abbrev pub may_name : (maker process : ℕ) → Bool
 may_name maker process = maker == process
 
+-- whether something is known, and so
+abbrev pub is_known : Option Bool → (is_so : Bool) → Bool
+is_known None is_so = false
+is_known (Some known) is_so = if is_so then known else not known
+
+-- a ring is gone once it is known that no descriptor is open on it: in the table of the thread that looks, and in any that another thread has of its own (CLONE_FILES, clone(2) and unshare(2)), where the same number is another file's. It is kept, too, by whoever looks from another table than the one in which it was made: what it keeps open has its number there, and would be somebody else's here. Our own rule, as close(2) has it of a file
+abbrev pub is_gone : (is_listed is_of_table is_elsewhere : Option Bool) → Bool
+is_gone is_listed is_of_table is_elsewhere =
+    is_known is_listed false && is_known is_of_table true && is_known is_elsewhere false
+
+-- in whichever table a descriptor is open, the ring stays
+abbrev pub StaysWhileOpen : Type 0
+StaysWhileOpen = (is_listed is_of_table is_elsewhere : Option Bool)
+    → (is_gone (Some true) is_of_table is_elsewhere ≡ false)
+    × (is_gone is_listed is_of_table (Some true) ≡ false)
+
 -- of all rings
 abbrev pub all_rings : ℕ
 all_rings = 2147483647
