@@ -32,7 +32,6 @@
 struct watched {
     int fd;
     struct wulgach_watched at;
-    bool is_untold;                     /* the descriptor can't tell of it */
 };
 
 struct ring {

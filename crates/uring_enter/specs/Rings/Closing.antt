@@ -1,5 +1,5 @@
 -- Whose ring a descriptor names, when it is looked whether rings are closed, and what a call does before it sleeps. Our own rules: a ring is of the process that made it, and not every close of a descriptor is heard.
-use Rattle.std.specs.Prelude.{◌≡◌, ℕ, ℤ, Bool, false, not, ◌&&◌, ◌==◌, nat_lt, nat_le, Option, Some, None, if◌then◌else◌}
+use Rattle.std.specs.Prelude.{◌≡◌, ℕ, ℤ, Bool, true, false, not, ◌&&◌, ◌==◌, nat_lt, nat_le, Option, Some, None, if◌then◌else◌}
 use Rattle.uring_enter.specs.Waiting.Sleeping.{beginning_of}
 use Rattle.uring_enter.specs.declared.waiting.sleeping.Beginning.TheVariants.{Wakes, Sleeps}
 use Rattle.uring_enter.specs.declared.rings.closing.BeforeSleep.{BeforeSleep}

@@ -42,10 +42,17 @@ pub fn may_name(maker: u32, process: u32) -> bool
 }
 
 /// Whether nobody can reach a ring any more, by what is known of it, if anything: whether a descriptor is open on it in the table of the thread that looks, which `is_listed` says; whether it was made in that table; and whether one is in a table that another thread has of its own.
-pub fn is_gone(is_listed: Option<bool>, is_of_table: Option<bool>, is_elsewhere: Option<bool>) -> bool
+pub fn is_gone(
+    is_listed: Option<bool>,
+    is_of_table: Option<bool>,
+    is_elsewhere: Option<bool>,
+) -> bool
     ensures { result ≡ spec.is_gone is_listed is_of_table is_elsewhere }
 {
-    matches!((is_listed, is_of_table, is_elsewhere), (Some(false), Some(true), Some(false)))
+    matches!(
+        (is_listed, is_of_table, is_elsewhere),
+        (Some(false), Some(true), Some(false))
+    )
 }
 
 /// Of how many rings it is looked whether they are closed before a call sleeps.
