@@ -114,6 +114,18 @@ uint32_t wulgach_ring_fate(bool is_own, uint32_t calls, bool knows, bool is_open
  * -95. Our own rule. */
 bool wulgach_may_name_ring_of(uint32_t maker, uint32_t process);
 
+/* What is known of something. */
+enum wulgach_knowledge {
+    WULGACH_IS_NOT_SO = 0,
+    WULGACH_IS_SO = 1,
+    WULGACH_IS_NOT_KNOWN = 2
+};
+
+/* Whether nobody can reach a ring any more, by what is known (enum wulgach_knowledge): whether a descriptor is open on it in the table of the thread that looks;
+ * whether it was made in that table, or in one that another thread has of its own (CLONE_FILES), so that what it keeps open has other numbers here; and
+ * whether a descriptor is open on it in another table. It is gone only if all of these are known, and nobody has one. Our own rule. */
+bool wulgach_is_gone(uint32_t listed, uint32_t of_table, uint32_t elsewhere);
+
 /* It is looked of all rings whether they are closed. */
 enum { WULGACH_ALL_RINGS = 0x7fffffff };
 

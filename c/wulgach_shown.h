@@ -57,6 +57,7 @@ struct wulgach_prospect {
     bool can_go_on;         /* a request can go on without waiting: it can be finished, or can start */
     bool knows_time;
     bool can_pass_time;     /* time can pass at once, so that a timeout ends */
+    bool is_untold;         /* the ring's descriptor can't tell of all that requests wait for, which is known unasked */
 };
 
 /* Whether a ring's descriptor is readable, or what is to be asked. */
@@ -68,7 +69,7 @@ enum wulgach_readable {
 };
 
 /* Returns which (enum wulgach_readable), where this is the head that the application has stored: it is while completions wait, in the ring or
- * outside it (io_uring(7)), or a call would bring something (our own rule). Nothing is asked twice, nor while completions wait. */
+ * outside it (io_uring(7)), or a call would bring something, or may as long as it can't tell of all (our own rule). Nothing is asked twice, nor while completions wait. */
 uint32_t wulgach_shown_readable(const struct wulgach_shown *shown, uint32_t head, const struct wulgach_prospect *known);
 
 /* How many completions stand in the ring that the application hasn't reaped, by the head that it has stored: none, if that is past the
@@ -113,6 +114,8 @@ bool wulgach_shows_again(uint64_t moved);
 /* What a ring's descriptor polls for of one descriptor for which requests wait. */
 struct wulgach_watched {
     uint32_t events;    /* those of all of them */
+    bool is_untold;     /* it couldn't be told of when it was last added */
+    bool is_given_back; /* its number isn't polled for any more */
     uint64_t begun;     /* when the last of them began to wait, in a count of the ring that rises */
 };
 
@@ -130,21 +133,29 @@ void wulgach_watched_begin(struct wulgach_watched *watched);
 /* A request waits for these events too, and began to at this count. */
 void wulgach_watched_add(struct wulgach_watched *watched, uint32_t events, uint64_t begun);
 
-/* Returns what is changed (enum wulgach_watch) of a descriptor that was polled for so, or wasn't, and is to be so, or isn't. */
+/* Its addition came to this: 0, or an error number's negative (epoll_ctl(2)). */
+void wulgach_watched_enlist(struct wulgach_watched *watched, int32_t res);
+
+/* It is polled for no more, since its number may be given back. */
+void wulgach_watched_give_back(struct wulgach_watched *watched);
+
+/* Returns what is changed (enum wulgach_watch) of a descriptor that was polled for so, or wasn't, and is to be so, or isn't. What couldn't be told of is added
+ * again, and what was given back polled for afresh. */
 uint32_t wulgach_watch_of(const struct wulgach_watched *before, bool was_watched, const struct wulgach_watched *after, bool is_watched);
 
 /* Whether a descriptor is added whose renewal came to this: after -2 (ENOENT, epoll_ctl(2)) its number was another file's. */
 bool wulgach_watch_adds_after(int32_t res);
 
-/* What an epoll instance makes of a descriptor that it is given. */
+/* What an epoll instance makes of a descriptor that it is given, or of several. */
 enum wulgach_enlisted {
     WULGACH_INSTANCE_TELLS = 0,     /* it tells of it, */
     WULGACH_IS_READY_AT_ONCE = 1,   /* needn't, since poll(2) shows it at once, */
     WULGACH_INSTANCE_CANT_TELL = 2  /* or can't: a sleep is by poll(2) then, and a ring's descriptor stays readable. Our own rule */
 };
 
-/* Returns that (enum wulgach_enlisted), where its addition came to this: 0, or an error number's negative (epoll_ctl(2)). */
-uint32_t wulgach_enlisted_as(int32_t res);
+/* Returns that (enum wulgach_enlisted) of descriptors of which it made this so far, and of one more, whose addition came to this: 0, or an error number's
+ * negative (epoll_ctl(2)). It can't tell of all if it can't tell of one. Of none it tells. */
+uint32_t wulgach_enlisted_with(uint32_t all, int32_t res);
 
 /* What a ring's descriptor polls for beside what its requests wait for, as a set of bits. */
 enum wulgach_besides {

@@ -191,6 +191,22 @@ struct wulgach_span {
 /* Writes so many nanoseconds as a sleep's system call takes them. */
 void wulgach_span_of(uint64_t nanoseconds, struct wulgach_span *span);
 
+/* How a sleep is begun. */
+enum wulgach_sleep_call {
+    WULGACH_SLEEPS_BY_POLL = 0,         /* by poll(2) */
+    WULGACH_SLEEPS_BY_INSTANCE = 1,     /* by an epoll instance: epoll_pwait2(2) */
+    WULGACH_LOOKS_BY_INSTANCE = 2       /* the same, for no time: a descriptor is ready of which it doesn't tell */
+};
+
+/* Returns that (enum wulgach_sleep_call) of a sleep that may last so long, where there is an instance or none, which makes this of all that it is to tell of (enum
+ * wulgach_enlisted, wulgach_shown.h); and writes how long it lasts then: for a moment at least, of a nanosecond, since no signal is looked for in no time,
+ * unless one is ready. Our own rule. */
+uint32_t wulgach_sleep_call(bool has_instance, uint32_t all, const struct wulgach_limit *limit, struct wulgach_limit *lasts);
+
+/* What a sleep came to that was begun so (enum wulgach_sleep_call), where its system call came to this: an error is one; else 1, if one is ready of which the
+ * instance doesn't tell. */
+int32_t wulgach_sleep_came(uint32_t call, int32_t came);
+
 /* Writes to when time moves on after such a sleep, where nothing has woken it; no limit: it was a nap, and only what a clock says has
  * passed. To be asked before the sleep. */
 void wulgach_times_comes_to(const struct wulgach_times *times, const struct wulgach_limit *until, bool can_be_woken, struct wulgach_limit *end);

@@ -1,6 +1,8 @@
 /* What a ring looks out for, which polls are told of writes, and what came of a wait: written by hand, of runs of a few happenings. */
 #include "wulgach.h"
 #include "wulgach_lookout.h"
+#include "wulgach_shown.h"
+#include "wulgach_times.h"
 #include "wulgach_waits.h"
 
 #include <stdio.h>
@@ -268,6 +270,12 @@ static void sleep_or_not(void)
     demand(wulgach_sleep_next(WULGACH_DOES_DUTIES, true, -14) == WULGACH_SLEEP_FAILS && wulgach_sleep_next(WULGACH_DOES_DUTIES, true, 0) == WULGACH_SLEEP_WAKES && wulgach_sleep_next(WULGACH_DOES_DUTIES, false, 0) == WULGACH_SLEEPS, "whether a sleep begins");
     demand(wulgach_sleep_came_to(2, false) == 2 && wulgach_sleep_came_to(-12, false) == -12 && wulgach_sleep_came_to(2, true) == -4, "a child leaves a sleep");
     demand(wulgach_sleeps_by_poll(-38) && wulgach_sleeps_by_poll(-1) && !wulgach_sleeps_by_poll(-4) && !wulgach_sleeps_by_poll(0), "which sleep is by poll(2)");
+    struct wulgach_limit none = {0}, now = {0, true}, later = {7, true}, lasts;
+    demand(wulgach_sleep_call(false, WULGACH_INSTANCE_TELLS, &later, &lasts) == WULGACH_SLEEPS_BY_POLL && wulgach_sleep_call(true, WULGACH_INSTANCE_CANT_TELL, &later, &lasts) == WULGACH_SLEEPS_BY_POLL, "one without an instance");
+    demand(wulgach_sleep_call(true, WULGACH_INSTANCE_TELLS, &later, &lasts) == WULGACH_SLEEPS_BY_INSTANCE && lasts.is_set && lasts.at == 7 && wulgach_sleep_call(true, WULGACH_INSTANCE_TELLS, &none, &lasts) == WULGACH_SLEEPS_BY_INSTANCE && !lasts.is_set, "one by an instance");
+    demand(wulgach_sleep_call(true, WULGACH_INSTANCE_TELLS, &now, &lasts) == WULGACH_SLEEPS_BY_INSTANCE && lasts.is_set && lasts.at == 1, "one of no time");
+    demand(wulgach_sleep_call(true, WULGACH_IS_READY_AT_ONCE, &none, &lasts) == WULGACH_LOOKS_BY_INSTANCE && lasts.is_set && lasts.at == 0, "one beside a descriptor that is ready");
+    demand(wulgach_sleep_came(WULGACH_LOOKS_BY_INSTANCE, 0) == 1 && wulgach_sleep_came(WULGACH_LOOKS_BY_INSTANCE, -4) == -4 && wulgach_sleep_came(WULGACH_SLEEPS_BY_INSTANCE, 0) == 0, "and what it came to");
     demand(wulgach_asks_select(-22) && !wulgach_asks_select(-4) && !wulgach_asks_select(1), "in the place of which poll select(2) is asked");
     demand(wulgach_left_of(7, 7) == 0 && wulgach_left_of(7, 8) == 63, "a child leaves its parent's ring");
     demand(waited((struct wulgach_waited){0}) == WULGACH_WOKEN && waited((struct wulgach_waited){.result = 2}) == WULGACH_WOKEN && waited((struct wulgach_waited){.is_over = true}) == WULGACH_TIMED_OUT, "a sleep that ends");

@@ -26,8 +26,15 @@ static void watch(void)
     demand(wulgach_watch_of(&before, false, &after, true) == WULGACH_WATCH_ADDS && wulgach_watch_of(&before, true, &after, false) == WULGACH_WATCH_REMOVES, "one comes or goes");
     wulgach_watched_add(&after, 1, 6);
     demand(wulgach_watch_of(&before, true, &after, true) == WULGACH_WATCH_RENEWS, "another waits");
+    wulgach_watched_give_back(&before);
+    demand(wulgach_watch_of(&before, true, &before, true) == WULGACH_WATCH_RENEWS && wulgach_watch_of(&before, true, &after, false) == WULGACH_WATCH_REMOVES, "one was given back");
+    wulgach_watched_enlist(&before, -40);
+    demand(before.is_untold && wulgach_watch_of(&before, true, &after, true) == WULGACH_WATCH_ADDS && wulgach_watch_of(&before, true, &before, true) == WULGACH_WATCH_ADDS, "one that can't be told of");
+    wulgach_watched_enlist(&before, 0);
+    demand(!before.is_untold && before.events == 5, "and can again");
     demand(wulgach_watch_adds_after(-2) && !wulgach_watch_adds_after(0) && !wulgach_watch_adds_after(-1), "a number that another file has");
-    demand(wulgach_enlisted_as(0) == WULGACH_INSTANCE_TELLS && wulgach_enlisted_as(-17) == WULGACH_INSTANCE_TELLS && wulgach_enlisted_as(-1) == WULGACH_IS_READY_AT_ONCE && wulgach_enlisted_as(-9) == WULGACH_IS_READY_AT_ONCE && wulgach_enlisted_as(-40) == WULGACH_INSTANCE_CANT_TELL, "what an instance is given");
+    demand(wulgach_enlisted_with(WULGACH_INSTANCE_TELLS, 0) == WULGACH_INSTANCE_TELLS && wulgach_enlisted_with(WULGACH_INSTANCE_TELLS, -17) == WULGACH_INSTANCE_TELLS && wulgach_enlisted_with(WULGACH_INSTANCE_TELLS, -1) == WULGACH_IS_READY_AT_ONCE && wulgach_enlisted_with(WULGACH_INSTANCE_TELLS, -9) == WULGACH_IS_READY_AT_ONCE && wulgach_enlisted_with(WULGACH_INSTANCE_TELLS, -40) == WULGACH_INSTANCE_CANT_TELL, "what an instance is given");
+    demand(wulgach_enlisted_with(WULGACH_IS_READY_AT_ONCE, 0) == WULGACH_IS_READY_AT_ONCE && wulgach_enlisted_with(WULGACH_INSTANCE_CANT_TELL, -1) == WULGACH_INSTANCE_CANT_TELL && wulgach_enlisted_with(WULGACH_IS_READY_AT_ONCE, -40) == WULGACH_INSTANCE_CANT_TELL, "and more than one");
     demand(wulgach_polls_besides(0, false) == 0 && wulgach_polls_besides(2, false) == WULGACH_POLLS_WRITES && wulgach_polls_besides(0, true) == WULGACH_POLLS_INSTANCE, "what is polled for besides");
 }
 
@@ -51,6 +58,7 @@ static void poll_ring(void)
     demand(wulgach_shown_readable(&shown, 0, &(struct wulgach_prospect){.knows_requests = true, .can_go_on = true}) == WULGACH_IS_READABLE, "one whose requests go on");
     demand(wulgach_shown_readable(&shown, 0, &(struct wulgach_prospect){.knows_requests = true, .can_pass_time = true}) == WULGACH_ASK_TIME, "one whose requests wait");
     demand(wulgach_shown_readable(&shown, 0, &(struct wulgach_prospect){true, false, true, true}) == WULGACH_IS_READABLE && wulgach_shown_readable(&shown, 0, &(struct wulgach_prospect){true, false, true, false}) == WULGACH_IS_NOT_READABLE, "time that passes");
+    demand(wulgach_shown_readable(&shown, 0, &(struct wulgach_prospect){.is_untold = true}) == WULGACH_IS_READABLE, "one that can't tell of all");
     post(&shown);
     demand(wulgach_shown_readable(&shown, 0, &(struct wulgach_prospect){true, false, true, false}) == WULGACH_IS_READABLE, "a completion");
 }

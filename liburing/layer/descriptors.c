@@ -96,12 +96,12 @@ bool may_be_ring(int fd)
     return fd >= MOST_NOTED || (fd >= 0 && __atomic_load_n(&numbers[fd / BITS], __ATOMIC_RELAXED) >> fd % BITS & 1);
 }
 
-/* Whether a descriptor is open on a ring: its close will be heard. */
+/* Whether a descriptor is open on a ring, or may be in another thread's table of them: its close will be heard. */
 static bool is_reached(struct ring *ring)
 {
     int fd = find_descriptor(ring);
     if (fd < 0)
-        return false;
+        return is_reached_elsewhere(ring);
     note_number(fd);
     __atomic_store_n(&ring->fd, fd, __ATOMIC_RELAXED);
     return true;
@@ -215,12 +215,19 @@ static void drop_ring(struct ring *ring)
     free_ring(ring);
 }
 
-static struct ring *search_rings(int fd)
+static struct ring *search_by(bool (*is_by)(const struct ring *, int), int fd)
 {
     struct ring *ring = rings;
-    while (ring && !(is_own(ring) && is_reached_by(ring, fd)))
+    while (ring && !(is_own(ring) && is_by(ring, fd)))
         ring = ring->next;
     return ring;
+}
+
+/* It is searched for by marks first: the number of a ring's eventfd may be that of another's, in another thread's table of descriptors. */
+static struct ring *search_rings(int fd)
+{
+    struct ring *ring = search_by(is_still_reached_by, fd);
+    return ring ? ring : search_by(is_reached_by, fd);
 }
 
 /* The ring of a descriptor, with the list's lock held. It is looked for by number first, and then among all. */

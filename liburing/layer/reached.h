@@ -18,4 +18,11 @@ void note_close(void);
  * found out, the last. */
 int find_descriptor(const struct ring *ring);
 
+/* Notes in whose table of descriptors a ring is made, by this thread. */
+void note_table(struct ring *ring);
+
+/* Whether a ring of which no descriptor of this thread's is found counts as reached all the same: another thread has a table of its own in which one is,
+ * or the ring was made in another table than this thread's, so that what it keeps open has other numbers here. */
+bool is_reached_elsewhere(const struct ring *ring);
+
 #endif

@@ -151,14 +151,13 @@ static int32_t watch(struct ring *ring, int change, const struct watched *watche
     return change_polled(ring, change, watched->fd, &event) < 0 ? -errno : 0;
 }
 
-/* Adds a descriptor, and notes whether it can be told of. */
 static void add_watched(struct ring *ring, struct watched *watched)
 {
-    watched->is_untold = wulgach_enlisted_as(watch(ring, EPOLL_CTL_ADD, watched)) == WULGACH_INSTANCE_CANT_TELL;
+    wulgach_watched_enlist(&watched->at, watch(ring, EPOLL_CTL_ADD, watched));
 }
 
 /* Changes what is watched of one descriptor, or two lists' first: NULL where one has it not. A number that is closed and opened again
- * isn't watched. What couldn't be told of is tried again. */
+ * isn't watched. */
 static void watch_change(struct ring *ring, const struct watched *before, struct watched *after)
 {
     static const struct watched nothing;
@@ -173,9 +172,6 @@ static void watch_change(struct ring *ring, const struct watched *before, struct
         if (wulgach_watch_adds_after(watch(ring, EPOLL_CTL_MOD, after)))
             add_watched(ring, after);
         return;
-    default:
-        if (before && before->is_untold)
-            add_watched(ring, after);
     }
 }
 
@@ -187,7 +183,7 @@ static void watch_changes(struct ring *ring, const struct watched *before, size_
         bool is_before = j == after_count || (i < before_count && before[i].fd <= after[j].fd);
         bool is_after = i == before_count || (j < after_count && after[j].fd <= before[i].fd);
         watch_change(ring, is_before ? &before[i] : NULL, is_after ? &after[j] : NULL);
-        ring->is_untold |= is_after && after[j].is_untold;
+        ring->is_untold |= is_after && after[j].at.is_untold;
         i += is_before;
         j += is_after;
     }
@@ -201,7 +197,7 @@ void unwatch(struct ring *ring, int fd)
     if (!watched)
         return;
     watch(ring, EPOLL_CTL_DEL, watched);
-    watched->at.begun = UINT64_MAX;
+    wulgach_watched_give_back(&watched->at);
 }
 
 /* Puts the streams that are waited for in the place of those that were. If memory is refused, the next call tries. */
@@ -242,11 +238,11 @@ static void look_ahead(struct ring *ring, uint32_t asked, struct wulgach_prospec
 
 static bool is_readable_now(struct ring *ring)
 {
-    struct wulgach_prospect known = {0};
+    struct wulgach_prospect known = {.is_untold = ring->is_untold};
     uint32_t told, head = load_word(&ring->memory.cq->head);
     while ((told = wulgach_shown_readable(&ring->completions.at, head, &known)) > WULGACH_IS_READABLE)
         look_ahead(ring, told, &known);
-    return told == WULGACH_IS_READABLE || ring->is_untold;
+    return told == WULGACH_IS_READABLE;
 }
 
 void show_readiness(struct ring *ring)

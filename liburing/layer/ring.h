@@ -32,7 +32,6 @@
 struct watched {
     int fd;
     struct wulgach_watched at;
-    bool is_untold;                     /* the descriptor can't tell of it */
 };
 
 struct ring {
@@ -40,6 +39,8 @@ struct ring {
     dev_t device;                       /* the memfd's device and inode: how a descriptor is known as this ring's */
     ino_t inode;
     pid_t process;                      /* who made it: a forked child has the memory, and not the core */
+    pid_t table_of;                     /* a thread that has the table of descriptors in which it was made: the first one, if that has it, */
+    bool is_table_apart;                /* or another, where the first has one of its own */
     uint32_t left;                      /* what is left undone with it, since a child that a handler has forked is back from its parent's sleep */
     int fd;                             /* the first descriptor, or the one that was found last: it may be closed, or another file's by now */
     int called_fd;                      /* the one of the call that has its lock, or of the last one */

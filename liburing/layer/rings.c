@@ -15,6 +15,7 @@
 #include "process.h"
 #include "processors.h"
 #include "profile.h"
+#include "reached.h"
 #include "readiness.h"
 #include "ring.h"
 #include "server.h"
@@ -151,6 +152,7 @@ static int make_ring(struct ring **made, uint32_t entries, struct io_uring_param
         return result;
     }
     ring->process = this_process();
+    note_table(ring);
     start_clock(ring);
     ring->flags = params->flags;
     ring->has_thread = wulgach_has_thread(ring->flags);

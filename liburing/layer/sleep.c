@@ -76,42 +76,46 @@ static uint32_t enlist(const struct sleeper *self, nfds_t count)
     for (const struct pollfd *at = self->polled; at < self->polled + count && all != WULGACH_INSTANCE_CANT_TELL; at++) {
         struct epoll_event event = {.events = (uint16_t)at->events};
         int32_t came = at->fd >= 0 && epoll_ctl(self->instance, EPOLL_CTL_ADD, at->fd, &event) < 0 ? -errno : 0;
-        uint32_t enlisted = wulgach_enlisted_as(came);
-        all = all < enlisted ? enlisted : all;
+        all = wulgach_enlisted_with(all, came);
     }
     return all;
 }
 
-/* Sleeps until a descriptor shows something or the time is over. Returns how many do, or the negative of an error number. */
-static int sleep_on(struct sleeper *self, nfds_t count, const struct timespec *time, const sigset_t *signals)
+/* A time as a system call takes it, or NULL: it is without end. */
+static const struct timespec *time_of(const struct wulgach_limit *limit, struct timespec *time)
 {
-    /* (where no time may pass at all the kernel doesn't look for signals) */
-    static const struct timespec now, moment = {.tv_nsec = 1};
+    struct wulgach_span span;
+    wulgach_span_of(limit->at, &span);
+    *time = (struct timespec){(time_t)span.seconds, (long)span.nanoseconds};
+    return limit->is_set ? time : NULL;
+}
+
+/* Sleeps until a descriptor shows something or the time is over. Returns how many do, or the negative of an error number. */
+static int sleep_on(struct sleeper *self, nfds_t count, const struct wulgach_limit *limit, const sigset_t *signals)
+{
+    struct timespec time;
     struct epoll_event told;
-    uint32_t enlisted = self->instance < 0 ? WULGACH_INSTANCE_CANT_TELL : enlist(self, count);
-    bool is_ready = enlisted == WULGACH_IS_READY_AT_ONCE, has_none = time && time->tv_sec == 0 && time->tv_nsec == 0;
-    if (enlisted != WULGACH_INSTANCE_CANT_TELL) {
-        int came = epoll_pwait2(self->instance, &told, 1, is_ready ? &now : has_none ? &moment : time, signals);
-        if (came >= 0)
-            return is_ready ? 1 : came;
-        if (!wulgach_sleeps_by_poll(-errno))
-            return -errno;
+    struct wulgach_limit lasts;
+    bool has_instance = self->instance >= 0;
+    uint32_t call = wulgach_sleep_call(has_instance, has_instance ? enlist(self, count) : WULGACH_INSTANCE_TELLS, limit, &lasts);
+    if (call != WULGACH_SLEEPS_BY_POLL) {
+        int came = epoll_pwait2(self->instance, &told, 1, time_of(&lasts, &time), signals);
+        came = came < 0 ? -errno : came;
+        if (!wulgach_sleeps_by_poll(came))
+            return wulgach_sleep_came(call, came);
     }
-    int came = poll_until(self->polled, count, time, signals);
+    int came = poll_until(self->polled, count, time_of(limit, &time), signals);
     return came < 0 ? -errno : came;
 }
 
 /* Polls without the ring's lock. Handlers of signals run meanwhile. */
 static int poll_unlocked(struct ring *ring, struct sleeper *self, nfds_t count, const struct wulgach_limit *limit, const sigset_t *signals)
 {
-    struct wulgach_span span;
-    wulgach_span_of(limit->at, &span);
-    struct timespec time = {(time_t)span.seconds, (long)span.nanoseconds};
     int fd = ring->called_fd;
     pthread_mutex_unlock(&ring->lock);
     /* A message that came before that is posted, and wakes this thread. */
     visit_ring(ring, fd);
-    int came = sleep_on(self, count, limit->is_set ? &time : NULL, signals);
+    int came = sleep_on(self, count, limit, signals);
     leave_inner_sleeps(self);
     ring->left = what_is_left(ring);
     if (!(ring->left & WULGACH_LEAVES_LOCK)) {

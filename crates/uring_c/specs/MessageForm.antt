@@ -1,5 +1,5 @@
 -- What a message to another ring does, and what is changed of what a ring's descriptor polls for, in words that C can read.
-use Rattle.std.specs.Prelude.{ℕ, ◌^◌, ℤ, pos, Bool, Option, Some, None, if◌then◌else◌}
+use Rattle.std.specs.Prelude.{ℕ, ◌^◌, ℤ, pos, Bool, Option, Some, None, ◌==◌, if◌then◌else◌}
 use Rattle.std.specs.Int.RustNames.{bit_or}
 use Rattle.uring_enter.specs.Rings.Messages.{MessageStep, HasMemory, FindsFile, PassesFile, place, is_done}
 use Rattle.uring_enter.specs.Rings.Messages as messages
@@ -37,6 +37,12 @@ abbrev pub word_of_enlisted : Enlisted → ℕ
 word_of_enlisted Tells = 0
 word_of_enlisted IsReady = 1
 word_of_enlisted CantTell = 2
+
+-- what an instance makes of descriptors, by that word
+abbrev pub enlisted_of : ℕ → Enlisted
+enlisted_of word =
+    if word == 0 then Tells else
+    if word == 1 then IsReady else CantTell
 
 abbrev pub watched_of : Watched → Bool → Option Watched
 watched_of w has = if has then Some w else None

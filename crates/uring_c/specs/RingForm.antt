@@ -1,5 +1,5 @@
 -- What a set-up does, what is mapped of a ring and when it is freed, what becomes of a timeout's time, of a message and of a registered file, in words that C can read.
-use Rattle.std.specs.Prelude.{ℕ, pos, Bool, Option, Some, None, ◌==◌, if◌then◌else◌}
+use Rattle.std.specs.Prelude.{ℕ, pos, Bool, true, false, Option, Some, None, ◌==◌, if◌then◌else◌}
 use Rattle.uring_enter.specs.declared.rings.ringing.Region.{Region}
 use Rattle.uring_enter.specs.declared.rings.ringing.Region.TheVariants.{Rings, Entries}
 use Rattle.uring_enter.specs.declared.rings.ringing.Stage.{Stage}
@@ -76,6 +76,12 @@ abbrev pub form_of_word : ℕ → Form
 form_of_word word =
     if word == 0 then form.Token else
     if word == 1 then form.Cancel else form.Refused (pos 0)
+
+-- what is known of something, by a word: 0, it isn't so; 1, it is; else nothing. Our own rule
+abbrev pub known_by : ℕ → Option Bool
+known_by word =
+    if word == 0 then Some false else
+    if word == 1 then Some true else None
 
 abbrev pub known_if : Bool → Bool → Option Bool
 known_if knows is_so = if knows then Some is_so else None

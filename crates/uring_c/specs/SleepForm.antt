@@ -1,11 +1,12 @@
 -- When a sleep begins and what came of it, in words that C can read.
-use Rattle.std.specs.Prelude.{ℕ, Option, Some, None, ◌==◌, if◌then◌else◌}
+use Rattle.std.specs.Prelude.{ℕ, Bool, not, Option, Some, None, ◌==◌, if◌then◌else◌}
 use Rattle.uring_enter.specs.declared.waiting.sleeping.Beginning.{Beginning}
 use Rattle.uring_enter.specs.declared.waiting.sleeping.Beginning.TheVariants.{Fails, Wakes, Sleeps}
 use Rattle.uring_enter.specs.declared.rings.closing.BeforeSleep.{BeforeSleep}
 use Rattle.uring_enter.specs.declared.rings.closing.BeforeSleep.TheVariants.{LetsOthersGo, ReadsMask, DoesDuties}
 use Rattle.uring_enter.specs.declared.rings.closing.SleepOnto.{SleepOnto}
 use Rattle.uring_enter.specs.declared.rings.closing.SleepOnto.TheVariants.{Does, Begins}
+use Rattle.uring_enter.specs.declared.waiting.sleeps.SleepCall.{SleepCall}
 use Rattle.uring_enter.specs.declared.waiting.sleeping.Outcome.{Outcome}
 use Rattle.uring_enter.specs.declared.waiting.sleeping.Outcome.TheVariants.{Woken, TimedOut, Interrupted, Endless, Failed}
 
@@ -28,6 +29,12 @@ step_of word =
     if word == 3 then Some LetsOthersGo else
     if word == 4 then Some ReadsMask else
     if word == 5 then Some DoesDuties else None
+
+-- by poll(2), by an instance, or by one that is asked what else is ready, as one is. Our own rule
+abbrev pub word_of_sleep_call : SleepCall → ℕ
+word_of_sleep_call call =
+    if not call.by_instance then 0 else
+    if not call.is_ready then 1 else 2
 
 -- the kinds of replies to a call that wants to sleep
 abbrev pub word_of_outcome : Outcome → ℕ

@@ -1,11 +1,12 @@
 //! Whose ring a descriptor names, when it is looked whether rings are closed, and what a call does before it sleeps, for C: functions of `c/wulgach_setup.h` and `c/wulgach_waits.h`.
 ghost use Rattle.std.specs.Prelude.{◌≡◌};
 ghost use Rattle.uring_enter.specs.Rings.Closing as spec;
+ghost use Rattle.uring_c.specs.RingForm.{known_by};
 ghost use Rattle.uring_c.specs.SleepForm.{word_of_sleep, step_of};
 
 use uring_enter::{
-    BeforeSleep, Beginning, SleepOnto, asks_elapsed, looked_at_after, looked_at_before_sleep,
-    may_name, next_before_sleep, tries_again,
+    BeforeSleep, Beginning, SleepOnto, asks_elapsed, is_gone, looked_at_after,
+    looked_at_before_sleep, may_name, next_before_sleep, tries_again,
 };
 
 /// Whether a descriptor of this process may name a ring that was made by that one.
@@ -14,6 +15,24 @@ pub extern "C" fn wulgach_may_name_ring_of(maker: u32, process: u32) -> bool
     ensures { result ≡ spec.may_name maker process }
 {
     may_name(maker, process)
+}
+
+/// Whether nobody can reach a ring any more, by what is known of it, if anything.
+#[unsafe(no_mangle)]
+pub extern "C" fn wulgach_is_gone(listed: u32, of_table: u32, elsewhere: u32) -> bool
+    ensures { result ≡ spec.is_gone (known_by listed) (known_by of_table) (known_by elsewhere) }
+{
+    is_gone(known(listed), known(of_table), known(elsewhere))
+}
+
+fn known(word: u32) -> Option<bool>
+    ensures { result ≡ known_by word }
+{
+    match word {
+        0 => Some(false),
+        1 => Some(true),
+        _ => None,
+    }
 }
 
 /// Of how many rings it is looked whether they are closed before a call sleeps.

@@ -1,12 +1,17 @@
-//! When a sleep isn't begun, what came of one, and which polls are told of writes, for C: functions of `c/wulgach_lookout.h` and `c/wulgach_waits.h`.
-ghost use Rattle.std.specs.Prelude.{◌≡◌};
+//! When a sleep isn't begun, what came of one, and which polls are told of writes, for C: functions of `c/wulgach_lookout.h`, `c/wulgach_times.h` and `c/wulgach_waits.h`.
+ghost use Rattle.std.specs.Prelude.{◌≡◌, ◌==◌};
 ghost use Rattle.uring_enter.specs.Waiting.PipePolls as polls;
 ghost use Rattle.uring_enter.specs.Waiting.Sleeping as sleeping;
-ghost use Rattle.uring_c.specs.SleepForm.{word_of_outcome};
+ghost use Rattle.uring_enter.specs.Waiting.Sleeps as sleeps;
+ghost use Rattle.uring_crossing.specs.TimeForm.{limit_of, words_of_limit};
+ghost use Rattle.uring_c.specs.MessageForm.{enlisted_of};
+ghost use Rattle.uring_c.specs.SleepForm.{word_of_outcome, word_of_sleep_call};
 
+use crate::calls::watched_exports::enlisted;
+use uring_crossing::time_words::{LimitWords, limit_words};
 use uring_enter::{
     Outcome, PipePoll, SleptFor, Waited, asks_before_nap, asks_select, came_to, can_be_woken,
-    fires_after, outcome_of, sleeps_by_poll, slept_for,
+    fires_after, outcome_of, sleep_call, sleep_came, sleeps_by_poll, slept_for,
 };
 use uring_operations::{Needs, Standing};
 
@@ -24,6 +29,38 @@ pub extern "C" fn wulgach_sleep_came_to(res: i32, is_child: bool) -> i32
     ensures { result ≡ sleeping.came_to res is_child }
 {
     came_to(res, is_child)
+}
+
+/// Returns how a sleep is begun that may last so long, where there is an instance or none, which makes this of all that it is to tell of; and writes how long it lasts at most.
+#[unsafe(no_mangle)]
+pub extern "C" fn wulgach_sleep_call(
+    has_instance: bool,
+    all: u32,
+    limit: &LimitWords,
+    lasts: &mut LimitWords,
+) -> u32
+    ensures kind { result ≡ word_of_sleep_call (sleeps.sleep_call has_instance (enlisted_of all)
+        (limit_of limit.now)) }
+    ensures lasts { lasts.new ≡ words_of_limit (sleeps.sleep_call has_instance (enlisted_of all)
+        (limit_of limit.now)).limit }
+{
+    let call = sleep_call(has_instance, enlisted(all), limit.limit());
+    *lasts = limit_words(call.limit);
+    if !call.by_instance {
+        0
+    } else if !call.is_ready {
+        1
+    } else {
+        2
+    }
+}
+
+/// What a sleep came to that was begun so, where its system call came to this.
+#[unsafe(no_mangle)]
+pub extern "C" fn wulgach_sleep_came(call: u32, came: i32) -> i32
+    ensures { result ≡ sleeps.sleep_came (call == 2) came }
+{
+    sleep_came(call == 2, came)
 }
 
 /// Whether a sleep is by poll(2) whose epoll_pwait2(2) came to this.

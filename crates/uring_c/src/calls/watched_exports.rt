@@ -1,8 +1,8 @@
 //! What a ring's descriptor polls for, for C: functions of `c/wulgach_shown.h`.
-ghost use Rattle.std.specs.Prelude.{◌≡◌, List, [], ◌∷◌};
-ghost use Rattle.uring_enter.specs.Waiting.Watching.{Waiting, Waits, KeepsWatched, change_of};
+ghost use Rattle.std.specs.Prelude.{◌≡◌, false, true, List, [], ◌∷◌};
+ghost use Rattle.uring_enter.specs.Waiting.Watching.{Waiting, Waits, KeepsWatched, StandsAs, change_of};
 ghost use Rattle.uring_enter.specs.Waiting.Watching as spec;
-ghost use Rattle.uring_c.specs.MessageForm.{word_of_besides, word_of_enlisted, word_of_watch, watched_of};
+ghost use Rattle.uring_c.specs.MessageForm.{enlisted_of, word_of_besides, word_of_enlisted, word_of_watch, watched_of};
 
 use crate::calls::duty_exports::bit;
 use uring_enter::{Enlisted, Watch, Watched, adds_after, enlisted_as, polls_besides, watch_of};
@@ -10,7 +10,8 @@ use uring_enter::{Enlisted, Watch, Watched, adds_after, enlisted_as, polls_besid
 /// Begins a descriptor for which nobody waits.
 #[unsafe(no_mangle)]
 pub extern "C" fn wulgach_watched_begin(watched: &mut Watched)
-    ensures { KeepsWatched [] watched.new }
+    ensures waiting { KeepsWatched [] watched.new }
+    ensures stands { StandsAs false false watched.new }
 {
     *watched = Watched::begin();
 }
@@ -18,10 +19,31 @@ pub extern "C" fn wulgach_watched_begin(watched: &mut Watched)
 /// A request waits for these events too, and began to at this count.
 #[unsafe(no_mangle)]
 pub extern "C" fn wulgach_watched_add(watched: &mut Watched, events: u32, begun: u64)
-    ensures { (waiting : List Waiting) → KeepsWatched waiting watched.old
+    ensures waiting { (waiting : List Waiting) → KeepsWatched waiting watched.old
         → KeepsWatched (Waits events begun ∷ waiting) watched.new }
+    ensures stands { StandsAs watched.old.is_untold watched.old.is_given_back watched.new }
 {
     watched.add(events, begun);
+}
+
+/// It was added to what is polled for, which came to this.
+#[unsafe(no_mangle)]
+pub extern "C" fn wulgach_watched_enlist(watched: &mut Watched, res: i32)
+    ensures waiting { (waiting : List Waiting) → KeepsWatched waiting watched.old
+        → KeepsWatched waiting watched.new }
+    ensures stands { StandsAs (spec.is_untold_after res) watched.old.is_given_back watched.new }
+{
+    watched.enlist(res);
+}
+
+/// It is polled for no more, since its number may be given back.
+#[unsafe(no_mangle)]
+pub extern "C" fn wulgach_watched_give_back(watched: &mut Watched)
+    ensures waiting { (waiting : List Waiting) → KeepsWatched waiting watched.old
+        → KeepsWatched waiting watched.new }
+    ensures stands { StandsAs watched.old.is_untold true watched.new }
+{
+    watched.give_back();
 }
 
 /// Returns what is changed of a descriptor that was polled for so, or wasn't, and is to be so, or isn't.
@@ -64,15 +86,25 @@ pub extern "C" fn wulgach_watch_adds_after(res: i32) -> bool
     adds_after(res)
 }
 
-/// Returns what an epoll instance makes of a descriptor whose addition came to this.
+/// Returns what an epoll instance makes of descriptors of which it made this so far, and of one more, whose addition came to this.
 #[unsafe(no_mangle)]
-pub extern "C" fn wulgach_enlisted_as(res: i32) -> u32
-    ensures { result ≡ word_of_enlisted (spec.enlisted_as res) }
+pub extern "C" fn wulgach_enlisted_with(all: u32, res: i32) -> u32
+    ensures { result ≡ word_of_enlisted (spec.both (enlisted_of all) (spec.enlisted_as res)) }
 {
-    match enlisted_as(res) {
+    match enlisted(all).with(enlisted_as(res)) {
         Enlisted::Tells => 0,
         Enlisted::IsReady => 1,
         Enlisted::CantTell => 2,
+    }
+}
+
+pub fn enlisted(word: u32) -> Enlisted
+    ensures { result ≡ enlisted_of word }
+{
+    match word {
+        0 => Enlisted::Tells,
+        1 => Enlisted::IsReady,
+        _ => Enlisted::CantTell,
     }
 }
 

@@ -5,9 +5,9 @@ use Rattle.uring_enter.specs.declared.completions.readable.Readable.{Readable}
 use Rattle.uring_enter.specs.declared.completions.readable.Readable.TheVariants.{IsNot, Is, AsksRequests, AsksTime}
 use Rattle.uring_enter.specs.Completions.Showing.{Change, posted, waits}
 
--- whether a call would bring something: a request can go on, or time can pass so that a timeout ends. A kernel needs no call for either: the request ends by itself, and its completion makes the descriptor readable
+-- whether a call would bring something: a request can go on, or time can pass so that a timeout ends. A kernel needs no call for either: the request ends by itself, and its completion makes the descriptor readable. And a call may bring something as long as the descriptor can't tell of all that requests wait for: whoever waits by it looks
 abbrev pub may_come : Prospect → Bool
-may_come p = p.can_go_on || p.can_pass_time
+may_come p = p.is_untold || p.can_go_on || p.can_pass_time
 
 -- a ring's descriptor is readable while completions wait for the application, whose head tells this count, or a call would bring something
 abbrev pub is_readable : List Change → ℕ → Prospect → Bool
@@ -16,6 +16,7 @@ is_readable log n p = waits log n || may_come p
 -- what is told where no completion waits, or asked next: nothing is asked that doesn't matter
 abbrev pub told_by : Prospect → Readable
 told_by p =
+    if p.is_untold then Is else
     if not p.knows_requests then AsksRequests else
     if p.can_go_on then Is else
     if not p.knows_time then AsksTime else
@@ -28,8 +29,9 @@ readable_of log n p = if waits log n then Is else told_by p
 abbrev pub WereSoMany : List Change → (word n : ℕ) → Type 0
 WereSoMany log word n = (n % 2 ^ 32 ≡ word) × (n ≤ posted log) × (posted log < n + 2 ^ 32)
 
--- what was asked of a prospect is so
+-- what was asked of a prospect is so, and what needs no asking
 pub record Fits (known p : Prospect) : Type 0 where
+  pub untold : known.is_untold ≡ p.is_untold
   pub requests : known.knows_requests ≡ true → known.can_go_on ≡ p.can_go_on
   pub time : known.knows_time ≡ true → known.can_pass_time ≡ p.can_pass_time
 

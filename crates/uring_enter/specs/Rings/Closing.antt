@@ -1,5 +1,5 @@
 -- Whose ring a descriptor names, when it is looked whether rings are closed, and what a call does before it sleeps. Our own rules: a ring is of the process that made it, and not every close of a descriptor is heard.
-use Rattle.std.specs.Prelude.{◌≡◌, ℕ, ℤ, Bool, false, not, ◌&&◌, ◌==◌, nat_lt, nat_le, Option, Some, None, if◌then◌else◌}
+use Rattle.std.specs.Prelude.{◌≡◌, ℕ, ℤ, Bool, true, false, not, ◌&&◌, ◌==◌, nat_lt, nat_le, Option, Some, None, if◌then◌else◌}
 use Rattle.uring_enter.specs.Waiting.Sleeping.{beginning_of}
 use Rattle.uring_enter.specs.declared.waiting.sleeping.Beginning.TheVariants.{Wakes, Sleeps}
 use Rattle.uring_enter.specs.declared.rings.closing.BeforeSleep.{BeforeSleep}
@@ -10,6 +10,22 @@ use Rattle.uring_enter.specs.declared.rings.closing.SleepOnto.TheVariants.{Does,
 -- a descriptor names a ring that its own process made, if it is open on it. To a child it names none, so that its call ends with -95 (EOPNOTSUPP): the core is its parent's
 abbrev pub may_name : (maker process : ℕ) → Bool
 may_name maker process = maker == process
+
+-- whether something is known, and so
+abbrev pub is_known : Option Bool → (is_so : Bool) → Bool
+is_known None is_so = false
+is_known (Some known) is_so = if is_so then known else not known
+
+-- a ring is gone once it is known that no descriptor is open on it: in the table of the thread that looks, and in any that another thread has of its own (CLONE_FILES, clone(2) and unshare(2)), where the same number is another file's. It is kept, too, by whoever looks from another table than the one in which it was made: what it keeps open has its number there, and would be somebody else's here. Our own rule, as close(2) has it of a file
+abbrev pub is_gone : (is_listed is_of_table is_elsewhere : Option Bool) → Bool
+is_gone is_listed is_of_table is_elsewhere =
+    is_known is_listed false && is_known is_of_table true && is_known is_elsewhere false
+
+-- in whichever table a descriptor is open, the ring stays
+abbrev pub StaysWhileOpen : Type 0
+StaysWhileOpen = (is_listed is_of_table is_elsewhere : Option Bool)
+    → (is_gone (Some true) is_of_table is_elsewhere ≡ false)
+    × (is_gone is_listed is_of_table (Some true) ≡ false)
 
 -- of all rings
 abbrev pub all_rings : ℕ

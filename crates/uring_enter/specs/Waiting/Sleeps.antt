@@ -1,7 +1,11 @@
 -- How long a call sleeps at most, and what time it is after a sleep that came to its end. Our own rules: where no descriptor is left by which another thread could wake the sleeper, it naps, and looks again.
-use Rattle.std.specs.Prelude.{◌≡◌, ◌<◌, ℕ, ℤ, pos, ◌+◌, ◌*◌, ◌-◌, Bool, ◌||◌, nat_le, min, Option, Some, None, List, ◌∷◌, if◌then◌else◌}
+use Rattle.std.specs.Prelude.{◌≡◌, ◌<◌, ℕ, ℤ, pos, ◌+◌, ◌*◌, ◌-◌, Bool, not, ◌&&◌, ◌||◌, nat_le, min, max, Option, Some, None, List, ◌∷◌, if◌then◌else◌}
 use Rattle.std.specs.Ordering.{int_eq}
 use Rattle.uring_enter.specs.declared.waiting.sleeps.Span.{Span}
+use Rattle.uring_entry.specs.Errors.{is_below}
+use Rattle.uring_enter.specs.Waiting.Watching.{cant_tell, is_ready}
+use Rattle.uring_enter.specs.declared.waiting.sleeps.SleepCall.{SleepCall}
+use Rattle.uring_enter.specs.declared.waiting.watched.Enlisted.{Enlisted}
 use Rattle.uring_operations.specs.Entries.Timeouts.{Event, Clock, Slept, time}
 
 -- 10 milliseconds, in nanoseconds
@@ -43,3 +47,20 @@ passes is_real origin start stop = if is_real then Clock (stop - origin) else Sl
 -- a time in whole seconds and what is left of it, which is less than one. nanosleep(2), struct timespec
 abbrev pub IsSpan : ℕ → Span → Type 0
 IsSpan time span = (span.seconds * 1000000000 + span.nanoseconds ≡ time) × (span.nanoseconds < 1000000000)
+
+-- where no time may pass at all a kernel doesn't look for signals (epoll_pwait2(2) with no time): so a moment passes, the least there is
+abbrev pub moment_at_least : Option ℕ → Option ℕ
+moment_at_least None = None
+moment_at_least (Some at) = Some (max at 1)
+
+-- a sleep is by an epoll instance where there is one that can tell of all. Where a descriptor is ready of which it needn't be told, the instance is asked only what else is, and no time passes
+abbrev pub sleep_call : (has_instance : Bool) → Enlisted → Option ℕ → SleepCall
+sleep_call has_instance all limit = record {
+  by_instance = has_instance && not (cant_tell all);
+  is_ready = is_ready all;
+  limit = if is_ready all then Some 0 else moment_at_least limit;
+}
+
+-- that one has ended the sleep, then, whatever the instance has told; an error is one all the same
+abbrev pub sleep_came : (is_ready : Bool) → ℤ → ℤ
+sleep_came is_ready came = if is_ready && not (is_below came) then pos 1 else came

@@ -19,6 +19,9 @@ pub struct Prospect {
 
     /// Time can pass at once, so that a timeout ends.
     pub can_pass_time: bool,
+
+    /// The ring's descriptor can't tell of all that requests wait for.
+    pub is_untold: bool,
 }
 
 /// Whether a ring's descriptor is readable, or what is to be asked.
@@ -36,7 +39,7 @@ pub enum Readable {
 }
 
 impl Shown {
-    /// Whether a ring's descriptor is readable, where this is the head that the application has stored, or what is asked of its prospect: completions wait, in the ring or outside it, or a call would bring something. Our own rule, but for the first.
+    /// Whether a ring's descriptor is readable, where this is the head that the application has stored, or what is asked of its prospect: completions wait, in the ring or outside it, or a call would bring something, or may. Our own rule, but for the first.
     pub fn readable(&self, head: u32, known: &Prospect) -> Readable
         ensures { (log : List Change) (n : ℕ) → KeepsShown log self.now → IsTold log head n
             → result ≡ readable_of log n known.now }
@@ -68,7 +71,9 @@ impl Shown {
 fn told_by(known: &Prospect) -> Readable
     ensures { result ≡ told_by known.now }
 {
-    if !known.knows_requests {
+    if known.is_untold {
+        Readable::Is
+    } else if !known.knows_requests {
         Readable::AsksRequests
     } else if known.can_go_on {
         Readable::Is

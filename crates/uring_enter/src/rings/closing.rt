@@ -2,7 +2,7 @@
 
 ghost use Rattle.std.specs.Prelude.{◌≡◌};
 ghost use Rattle.uring_enter.specs.Rings.Closing as spec;
-ghost use Rattle.uring_enter.specs.Rings.Closing.{ElapsedMattersWhereAsked, SleepsAfterAll};
+ghost use Rattle.uring_enter.specs.Rings.Closing.{ElapsedMattersWhereAsked, SleepsAfterAll, StaysWhileOpen};
 
 use crate::waiting::sleeping::{Beginning, beginning_of};
 
@@ -39,6 +39,20 @@ pub fn may_name(maker: u32, process: u32) -> bool
     ensures { result ≡ spec.may_name maker process }
 {
     maker == process
+}
+
+/// Whether nobody can reach a ring any more, by what is known of it, if anything: whether a descriptor is open on it in the table of the thread that looks, which `is_listed` says; whether it was made in that table; and whether one is in a table that another thread has of its own.
+pub fn is_gone(
+    is_listed: Option<bool>,
+    is_of_table: Option<bool>,
+    is_elsewhere: Option<bool>,
+) -> bool
+    ensures { result ≡ spec.is_gone is_listed is_of_table is_elsewhere }
+{
+    matches!(
+        (is_listed, is_of_table, is_elsewhere),
+        (Some(false), Some(true), Some(false))
+    )
 }
 
 /// Of how many rings it is looked whether they are closed before a call sleeps.
@@ -92,6 +106,11 @@ pub fn next_before_sleep(last: Option<BeforeSleep>, has_brought: bool, fault: i3
         Some(BeforeSleep::DoesDuties) => SleepOnto::Begins(beginning_of(fault, has_brought)),
     }
 }
+
+/// A ring that a descriptor is open on in any table is never gone, whatever else is known.
+pub fn stays_while_open()
+    ensures { StaysWhileOpen }
+{}
 
 /// Where it isn't asked how long ago it was, as many are looked at whatever that is.
 pub fn elapsed_matters_where_asked()

@@ -5,8 +5,10 @@ ghost use Rattle.uring_operations.specs.declared.entries.timeout.Timeout.{Timeou
 ghost use Rattle.uring_operations.specs.Entries.Timeouts.{Event};
 ghost use Rattle.uring_enter.specs.Time.Kept.{KeepsTime};
 ghost use Rattle.uring_enter.specs.Waiting.Sleeps.{after_end, after_sleep, lasts_at_most, comes_to, passes, reached, IsSpan};
+ghost use Rattle.uring_enter.specs.Waiting.Sleeps as spec;
 
 use crate::time::times::Times;
+use crate::waiting::watched::Enlisted;
 use uring_operations::left_until;
 
 /// How long a call naps that can't be woken, in nanoseconds.
@@ -30,6 +32,58 @@ pub fn span_of(nanoseconds: u64) -> Span
         seconds: nanoseconds / 1_000_000_000,
         nanoseconds: nanoseconds % 1_000_000_000,
     }
+}
+
+/// How a sleep is begun.
+#[derive(Clone, Copy, Drop)]
+pub struct SleepCall {
+    /// By an epoll instance; else by poll(2).
+    pub by_instance: bool,
+
+    /// A descriptor is ready of which the instance doesn't tell.
+    pub is_ready: bool,
+
+    /// So long it lasts at most, in nanoseconds.
+    pub limit: Option<u64>,
+}
+
+/// How a sleep is begun that may last so long, where there is an instance or none, which makes this of all that it is to tell of.
+pub fn sleep_call(has_instance: bool, all: Enlisted, limit: Option<u64>) -> SleepCall
+    ensures { result ≡ spec.sleep_call has_instance all limit }
+{
+    match all {
+        Enlisted::Tells => SleepCall {
+            by_instance: has_instance,
+            is_ready: false,
+            limit: moment_at_least(limit),
+        },
+        Enlisted::IsReady => SleepCall {
+            by_instance: has_instance,
+            is_ready: true,
+            limit: Some(0),
+        },
+        Enlisted::CantTell => SleepCall {
+            by_instance: false,
+            is_ready: false,
+            limit: moment_at_least(limit),
+        },
+    }
+}
+
+fn moment_at_least(limit: Option<u64>) -> Option<u64>
+    ensures { result ≡ spec.moment_at_least limit }
+{
+    match limit {
+        None => None,
+        Some(at) => Some(at.max(1)),
+    }
+}
+
+/// What such a sleep came to, where its system call came to this.
+pub fn sleep_came(is_ready: bool, came: i32) -> i32
+    ensures { result ≡ spec.sleep_came is_ready came }
+{
+    if is_ready && came >= 0 { 1 } else { came }
 }
 
 impl Times {

@@ -1,7 +1,7 @@
 //! What a ring's descriptor polls for: the descriptors that its requests wait for, each for the events of all of them. epoll_ctl(2).
 
 ghost use Rattle.std.specs.Prelude.{◌≡◌, List, [], ◌∷◌};
-ghost use Rattle.uring_enter.specs.Waiting.Watching.{Waiting, Waits, KeepsWatched, change_of, PollsWhatASleepDoes};
+ghost use Rattle.uring_enter.specs.Waiting.Watching.{Waiting, Waits, KeepsWatched, StandsAs, both, change_of, is_untold_after, PollsWhatASleepDoes};
 ghost use Rattle.uring_enter.specs.Waiting.Watching as spec;
 
 use crate::going_on::duties::polls_writes;
@@ -12,6 +12,12 @@ use crate::going_on::duties::polls_writes;
 pub struct Watched {
     /// The events of all requests that wait for it.
     pub events: u32,
+
+    /// It couldn't be told of when it was last added.
+    pub is_untold: bool,
+
+    /// It was given back: its number isn't polled for any more.
+    pub is_given_back: bool,
 
     /// When the last of them began to wait, in a count of its ring that rises.
     pub begun: u64,
@@ -76,24 +82,59 @@ pub struct Besides {
     pub instance: bool,
 }
 
+impl Enlisted {
+    /// The same of several descriptors, by what it makes of some of them and of one more.
+    pub fn with(self, one: Enlisted) -> Enlisted
+        ensures { result ≡ both self one }
+    {
+        match (self, one) {
+            (Enlisted::CantTell, _) | (_, Enlisted::CantTell) => Enlisted::CantTell,
+            (Enlisted::IsReady, _) | (_, Enlisted::IsReady) => Enlisted::IsReady,
+            _ => Enlisted::Tells,
+        }
+    }
+}
+
 impl Watched {
     /// Nobody waits.
     pub fn begin() -> Watched
-        ensures { KeepsWatched [] result }
+        ensures waiting { KeepsWatched [] result }
+        ensures stands { StandsAs false false result }
     {
         Watched {
             events: 0,
+            is_untold: false,
+            is_given_back: false,
             begun: 0,
         }
     }
 
     /// A request waits for these events too, and began to at this count.
     pub fn add(&mut self, events: u32, begun: u64)
-        ensures { (waiting : List Waiting) → KeepsWatched waiting self.old
+        ensures waiting { (waiting : List Waiting) → KeepsWatched waiting self.old
             → KeepsWatched (Waits events begun ∷ waiting) self.new }
+        ensures stands { StandsAs self.old.is_untold self.old.is_given_back self.new }
     {
         self.events = self.events | events;
         self.begun = self.begun.max(begun);
+    }
+
+    /// It was added to what is polled for, which came to this.
+    pub fn enlist(&mut self, res: i32)
+        ensures waiting { (waiting : List Waiting) → KeepsWatched waiting self.old
+            → KeepsWatched waiting self.new }
+        ensures stands { StandsAs (is_untold_after res) self.old.is_given_back self.new }
+    {
+        self.is_untold = matches!(enlisted_as(res), Enlisted::CantTell);
+    }
+
+    /// It is polled for no more, since its number may be given back.
+    pub fn give_back(&mut self)
+        ensures waiting { (waiting : List Waiting) → KeepsWatched waiting self.old
+            → KeepsWatched waiting self.new }
+        ensures stands { StandsAs self.old.is_untold true self.new }
+    {
+        self.is_given_back = true;
     }
 }
 
@@ -106,7 +147,11 @@ pub fn watch_of(before: Option<Watched>, after: Option<Watched>) -> Watch
         (None, Some(_)) => Watch::Adds,
         (Some(_), None) => Watch::Removes,
         (Some(before), Some(after)) => {
-            if before.events == after.events && before.begun == after.begun {
+            if before.is_untold {
+                Watch::Adds
+            } else if before.is_given_back {
+                Watch::Renews
+            } else if before.events == after.events && before.begun == after.begun {
                 Watch::Stays
             } else {
                 Watch::Renews
