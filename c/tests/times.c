@@ -22,7 +22,7 @@ static struct wulgach_timeout rows[ROOM];
 static int32_t start(uint64_t number, uint64_t more, uint64_t count, bool is_linked)
 {
     struct wulgach_start start = {number, more, count, is_linked};
-    return wulgach_times_start(&times, rows, ROOM, &start);
+    return wulgach_times_start(&times, rows, ROOM, &start, 0);
 }
 
 static void check_sums(void)
