@@ -40,6 +40,9 @@ struct wulgach_outstanding {
     bool runs;          /* it has started */
     bool is_stream;     /* it may have to wait for its descriptor */
     bool may_start;     /* of one that doesn't run: it could start now, and isn't taken after the cancel (wulgach_is_taken_after) */
+    bool comes_first;   /* a kernel issues it before the cancel (wulgach_is_issued_before), */
+    bool goes_on;       /* it may have more than one completion, */
+    bool is_ready;      /* and where it comes first and runs, and doesn't go on: it needn't wait */
 };
 
 /* An entry of the submission ring: see wulgach_form.h. */
@@ -93,6 +96,18 @@ bool wulgach_is_waiting(const struct wulgach_outstanding *request);
  * submitted after it, and the cancel is after no link, and doesn't drain. */
 bool wulgach_is_taken_after(uint64_t cancel, bool is_linked, bool drains, uint64_t number);
 
+/* Whether a request of this operation finds others, and a kernel carries it out once all of its own submission was issued that can start: it is a
+ * cancel or a removal, after a link. */
+bool wulgach_comes_late(uint8_t code, bool is_linked);
+
+/* Whether a kernel issues the request `number` before the cancel or the removal `cancel`, of this operation: that is after a link, and the
+ * request was submitted after it, in the same submission. Then it is to start first, if it can, and is found only where it runs, and
+ * has to wait or goes on. */
+bool wulgach_is_issued_before(uint8_t code, uint64_t cancel, bool is_linked, bool is_same, uint64_t number);
+
+/* Whether it matters to a cancel if a request has to wait: it was issued first, runs, and doesn't go on. If not, is_ready may be anything. */
+bool wulgach_asks_wait(const struct wulgach_outstanding *request);
+
 /* A cancel that looks at requests, the oldest first. It is the caller's memory, and its fields are the library's. */
 struct wulgach_cancel {
     struct wulgach_sought sought;
@@ -106,7 +121,8 @@ void wulgach_cancel_begin(struct wulgach_cancel *cancel, const struct wulgach_so
 bool wulgach_cancel_asks(const struct wulgach_cancel *cancel, const struct wulgach_outstanding *request);
 
 /* Looks at the next request, and says whether it is cancelled: it fits, it is neither a cancel itself nor a timeout that is linked to a
- * request, none has chosen it before, and it waits for something or could start now; and the cancel is of all, or has found none before. */
+ * request, none has chosen it before, and it waits for something or could start now, one that was issued first only if it runs, and has
+ * to wait or goes on; and the cancel is of all, or has found none before. */
 bool wulgach_cancel_sees(struct wulgach_cancel *cancel, const struct wulgach_outstanding *request);
 
 /* What the cancel ends with, once it has looked at all: how many it has cancelled, or of one 0, or -2 (ENOENT) if there was none. */
@@ -125,14 +141,14 @@ struct wulgach_search {
 void wulgach_search_begin(struct wulgach_search *search, uint64_t user_data);
 
 /* Looks at the next running request, and says whether it is to be cancelled: it is the oldest of this user data, but cancels and timeouts that
- * are linked to a request, no cancel has chosen it, and it waits for something. */
+ * are linked to a request, and what has ended in a kernel before the cancel, no cancel has chosen it, and it waits for something. */
 bool wulgach_search_sees(struct wulgach_search *search, const struct wulgach_outstanding *request);
 
 /* Whether the one that was found is cancelled, by this cancel or another. */
 bool wulgach_search_has_cancelled(const struct wulgach_search *search);
 
 /* What the core has found that has ended the cancel so, once all that run were looked at: -2 (ENOENT) in the place of -114 (EALREADY) if, by
- * Linux's rules, none of them is one that a cancel finds. */
+ * Linux's rules, none of them is one that a cancel finds, or all of these have ended in a kernel before the cancel. */
 int32_t wulgach_search_found_by_core(const struct wulgach_search *search, int32_t res, bool linux_rules);
 
 /* ---- updates ---- */

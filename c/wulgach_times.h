@@ -99,8 +99,30 @@ uint64_t wulgach_timeout_lasts(uint64_t time, uint64_t now, bool has_clock);
 /* A ring's time begins, and no timeout runs. */
 void wulgach_times_begin(struct wulgach_times *times);
 
-/* A timeout starts. -12 (ENOMEM) exactly if there is no row for it; then nothing changes. Its number is that of none that runs. */
-int32_t wulgach_times_start(struct wulgach_times *times, struct wulgach_timeout *rows, size_t room, const struct wulgach_start *start);
+/* A timeout starts that counts so many of the completions that were posted last (wulgach_held_for), as if it had started before them. -12 (ENOMEM)
+ * exactly if there is no row for it; then nothing changes. Its number is that of none that runs. */
+int32_t wulgach_times_start(struct wulgach_times *times, struct wulgach_timeout *rows, size_t room, const struct wulgach_start *start, uint64_t held);
+
+/* How many completions were posted of ends of the newest submission's requests. A kernel posts those that end in their submission as that ends, and
+ * so after it has issued a timeout of the same. It is the caller's memory, and its fields are the library's. */
+struct wulgach_held_back {
+    uint64_t first;
+    uint64_t count;
+};
+
+/* A submission begins, whose first request has this number. */
+void wulgach_held_begin(struct wulgach_held_back *held, uint64_t first);
+
+/* A completion that counts (wulgach_times_count_end) was posted of the request of this number: of its end, or at once, as a message is. */
+void wulgach_held_posts(struct wulgach_held_back *held, uint64_t number, bool is_at_once);
+
+/* Whether a completion is posted at once that a request of this operation has before its end: but the event of a poll, and that bytes were sent
+ * without copies. */
+bool wulgach_is_at_once(uint8_t code);
+
+/* How many of those that were posted a timeout of this number counts that starts now: none, if it is issued late, after a link or a drain, and not as
+ * its entry is taken, or is of an earlier submission. */
+uint64_t wulgach_held_for(const struct wulgach_held_back *held, uint64_t number, bool is_late);
 
 /* The time of the timeout of this number is changed: it is over so much later than now, and has no count any more. */
 void wulgach_times_change(struct wulgach_times *times, struct wulgach_timeout *rows, size_t room, uint64_t number, uint64_t more);
@@ -119,9 +141,10 @@ int32_t wulgach_times_outcome(const struct wulgach_times *times, const struct wu
 bool wulgach_times_runs(const struct wulgach_times *times, const struct wulgach_timeout *rows, size_t room, uint64_t number);
 
 /* A request has ended, by this course of wulgach_course.h, and its completion was posted or skipped. It counts as one that was posted,
- * unless it is that of a timeout which its time or its count has ended; one of a timeout that was removed or cancelled counts. */
+ * unless it is that of a timeout which its time or its count has ended; one of a timeout that was removed or cancelled counts. Says whether
+ * it does. */
 struct wulgach_course;
-void wulgach_times_count_end(struct wulgach_times *times, const struct wulgach_course *course, bool is_timeout, bool is_posted);
+bool wulgach_times_count_end(struct wulgach_times *times, const struct wulgach_course *course, bool is_timeout, bool is_posted);
 
 /* A clock says that it is so late, or a call's own limit does. */
 void wulgach_times_move_to(struct wulgach_times *times, uint64_t now);

@@ -79,11 +79,35 @@ static void compare(void)
 static void order(void)
 {
     demand(wulgach_is_taken_after(3, false, false, 4) && !wulgach_is_taken_after(4, false, false, 3) && !wulgach_is_taken_after(3, true, false, 4) && !wulgach_is_taken_after(3, false, true, 4), "what is taken behind a cancel");
+    demand(wulgach_comes_late(14, true) && wulgach_comes_late(7, true) && wulgach_comes_late(12, true) && !wulgach_comes_late(14, false) && !wulgach_comes_late(22, true), "what comes late");
+    demand(wulgach_is_issued_before(14, 3, true, true, 4) && !wulgach_is_issued_before(14, 3, true, false, 4) && !wulgach_is_issued_before(14, 4, true, true, 3), "what is issued before it");
+}
+
+/* Of what is issued before a cancel only what runs, and has to wait or goes on, is found. */
+static void issued_before(void)
+{
+    struct wulgach_sought sought = {.user_data = 1};
+    for (int i = 0; i < 16; i++) {
+        struct wulgach_cancel cancel;
+        struct wulgach_search search;
+        struct wulgach_outstanding seen = {.user_data = 1, .is_token = true, .is_stream = true, .may_start = true, .comes_first = true, .runs = i & 1, .goes_on = i & 2, .is_ready = i & 4, .is_cancelled = i & 8};
+        bool has_ended = seen.is_ready && !seen.goes_on;
+        wulgach_cancel_begin(&cancel, &sought);
+        demand(!wulgach_cancel_asks(&cancel, &seen), "whether it could start doesn't matter");
+        demand(wulgach_asks_wait(&seen) == (seen.runs && !seen.goes_on), "whether it has to wait matters");
+        demand(wulgach_cancel_sees(&cancel, &seen) == (seen.runs && !has_ended && !seen.is_cancelled), "what is issued before is found");
+        if (!seen.runs)
+            continue;
+        wulgach_search_begin(&search, 1);
+        demand(wulgach_search_sees(&search, &seen) == (!has_ended && !seen.is_cancelled), "and so where it runs");
+        demand(wulgach_search_found_by_core(&search, -114, true) == (has_ended ? -2 : -114), "what has ended isn't found");
+    }
 }
 
 int main(void)
 {
     order();
+    issued_before();
     struct wulgach_cancel cancel;
     struct wulgach_outstanding waits = {.user_data = 1, .is_token = true};
     struct wulgach_sought one = {.user_data = 1}, nobody = {.user_data = 3}, any = {.is_any = true}, all = {.user_data = 1, .is_all = true};

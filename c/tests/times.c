@@ -22,7 +22,7 @@ static struct wulgach_timeout rows[ROOM];
 static int32_t start(uint64_t number, uint64_t more, uint64_t count, bool is_linked)
 {
     struct wulgach_start start = {number, more, count, is_linked};
-    return wulgach_times_start(&times, rows, ROOM, &start);
+    return wulgach_times_start(&times, rows, ROOM, &start, 0);
 }
 
 static void check_sums(void)
@@ -60,6 +60,24 @@ static void check_order(void)
     demand(times.count == 0, "none runs any more");
 }
 
+/* A timeout counts what its own submission's requests have ended with before it started, unless it is issued late. */
+static void check_held(void)
+{
+    struct wulgach_held_back held;
+    wulgach_held_begin(&held, 5);
+    wulgach_held_posts(&held, 4, false);
+    wulgach_held_posts(&held, 5, false);
+    wulgach_held_posts(&held, 6, true);
+    wulgach_held_posts(&held, 7, false);
+    demand(wulgach_held_for(&held, 8, false) == 2 && wulgach_held_for(&held, 8, true) == 0 && wulgach_held_for(&held, 4, false) == 0, "what is held back");
+    demand(wulgach_is_at_once(27) && !wulgach_is_at_once(6) && !wulgach_is_at_once(47) && !wulgach_is_at_once(48), "what is posted at once");
+    wulgach_times_begin(&times);
+    times.posted = 4;
+    struct wulgach_start begun = {.number = 1, .more = 100, .count = 2}, other = {.number = 2, .more = 100};
+    demand(wulgach_times_start(&times, rows, ROOM, &begun, 2) == 0 && wulgach_times_start(&times, rows, ROOM, &other, 2) == 0, "two start");
+    demand(wulgach_times_outcome(&times, rows, ROOM, 1) == 0 && wulgach_times_outcome(&times, rows, ROOM, 2) == -2, "one has counted enough");
+}
+
 static void check_counts_and_changes(void)
 {
     struct wulgach_timeout reached = {.number = 7};
@@ -68,9 +86,9 @@ static void check_counts_and_changes(void)
     demand(start(1, 100, 2, false) == 0 && start(2, 100, 0, false) == 0, "two start");
     struct wulgach_course course;
     wulgach_course_begin(&course);
-    wulgach_times_count_end(&times, &course, false, true);
+    demand(wulgach_times_count_end(&times, &course, false, true), "an end counts");
     wulgach_course_note(&course, WULGACH_FACT_STARTED, 0);
-    wulgach_times_count_end(&times, &course, true, true);
+    demand(!wulgach_times_count_end(&times, &course, true, true), "one doesn't");
     demand(times.posted == 1, "a timeout that its time has ended doesn't count");
     demand(wulgach_times_outcome(&times, rows, ROOM, 1) == -2, "one completion isn't two");
     demand(wulgach_times_reached(&times, rows, ROOM, &reached) == -2 && reached.number == 7, "no count is reached");
@@ -167,6 +185,7 @@ int main(void)
 {
     check_sums();
     check_order();
+    check_held();
     check_counts_and_changes();
     check_waits();
     printf("times: as called for\n");

@@ -58,6 +58,7 @@ static struct wulgach_outstanding seen_of(const struct request *request)
         .is_cancelled = request->course.is_cancelled,
         .runs = request->course.has_started,
         .is_stream = request->standing.is_stream,
+        .goes_on = request->needs.goes_on,
     };
 }
 
@@ -75,11 +76,26 @@ static void compare(struct wulgach_outstanding *seen, const struct request *requ
     seen->is_same = same > 0;
 }
 
-/* Has the cancel of a seeker, or of a call of io_uring_register(2), which comes after all (NULL), look at a request. Whether that is carried out on the
- * file of this descriptor, and whether the core lets it start, is asked only where it matters. */
-static bool look_for(struct ring *ring, struct wulgach_cancel *cancel, const struct request *seeker, const struct request *request, int on)
+bool is_issued_before(const struct request *seeker, const struct request *request)
+{
+    return wulgach_is_issued_before(seeker->entry.opcode, seeker->number, seeker->member.is_linked, seeker->call == request->call, request->number);
+}
+
+/* A request as a seeker sees it, or a call of io_uring_register(2) (NULL). Whether one that is issued before it needn't wait is asked only where it matters. */
+static struct wulgach_outstanding seen_by(struct ring *ring, const struct request *seeker, struct request *request)
 {
     struct wulgach_outstanding seen = seen_of(request);
+    seen.comes_first = seeker && is_issued_before(seeker, request);
+    if (wulgach_asks_wait(&seen))
+        seen.is_ready = can_finish(ring, request);
+    return seen;
+}
+
+/* Has the cancel of a seeker, or of a call of io_uring_register(2), which comes after all (NULL), look at a request. Whether that is carried out on the
+ * file of this descriptor, and whether the core lets it start, is asked only where it matters. */
+static bool look_for(struct ring *ring, struct wulgach_cancel *cancel, const struct request *seeker, struct request *request, int on)
+{
+    struct wulgach_outstanding seen = seen_by(ring, seeker, request);
     if (wulgach_asks_file(&cancel->sought, &seen))
         compare(&seen, request, on);
     bool is_behind = seeker && wulgach_is_taken_after(seeker->number, seeker->member.is_linked, seeker->is_draining, request->number);
@@ -100,14 +116,15 @@ static int32_t cancel_all(struct ring *ring, const struct request *canceller, co
     return wulgach_cancel_result(&cancel);
 }
 
-bool cancel_running(struct ring *ring, uint64_t user_data, int32_t *found)
+bool cancel_running(struct ring *ring, const struct request *cancel, int32_t *found)
 {
+    uint64_t user_data = wulgach_target_of(submission_of(&cancel->entry));
     struct wulgach_search search;
     struct seeking seeking;
     wulgach_search_begin(&search, user_data);
     begin_seeking_named(&seeking, ring, user_data);
     for (struct request *request; (request = next_sought(&seeking));) {
-        struct wulgach_outstanding seen = seen_of(request);
+        struct wulgach_outstanding seen = seen_by(ring, cancel, request);
         if (seen.runs && wulgach_search_sees(&search, &seen))
             cancel_request(ring, request);
     }

@@ -13,9 +13,12 @@ bool is_cancellable(const struct request *request);
 /* A cancel found this request running. It ends when it is next gone on with. */
 void cancel_request(struct ring *ring, struct request *request);
 
-/* The core has found that a request of this user data runs, which is what `found` tells: cancels the one that the library finds. Says whether that is
+/* Whether a kernel issues a request before this cancel or removal, though it was submitted after it. */
+bool is_issued_before(const struct request *seeker, const struct request *request);
+
+/* The core has found that a request runs whose user data this cancel names, which is what `found` tells: cancels the one that the library finds. Says whether that is
  * cancelled; then it ends so when it is next gone on with. If no cancel finds what the core has found, `found` tells that then. */
-bool cancel_running(struct ring *ring, uint64_t user_data, int32_t *found);
+bool cancel_running(struct ring *ring, const struct request *cancel, int32_t *found);
 
 /* The request that a cancel or a removal finds among those that run and wait, and those that could start; or NULL. */
 struct request *find_request(struct ring *ring, const struct request *seeker);

@@ -107,7 +107,8 @@ static void do_duty(struct ring *ring, struct end_of_request *end, enum wulgach_
         keep_completion(ring, end);
         return;
     case WULGACH_END_COUNTS:
-        wulgach_times_count_end(&ring->times, &request->course, is_timeout(request), end->is_posted);
+        if (wulgach_times_count_end(&ring->times, &request->course, is_timeout(request), end->is_posted))
+            wulgach_held_posts(&ring->held, request->number, request->is_at_once);
         return;
     case WULGACH_END_STOPS_TIMEOUT:
         note_ended(ring, request);
@@ -158,7 +159,7 @@ static bool cancel_after(struct ring *ring, const struct request *cancel, struct
     for (;;)
         switch ((enum wulgach_sought_after)wulgach_sought_after(&ended, *res)) {
         case WULGACH_SEEKS_RUNNING:
-            ended.has_cancelled = cancel_running(ring, wulgach_target_of(submission_of(&cancel->entry)), res);
+            ended.has_cancelled = cancel_running(ring, cancel, res);
             ended.has_looked = true;
             break;
         case WULGACH_SEEKS_NEXT:

@@ -105,7 +105,7 @@ bool can_post_extra(struct ring *ring)
     return wulgach_drains_may_post(&ring->drains, ring->staged.count, ring->is_linux, has_memory);
 }
 
-static bool post(struct ring *ring, uint64_t call, bool is_message, uint64_t user_data, int32_t res, uint32_t flags)
+static bool post(struct ring *ring, uint64_t call, bool is_message, bool is_at_once, uint64_t user_data, int32_t res, uint32_t flags)
 {
     do_duties_before_posting(ring);
     struct request *request = make_request(&ring->requests);
@@ -115,6 +115,7 @@ static bool post(struct ring *ring, uint64_t call, bool is_message, uint64_t use
     request->flags = flags;
     request->call = call;
     request->is_message = is_message;
+    request->is_at_once = is_at_once;
     stage_own(ring, request);
     bool is_posted = take_own(ring, request, res);
     if (!is_posted)
@@ -122,9 +123,9 @@ static bool post(struct ring *ring, uint64_t call, bool is_message, uint64_t use
     return is_posted;
 }
 
-bool post_extra(struct ring *ring, uint64_t call, uint64_t user_data, int32_t res, uint32_t flags)
+bool post_extra(struct ring *ring, uint64_t call, bool is_at_once, uint64_t user_data, int32_t res, uint32_t flags)
 {
-    return post(ring, call, false, user_data, res, flags);
+    return post(ring, call, false, is_at_once, user_data, res, flags);
 }
 
 void change_unposted(struct ring *ring, int32_t res, uint32_t flags)
@@ -163,7 +164,7 @@ __attribute__((noinline)) static void post_waiting(struct ring *ring)
 {
     struct message *message;
     while (posts_message(ring) && (message = take_message(&ring->inbox))) {
-        post(ring, 0, true, message->user_data, message->res, message->flags);
+        post(ring, 0, true, true, message->user_data, message->res, message->flags);
         free(message);
     }
 }

@@ -33,7 +33,7 @@ struct inbox {
 bool can_post_extra(struct ring *ring);
 
 /* Posts one, of a request that the call of this number has submitted. It can be posted. False: the core refused memory for it, and it is put off. */
-bool post_extra(struct ring *ring, uint64_t call, uint64_t user_data, int32_t res, uint32_t flags);
+bool post_extra(struct ring *ring, uint64_t call, bool is_at_once, uint64_t user_data, int32_t res, uint32_t flags);
 
 /* Where a completion was put off: whether this comes now, after what the library says is posted first. And has that one show this instead. */
 bool comes_now(struct ring *ring, enum wulgach_coming what);

@@ -21,6 +21,7 @@
 #include "streams.h"
 #include "timeouts.h"
 #include "ways.h"
+#include "wulgach_cancel.h"
 #include "wulgach_taking.h"
 
 
@@ -64,7 +65,7 @@ static bool goes_on_after(const struct ring *ring, const struct request *request
 /* Posts a completion of a request before its end. It counts as of the call that submitted the request. False: it is put off. */
 static bool post_event(struct ring *ring, const struct request *request, int32_t res, enum wulgach_part part)
 {
-    return post_extra(ring, request->call, request->entry.user_data, res, wulgach_completion_flags(part, request->flags));
+    return post_extra(ring, request->call, wulgach_is_at_once(request->entry.opcode), request->entry.user_data, res, wulgach_completion_flags(part, request->flags));
 }
 
 static void note_vain(struct ring *ring, struct request *request)
@@ -229,8 +230,8 @@ static void start(struct ring *ring, struct request *request)
     note_running(ring, request);
 }
 
-/* Issues a request that can be issued. True if it has started: else it has ended without being carried out. */
-static bool issue_waiting(struct ring *ring, struct request *request)
+/* Issues a request that can be issued, and no other. True if it has started: else it has ended without being carried out. */
+static bool issue_alone(struct ring *ring, struct request *request)
 {
     int32_t res;
     note_standing(ring, request);
@@ -247,6 +248,26 @@ static bool issue_waiting(struct ring *ring, struct request *request)
     demand(kind == WULGACH_RUN, "the core doesn't issue a request");
     start(ring, request);
     return true;
+}
+
+/* Issues what can be issued of what a kernel issues before a cancel or a removal. */
+static void issue_before(struct ring *ring, const struct request *seeker)
+{
+    for (size_t i = count_before(&ring->requests, seeker->number + 1); i < ring->requests.count;) {
+        struct request *request = ring->requests.rows[i];
+        bool is_due = !request->course.has_started && request->mapping == TOKEN && is_issued_before(seeker, request) && can_issue(ring, request->number);
+        if (is_due)
+            record_break();
+        i += !is_due || issue_alone(ring, request);
+    }
+}
+
+/* Issues a request that can be issued, after those that a kernel issues before it. True if it has started. */
+static bool issue_waiting(struct ring *ring, struct request *request)
+{
+    if (wulgach_comes_late(request->entry.opcode, request->member.is_linked))
+        issue_before(ring, request);
+    return issue_alone(ring, request);
 }
 
 void go_on_with(struct ring *ring, struct request *request)

@@ -38,6 +38,7 @@ struct request {
     struct buffer *buffer;          /* the registered buffer that it uses, or NULL */
     struct wulgach_needs needs;     /* what its operation needs, and of which kind it is: as zeros, but of a token */
     bool is_assigned;               /* these are known: when it is accepted, or, after a link or beside a drain, when it starts */
+    bool is_late;                   /* when it starts */
     bool is_due;                    /* these are found in its turn: before one after it starts, or the call sleeps or returns */
     bool is_tried;                  /* whether it may have to wait isn't known: it is tried first, */
     bool is_tried_at_once;          /* and nothing was asked of its descriptor, */
@@ -70,6 +71,7 @@ struct request {
     uint64_t logged_file;           /* the file that its begin is logged of, or 0 */
     bool has_fired;                 /* a linked timeout: the request before it was cancelled by it */
     bool is_message;                /* one of the layer's own, which tells of a message or of a tag: no call has submitted it */
+    bool is_at_once;                /* one of the layer's own, which tells of no end: it is posted as it comes */
     bool is_of_pipe;                /* a poll for what a pipe has to be read: */
     int watch;                      /* the number by which writes to that are told, or 0, */
     struct request *watched_before, *watched_after;    /* and the polls that stand beside it among those of the same number, or NULL */

@@ -102,6 +102,7 @@ struct ring {
     uint64_t held_before;               /* each with a lesser number was given its file to keep, if it was known */
     uint64_t due_from, due_end;         /* from the one number up to the other some are to find their files in their turn */
     struct completions completions;     /* posted and not reaped */
+    struct wulgach_held_back held;      /* what was posted of the ends of the newest submission */
     struct wulgach_times times;         /* its time, in nanoseconds, and how many timeouts run: */
     struct wulgach_timeout *timeouts;   /* these, */
     size_t timeouts_room;               /* and for how many there is room */

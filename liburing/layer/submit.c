@@ -120,6 +120,7 @@ static void find_for(struct ring *ring, struct request *request, bool behind)
     uint32_t found = wulgach_drains_find_file(&ring->drains, &request->member, ring->is_linux, behind, false, false);
     if (found == WULGACH_ASKS_START)
         found = wulgach_drains_find_file(&ring->drains, &request->member, ring->is_linux, behind, true, can_issue(ring, request->number));
+    request->is_late = found == WULGACH_FOUND_AT_START;
     if (found == WULGACH_FOUND_BY_CALL)
         assign(ring, request);
     else if (found == WULGACH_FOUND_IN_TURN)
@@ -175,6 +176,7 @@ static int take_staged(struct ring *ring, uint32_t given, uint32_t head)
 {
     uint32_t count = (uint32_t)ring->staged.count;
     uint64_t accepted = ring->accepted;
+    wulgach_held_begin(&ring->held, accepted);
     struct wulgach_taken taken;
     if (!submit_staged(ring, given, &taken))
         return wulgach_refusal_fault(count, true);

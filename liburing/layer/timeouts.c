@@ -66,8 +66,11 @@ static void run(struct ring *ring, const struct request *timeout)
         .count = wulgach_timeout_count(submission_of(&timeout->entry)),
         .is_linked = is_linked_timeout(timeout),
     };
-    demand(wulgach_times_start(&ring->times, ring->timeouts, ring->timeouts_room, &start) == 0, "there is no room for a timeout");
+    uint64_t held = wulgach_held_for(&ring->held, timeout->number, timeout->is_late);
+    demand(wulgach_times_start(&ring->times, ring->timeouts, ring->timeouts_room, &start, held) == 0, "there is no room for a timeout");
     ring->may_count |= start.count > 0;
+    if (held > 0)
+        note_counts(ring);
 }
 
 /* Does with a timeout's time what the library said. */

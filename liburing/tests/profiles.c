@@ -4,6 +4,9 @@
 #define _GNU_SOURCE
 #include "profile.h"
 
+#include <fcntl.h>
+#include <poll.h>
+
 enum { NO_OPERATION = 99 };
 
 /* A drain in a ring that has skipped success is refused, and ends the call of a ring that stops. */
@@ -238,6 +241,110 @@ static void test_cancels_of_linked_timeouts(void)
     }
 }
 
+/* One of its own submission that needn't wait, or has to. */
+enum after_cancel { NO_OP, DEVICE, READY_POLL, HOUR, EMPTY_POLL, EMPTY_PIPE, AFTER_CANCEL };
+
+static void put_after_cancel(enum after_cancel what, uint64_t user_data, int device)
+{
+    static struct __kernel_timespec hour = {.tv_sec = 3600};
+    static char text[4];
+    if (what == NO_OP)
+        put(&ring, IORING_OP_NOP, user_data, 0);
+    else if (what == DEVICE)
+        put_transfer(&ring, IORING_OP_READ, user_data, 0, device, text, 4, 0);
+    else if (what == HOUR)
+        put_transfer(&ring, IORING_OP_TIMEOUT, user_data, 0, -1, &hour, 1, 0);
+    else if (what == EMPTY_PIPE)
+        put_waiting(user_data, 0);
+    else
+        put_plain(&ring, IORING_OP_POLL_ADD, user_data, ends[what == READY_POLL])->poll32_events = what == READY_POLL ? POLLOUT : POLLIN;
+}
+
+/* A cancel or a removal after a link finds of its own submission what has to wait, and nothing that needn't: all of that was issued before. */
+static void test_cancels_after_links(void)
+{
+    static const struct {
+        uint8_t code;
+        uint32_t flags;
+        enum after_cancel what;
+    } rows[] = {
+        {IORING_OP_ASYNC_CANCEL, 0, NO_OP}, {IORING_OP_ASYNC_CANCEL, 0, DEVICE}, {IORING_OP_ASYNC_CANCEL, 0, READY_POLL}, {IORING_OP_ASYNC_CANCEL, 0, HOUR},
+        {IORING_OP_ASYNC_CANCEL, 0, EMPTY_POLL}, {IORING_OP_ASYNC_CANCEL, 0, EMPTY_PIPE}, {IORING_OP_ASYNC_CANCEL, IORING_ASYNC_CANCEL_ALL, NO_OP},
+        {IORING_OP_ASYNC_CANCEL, IORING_ASYNC_CANCEL_ALL, DEVICE}, {IORING_OP_ASYNC_CANCEL, IORING_ASYNC_CANCEL_ALL, READY_POLL},
+        {IORING_OP_ASYNC_CANCEL, IORING_ASYNC_CANCEL_ALL, HOUR}, {IORING_OP_ASYNC_CANCEL, IORING_ASYNC_CANCEL_ALL, EMPTY_POLL},
+        {IORING_OP_ASYNC_CANCEL, IORING_ASYNC_CANCEL_ALL, EMPTY_PIPE}, {IORING_OP_ASYNC_CANCEL, IORING_ASYNC_CANCEL_ANY, NO_OP},
+        {IORING_OP_ASYNC_CANCEL, IORING_ASYNC_CANCEL_ANY, EMPTY_PIPE}, {IORING_OP_POLL_REMOVE, 0, READY_POLL}, {IORING_OP_POLL_REMOVE, 0, EMPTY_POLL},
+        {IORING_OP_TIMEOUT_REMOVE, 0, HOUR},
+    };
+    int device = open("/dev/zero", O_RDONLY);
+    check(device >= 0);
+    for (size_t i = 0; i < 2 * sizeof rows / sizeof *rows; i++) {
+        int32_t results[3];
+        const uint8_t link = i % 2 ? IOSQE_IO_HARDLINK : IOSQE_IO_LINK;
+        const uint32_t flags = rows[i / 2].flags;
+        bool has_to_wait = rows[i / 2].what >= HOUR;
+        if (is_by_manual() && rows[i / 2].code == IORING_OP_ASYNC_CANCEL && flags == 0)
+            continue;
+        begin(0);
+        put(&ring, IORING_OP_NOP, 0, link);
+        struct io_uring_sqe *cancel = put(&ring, rows[i / 2].code, 1, 0);
+        cancel->addr = flags & IORING_ASYNC_CANCEL_ANY ? 0 : 2;
+        cancel->cancel_flags = flags;
+        put_after_cancel(rows[i / 2].what, 2, device);
+        submit(3);
+        reap_all(&ring, 3, results);
+        check(results[0] == 0 && results[1] == (flags ? has_to_wait : has_to_wait ? 0 : -ENOENT));
+        check(has_to_wait ? results[2] == -ECANCELED : results[2] >= 0);
+        stop();
+    }
+    close(device);
+}
+
+static bool is_in_order(void)
+{
+    const char *policy = getenv("WULGACH_POLICY");
+    return !policy || strcmp(policy, "order") == 0;
+}
+
+/* A timeout counts what ends in its own submission, wherever that stands; but not what is posted before it as it comes, nor where it is issued later,
+ * after a link or a drain. (under other policies it may start before such) */
+static void test_counts_of_a_submission(void)
+{
+    struct __kernel_timespec hour = {.tv_sec = 3600}, moment = {.tv_nsec = 1000000};
+    for (int way = 0; way < (is_in_order() ? 9 : 6); way++) {
+        int32_t results[4] = {0};
+        bool is_counted = way < 6;
+        begin(0);
+        if (way == 0)
+            put(&ring, IORING_OP_NOP, 0, 0);
+        else if (way == 1)
+            put_failing(0, 0);
+        else if (way == 2)
+            put(&ring, IORING_OP_ASYNC_CANCEL, 0, 0)->addr = 77;
+        else if (way == 3)
+            put_plain(&ring, IORING_OP_POLL_ADD, 0, ends[1])->poll32_events = POLLOUT;
+        else if (way == 4 || way == 7)
+            put(&ring, IORING_OP_NOP, 0, IOSQE_IO_LINK);
+        else if (way == 6) {
+            struct io_uring_sqe *message = put(&ring, IORING_OP_MSG_RING, 1, IOSQE_CQE_SKIP_SUCCESS);
+            message->fd = ring.fd;
+            message->off = 0;
+        }
+        if (way == 4)
+            put(&ring, IORING_OP_NOP, 2, 0);
+        if (way == 8)
+            put(&ring, IORING_OP_NOP, 0, 0);
+        put_transfer(&ring, IORING_OP_TIMEOUT, 3, way == 8 ? IOSQE_IO_DRAIN : 0, -1, is_counted ? &hour : &moment, 1, way == 4 ? 2 : 1);
+        if (way == 5)
+            put(&ring, IORING_OP_NOP, 0, 0);
+        unsigned count = way == 4 ? 3 : 2;
+        submit(count);
+        reap_all(&ring, count, results);
+        check(results[3] == (is_counted ? 0 : -ETIME));
+        stop();
+    }
+}
+
 int main(int count, char **words)
 {
     static const struct named tests[] = {
@@ -249,6 +356,8 @@ int main(int count, char **words)
         {"messages beside drains", test_messages_beside_drains},
         {"linked timeouts", test_linked_timeouts},
         {"cancels of linked timeouts", test_cancels_of_linked_timeouts},
+        {"cancels after links", test_cancels_after_links},
+        {"counts of a submission", test_counts_of_a_submission},
     };
     return are_rings_there() ? run_tests(tests, sizeof tests / sizeof *tests, count > 1 ? words[1] : NULL) : 0;
 }

@@ -3,8 +3,8 @@ use Rattle.std.proofs.Common.{◌≡◌, ◌==◌, ℕ, ◌≤◌, Bool, true, f
 use Rattle.std.proofs.lemmas.Bool.{false≢true, true≢false}
 use Rattle.uring_enter.specs.declared.cancels.cancel.Sought.{Sought}
 use Rattle.uring_enter.specs.declared.cancels.cancel.Outstanding.{Outstanding}
-use Rattle.uring_enter.specs.Cancels.Cancels.{is_of_all, fits, fits_fd, is_named, is_ever_found, is_free, is_waiting, is_none, is_meant, can_be_found, finds_any, first_of, one_more, count_of, oldest}
-use Rattle.uring_enter.specs.Cancels.CancelLaws.{CancelsWhatFits, CancelsAllThatFit, CancelsTheOldest, AsksWhatMatters, AsksFileWhereItMatters, PassesOverLinked, PassesOverOthers, SearchPassesOverOthers}
+use Rattle.uring_enter.specs.Cancels.Cancels.{is_of_all, fits, fits_fd, is_named, is_ever_found, is_free, is_waiting, is_none, is_meant, asks_wait, has_ended_first, can_be_found, finds_any, first_of, one_more, count_of, oldest}
+use Rattle.uring_enter.specs.Cancels.CancelLaws.{CancelsWhatFits, CancelsAllThatFit, CancelsTheOldest, AsksWhatMatters, AsksFileWhereItMatters, AsksWaitWhereItMatters, FindsFirstThatWait, PassesOverLinked, PassesOverOthers, SearchPassesOverOthers}
 
 fits_by : (b f g : Bool) → (b && f && g) ≡ true → (f ≡ true) × (g ≡ true)
 fits_by true true true is = (refl, refl)
@@ -59,17 +59,52 @@ cancels_the_oldest s earlier one = (
   (one_of s earlier one).most,
 )
 
-asks_by : (b f free runs waiting : Bool) → (b && f && free && not runs) ≡ false
-    → (b && f && (free && (if runs then waiting else true))) ≡ (b && f && (free && (if runs then waiting else false)))
-asks_by false f free runs waiting is = refl
-asks_by true false free runs waiting is = refl
-asks_by true true false runs waiting is = refl
-asks_by true true true true waiting is = refl
-asks_by true true true false waiting is = absurd (true≢false is)
+asks_by : (b f free runs waiting first : Bool) → (b && f && free && not runs && not first) ≡ false
+    → (b && f && (free && (if runs then waiting else true && not first))) ≡ (b && f && (free && (if runs then waiting else false && not first)))
+asks_by false f free runs waiting first is = refl
+asks_by true false free runs waiting first is = refl
+asks_by true true false runs waiting first is = refl
+asks_by true true true true waiting first is = refl
+asks_by true true true false waiting true is = refl
+asks_by true true true false waiting false is = absurd (true≢false is)
 
 pub asks_what_matters : AsksWhatMatters
 asks_what_matters s earlier r is =
-    asks_by (is_of_all s || not (finds_any s earlier)) (fits s r) (is_free r) r.runs (is_waiting r) is
+    asks_by (is_of_all s || not (finds_any s earlier)) (fits s r) (is_free r) r.runs (is_waiting r && not (has_ended_first r)) r.comes_first is
+
+-- what isn't asked whether it has to wait is found alike, whether it has or not
+wait_by : (free runs waiting may first goes one other same ever : Bool) → (first && runs && not goes) ≡ false
+    → ((free && (if runs then waiting && not ((first && runs && not goes) && one) else may && not first))
+    ≡ (free && (if runs then waiting && not ((first && runs && not goes) && other) else may && not first)))
+    × ((same && ever && not ((first && runs && not goes) && one)) ≡ (same && ever && not ((first && runs && not goes) && other)))
+wait_by free runs waiting may false goes one other same ever is = (refl, refl)
+wait_by free false waiting may true goes one other same ever is = (refl, refl)
+wait_by free true waiting may true true one other same ever is = (refl, refl)
+wait_by free true waiting may true false one other same ever is = absurd (true≢false is)
+
+pub asks_wait_where_it_matters : AsksWaitWhereItMatters
+asks_wait_where_it_matters user_data r one other is =
+    wait_by (is_free r) r.runs (is_waiting r) r.may_start r.comes_first r.goes_on one other (r.user_data == user_data) (is_ever_found r) is
+
+-- what is found of what came first runs, and has to wait or goes on
+first_by : (b f free runs waiting may first goes ready : Bool) → first ≡ true
+    → (b && f && (free && (if runs then waiting && not ((first && runs && not goes) && ready) else may && not first))) ≡ true
+    → (runs ≡ true) × ((ready && not goes) ≡ false)
+first_by b f free runs waiting may false goes ready one is = absurd (false≢true one)
+first_by false f free runs waiting may true goes ready one is = absurd (false≢true is)
+first_by true false free runs waiting may true goes ready one is = absurd (false≢true is)
+first_by true true false runs waiting may true goes ready one is = absurd (false≢true is)
+first_by true true true false waiting true true goes ready one is = absurd (false≢true is)
+first_by true true true false waiting false true goes ready one is = absurd (false≢true is)
+first_by true true true true false may true goes ready one is = absurd (false≢true is)
+first_by true true true true true may true true true one is = (refl, refl)
+first_by true true true true true may true true false one is = (refl, refl)
+first_by true true true true true may true false true one is = absurd (false≢true is)
+first_by true true true true true may true false false one is = (refl, refl)
+
+pub finds_first_that_wait : FindsFirstThatWait
+finds_first_that_wait s earlier r one is =
+    first_by (is_of_all s || not (finds_any s earlier)) (fits s r) (is_free r) r.runs (is_waiting r) r.may_start r.comes_first r.goes_on r.is_ready one is
 
 -- what isn't asked on which file it is carried out fits alike, whatever that is
 file_by : (apart any fd needs assigned one other same : Bool) → (fd && not any && needs && assigned) ≡ false
@@ -120,14 +155,15 @@ without_one : (one two : Bool) → one ≡ false → (one && two) ≡ false
 without_one true two is = absurd (true≢false is)
 without_one false two is = refl
 
-without_two : (one two : Bool) → two ≡ false → (one && two) ≡ false
-without_two true two is = is
-without_two false two is = refl
+without_middle : (one two three : Bool) → two ≡ false → (one && two && three) ≡ false
+without_middle true true three is = absurd (true≢false is)
+without_middle true false three is = refl
+without_middle false two three is = refl
 
 pub search_passes_over_others : SearchPassesOverOthers
 search_passes_over_others user_data earlier r is =
     unsought_by (oldest user_data earlier) r (is_meant user_data r) r.is_cancelled (is_waiting r)
-    (without_one (r.user_data == user_data) (is_ever_found r) is)
+    (without_one (r.user_data == user_data) (is_ever_found r && not (has_ended_first r)) is)
 
 unfound_by : (b f token cancelled ever next : Bool) → ever ≡ false
     → (b && f && ((token && not cancelled && ever) && next)) ≡ false
@@ -140,7 +176,7 @@ unfound_by true true true false false next is = refl
 
 pub passes_over_linked : PassesOverLinked
 passes_over_linked s earlier r is = (
-  unfound_by (is_of_all s || not (finds_any s earlier)) (fits s r) r.is_token r.is_cancelled (is_ever_found r) (if r.runs then is_waiting r else r.may_start) is,
+  unfound_by (is_of_all s || not (finds_any s earlier)) (fits s r) r.is_token r.is_cancelled (is_ever_found r) (if r.runs then is_waiting r && not (has_ended_first r) else r.may_start && not r.comes_first) is,
   λ user_data. unsought_by (oldest user_data earlier) r (is_meant user_data r) r.is_cancelled (is_waiting r)
-      (without_two (r.user_data == user_data) (is_ever_found r) is),
+      (without_middle (r.user_data == user_data) (is_ever_found r) (not (has_ended_first r)) is),
 )

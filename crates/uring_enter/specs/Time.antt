@@ -1,3 +1,4 @@
 -- The time of a ring, and its timeouts.
+pub mod Held
 pub mod Kept
 pub mod TimeLaws

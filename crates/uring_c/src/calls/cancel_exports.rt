@@ -8,8 +8,8 @@ ghost use Rattle.uring_enter.specs.Cancels.Seeking as seeking;
 ghost use Rattle.uring_enter.specs.Cancels.Cancels.{result_of, is_cancelled, is_asked, HasSeen, HasSought, oldest, is_stopped, has_cancelled, found_by_core};
 
 use uring_enter::{
-    Cancel, Outstanding, Search, Sought, asks_file, goes_by_user_data, is_taken_after, is_waiting,
-    seeking_fault, sought_by_call, sought_of,
+    Cancel, Outstanding, Search, Sought, asks_file, asks_wait, comes_late, goes_by_user_data,
+    is_issued_before, is_taken_after, is_waiting, seeking_fault, sought_by_call, sought_of,
 };
 use uring_operations::Submission;
 use uring_register::CancelForm;
@@ -73,6 +73,36 @@ pub extern "C" fn wulgach_is_taken_after(
     ensures { result ≡ cancels.is_taken_after cancel is_linked drains number }
 {
     is_taken_after(cancel, is_linked, drains, number)
+}
+
+/// Whether a request of this operation finds others, and is carried out once all of its own submission was issued that can start.
+#[unsafe(no_mangle)]
+pub extern "C" fn wulgach_comes_late(code: u8, is_linked: bool) -> bool
+    ensures { result ≡ cancels.comes_late code is_linked }
+{
+    comes_late(code, is_linked)
+}
+
+/// Whether a kernel issues the request of this number before the cancel or the removal of that number.
+#[unsafe(no_mangle)]
+pub extern "C" fn wulgach_is_issued_before(
+    code: u8,
+    cancel: u64,
+    is_linked: bool,
+    is_same: bool,
+    number: u64,
+) -> bool
+    ensures { result ≡ cancels.is_issued_before code cancel is_linked is_same number }
+{
+    is_issued_before(code, cancel, is_linked, is_same, number)
+}
+
+/// Whether it matters to a cancel if a request has to wait.
+#[unsafe(no_mangle)]
+pub extern "C" fn wulgach_asks_wait(request: &Outstanding) -> bool
+    ensures { result ≡ cancels.asks_wait request.now }
+{
+    asks_wait(request)
 }
 
 /// A cancel that hasn't looked at any request.

@@ -1,5 +1,5 @@
 //! The time of a ring and its timeouts for C: the functions of `c/wulgach_times.h`. Rows are the caller's memory.
-ghost use Rattle.std.specs.Prelude.{◌≡◌, ◌↔◌, ◌⊎◌, ◌≤◌, ◌-◌, pos, negsuc, length, true, false, MatchOption, List, [], ◌∷◌, None, Some, ◌&&◌, if◌then◌else◌};
+ghost use Rattle.std.specs.Prelude.{◌≡◌, ◌↔◌, ◌⊎◌, ◌≤◌, ◌<◌, ◌-◌, ◌+◌, ◌^◌, ℕ, pos, negsuc, length, true, false, MatchOption, List, [], ◌∷◌, None, Some, ◌&&◌, if◌then◌else◌};
 ghost use Rattle.uring_operations.specs.declared.requests.act.Fact.{Fact};
 ghost use Rattle.uring_operations.specs.Requests.Courses.{KeepsCourse, counts};
 ghost use Rattle.uring_enter.specs.declared.call.wait.Wait.{Wait};
@@ -7,6 +7,8 @@ ghost use Rattle.uring_enter.specs.declared.call.wait.Woken.{Woken};
 ghost use Rattle.uring_operations.specs.Entries.Timeouts.{Event, Started, Posted, Changed, Stopped, Clock, Passed, Ended};
 ghost use Rattle.uring_operations.specs.Entries.Timeouts.{nanoseconds_of, running, outcome, is_over, cancelled_by, fires, linked_outcome};
 ghost use Rattle.uring_operations.specs.Entries.Timeouts.{posted, NoneIsOver, IsNext, IsReachedOf, AreApart, HasNone, IsRow, EndsNone, EndsWith};
+ghost use Rattle.uring_enter.specs.Time.Held.{Posting, OfEnd, AtOnce, KeepsHeld, held_for};
+ghost use Rattle.uring_enter.specs.Time.Held.{is_at_once as posts_at_once};
 ghost use Rattle.uring_enter.specs.Time.Kept.{KeepsTime};
 ghost use Rattle.uring_enter.specs.Call.Waits.{deadline, IsWait, IsWoken, IsPassing};
 ghost use Rattle.uring_operations.specs.Entries.Clocks.{clock_of, count_of, lasts};
@@ -16,7 +18,7 @@ ghost use Rattle.uring_crossing.specs.TimeForm.{limit_of, word_of_clock, words_o
 use uring_crossing::time_words::{
     LimitWords, WaitWords, WokenWords, clock_word, limit_words, wait_words, woken_words,
 };
-use uring_enter::{Times, WakeSources};
+use uring_enter::{Held, Times, WakeSources, is_at_once};
 use uring_operations::{
     Course, Start, Submission, Timeout, clock_of, count_of, lasts, left_until, linked_outcome,
     nanoseconds_of,
@@ -70,18 +72,60 @@ pub extern "C" fn wulgach_times_begin(times: &mut Times)
     *times = Times::begin();
 }
 
-/// A timeout starts. -12 exactly if there is no row for it; then nothing changes.
+/// A timeout starts that counts so many of the completions that were posted last. -12 exactly if there is no row for it; then nothing changes.
 #[unsafe(no_mangle)]
-pub extern "C" fn wulgach_times_start(times: &mut Times, rows: &mut [Timeout], start: &Start) -> i32
-    ensures started { (log : List Event) → KeepsTime log times.old rows.old
+pub extern "C" fn wulgach_times_start(
+    times: &mut Times,
+    rows: &mut [Timeout],
+    start: &Start,
+    held: u64,
+) -> i32
+    ensures started { (log : List Event) → KeepsTime (Posted held ∷ log) times.old rows.old
+        → posted log + held < 2 ^ 64
+        → result ≡ pos 0 → KeepsTime (Posted held ∷ Started start.now ∷ log) times.new rows.new }
+    ensures plain { (log : List Event) → KeepsTime log times.old rows.old → held ≡ 0
         → result ≡ pos 0 → KeepsTime (Started start.now ∷ log) times.new rows.new }
     ensures refused { (result ≡ negsuc 11) ↔ (length rows.old ≤ times.old.count) }
     ensures results { (result ≡ pos 0 → ⊥) → (result ≡ negsuc 11) × (times.new ≡ times.old) × (rows.new ≡ rows.old) }
 {
-    match times.start(rows, *start) {
+    match times.start(rows, *start, held) {
         Ok(()) => 0,
         Err(_) => -12,
     }
+}
+
+/// A submission begins, whose first request has this number.
+#[unsafe(no_mangle)]
+pub extern "C" fn wulgach_held_begin(held: &mut Held, first: u64)
+    ensures { KeepsHeld first [] held.new }
+{
+    *held = Held::begin(first);
+}
+
+/// A completion was posted of the request of this number: of its end, or at once.
+#[unsafe(no_mangle)]
+pub extern "C" fn wulgach_held_posts(held: &mut Held, number: u64, is_at_once: bool)
+    ensures { (first : ℕ) (log : List Posting) → KeepsHeld first log held.old
+        → KeepsHeld first ((if is_at_once then AtOnce number else OfEnd number) ∷ log) held.new }
+{
+    held.posts(number, is_at_once);
+}
+
+/// How many of those that were posted a timeout of this number counts that starts now.
+#[unsafe(no_mangle)]
+pub extern "C" fn wulgach_held_for(held: &Held, number: u64, is_late: bool) -> u64
+    ensures { (first : ℕ) (log : List Posting) → KeepsHeld first log held.now
+        → result ≡ held_for first log number is_late }
+{
+    held.held_for(number, is_late)
+}
+
+/// Whether a kernel posts a completion as it comes that a request of this operation has before its end.
+#[unsafe(no_mangle)]
+pub extern "C" fn wulgach_is_at_once(code: u8) -> bool
+    ensures { result ≡ posts_at_once code }
+{
+    is_at_once(code)
 }
 
 /// The time of the timeout of this number is changed.
@@ -153,19 +197,21 @@ pub extern "C" fn wulgach_times_runs(times: &Times, rows: &[Timeout], number: u6
     times.runs(rows, number)
 }
 
-/// A request has ended, by this course, and its completion was posted or skipped. It counts, unless it is that of a timeout which its time or its count has ended.
+/// A request has ended, by this course, and its completion was posted or skipped. It counts, unless it is that of a timeout which its time or its count has ended. Says whether it does.
 #[unsafe(no_mangle)]
 pub extern "C" fn wulgach_times_count_end(
     times: &mut Times,
     course: &Course,
     is_timeout: bool,
     is_posted: bool,
-)
-    ensures { (facts : List Fact) (log : List Event) (rows : List Timeout) → KeepsCourse facts course.now
+) -> bool
+    ensures told { (facts : List Fact) → KeepsCourse facts course.now
+        → result ≡ is_posted && counts facts is_timeout }
+    ensures counted { (facts : List Fact) (log : List Event) (rows : List Timeout) → KeepsCourse facts course.now
         → KeepsTime log times.old rows
         → KeepsTime (if is_posted && counts facts is_timeout then Posted 1 ∷ log else log) times.new rows }
 {
-    times.count_end(course, is_timeout, is_posted);
+    times.count_end(course, is_timeout, is_posted)
 }
 
 /// A clock says that it is so late, or a call's own limit does.

@@ -1,8 +1,8 @@
 -- What holds of every cancel, whatever it looks at. io_uring_enter(2), IORING_OP_ASYNC_CANCEL.
-use Rattle.std.specs.Prelude.{◌≡◌, ◌==◌, ◌≤◌, ℕ, Bool, true, false, List, ◌∷◌}
+use Rattle.std.specs.Prelude.{◌≡◌, ◌==◌, ◌&&◌, not, ◌≤◌, ℕ, Bool, true, false, List, ◌∷◌}
 use Rattle.uring_enter.specs.declared.cancels.cancel.Sought.{Sought}
 use Rattle.uring_enter.specs.declared.cancels.cancel.Outstanding.{Outstanding}
-use Rattle.uring_enter.specs.Cancels.Cancels.{is_of_all, goes_by_user_data, fits, asks_file, can_be_found, finds_any, is_cancelled, count_of, is_asked, is_ever_found, oldest, is_stopped}
+use Rattle.uring_enter.specs.Cancels.Cancels.{is_of_all, goes_by_user_data, fits, asks_file, can_be_found, finds_any, is_cancelled, count_of, is_asked, asks_wait, is_meant, is_ever_found, oldest, is_stopped}
 
 -- what is cancelled fits, and can be found
 abbrev pub CancelsWhatFits : Type 0
@@ -30,6 +30,17 @@ PassesOverLinked = (s : Sought) (earlier : List Outstanding) (r : Outstanding) �
 abbrev pub AsksWhatMatters : Type 0
 AsksWhatMatters = (s : Sought) (earlier : List Outstanding) (r : Outstanding) → is_asked s earlier r ≡ false
     → is_cancelled s earlier (record r { may_start = true }) ≡ is_cancelled s earlier (record r { may_start = false })
+
+-- nor whether it has to wait, where that isn't asked
+abbrev pub AsksWaitWhereItMatters : Type 0
+AsksWaitWhereItMatters = (user_data : ℕ) (r : Outstanding) (one other : Bool) → asks_wait r ≡ false
+    → (can_be_found (record r { is_ready = one }) ≡ can_be_found (record r { is_ready = other }))
+    × (is_meant user_data (record r { is_ready = one }) ≡ is_meant user_data (record r { is_ready = other }))
+
+-- nothing is found that was issued first, but where it runs, and has to wait or goes on
+abbrev pub FindsFirstThatWait : Type 0
+FindsFirstThatWait = (s : Sought) (earlier : List Outstanding) (r : Outstanding) → r.comes_first ≡ true
+    → is_cancelled s earlier r ≡ true → (r.runs ≡ true) × ((r.is_ready && not r.goes_on) ≡ false)
 
 -- nor where it isn't asked on which file one is carried out
 abbrev pub AsksFileWhereItMatters : Type 0

@@ -53,9 +53,26 @@ is_waiting r = r.is_stream || r.code == 11
 abbrev pub is_taken_after : (cancel : ℕ) → (is_linked drains : Bool) → (number : ℕ) → Bool
 is_taken_after cancel is_linked drains number = not is_linked && not drains && nat_lt cancel number
 
--- whether a request can be found at all: it waits for something, or could start now, before the cancel. One after a link or a drain can't; what the kernel does
+-- whether a request finds others, and a kernel carries it out once all of its own submission that can start was issued: a cancel or a removal (14, 7, 12) after a link. What Linux 6.18 does
+abbrev pub comes_late : (code : ℕ) → (is_linked : Bool) → Bool
+comes_late code is_linked = is_linked && (code == 7 || code == 12 || code == 14)
+
+-- whether a kernel issues a request before one that comes late, though it was submitted after it, in the same submission or not
+abbrev pub is_issued_before : (code cancel : ℕ) → (is_linked is_same : Bool) → (number : ℕ) → Bool
+is_issued_before code cancel is_linked is_same number = comes_late code is_linked && is_same && nat_lt cancel number
+
+-- whether it matters to a cancel if a request has to wait: of one that was issued first, and ends with what it brings
+abbrev pub asks_wait : Outstanding → Bool
+asks_wait r = r.comes_first && r.runs && not r.goes_on
+
+-- whether a kernel has ended a request before the cancel: it was issued first, and needn't wait
+abbrev pub has_ended_first : Outstanding → Bool
+has_ended_first r = asks_wait r && r.is_ready
+
+-- whether a request can be found at all: it waits for something, or could start now, before the cancel. One after a link or a drain can't; nor can one that was issued first, but where it has to wait or goes on. What the kernel does
 abbrev pub can_be_found : Outstanding → Bool
-can_be_found r = is_free r && (if r.runs then is_waiting r else r.may_start)
+can_be_found r =
+    is_free r && (if r.runs then is_waiting r && not (has_ended_first r) else r.may_start && not r.comes_first)
 
 -- whether any of these fits and can be found
 abbrev pub finds_any : Sought → List Outstanding → Bool
@@ -83,7 +100,7 @@ result_of s seen =
 -- whether it matters that a request could start now
 abbrev pub is_asked : Sought → List Outstanding → Outstanding → Bool
 is_asked s earlier r =
-    (is_of_all s || not (finds_any s earlier)) && fits s r && is_free r && not r.runs
+    (is_of_all s || not (finds_any s earlier)) && fits s r && is_free r && not r.runs && not r.comes_first
 
 abbrev pub is_none : Option Outstanding → Bool
 is_none None = true
@@ -93,9 +110,9 @@ abbrev pub first_of : Option Outstanding → Bool → Outstanding → Option Out
 first_of (Some found) fits r = Some found
 first_of None fits r = if fits then Some r else None
 
--- whether a cancel by user data looks for a running request, where the core has found one that runs
+-- whether a cancel by user data looks for a running request, where the core has found one that runs: not for one that has ended in a kernel by then
 abbrev pub is_meant : ℕ → Outstanding → Bool
-is_meant user_data r = r.user_data == user_data && is_ever_found r
+is_meant user_data r = r.user_data == user_data && is_ever_found r && not (has_ended_first r)
 
 -- the oldest of these that it looks for
 abbrev pub oldest : ℕ → List Outstanding → Option Outstanding
@@ -112,7 +129,7 @@ abbrev pub has_cancelled : Option Outstanding → Bool
 has_cancelled None = false
 has_cancelled (Some r) = r.is_cancelled || is_waiting r
 
--- what the core has found by Linux's rules, of one that it has ended so: nobody (-2, ENOENT) if all that runs is of operations that no cancel finds. By the manual pages' rules they are found
+-- what the core has found by Linux's rules, of one that it has ended so: nobody (-2, ENOENT) if all that runs is of operations that no cancel finds, or has ended in a kernel by then. By the manual pages' rules they are found
 abbrev pub found_by_core : ℤ → List Outstanding → ℕ → (linux : Bool) → ℤ
 found_by_core res seen user_data linux =
     if linux && int_eq res (error 114) && is_none (oldest user_data seen) then error 2 else res

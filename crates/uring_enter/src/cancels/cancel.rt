@@ -4,7 +4,7 @@ ghost use Rattle.std.specs.Prelude.{◌≡◌, List, [], ◌∷◌};
 ghost use Rattle.uring_enter.specs.declared.cancels.cancel.Outstanding.{Outstanding};
 ghost use Rattle.uring_enter.specs.declared.cancels.cancel.Sought.{Sought};
 ghost use Rattle.uring_enter.specs.Cancels.Cancels as spec;
-ghost use Rattle.uring_enter.specs.Cancels.Cancels.{is_of_all, fits, fits_fd, is_named, is_ever_found, is_free, is_waiting, can_be_found, one_more, result_of, is_cancelled, is_asked, HasSeen};
+ghost use Rattle.uring_enter.specs.Cancels.Cancels.{is_of_all, fits, fits_fd, is_named, is_ever_found, is_free, is_waiting, can_be_found, one_more, result_of, is_cancelled, is_asked, has_ended_first, HasSeen};
 
 /// What a cancel looks for, and whether it is content with one.
 #[repr(C)]
@@ -76,6 +76,15 @@ pub struct Outstanding {
 
     /// Of one that doesn't run: it could start now, and isn't taken only after the cancel.
     pub may_start: bool,
+
+    /// A kernel issues it before the cancel.
+    pub comes_first: bool,
+
+    /// It may have more than one completion.
+    pub goes_on: bool,
+
+    /// Of one that comes first, runs and doesn't go on: it needn't wait.
+    pub is_ready: bool,
 }
 
 /// A cancel that looks at requests, the oldest first.
@@ -103,7 +112,11 @@ impl Cancel {
     {
         let is_meant = fits(self.sought, request);
         let is_of_all = is_of_all(self.sought);
-        (is_of_all || self.count == 0) && is_meant && is_free(request) && !request.runs
+        (is_of_all || self.count == 0)
+            && is_meant
+            && is_free(request)
+            && !request.runs
+            && !request.comes_first
     }
 
     /// Looks at the next request, and says whether it is cancelled.
@@ -225,15 +238,43 @@ pub fn is_taken_after(cancel: u64, is_linked: bool, drains: bool, number: u64) -
     !is_linked && !drains && cancel < number
 }
 
+/// Whether a request of this operation finds others, and is carried out once all of its own submission was issued that can start: a cancel or a removal after a link.
+pub fn comes_late(code: u8, is_linked: bool) -> bool
+    ensures { result ≡ spec.comes_late code is_linked }
+{
+    is_linked && matches!(code, 7 | 12 | 14)
+}
+
+/// Whether a kernel issues the request of this number before the cancel or the removal of that number: that is after a link, and the request was submitted after it, in the same submission.
+pub fn is_issued_before(code: u8, cancel: u64, is_linked: bool, is_same: bool, number: u64) -> bool
+    ensures { result ≡ spec.is_issued_before code cancel is_linked is_same number }
+{
+    comes_late(code, is_linked) && is_same && cancel < number
+}
+
+/// Whether it matters to a cancel if a request has to wait.
+pub fn asks_wait(request: &Outstanding) -> bool
+    ensures { result ≡ spec.asks_wait request.now }
+{
+    request.comes_first && request.runs && !request.goes_on
+}
+
+/// Whether a kernel has ended a request before the cancel.
+pub(crate) fn has_ended_first(request: &Outstanding) -> bool
+    ensures { result ≡ has_ended_first request.now }
+{
+    asks_wait(request) && request.is_ready
+}
+
 /// Whether a request can be found at all.
 fn can_be_found(request: &Outstanding) -> bool
     ensures { result ≡ can_be_found request.now }
 {
     is_free(request)
         && if request.runs {
-            is_waiting(request)
+            is_waiting(request) && !has_ended_first(request)
         } else {
-            request.may_start
+            request.may_start && !request.comes_first
         }
 }
 

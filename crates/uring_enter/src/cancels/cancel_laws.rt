@@ -1,6 +1,6 @@
 //! What holds of every cancel, whatever it looks at. Each law is the contract of a function that does nothing.
 
-ghost use Rattle.uring_enter.specs.Cancels.CancelLaws.{CancelsWhatFits, CancelsAllThatFit, CancelsTheOldest, AsksWhatMatters, AsksFileWhereItMatters, PassesOverLinked, PassesOverOthers, SearchPassesOverOthers};
+ghost use Rattle.uring_enter.specs.Cancels.CancelLaws.{CancelsWhatFits, CancelsAllThatFit, CancelsTheOldest, AsksWhatMatters, AsksFileWhereItMatters, AsksWaitWhereItMatters, FindsFirstThatWait, PassesOverLinked, PassesOverOthers, SearchPassesOverOthers};
 
 /// What is cancelled fits, and can be found.
 pub fn cancels_what_fits()
@@ -20,6 +20,16 @@ pub fn cancels_the_oldest()
 /// Where it isn't asked whether a request could start, it doesn't matter.
 pub fn asks_what_matters()
     ensures { AsksWhatMatters }
+{}
+
+/// Nor does it where it isn't asked whether one has to wait.
+pub fn asks_wait_where_it_matters()
+    ensures { AsksWaitWhereItMatters }
+{}
+
+/// What is issued before the cancel is found only where it runs, and has to wait or goes on.
+pub fn finds_first_that_wait()
+    ensures { FindsFirstThatWait }
 {}
 
 /// Nor does it where it isn't asked on which file one is carried out.

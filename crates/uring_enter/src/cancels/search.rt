@@ -4,7 +4,7 @@ ghost use Rattle.std.specs.Prelude.{◌≡◌, ℕ, List, [], ◌∷◌};
 ghost use Rattle.uring_enter.specs.declared.cancels.cancel.Outstanding.{Outstanding};
 ghost use Rattle.uring_enter.specs.Cancels.Cancels.{HasSought, oldest, is_meant, is_stopped, has_cancelled, found_by_core};
 
-use crate::cancels::cancel::{Outstanding, is_ever_found, is_waiting};
+use crate::cancels::cancel::{Outstanding, has_ended_first, is_ever_found, is_waiting};
 
 /// A search among the running requests, the oldest first.
 #[repr(C)]
@@ -55,7 +55,7 @@ impl Search {
         self.has_cancelled
     }
 
-    /// What the core has found that has ended the cancel so, once all that run were looked at: -2 in the place of -114 if, by Linux's rules, none of them is one that a cancel finds.
+    /// What the core has found that has ended the cancel so, once all that run were looked at: -2 in the place of -114 if, by Linux's rules, none of them is one that a cancel finds, or all of these have ended in a kernel by then.
     pub fn found_by_core(&self, res: i32, linux: bool) -> i32
         ensures { (user_data : ℕ) (seen : List Outstanding) → HasSought user_data seen self.now
             → result ≡ found_by_core res seen user_data linux }
@@ -72,5 +72,5 @@ impl Search {
 fn is_meant(user_data: u64, request: &Outstanding) -> bool
     ensures { result ≡ is_meant user_data request.now }
 {
-    request.user_data == user_data && is_ever_found(request)
+    request.user_data == user_data && is_ever_found(request) && !has_ended_first(request)
 }

@@ -1,6 +1,6 @@
 //! The time of a ring, and its timeouts.
 
-ghost use Rattle.std.specs.Prelude.{◌≡◌, ◌≤◌, ◌↔◌, length, List, [], ◌∷◌, MatchOption, true, false, IsErr, OnOk, OnErr, IfSome, None, Some, ◌&&◌, if◌then◌else◌};
+ghost use Rattle.std.specs.Prelude.{◌≡◌, ◌≤◌, ◌<◌, ◌+◌, ◌^◌, ◌↔◌, length, List, [], ◌∷◌, MatchOption, true, false, IsErr, OnOk, OnErr, IfSome, None, Some, ◌&&◌, if◌then◌else◌};
 ghost use Rattle.uring_operations.specs.declared.requests.act.Fact.{Fact};
 ghost use Rattle.uring_operations.specs.Requests.Courses.{KeepsCourse, counts};
 ghost use Rattle.uring_operations.specs.Entries.Timeouts.{Event, Started, Posted, Changed, Stopped, Clock, Slept, Passed, Ended};
@@ -49,9 +49,12 @@ impl Times {
         }
     }
 
-    /// A timeout starts. `NoRoom`: there is no row for it. Nothing changes.
-    pub fn start(&mut self, rows: &mut [Timeout], start: Start) -> Result<(), NoRoom>
-        ensures started { (log : List Event) → KeepsTime log self.old rows.old
+    /// A timeout starts that counts so many of the completions that were posted last, as if it had started before them. `NoRoom`: there is no row for it. Nothing changes.
+    pub fn start(&mut self, rows: &mut [Timeout], start: Start, held: u64) -> Result<(), NoRoom>
+        ensures started { (log : List Event) → KeepsTime (Posted held ∷ log) self.old rows.old
+            → posted log + held < 2 ^ 64
+            → OnOk result (KeepsTime (Posted held ∷ Started start ∷ log) self.new rows.new) }
+        ensures plain { (log : List Event) → KeepsTime log self.old rows.old → held ≡ 0
             → OnOk result (KeepsTime (Started start ∷ log) self.new rows.new) }
         ensures refused { IsErr result ↔ (length rows.old ≤ self.old.count) }
         ensures kept { OnErr result ((self.new ≡ self.old) × (rows.new ≡ rows.old)) }
@@ -59,33 +62,34 @@ impl Times {
         if self.count >= rows.len() as u64 {
             return Err(NoRoom);
         }
-        rows[self.count as usize] = self.started(start);
+        rows[self.count as usize] = self.started(start, held);
         self.count += 1;
         Ok(())
     }
 
-    /// A timeout that starts now.
-    fn started(&self, start: Start) -> Timeout
-        ensures { (log : List Event) (rows : List Timeout) → KeepsTime log self.now rows
+    /// A timeout that starts now, and counts so many of the completions that were posted last.
+    fn started(&self, start: Start, held: u64) -> Timeout
+        ensures before { (log : List Event) (rows : List Timeout) → KeepsTime (Posted held ∷ log) self.now rows
+            → posted log + held < 2 ^ 64 → result ≡ started log start }
+        ensures plain { (log : List Event) (rows : List Timeout) → KeepsTime log self.now rows → held ≡ 0
             → result ≡ started log start }
     {
         Timeout {
             number: start.number,
             expiry: later(self.time, start.more),
-            enough: self.enough_after(start.count),
+            enough: enough_after(self.posted_before(held), start.count),
             is_linked: start.is_linked,
         }
     }
 
-    /// How many completions will have been posted in all when a count that starts now is reached, or 0.
-    fn enough_after(&self, count: u64) -> u64
-        ensures { result ≡ enough_after self.now.posted count }
+    /// How many completions were posted before so many that were posted last.
+    fn posted_before(&self, held: u64) -> u64
+        ensures before { (log : List Event) (rows : List Timeout) → KeepsTime (Posted held ∷ log) self.now rows
+            → posted log + held < 2 ^ 64 → result ≡ posted log }
+        ensures plain { (log : List Event) (rows : List Timeout) → KeepsTime log self.now rows → held ≡ 0
+            → result ≡ posted log }
     {
-        if count == 0 {
-            0
-        } else {
-            self.posted.saturating_add(count)
-        }
+        self.posted.saturating_sub(held)
     }
 
     /// How many of these rows have timeouts that run.
@@ -122,16 +126,20 @@ impl Times {
         self.posted = self.posted.saturating_add(count);
     }
 
-    /// A request has ended, by this course, and its completion was posted or skipped. It counts as one that was posted, unless it is that of a timeout which its time or its count has ended.
-    pub fn count_end(&mut self, course: &Course, is_timeout: bool, is_posted: bool)
-        ensures { (facts : List Fact) (log : List Event) (rows : List Timeout) → KeepsCourse facts course.now
+    /// A request has ended, by this course, and its completion was posted or skipped. It counts as one that was posted, unless it is that of a timeout which its time or its count has ended. Says whether it does.
+    pub fn count_end(&mut self, course: &Course, is_timeout: bool, is_posted: bool) -> bool
+        ensures told { (facts : List Fact) → KeepsCourse facts course.now
+            → result ≡ is_posted && counts facts is_timeout }
+        ensures counted { (facts : List Fact) (log : List Event) (rows : List Timeout) → KeepsCourse facts course.now
             → KeepsTime log self.old rows
             → KeepsTime (if is_posted && counts facts is_timeout then Posted 1 ∷ log else log) self.new rows }
     {
         let ends_itself = is_timeout && course.has_started && !course.is_cancelled;
-        if is_posted && !ends_itself {
+        let counts = is_posted && !ends_itself;
+        if counts {
             self.post(1);
         }
+        counts
     }
 
     /// A clock says that it is so late, or a call's own limit does. Time never goes back.
@@ -263,6 +271,17 @@ impl Times {
         let count = self.count_in(rows);
         self.count = take_out(rows, count, row.number) as u64;
         self.expired = expired_with(self.expired, row.is_linked);
+    }
+}
+
+/// How many completions will have been posted in all when a count is reached that starts at so many, or 0.
+fn enough_after(posted: u64, count: u64) -> u64
+    ensures { result ≡ enough_after posted count }
+{
+    if count == 0 {
+        0
+    } else {
+        posted.saturating_add(count)
     }
 }
 
