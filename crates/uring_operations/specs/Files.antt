@@ -6,3 +6,4 @@ pub mod Keeping
 pub mod Syncing
 pub mod Asking
 pub mod Logging
+pub mod ToldLocks

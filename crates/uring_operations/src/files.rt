@@ -7,3 +7,4 @@ pub mod logging;
 pub mod openness;
 pub mod pipe_open;
 pub mod syncing;
+pub mod told_lock;

@@ -215,6 +215,8 @@ pub use requests::act::Fact;
 pub use requests::afresh::Awaited;
 pub use requests::afresh::Changing;
 pub use requests::afresh::asks_for_the_start;
+pub use files::told_lock::ToldLock;
+pub use files::told_lock::knows_unless_another_hides;
 pub use requests::afresh::asks_what_was_changed;
 pub use requests::afresh::ends_at_once;
 pub use requests::cancelling::Cancelling;
