@@ -149,8 +149,7 @@ static int32_t call_transfer(const struct request *request, struct wulgach_trans
     struct wulgach_system_call call;
     wulgach_transfer_call(submission_of(&request->entry), &vectors, transfer, way, &call);
     int32_t res = make_unless_shut(request, &call, way, &transfer->is_shut);
-    if (way == WULGACH_CALL_AT_ONCE && res == -EOPNOTSUPP)
-        note_slow(request->fd);
+    note_call(request->fd, way == WULGACH_CALL_AT_ONCE, res);
     return res;
 }
 

@@ -6,5 +6,6 @@ pub mod keeping;
 pub mod logging;
 pub mod openness;
 pub mod pipe_open;
+pub mod remembering;
 pub mod syncing;
 pub mod told_lock;
