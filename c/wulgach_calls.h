@@ -128,9 +128,25 @@ enum wulgach_locking {
     WULGACH_LOCKING_GOES_WITHOUT = 4    /* the call is made without */
 };
 
-/* The byte that is locked. Whether a lock of so many bytes from a start on is such a one: else it means something else, as that of a whole file. Our own rule. */
+/* The byte that is locked. A lock of more than that one byte means something else, as that of a whole file. Our own rule. */
 #define WULGACH_LOCKED_BYTE (INT64_C(1) << 62)
-bool wulgach_is_layers_lock(uint64_t start, uint64_t length);
+
+/* What a query of a file's locks told (fcntl(2), F_GETLK, F_OFD_GETLK): of one of those that keep others out, or that there is none. */
+struct wulgach_told_lock {
+    uint64_t start, length;     /* where the lock begins, and how many bytes it has, */
+    int32_t kind;               /* its kind; F_UNLCK: there is none, */
+    int32_t process;            /* the process that has it, or -1 where an open file has it, */
+    int32_t own;                /* and the one that asked */
+    bool is_told;               /* the query was answered */
+};
+
+/* Whether it told of a lock of the process that asked; or of one that another has and that isn't the layer's. */
+bool wulgach_is_own_lock(const struct wulgach_told_lock *told);
+bool wulgach_is_lock_of_others(const struct wulgach_told_lock *told);
+
+/* Whether the list of all locks is read to know if the process has one (wulgach_is_lock_of): it told of another's, behind which there may be its own,
+ * or wasn't answered. */
+bool wulgach_asks_list_of_locks(const struct wulgach_told_lock *told);
 
 /* Returns what is next (enum wulgach_locking): it is tried 2,000 times at most, the first twenty after the first one without a pause, and had unless
  * a try comes to -11 (EAGAIN) or -13 (EACCES). Where the application has a lock there, or others have, no more is tried. Our own rule. */

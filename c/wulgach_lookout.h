@@ -334,8 +334,15 @@ bool wulgach_stays_open(bool is_locked, uint64_t others);
 
 /* ---- what others hear ---- */
 
-/* Whether a pipe counts as written to after an event: events were dropped, or it tells of a write to this pipe. */
-bool wulgach_counts_as_written(bool is_dropped, bool is_write, bool is_own);
+/* Whether writes to the file of a descriptor are heard, of this mode (inode(7)) and opened with these flags: a pipe that can be read by it. */
+bool wulgach_is_heard(uint32_t mode, uint32_t flags);
+
+/* Of which events of such a pipe inotify(7) tells; and for what poll(2) is asked to know whether what was written is there still. */
+uint32_t wulgach_heard_events(void);
+uint16_t wulgach_left_events(void);
+
+/* Whether a pipe counts as written to after an event of these bits (inotify(7)): events were dropped, or it tells of a write, and names this pipe. */
+bool wulgach_counts_as_written(uint32_t mask, bool is_own);
 
 /* Whether whoever polls a ring's descriptor is told anew: that it is readable now, or isn't any more; or that more was posted while it was, where
  * somebody may wait for an edge. */

@@ -79,7 +79,7 @@ struct wulgach_woken {
     uint32_t kind;                  /* enum wulgach_woken_kind */
 };
 
-/* The nanoseconds of a time in seconds and nanoseconds: 0 if it is negative. */
+/* The nanoseconds of a time in seconds and nanoseconds, which is their sum: 0 if that is negative. */
 uint64_t wulgach_time_of(int64_t seconds, int64_t nanoseconds);
 
 /* How much is left until a time of a clock that says `now`: 0 if it is over. */

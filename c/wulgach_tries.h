@@ -45,6 +45,30 @@ enum wulgach_try {
  * asked not to wait, by itself or by its descriptor; a transfer ends with what the last call came to, or with its fault; and what a stream gave is told. */
 uint32_t wulgach_transfer_next(const struct wulgach_transfer *transfer, uint32_t last, int32_t res, int32_t *end);
 
+/* ---- what is remembered of a descriptor's number ---- */
+
+/* What it was when it was last asked. The application may have closed it since: so nothing rests on that but which call is made first. Our own rule. */
+enum wulgach_remembered {
+    WULGACH_REMEMBERED_NOTHING = 0,
+    WULGACH_REMEMBERED_FILE = 1,        /* a regular file; */
+    WULGACH_REMEMBERED_IN_MEMORY = 2,   /* one that can't be asked not to wait, in memory, */
+    WULGACH_REMEMBERED_SLOW = 3         /* or elsewhere */
+};
+
+/* Returns what is remembered of a number of which this was (enum wulgach_remembered), as it was asked what it is: a file of which more is known stays
+ * what it was. */
+uint32_t wulgach_remembered_after_status(uint32_t was, bool is_file);
+
+/* Whether the file of a number is asked for its seals (fcntl(2), F_GET_SEALS) after a call that came to this, and was asked not to wait before its
+ * descriptor was asked anything (WULGACH_CALL_AT_ONCE), or wasn't: -95 (EOPNOTSUPP) means that it can't be asked so. */
+bool wulgach_asks_seals(uint32_t was, bool is_at_once, int32_t res);
+
+/* Whether it is asked for them before it is taken to be in memory still. */
+bool wulgach_was_in_memory(uint32_t was);
+
+/* Returns what is remembered after that. */
+uint32_t wulgach_remembered_after_seals(uint32_t was, bool has_seals);
+
 /* ---- what becomes of an operation of sockets, of a splice and of a poll ---- */
 
 /* How far an operation has come. */

@@ -340,7 +340,9 @@ static void tell_others(void)
     };
     for (size_t i = 0; i < sizeof rows / sizeof *rows; i++)
         demand(wulgach_tells_anew(rows[i].was_readable, rows[i].is_readable, rows[i].has_posted, rows[i].may_wait_for_edges) == rows[i].is_told, "who polls the ring's descriptor");
-    demand(wulgach_counts_as_written(true, false, false) && wulgach_counts_as_written(false, true, true) && !wulgach_counts_as_written(false, true, false) && !wulgach_counts_as_written(false, false, true), "a pipe that was written to");
+    demand(wulgach_counts_as_written(0x4000, false) && wulgach_counts_as_written(2, true) && !wulgach_counts_as_written(2, false) && !wulgach_counts_as_written(1, true), "a pipe that was written to");
+    demand(wulgach_heard_events() == 2 && wulgach_left_events() == 1, "what is heard, and what is left");
+    demand(wulgach_is_heard(010600, 0) && wulgach_is_heard(010600, 2) && !wulgach_is_heard(010600, 1) && !wulgach_is_heard(0140600, 2) && !wulgach_is_heard(010600, 1u << 21), "which pipes are heard");
 }
 
 static void lie(void)

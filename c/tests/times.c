@@ -33,7 +33,9 @@ static void check_sums(void)
     wulgach_span_of(UINT64_MAX, &longest);
     demand(span.seconds == 3 && span.nanoseconds == 7 && longest.seconds == 18446744073 && longest.nanoseconds == 709551615, "a time as ppoll(2) takes it");
     demand(wulgach_timeout_count(&(struct wulgach_submission){.off = (1ull << 32) + 3}) == 3 && wulgach_timeout_count(&(struct wulgach_submission){.off = 1ull << 63}) == 0, "how many completions are counted");
-    demand(wulgach_time_of(-1, 5) == 0 && wulgach_time_of(0, -5) == 0, "a negative time is none");
+    demand(wulgach_time_of(-1, 5) == 0 && wulgach_time_of(0, -5) == 0 && wulgach_time_of(-1, -5) == 0 && wulgach_time_of(INT64_MIN, INT64_MAX) == 0, "a negative time is none");
+    demand(wulgach_time_of(-5, 5050000000) == 50000000 && wulgach_time_of(1, -950000000) == 50000000 && wulgach_time_of(-1, INT64_MAX) == INT64_MAX - SECOND, "a time is a sum");
+    demand(wulgach_time_of(9223372035, -1) == 9223372034999999999 && wulgach_time_of(9223372036, INT64_MIN) == INT64_MAX && wulgach_time_of(INT64_MAX, INT64_MIN) == INT64_MAX, "from so many seconds on it is the largest");
     demand(wulgach_time_of(INT64_MAX, 0) == INT64_MAX, "a time past the largest is the largest");
     demand(wulgach_time_left(5, 3) == 2 && wulgach_time_left(3, 5) == 0, "what is left");
 }

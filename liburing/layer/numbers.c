@@ -2,6 +2,7 @@
 #define _GNU_SOURCE
 #include "numbers.h"
 #include "process.h"
+#include "unwilling.h"
 #include "wulgach.h"
 #include "wulgach_lookout.h"
 #include "wulgach_setup.h"
@@ -234,11 +235,9 @@ static bool lists_lock(int locks, int fd)
 /* An open file description has locks of its own, and is told of one that isn't. Of several it is told of one: then the list of all is read. */
 static bool is_locked(int fd)
 {
-    struct flock lock = {.l_type = F_WRLCK, .l_whence = SEEK_SET};
-    bool knows = fcntl(fd, F_OFD_GETLK, &lock) >= 0;
-    bool is_ours = knows && lock.l_type != F_UNLCK && lock.l_pid == this_process();
-    if (knows && (lock.l_type == F_UNLCK || is_ours))
-        return is_ours;
+    struct wulgach_told_lock told = ask_lock(fd, F_OFD_GETLK, 0, 0);
+    if (!wulgach_asks_list_of_locks(&told))
+        return wulgach_is_own_lock(&told);
     int locks = open("/proc/locks", O_RDONLY | O_CLOEXEC);
     bool is_so = wulgach_is_taken_so(WULGACH_IS_LOCKED, locks >= 0, locks >= 0 && lists_lock(locks, fd));
     if (locks >= 0)

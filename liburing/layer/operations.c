@@ -157,8 +157,7 @@ static int32_t call_transfer(const struct request *request, struct wulgach_trans
     struct transfer_call call = {.request = request, .way = way};
     wulgach_transfer_call(submission_of(&request->entry), &vectors, transfer, way, &call.call);
     int32_t res = call_unless_shut(request, call_once, &call, &transfer->is_shut);
-    if (way == WULGACH_CALL_AT_ONCE && res == -EOPNOTSUPP)
-        note_slow(request->fd);
+    note_call(request->fd, way == WULGACH_CALL_AT_ONCE, res);
     return res;
 }
 

@@ -47,9 +47,7 @@ static struct wulgach_pipe_poll seen_of(const struct request *request)
 static bool reads_pipe(int fd)
 {
     struct stat status;
-    struct wulgach_directions directions;
-    wulgach_directions_of((uint32_t)fcntl(fd, F_GETFL), &directions);
-    return fstat(fd, &status) == 0 && S_ISFIFO(status.st_mode) && directions.can_read;
+    return fstat(fd, &status) == 0 && wulgach_is_heard(status.st_mode, (uint32_t)fcntl(fd, F_GETFL));
 }
 
 bool is_poll_of_pipe(const struct request *request)
@@ -97,7 +95,7 @@ static int watch_of(struct pipes *pipes, int fd)
     if (!reserve_watch(pipes))
         return 0;
     snprintf(path, sizeof path, "/proc/thread-self/fd/%d", fd);
-    int watch = inotify_add_watch(pipes->inotify, path, IN_MODIFY);
+    int watch = inotify_add_watch(pipes->inotify, path, wulgach_heard_events());
     return watch < 0 ? 0 : watch;
 }
 
@@ -199,7 +197,7 @@ static void drop_watches(struct pipes *pipes)
 
 static bool has_something(const struct request *request)
 {
-    return shows_ready((struct pollfd){.fd = request->fd, .events = POLLIN});
+    return shows_ready((struct pollfd){.fd = request->fd, .events = (short)wulgach_left_events()});
 }
 
 /* A poll has heard of a write: what was written is there still, or gone. */
@@ -251,8 +249,7 @@ static void note_write(struct pipes *pipes, struct watch *watch)
 /* Notes what an event says of a pipe. Returns whether that counts as written to. */
 static bool note_event_of(struct pipes *pipes, const struct inotify_event *event, struct watch *watch)
 {
-    bool is_dropped = event->mask & IN_Q_OVERFLOW, is_write = event->mask & IN_MODIFY;
-    bool is_written = wulgach_counts_as_written(is_dropped, is_write, watch->number == event->wd);
+    bool is_written = wulgach_counts_as_written(event->mask, watch->number == event->wd);
     if (is_written)
         note_write(pipes, watch);
     return is_written;

@@ -7,45 +7,41 @@
 #include "injection.h"
 #include "passing.h"
 #include "policy.h"
+#include "wulgach_tries.h"
 
 #include <fcntl.h>
 #include <stdint.h>
 
-/* Of a number: nothing is known, or it was a file, or one that can't be asked not to wait, in memory or elsewhere. */
-enum kind { UNKNOWN, WAS_FILE, WAS_IN_MEMORY, WAS_SLOW_FILE };
-
 /* Numbers from this on aren't remembered. */
 enum { MOST_KNOWN = 4096 };
 
-static uint8_t kinds[MOST_KNOWN];
+/* What is remembered of each (enum wulgach_remembered). */
+static uint8_t remembered[MOST_KNOWN];
 
 static bool is_known(int fd)
 {
     return fd >= 0 && fd < MOST_KNOWN;
 }
 
-static enum kind kind_of(int fd)
+static uint32_t remembered_of(int fd)
 {
-    return is_known(fd) ? (enum kind)__atomic_load_n(&kinds[fd], __ATOMIC_RELAXED) : UNKNOWN;
+    return is_known(fd) ? __atomic_load_n(&remembered[fd], __ATOMIC_RELAXED) : (uint32_t)WULGACH_REMEMBERED_NOTHING;
 }
 
 bool was_file(int fd)
 {
-    return kind_of(fd) == WAS_FILE;
+    return remembered_of(fd) == WULGACH_REMEMBERED_FILE;
 }
 
-static void set_kind(int fd, enum kind kind)
+static void remember(int fd, uint32_t what)
 {
-    if (is_known(fd) && kind_of(fd) != kind)
-        __atomic_store_n(&kinds[fd], (uint8_t)kind, __ATOMIC_RELAXED);
+    if (is_known(fd) && remembered_of(fd) != what)
+        __atomic_store_n(&remembered[fd], (uint8_t)what, __ATOMIC_RELAXED);
 }
 
 void note_kind(int fd, bool is_file)
 {
-    if (!is_file)
-        set_kind(fd, UNKNOWN);
-    else if (kind_of(fd) == UNKNOWN)
-        set_kind(fd, WAS_FILE);
+    remember(fd, wulgach_remembered_after_status(remembered_of(fd), is_file));
 }
 
 /* Files in memory alone have seals. */
@@ -54,20 +50,21 @@ static bool has_seals(int fd)
     return pass(SYS_fcntl, fd, F_GET_SEALS, 0, 0, 0, 0) >= 0;
 }
 
-void note_slow(int fd)
+void note_call(int fd, bool is_at_once, int32_t res)
 {
-    if (was_file(fd))
-        set_kind(fd, has_seals(fd) ? WAS_IN_MEMORY : WAS_SLOW_FILE);
+    uint32_t was = remembered_of(fd);
+    if (wulgach_asks_seals(was, is_at_once, res))
+        remember(fd, wulgach_remembered_after_seals(was, has_seals(fd)));
 }
 
 bool is_in_memory(int fd)
 {
-    if (kind_of(fd) != WAS_IN_MEMORY)
+    uint32_t was = remembered_of(fd);
+    if (!wulgach_was_in_memory(was))
         return false;
-    if (has_seals(fd))
-        return true;
-    set_kind(fd, UNKNOWN);
-    return false;
+    uint32_t after = wulgach_remembered_after_seals(was, has_seals(fd));
+    remember(fd, after);
+    return wulgach_was_in_memory(after);
 }
 
 /* Elsewhere what can go on is a way of a choice, or is written down, or says which faults there may be. */

@@ -4,12 +4,13 @@
 #define TRYING_H
 
 #include <stdbool.h>
+#include <stdint.h>
 
 /* Notes whether a descriptor was found to be a file, as the kernel said just now. */
 void note_kind(int fd, bool is_file);
 
-/* Notes that what has this number can't be asked not to wait. */
-void note_slow(int fd);
+/* Notes what a call by this number came to, which was asked not to wait before anything was asked of its descriptor, or wasn't. */
+void note_call(int fd, bool is_at_once, int32_t res);
 
 /* Whether what has this number is a file in memory, if it was one when that was last asked. To be told is quicker than what else a file is asked. */
 bool is_in_memory(int fd);

@@ -7,6 +7,7 @@
 #define _GNU_SOURCE
 #include "unwilling.h"
 #include "means.h"
+#include "process.h"
 
 #include <errno.h>
 #include <fcntl.h>
@@ -36,18 +37,32 @@ static int32_t set_lock(int fd, short type)
     return fcntl(fd, F_SETLK, &lock) < 0 ? -errno : 0;
 }
 
+struct wulgach_told_lock ask_lock(int fd, int query, int64_t start, int64_t length)
+{
+    struct flock lock = {.l_type = F_WRLCK, .l_whence = SEEK_SET, .l_start = start, .l_len = length};
+    bool is_told = fcntl(fd, query, &lock) >= 0;
+    return (struct wulgach_told_lock){
+        .start = (uint64_t)lock.l_start,
+        .length = (uint64_t)lock.l_len,
+        .kind = lock.l_type,
+        .process = lock.l_pid,
+        .own = this_process(),
+        .is_told = is_told,
+    };
+}
+
 /* Whether another has it by a lock that means something else, as that of a whole file. */
 static bool is_of_others(int fd)
 {
-    struct flock lock = {.l_type = F_WRLCK, .l_whence = SEEK_SET, .l_start = WULGACH_LOCKED_BYTE, .l_len = 1};
-    return fcntl(fd, F_GETLK, &lock) >= 0 && lock.l_type != F_UNLCK && !wulgach_is_layers_lock((uint64_t)lock.l_start, (uint64_t)lock.l_len);
+    struct wulgach_told_lock told = ask_lock(fd, F_GETLK, WULGACH_LOCKED_BYTE, 1);
+    return wulgach_is_lock_of_others(&told);
 }
 
 /* Whether the process has it by a lock of the application's, which ours would take off there. */
 static bool is_of_application(int fd)
 {
-    struct flock lock = {.l_type = F_WRLCK, .l_whence = SEEK_SET, .l_start = WULGACH_LOCKED_BYTE, .l_len = 1};
-    return fcntl(fd, F_OFD_GETLK, &lock) >= 0 && lock.l_type != F_UNLCK && lock.l_pid == getpid();
+    struct wulgach_told_lock told = ask_lock(fd, F_OFD_GETLK, WULGACH_LOCKED_BYTE, 1);
+    return wulgach_is_own_lock(&told);
 }
 
 /* Does for the lock what the library says. Returns whether it is to be given back. */

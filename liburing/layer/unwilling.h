@@ -12,6 +12,9 @@
 void lock_unwilling(void);
 void unlock_unwilling(void);
 
+/* Asks whose lock is on so many bytes of a file from a start on, 0: on all from there, by F_GETLK or F_OFD_GETLK. */
+struct wulgach_told_lock ask_lock(int fd, int query, int64_t start, int64_t length);
+
 /* Makes a call whose descriptors are these, either of which may be -1. Returns its result, or the negative of an error number. */
 int32_t make_unwilling_call(const struct wulgach_system_call *call, int fd, int second_fd);
 

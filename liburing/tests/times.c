@@ -111,12 +111,44 @@ static void test_largest_times(void)
     close_ring(&ring);
 }
 
+/* Waits for one completion, this long at most. */
+static long wait_at_most(const struct ring *ring, int64_t seconds, int64_t nanoseconds)
+{
+    struct __kernel_timespec time = {seconds, nanoseconds};
+    struct io_uring_getevents_arg argument = {.ts = (uintptr_t)&time};
+    unsigned flags = IORING_ENTER_GETEVENTS | IORING_ENTER_EXT_ARG;
+    long result = wulgach_syscall(SYS_io_uring_enter, ring->fd, 0u, 1u, flags, &argument, sizeof argument);
+    return result < 0 ? -errno : result;
+}
+
+/* The time of a wait is the sum of its seconds and nanoseconds, whichever is negative: so one of 20 ms ends before that of two seconds is over. */
+static void test_negative_parts(void)
+{
+    static const struct __kernel_timespec longer[] = {{-5, 7000000000}, {-1, INT64_MAX}, {7, -5000000000}, {INT64_MAX / 1000000000, INT64_MIN}};
+    static const struct __kernel_timespec over[] = {{-5, 4000000000}, {-5, 5000000000}, {5, -6000000000}, {-1, -1}, {-3600, 0}};
+    struct __kernel_timespec moment = {0, 20000000};
+    struct ring ring;
+    make_ring(&ring, 4, 0, 0);
+    for (unsigned i = 0; i < sizeof longer / sizeof *longer; i++) {
+        put_timeout(&ring, i, &moment);
+        check(enter(&ring, 1, 0, 0) == 1);
+        check(wait_at_most(&ring, longer[i].tv_sec, longer[i].tv_nsec) == 0);
+        check(reap(&ring).res == -ETIME);
+    }
+    for (unsigned i = 0; i < sizeof over / sizeof *over; i++)
+        check(wait_at_most(&ring, over[i].tv_sec, over[i].tv_nsec) == -ETIME);
+    check(end_of_timeout(&ring, -5, 7000000000) == -EINVAL);
+    check(end_of_timeout(&ring, 7, -5000000000) == -EINVAL);
+    close_ring(&ring);
+}
+
 int main(int count, char **words)
 {
     static const struct named tests[] = {
         {"virtual time", test_virtual_time},
         {"timeouts", test_timeouts},
         {"largest times", test_largest_times},
+        {"negative parts", test_negative_parts},
     };
     alarm((unsigned)(PATIENCE * patience()));
     return run_tests(tests, sizeof tests / sizeof *tests, count > 1 ? words[1] : NULL);

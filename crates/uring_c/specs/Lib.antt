@@ -5,6 +5,7 @@ pub mod RegisterForm
 pub mod UsesForm
 pub mod MessageForm
 pub mod RoundForm
+pub mod RememberedForm
 pub mod RingForm
 pub mod DecisionForm
 pub mod DutyForm

@@ -13,6 +13,7 @@ pub mod named_exports;
 pub mod opening_exports;
 pub mod piece_exports;
 pub mod received_exports;
+pub mod remembering_exports;
 pub mod starting_exports;
 pub mod strict_exports;
 pub mod wait_exports;

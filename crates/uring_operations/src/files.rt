@@ -10,4 +10,6 @@ pub mod logging;
 pub mod mapped;
 pub mod openness;
 pub mod pipe_open;
+pub mod remembering;
 pub mod syncing;
+pub mod told_lock;

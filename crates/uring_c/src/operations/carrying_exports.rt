@@ -1,6 +1,7 @@
 //! How an operation is carried out, and what is asked of descriptors meanwhile, for C: functions of `c/wulgach_calls.h`.
 ghost use Rattle.std.specs.Prelude.{◌≡◌, true, false, MatchOption};
 ghost use Rattle.uring_operations.specs.Files.Asking as asking;
+ghost use Rattle.uring_operations.specs.Files.ToldLocks as locks;
 ghost use Rattle.uring_enter.specs.GoingOn.Carrying as spec;
 ghost use Rattle.uring_c.specs.CarryingForm.{res_of_source, word_of_calls, word_of_locking, word_of_source};
 ghost use Rattle.uring_c.specs.MeansForm.{fault_of_word};
@@ -8,7 +9,7 @@ ghost use Rattle.uring_c.specs.MeansForm.{fault_of_word};
 use crate::operations::call_exports::fault_of;
 use uring_enter::{Calls, Source, calls_of, finish_steps, half_in, left_of_buffer, source_of};
 use uring_operations::{
-    Locked, Locking, asked_descriptors, asked_flags, flags_after, is_layers_lock, next_of_locking,
+    Locked, Locking, ToldLock, asked_descriptors, asked_flags, flags_after, next_of_locking,
 };
 
 /// Returns where the result of the operation of this code comes from, whose start has found this error, or 0, and which is given this fault, or none, and writes the result of a fault that it is given. Else nothing is written.
@@ -105,12 +106,28 @@ pub extern "C" fn wulgach_finish_steps(is_zero_copy: bool) -> u32
     finish_steps(is_zero_copy)
 }
 
-/// Whether a lock of so many bytes from a start on is one by which layers keep each other from such calls.
+/// Whether a query told of a lock of the process that asked.
 #[unsafe(no_mangle)]
-pub extern "C" fn wulgach_is_layers_lock(start: u64, length: u64) -> bool
-    ensures { result ≡ asking.is_layers_lock start length }
+pub extern "C" fn wulgach_is_own_lock(told: &ToldLock) -> bool
+    ensures { result ≡ locks.is_own told.now }
 {
-    is_layers_lock(start, length)
+    told.is_own()
+}
+
+/// Whether it told of one that another has, and that isn't one by which layers keep each other out.
+#[unsafe(no_mangle)]
+pub extern "C" fn wulgach_is_lock_of_others(told: &ToldLock) -> bool
+    ensures { result ≡ locks.is_of_others told.now }
+{
+    told.is_of_others()
+}
+
+/// Whether the list of all locks is read to know if the process has one.
+#[unsafe(no_mangle)]
+pub extern "C" fn wulgach_asks_list_of_locks(told: &ToldLock) -> bool
+    ensures { result ≡ locks.asks_list told.now }
+{
+    told.asks_list()
 }
 
 /// Returns what is next for the lock by which processes keep each other from calls whose descriptors are asked not to wait.

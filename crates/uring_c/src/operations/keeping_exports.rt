@@ -4,8 +4,8 @@ ghost use Rattle.uring_operations.specs.Files.Keeping as keeping;
 ghost use Rattle.uring_c.specs.PassageForm.{copied_if};
 
 use uring_operations::{
-    Standing, asks_locks, counts_as_written, keeps_before_close, may_close_last, shares_copy,
-    stays_open, tells_anew,
+    Standing, asks_locks, counts_as_written, heard_events, is_heard, keeps_before_close,
+    left_events, may_close_last, shares_copy, stays_open, tells_anew,
 };
 
 /// Whether the request of this number, on this descriptor, keeps its file before a close of this number, of this descriptor.
@@ -49,12 +49,36 @@ pub extern "C" fn wulgach_may_close_last(
     may_close_last(others, was_closed, has_file, is_of_slot, is_same)
 }
 
-/// Whether a pipe counts as written to after an event.
+/// Whether writes to the file of a descriptor of this mode and these flags are heard.
 #[unsafe(no_mangle)]
-pub extern "C" fn wulgach_counts_as_written(is_dropped: bool, is_write: bool, is_own: bool) -> bool
-    ensures { result ≡ keeping.counts_as_written is_dropped is_write is_own }
+pub extern "C" fn wulgach_is_heard(mode: u32, flags: u32) -> bool
+    ensures { result ≡ keeping.is_heard mode flags }
 {
-    counts_as_written(is_dropped, is_write, is_own)
+    is_heard(mode, flags)
+}
+
+/// Of which events of a pipe inotify tells.
+#[unsafe(no_mangle)]
+pub extern "C" fn wulgach_heard_events() -> u32
+    ensures { result ≡ keeping.heard_events }
+{
+    heard_events()
+}
+
+/// For what poll is asked to know whether what was written is there still.
+#[unsafe(no_mangle)]
+pub extern "C" fn wulgach_left_events() -> u16
+    ensures { result ≡ keeping.left_events }
+{
+    left_events()
+}
+
+/// Whether a pipe counts as written to after an event of these bits.
+#[unsafe(no_mangle)]
+pub extern "C" fn wulgach_counts_as_written(mask: u32, is_own: bool) -> bool
+    ensures { result ≡ keeping.counts_as_written mask is_own }
+{
+    counts_as_written(mask, is_own)
 }
 
 /// Whether whoever polls a ring's descriptor is told anew.

@@ -27,11 +27,14 @@ pub data Event : Type 0 where
 abbrev pub later : ℕ → ℕ → ℕ
 later time more = min (time + more) (2 ^ 63 - 1)
 
--- the nanoseconds of a time in seconds and nanoseconds. A negative time is none, and one past the largest is the largest. Our own rule
+-- the nanoseconds of a time in seconds and nanoseconds, which is their sum, whichever is negative. A negative sum is none. From 9,223,372,036 seconds on it is the largest time, as the kernel has it, and a sum past the largest is the largest, which is our own rule
 abbrev pub nanoseconds_of : ℤ → ℤ → ℕ
-nanoseconds_of (negsuc _) _ = 0
-nanoseconds_of (pos seconds) (pos nanoseconds) = later (seconds * 1000000000) nanoseconds
-nanoseconds_of (pos seconds) (negsuc less) = later (seconds * 1000000000 - (less + 1)) 0
+nanoseconds_of (negsuc _) (negsuc _) = 0
+nanoseconds_of (negsuc less) (pos nanoseconds) = later (nanoseconds - (less + 1) * 1000000000) 0
+nanoseconds_of (pos seconds) (negsuc less) =
+    if nat_le 9223372036 seconds then 2 ^ 63 - 1 else later (seconds * 1000000000 - (less + 1)) 0
+nanoseconds_of (pos seconds) (pos nanoseconds) =
+    if nat_le 9223372036 seconds then 2 ^ 63 - 1 else later (seconds * 1000000000) nanoseconds
 
 -- a count past the largest is the largest. Our own rule
 abbrev pub counted : ℕ → ℕ → ℕ

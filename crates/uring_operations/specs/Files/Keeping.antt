@@ -1,7 +1,10 @@
 -- What a request's file is kept for, and what others hear of its end. Our own rules, but where it is said what a kernel does: there a request has its file from the moment in which it begins, and each write and each end is told as it comes.
-use Rattle.std.specs.Prelude.{◌≡◌, ℕ, ℤ, Bool, true, false, not, ◌&&◌, ◌||◌, nat_lt, Option, Some, None}
+use Rattle.std.specs.Prelude.{◌≡◌, ℕ, ℤ, Bool, true, false, not, ◌&&◌, ◌||◌, ◌==◌, nat_lt, Option, Some, None}
 use Rattle.std.specs.Ordering.{int_eq}
+use Rattle.std.specs.Int.RustNames.{bit_and}
 use Rattle.uring_operations.specs.declared.requests.ready.Standing.{Standing}
+use Rattle.uring_operations.specs.Entries.Clocks.{has_some}
+use Rattle.uring_operations.specs.Files.Descriptors.{directions_of}
 
 -- whether a request keeps its file before a close is carried out: it was accepted before that, so that a kernel would have begun it, and is on the descriptor that is closed
 abbrev pub keeps_before_close : (number : ℕ) → (fd : ℤ) → (closing : ℕ) → (closed : ℤ) → Bool
@@ -23,9 +26,21 @@ AsksWhereItMatters = (others : ℕ) (was_closed has_file is_same : Bool)
     → (may_close_last 0 was_closed has_file false is_same ≡ false)
     × (may_close_last others was_closed has_file true true ≡ may_close_last others was_closed has_file true false)
 
--- whether a pipe counts as written to after an event: it tells of a write to that pipe, or that events were dropped, among which there may have been such a one
-abbrev pub counts_as_written : (is_dropped is_write is_own : Bool) → Bool
-counts_as_written is_dropped is_write is_own = is_dropped || is_write && is_own
+-- whether writes to the file of a descriptor are heard: it is a pipe, with a name or without, by its mode (inode(7), S_IFIFO), and open to be read. Sockets tell inotify nothing, and a descriptor that isn't open to be read brings no poll what was written
+abbrev pub is_heard : (mode flags : ℕ) → Bool
+is_heard mode flags = bit_and mode 61440 == 4096 && (directions_of flags).can_read
+
+-- of a pipe's events inotify tells of writes alone: IN_MODIFY. inotify(7)
+abbrev pub heard_events : ℕ
+heard_events = 2
+
+-- what was written is there still if the pipe has something to be read: POLLIN. poll(2)
+abbrev pub left_events : ℕ
+left_events = 1
+
+-- whether a pipe counts as written to after an event: it tells of a write (IN_MODIFY) to that pipe, or that events were dropped (IN_Q_OVERFLOW, 16384), among which there may have been such a one
+abbrev pub counts_as_written : (mask : ℕ) → (is_own : Bool) → Bool
+counts_as_written mask is_own = has_some mask 16384 || has_some mask heard_events && is_own
 
 -- whether whoever polls a ring's descriptor is told anew: it has become readable, or isn't any more; or it is readable still, more was posted since it was told last, and somebody may wait for an edge of it (epoll(7), EPOLLET), which a kernel gives for each completion: another thread or process, or this one between its calls. That nobody does is for who runs the program to say
 abbrev pub tells_anew : (was_readable is_readable has_posted may_wait_for_edges : Bool) → Bool

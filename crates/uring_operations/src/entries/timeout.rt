@@ -102,18 +102,23 @@ pub fn left_until(time: u64, now: u64) -> u64
     time.saturating_sub(now)
 }
 
-/// The nanoseconds of a time in seconds and nanoseconds. A negative time is none, and one past the largest is the largest. Our own rule.
+/// The nanoseconds of a time in seconds and nanoseconds, which is their sum, whichever is negative. A negative sum is none. From 9,223,372,036 seconds on it is the largest time, and a sum past the largest is the largest, which is our own rule.
 pub fn nanoseconds_of(seconds: i64, nanoseconds: i64) -> u64
     ensures { result ≡ nanoseconds_of seconds nanoseconds }
 {
-    if seconds < 0 {
-        return 0;
+    if seconds >= 9_223_372_036 {
+        return (1 << 63) - 1;
     }
     let whole = seconds.unsigned_abs().saturating_mul(1_000_000_000);
-    if nanoseconds < 0 {
-        later(whole.saturating_sub(nanoseconds.unsigned_abs()), 0)
+    let rest = nanoseconds.unsigned_abs();
+    if seconds >= 0 && nanoseconds >= 0 {
+        later(whole, rest)
+    } else if seconds >= 0 {
+        later(whole.saturating_sub(rest), 0)
+    } else if nanoseconds >= 0 {
+        later(rest.saturating_sub(whole), 0)
     } else {
-        later(whole, nanoseconds.unsigned_abs())
+        0
     }
 }
 

@@ -4,6 +4,7 @@ ghost use Rattle.std.specs.Prelude.{◌≡◌};
 ghost use Rattle.uring_operations.specs.Files.Keeping as spec;
 ghost use Rattle.uring_operations.specs.Files.Keeping.{AsksWhereItMatters};
 
+use crate::files::descriptor::directions_of;
 use crate::requests::ready::Standing;
 
 /// Whether the request of this number, on this descriptor, keeps its file before a close is carried out, which has a number too and closes another descriptor or the same.
@@ -41,11 +42,32 @@ pub fn asks_whether_same()
     ensures { AsksWhereItMatters }
 {}
 
-/// Whether a pipe counts as written to after an event that tells of dropped events, or of a write, to this pipe or another.
-pub fn counts_as_written(is_dropped: bool, is_write: bool, is_own: bool) -> bool
-    ensures { result ≡ spec.counts_as_written is_dropped is_write is_own }
+/// Whether writes to the file of a descriptor are heard, whose mode and flags are these: a named pipe or another, open to be read.
+pub fn is_heard(mode: u32, flags: u32) -> bool
+    ensures { result ≡ spec.is_heard mode flags }
 {
-    is_dropped || is_write && is_own
+    mode & 0xf000 == 0x1000 && directions_of(flags).can_read
+}
+
+/// Of which events of such a pipe inotify(7) tells.
+pub fn heard_events() -> u32
+    ensures { result ≡ spec.heard_events }
+{
+    2
+}
+
+/// For what poll(2) is asked to know whether what was written to it is there still.
+pub fn left_events() -> u16
+    ensures { result ≡ spec.left_events }
+{
+    1
+}
+
+/// Whether a pipe counts as written to after an event of these bits, which names this pipe or another, or none.
+pub fn counts_as_written(mask: u32, is_own: bool) -> bool
+    ensures { result ≡ spec.counts_as_written mask is_own }
+{
+    mask & 16384 != 0 || mask & 2 != 0 && is_own
 }
 
 /// Whether whoever polls a ring's descriptor is told anew, where somebody may wait for edges of it, or nobody does.
