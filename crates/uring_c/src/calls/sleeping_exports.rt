@@ -1,12 +1,13 @@
 //! When a sleep isn't begun, what came of one, and which polls are told of writes, for C: functions of `c/wulgach_lookout.h` and `c/wulgach_waits.h`.
 ghost use Rattle.std.specs.Prelude.{◌≡◌};
 ghost use Rattle.uring_enter.specs.Waiting.PipePolls as polls;
+ghost use Rattle.uring_enter.specs.Waiting.Selecting as selecting;
 ghost use Rattle.uring_enter.specs.Waiting.Sleeping as sleeping;
 ghost use Rattle.uring_c.specs.SleepForm.{word_of_outcome};
 
 use uring_enter::{
-    Outcome, PipePoll, SleptFor, Waited, asks_before_nap, asks_select, came_to, can_be_woken,
-    fires_after, outcome_of, sleeps_by_poll, slept_for,
+    Outcome, PipePoll, Sets, SleptFor, Waited, asks_before_nap, asks_select, came_to, can_be_woken,
+    fires_after, outcome_of, select_sets, sleeps_by_poll, slept_for, told_by_select,
 };
 use uring_operations::{Needs, Standing};
 
@@ -40,6 +41,22 @@ pub extern "C" fn wulgach_asks_select(came: i32) -> bool
     ensures { result ≡ sleeping.asks_select came }
 {
     asks_select(came)
+}
+
+/// Writes in which sets of select(2) a descriptor stands that is asked for these events.
+#[unsafe(no_mangle)]
+pub extern "C" fn wulgach_select_sets(events: u16, sets: &mut Sets)
+    ensures { sets.new ≡ selecting.select_sets events }
+{
+    *sets = select_sets(events);
+}
+
+/// The events that one shows which was asked for these, is open or isn't, and stands in these sets after select(2).
+#[unsafe(no_mangle)]
+pub extern "C" fn wulgach_told_by_select(events: u16, is_open: bool, found: &Sets) -> u16
+    ensures { result ≡ selecting.told_by_select events is_open found.now }
+{
+    told_by_select(events, is_open, found)
 }
 
 /// Returns what came of a wait, as the reply to a call that wants to sleep.
