@@ -153,15 +153,16 @@ int32_t wulgach_search_found_by_core(const struct wulgach_search *search, int32_
 
 /* ---- updates ---- */
 
-/* What a removal does with the poll or the timeout that it finds. */
+/* What a removal does with the poll or the timeout that it has found, or hasn't. */
 enum wulgach_removal {
     WULGACH_REMOVAL_CANCELS = 0,
     WULGACH_REMOVAL_UPDATES = 1,
-    WULGACH_REMOVAL_UPDATES_LINKED = 2  /* of a timeout that is linked to a request */
+    WULGACH_REMOVAL_UPDATES_LINKED = 2, /* of a timeout that is linked to a request, whether or not one was found */
+    WULGACH_REMOVAL_DOES_NOTHING = 3    /* there is none */
 };
 
-uint32_t wulgach_poll_removal(const struct wulgach_submission *entry);
-uint32_t wulgach_timeout_removal(const struct wulgach_submission *entry);
+uint32_t wulgach_poll_removal(const struct wulgach_submission *entry, bool is_found);
+uint32_t wulgach_timeout_removal(const struct wulgach_submission *entry, bool is_found);
 
 /* What a removal ends with, or an update, that has found what it names, or hasn't: 0 or -2 (ENOENT). */
 int32_t wulgach_removal_result(bool is_found);

@@ -193,6 +193,10 @@ uint64_t wulgach_length_with(uint64_t length, uint64_t size);
 /* The fault of how a file is opened, -7 (E2BIG) if what is newer isn't all 0; and of an entry after its first path: -22 of an open that goes to a slot and
  * has O_CLOEXEC, be it by its entry's flags or by those of its structure (`how`). Each is 0 if there is none. */
 int32_t wulgach_how_fault(bool is_rest_zero);
+
+/* How many bytes are read next of a text, or of the rest of a structure, of which so many are left at most, and whose next byte is at this address; 0
+ * once it is over. */
+uint64_t wulgach_text_part(uint64_t at, uint64_t left, bool is_over);
 int32_t wulgach_open_fault(const struct wulgach_submission *entry, uint64_t how);
 
 /* Where the parts of a message stand in a buffer, of a RECVMSG that goes on, in bytes from its beginning. */

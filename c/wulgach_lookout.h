@@ -258,6 +258,16 @@ bool wulgach_instance_takes(bool keeps_file, bool has_own);
 /* For what it is asked that is to tell of these events: for the first of them (EPOLLONESHOT), by which the request is dormant no more. */
 uint32_t wulgach_dormant_events(uint16_t events);
 
+/* What becomes of a descriptor that is given to it. */
+enum wulgach_enlisting {
+    WULGACH_IS_LISTED = 0,
+    WULGACH_ADDS_DUPLICATE = 1,     /* it has that number already: a duplicate is given to it */
+    WULGACH_IS_UNLISTED = 2         /* it never tells of it: whoever waits for it is looked at */
+};
+
+/* Returns that (enum wulgach_enlisting) of one whose adding came to this, 0 or an error number's negative, itself or a duplicate. Our own rule. */
+uint32_t wulgach_enlisting_after(int32_t came, bool is_duplicate);
+
 enum wulgach_instance_answer {
     WULGACH_INSTANCE_IS_DONE = 0,   /* it has told all */
     WULGACH_INSTANCE_ASKS = 1,      /* it is asked again */

@@ -159,6 +159,9 @@ bool wulgach_keeps_startable(const struct wulgach_drains *drains);
  * what it dooms, but not by Linux's. */
 bool wulgach_lets_others_start(bool linux_rules, bool has_failed, bool is_cancel);
 
+/* Whether the core is asked if the next request in order can start now, after the end of one: it hasn't started, and it isn't known that it can. */
+bool wulgach_asks_next(bool has_started, bool can_start);
+
 /* Whether a completion that belongs to no end of a request may be posted, where so many positions are staged and not taken: none is, and, but by Linux's rules, nothing
  * that drains is outstanding; and there is memory for it. */
 bool wulgach_drains_may_post(const struct wulgach_drains *drains, uint64_t staged, bool linux_rules, bool has_memory);

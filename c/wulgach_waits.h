@@ -173,6 +173,9 @@ enum wulgach_kind {
     WULGACH_ASK_ACCESS = 7
 };
 
+/* Writes what is known of a descriptor once it was asked for its status: by its mode, if it is open; or, of a file in memory, unasked. */
+void wulgach_note_status(struct wulgach_nature *nature, bool is_in_memory, bool is_open, uint32_t mode);
+
 /* Returns what is asked next of the descriptor of an entry's request, or what the request is on it (enum wulgach_kind). Nothing is asked
  * twice, and nothing that doesn't matter. A poll and a splice may have to wait whatever their descriptors are, an operation of sockets on a
  * socket, and a transfer on a device or on what has no offsets; others never do. */
@@ -325,6 +328,18 @@ int32_t wulgach_sleep_came_to(int32_t res, bool is_child);
  * process may have open. Our own rule. */
 bool wulgach_sleeps_by_poll(int32_t came);
 bool wulgach_asks_select(int32_t came);
+
+/* In which sets of select(2) a descriptor stands. */
+struct wulgach_sets {
+    bool is_readable;
+    bool is_writable;
+    bool is_urgent;             /* that of exceptional conditions */
+};
+
+/* Writes in which of them one stands that is asked for these events of poll(2). Then returns the events that it shows, which is open or isn't, and
+ * stands in these sets after select(2): of a set the likely ones, as POLLIN, or else the others; POLLNVAL of what isn't open. */
+void wulgach_select_sets(uint16_t events, struct wulgach_sets *sets);
+uint16_t wulgach_told_by_select(uint16_t events, bool is_open, const struct wulgach_sets *found);
 
 /* What is left undone with a ring, as a set of bits. */
 enum wulgach_left {

@@ -109,8 +109,8 @@ static void search_and_update(void)
     changed.op_flags = 1u << 30 | 1;
     wulgach_updated_poll(&changed, &(struct wulgach_submission){.len = 2, .op_flags = 1u << 31 | 4});
     demand(changed.op_flags == (1u << 30 | 4), "16 bits of events");
-    demand(wulgach_poll_removal(&(struct wulgach_submission){.len = 1}) == WULGACH_REMOVAL_CANCELS && wulgach_poll_removal(&(struct wulgach_submission){.len = 2}) == WULGACH_REMOVAL_UPDATES, "a poll's removal");
-    demand(wulgach_timeout_removal(&(struct wulgach_submission){0}) == WULGACH_REMOVAL_CANCELS && wulgach_timeout_removal(&(struct wulgach_submission){.op_flags = 3}) == WULGACH_REMOVAL_UPDATES && wulgach_timeout_removal(&(struct wulgach_submission){.op_flags = 19}) == WULGACH_REMOVAL_UPDATES_LINKED && wulgach_timeout_removal(&(struct wulgach_submission){.op_flags = 17}) == WULGACH_REMOVAL_CANCELS, "a timeout's");
+    demand(wulgach_poll_removal(&(struct wulgach_submission){.len = 1}, true) == WULGACH_REMOVAL_CANCELS && wulgach_poll_removal(&(struct wulgach_submission){.len = 2}, true) == WULGACH_REMOVAL_UPDATES && wulgach_poll_removal(&(struct wulgach_submission){.len = 2}, false) == WULGACH_REMOVAL_DOES_NOTHING, "a poll's removal");
+    demand(wulgach_timeout_removal(&(struct wulgach_submission){0}, true) == WULGACH_REMOVAL_CANCELS && wulgach_timeout_removal(&(struct wulgach_submission){.op_flags = 3}, true) == WULGACH_REMOVAL_UPDATES && wulgach_timeout_removal(&(struct wulgach_submission){.op_flags = 19}, true) == WULGACH_REMOVAL_UPDATES_LINKED && wulgach_timeout_removal(&(struct wulgach_submission){.op_flags = 17}, true) == WULGACH_REMOVAL_CANCELS, "a timeout's");
     demand(wulgach_removal_result(true) == 0 && wulgach_removal_result(false) == -2, "what a removal ends with");
     struct wulgach_linked linked = {.user_data = 5, .is_linked = true, .runs = true}, still = {.user_data = 5, .is_linked = true}, loose = {.user_data = 5, .runs = true};
     struct wulgach_linked_update update;

@@ -56,17 +56,13 @@ static void ask_status(const struct request *request, struct wulgach_nature *nat
 {
     struct stat status;
     if (is_in_memory(request->fd)) {
-        nature->is_open = nature->is_file = nature->has_type = true;
+        wulgach_note_status(nature, true, true, 0);
         return;
     }
-    nature->is_open = pass(SYS_fstat, request->fd, (long)&status, 0, 0, 0, 0) >= 0;
-    if (!nature->is_open)
-        return;
-    nature->is_file = S_ISREG(status.st_mode);
-    nature->is_device = S_ISCHR(status.st_mode);
-    nature->is_socket = S_ISSOCK(status.st_mode);
-    nature->has_type = status.st_mode & S_IFMT;
-    note_kind(request->fd, nature->is_file);
+    bool is_open = pass(SYS_fstat, request->fd, (long)&status, 0, 0, 0, 0) >= 0;
+    wulgach_note_status(nature, false, is_open, is_open ? status.st_mode : 0);
+    if (is_open)
+        note_kind(request->fd, nature->is_file);
 }
 
 static void ask_access(const struct request *request, struct wulgach_nature *nature)

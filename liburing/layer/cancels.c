@@ -218,9 +218,10 @@ static void change_poll(struct ring *ring, struct request *poll, const struct io
 int32_t remove_poll(struct ring *ring, const struct request *removal)
 {
     struct request *poll = find_request(ring, removal);
-    if (poll && wulgach_poll_removal(submission_of(&removal->entry)) == WULGACH_REMOVAL_UPDATES)
+    uint32_t what = wulgach_poll_removal(submission_of(&removal->entry), poll != NULL);
+    if (what == WULGACH_REMOVAL_UPDATES)
         change_poll(ring, poll, &removal->entry);
-    else if (poll)
+    else if (what == WULGACH_REMOVAL_CANCELS)
         cancel_request(ring, poll);
     return wulgach_removal_result(poll != NULL);
 }
@@ -228,13 +229,13 @@ int32_t remove_poll(struct ring *ring, const struct request *removal)
 int32_t remove_timeout(struct ring *ring, const struct request *removal)
 {
     const struct io_uring_sqe *entry = &removal->entry;
-    uint32_t what = wulgach_timeout_removal(submission_of(entry));
-    if (what == WULGACH_REMOVAL_UPDATES_LINKED)
+    if (wulgach_timeout_removal(submission_of(entry), false) == WULGACH_REMOVAL_UPDATES_LINKED)
         return change_linked_timeout(ring, removal);
     struct request *timeout = find_request(ring, removal);
-    if (timeout && what == WULGACH_REMOVAL_UPDATES)
+    uint32_t what = wulgach_timeout_removal(submission_of(entry), timeout != NULL);
+    if (what == WULGACH_REMOVAL_UPDATES)
         change_timeout(ring, timeout, removal);
-    else if (timeout)
+    else if (what == WULGACH_REMOVAL_CANCELS)
         cancel_request(ring, timeout);
     return wulgach_removal_result(timeout != NULL);
 }

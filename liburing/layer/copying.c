@@ -120,10 +120,7 @@ int copy_text(struct text *text, uint64_t from, size_t most)
     char letters[PATH_MAX];
     const char *end = NULL;
     size_t length = 0;
-    while (!end && length < most) {
-        size_t piece = SMALLEST_PAGE - (from + length) % SMALLEST_PAGE;
-        if (piece > most - length)
-            piece = most - length;
+    for (size_t piece; (piece = wulgach_text_part(from + length, most - length, end)) > 0;) {
         int result = copy_in(letters + length, from + length, piece);
         if (result < 0)
             return result;

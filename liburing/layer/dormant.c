@@ -64,11 +64,18 @@ static bool has_instance(struct ring *ring)
 
 /* ---- which descriptors the instance has ---- */
 
-static bool change(const struct ring *ring, int how, const struct request *request, const struct pollfd *polled)
+/* Returns 0, or an error number's negative. */
+static int32_t change(const struct ring *ring, int how, const struct request *request, const struct pollfd *polled)
 {
     struct epoll_event event = {.events = wulgach_dormant_events((uint16_t)polled->events), .data.u64 = request->number};
     int fd = request->duplicate ? request->duplicate->fd : polled->fd;
-    return epoll_ctl(ring->dormant.instance, how, fd, &event) == 0;
+    return epoll_ctl(ring->dormant.instance, how, fd, &event) == 0 ? 0 : -errno;
+}
+
+/* Adds its descriptor, or its duplicate if it has one. */
+static enum wulgach_enlisting add_to_instance(const struct ring *ring, const struct request *request, const struct pollfd *polled)
+{
+    return (enum wulgach_enlisting)wulgach_enlisting_after(change(ring, EPOLL_CTL_ADD, request, polled), request->duplicate != NULL);
 }
 
 /* Gives the instance a request's descriptor, for one event. False: it doesn't take it. */
@@ -76,12 +83,11 @@ static bool enlist(struct ring *ring, struct request *request)
 {
     struct pollfd polled = poll_of(request);
     if (request->is_enlisted)
-        return change(ring, EPOLL_CTL_MOD, request, &polled);
-    request->is_enlisted = change(ring, EPOLL_CTL_ADD, request, &polled);
-    if (request->is_enlisted || errno != EEXIST)
-        return request->is_enlisted;
-    request->duplicate = hold_file(polled.fd);
-    request->is_enlisted = request->duplicate && change(ring, EPOLL_CTL_ADD, request, &polled);
+        return change(ring, EPOLL_CTL_MOD, request, &polled) == 0;
+    enum wulgach_enlisting is = add_to_instance(ring, request, &polled);
+    if (is == WULGACH_ADDS_DUPLICATE && (request->duplicate = hold_file(polled.fd)))
+        is = add_to_instance(ring, request, &polled);
+    request->is_enlisted = is == WULGACH_IS_LISTED;
     return request->is_enlisted;
 }
 

@@ -71,13 +71,11 @@ static int32_t look_at_rest(uint64_t from, uint64_t end)
     static const char zeros[PAGE];
     char page[PAGE];
     bool is_zero = true;
-    while (is_zero && from < end) {
-        size_t left = PAGE - from % PAGE, size = end - from < left ? end - from : left;
+    for (size_t size; (size = wulgach_text_part(from, end - from, !is_zero)) > 0; from += size) {
         int result = copy_in(page, from, size);
         if (result < 0)
             return result;
         is_zero = memcmp(page, zeros, size) == 0;
-        from += size;
     }
     return wulgach_how_fault(is_zero);
 }

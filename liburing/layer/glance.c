@@ -21,9 +21,6 @@ struct sets {
     int end;
 };
 
-/* What a set may stand for, the likely first: the rest is told where nothing else of it was asked. */
-static const short READABLE = POLLIN | POLLRDNORM, READABLE_TOO = POLLRDBAND | POLLRDHUP, WRITABLE = POLLOUT | POLLWRNORM, WRITABLE_TOO = POLLWRBAND;
-
 static void add(fd_mask *set, int fd)
 {
     set[fd / BITS] |= (fd_mask)(1ul << fd % BITS);
@@ -49,31 +46,34 @@ static bool begin_sets(struct sets *sets, const struct pollfd *polled, nfds_t co
     return true;
 }
 
-/* Adds what is asked of each. Returns how many aren't open, which shows at once. */
-static int ask_sets(struct sets *sets, struct pollfd *polled, nfds_t count)
+static void ask_of(struct sets *sets, const struct pollfd *at)
 {
-    int closed = 0;
-    for (struct pollfd *at = polled; at < polled + count; at++) {
-        bool is_closed = at->fd >= 0 && fcntl(at->fd, F_GETFD) < 0;
-        at->revents = is_closed ? POLLNVAL : 0;
-        closed += is_closed;
-        if (at->fd < 0 || is_closed)
-            continue;
-        if (at->events & (READABLE | READABLE_TOO))
-            add(sets->readable, at->fd);
-        if (at->events & (WRITABLE | WRITABLE_TOO))
-            add(sets->writable, at->fd);
-        if (at->events & POLLPRI)
-            add(sets->urgent, at->fd);
-    }
-    return closed;
+    struct wulgach_sets asked;
+    wulgach_select_sets((uint16_t)at->events, &asked);
+    if (asked.is_readable)
+        add(sets->readable, at->fd);
+    if (asked.is_writable)
+        add(sets->writable, at->fd);
+    if (asked.is_urgent)
+        add(sets->urgent, at->fd);
 }
 
-static short told_as(const fd_mask *set, const struct pollfd *at, short likely, short rest)
+/* Adds what is asked of each. Returns how many show something already, since they aren't open. */
+static int ask_sets(struct sets *sets, struct pollfd *polled, nfds_t count)
 {
-    if (!has(set, at->fd))
-        return 0;
-    return at->events & likely ? at->events & likely : at->events & rest;
+    static const struct wulgach_sets none;
+    int shown = 0;
+    for (struct pollfd *at = polled; at < polled + count; at++) {
+        at->revents = 0;
+        if (at->fd < 0)
+            continue;
+        if (fcntl(at->fd, F_GETFD) >= 0)
+            ask_of(sets, at);
+        else
+            at->revents = (short)wulgach_told_by_select((uint16_t)at->events, false, &none);
+        shown += at->revents != 0;
+    }
+    return shown;
 }
 
 /* Tells what was found of each. Returns how many show something. */
@@ -81,8 +81,10 @@ static int tell_found(const struct sets *sets, struct pollfd *polled, nfds_t cou
 {
     int found = 0;
     for (struct pollfd *at = polled; at < polled + count; at++) {
-        if (at->fd >= 0 && at->revents == 0)
-            at->revents = told_as(sets->readable, at, READABLE, READABLE_TOO) | told_as(sets->writable, at, WRITABLE, WRITABLE_TOO) | told_as(sets->urgent, at, POLLPRI, 0);
+        if (at->fd >= 0 && at->revents == 0) {
+            struct wulgach_sets in = {has(sets->readable, at->fd), has(sets->writable, at->fd), has(sets->urgent, at->fd)};
+            at->revents = (short)wulgach_told_by_select((uint16_t)at->events, true, &in);
+        }
         found += at->revents != 0;
     }
     return found;

@@ -104,6 +104,6 @@ void note_issuable_after(struct ring *ring, const struct request *ended, int32_t
     /* (one between the two may have ended before, which a cancel has found) */
     size_t place = count_before(&ring->requests, ended->number + 1);
     struct request *next = ring->knows_issuable && place < ring->requests.count ? ring->requests.rows[place] : NULL;
-    if (next && !next->course.has_started && !request_or_none(&ring->issuable, next->number) && can_issue(ring, next->number))
+    if (next && wulgach_asks_next(next->course.has_started, request_or_none(&ring->issuable, next->number)) && can_issue(ring, next->number))
         insert_request(&ring->issuable, next);
 }

@@ -18,6 +18,8 @@ use Rattle.uring_operations.specs.declared.requests.glance.Glance.{Glance}
 use Rattle.uring_operations.specs.declared.requests.glance.Glance.TheVariants as glance
 use Rattle.uring_enter.specs.declared.waiting.lying.Answered.{Answered}
 use Rattle.uring_enter.specs.declared.waiting.lying.Answered.TheVariants as answered
+use Rattle.uring_enter.specs.declared.waiting.enlisting.Enlisting.{Enlisting}
+use Rattle.uring_enter.specs.declared.waiting.enlisting.Enlisting.TheVariants as enlisting
 use Rattle.uring_enter.specs.declared.waiting.missed.Gone.{Gone}
 use Rattle.uring_enter.specs.declared.waiting.missed.Gone.TheVariants as gone
 
@@ -95,3 +97,9 @@ word_of_gone gone.Yes = 2
 
 abbrev pub copied_if : (has_copy : Bool) → (copied : ℤ) → Option ℤ
 copied_if has_copy copied = if has_copy then Some copied else None
+
+-- in the order of `Enlisting`, from 0
+abbrev pub word_of_enlisting : Enlisting → ℕ
+word_of_enlisting enlisting.Listed = 0
+word_of_enlisting enlisting.AddsDuplicate = 1
+word_of_enlisting enlisting.Unlisted = 2

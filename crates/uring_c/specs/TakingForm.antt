@@ -5,7 +5,7 @@ use Rattle.uring_enter.specs.declared.taking_up.taking.Onward.TheVariants.{Takes
 use Rattle.uring_operations.specs.declared.requests.ways.Way.{Way}
 use Rattle.uring_operations.specs.declared.requests.ways.Way.TheVariants.{Finish, Issue, Return}
 use Rattle.uring_enter.specs.declared.cancels.update.Removal.{Removal}
-use Rattle.uring_enter.specs.declared.cancels.update.Removal.TheVariants.{Cancel, Update, UpdateLinked}
+use Rattle.uring_enter.specs.declared.cancels.update.Removal.TheVariants.{Cancel, Update, UpdateLinked, Nothing}
 use Rattle.uring_operations.specs.declared.copies.piece.What.{What}
 use Rattle.uring_operations.specs.declared.copies.piece.What.TheVariants.{Buffer, Vectors, Path, SecondPath, How, Time, Value, Message, Address, HowRest}
 use Rattle.uring_operations.specs.declared.copies.piece.Piece.{Piece}
@@ -40,6 +40,7 @@ abbrev pub word_of_removal : Removal → ℕ
 word_of_removal Cancel = 0
 word_of_removal Update = 1
 word_of_removal UpdateLinked = 2
+word_of_removal Nothing = 3
 
 -- kinds count in the order of `What`, from 0. Our own rule
 abbrev pub word_of_what : What → ℕ

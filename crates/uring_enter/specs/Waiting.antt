@@ -11,3 +11,5 @@ pub mod Leaving
 pub mod Joining
 pub mod Jumps
 pub mod Hearing
+pub mod Selecting
+pub mod Enlisting

@@ -1,5 +1,6 @@
 //! What waits, what is looked at, and how a call sleeps.
 
+pub mod enlisting;
 pub mod hearing;
 pub mod joining;
 pub mod jumping;
@@ -8,6 +9,7 @@ pub mod lookout;
 pub mod lying;
 pub mod missed;
 pub mod pipe_poll;
+pub mod selecting;
 pub mod sighting;
 pub mod sleeping;
 pub mod sleeps;

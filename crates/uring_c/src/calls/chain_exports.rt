@@ -5,7 +5,7 @@ ghost use Rattle.uring_enter.specs.TakingUp.Drainings as spec;
 ghost use Rattle.uring_operations.specs.declared.entries.submission.Submission.{Submission as Seen};
 ghost use Rattle.uring_c.specs.DecisionForm.{word_of_when};
 
-use uring_enter::{Chain, Changes, Drains, WhenFound, lets_others_start};
+use uring_enter::{Chain, Changes, Drains, WhenFound, asks_next, lets_others_start};
 use uring_operations::{Member, Submission};
 
 /// The first member of a chain has these flags.
@@ -77,6 +77,14 @@ pub extern "C" fn wulgach_keeps_startable(drains: &Drains) -> bool
     ensures { (log : List Drainage) → KeepsDrains log drains.now → result ≡ keeps_startable log }
 {
     drains.keeps_startable()
+}
+
+/// Whether the core is asked if the next request in order can start now, after the end of one.
+#[unsafe(no_mangle)]
+pub extern "C" fn wulgach_asks_next(has_started: bool, can_start: bool) -> bool
+    ensures { result ≡ spec.asks_next has_started can_start }
+{
+    asks_next(has_started, can_start)
 }
 
 /// Whether the end of a request, which has failed or is a cancel's, may let others start than the next of its chain.

@@ -1,14 +1,18 @@
 //! What a look at descriptors says, what an epoll instance tells of requests that are dormant, and what is told of writes, for C: functions of `c/wulgach_lookout.h`.
 ghost use Rattle.std.specs.Prelude.{◌≡◌, true, List, ◌∷◌};
 ghost use Rattle.uring_operations.specs.Requests.Glances as glances;
+ghost use Rattle.uring_enter.specs.Waiting.Enlisting as enlisting;
 ghost use Rattle.uring_enter.specs.Waiting.Lookouts.{Happening, Changed, KeepsLookout, may_be_own};
 ghost use Rattle.uring_enter.specs.Waiting.Lying as lying;
 ghost use Rattle.uring_enter.specs.Waiting.Missed as missed;
 ghost use Rattle.uring_enter.specs.Waiting.Waiters.{Encounter, Around, WasSeen, KeepsWaiter, around, has_heard};
-ghost use Rattle.uring_c.specs.PassageForm.{word_of_glance, word_of_answered, word_of_gone};
+ghost use Rattle.uring_c.specs.PassageForm.{word_of_glance, word_of_answered, word_of_enlisting, word_of_gone};
 ghost use Rattle.uring_c.specs.RingForm.{known_if};
 
-use uring_enter::{Answered, Gone, Lookout, Waiter, answer_of, dormant_events, takes_descriptor};
+use uring_enter::{
+    Answered, Enlisting, Gone, Lookout, Waiter, answer_of, dormant_events, enlisting_after,
+    takes_descriptor,
+};
 use uring_operations::{
     Glance, Submission, asks_breaking, asks_broken, glance_of, is_found_ready, unshown_glance,
 };
@@ -135,5 +139,17 @@ pub extern "C" fn wulgach_waiter_gone(waiter: &Waiter, knows: bool, is_there: bo
         Gone::No => 0,
         Gone::Asks => 1,
         Gone::Yes => 2,
+    }
+}
+
+/// What becomes of a descriptor whose adding to the epoll instance of those that wait came to this, itself or a duplicate.
+#[unsafe(no_mangle)]
+pub extern "C" fn wulgach_enlisting_after(came: i32, is_duplicate: bool) -> u32
+    ensures { result ≡ word_of_enlisting (enlisting.enlisting_after came is_duplicate) }
+{
+    match enlisting_after(came, is_duplicate) {
+        Enlisting::Listed => 0,
+        Enlisting::AddsDuplicate => 1,
+        Enlisting::Unlisted => 2,
     }
 }

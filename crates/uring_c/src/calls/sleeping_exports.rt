@@ -1,6 +1,7 @@
 //! When a sleep isn't begun, what came of one, and which polls are told of writes, for C: functions of `c/wulgach_lookout.h`, `c/wulgach_times.h` and `c/wulgach_waits.h`.
 ghost use Rattle.std.specs.Prelude.{◌≡◌, ◌==◌};
 ghost use Rattle.uring_enter.specs.Waiting.PipePolls as polls;
+ghost use Rattle.uring_enter.specs.Waiting.Selecting as selecting;
 ghost use Rattle.uring_enter.specs.Waiting.Sleeping as sleeping;
 ghost use Rattle.uring_enter.specs.Waiting.Sleeps as sleeps;
 ghost use Rattle.uring_crossing.specs.TimeForm.{limit_of, words_of_limit};
@@ -10,8 +11,9 @@ ghost use Rattle.uring_c.specs.SleepForm.{word_of_outcome, word_of_sleep_call};
 use crate::calls::watched_exports::enlisted;
 use uring_crossing::time_words::{LimitWords, limit_words};
 use uring_enter::{
-    Outcome, PipePoll, SleptFor, Waited, asks_before_nap, asks_select, came_to, can_be_woken,
-    fires_after, outcome_of, sleep_call, sleep_came, sleeps_by_poll, slept_for,
+    Outcome, PipePoll, Sets, SleptFor, Waited, asks_before_nap, asks_select, came_to, can_be_woken,
+    fires_after, outcome_of, select_sets, sleep_call, sleep_came, sleeps_by_poll, slept_for,
+    told_by_select,
 };
 use uring_operations::{Needs, Standing};
 
@@ -77,6 +79,22 @@ pub extern "C" fn wulgach_asks_select(came: i32) -> bool
     ensures { result ≡ sleeping.asks_select came }
 {
     asks_select(came)
+}
+
+/// Writes in which sets of select(2) a descriptor stands that is asked for these events.
+#[unsafe(no_mangle)]
+pub extern "C" fn wulgach_select_sets(events: u16, sets: &mut Sets)
+    ensures { sets.new ≡ selecting.select_sets events }
+{
+    *sets = select_sets(events);
+}
+
+/// The events that one shows which was asked for these, is open or isn't, and stands in these sets after select(2).
+#[unsafe(no_mangle)]
+pub extern "C" fn wulgach_told_by_select(events: u16, is_open: bool, found: &Sets) -> u16
+    ensures { result ≡ selecting.told_by_select events is_open found.now }
+{
+    told_by_select(events, is_open, found)
 }
 
 /// Returns what came of a wait, as the reply to a call that wants to sleep.

@@ -6,25 +6,25 @@ ghost use Rattle.uring_enter.specs.Cancels.Updates.{HasLooked};
 ghost use Rattle.uring_c.specs.TakingForm.{word_of_removal};
 
 use uring_enter::{
-    Linked, LinkedUpdate, Removal, poll_removal, removal_result, timeout_removal, updated_poll,
-    updated_timeout,
+    Linked, LinkedUpdate, Removal, found_removal, poll_removal, removal_result, timeout_removal,
+    updated_poll, updated_timeout,
 };
 use uring_operations::Submission;
 
-/// What the removal of a poll does.
+/// What the removal of a poll does that has found what it names, or hasn't.
 #[unsafe(no_mangle)]
-pub extern "C" fn wulgach_poll_removal(entry: &Submission) -> u32
-    ensures { result ≡ word_of_removal (spec.poll_removal entry.now) }
+pub extern "C" fn wulgach_poll_removal(entry: &Submission, is_found: bool) -> u32
+    ensures { result ≡ word_of_removal (spec.found_removal (spec.poll_removal entry.now) is_found) }
 {
-    removal_word(poll_removal(entry))
+    removal_word(found_removal(poll_removal(entry), is_found))
 }
 
-/// What the removal of a timeout does.
+/// What the removal of a timeout does that has found what it names, or hasn't.
 #[unsafe(no_mangle)]
-pub extern "C" fn wulgach_timeout_removal(entry: &Submission) -> u32
-    ensures { result ≡ word_of_removal (spec.timeout_removal entry.now) }
+pub extern "C" fn wulgach_timeout_removal(entry: &Submission, is_found: bool) -> u32
+    ensures { result ≡ word_of_removal (spec.found_removal (spec.timeout_removal entry.now) is_found) }
 {
-    removal_word(timeout_removal(entry))
+    removal_word(found_removal(timeout_removal(entry), is_found))
 }
 
 /// What a removal ends with, or an update, that has found what it names, or hasn't.
@@ -42,6 +42,7 @@ fn removal_word(removal: Removal) -> u32
         Removal::Cancel => 0,
         Removal::Update => 1,
         Removal::UpdateLinked => 2,
+        Removal::Nothing => 3,
     }
 }
 

@@ -12,7 +12,7 @@ use uring_operations::{
     Directions, Nature, Openness, SpliceEnds, SplicePoll, Submission, SyncedKind, asks_counter,
     asks_openness, counts_as_open, counts_as_synced, directions_of, ends_at_start,
     fault_asks_buffer, is_counter_name, is_eventfd_name, is_missing, is_signal_of_call,
-    is_taken_back, isnt_to_wait, signal_after, splice_poll,
+    is_taken_back, isnt_to_wait, signal_after, splice_poll, with_status,
 };
 
 /// Whether a descriptor counts as open that is this, and is named by its number, or by the slot that holds its file.
@@ -143,4 +143,17 @@ pub extern "C" fn wulgach_splice_isnt_to_wait(entry: &Submission, ends: &SpliceE
     ensures { result ≡ splices.isnt_to_wait entry.now ends.now }
 {
     isnt_to_wait(entry, ends)
+}
+
+/// Writes what is known of a descriptor once it was asked for its status.
+#[unsafe(no_mangle)]
+pub extern "C" fn wulgach_note_status(
+    nature: &mut Nature,
+    is_in_memory: bool,
+    is_open: bool,
+    mode: u32,
+)
+    ensures { nature.new ≡ found.with_status nature.old is_in_memory is_open mode }
+{
+    *nature = with_status(*nature, is_in_memory, is_open, mode);
 }

@@ -16,7 +16,7 @@ use uring_crossing::course_words::entry_if;
 use uring_operations::{
     Copying, Entry, Header, Piece, Submission, What, how_fault, is_address_alone, is_own_fault,
     length_with, message_vectors, name_fault, next_message_piece, next_piece, one_buffer,
-    open_fault, time_fault, vector_fault, wanted_of,
+    open_fault, text_part, time_fault, vector_fault, wanted_of,
 };
 
 /// A piece that is copied: `struct wulgach_piece` of the header.
@@ -215,4 +215,12 @@ pub extern "C" fn wulgach_is_address_alone(code: u8) -> bool
     ensures { result ≡ is_alone code }
 {
     is_address_alone(code)
+}
+
+/// How many bytes are read next of a text, or of the rest of a structure, of which so many are left at most, and whose next byte is at this address; none once it is over.
+#[unsafe(no_mangle)]
+pub extern "C" fn wulgach_text_part(at: u64, left: u64, is_over: bool) -> u64
+    ensures { result ≡ spec.text_part at left is_over }
+{
+    text_part(at, left, is_over)
 }

@@ -5,7 +5,7 @@ use Rattle.uring_operations.specs.declared.entries.submission.Submission.{Submis
 use Rattle.uring_enter.specs.declared.cancels.update.Linked.{Linked}
 use Rattle.uring_enter.specs.declared.cancels.update.LinkedUpdate.{LinkedUpdate}
 use Rattle.uring_enter.specs.declared.cancels.update.Removal.{Removal}
-use Rattle.uring_enter.specs.declared.cancels.update.Removal.TheVariants.{Cancel, Update, UpdateLinked}
+use Rattle.uring_enter.specs.declared.cancels.update.Removal.TheVariants.{Cancel, Update, UpdateLinked, Nothing}
 use Rattle.uring_operations.specs.Entries.Clocks.{has_some}
 use Rattle.uring_enter.specs.Rings.Missing.{missing_fault}
 use Rattle.uring_enter.specs.declared.rings.missing.Missing.TheVariants as missing
@@ -13,6 +13,11 @@ use Rattle.uring_enter.specs.declared.rings.missing.Missing.TheVariants as missi
 -- IORING_POLL_UPDATE_EVENTS is 2 and UPDATE_USER_DATA 4
 abbrev pub poll_removal : Submission → Removal
 poll_removal e = if has_some e.len 6 then Update else Cancel
+
+-- what it names it looks for, and does nothing where that isn't there; but which linked timeout is changed is looked for by other words, as below
+abbrev pub found_removal : Removal → (is_found : Bool) → Removal
+found_removal UpdateLinked is_found = UpdateLinked
+found_removal removal is_found = if is_found then removal else Nothing
 
 -- a removal, or an update, ends with 0 if it has found what it names, and else with -2 (ENOENT). io_uring_enter(2)
 abbrev pub removal_result : (is_found : Bool) → ℤ

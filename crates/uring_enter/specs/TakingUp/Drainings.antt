@@ -79,6 +79,10 @@ keeps_startable log = not (has_drained log)
 abbrev pub lets_others_start : (linux has_failed is_cancel : Bool) → Bool
 lets_others_start linux has_failed is_cancel = not linux && (has_failed || is_cancel)
 
+-- else a request is waited for by the next of its chain alone, which is the next in order of those that are left: so of that one the core is asked, unless it has started or is known to start
+abbrev pub asks_next : (has_started can_start : Bool) → Bool
+asks_next has_started can_start = not has_started && not can_start
+
 -- glue: what is kept of a chain is that of members with these flags
 pub record KeepsChain (members : List ℕ) (c : Chain) : Type 0 where
   pub count : c.members ≡ length members

@@ -33,6 +33,19 @@ pub enum Removal {
 
     /// Of timeouts: one that is linked to a request is changed.
     UpdateLinked,
+
+    /// It has found nothing.
+    Nothing,
+}
+
+/// What a removal does that was to do this, and has found what it names or hasn't. An update of a linked timeout looks for itself.
+pub fn found_removal(removal: Removal, is_found: bool) -> Removal
+    ensures { result ≡ spec.found_removal removal is_found }
+{
+    match removal {
+        Removal::UpdateLinked => Removal::UpdateLinked,
+        other => { if is_found { other } else { Removal::Nothing } }
+    }
 }
 
 /// What the removal of a poll does.

@@ -201,6 +201,13 @@ fn changes_slots(entry: &Submission) -> bool
     }
 }
 
+/// Whether the core is asked if the next request in order can start now, after the end of one: it hasn't started, and it isn't known that it can.
+pub fn asks_next(has_started: bool, can_start: bool) -> bool
+    ensures { result ≡ spec.asks_next has_started can_start }
+{
+    !has_started && !can_start
+}
+
 /// Whether the end of a request, which has failed or is a cancel's, may let others start than the next of its chain. Our own rule is that it is asked so.
 pub fn lets_others_start(linux: bool, has_failed: bool, is_cancel: bool) -> bool
     ensures { result ≡ spec.lets_others_start linux has_failed is_cancel }

@@ -1,5 +1,5 @@
 -- What is copied of what an entry points to when it is submitted, in order, and which faults it has: the first ends the request. io_uring_setup(2), IORING_FEAT_SUBMIT_STABLE; io_uring_enter(2), CQE ERRORS. The order is what the kernel does.
-use Rattle.std.specs.Prelude.{ℕ, ℤ, pos, ◌+◌, ◌*◌, Bool, not, ◌&&◌, ◌||◌, ◌==◌, nat_le, Option, Some, None, if◌then◌else◌}
+use Rattle.std.specs.Prelude.{ℕ, ℤ, pos, ◌+◌, ◌-◌, ◌*◌, ◌%◌, Bool, not, ◌&&◌, ◌||◌, ◌==◌, nat_le, min, Option, Some, None, if◌then◌else◌}
 use Rattle.std.specs.Int.RustNames.{bit_and}
 use Rattle.uring_operations.specs.declared.entries.submission.Submission.{Submission}
 use Rattle.uring_operations.specs.declared.copies.piece.What.{What}
@@ -116,3 +116,7 @@ message_vectors e vectors = if has_some e.flags 32 && vectors == 0 then 1 else v
 -- what takes a provided buffer (32) has one vector
 abbrev pub selection_fault : Submission → ℕ → ℤ
 selection_fault e vectors = if has_some e.flags 32 && not (vectors == 1) then error 22 else pos 0
+
+-- a text is over with its 0, and the rest of a structure with the first byte that isn't 0: whatever stands after that needn't be there. So as many bytes are read at once as stand in a page, which has 4,096 at least. path_resolution(7), openat2(2); our own rule
+abbrev pub text_part : (at left : ℕ) → (is_over : Bool) → ℕ
+text_part at left is_over = if is_over then 0 else min (4096 - at % 4096) left

@@ -40,6 +40,19 @@ directions_of flags = record {
   can_write = not (has_some flags 2097152) && (bit_and flags 3 == 1 || bit_and flags 3 == 2);
 }
 
+-- its type of file is 4 bits of its mode (S_IFMT, 61440): a regular file has 32768, a character device 8192 and a socket 49152. inode(7). What is in memory is a regular file: such alone have seals, by which it is known. What isn't open is nothing
+abbrev pub type_of : (is_in_memory is_open : Bool) → (mode : ℕ) → ℕ
+type_of is_in_memory is_open mode = if is_in_memory then 32768 else if is_open then bit_and mode 61440 else 0
+
+abbrev pub with_status : Nature → (is_in_memory is_open : Bool) → (mode : ℕ) → Nature
+with_status before is_in_memory is_open mode = record before {
+  is_open = is_in_memory || is_open;
+  is_file = type_of is_in_memory is_open mode == 32768;
+  is_device = type_of is_in_memory is_open mode == 8192;
+  is_socket = type_of is_in_memory is_open mode == 49152;
+  has_type = not (type_of is_in_memory is_open mode == 0);
+}
+
 -- whether a descriptor is open for a transfer's direction
 abbrev pub is_open_for : ℕ → Nature → Bool
 is_open_for code d = if is_read code then d.can_read else d.can_write

@@ -223,3 +223,17 @@ pub(crate) fn selection_fault(entry: &Submission, vectors: u32) -> i32
         0
     }
 }
+
+/// How many bytes are read next of a text, or of the rest of a structure, of which so many are left at most, and whose next byte is at this address; none once it is over.
+pub fn text_part(at: u64, left: u64, is_over: bool) -> u64
+    ensures { result ≡ spec.text_part at left is_over }
+{
+    let in_page = 4096 - at % 4096;
+    if is_over {
+        0
+    } else if in_page < left {
+        in_page
+    } else {
+        left
+    }
+}

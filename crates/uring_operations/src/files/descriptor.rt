@@ -123,6 +123,30 @@ pub enum Finding {
     Is(Kind),
 }
 
+/// What is known of a descriptor once it was asked for its status: what fstat(2) says of one that is open, which is its mode; or that it is a file in memory, of which nothing is asked. inode(7)
+pub fn with_status(before: Nature, is_in_memory: bool, is_open: bool, mode: u32) -> Nature
+    ensures { result ≡ spec.with_status before is_in_memory is_open mode }
+{
+    let kind = if is_in_memory {
+        32768
+    } else if is_open {
+        mode & 61440
+    } else {
+        0
+    };
+    Nature {
+        is_open: is_in_memory || is_open,
+        is_file: kind == 32768,
+        is_device: kind == 8192,
+        is_socket: kind == 49152,
+        has_offsets: before.has_offsets,
+        can_read: before.can_read,
+        can_write: before.can_write,
+        is_counter: before.is_counter,
+        has_type: kind != 0,
+    }
+}
+
 /// What is to be asked next of the descriptor of an entry's request, or what the request is.
 pub fn next_finding(entry: &Submission, trial: &Trial, known: &Known) -> Finding
     ensures { result ≡ spec.next_of entry.now trial.now known.now }
