@@ -51,9 +51,7 @@ fn text_of(alloc: Global, fault: &Fault) -> Result<String, AllocError> {
             format!(in alloc; "uring: no file {file}: there are {files}, from 0 on\n")
         }
         Fault::NoLine(0) => format!(in alloc; "uring: no line to look for after --\n"),
-        Fault::NoLine(at) => format!(in alloc;
-            "uring: line {at} after -- is none of an outcome\n"
-        ),
+        Fault::NoLine(at) => format!(in alloc; "uring: line {at} after -- is none of an outcome\n"),
         Fault::NotFound(number, count) => {
             format!(in alloc;
                 "uring: no outcome {number}: the walk stopped at {count}, from 1 on\n"

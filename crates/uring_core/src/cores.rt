@@ -18,7 +18,7 @@ mod submit;
 use crate::answer::Answer;
 use crate::conversions::{next_answer, reaped};
 use crate::step::Step;
-use crate::stopping::{has_skipped, stop_at_word, stop_after};
+use crate::stopping::{has_skipped, stop_after, stop_at_word};
 use std::alloc::{AllocError, Global};
 use std::marker::Model;
 pub use submit::NotSubmitted;
