@@ -57,11 +57,11 @@ path_part at so_far = min (4096 - at % 4096) (4096 - so_far)
 abbrev pub parts_alone : ℕ → ℕ
 parts_alone count = if nat_le count 1021 then count else 1020
 
--- an event has 72 bytes, behind which its paths and its bytes stand. Our own rule
+-- an event has 72 bytes, after which its paths and its bytes stand. Our own rule
 abbrev pub event_size : (path second_path bytes : ℕ) → ℕ
 event_size path second_path bytes = 72 + path + second_path + bytes
 
--- of what couldn't be written whole nobody could read what stands behind it: the log ends there, and says so by its mode, which lets its owner write no more (S_IWUSR, 128). inode(7). Our own rule
+-- of what couldn't be written whole nobody could read what stands after it: the log ends there, and says so by its mode, which lets its owner write no more (S_IWUSR, 128). inode(7). Our own rule
 abbrev pub log_goes_on : (written : ℤ) → (size : ℕ) → Bool
 log_goes_on written size = int_eq written (pos size)
 

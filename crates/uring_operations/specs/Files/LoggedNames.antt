@@ -44,7 +44,7 @@ linked_flags flags =
 abbrev pub follows_link : (flags count : ℕ) → Bool
 follows_link flags count = nat_lt count 40 && not (has_some flags 131200)
 
--- struct open_how has 24 bytes, and what is newer stands behind these. openat2(2)
+-- struct open_how has 24 bytes, and what is newer stands after these. openat2(2)
 abbrev pub says_how : ℕ → Bool
 says_how size = nat_le 24 size
 
