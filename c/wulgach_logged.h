@@ -132,7 +132,7 @@ bool wulgach_takes_events(uint32_t mode);
 /* Whether the call of this number is logged, where its name is on the run's disk or isn't, and its second one: of a rename either. Our own rule. */
 bool wulgach_logs_names(uint64_t number, bool is_on_disk, bool is_second_on_disk);
 
-/* Writes where the last part of a path stands: up to where only slashes are left, from behind the last slash before that. What stands in front is the path of its
+/* Writes where the last part of a path stands: up to where only slashes are left, from after the last slash before that. What stands in front is the path of its
  * folder, if anything does. path_resolution(7). */
 void wulgach_last_part(const uint8_t *path, size_t length, struct wulgach_last_part *part);
 

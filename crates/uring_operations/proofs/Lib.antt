@@ -9,3 +9,5 @@ mod CancellingRuns
 mod AfreshRuns
 mod AdvanceRuns
 mod AskingRuns
+mod TrappingRuns
+mod ReadingRuns

@@ -1,5 +1,5 @@
 -- What is logged of the bytes of a write, and how many. writev(2), readv(2), inode(7); but where our own rule is named.
-use Rattle.std.specs.Prelude.{ℕ, ℤ, pos, ◌+◌, ◌-◌, ◌*◌, ◌/◌, ◌%◌, ◌^◌, Bool, not, ◌&&◌, ◌==◌, min, nat_lt, nat_le, Option, Some, None, if◌then◌else◌}
+use Rattle.std.specs.Prelude.{◌≡◌, ◌<◌, ◌≤◌, ℕ, ℤ, pos, ◌+◌, ◌-◌, ◌*◌, ◌/◌, ◌%◌, ◌^◌, Bool, not, ◌&&◌, ◌==◌, min, nat_lt, nat_le, Option, Some, None, if◌then◌else◌}
 use Rattle.std.specs.Ordering.{int_eq}
 use Rattle.uring_operations.specs.declared.files.logged_bytes.Written.{Written}
 use Rattle.uring_operations.specs.declared.files.logged_bytes.Written.TheVariants.{Nothing, Print, File}
@@ -48,6 +48,16 @@ read_until begin length (Some at) = at - begin
 abbrev pub readable_bytes : (begin length count : ℕ) → ℕ
 readable_bytes begin length count =
     if is_run begin length then read_until begin length (asked_at begin length count) else 0
+
+-- so each byte that can be read stands in the page of a place where one could, and not in front of it
+abbrev pub IsReadBy : (begin length count k : ℕ) → Type 0
+IsReadBy begin length count k =
+    (number : ℕ) × (number < count) × (at : ℕ) × (asked_at begin length number ≡ Some at)
+    × (at ≤ begin + k) × (at / 4096 ≡ (begin + k) / 4096)
+
+abbrev pub ReadsWhatWasRead : Type 0
+ReadsWhatWasRead = (begin length count k : ℕ) → k < readable_bytes begin length count
+    → IsReadBy begin length count k
 
 -- a path has at most PATH_MAX, 4,096, bytes with the 0 at its end, path_resolution(7); what stands in another page than that may be where nothing is
 abbrev pub path_part : (at so_far : ℕ) → ℕ

@@ -1,5 +1,5 @@
 -- Which system call of Linux on x86-64 is logged as what, so that it is known what a power failure may leave, and which of its arguments are what. The numbers are those of <asm/unistd_64.h>; an argument is told by its place in the manual page of its call, and of one of 32 bits the lower half counts.
-use Rattle.std.specs.Prelude.{ℕ, ℤ, pos, Bool, true, false, not, ◌==◌, ◌||◌, Option, Some, None, if◌then◌else◌}
+use Rattle.std.specs.Prelude.{◌≡◌, ℕ, ℤ, pos, Bool, true, false, not, ◌==◌, ◌||◌, Option, Some, None, if◌then◌else◌}
 use Rattle.std.specs.Int.{w32, cast_signed}
 use Rattle.std.specs.Int.RustNames.{bit_and}
 use Rattle.uring_operations.specs.declared.calls.system_call.SystemCall.{SystemCall}
@@ -7,6 +7,9 @@ use Rattle.uring_operations.specs.declared.files.logged_call.Bits.{Bits}
 use Rattle.uring_operations.specs.declared.files.logged_call.CallWords.{CallWords}
 use Rattle.uring_operations.specs.declared.files.logged_call.LoggedCall.{LoggedCall}
 use Rattle.uring_operations.specs.declared.files.logged_call.LoggedCall.TheVariants.{Nothing, Write, Copy, Sync, SyncAll, Length, Space, Open, MakeFolder, MakeLink, Link, Rename, Remove, Map, SyncMemory, Exit}
+use Rattle.uring_operations.specs.declared.files.logging.LoggedOpen.TheVariants.{Plain}
+use Rattle.uring_operations.specs.Entries.Clocks.{has_some}
+use Rattle.uring_operations.specs.Files.Logging.{open_logged}
 use Rattle.uring_entry.specs.Errors.{error}
 
 -- calls that change names: open (2), creat (85), openat (257) and openat2 (437); mkdir (83) and mkdirat (258); symlink (88) and symlinkat (266); link (86) and linkat (265); rename (82), renameat (264) and renameat2 (316); unlink (87), rmdir (84) and unlinkat (263)
@@ -38,6 +41,11 @@ bits_of_call n =
     if n == 2 then Some (record { argument = 1; bits = 4194880 }) else
     if n == 257 then Some (record { argument = 2; bits = 4194880 }) else
     if n == 9 then Some (record { argument = 3; bits = 1 }) else None
+
+-- so an open of those that aren't logged changes nothing, whatever its path names
+abbrev pub TrapsWhatChanges : Type 0
+TrapsWhatChanges = (flags : ℕ) (is_there is_regular : Bool) → has_some flags 4194880 ≡ false
+    → open_logged flags is_there is_regular ≡ Plain
 
 -- a sync isn't made, since the disk of a run doesn't lose its power: our own rule. All else is
 abbrev pub is_made : LoggedCall → Bool

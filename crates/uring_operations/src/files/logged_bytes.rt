@@ -2,6 +2,7 @@
 
 ghost use Rattle.std.specs.Prelude.{◌≡◌};
 ghost use Rattle.uring_operations.specs.Files.LoggedBytes as spec;
+ghost use Rattle.uring_operations.specs.Files.LoggedBytes.{ReadsWhatWasRead};
 
 use crate::entries::buffer::length_with;
 
@@ -86,6 +87,11 @@ pub fn readable_bytes(begin: u64, length: u64, count: u64) -> u64
         Some(at) => at.saturating_sub(begin),
     }
 }
+
+/// Each byte that counts as readable stands in a page of which one could be read.
+pub fn reads_what_was_read()
+    ensures { ReadsWhatWasRead }
+{}
 
 /// How many bytes of a path are read next, which stand here, where so many are read: those of one page, and no more than a path may have. 0: it is none.
 pub fn path_part(at: u64, so_far: u64) -> u64

@@ -2,6 +2,7 @@
 
 ghost use Rattle.std.specs.Prelude.{◌≡◌};
 ghost use Rattle.uring_operations.specs.Files.LoggedCalls as spec;
+ghost use Rattle.uring_operations.specs.Files.LoggedCalls.{TrapsWhatChanges};
 
 use crate::calls::system_call::{
     FALLOCATE, FDATASYNC, FSYNC, FTRUNCATE, LINKAT, MKDIRAT, OPENAT, OPENAT2, PWRITEV2, RENAMEAT2,
@@ -221,6 +222,11 @@ pub fn bits_of_call(number: u64) -> Option<Bits>
     };
     Some(Bits { argument, bits })
 }
+
+/// An open that has none of the bits does nothing to files and names.
+pub fn traps_what_changes()
+    ensures { TrapsWhatChanges }
+{}
 
 /// Whether a call that is logged as this is made by whoever needn't wait for the disk. Our own rule.
 pub fn is_made(call: LoggedCall) -> bool
