@@ -175,6 +175,9 @@ uint32_t wulgach_closing_steps(int32_t fault);
 /* The fault of a descriptor that a request is to close or to register, or 0: -9 (EBADF) of none and of a ring. */
 int32_t wulgach_holding_fault(int32_t fd, bool is_ring);
 
+/* Whether a system call of this number takes an epoll instance as its first word, as epoll_ctl(2) does: a ring's descriptor is none, whatever stands for it. */
+bool wulgach_takes_instance(uint64_t number);
+
 /* What the row of a file ends with that was put into a slot, which could be told or not: 0, or -14 (EFAULT), and then it is taken out again. */
 int32_t wulgach_telling_fault(bool is_told);
 

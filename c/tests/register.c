@@ -314,6 +314,7 @@ static void go_through_set_ups(void)
     demand(wulgach_tries_rings_again(0) && wulgach_tries_rings_again(99) && !wulgach_tries_rings_again(100), "how often in a handler");
     demand(wulgach_asks_elapsed(false, 2) && !wulgach_asks_elapsed(false, 1) && !wulgach_asks_elapsed(true, 2), "when the time matters");
     demand(wulgach_holding_fault(-1, false) == -9 && wulgach_holding_fault(3, true) == -9 && wulgach_holding_fault(3, false) == 0 && wulgach_telling_fault(true) == 0 && wulgach_telling_fault(false) == -14, "files");
+    demand(wulgach_takes_instance(233) && !wulgach_takes_instance(0) && !wulgach_takes_instance(21), "which call takes an instance");
 }
 
 #define MAPPED(...) wulgach_mapping_fault(&(struct wulgach_mapping){__VA_ARGS__})

@@ -57,10 +57,10 @@ static void poll_ring(void)
     demand(wulgach_shown_readable(&shown, 0, &(struct wulgach_prospect){.can_go_on = true}) == WULGACH_ASK_REQUESTS, "an empty ring");
     demand(wulgach_shown_readable(&shown, 0, &(struct wulgach_prospect){.knows_requests = true, .can_go_on = true}) == WULGACH_IS_READABLE, "one whose requests go on");
     demand(wulgach_shown_readable(&shown, 0, &(struct wulgach_prospect){.knows_requests = true, .can_pass_time = true}) == WULGACH_ASK_TIME, "one whose requests wait");
-    demand(wulgach_shown_readable(&shown, 0, &(struct wulgach_prospect){true, false, true, true}) == WULGACH_IS_READABLE && wulgach_shown_readable(&shown, 0, &(struct wulgach_prospect){true, false, true, false}) == WULGACH_IS_NOT_READABLE, "time that passes");
+    demand(wulgach_shown_readable(&shown, 0, &(struct wulgach_prospect){true, false, true, true, false}) == WULGACH_IS_READABLE && wulgach_shown_readable(&shown, 0, &(struct wulgach_prospect){true, false, true, false, false}) == WULGACH_IS_NOT_READABLE, "time that passes");
     demand(wulgach_shown_readable(&shown, 0, &(struct wulgach_prospect){.is_untold = true}) == WULGACH_IS_READABLE, "one that can't tell of all");
     post(&shown);
-    demand(wulgach_shown_readable(&shown, 0, &(struct wulgach_prospect){true, false, true, false}) == WULGACH_IS_READABLE, "a completion");
+    demand(wulgach_shown_readable(&shown, 0, &(struct wulgach_prospect){true, false, true, false, false}) == WULGACH_IS_READABLE, "a completion");
 }
 
 int main(void)

@@ -215,19 +215,18 @@ static void drop_ring(struct ring *ring)
     free_ring(ring);
 }
 
-static struct ring *search_by(bool (*is_by)(const struct ring *, int), int fd)
-{
-    struct ring *ring = rings;
-    while (ring && !(is_own(ring) && is_by(ring, fd)))
-        ring = ring->next;
-    return ring;
-}
-
-/* It is searched for by marks first: the number of a ring's eventfd may be that of another's, in another thread's table of descriptors. */
+/* One whose mark it has comes before another: the number of a ring's eventfd may be that of another's, in another thread's table of descriptors. */
 static struct ring *search_rings(int fd)
 {
-    struct ring *ring = search_by(is_still_reached_by, fd);
-    return ring ? ring : search_by(is_reached_by, fd);
+    struct ring *found = NULL;
+    for (struct ring *ring = rings; ring; ring = ring->next) {
+        if (!is_own(ring) || !is_reached_by(ring, fd))
+            continue;
+        found = ring;
+        if (is_still_reached_by(ring, fd))
+            break;
+    }
+    return found;
 }
 
 /* The ring of a descriptor, with the list's lock held. It is looked for by number first, and then among all. */

@@ -73,6 +73,15 @@ struct wulgach_held held_of(const struct request *request)
     };
 }
 
+/* The same. An epoll instance that is a ring's descriptor is none: what the ring has of the layer's, and is none either, stands for it. */
+static int32_t make_call_on(const struct ring *ring, struct request *request, const struct wulgach_system_call *call)
+{
+    struct wulgach_system_call made = *call;
+    if (wulgach_takes_instance(call->number) && is_ring((int)call->first))
+        made.first = (uint64_t)(ring->ready_fd >= 0 ? ring->ready_fd : ring->called_fd);
+    return make_call_of(request, &made);
+}
+
 static int32_t open_file(struct ring *ring, struct request *request, const struct wulgach_means *means)
 {
     int32_t fd = make_call_of(request, &means->call);
@@ -104,6 +113,7 @@ static int32_t carry_out_by(struct ring *ring, struct request *request, const st
     const struct io_uring_sqe *entry = &request->entry;
     switch (means->kind) {
     case WULGACH_BY_CALL:
+        return make_call_on(ring, request, &means->call);
     case WULGACH_BY_SPLICE:
         return make_call_of(request, &means->call);
     case WULGACH_BY_OPENING:

@@ -140,6 +140,43 @@ static void test_attributes(void)
     close_ring(&ring);
 }
 
+/* A ring's descriptor is no epoll instance, whichever fault comes first. */
+static void test_ring_is_no_instance(void)
+{
+    static const char *const ways[] = {NULL, "yes"};
+    struct ring ring, other;
+    struct epoll_event event = {.events = EPOLLIN};
+    int ends[2], file = make_file();
+    check(pipe(ends) == 0);
+    for (int way = 0; way < 4; way++) {
+        if (ways[way / 2])
+            setenv("WULGACH_TEST_POLLED", ways[way / 2], 1);
+        make_ring(&ring, 8, 0, 0);
+        unsetenv("WULGACH_TEST_POLLED");
+        if (ways[way % 2])
+            setenv("WULGACH_TEST_POLLED", ways[way % 2], 1);
+        make_ring(&other, 8, 0, 0);
+        unsetenv("WULGACH_TEST_POLLED");
+        for (int change = EPOLL_CTL_ADD; change <= EPOLL_CTL_MOD; change++) {
+            put_transfer(&ring, IORING_OP_EPOLL_CTL, 0, 0, other.fd, &event, (unsigned)change, (uint64_t)ends[0]);
+            check(result_of_one(&ring, 1) == -EINVAL);
+        }
+        put_transfer(&ring, IORING_OP_EPOLL_CTL, 0, 0, ring.fd, &event, EPOLL_CTL_ADD, (uint64_t)ends[0]);
+        check(result_of_one(&ring, 1) == -EINVAL);
+        put_transfer(&ring, IORING_OP_EPOLL_CTL, 0, 0, other.fd, &event, EPOLL_CTL_ADD, 9999);
+        check(result_of_one(&ring, 1) == -EBADF);
+        put_transfer(&ring, IORING_OP_EPOLL_CTL, 0, 0, other.fd, &event, EPOLL_CTL_ADD, (uint64_t)file);
+        check(result_of_one(&ring, 1) == -EPERM);
+        put_transfer(&ring, IORING_OP_EPOLL_CTL, 0, 0, other.fd, NULL, EPOLL_CTL_ADD, (uint64_t)ends[0]);
+        check(result_of_one(&ring, 1) == -EFAULT);
+        close_ring(&ring);
+        close_ring(&other);
+    }
+    close(ends[0]);
+    close(ends[1]);
+    close(file);
+}
+
 /* An epoll instance takes a descriptor, changes it, and lets it go. */
 static void test_epoll(void)
 {
@@ -367,7 +404,7 @@ static void test_copies(void)
 int main(int count, char **words)
 {
     static const struct named tests[] = {
-        {"names", test_names}, {"refused names", test_refused_names}, {"how", test_how}, {"how at an edge", test_how_at_an_edge}, {"open into slot", test_open_into_slot}, {"chain", test_chain}, {"attributes", test_attributes}, {"epoll", test_epoll}, {"table", test_table}, {"copies", test_copies},
+        {"names", test_names}, {"refused names", test_refused_names}, {"how", test_how}, {"how at an edge", test_how_at_an_edge}, {"open into slot", test_open_into_slot}, {"chain", test_chain}, {"attributes", test_attributes}, {"epoll", test_epoll}, {"ring is no instance", test_ring_is_no_instance}, {"table", test_table}, {"copies", test_copies},
     };
     check(mkdtemp(folder) && (root = open(folder, O_PATH | O_DIRECTORY)) >= 0);
     int status = run_tests(tests, sizeof tests / sizeof *tests, count > 1 ? words[1] : NULL);

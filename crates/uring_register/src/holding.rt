@@ -1,4 +1,4 @@
-//! Which descriptors a request may close or register, and what becomes of a file whose slot can't be told. io_uring_enter(2), IORING_OP_CLOSE and IORING_OP_FILES_UPDATE.
+//! Which descriptors a request may close or register, which call is refused of a ring, and what becomes of a file whose slot can't be told. io_uring_enter(2), IORING_OP_CLOSE and IORING_OP_FILES_UPDATE.
 
 ghost use Rattle.std.specs.Prelude.{◌≡◌};
 ghost use Rattle.uring_register.specs.Holding as spec;
@@ -17,6 +17,13 @@ pub fn holding_fault(fd: i32, is_ring: bool) -> i32
     ensures { result ≡ spec.holding_fault fd is_ring }
 {
     if fd < 0 || is_ring { -9 } else { 0 }
+}
+
+/// Whether a system call of this number takes an epoll instance as its first word, which a ring's descriptor isn't. epoll_ctl(2), EINVAL.
+pub fn takes_instance(number: u64) -> bool
+    ensures { result ≡ spec.takes_instance number }
+{
+    number == 233
 }
 
 /// What becomes of a file whose slot could be told or not.

@@ -82,6 +82,7 @@ pub use group_rows::group_argument_fault;
 pub use holding::Telling;
 pub use holding::after_telling;
 pub use holding::holding_fault;
+pub use holding::takes_instance;
 pub use holding::telling_fault;
 pub use issuer::Issuer;
 pub use issuer_laws::disabled_has_none;

@@ -9,7 +9,7 @@ use uring_enter::{
     Fate, Mapping, Onto, Region, Stage, fate_of, mapping_fault, names_descriptor, next_stage,
     placing_flags, protection_of, region_of,
 };
-use uring_register::{holding_fault, telling_fault};
+use uring_register::{holding_fault, takes_instance, telling_fault};
 
 /// The part of a ring's memory at an offset, or 0.
 #[unsafe(no_mangle)]
@@ -116,6 +116,14 @@ pub extern "C" fn wulgach_holding_fault(fd: i32, is_ring: bool) -> i32
     ensures { result ≡ holding.holding_fault fd is_ring }
 {
     holding_fault(fd, is_ring)
+}
+
+/// Whether a system call of this number takes an epoll instance as its first word, which a ring's descriptor isn't.
+#[unsafe(no_mangle)]
+pub extern "C" fn wulgach_takes_instance(number: u64) -> bool
+    ensures { result ≡ holding.takes_instance number }
+{
+    takes_instance(number)
 }
 
 /// What the row of a file ends with whose slot could be told or not.
