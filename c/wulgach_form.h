@@ -95,9 +95,25 @@ void wulgach_link_of(const struct wulgach_submission *entry, struct wulgach_link
 /* What a probe says of the operation of this code: IO_URING_OP_SUPPORTED of one that is served, else 0. */
 uint16_t wulgach_probed_flags(uint8_t code);
 
-/* Whether what a poll finds comes of a ring: it has waited for a ring's descriptor; or its own ring has told the eventfd that it polls since the poll
- * began, or since its last event. */
-bool wulgach_comes_of_ring(bool is_ring, bool has_waited, bool was_told);
+/* A poll, as far as it says whether what it finds comes of a ring. It is the caller's memory, and its fields are the library's. */
+struct wulgach_ring_poll {
+    uint64_t told_before;
+    bool is_of_ring;
+    bool has_waited;
+};
+
+/* It begins, as one that goes on or doesn't, on a ring's descriptor or another's; its descriptor was looked at; it has had an event, and goes on.
+ * `told`: how often its ring has told its eventfd by now. */
+void wulgach_ring_poll_begin(struct wulgach_ring_poll *poll, bool goes_on, bool is_ring, uint64_t told);
+void wulgach_ring_poll_looks(struct wulgach_ring_poll *poll, bool is_ready);
+void wulgach_ring_poll_has_event(struct wulgach_ring_poll *poll, uint64_t told);
+
+/* Whether its ring has told its eventfd since the poll began, or since its last event: then it is asked whether it polls that. */
+bool wulgach_ring_poll_asks_eventfd(const struct wulgach_ring_poll *poll, uint64_t told);
+
+/* Whether what a poll finds comes of a ring: it goes on, and has waited for a ring's descriptor; or its own ring has told its eventfd since then, and it
+ * polls that. */
+bool wulgach_comes_of_ring(const struct wulgach_ring_poll *poll, uint64_t told, bool is_eventfd);
 
 /* Whether the request of an entry, which has started as one that goes on or hasn't (wulgach_needs, and after a poll's start wulgach_poll_start), and
  * has moved so many bytes (`done`), goes on after this result, which then has a completion of its own; else it ends with it: it isn't one that goes on,

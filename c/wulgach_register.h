@@ -212,10 +212,6 @@ void wulgach_eventfd_unregister(struct wulgach_eventfd *eventfd);
 bool wulgach_eventfd_tells(const struct wulgach_eventfd *eventfd, uint32_t cq_flags);
 bool wulgach_eventfd_may_leave(const struct wulgach_eventfd *eventfd, bool has_thread);
 
-/* Whether a poll of a descriptor has its event of the ring itself: the eventfd is on the same file, or isn't, and was told so often as the poll began
- * to wait or had its last event, and is by now. */
-bool wulgach_eventfd_has_told(const struct wulgach_eventfd *eventfd, uint64_t before, uint64_t by_now, bool is_same);
-
 /* What is added to it for so many completions of which wulgach_tells says that it is to be told, and that were shown together: 1, if it is told,
  * and its counter takes that at once (`has_room`); else nothing. */
 uint64_t wulgach_eventfd_added(const struct wulgach_eventfd *eventfd, uint32_t cq_flags, uint64_t told, bool has_room);

@@ -147,9 +147,10 @@ bool wulgach_drains_accept(struct wulgach_drains *drains, const struct wulgach_c
 /* A request has ended, which drains or doesn't. */
 void wulgach_drains_end(struct wulgach_drains *drains, bool is_draining);
 
-/* Whether the oldest outstanding request can start, if it hasn't. Else the core is to be asked which can: by Linux's rules a drain, and what
- * comes after one, waits for a turn of its own. */
-bool wulgach_oldest_starts(const struct wulgach_drains *drains, bool linux_rules);
+/* Whether the oldest outstanding request is the next that starts, which hasn't, by its course (wulgach_course.h). Else the core is to be asked which
+ * can: by Linux's rules a drain, and what comes after one, waits for a turn of its own. */
+struct wulgach_course;
+bool wulgach_oldest_starts(const struct wulgach_drains *drains, bool linux_rules, const struct wulgach_course *oldest);
 
 /* Whether it may be kept which requests the core lets start: no drain was ever accepted. Then one can start as soon as what links it has ended,
  * and that others start or end makes nothing of it, but as the next function says. */

@@ -137,6 +137,9 @@ int32_t wulgach_times_end(struct wulgach_times *times, struct wulgach_timeout *r
 /* The result with which it would end now; -2 (ENOENT): it wouldn't. */
 int32_t wulgach_times_outcome(const struct wulgach_times *times, const struct wulgach_timeout *rows, size_t room, uint64_t number);
 
+/* Whether it runs, and would end now by its count. */
+bool wulgach_times_has_counted(const struct wulgach_times *times, const struct wulgach_timeout *rows, size_t room, uint64_t number);
+
 /* Whether a timeout of this number runs. */
 bool wulgach_times_runs(const struct wulgach_times *times, const struct wulgach_timeout *rows, size_t room, uint64_t number);
 

@@ -134,7 +134,22 @@ static void go_on(void)
     demand(wulgach_goes_on(&shown, true, &accept, 0, false, 0, 4) && !wulgach_goes_on(&shown, true, &message, 0, false, 16, 4) && wulgach_goes_on(&shown, true, &message, 1, false, 17, 4), "an accept, a message");
     demand(!wulgach_goes_on(&shown, false, &poll, 0, false, 1, 4), "one that has started otherwise");
     demand(!wulgach_goes_on(&shown, true, &once, 0, false, 5, 4) && !wulgach_goes_on(&shown, true, &read, 5, false, 5, 4), "one that doesn't go on");
-    demand(!wulgach_goes_on(&shown, true, &poll, 0, true, 1, 4) && wulgach_comes_of_ring(true, true, false) && wulgach_comes_of_ring(false, false, true) && !wulgach_comes_of_ring(true, false, false) && !wulgach_comes_of_ring(false, true, false), "what comes of a ring");
+    demand(!wulgach_goes_on(&shown, true, &poll, 0, true, 1, 4) , "what comes of a ring");
+    struct wulgach_ring_poll of_ring, of_eventfd;
+    wulgach_ring_poll_begin(&of_ring, true, true, 3);
+    wulgach_ring_poll_begin(&of_eventfd, true, false, 3);
+    wulgach_ring_poll_looks(&of_ring, true);
+    demand(!wulgach_comes_of_ring(&of_ring, 3, false) && !wulgach_ring_poll_asks_eventfd(&of_eventfd, 3) && !wulgach_comes_of_ring(&of_eventfd, 3, true), "a poll that has begun");
+    wulgach_ring_poll_looks(&of_ring, false);
+    wulgach_ring_poll_looks(&of_eventfd, false);
+    demand(wulgach_comes_of_ring(&of_ring, 3, false) && !wulgach_comes_of_ring(&of_eventfd, 3, true) && wulgach_ring_poll_asks_eventfd(&of_eventfd, 4) && wulgach_comes_of_ring(&of_eventfd, 4, true) && !wulgach_comes_of_ring(&of_eventfd, 4, false), "one that has waited");
+    wulgach_ring_poll_begin(&of_ring, true, true, 3);
+    wulgach_ring_poll_has_event(&of_ring, 4);
+    wulgach_ring_poll_has_event(&of_eventfd, 4);
+    demand(wulgach_comes_of_ring(&of_ring, 4, false) && !wulgach_comes_of_ring(&of_eventfd, 4, true), "one that has had an event");
+    wulgach_ring_poll_begin(&of_ring, false, true, 3);
+    wulgach_ring_poll_looks(&of_ring, false);
+    demand(!wulgach_comes_of_ring(&of_ring, 3, false), "one that doesn't go on");
     demand(wulgach_tells(&late, true) && wulgach_tells(&told, true) && wulgach_tells(&early, false) && !wulgach_tells(&early, true), "an eventfd");
 }
 

@@ -54,13 +54,14 @@ static void choose(void)
 
 static void post(void)
 {
+    static const struct wulgach_course waiting, started = {.has_started = true};
     struct wulgach_drains drains;
     struct wulgach_chain chain;
     int32_t res = 7;
     wulgach_drains_begin(&drains);
     demand(wulgach_drains_may_post(&drains, 0, false, true) && !wulgach_drains_may_post(&drains, 1, false, true) && !wulgach_drains_may_post(&drains, 1, true, true), "nothing drains");
     demand(!wulgach_drains_may_post(&drains, 0, false, false) && !wulgach_drains_may_post(&drains, 0, true, false), "no memory");
-    demand(wulgach_oldest_starts(&drains, true), "no drain");
+    demand(wulgach_oldest_starts(&drains, true, &waiting) && !wulgach_oldest_starts(&drains, true, &started), "no drain");
     wulgach_chain_first(&chain, 4);
     wulgach_chain_sees(&chain, 8);
     wulgach_chain_sees(&chain, 0);
@@ -73,7 +74,7 @@ static void post(void)
     demand(!wulgach_drains_may_post(&drains, 0, false, true) && wulgach_drains_may_post(&drains, 0, true, true), "its second member");
     wulgach_drains_end(&drains, true);
     demand(wulgach_drains_may_post(&drains, 0, false, true), "behind its end");
-    demand(!wulgach_oldest_starts(&drains, true) && wulgach_oldest_starts(&drains, false), "a drain was there");
+    demand(!wulgach_oldest_starts(&drains, true, &waiting) && wulgach_oldest_starts(&drains, false, &waiting) && !wulgach_oldest_starts(&drains, false, &started), "a drain was there");
     demand(wulgach_is_one_choice(WULGACH_IN_ORDER, true) && wulgach_is_one_choice(WULGACH_LAZY, true) && wulgach_is_one_choice(WULGACH_BY_CHOICE, false) && !wulgach_is_one_choice(WULGACH_BY_CHOICE, true), "what is one choice");
     demand(wulgach_end_of_send(true) == WULGACH_PART_NOTICE && wulgach_end_of_send(false) == WULGACH_PART_SENT, "two completions of a send");
     struct wulgach_submission reports = {.opcode = 47, .ioprio = 8}, plain = {.opcode = 47, .ioprio = 4};

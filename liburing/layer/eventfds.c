@@ -65,7 +65,7 @@ void tell_eventfd(struct ring *ring, uint64_t told)
     }
 }
 
-bool has_told(const struct ring *ring, uint64_t before, int fd)
+bool is_own_eventfd(const struct ring *ring, int fd)
 {
-    return wulgach_eventfd_has_told(&ring->telling, before, ring->tellings, ring->telling.is_registered && is_same_file(ring->eventfd, fd));
+    return ring->telling.is_registered && is_same_file(ring->eventfd, fd);
 }

@@ -14,7 +14,7 @@ int unregister_eventfd(struct ring *ring);
 /* So many completions have come into the ring, shown together, of which it is to be told. It waits for nothing. */
 void tell_eventfd(struct ring *ring, uint64_t told);
 
-/* Whether it was told since, where it had been told so often before, and is what this descriptor is open on. */
-bool has_told(const struct ring *ring, uint64_t before, int fd);
+/* Whether it is what this descriptor is open on. */
+bool is_own_eventfd(const struct ring *ring, int fd);
 
 #endif

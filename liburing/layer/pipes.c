@@ -293,7 +293,7 @@ static bool miss_write(const struct ring *ring, struct request *request, bool is
 /* (one that goes on has taken its event where it finds none, and something is there) */
 void note_look(const struct ring *ring, struct request *request, bool is_ready)
 {
-    request->has_waited |= !is_ready;
+    wulgach_ring_poll_looks(&request->of_ring, is_ready);
     if (wulgach_waiter_sees(&request->waiter, &ring->lookout, is_ready))
         miss_write(ring, request, has_something(request));
 }

@@ -69,9 +69,7 @@ static int start_by_instance(struct request *request)
 
 int start_poll(const struct ring *ring, struct request *request)
 {
-    request->is_of_ring = request->needs.goes_on && is_ring(request->fd);
-    request->has_waited = false;
-    request->told_before = ring->tellings;
+    wulgach_ring_poll_begin(&request->of_ring, request->needs.goes_on, request->needs.goes_on && is_ring(request->fd), ring->tellings);
     request->is_of_pipe = is_poll_of_pipe(request);
     drop_instance(request);
     return wulgach_asks_instance(submission_of(&request->entry)) ? start_by_instance(request) : 0;
@@ -105,11 +103,13 @@ int32_t take_events(const struct ring *ring, struct request *request)
 
 bool comes_of_ring(const struct ring *ring, const struct request *request)
 {
-    return is_poll(request) && wulgach_comes_of_ring(request->is_of_ring, request->has_waited, has_told(ring, request->told_before, request->fd));
+    if (!is_poll(request))
+        return false;
+    bool is_eventfd = wulgach_ring_poll_asks_eventfd(&request->of_ring, ring->tellings) && is_own_eventfd(ring, request->fd);
+    return wulgach_comes_of_ring(&request->of_ring, ring->tellings, is_eventfd);
 }
 
 void note_poll_event(const struct ring *ring, struct request *request)
 {
-    request->has_waited = true;
-    request->told_before = ring->tellings;
+    wulgach_ring_poll_has_event(&request->of_ring, ring->tellings);
 }

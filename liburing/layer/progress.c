@@ -292,10 +292,10 @@ static struct request *first_to_finish(struct ring *ring)
 /* The least request that the core lets start, or NULL, where none can be finished. */
 static struct request *first_to_issue(struct ring *ring)
 {
-    const struct requests *requests = &ring->requests;
-    if (requests->count > 0 && !requests->rows[0]->course.has_started && wulgach_oldest_starts(&ring->drains, ring->is_linux))
-        return requests->rows[0];
-    return requests->count > 0 ? first_issuable(ring) : NULL;
+    if (ring->requests.count == 0)
+        return NULL;
+    struct request *oldest = ring->requests.rows[0];
+    return wulgach_oldest_starts(&ring->drains, ring->is_linux, &oldest->course) ? oldest : first_issuable(ring);
 }
 
 /* What goes on first in order: way 0 of the library's, which is asked where there are two kinds. NULL if there is none. */

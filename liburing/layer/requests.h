@@ -46,9 +46,7 @@ struct request {
     bool knows_listening;           /* as it started, and had to wait, its socket was asked whether it listens, */
     bool is_listening;              /* and did */
     bool is_socket;                 /* its descriptor was asked what it is, and is a socket's */
-    bool is_of_ring;                /* a poll that goes on, of a ring's descriptor */
-    bool has_waited;                /* of a poll: its descriptor wasn't ready, or it has had an event, since it asked for its events; */
-    uint64_t told_before;           /* and so often its ring had told its eventfd then, or as it had its last event */
+    struct wulgach_ring_poll of_ring;   /* of a poll: whether what it finds comes of a ring */
     bool was_repeated;              /* of a connect: its call was made once more */
     bool is_tried_first;            /* as it started, its descriptor wasn't ready, and it is to be carried out once all the same */
     bool has_called;                /* it was carried out, and would have waited, */

@@ -91,7 +91,7 @@ int32_t end_timeout(struct ring *ring, const struct request *timeout)
 
 bool has_counted(const struct ring *ring, const struct request *timeout)
 {
-    return ring->is_count_reached && is_timeout(timeout) && wulgach_times_outcome(&ring->times, ring->timeouts, ring->timeouts_room, timeout->number) == 0;
+    return ring->is_count_reached && is_timeout(timeout) && wulgach_times_has_counted(&ring->times, ring->timeouts, ring->timeouts_room, timeout->number);
 }
 
 void note_counts(struct ring *ring)

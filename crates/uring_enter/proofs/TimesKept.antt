@@ -7,8 +7,8 @@ use Rattle.uring_operations.specs.declared.entries.timeout.Timeout.{Timeout}
 use Rattle.uring_enter.specs.declared.call.wait.WakeSources.{WakeSources}
 use Rattle.uring_enter.specs.declared.call.wait.Woken.{Woken}
 use Rattle.uring_enter.specs.declared.call.wait.Woken.TheVariants.{TimedOut, Other}
-use Rattle.uring_operations.specs.Entries.Timeouts.{Event, Changed, later, time, posted, running, is_other, with_expiry, ends_before, IsNext, IsNextOf, is_over, outcome, NoneIsOver, IsDueOf, IsEarliest, HasNone, IsRow, EndsNone, EndsWith, AreApart}
-use Rattle.uring_enter.specs.Time.Kept.{due_of, earliest_of, outcome_at, outcome_found}
+use Rattle.uring_operations.specs.Entries.Timeouts.{Event, Changed, later, time, posted, running, is_other, with_expiry, ends_before, IsNext, IsNextOf, is_over, outcome, has_counted, NoneIsOver, IsDueOf, IsEarliest, HasNone, IsRow, EndsNone, EndsWith, AreApart}
+use Rattle.uring_enter.specs.Time.Kept.{HasCounted, counted_found, due_of, earliest_of, outcome_at, outcome_found}
 use Rattle.uring_enter.specs.Call.Waits.{has_any, IsWoken, IsPassing, IsPassingBy, woken_of, passing_of}
 
 -- none is among none
@@ -139,6 +139,28 @@ outcome_is log number sent now found result one two apart row made =
     let P : Option ℤ → Type 0 = λ r. MatchOption r (EndsNone log number) (EndsWith log number) in
     subst P (sym (made ∙ ap (λ n. outcome_found n now found) one ∙ ap (λ n. outcome_found (posted log) n found) two))
     (outcome_among log number found apart row)
+
+-- and whether it ends by its count
+counts_by : (log : List Event) (number : ℕ) (t : Timeout) (counts : Bool) → has_counted log t ≡ counts
+    → AreApart (running log) → IsRow number (running log) t → HasCounted log number counts
+counts_by log number t true is apart row = (t, row, is)
+counts_by log number t false is apart row = λ u other.
+    let same : t ≡ u = apart t u row.0 other.0 (row.1 ∙ sym other.1) in
+    let P : Timeout → Type 0 = λ v. has_counted log v ≡ false in subst P same is
+
+counts_among : (log : List Event) (number : ℕ) (found : Option Timeout) → AreApart (running log)
+    → MatchOption found (HasNone number (running log)) (IsRow number (running log))
+    → HasCounted log number (counted_found (posted log) found)
+counts_among log number None apart none = λ u other. absurd (none u other.0 other.1)
+counts_among log number (Some t) apart row = counts_by log number t (has_counted log t) refl apart row
+
+pub counts_is : (log : List Event) (number sent : ℕ) (found : Option Timeout) (result : Bool)
+    → sent ≡ posted log → AreApart (running log)
+    → MatchOption found (HasNone number (running log)) (IsRow number (running log))
+    → result ≡ counted_found sent found → HasCounted log number result
+counts_is log number sent found result one apart row made =
+    subst (HasCounted log number) (sym (made ∙ ap (λ n. counted_found n found) one))
+    (counts_among log number found apart row)
 
 -- a row that was found, and how it ends
 pub row_is : (number : ℕ) (rows : List Timeout) (found : Option Timeout) (t : Timeout)

@@ -106,7 +106,7 @@ pub use completions::readable::Readable;
 pub use completions::readable::asks_of_the_prospect_once;
 pub use completions::readable::tells_what_is_so;
 pub use completions::shot::Part;
-pub use completions::shot::comes_of_ring;
+pub use completions::shot::RingPoll;
 pub use completions::shot::completion_flags;
 pub use completions::shot::end_of_send;
 pub use completions::shot::notifies_at_last;

@@ -44,10 +44,6 @@ added log cq_flags told has_room = if tells log cq_flags && not (told == 0) && h
 abbrev pub may_leave : List Telling → Bool → Bool
 may_leave log has_thread = not (is_registered log || has_thread)
 
--- a poll of an eventfd has its event of the ring with which that is registered, if the ring has told it something since the poll began to wait, or had its last event
-abbrev pub has_told : List Telling → (before by_now : ℕ) → (is_same : Bool) → Bool
-has_told log before by_now is_same = is_registered log && is_same && not (by_now == before)
-
 -- glue: what is kept of all this
 pub record KeepsEventfd (log : List Telling) (e : Eventfd) : Type 0 where
   pub registered : e.is_registered ≡ is_registered log

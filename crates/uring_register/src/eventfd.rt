@@ -91,12 +91,4 @@ impl Eventfd {
     {
         !(self.is_registered || has_thread)
     }
-
-    /// Whether a poll of a descriptor has its event of the ring itself: this eventfd is on the same file, or isn't, and was told so often as the poll began to wait or had its last event, and is by now.
-    pub fn has_told(&self, before: u64, by_now: u64, is_same: bool) -> bool
-        ensures { (log : List Telling) → KeepsEventfd log self.now
-            → result ≡ spec.has_told log before by_now is_same }
-    {
-        self.is_registered && is_same && by_now != before
-    }
 }

@@ -3,10 +3,12 @@ ghost use Rattle.std.specs.Prelude.{◌≡◌, ◌+◌, ◌<◌, ◌^◌, ℕ, l
 ghost use Rattle.uring_enter.specs.TakingUp.Drainings.{Drainage, KeepsChain, KeepsDrains, keeps_startable, may_change_slots, oldest_starts, when_found};
 ghost use Rattle.uring_enter.specs.TakingUp.Drainings as spec;
 ghost use Rattle.uring_operations.specs.declared.entries.submission.Submission.{Submission as Seen};
+ghost use Rattle.uring_operations.specs.declared.requests.act.Fact.{Fact};
+ghost use Rattle.uring_operations.specs.Requests.Courses.{KeepsCourse};
 ghost use Rattle.uring_c.specs.DecisionForm.{word_of_when};
 
 use uring_enter::{Chain, Changes, Drains, WhenFound, asks_next, lets_others_start};
-use uring_operations::{Member, Submission};
+use uring_operations::{Course, Member, Submission};
 
 /// The first member of a chain has these flags.
 #[unsafe(no_mangle)]
@@ -63,12 +65,13 @@ pub extern "C" fn wulgach_changes_see(changes: &mut Changes, entry: &Submission)
     changes.sees(entry);
 }
 
-/// Whether the oldest outstanding request can start, if it hasn't.
+/// Whether the oldest outstanding request is the next that starts, by its course.
 #[unsafe(no_mangle)]
-pub extern "C" fn wulgach_oldest_starts(drains: &Drains, linux: bool) -> bool
-    ensures { (log : List Drainage) → KeepsDrains log drains.now → result ≡ oldest_starts log linux }
+pub extern "C" fn wulgach_oldest_starts(drains: &Drains, linux: bool, oldest: &Course) -> bool
+    ensures { (log : List Drainage) (facts : List Fact) → KeepsDrains log drains.now
+        → KeepsCourse facts oldest.now → result ≡ oldest_starts log linux facts }
 {
-    drains.oldest_starts(linux)
+    drains.oldest_starts(linux, oldest)
 }
 
 /// Whether it may be kept which requests the core lets start.

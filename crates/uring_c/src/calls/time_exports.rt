@@ -9,7 +9,7 @@ ghost use Rattle.uring_operations.specs.Entries.Timeouts.{nanoseconds_of, runnin
 ghost use Rattle.uring_operations.specs.Entries.Timeouts.{posted, NoneIsOver, IsNext, IsReachedOf, AreApart, HasNone, IsRow, EndsNone, EndsWith};
 ghost use Rattle.uring_enter.specs.Time.Held.{Posting, OfEnd, AtOnce, KeepsHeld, held_for};
 ghost use Rattle.uring_enter.specs.Time.Held.{is_at_once as posts_at_once};
-ghost use Rattle.uring_enter.specs.Time.Kept.{KeepsTime};
+ghost use Rattle.uring_enter.specs.Time.Kept.{HasCounted, KeepsTime};
 ghost use Rattle.uring_enter.specs.Call.Waits.{deadline, IsWait, IsWoken, IsPassing};
 ghost use Rattle.uring_operations.specs.Entries.Clocks.{clock_of, count_of, lasts};
 ghost use Rattle.uring_enter.specs.Waiting.Sleeps.{lasts_at_most, comes_to};
@@ -184,6 +184,15 @@ pub extern "C" fn wulgach_times_outcome(times: &Times, rows: &[Timeout], number:
         Some(res) => res,
         None => -2,
     }
+}
+
+/// Whether the timeout of this number runs, and would end now by its count.
+#[unsafe(no_mangle)]
+pub extern "C" fn wulgach_times_has_counted(times: &Times, rows: &[Timeout], number: u64) -> bool
+    ensures { (log : List Event) → KeepsTime log times.now rows.now → AreApart (running log)
+        → HasCounted log number result }
+{
+    times.has_counted(rows, number)
 }
 
 /// Whether a timeout of this number runs.

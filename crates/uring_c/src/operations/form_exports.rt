@@ -1,15 +1,15 @@
 //! What an entry is to the core, and which requests go on, for C: the functions of `c/wulgach_form.h`.
-ghost use Rattle.std.specs.Prelude.{◌≡◌, List};
+ghost use Rattle.std.specs.Prelude.{◌≡◌, ◌&&◌, ℕ, Bool, List, [], ◌∷◌};
 ghost use Rattle.uring_operations.specs.Copies.Copies as copies;
 ghost use Rattle.uring_operations.specs.Entries.Forms.{copies_pieces, form_copied, form_of};
 ghost use Rattle.uring_operations.specs.Entries.Rules.{probed_flags as flags_of_probed};
 ghost use Rattle.uring_enter.specs.Completions.Showing.{Change, KeepsShown};
-ghost use Rattle.uring_enter.specs.Completions.Shots.{comes_of_ring, goes_on, has_room, shot_of, tells};
+ghost use Rattle.uring_enter.specs.Completions.Shots.{HadEvent, KeepsPoll, Looked, PollFact, comes_of_ring, goes_on, has_room, shot_of, tells, was_told};
 ghost use Rattle.uring_c.specs.EntryForm.{word_of_form, fault_of_form};
 ghost use Rattle.uring_c.specs.RingForm.{form_of_word};
 
 use crate::operations::entry_exports::form_by_word;
-use uring_enter::{Posted, Shown, comes_of_ring};
+use uring_enter::{Posted, RingPoll, Shown};
 use uring_operations::{
     Entry, Form, Submission, copies_pieces, form_copied, form_of, link_of, probed_flags,
 };
@@ -81,12 +81,57 @@ pub extern "C" fn wulgach_probed_flags(code: u8) -> u16
     probed_flags(code)
 }
 
+/// A poll begins.
+#[unsafe(no_mangle)]
+pub extern "C" fn wulgach_ring_poll_begin(
+    poll: &mut RingPoll,
+    goes_on: bool,
+    is_ring: bool,
+    told: u64,
+)
+    ensures { KeepsPoll (goes_on && is_ring) told [] poll.new }
+{
+    *poll = RingPoll::begin(goes_on, is_ring, told);
+}
+
+/// Its descriptor was looked at.
+#[unsafe(no_mangle)]
+pub extern "C" fn wulgach_ring_poll_looks(poll: &mut RingPoll, is_ready: bool)
+    ensures { (of_ring : Bool) (start : ℕ) (log : List PollFact)
+        → KeepsPoll of_ring start log poll.old
+        → KeepsPoll of_ring start (Looked is_ready ∷ log) poll.new }
+{
+    poll.looked(is_ready);
+}
+
+/// It has had an event, and goes on.
+#[unsafe(no_mangle)]
+pub extern "C" fn wulgach_ring_poll_has_event(poll: &mut RingPoll, told: u64)
+    ensures { (of_ring : Bool) (start : ℕ) (log : List PollFact)
+        → KeepsPoll of_ring start log poll.old
+        → KeepsPoll of_ring start (HadEvent told ∷ log) poll.new }
+{
+    poll.had_event(told);
+}
+
+/// Whether it is asked whether it polls its ring's eventfd.
+#[unsafe(no_mangle)]
+pub extern "C" fn wulgach_ring_poll_asks_eventfd(poll: &RingPoll, told: u64) -> bool
+    ensures { (of_ring : Bool) (start : ℕ) (log : List PollFact)
+        → KeepsPoll of_ring start log poll.now
+        → result ≡ was_told start log told }
+{
+    poll.asks_eventfd(told)
+}
+
 /// Whether what a poll finds comes of a ring.
 #[unsafe(no_mangle)]
-pub extern "C" fn wulgach_comes_of_ring(is_ring: bool, has_waited: bool, was_told: bool) -> bool
-    ensures { result ≡ comes_of_ring is_ring has_waited was_told }
+pub extern "C" fn wulgach_comes_of_ring(poll: &RingPoll, told: u64, is_eventfd: bool) -> bool
+    ensures { (of_ring : Bool) (start : ℕ) (log : List PollFact)
+        → KeepsPoll of_ring start log poll.now
+        → result ≡ comes_of_ring of_ring start log told is_eventfd }
 {
-    comes_of_ring(is_ring, has_waited, was_told)
+    poll.comes_of_ring(told, is_eventfd)
 }
 
 /// Whether the request of an entry, which has started as one that goes on or hasn't, and has moved so many bytes, goes on after this result, in a ring of so many entries; else it ends with it.

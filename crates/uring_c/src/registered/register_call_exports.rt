@@ -176,17 +176,3 @@ pub extern "C" fn wulgach_eventfd_may_leave(eventfd: &Eventfd, has_thread: bool)
 {
     eventfd.may_leave(has_thread)
 }
-
-/// Whether a poll of a descriptor has its event of the ring itself: this eventfd is on the same file, or isn't, and was told so often as the poll began to wait or had its last event, and is by now.
-#[unsafe(no_mangle)]
-pub extern "C" fn wulgach_eventfd_has_told(
-    eventfd: &Eventfd,
-    before: u64,
-    by_now: u64,
-    is_same: bool,
-) -> bool
-    ensures { (log : List Telling) → KeepsEventfd log eventfd.now
-        → result ≡ telling.has_told log before by_now is_same }
-{
-    eventfd.has_told(before, by_now, is_same)
-}

@@ -1,8 +1,9 @@
 -- Requests that go on, and of which completions an eventfd is told. io_uring_enter(2), IORING_POLL_ADD_MULTI, IORING_ACCEPT_MULTISHOT, IORING_RECV_MULTISHOT and IORING_OP_READ_MULTISHOT; io_uring_register(2), IORING_REGISTER_EVENTFD_ASYNC. io_uring_enter(2), IORING_CQE_F_MORE and IORING_CQE_F_NOTIF.
-use Rattle.std.specs.Prelude.{◌≡◌, ℕ, ℤ, pos, negsuc, ◌-◌, Bool, false, not, ◌&&◌, ◌||◌, ◌==◌, nat_lt, List, [], ◌∷◌, if◌then◌else◌}
+use Rattle.std.specs.Prelude.{◌≡◌, ℕ, ℤ, pos, negsuc, ◌-◌, Bool, true, false, not, ◌&&◌, ◌||◌, ◌==◌, nat_lt, List, [], ◌∷◌, if◌then◌else◌}
 use Rattle.uring_operations.specs.declared.entries.submission.Submission.{Submission}
 use Rattle.uring_operations.specs.Entries.Needs as needs
 use Rattle.uring_enter.specs.declared.completions.shot.Shot.{Shot}
+use Rattle.uring_enter.specs.declared.completions.shot.RingPoll.{RingPoll}
 use Rattle.uring_enter.specs.declared.completions.shot.Part.{Part}
 use Rattle.uring_enter.specs.declared.completions.shot.Part.TheVariants.{Event, Sent, Notice, Own}
 use Rattle.std.specs.Int.RustNames.{bit_or}
@@ -19,9 +20,40 @@ shot_of started e done is_of_ring = record {
   is_of_ring = is_of_ring;
 }
 
--- an event comes of a ring where the poll has waited for a ring's descriptor, or where its own ring has told the eventfd that it polls since the poll began, or since its last event. What Linux 6.18 was seen to do
-abbrev pub comes_of_ring : (is_ring has_waited was_told : Bool) → Bool
-comes_of_ring is_ring has_waited was_told = is_ring && has_waited || was_told
+-- what happens to a poll
+pub data PollFact : Type 0 where
+  -- its descriptor was looked at, and was ready or wasn't
+  Looked : Bool → PollFact
+  -- it has had an event, and goes on; its ring had told its eventfd so often by then
+  HadEvent : ℕ → PollFact
+
+-- it has waited: once since it began its descriptor wasn't ready, or it has had an event, after which it waits for the next
+abbrev pub has_waited : List PollFact → Bool
+has_waited [] = false
+has_waited (Looked is_ready ∷ earlier) = not is_ready || has_waited earlier
+has_waited (HadEvent told ∷ earlier) = true
+
+-- how often its ring had told its eventfd as it began, which is `start`, or as it had its last event
+abbrev pub told_before : (start : ℕ) → List PollFact → ℕ
+told_before start [] = start
+told_before start (Looked is_ready ∷ earlier) = told_before start earlier
+told_before start (HadEvent told ∷ earlier) = told
+
+-- its ring has told its eventfd since then
+abbrev pub was_told : (start : ℕ) → List PollFact → (told : ℕ) → Bool
+was_told start log told = not (told == told_before start log)
+
+-- an event comes of a ring where the poll goes on, of a ring's descriptor (`of_ring`), and has waited, or where its own ring has told the eventfd that it polls since the poll began, or since its last event. What Linux 6.18 was seen to do
+abbrev pub comes_of_ring : (of_ring : Bool) → (start : ℕ) → List PollFact
+    → (told : ℕ) → (is_eventfd : Bool) → Bool
+comes_of_ring of_ring start log told is_eventfd =
+    of_ring && has_waited log || was_told start log told && is_eventfd
+
+-- the value is that of a poll to which this has happened
+pub record KeepsPoll (of_ring : Bool) (start : ℕ) (log : List PollFact) (poll : RingPoll) : Type 0 where
+  pub is_of_ring : poll.is_of_ring ≡ of_ring
+  pub has_waited : poll.has_waited ≡ has_waited log
+  pub told_before : poll.told_before ≡ told_before start log
 
 -- a result says that something has come: no error, and not the end of what was to come, which a descriptor never is
 abbrev pub brings : Shot → ℤ → Bool

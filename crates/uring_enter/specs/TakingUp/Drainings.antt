@@ -2,6 +2,8 @@
 use Rattle.std.specs.Prelude.{◌≡◌, ℕ, ◌+◌, ◌-◌, Bool, true, false, not, ◌&&◌, ◌||◌, ◌==◌, ◌⊎◌, length, List, [], ◌∷◌, if◌then◌else◌}
 use Rattle.uring_enter.specs.TakingUp.CoreEntries.{is_drain}
 use Rattle.uring_operations.specs.Calls.Means.{changes_slots}
+use Rattle.uring_operations.specs.declared.requests.act.Fact.{Fact}
+use Rattle.uring_operations.specs.Requests.Courses.{has_started}
 use Rattle.uring_operations.specs.declared.entries.submission.Submission.{Submission}
 use Rattle.uring_enter.specs.declared.taking_up.drains.Chain.{Chain}
 use Rattle.uring_enter.specs.declared.taking_up.drains.Drains.{Drains}
@@ -67,9 +69,9 @@ FindsInTime = (log : List Drainage) (request : Member) (linux after_change may_s
     → (when_found log request linux after_change true may_start ≡ (if finds_file log request linux may_start then by_call after_change else AtItsStart))
     × ((known : Bool) → when_found log request linux after_change false known ≡ AsksStart ⊎ when_found log request linux after_change false known ≡ when_found log request linux after_change true may_start)
 
--- whether the oldest request that is outstanding can start, if it hasn't: it waits for none before it. By Linux's rules a drain, and what comes after one, is put off, and waits for a turn of its own: so once one was accepted the core is asked which request can start
-abbrev pub oldest_starts : List Drainage → (linux : Bool) → Bool
-oldest_starts log linux = not linux || not (has_drained log)
+-- whether the oldest request that is outstanding, to which this has happened, is the next that starts: it hasn't started, and waits for none before it. By Linux's rules a drain, and what comes after one, is put off, and waits for a turn of its own: so once one was accepted the core is asked which request can start
+abbrev pub oldest_starts : List Drainage → (linux : Bool) → List Fact → Bool
+oldest_starts log linux facts = not (has_started facts) && (not linux || not (has_drained log))
 
 -- whether it may be kept which requests the core lets start: no drain was ever accepted. Then nobody is put off, so that one can start as soon as what links it has ended; that others start or end makes nothing of it, but as `lets_others_start` says. How often the core is asked is our own rule
 abbrev pub keeps_startable : List Drainage → Bool

@@ -1,9 +1,9 @@
 -- Glue: the time of a ring, and rows of timeouts, that have come so far.
-use Rattle.std.specs.Prelude.{◌≡◌, ℕ, ◌≤◌, length, take, ℤ, pos, nat_le, min, List, Option, Some, None, if◌then◌else◌}
+use Rattle.std.specs.Prelude.{◌≡◌, ℕ, ◌≤◌, Bool, true, false, length, take, ℤ, pos, nat_le, min, List, Option, Some, None, if◌then◌else◌}
 use Rattle.uring_entry.specs.Errors.{error}
 use Rattle.uring_operations.specs.declared.entries.timeout.Timeout.{Timeout}
 use Rattle.uring_enter.specs.declared.time.times.Times.{Times}
-use Rattle.uring_operations.specs.Entries.Timeouts.{Event, time, slept_until, posted, expired, running, ends_before, is_reached_by}
+use Rattle.uring_operations.specs.Entries.Timeouts.{Event, time, slept_until, posted, expired, running, ends_before, has_counted, is_reached_by, IsRow}
 
 -- the value and the first rows are those of a ring to which this has happened
 pub record KeepsTime (log : List Event) (times : Times) (rows : List Timeout) : Type 0 where
@@ -35,6 +35,16 @@ abbrev pub outcome_at : ℕ → ℕ → Timeout → Option ℤ
 outcome_at posted now t =
     if is_reached_by posted t then Some (pos 0) else
     if nat_le t.expiry now then Some (error 62) else None
+
+-- whether one ends by its count then
+abbrev pub counted_found : ℕ → Option Timeout → Bool
+counted_found posted None = false
+counted_found posted (Some t) = is_reached_by posted t
+
+-- the one of this number runs, and ends by its count now; or none of this number does
+abbrev pub HasCounted : List Event → ℕ → Bool → Type 0
+HasCounted log number true = (t : Timeout) × IsRow number (running log) t × (has_counted log t ≡ true)
+HasCounted log number false = (t : Timeout) → IsRow number (running log) t → has_counted log t ≡ false
 
 abbrev pub outcome_found : ℕ → ℕ → Option Timeout → Option ℤ
 outcome_found posted now None = None

@@ -1,8 +1,8 @@
 //! Requests that go on: which event has a completion of its own, and whether a registered eventfd is told of a completion.
 
-ghost use Rattle.std.specs.Prelude.{◌≡◌, List};
+ghost use Rattle.std.specs.Prelude.{◌≡◌, ◌&&◌, ℕ, Bool, List, [], ◌∷◌};
 ghost use Rattle.uring_enter.specs.Completions.Showing.{Change, KeepsShown};
-ghost use Rattle.uring_enter.specs.Completions.Shots.{NotifiesAtLast, TellsABufferOnce, brings, comes_of_ring, completion_flags, end_of_send, goes_on, has_room, is_after, shot_of, tells, untold_after};
+ghost use Rattle.uring_enter.specs.Completions.Shots.{HadEvent, KeepsPoll, Looked, NotifiesAtLast, PollFact, TellsABufferOnce, brings, comes_of_ring, completion_flags, end_of_send, goes_on, has_room, is_after, shot_of, tells, untold_after, was_told};
 
 use crate::completions::posted::Posted;
 use crate::completions::showing::Shown;
@@ -67,11 +67,68 @@ fn shot_of(started: bool, entry: &Submission, done: u64, is_of_ring: bool) -> Sh
     }
 }
 
-/// Whether what a poll finds comes of a ring: it has waited for a ring's descriptor; or it polls the eventfd of its own ring, which was told since the poll began, or since its last event.
-pub fn comes_of_ring(is_ring: bool, has_waited: bool, was_told: bool) -> bool
-    ensures { result ≡ comes_of_ring is_ring has_waited was_told }
-{
-    is_ring && has_waited || was_told
+/// A poll, as far as it says whether what it finds comes of a ring.
+#[repr(C)]
+#[derive(Clone, Copy, Drop)]
+pub struct RingPoll {
+    /// How often its ring had told its eventfd as the poll began, or as it had its last event.
+    pub told_before: u64,
+
+    /// It goes on, and polls a ring's descriptor.
+    pub is_of_ring: bool,
+
+    /// Since it began its descriptor was found not to be ready, or it has had an event.
+    pub has_waited: bool,
+}
+
+impl RingPoll {
+    /// It begins as one that goes on or doesn't, and polls a ring's descriptor or another's. Its ring has told its eventfd so often.
+    pub fn begin(goes_on: bool, is_ring: bool, told: u64) -> RingPoll
+        ensures { KeepsPoll (goes_on && is_ring) told [] result }
+    {
+        RingPoll {
+            told_before: told,
+            is_of_ring: goes_on && is_ring,
+            has_waited: false,
+        }
+    }
+
+    /// Its descriptor was looked at.
+    pub fn looked(&mut self, is_ready: bool)
+        ensures { (of_ring : Bool) (start : ℕ) (log : List PollFact)
+            → KeepsPoll of_ring start log self.old
+            → KeepsPoll of_ring start (Looked is_ready ∷ log) self.new }
+    {
+        self.has_waited = !is_ready || self.has_waited;
+    }
+
+    /// It has had an event, and goes on. Its ring has told its eventfd so often by now.
+    pub fn had_event(&mut self, told: u64)
+        ensures { (of_ring : Bool) (start : ℕ) (log : List PollFact)
+            → KeepsPoll of_ring start log self.old
+            → KeepsPoll of_ring start (HadEvent told ∷ log) self.new }
+    {
+        self.has_waited = true;
+        self.told_before = told;
+    }
+
+    /// Whether its ring has told its eventfd since then, which has told it so often by now: it is asked whether that is what it polls.
+    pub fn asks_eventfd(&self, told: u64) -> bool
+        ensures { (of_ring : Bool) (start : ℕ) (log : List PollFact)
+            → KeepsPoll of_ring start log self.now
+            → result ≡ was_told start log told }
+    {
+        told != self.told_before
+    }
+
+    /// Whether what it finds comes of a ring, which has told its eventfd so often by now, and that is what it polls, or isn't.
+    pub fn comes_of_ring(&self, told: u64, is_eventfd: bool) -> bool
+        ensures { (of_ring : Bool) (start : ℕ) (log : List PollFact)
+            → KeepsPoll of_ring start log self.now
+            → result ≡ comes_of_ring of_ring start log told is_eventfd }
+    {
+        self.is_of_ring && self.has_waited || told != self.told_before && is_eventfd
+    }
 }
 
 /// Whether a result says that something has come.

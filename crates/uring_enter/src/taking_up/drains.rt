@@ -4,10 +4,12 @@ ghost use Rattle.std.specs.Prelude.{◌≡◌, ◌+◌, ◌<◌, ◌^◌, ℕ, l
 ghost use Rattle.uring_enter.specs.TakingUp.Drainings.{Drainage, Accepted, Ended, KeepsChain, KeepsDrains, FindsInTime, drains, keeps_startable, may_change_slots, oldest_starts, outstanding, may_post, when_found};
 ghost use Rattle.uring_enter.specs.TakingUp.Drainings as spec;
 ghost use Rattle.uring_operations.specs.Calls.Means.{changes_slots};
+ghost use Rattle.uring_operations.specs.Requests.Courses.{KeepsCourse};
+ghost use Rattle.uring_operations.specs.declared.requests.act.Fact.{Fact};
 ghost use Rattle.uring_operations.specs.declared.entries.submission.Submission.{Submission as Seen};
 
 use crate::taking_up::core_entry::is_drain;
-use uring_operations::{Member, Submission};
+use uring_operations::{Course, Member, Submission};
 
 /// The members of a chain, as they are seen one after the other.
 #[repr(C)]
@@ -129,11 +131,14 @@ impl Drains {
         }
     }
 
-    /// Whether the oldest outstanding request can start, if it hasn't. Else the core is to be asked which can.
-    pub fn oldest_starts(&self, linux: bool) -> bool
-        ensures { (log : List Drainage) → KeepsDrains log self.now
-            → result ≡ oldest_starts log linux }
+    /// Whether the oldest outstanding request is the next that starts, by its course. Else the core is to be asked which can.
+    pub fn oldest_starts(&self, linux: bool, oldest: &Course) -> bool
+        ensures { (log : List Drainage) (facts : List Fact) → KeepsDrains log self.now
+            → KeepsCourse facts oldest.now → result ≡ oldest_starts log linux facts }
     {
+        if oldest.has_started {
+            return false;
+        }
         !linux || !self.has_drained
     }
 

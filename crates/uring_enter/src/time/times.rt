@@ -6,7 +6,7 @@ ghost use Rattle.uring_operations.specs.Requests.Courses.{KeepsCourse, counts};
 ghost use Rattle.uring_operations.specs.Entries.Timeouts.{Event, Started, Posted, Changed, Stopped, Clock, Slept, Passed, Ended};
 ghost use Rattle.uring_operations.specs.Entries.Timeouts.{running, posted, started, enough_after, expired_with, IsNextOf, IsReachedOf, IsDueOf, IsEarliest};
 ghost use Rattle.uring_operations.specs.Entries.Timeouts.{outcome, AreApart, HasNone, IsRow, EndsNone, EndsWith};
-ghost use Rattle.uring_enter.specs.Time.Kept.{KeepsTime, due_of, earliest_of, outcome_at, outcome_found};
+ghost use Rattle.uring_enter.specs.Time.Kept.{HasCounted, KeepsTime, counted_found, due_of, earliest_of, outcome_at, outcome_found};
 
 use crate::time::timeout_rows::{next_of, reached_of, row_of, set_expiry, take_out};
 use uring_operations::{Course, Start, Timeout, is_reached_by, later};
@@ -223,6 +223,24 @@ impl Times {
             → MatchOption result (EndsNone log number) (EndsWith log number) }
     {
         self.outcome_found(self.row(rows, number))
+    }
+
+    /// Whether the timeout of this number runs, and would end now by its count.
+    pub fn has_counted(&self, rows: &[Timeout], number: u64) -> bool
+        ensures { (log : List Event) → KeepsTime log self.now rows.now → AreApart (running log)
+            → HasCounted log number result }
+    {
+        self.counted_found(self.row(rows, number))
+    }
+
+    /// Whether one that was found would.
+    fn counted_found(&self, found: Option<Timeout>) -> bool
+        ensures { result ≡ counted_found self.now.posted found }
+    {
+        match found {
+            Some(row) => is_reached_by(row, self.posted),
+            None => false,
+        }
     }
 
     /// How one that was found would end now.
