@@ -3,7 +3,7 @@ use Rattle.std.proofs.Common.{◌≡◌, ◌==◌, ℕ, ◌≤◌, Bool, true, f
 use Rattle.std.proofs.lemmas.Bool.{false≢true, true≢false}
 use Rattle.uring_enter.specs.declared.cancels.cancel.Sought.{Sought}
 use Rattle.uring_enter.specs.declared.cancels.cancel.Outstanding.{Outstanding}
-use Rattle.uring_enter.specs.Cancels.Cancels.{is_of_all, fits, fits_fd, is_named, is_ever_found, is_free, is_waiting, is_none, is_meant, asks_wait, has_ended_first, can_be_found, finds_any, first_of, one_more, count_of, oldest}
+use Rattle.uring_enter.specs.Cancels.Cancels.{is_of_all, fits, fits_fd, is_named, is_ever_found, is_free, is_waiting, is_none, is_meant, asks_wait, has_ended_first, is_open, can_be_found, finds_any, first_of, one_more, count_of, oldest}
 use Rattle.uring_enter.specs.Cancels.CancelLaws.{CancelsWhatFits, CancelsAllThatFit, CancelsTheOldest, AsksWhatMatters, AsksFileWhereItMatters, AsksWaitWhereItMatters, FindsFirstThatWait, PassesOverLinked, PassesOverOthers, SearchPassesOverOthers}
 
 fits_by : (b f g : Bool) → (b && f && g) ≡ true → (f ≡ true) × (g ≡ true)
@@ -69,6 +69,7 @@ asks_by true true true false waiting true is = refl
 asks_by true true true false waiting false is = absurd (true≢false is)
 
 pub asks_what_matters : AsksWhatMatters
+unfolding is_open
 asks_what_matters s earlier r is =
     asks_by (is_of_all s || not (finds_any s earlier)) (fits s r) (is_free r) r.runs (is_waiting r && not (has_ended_first r)) r.comes_first is
 
@@ -83,6 +84,7 @@ wait_by free true waiting may true true one other same ever is = (refl, refl)
 wait_by free true waiting may true false one other same ever is = absurd (true≢false is)
 
 pub asks_wait_where_it_matters : AsksWaitWhereItMatters
+unfolding is_open
 asks_wait_where_it_matters user_data r one other is =
     wait_by (is_free r) r.runs (is_waiting r) r.may_start r.comes_first r.goes_on one other (r.user_data == user_data) (is_ever_found r) is
 
@@ -103,6 +105,7 @@ first_by true true true true true may true false true one is = absurd (false≢t
 first_by true true true true true may true false false one is = (refl, refl)
 
 pub finds_first_that_wait : FindsFirstThatWait
+unfolding is_open
 finds_first_that_wait s earlier r one is =
     first_by (is_of_all s || not (finds_any s earlier)) (fits s r) (is_free r) r.runs (is_waiting r) r.may_start r.comes_first r.goes_on r.is_ready one is
 
@@ -151,9 +154,9 @@ unsought_by found r true cancelled waiting is = absurd (true≢false is)
 unsought_by None r false cancelled waiting is = (refl, refl)
 unsought_by (Some it) r false cancelled waiting is = (refl, refl)
 
-without_one : (one two : Bool) → one ≡ false → (one && two) ≡ false
-without_one true two is = absurd (true≢false is)
-without_one false two is = refl
+without_first : (one two three : Bool) → one ≡ false → (one && two && three) ≡ false
+without_first true two three is = absurd (true≢false is)
+without_first false two three is = refl
 
 without_middle : (one two three : Bool) → two ≡ false → (one && two && three) ≡ false
 without_middle true true three is = absurd (true≢false is)
@@ -163,7 +166,7 @@ without_middle false two three is = refl
 pub search_passes_over_others : SearchPassesOverOthers
 search_passes_over_others user_data earlier r is =
     unsought_by (oldest user_data earlier) r (is_meant user_data r) r.is_cancelled (is_waiting r)
-    (without_one (r.user_data == user_data) (is_ever_found r && not (has_ended_first r)) is)
+    (without_first (r.user_data == user_data) (is_ever_found r) (not (has_ended_first r)) is)
 
 unfound_by : (b f token cancelled ever next : Bool) → ever ≡ false
     → (b && f && ((token && not cancelled && ever) && next)) ≡ false
@@ -176,7 +179,7 @@ unfound_by true true true false false next is = refl
 
 pub passes_over_linked : PassesOverLinked
 passes_over_linked s earlier r is = (
-  unfound_by (is_of_all s || not (finds_any s earlier)) (fits s r) r.is_token r.is_cancelled (is_ever_found r) (if r.runs then is_waiting r && not (has_ended_first r) else r.may_start && not r.comes_first) is,
+  unfound_by (is_of_all s || not (finds_any s earlier)) (fits s r) r.is_token r.is_cancelled (is_ever_found r) (is_open r) is,
   λ user_data. unsought_by (oldest user_data earlier) r (is_meant user_data r) r.is_cancelled (is_waiting r)
       (without_middle (r.user_data == user_data) (is_ever_found r) (not (has_ended_first r)) is),
 )

@@ -69,10 +69,13 @@ asks_wait r = r.comes_first && r.runs && not r.goes_on
 abbrev pub has_ended_first : Outstanding → Bool
 has_ended_first r = asks_wait r && r.is_ready
 
+-- whether a cancel finds a request as it stands: one that runs, where it waits for something and has not ended first; another, where it could start now, and was not issued first
+unfoldable pub is_open : Outstanding → Bool
+is_open r = if r.runs then is_waiting r && not (has_ended_first r) else r.may_start && not r.comes_first
+
 -- whether a request can be found at all: it waits for something, or could start now, before the cancel. One after a link or a drain can't; nor can one that was issued first, but where it has to wait or goes on. What the kernel does
 abbrev pub can_be_found : Outstanding → Bool
-can_be_found r =
-    is_free r && (if r.runs then is_waiting r && not (has_ended_first r) else r.may_start && not r.comes_first)
+can_be_found r = is_free r && is_open r
 
 -- whether any of these fits and can be found
 abbrev pub finds_any : Sought → List Outstanding → Bool

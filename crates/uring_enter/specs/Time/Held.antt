@@ -22,6 +22,6 @@ abbrev pub is_at_once : (code : ℕ) → Bool
 is_at_once code = not (code == 6 || code == 47 || code == 48)
 
 -- glue: the value is of the submission whose first request has this number, since when this has happened, the newest first
-pub record KeepsHeld (first : ℕ) (log : List Posting) (x : Held) : Type 0 where
-  pub first : x.first ≡ first
-  pub count : x.count ≡ held first log
+pub record KeepsHeld (from : ℕ) (log : List Posting) (x : Held) : Type 0 where
+  pub first : x.first ≡ from
+  pub count : x.count ≡ held from log

@@ -4,7 +4,7 @@ ghost use Rattle.std.specs.Prelude.{◌≡◌, List, [], ◌∷◌};
 ghost use Rattle.uring_enter.specs.declared.cancels.cancel.Outstanding.{Outstanding};
 ghost use Rattle.uring_enter.specs.declared.cancels.cancel.Sought.{Sought};
 ghost use Rattle.uring_enter.specs.Cancels.Cancels as spec;
-ghost use Rattle.uring_enter.specs.Cancels.Cancels.{is_of_all, fits, fits_fd, is_named, is_ever_found, is_free, is_waiting, can_be_found, one_more, result_of, is_cancelled, is_asked, has_ended_first, HasSeen};
+ghost use Rattle.uring_enter.specs.Cancels.Cancels.{is_of_all, fits, fits_fd, is_named, is_ever_found, is_free, is_waiting, can_be_found, one_more, result_of, is_cancelled, is_asked, has_ended_first, is_open, HasSeen};
 
 /// What a cancel looks for, and whether it is content with one.
 #[repr(C)]
@@ -270,12 +270,19 @@ pub(crate) fn has_ended_first(request: &Outstanding) -> bool
 fn can_be_found(request: &Outstanding) -> bool
     ensures { result ≡ can_be_found request.now }
 {
-    is_free(request)
-        && if request.runs {
-            is_waiting(request) && !has_ended_first(request)
-        } else {
-            request.may_start && !request.comes_first
-        }
+    is_free(request) && is_open(request)
+}
+
+/// Whether a cancel finds a request as it stands.
+#[tactic(auto, unfolding(crate::specs::Cancels::Cancels::is_open))]
+fn is_open(request: &Outstanding) -> bool
+    ensures { result ≡ is_open request.now }
+{
+    if request.runs {
+        is_waiting(request) && !has_ended_first(request)
+    } else {
+        request.may_start && !request.comes_first
+    }
 }
 
 /// How many, with this one if it counts.
