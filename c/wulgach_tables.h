@@ -103,7 +103,7 @@ enum wulgach_row {
 
 /* Returns what a row with this descriptor does (enum wulgach_row), and writes its fault, or 0: -1 empties the slot, -2 of an update leaves
  * it as it is, neither with a tag (-22), and another fills it. Of a buffer: one without an address and bytes empties the slot, without a
- * tag (-22), and another has 1 to 2^30 bytes (-14, EFAULT). */
+ * tag (-22), and another has 1 to 2^30 bytes (-14, EFAULT); but first of all, a length of 2^63 or more, below 0 as a signed one, is -22. */
 uint32_t wulgach_file_row(int32_t fd, uint64_t tag, bool is_update, int32_t *fault);
 uint32_t wulgach_buffer_row(uint64_t from, uint64_t size, uint64_t tag, int32_t *fault);
 

@@ -191,6 +191,7 @@ static void look_at_rows(void)
     demand(wulgach_row_steps(WULGACH_ROW_FILLS, true) == 7 && wulgach_row_steps(WULGACH_ROW_FILLS, false) == 6 && wulgach_row_steps(WULGACH_ROW_EMPTIES, false) == 1 && wulgach_row_steps(WULGACH_ROW_KEEPS, true) == 0 && wulgach_row_steps(WULGACH_ROW_REFUSED, true) == 0, "what is done with a slot");
     demand(file_row(-2, 0, true) == WULGACH_ROW_KEEPS && file_row(-2, 1, true) == -22 && file_row(-2, 1, false) == WULGACH_ROW_FILLS && file_row(-3, 0, true) == WULGACH_ROW_FILLS, "those that stay");
     demand(buffer_row(0, 0, 0) == WULGACH_ROW_EMPTIES && buffer_row(0, 0, 1) == -22 && buffer_row(0, 1, 1) == -14, "no buffer");
+    demand(buffer_row(8, (uint64_t)1 << 63, 0) == -22 && buffer_row(0, UINT64_MAX, 1) == -22 && buffer_row(8, UINT64_MAX >> 1, 0) == -14, "a length below 0");
     demand(buffer_row(8, 0, 0) == -14 && buffer_row(8, 1, 1) == WULGACH_ROW_FILLS && buffer_row(8, 1 << 30, 0) == WULGACH_ROW_FILLS && buffer_row(8, (1 << 30) + 1, 0) == -14, "buffers");
     demand(wulgach_updated(0, -9) == -9 && wulgach_updated(2, -9) == 2 && wulgach_updated(3, 0) == 3 && wulgach_updated(0, 0) == 0, "what an update returns");
 }

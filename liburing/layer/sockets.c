@@ -150,7 +150,7 @@ static int32_t receive_into_buffer(struct request *request, uint64_t *filled)
     struct wulgach_layout layout;
     char *at = request->vectors->iov_base;
     if (!wulgach_layout_of(asked->msg_namelen, asked->msg_controllen, request->vectors->iov_len, &layout))
-        return wulgach_missing_fault(WULGACH_NO_ROOM);
+        return fault_of_buffer(request, wulgach_missing_fault(WULGACH_NO_ROOM));
     struct iovec bytes = {at + layout.bytes, layout.room};
     struct msghdr message = {
         .msg_name = layout.has_name ? at + layout.name : NULL,

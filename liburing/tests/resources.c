@@ -40,6 +40,27 @@ static void test_buffers(void)
     close_ring(&ring);
 }
 
+/* A length that is below 0 as a signed one counts before its address, in each row, and of an update too: as on a real ring. */
+static void test_length_below_zero(void)
+{
+    struct ring ring;
+    static char memory[4096];
+    struct iovec vectors[2] = {{memory, sizeof memory}, {memory, (size_t)1 << 63}};
+    struct io_uring_rsrc_update2 update = {.data = (uintptr_t)&vectors[1], .nr = 1};
+    make_ring(&ring, 4, 0, 0);
+    for (int is_null = 0; is_null < 2; is_null++) {
+        vectors[1].iov_base = is_null ? NULL : memory;
+        check(register_at(ring.fd, IORING_REGISTER_BUFFERS, &vectors[1], 1) == -EINVAL);
+        check(register_at(ring.fd, IORING_REGISTER_BUFFERS, vectors, 2) == -EINVAL);
+        check(register_at(ring.fd, IORING_REGISTER_BUFFERS, vectors, 1) == 0);
+        check(register_at(ring.fd, IORING_REGISTER_BUFFERS_UPDATE, &update, sizeof update) == -EINVAL);
+        check(register_at(ring.fd, IORING_UNREGISTER_BUFFERS, NULL, 0) == 0);
+    }
+    vectors[1] = (struct iovec){memory, SIZE_MAX >> 1};
+    check(register_at(ring.fd, IORING_REGISTER_BUFFERS, &vectors[1], 1) == -EFAULT);
+    close_ring(&ring);
+}
+
 static void test_tags_of_buffers(void)
 {
     struct ring ring;
@@ -422,6 +443,7 @@ int main(int count, char **words)
 {
     static const struct named tests[] = {
         {"buffers", test_buffers},
+        {"length below zero", test_length_below_zero},
         {"tags of buffers", test_tags_of_buffers},
         {"eventfd", test_eventfd},
         {"full eventfd", test_full_eventfd},

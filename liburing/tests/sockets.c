@@ -234,6 +234,30 @@ static void test_buffers_that_go(void)
     }
 }
 
+/* A message that goes on has no room in a buffer for what stands in front of it: that it is of no socket counts before. As on a real ring. */
+static void test_no_room_in_front(void)
+{
+    struct ring ring;
+    static char memory[16];
+    struct iovec vector = {NULL, 10};
+    struct msghdr message = {.msg_iov = &vector, .msg_iovlen = 1};
+    int ends[2], pipes[2];
+    make_pair(ends);
+    check(pipe(pipes) == 0 && send(ends[1], "piece", 5, 0) == 5);
+    make_ring(&ring, 8, 0, 0);
+    provide_one(&ring, memory, 0);
+    for (int i = 0; i < 2; i++) {
+        struct io_uring_sqe *entry = put_transfer(&ring, IORING_OP_RECVMSG, 0, IOSQE_BUFFER_SELECT, i == 0 ? pipes[0] : ends[0], &message, 1, 0);
+        entry->ioprio = IORING_RECV_MULTISHOT;
+        check(result_of_one(&ring, 1) == (i == 0 ? -ENOTSOCK : -EFAULT));
+    }
+    for (int i = 0; i < 2; i++) {
+        close(ends[i]);
+        close(pipes[i]);
+    }
+    close_ring(&ring);
+}
+
 /* A receive that is to wait for all breaks its chain if what came was cut, and another doesn't: as on a real ring. */
 static void test_cut_receives(void)
 {
@@ -350,6 +374,7 @@ int main(int count, char **words)
         {"multishot receive", test_multishot_receive},
         {"multishot length", test_multishot_length},
         {"buffers that go", test_buffers_that_go},
+        {"no room in front", test_no_room_in_front},
         {"multishot accept", test_multishot_accept},
         {"cut receives", test_cut_receives},
         {"zero copy", test_zero_copy},

@@ -16,9 +16,10 @@ file_row fd tag is_update =
     if int_eq fd (negsuc 0) then unless_tagged tag Empties else
     if int_eq fd (negsuc 1) && is_update then unless_tagged tag Keeps else Fills
 
--- no buffer has no bytes and no tag. Another has 1 to 2^30: else -14 (EFAULT)
+-- a length that is below 0 as a signed one, of 2^63 or more, is -22 (EINVAL), before anything else of the row. No buffer has no bytes and no tag. Another has 1 to 2^30: else -14 (EFAULT). readv(2), ERRORS
 abbrev pub buffer_row : ℕ → ℕ → ℕ → Row
 buffer_row from bytes tag =
+    if nat_le (2 ^ 63) bytes then Refused (error 22) else
     if from == 0 then (if bytes == 0 then unless_tagged tag Empties else Refused (error 14)) else
     if bytes == 0 || nat_lt (2 ^ 30) bytes then Refused (error 14) else Fills
 

@@ -48,7 +48,9 @@ fn unless_tagged(tag: u64, row: Row) -> Row
 pub fn buffer_row(from: u64, size: u64, tag: u64) -> Row
     ensures { result ≡ spec.buffer_row from size tag }
 {
-    if from == 0 {
+    if size >= 0x8000_0000_0000_0000 {
+        Row::Refused(-22)
+    } else if from == 0 {
         if size != 0 {
             Row::Refused(-14)
         } else {
