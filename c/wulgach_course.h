@@ -182,6 +182,11 @@ uint32_t wulgach_after_try(bool can_make_ready, bool would_wait);
  * sees the notice after what was sent, whatever is put off. */
 uint32_t wulgach_end_of_send(bool is_posted);
 
+/* Whether a request, which is a send without copies or isn't, and ends with this result before it is carried out, has a notice after that: its chain has
+ * cancelled it. And what the completion of its end tells then (enum wulgach_part), where it is after a link or begins its chain. */
+bool wulgach_notifies_unsent(bool is_zero_copy, int32_t res);
+uint32_t wulgach_part_unsent(bool is_linked);
+
 /* A request that the core has ended by itself. */
 struct wulgach_ended_early {
     int32_t fault;          /* the error of its entry, */

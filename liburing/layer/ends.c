@@ -108,7 +108,7 @@ static void do_duty(struct ring *ring, struct end_of_request *end, enum wulgach_
         return;
     case WULGACH_END_COUNTS:
         if (wulgach_times_count_end(&ring->times, &request->course, is_timeout(request), end->is_posted))
-            wulgach_held_posts(&ring->held, request->number, request->is_at_once);
+            wulgach_held_posts(&ring->held, request->is_extra ? request->of : request->number, request->is_at_once);
         return;
     case WULGACH_END_STOPS_TIMEOUT:
         note_ended(ring, request);

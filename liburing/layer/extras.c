@@ -14,6 +14,7 @@
 #include "submit.h"
 #include "trace.h"
 #include "wulgach_taking.h"
+#include "wulgach_times.h"
 
 #include <errno.h>
 #include <fcntl.h>
@@ -105,17 +106,19 @@ bool can_post_extra(struct ring *ring)
     return wulgach_drains_may_post(&ring->drains, ring->staged.count, ring->is_linux, has_memory);
 }
 
-static bool post(struct ring *ring, uint64_t call, bool is_message, bool is_at_once, uint64_t user_data, int32_t res, uint32_t flags)
+bool post_extra(struct ring *ring, const struct origin *of, int32_t res, uint32_t flags)
 {
     do_duties_before_posting(ring);
     struct request *request = make_request(&ring->requests);
     demand(request != NULL, "a completion is posted for which nothing was reserved");
-    request->entry.user_data = request->token = user_data;
+    request->entry.user_data = request->token = of->user_data;
     request->mapping = (enum mapping)wulgach_extra_of(ring->is_linux, &request->entry.opcode);
     request->flags = flags;
-    request->call = call;
-    request->is_message = is_message;
-    request->is_at_once = is_at_once;
+    request->call = of->call;
+    request->is_message = of->is_message;
+    request->is_extra = true;
+    request->of = of->number;
+    request->is_at_once = of->is_message || wulgach_is_at_once(of->code);
     stage_own(ring, request);
     bool is_posted = take_own(ring, request, res);
     if (!is_posted)
@@ -123,9 +126,9 @@ static bool post(struct ring *ring, uint64_t call, bool is_message, bool is_at_o
     return is_posted;
 }
 
-bool post_extra(struct ring *ring, uint64_t call, bool is_at_once, uint64_t user_data, int32_t res, uint32_t flags)
+struct origin origin_of(const struct request *request)
 {
-    return post(ring, call, false, is_at_once, user_data, res, flags);
+    return (struct origin){.user_data = request->entry.user_data, .call = request->call, .number = request->number, .code = request->entry.opcode};
 }
 
 void change_unposted(struct ring *ring, int32_t res, uint32_t flags)
@@ -164,7 +167,7 @@ __attribute__((noinline)) static void post_waiting(struct ring *ring)
 {
     struct message *message;
     while (posts_message(ring) && (message = take_message(&ring->inbox))) {
-        post(ring, 0, true, true, message->user_data, message->res, message->flags);
+        post_extra(ring, &(struct origin){.user_data = message->user_data, .is_message = true}, message->res, message->flags);
         free(message);
     }
 }

@@ -13,6 +13,7 @@
 #include <stddef.h>
 #include <stdint.h>
 
+struct request;
 struct ring;
 
 struct message {
@@ -32,8 +33,17 @@ struct inbox {
 /* Whether an extra completion can be posted now: by the manual pages' rules no drain is outstanding; and there is memory. */
 bool can_post_extra(struct ring *ring);
 
-/* Posts one, of a request that the call of this number has submitted. It can be posted. False: the core refused memory for it, and it is put off. */
-bool post_extra(struct ring *ring, uint64_t call, bool is_at_once, uint64_t user_data, int32_t res, uint32_t flags);
+/* Whose a completion is: that of a request of this number and operation, which this call has submitted; or a message, of no call. */
+struct origin {
+    uint64_t user_data, call, number;
+    uint8_t code;
+    bool is_message;
+};
+
+struct origin origin_of(const struct request *request);
+
+/* Posts one. It can be posted. False: the core refused memory for it, and it is put off. */
+bool post_extra(struct ring *ring, const struct origin *of, int32_t res, uint32_t flags);
 
 /* Where a completion was put off: whether this comes now, after what the library says is posted first. And has that one show this instead. */
 bool comes_now(struct ring *ring, enum wulgach_coming what);

@@ -65,7 +65,8 @@ static bool goes_on_after(const struct ring *ring, const struct request *request
 /* Posts a completion of a request before its end. It counts as of the call that submitted the request. False: it is put off. */
 static bool post_event(struct ring *ring, const struct request *request, int32_t res, enum wulgach_part part)
 {
-    return post_extra(ring, request->call, wulgach_is_at_once(request->entry.opcode), request->entry.user_data, res, wulgach_completion_flags(part, request->flags));
+    struct origin of = origin_of(request);
+    return post_extra(ring, &of, res, wulgach_completion_flags(part, request->flags));
 }
 
 static void note_vain(struct ring *ring, struct request *request)
@@ -230,6 +231,19 @@ static void start(struct ring *ring, struct request *request)
     note_running(ring, request);
 }
 
+/* A request ends that wasn't carried out. A send without copies may have a notice after that. */
+static void end_unissued(struct ring *ring, struct request *request, int32_t shown, int32_t told)
+{
+    struct origin of = origin_of(request);
+    int32_t notice;
+    bool notifies = wulgach_notifies_unsent(request->needs.is_zero_copy, shown) && wulgach_notice_of(submission_of(&request->entry), can_post_extra(ring), &notice);
+    if (notifies)
+        request->flags = wulgach_completion_flags(wulgach_part_unsent(request->member.is_linked), 0);
+    end_of(ring, request, shown, told);
+    if (notifies && can_post_extra(ring))
+        post_extra(ring, &of, notice, wulgach_completion_flags(WULGACH_PART_NOTICE, 0));
+}
+
 /* Issues a request that can be issued, and no other. True if it has started: else it has ended without being carried out. */
 static bool issue_alone(struct ring *ring, struct request *request)
 {
@@ -242,7 +256,7 @@ static bool issue_alone(struct ring *ring, struct request *request)
     if (kind == WULGACH_ENDED) {
         int32_t shown = shown_of(ring, request, next, res);
         note_fact(request, WULGACH_FACT_DROPPED, shown);
-        end_of(ring, request, shown, res);
+        end_unissued(ring, request, shown, res);
         return false;
     }
     demand(kind == WULGACH_RUN, "the core doesn't issue a request");

@@ -69,7 +69,9 @@ struct request {
     uint64_t logged_file;           /* the file that its begin is logged of, or 0 */
     bool has_fired;                 /* a linked timeout: the request before it was cancelled by it */
     bool is_message;                /* one of the layer's own, which tells of a message or of a tag: no call has submitted it */
-    bool is_at_once;                /* one of the layer's own, which tells of no end: it is posted as it comes */
+    bool is_extra;                  /* one of the layer's own, whose completion is of the request of this number, or is a message; */
+    uint64_t of;
+    bool is_at_once;                /* and a kernel posts it as it comes */
     bool is_of_pipe;                /* a poll for what a pipe has to be read: */
     int watch;                      /* the number by which writes to that are told, or 0, */
     struct request *watched_before, *watched_after;    /* and the polls that stand beside it among those of the same number, or NULL */

@@ -300,6 +300,36 @@ static void test_cancels_after_links(void)
     close(device);
 }
 
+/* A send without copies that its chain cancels has a notice all the same, also where its own completion is skipped. */
+static void test_cancelled_sends(void)
+{
+    enum { AFTER_A_FAILURE, AFTER_A_SILENT_ONE, BEFORE_A_FAULT };
+    for (int way = AFTER_A_FAILURE; way <= BEFORE_A_FAULT; way++) {
+        int32_t results[3] = {0}, notices = 0;
+        unsigned flags = 0, silent = way == AFTER_A_SILENT_ONE && !is_by_manual();
+        begin(0);
+        if (way != BEFORE_A_FAULT)
+            put_failing(0, IOSQE_IO_LINK | (way == AFTER_A_SILENT_ONE ? IOSQE_CQE_SKIP_SUCCESS : 0));
+        put_transfer(&ring, IORING_OP_SEND_ZC, 1, way == BEFORE_A_FAULT ? IOSQE_IO_LINK : 0, ends[1], &byte, 1, 0);
+        if (way == BEFORE_A_FAULT)
+            put(&ring, NO_OPERATION, 0, 0);
+        submit(2);
+        check(enter(&ring, 0, 3 - silent, IORING_ENTER_GETEVENTS) == 0 && count_ready(&ring) == 3 - silent);
+        for (unsigned i = 0; i < 3 - silent; i++) {
+            struct seen found = next_of(&ring);
+            if (found.flags & IORING_CQE_F_NOTIF)
+                notices += found.user_data == 1 && found.res == 0;
+            else
+                results[found.user_data] = found.res;
+            if (found.user_data == 1 && found.res == -ECANCELED)
+                flags = found.flags;
+        }
+        check(notices == 1 && results[0] == (way == BEFORE_A_FAULT ? -EINVAL : -EBADF) && results[1] == (silent ? 0 : -ECANCELED));
+        check(flags == (way == BEFORE_A_FAULT ? IORING_CQE_F_MORE : 0));
+        stop();
+    }
+}
+
 static bool is_in_order(void)
 {
     const char *policy = getenv("WULGACH_POLICY");
@@ -357,6 +387,7 @@ int main(int count, char **words)
         {"linked timeouts", test_linked_timeouts},
         {"cancels of linked timeouts", test_cancels_of_linked_timeouts},
         {"cancels after links", test_cancels_after_links},
+        {"cancelled sends", test_cancelled_sends},
         {"counts of a submission", test_counts_of_a_submission},
     };
     return are_rings_there() ? run_tests(tests, sizeof tests / sizeof *tests, count > 1 ? words[1] : NULL) : 0;

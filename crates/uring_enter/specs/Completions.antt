@@ -6,3 +6,4 @@ pub mod PostingLaws
 pub mod Shots
 pub mod Prospects
 pub mod Storing
+pub mod Unsent

@@ -7,3 +7,4 @@ pub mod shot;
 pub mod showing;
 pub mod showing_laws;
 pub mod storing;
+pub mod unsent;

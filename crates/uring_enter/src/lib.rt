@@ -121,6 +121,8 @@ pub use completions::storing::asks_overflow;
 pub use completions::storing::heard_steps;
 pub use completions::storing::shows_again;
 pub use completions::storing::taken_steps;
+pub use completions::unsent::notifies_unsent;
+pub use completions::unsent::part_unsent;
 pub use going_on::carrying::Calls;
 pub use going_on::carrying::Source;
 pub use going_on::carrying::calls_of;

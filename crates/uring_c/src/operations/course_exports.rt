@@ -12,13 +12,16 @@ ghost use Rattle.uring_enter.specs.Completions.Shots as shots;
 ghost use Rattle.uring_operations.specs.Chains.Chains.{member_of, limits};
 ghost use Rattle.uring_enter.specs.Completions.Showing.{Change, KeepsShown};
 ghost use Rattle.uring_enter.specs.Completions.Showing.{Posted as WasPosted};
+ghost use Rattle.uring_enter.specs.Completions.Unsent as unsent;
 ghost use Rattle.uring_enter.specs.Completions.Postings.{Posting, Ended, KeepsPosted, is_taken, with_res, posts};
 ghost use Rattle.uring_crossing.specs.CourseForm.{fact_of, word_of_act, res_of_act, last_of, word_of_end, is_refused, part_of};
 ghost use Rattle.uring_c.specs.ShownForm.{word_of_part, word_of_sought};
 
 use uring_crossing::completion_words::CompletionWords;
 use uring_crossing::course_words::{act_res, act_word, fact, last, part};
-use uring_enter::{Part, Posted, Shown, completion_flags, end_of_send, untold_after};
+use uring_enter::{
+    Part, Posted, Shown, completion_flags, end_of_send, notifies_unsent, part_unsent, untold_after,
+};
 use uring_operations::{
     Carried, Course, EndedCancel, EndedEarly, Entry, Fact, Member, SoughtAfter, Submission,
     has_succeeded, notice_of, shown_of, sought_after,
@@ -170,6 +173,22 @@ pub extern "C" fn wulgach_end_of_send(is_posted: bool) -> u32
     ensures { result ≡ word_of_part (shots.end_of_send is_posted) }
 {
     part_word(end_of_send(is_posted))
+}
+
+/// Whether a request, which is a send without copies or isn't, and ends with this result before it is carried out, has a notice after that.
+#[unsafe(no_mangle)]
+pub extern "C" fn wulgach_notifies_unsent(is_zero_copy: bool, res: i32) -> bool
+    ensures { result ≡ unsent.notifies_unsent is_zero_copy res }
+{
+    notifies_unsent(is_zero_copy, res)
+}
+
+/// Returns what the completion of its end tells, where it is after a link or begins its chain.
+#[unsafe(no_mangle)]
+pub extern "C" fn wulgach_part_unsent(is_linked: bool) -> u32
+    ensures { result ≡ word_of_part (unsent.part_unsent is_linked) }
+{
+    part_word(part_unsent(is_linked))
 }
 
 fn part_word(part: Part) -> u32
