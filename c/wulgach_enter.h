@@ -227,6 +227,7 @@ struct wulgach_argument {
     uint64_t size;              /* as the call gives it */
     bool is_extended;           /* IORING_ENTER_EXT_ARG: a structure of a mask and a time, and no mask alone */
     bool is_readable;           /* the structure can be read, */
+    bool has_min_wait;          /* its `pad` isn't 0, `min_wait_usec` of newer pages: a time after which one completion is enough, */
     bool has_time;              /* it gives a time, */
     bool is_time_readable;      /* and that can be read */
 };
@@ -252,8 +253,9 @@ void wulgach_argument_gives(const struct wulgach_extended_form *extended, struct
  * (IORING_ENTER_GETEVENTS), and all was submitted. */
 bool wulgach_reads_argument(bool gets, uint32_t to_submit, int64_t submitted);
 
-/* The fault of a call's last argument, or 0. Of a structure the size is looked at first: -22 unless it is 24; then -14 if it, or the time
- * that it gives, can't be read. */
+/* The fault of a call's last argument, or 0. Of a structure the size is looked at first: -22 unless it is 24; then -14 if it can't be
+ * read; -22 if it has a time after which one completion is enough, since there is no IORING_FEAT_MIN_TIMEOUT; and -14 if the time that it gives
+ * can't be read. */
 int32_t wulgach_last_argument_fault(const struct wulgach_argument *argument);
 
 /* The fault of a mask of this size, or 0: -22 unless it is 8, then -14 if it can't be read. It matters where the call is to sleep. */

@@ -227,7 +227,7 @@ bool wulgach_counts_as_ready(int32_t came, uint16_t events);
 /* How a request stands that runs. */
 struct wulgach_standing {
     bool is_stream;             /* it may have to wait for its descriptor */
-    bool has_found_buffer;      /* of one that takes a provided buffer: it has found one in its group since it started */
+    bool has_found_buffer;      /* of one that takes a provided buffer: it has found one in its group since it started, or is to be polled first (wulgach_waits_after_search) */
 };
 
 /* What is so at a moment, as far as it was asked. */
@@ -306,6 +306,10 @@ bool wulgach_asks_listening(const struct wulgach_needs *needs, bool is_ready);
  * socket counts as ready with so many bytes (SO_RCVLOWAT, 0 of what is none), which are more than one. None that asks to be polled first
  * (IORING_RECVSEND_POLL_FIRST). */
 bool wulgach_is_tried_first(const struct wulgach_submission *entry, uint32_t least);
+
+/* Whether what takes a provided buffer waits from now on for its descriptor, whatever its group has, where a look at that found a buffer or none:
+ * one that has found one does, and one that asks to be polled first (IORING_RECVSEND_POLL_FIRST), which takes its buffer only then. */
+bool wulgach_waits_after_search(const struct wulgach_submission *entry, bool is_found);
 
 /* ---- when a call sleeps, and what came of it ---- */
 

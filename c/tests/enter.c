@@ -144,6 +144,8 @@ static void read_arguments(void)
     check(wulgach_last_argument_fault(&argument) == 0, "one without a time");
     argument.has_time = true;
     check(wulgach_last_argument_fault(&argument) == -14, "a time that can't be read");
+    argument.has_min_wait = true;
+    check(wulgach_last_argument_fault(&argument) == -22, "a time after which one completion is enough");
     argument.is_readable = false;
     check(wulgach_last_argument_fault(&argument) == -14, "one that can't be read");
     argument.size = 8;

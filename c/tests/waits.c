@@ -186,6 +186,9 @@ static void be_impatient(void)
     demand(wulgach_asks_listening(&plain, false) && !wulgach_asks_listening(&plain, true) && !wulgach_asks_listening(&poll, false) && !wulgach_asks_listening(&splice, false), "whose socket is asked whether it listens");
     struct wulgach_submission write = {.opcode = WRITE}, read = {.opcode = READ, .ioprio = 1}, send = {.opcode = SEND}, polled = {.opcode = SEND, .ioprio = 1}, receive = {.opcode = RECV}, accept = {.opcode = ACCEPT};
     demand(wulgach_is_tried_first(&write, 0) && wulgach_is_tried_first(&send, 1) && !wulgach_is_tried_first(&polled, 1), "a write or a send is tried first");
+    struct wulgach_submission urgent = {.opcode = RECV, .op_flags = 1, .ioprio = 1};
+    demand(!wulgach_is_impatient(&urgent, &fresh) && !wulgach_is_impatient(&urgent, &listening), "what is polled first");
+    demand(wulgach_waits_after_search(&receive, true) && !wulgach_waits_after_search(&receive, false) && wulgach_waits_after_search(&polled, false) && !wulgach_waits_after_search(&read, false), "who waits without a buffer");
     demand(wulgach_is_tried_first(&read, 2) && wulgach_is_tried_first(&receive, 8) && !wulgach_is_tried_first(&receive, 1) && !wulgach_is_tried_first(&read, 0) && !wulgach_is_tried_first(&accept, 8), "a receive, where a byte isn't enough");
     demand(impatient(WRITE, 0, empty) && !impatient(WRITE, 0, sends_nothing) && impatient(WRITE, 8, sends_nothing) && impatient(READ, 0, sends_nothing), "a write of no bytes");
     demand(!impatient(READ, 0, fresh) && impatient(READ, 8, fresh) && impatient(READ, 0, empty) && impatient(READ, 0, failed), "a read");

@@ -52,6 +52,7 @@ static int read_extended(struct waiting *waiting)
     _Static_assert(sizeof extended == sizeof(struct io_uring_getevents_arg), "the library's structure");
     argument.is_readable = argument.size == sizeof extended && copy_in(&extended, waiting->mask, sizeof extended) == 0;
     wulgach_argument_gives(&extended, &given);
+    argument.has_min_wait = extended.pad != 0;
     argument.has_time = given.has_time;
     argument.is_time_readable = given.has_time && copy_in(&time, given.time_at, sizeof time) == 0;
     int fault = wulgach_last_argument_fault(&argument);

@@ -31,7 +31,7 @@ bool finds_buffer(struct ring *ring, struct request *request)
 {
     struct wulgach_buffer buffer;
     bool is_found = find_provided(ring, request->entry.buf_group, &buffer);
-    request->standing.has_found_buffer |= is_found;
+    request->standing.has_found_buffer |= wulgach_waits_after_search(submission_of(&request->entry), is_found);
     return is_found;
 }
 

@@ -189,12 +189,17 @@ static void provide_one(struct ring *ring, char *at, uint64_t id)
     check(result_of_one(ring, 1) == 0);
 }
 
-static void submit_receive(struct ring *ring, int fd, bool is_multishot)
+static void submit_receive_as(struct ring *ring, int fd, uint16_t how)
 {
     struct io_uring_sqe *entry = put(ring, IORING_OP_RECV, 1, IOSQE_BUFFER_SELECT);
     entry->fd = fd;
-    entry->ioprio = is_multishot ? IORING_RECV_MULTISHOT : 0;
+    entry->ioprio = how;
     check(enter(ring, 1, 0, 0) == 1);
+}
+
+static void submit_receive(struct ring *ring, int fd, bool is_multishot)
+{
+    submit_receive_as(ring, fd, is_multishot ? IORING_RECV_MULTISHOT : 0);
 }
 
 /* A receive that finds no buffer when it starts ends so. One that has found one waits for its socket, and takes what its group has then: as
@@ -232,6 +237,72 @@ static void test_buffers_that_go(void)
         close(ends[1]);
         close_ring(&ring);
     }
+}
+
+/* What is to be polled first waits before anything else is looked at: it takes a buffer that was provided meanwhile, and has its faults once
+ * something is there. As on a real ring. */
+static void test_polled_first(void)
+{
+    static char memory[16], text[8];
+    for (int is_multishot = 0; is_multishot < 2; is_multishot++) {
+        struct ring ring;
+        int ends[2];
+        make_pair(ends);
+        make_ring(&ring, 8, 0, 0);
+        submit_receive_as(&ring, ends[0], IORING_RECVSEND_POLL_FIRST | (is_multishot ? IORING_RECV_MULTISHOT : 0));
+        check(enter_for(&ring, 1, 1000) == -ETIME);
+        provide_one(&ring, memory, 3);
+        check(enter_for(&ring, 1, 1000) == -ETIME);
+        check(send(ends[1], "piece", 5, 0) == 5);
+        struct seen found = next_of(&ring);
+        check(found.res == 5 && found.flags & IORING_CQE_F_BUFFER && memcmp(memory, "piece", 5) == 0);
+        if (is_multishot) {
+            check(send(ends[1], "piece", 5, 0) == 5);
+            check(wait_for_one(&ring) == -ENOBUFS);
+            check(recv(ends[0], text, 8, MSG_DONTWAIT) == 5);
+        }
+        submit_receive_as(&ring, ends[0], IORING_RECVSEND_POLL_FIRST | (is_multishot ? IORING_RECV_MULTISHOT : 0));
+        check(enter_for(&ring, 1, 1000) == -ETIME);
+        check(send(ends[1], "piece", 5, 0) == 5);
+        check(wait_for_one(&ring) == -ENOBUFS);
+        close(ends[0]);
+        close(ends[1]);
+        make_pair(ends);
+        struct io_uring_sqe *entry = put_transfer(&ring, IORING_OP_RECV, 0, 0, ends[0], text, 8, 0);
+        entry->ioprio = IORING_RECVSEND_POLL_FIRST;
+        entry->msg_flags = MSG_OOB;
+        check(enter(&ring, 1, 0, 0) == 1);
+        check(enter_for(&ring, 1, 1000) == -ETIME);
+        check(send(ends[1], "piece", 5, 0) == 5);
+        int32_t res = wait_for_one(&ring);
+        check(res == -EINVAL || res == -EOPNOTSUPP);
+        close(ends[0]);
+        close(ends[1]);
+        close_ring(&ring);
+    }
+}
+
+/* So does one of a socket that listens, until somebody connects. */
+static void test_listener_polled_first(void)
+{
+    struct ring ring;
+    struct sockaddr address = {AF_UNIX, ""};
+    socklen_t size = sizeof address;
+    char text[8];
+    int listener = socket(AF_UNIX, SOCK_STREAM, 0), caller = socket(AF_UNIX, SOCK_STREAM, 0);
+    check(bind(listener, &address, sizeof(sa_family_t)) == 0 && listen(listener, 4) == 0 && getsockname(listener, &address, &size) == 0);
+    make_ring(&ring, 8, 0, 0);
+    put_transfer(&ring, IORING_OP_RECV, 0, 0, listener, text, 8, 0);
+    int32_t plain = result_of_one(&ring, 1);
+    check(plain < 0);
+    put_transfer(&ring, IORING_OP_RECV, 0, 0, listener, text, 8, 0)->ioprio = IORING_RECVSEND_POLL_FIRST;
+    check(enter(&ring, 1, 0, 0) == 1);
+    check(enter_for(&ring, 1, 1000) == -ETIME);
+    check(connect(caller, &address, size) == 0);
+    check(wait_for_one(&ring) == plain);
+    close(listener);
+    close(caller);
+    close_ring(&ring);
 }
 
 /* A message that goes on has no room in a buffer for what stands in front of it: that it is of no socket counts before. As on a real ring. */
@@ -374,6 +445,8 @@ int main(int count, char **words)
         {"multishot receive", test_multishot_receive},
         {"multishot length", test_multishot_length},
         {"buffers that go", test_buffers_that_go},
+        {"polled first", test_polled_first},
+        {"listener polled first", test_listener_polled_first},
         {"no room in front", test_no_room_in_front},
         {"multishot accept", test_multishot_accept},
         {"cut receives", test_cut_receives},

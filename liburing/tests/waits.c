@@ -319,6 +319,23 @@ static void test_last_page(void)
     close_ring(&ring);
 }
 
+/* A time after which one completion is enough (`min_wait_usec`, which stands where `pad` did) isn't served: no ring says so by
+ * IORING_FEAT_MIN_TIMEOUT, and the call is refused, as by a kernel before Linux 6.12, once all is submitted. */
+static void test_least_time(void)
+{
+    struct ring ring;
+    struct __kernel_timespec time = {0, 1000};
+    struct io_uring_getevents_arg argument = {.pad = 1000, .ts = (uintptr_t)&time};
+    unsigned flags = IORING_ENTER_GETEVENTS | IORING_ENTER_EXT_ARG;
+    make_ring(&ring, 4, 0, 0);
+    check(!(ring.params.features & 1u << 15));
+    check(wulgach_syscall(SYS_io_uring_enter, ring.fd, 0u, 1u, flags, &argument, sizeof argument) == -1 && errno == EINVAL);
+    put(&ring, IORING_OP_NOP, 5, 0);
+    check(wulgach_syscall(SYS_io_uring_enter, ring.fd, 1u, 3u, flags, &argument, sizeof argument) == 1);
+    check(next_of(&ring).user_data == 5);
+    close_ring(&ring);
+}
+
 int main(int count, char **words)
 {
     static const struct named tests[] = {
@@ -331,6 +348,7 @@ int main(int count, char **words)
         {"wrong end", test_wrong_end},
         {"splice", test_splice},
         {"last page", test_last_page},
+        {"least time", test_least_time},
     };
     return run_tests(tests, sizeof tests / sizeof *tests, count > 1 ? words[1] : NULL);
 }

@@ -323,6 +323,7 @@ pub use requests::ready::next_look;
 pub use requests::ready::polls;
 pub use requests::ready::polls_what_matters;
 pub use requests::ready::splice_poll;
+pub use requests::ready::waits_after_search;
 pub use requests::starting::Starting;
 pub use requests::starting::asks_after_its_files;
 pub use requests::starting::lets_start;

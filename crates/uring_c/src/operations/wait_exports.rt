@@ -17,7 +17,7 @@ use uring_operations::{
     Call, Known, Nature, Needs, Patience, PollStart, Submission, Transfer, Trial, asks_instance,
     asks_listening, buffer_fault, counts_as_begun, counts_as_ready, instance_events,
     is_call_repeated, is_impatient, is_tried_first, needs_as, needs_of, next_finding, next_step,
-    next_turn, no_buffer_fault, poll_result, poll_start, polling_fault, present_of, start_fault,
+    next_turn, no_buffer_fault, poll_result, poll_start, polling_fault, present_of, start_fault, waits_after_search,
 };
 
 /// Writes what the operation of an entry needs.
@@ -66,6 +66,14 @@ pub extern "C" fn wulgach_asks_listening(needs: &Needs, is_ready: bool) -> bool
     ensures { result ≡ ready.asks_listening needs.now is_ready }
 {
     asks_listening(needs, is_ready)
+}
+
+/// Whether what takes a provided buffer waits from now on for its descriptor, whatever its group has, where a look at that found a buffer or none.
+#[unsafe(no_mangle)]
+pub extern "C" fn wulgach_waits_after_search(entry: &Submission, is_found: bool) -> bool
+    ensures { result ≡ ready.waits_after_search entry.now is_found }
+{
+    waits_after_search(entry, is_found)
 }
 
 /// Whether a request that wasn't found ready as it starts is carried out once all the same.

@@ -17,17 +17,21 @@ is_extended flags = has_some flags 8
 abbrev pub is_read : Bool → ℕ → ℤ → Bool
 is_read gets to_submit submitted = gets && int_eq submitted (pos to_submit)
 
--- what a structure gives (`struct io_uring_getevents_arg`): a mask, at `sigmask`, of `sigmask_sz` bytes, and a time, at `ts`, unless that is 0. What stands between isn't looked at
+-- what a structure gives (`struct io_uring_getevents_arg`): a mask, at `sigmask`, of `sigmask_sz` bytes, and a time, at `ts`, unless that is 0. What stands between, `pad`, gives neither
 abbrev pub given_by : Extended → Given
 given_by e = record { mask_at = e.sigmask; mask_size = e.sigmask_sz; time_at = e.ts; has_time = not (e.ts == 0) }
 
--- of a structure first its size is looked at, which is 24 bytes: -22 (EINVAL); then it is read, and then the time that it names: -14 (EFAULT). A mask alone has no fault yet
+-- the time that a structure names is read: -14 (EFAULT)
+abbrev pub time_fault : Argument → ℤ
+time_fault a = if a.has_time && not a.is_time_readable then error 14 else pos 0
+
+-- of a structure first its size is looked at, which is 24 bytes: -22 (EINVAL); then it is read: -14 (EFAULT); then a time is refused after which one completion is enough: -22, as by a kernel without IORING_FEAT_MIN_TIMEOUT (before Linux 6.12), which a ring doesn't have; and then its time is read. A mask alone has no fault yet
 abbrev pub argument_fault : Argument → ℤ
 argument_fault a =
     if not a.is_extended then pos 0 else
     if not (a.size == 24) then error 22 else
     if not a.is_readable then error 14 else
-    if a.has_time && not a.is_time_readable then error 14 else pos 0
+    if a.has_min_wait then error 22 else time_fault a
 
 -- a mask has 8 bytes: -22 (EINVAL); and it is read, -14 (EFAULT), where the call is to sleep. Where there is enough to return, it isn't looked at
 abbrev pub mask_fault : ℕ → Bool → ℤ

@@ -1,7 +1,7 @@
 //! The last arguments of a call: whether they are read, and which are refused. io_uring_enter(2), IORING_ENTER_EXT_ARG.
 
 ghost use Rattle.std.specs.Prelude.{◌≡◌};
-ghost use Rattle.uring_enter.specs.Call.Arguments.{is_extended, is_read, given_by, argument_fault, mask_fault, slept_with, with_fault};
+ghost use Rattle.uring_enter.specs.Call.Arguments.{is_extended, is_read, given_by, argument_fault, time_fault, mask_fault, slept_with, with_fault};
 
 /// The last argument of a call, as far as it was read.
 #[repr(C)]
@@ -15,6 +15,9 @@ pub struct Argument {
 
     /// The structure can be read.
     pub is_readable: bool,
+
+    /// The structure gives a time after which one completion is enough. IORING_FEAT_MIN_TIMEOUT, which isn't served.
+    pub has_min_wait: bool,
 
     /// The structure gives a time.
     pub has_time: bool,
@@ -33,7 +36,7 @@ pub struct Extended {
     /// Its size.
     pub sigmask_sz: u32,
 
-    /// Not looked at.
+    /// The time after which one completion is enough, in microseconds, `min_wait_usec` of newer pages; 0 for none.
     pub pad: u32,
 
     /// Where the time is.
@@ -91,7 +94,20 @@ pub fn argument_fault(argument: &Argument) -> i32
         0
     } else if argument.size != 24 {
         -22
-    } else if !argument.is_readable || argument.has_time && !argument.is_time_readable {
+    } else if !argument.is_readable {
+        -14
+    } else if argument.has_min_wait {
+        -22
+    } else {
+        time_fault(argument)
+    }
+}
+
+/// The fault of the time that it gives, if it gives one; or 0.
+fn time_fault(argument: &Argument) -> i32
+    ensures { result ≡ time_fault argument.now }
+{
+    if argument.has_time && !argument.is_time_readable {
         -14
     } else {
         0

@@ -18,7 +18,7 @@ use Rattle.uring_entry.specs.Errors.{error, is_below}
 use Rattle.uring_operations.specs.Entries.Clocks.{has_some}
 use Rattle.uring_operations.specs.Entries.Needs.{is_transfer, is_read, is_write, is_send, is_receive, is_of_sockets, is_splice, takes_urgent}
 
--- one that is to take a provided buffer, and has found none since it started, ends so, whatever its descriptor has. One that has found one waits for its descriptor, whatever becomes of that buffer: it takes what its group has then. So Linux 6.18 was seen to do
+-- one that is to take a provided buffer, and has found none since it started, ends so, whatever its descriptor has; but for one that is to be polled first, which counts as one that has found one. One that has found one waits for its descriptor, whatever becomes of that buffer: it takes what its group has then. So Linux 6.18 was seen to do
 abbrev pub finds_what_it_wants : Standing → Needs → Moment → Bool
 finds_what_it_wants s n m = n.selects && not s.has_found_buffer && not m.has_buffer || m.is_ready
 
@@ -160,15 +160,19 @@ is_for_nothing e p = p.length == 0 && not (has_some e.flags 32) && not (is_write
 abbrev pub is_impatient_transfer : Submission → Patience → Bool
 is_impatient_transfer e p = has_some e.op_flags 8 || is_for_nothing e p
 
--- a connect, a splice and a receive of urgent data are begun before they wait, so that their faults are found at once: no readiness tells of these
-abbrev pub is_begun_at_once : Submission → Bool
-is_begun_at_once e = e.opcode == 16 || is_splice e.opcode || takes_urgent e
+-- an operation of messages asks that its descriptor is polled before it is carried out: IORING_RECVSEND_POLL_FIRST (1). io_uring_prep_send(3)
+abbrev pub polls_first : Submission → Bool
+polls_first e = has_message_flags e.opcode && has_some e.ioprio 1
 
--- its socket was asked whether it listens, and is of no use to it: a transfer or a message of one that does ends with an error, as -107 (ENOTCONN) or -32 (EPIPE), and an ACCEPT (13) of one that doesn't, with -22 (EINVAL) or -95 (EOPNOTSUPP). listen(2), accept(2)
+-- a connect, a splice and a receive of urgent data are begun before they wait, so that their faults are found at once: no readiness tells of these. But a receive that is to be polled first waits before any fault
+abbrev pub is_begun_at_once : Submission → Bool
+is_begun_at_once e = e.opcode == 16 || is_splice e.opcode || takes_urgent e && not (polls_first e)
+
+-- its socket was asked whether it listens, and is of no use to it: a transfer or a message of one that does ends with an error, as -107 (ENOTCONN) or -32 (EPIPE), and an ACCEPT (13) of one that doesn't, with -22 (EINVAL) or -95 (EOPNOTSUPP). But a message that is to be polled first waits. listen(2), accept(2)
 abbrev pub is_in_vain : Submission → Patience → Bool
 is_in_vain e p =
     if e.opcode == 13 then p.knows_listening && not p.is_listening else
-    p.knows_listening && p.is_listening && (is_transfer e.opcode || has_message_flags e.opcode)
+    p.knows_listening && p.is_listening && (is_transfer e.opcode || has_message_flags e.opcode && not (polls_first e))
 
 -- one that doesn't wait whatever its descriptor has: it has failed when it started, its socket is of no use to it, it opens a path (OPENAT, 18, and OPENAT2, 28), it is to be begun, it is a transfer as above, or it is asked not to wait by MSG_DONTWAIT (64)
 abbrev pub is_impatient : Submission → Patience → Bool
@@ -178,9 +182,9 @@ is_impatient e p =
     || has_message_flags e.opcode && has_some e.op_flags 64
     || is_transfer e.opcode && is_impatient_transfer e p
 
--- an operation of messages asks that its descriptor is polled before it is carried out: IORING_RECVSEND_POLL_FIRST (1). io_uring_prep_send(3)
-abbrev pub polls_first : Submission → Bool
-polls_first e = has_message_flags e.opcode && has_some e.ioprio 1
+-- whether what takes a provided buffer waits from now on for its descriptor, whatever its group has, where a look at that found a buffer or none: one that has found one does, and one that is to be polled first, since it takes its buffer only then. io_uring_prep_recv(3), IORING_RECVSEND_POLL_FIRST
+abbrev pub waits_after_search : Submission → (is_found : Bool) → Bool
+waits_after_search e is_found = is_found || polls_first e
 
 -- whether it is asked, as a request starts, if its socket listens: it would have to wait, and it is no poll, which may wait for who connects, and no splice, which waits for either end of its two. Our own rule
 abbrev pub asks_listening : Needs → (is_ready : Bool) → Bool

@@ -21,7 +21,7 @@ pub struct Standing {
     /// It may have to wait for its descriptor.
     pub is_stream: bool,
 
-    /// Of one that takes a provided buffer: it has found one in its group since it started.
+    /// Of one that takes a provided buffer: it has found one in its group since it started, or is to be polled first.
     pub has_found_buffer: bool,
 }
 
@@ -277,7 +277,7 @@ fn is_for_nothing(entry: &Submission, patience: &Patience) -> bool
     patience.length == 0 && entry.flags & 32 == 0 && !is_sent
 }
 
-/// Whether its socket listens, and nothing is sent by it or received; or doesn't, and it is to accept.
+/// Whether its socket listens, and nothing is sent by it or received, unless that is to be polled first; or doesn't, and it is to accept.
 fn is_in_vain(entry: &Submission, patience: &Patience) -> bool
     ensures { result ≡ spec.is_in_vain entry.now patience.now }
 {
@@ -286,7 +286,7 @@ fn is_in_vain(entry: &Submission, patience: &Patience) -> bool
     } else {
         patience.knows_listening
             && patience.is_listening
-            && (is_transfer(entry.opcode) || has_message_flags(entry.opcode))
+            && (is_transfer(entry.opcode) || has_message_flags(entry.opcode) && !polls_first(entry))
     }
 }
 
@@ -304,6 +304,13 @@ pub(crate) fn polls_first(entry: &Submission) -> bool
     has_message_flags(entry.opcode) && entry.ioprio & 1 != 0
 }
 
+/// Whether what takes a provided buffer waits from now on for its descriptor, whatever its group has, where a look at that found a buffer or none. IORING_RECVSEND_POLL_FIRST.
+pub fn waits_after_search(entry: &Submission, is_found: bool) -> bool
+    ensures { result ≡ spec.waits_after_search entry.now is_found }
+{
+    is_found || polls_first(entry)
+}
+
 /// Whether a request that wasn't found ready as it starts is carried out once all the same: one that writes or sends; and one that reads or receives, whose socket counts as ready with so many bytes, 0 of what is none. io_uring_enter(2), IORING_RECVSEND_POLL_FIRST; socket(7), SO_RCVLOWAT
 pub fn is_tried_first(entry: &Submission, least: u32) -> bool
     ensures { result ≡ spec.is_tried_first entry.now least }
@@ -317,11 +324,11 @@ pub fn is_tried_first(entry: &Submission, least: u32) -> bool
     }
 }
 
-/// A connect, a splice, and a receive of urgent data.
+/// A connect, a splice, and a receive of urgent data that isn't to be polled first.
 fn is_begun_at_once(entry: &Submission) -> bool
     ensures { result ≡ spec.is_begun_at_once entry.now }
 {
-    entry.opcode == 16 || is_splice(entry.opcode) || takes_urgent(entry)
+    entry.opcode == 16 || is_splice(entry.opcode) || takes_urgent(entry) && !polls_first(entry)
 }
 
 /// Whether the flags of an operation are those of a message.
