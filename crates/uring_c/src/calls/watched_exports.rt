@@ -98,6 +98,7 @@ pub extern "C" fn wulgach_enlisted_with(all: u32, res: i32) -> u32
     }
 }
 
+/// What an instance makes of several descriptors, by its word in C.
 pub fn enlisted(word: u32) -> Enlisted
     ensures { result ≡ enlisted_of word }
 {
