@@ -17,7 +17,8 @@ use uring_operations::{
     Call, Known, Nature, Needs, Patience, PollStart, Submission, Transfer, Trial, asks_instance,
     asks_listening, buffer_fault, counts_as_begun, counts_as_ready, instance_events,
     is_call_repeated, is_impatient, is_tried_first, needs_as, needs_of, next_finding, next_step,
-    next_turn, no_buffer_fault, poll_result, poll_start, polling_fault, present_of, start_fault, waits_after_search,
+    next_turn, no_buffer_fault, poll_result, poll_start, polling_fault, present_of, start_fault,
+    waits_after_search,
 };
 
 /// Writes what the operation of an entry needs.
