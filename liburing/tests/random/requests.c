@@ -48,7 +48,7 @@ static void accept_one(struct model *model, unsigned index, bool is_behind)
     uint16_t group = (uint16_t)(model->group_count - 1);
     bool is_fault = is_faulty(model, action, is_behind);
     struct request *request = &model->requests[model->count++];
-    *request = (struct request){.action = action, .index = (uint16_t)index, .group = group, .since = -1, .is_faulty = is_fault, .was_open = !model->things->is_closed, .failure = failure_of(model, action, index), .call = model->call_number};
+    *request = (struct request){.action = action, .index = (uint16_t)index, .group = group, .since = -1, .is_faulty = is_fault, .was_open = !model->things->is_closed, .failure = failure_of(model, action, index), .call = model->call_number, .tally_least = model->tally};
     model->has_drain[group] |= (action->flags & IOSQE_IO_DRAIN) != 0;
     if (model->is_linux)
         note_flags(model, request, !is_behind);
@@ -288,12 +288,29 @@ bool is_in_order(const struct model *model)
     return !model->is_kernel && (strcmp(model->program->policy, "order") == 0 || strcmp(model->program->policy, "lazy") == 0);
 }
 
+/* A cancel or a removal after a link. */
+static bool comes_late(const struct model *model, const struct request *request)
+{
+    uint8_t code = request->action->code;
+    bool is_seeker = code == IORING_OP_ASYNC_CANCEL || code == IORING_OP_POLL_REMOVE || code == IORING_OP_TIMEOUT_REMOVE;
+    return is_seeker && request > model->requests && (request - 1)->group == request->group;
+}
+
+/* What can start in such a one's submission after it is issued before it, so that in between all are out of order. */
+static bool is_put_off(const struct model *model, const struct request *request, const struct request *seen)
+{
+    for (const struct request *late = model->requests; late <= request; late++)
+        if (comes_late(model, late) && late->call == request->call && late->call == seen->call)
+            return true;
+    return false;
+}
+
 /* In order, the least that can go on does. What has ended unseen is found so. */
 static void expect_order(struct model *model, const struct request *seen)
 {
     bool has_pipes = has_pipe_reads(model, false);
     for (struct request *request = model->requests; request < seen; request++)
-        if (can_end(model, request) && !(has_pipes && is_stream(model, request)))
+        if (can_end(model, request) && !(has_pipes && is_stream(model, request)) && !is_put_off(model, request, seen))
             force(model, request, "comes first in order");
     note_begun_before(model, seen);
 }

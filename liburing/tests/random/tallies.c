@@ -1,5 +1,5 @@
 /* Timeouts that end once so many completions were posted, and how often an eventfd is told of completions. A timeout counts from its start
- * on, which nobody sees: so what is known are bounds.
+ * on, which nobody sees, or what ends in its own submission too: so what is known are bounds.
  */
 #include "model.h"
 
@@ -48,7 +48,6 @@ void note_tallies(struct model *model)
         if (!is_counting(request) || !may_begin || request->may_have_begun || is_held_up(model, request))
             continue;
         request->may_have_begun = true;
-        request->tally_least = model->tally;
     }
 }
 

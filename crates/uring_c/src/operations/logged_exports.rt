@@ -1,6 +1,6 @@
 //! Which system calls are logged as what, and of which bytes and names, for C: the functions of `c/wulgach_logged.h`.
 ghost use Rattle.std.specs.Prelude.{◌≡◌, true, false, Some, None, if◌then◌else◌, MatchOption};
-ghost use Rattle.uring_operations.specs.Files.LoggedBytes as bytes;
+ghost use Rattle.uring_operations.specs.Files.LoggedBytes as logged;
 ghost use Rattle.uring_operations.specs.Files.LoggedCalls as calls;
 ghost use Rattle.uring_operations.specs.Files.LoggedNames as names;
 ghost use Rattle.uring_operations.specs.Files.LoggedNames.{IsLastPart};
@@ -74,7 +74,7 @@ pub extern "C" fn wulgach_is_made(number: u64) -> bool
 /// Returns what a write of so many bytes is logged as, whose file is on the run's disk, is the standard output, or neither.
 #[unsafe(no_mangle)]
 pub extern "C" fn wulgach_written_as(length: u64, is_on_disk: bool, is_output: bool) -> u32
-    ensures { result ≡ word_of_written (bytes.written_as length is_on_disk is_output) }
+    ensures { result ≡ word_of_written (logged.written_as length is_on_disk is_output) }
 {
     match written_as(length, is_on_disk, is_output) {
         Written::Nothing => 0,
@@ -86,7 +86,7 @@ pub extern "C" fn wulgach_written_as(length: u64, is_on_disk: bool, is_output: b
 /// Whether a call may have so many vectors.
 #[unsafe(no_mangle)]
 pub extern "C" fn wulgach_may_have_vectors(count: u64) -> bool
-    ensures { result ≡ bytes.may_have_vectors count }
+    ensures { result ≡ logged.may_have_vectors count }
 {
     may_have_vectors(count)
 }
@@ -94,7 +94,7 @@ pub extern "C" fn wulgach_may_have_vectors(count: u64) -> bool
 /// Returns how many bytes of a vector are logged, after others and what stands in front of an event have so many, and all could be read or not.
 #[unsafe(no_mangle)]
 pub extern "C" fn wulgach_logged_of_vector(before: u64, length: u64, is_whole: bool) -> u64
-    ensures { result ≡ bytes.logged_of_vector before length is_whole }
+    ensures { result ≡ logged.logged_of_vector before length is_whole }
 {
     logged_of_vector(before, length, is_whole)
 }
@@ -102,7 +102,7 @@ pub extern "C" fn wulgach_logged_of_vector(before: u64, length: u64, is_whole: b
 /// Writes where it is asked, as the question of this number, whether bytes can be read. False, and nothing is written: nowhere any more.
 #[unsafe(no_mangle)]
 pub extern "C" fn wulgach_asked_at(begin: u64, length: u64, number: u64, at: &mut u64) -> bool
-    ensures { MatchOption (bytes.asked_at begin length number) ((result ≡ false) × (at.new ≡ at.old))
+    ensures { MatchOption (logged.asked_at begin length number) ((result ≡ false) × (at.new ≡ at.old))
         (λ place. (result ≡ true) × (at.new ≡ place)) }
 {
     let Some(place) = asked_at(begin, length, number) else {
@@ -115,7 +115,7 @@ pub extern "C" fn wulgach_asked_at(begin: u64, length: u64, number: u64, at: &mu
 /// Returns how many bytes can be read, where at so many places they could.
 #[unsafe(no_mangle)]
 pub extern "C" fn wulgach_readable_bytes(begin: u64, length: u64, count: u64) -> u64
-    ensures { result ≡ bytes.readable_bytes begin length count }
+    ensures { result ≡ logged.readable_bytes begin length count }
 {
     readable_bytes(begin, length, count)
 }
@@ -123,7 +123,7 @@ pub extern "C" fn wulgach_readable_bytes(begin: u64, length: u64, count: u64) ->
 /// Returns how many bytes of a path are read next, which stand here, where so many are read.
 #[unsafe(no_mangle)]
 pub extern "C" fn wulgach_path_part(at: u64, so_far: u64) -> u64
-    ensures { result ≡ bytes.path_part at so_far }
+    ensures { result ≡ logged.path_part at so_far }
 {
     path_part(at, so_far)
 }
@@ -131,7 +131,7 @@ pub extern "C" fn wulgach_path_part(at: u64, so_far: u64) -> u64
 /// Returns how many of so many vectors are parts of an event by themselves.
 #[unsafe(no_mangle)]
 pub extern "C" fn wulgach_parts_alone(count: u64) -> u64
-    ensures { result ≡ bytes.parts_alone count }
+    ensures { result ≡ logged.parts_alone count }
 {
     parts_alone(count)
 }
@@ -139,7 +139,7 @@ pub extern "C" fn wulgach_parts_alone(count: u64) -> u64
 /// Returns how many bytes an event has, with paths and bytes of these lengths.
 #[unsafe(no_mangle)]
 pub extern "C" fn wulgach_event_size(path: u16, second_path: u16, bytes: u32) -> u64
-    ensures { result ≡ bytes.event_size path second_path bytes }
+    ensures { result ≡ logged.event_size path second_path bytes }
 {
     event_size(path, second_path, bytes)
 }
@@ -147,7 +147,7 @@ pub extern "C" fn wulgach_event_size(path: u16, second_path: u16, bytes: u32) ->
 /// Whether a log goes on after an event of this size, of which so many bytes were written, or which came to an error.
 #[unsafe(no_mangle)]
 pub extern "C" fn wulgach_log_goes_on(written: i64, size: u64) -> bool
-    ensures { result ≡ bytes.log_goes_on written size }
+    ensures { result ≡ logged.log_goes_on written size }
 {
     log_goes_on(written, size)
 }
@@ -155,7 +155,7 @@ pub extern "C" fn wulgach_log_goes_on(written: i64, size: u64) -> bool
 /// Whether a log takes events whose file has this mode.
 #[unsafe(no_mangle)]
 pub extern "C" fn wulgach_takes_events(mode: u32) -> bool
-    ensures { result ≡ bytes.takes_events mode }
+    ensures { result ≡ logged.takes_events mode }
 {
     takes_events(mode)
 }
