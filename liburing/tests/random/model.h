@@ -211,6 +211,8 @@ bool is_before_last_timeout(const struct model *model, const struct request *req
 bool may_have_been_cancelled(const struct model *model, const struct request *request);
 
 /* The policy is one that goes by the order of submission. */
+/* Whether a request may end before some that were submitted before it, though the policy is in order. */
+bool may_be_early(const struct model *model, const struct request *request);
 bool is_in_order(const struct model *model);
 
 /* Whether a request can end without waiting. */

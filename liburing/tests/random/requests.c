@@ -296,11 +296,11 @@ static bool comes_late(const struct model *model, const struct request *request)
     return is_seeker && request > model->requests && (request - 1)->group == request->group;
 }
 
-/* What can start in such a one's submission after it is issued before it, so that in between all are out of order. */
-static bool is_put_off(const struct model *model, const struct request *request, const struct request *seen)
+/* What can start in such a one's submission after it is issued before it, and so may be out of order. */
+bool may_be_early(const struct model *model, const struct request *request)
 {
     for (const struct request *late = model->requests; late <= request; late++)
-        if (comes_late(model, late) && late->call == request->call && late->call == seen->call)
+        if (comes_late(model, late) && late->call == request->call)
             return true;
     return false;
 }
@@ -310,7 +310,7 @@ static void expect_order(struct model *model, const struct request *seen)
 {
     bool has_pipes = has_pipe_reads(model, false);
     for (struct request *request = model->requests; request < seen; request++)
-        if (can_end(model, request) && !(has_pipes && is_stream(model, request)) && !is_put_off(model, request, seen))
+        if (can_end(model, request) && !(has_pipes && is_stream(model, request)) && !may_be_early(model, seen))
             force(model, request, "comes first in order");
     note_begun_before(model, seen);
 }

@@ -29,14 +29,14 @@ bool may_have_counted(const struct model *model, const struct request *timeout)
 
 bool has_counted(const struct model *model, const struct request *timeout)
 {
-    return timeout->action->tally && timeout->has_begun && model->tally - timeout->tally_most >= timeout->action->tally;
+    return timeout->action->tally && timeout->has_begun && !may_be_early(model, timeout) && model->tally - timeout->tally_most >= timeout->action->tally;
 }
 
 /* In order nothing starts while one before it can end. */
 static bool is_held_up(const struct model *model, const struct request *timeout)
 {
     for (const struct request *other = model->requests; other < timeout && is_in_order(model); other++)
-        if (!is_stream(model, other) && !(other->action->flags & IOSQE_CQE_SKIP_SUCCESS) && !other->is_silent && can_end(model, other))
+        if (!is_stream(model, other) && !(other->action->flags & IOSQE_CQE_SKIP_SUCCESS) && !other->is_silent && !may_be_early(model, timeout) && can_end(model, other))
             return true;
     return false;
 }
