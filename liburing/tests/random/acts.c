@@ -174,7 +174,7 @@ static enum finding finding_of(const struct model *model, const struct request *
     bool is_in_turn = request->is_doomed ? can_end(model, request) : can_start(model, request);
     if (!is_sought(cancel, request) || request->is_cancelled || !is_in_turn)
         return NOT_FOUND;
-    bool has_waited = can_wait(model, request), is_one_choice = is_in_order(model) || model->program->is_ends;
+    bool has_waited = can_wait(model, request), is_one_choice = (is_in_order(model) || model->program->is_ends) && !may_be_early(model, request);
     bool has_its_file = request->is_loose || !(cancel->action->scope & IORING_ASYNC_CANCEL_FD) || (is_in_order(model) && request < cancel);
     bool is_known = !request->action->is_registered || request->action->object != OTHER_LOG;
     bool is_certain = (has_waited || is_one_choice || request->is_doomed) && has_its_file && (is_known || !(cancel->action->scope & IORING_ASYNC_CANCEL_FD)) && !request->may_be_cancelled && !may_have_been_cancelled(model, request);
