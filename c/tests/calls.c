@@ -257,10 +257,10 @@ static void look_at_opens(void)
     wulgach_standing_after_path(&file, true);
     demand(file.is_stream && file.has_found_buffer, "one that names a pipe");
     demand(wulgach_has_writer(true, false, 0) && wulgach_has_writer(false, true, -11) && wulgach_has_writer(false, true, 1) && !wulgach_has_writer(false, true, 0) && !wulgach_has_writer(false, false, -11), "who has a pipe open to write");
-    struct wulgach_told_lock layers = {WULGACH_LOCKED_BYTE, 1, 1, 8, 7, true}, whole = {0, 0, 1, -1, 7, true}, own = {0, 0, 0, 7, 7, true}, none = {0, 0, 2, 7, 7, true}, untold = {0, 0, 1, 7, 7, false};
-    demand(!wulgach_is_lock_of_others(&layers) && wulgach_is_lock_of_others(&whole) && !wulgach_is_lock_of_others(&own) && !wulgach_is_lock_of_others(&none) && !wulgach_is_lock_of_others(&untold), "whose lock means something else");
-    demand(!wulgach_is_own_lock(&layers) && !wulgach_is_own_lock(&whole) && wulgach_is_own_lock(&own) && !wulgach_is_own_lock(&none) && !wulgach_is_own_lock(&untold), "whose lock is one's own");
-    demand(wulgach_asks_list_of_locks(&layers) && wulgach_asks_list_of_locks(&whole) && !wulgach_asks_list_of_locks(&own) && !wulgach_asks_list_of_locks(&none) && wulgach_asks_list_of_locks(&untold), "when the list of locks is read");
+    struct wulgach_told_lock layers = {WULGACH_LOCKED_BYTE, 1, 1, 8, 7, true}, whole = {0, 0, 1, -1, 7, true}, own = {0, 0, 0, 7, 7, true}, unlocked = {0, 0, 2, 7, 7, true}, untold = {0, 0, 1, 7, 7, false};
+    demand(!wulgach_is_lock_of_others(&layers) && wulgach_is_lock_of_others(&whole) && !wulgach_is_lock_of_others(&own) && !wulgach_is_lock_of_others(&unlocked) && !wulgach_is_lock_of_others(&untold), "whose lock means something else");
+    demand(!wulgach_is_own_lock(&layers) && !wulgach_is_own_lock(&whole) && wulgach_is_own_lock(&own) && !wulgach_is_own_lock(&unlocked) && !wulgach_is_own_lock(&untold), "whose lock is one's own");
+    demand(wulgach_asks_list_of_locks(&layers) && wulgach_asks_list_of_locks(&whole) && !wulgach_asks_list_of_locks(&own) && !wulgach_asks_list_of_locks(&unlocked) && wulgach_asks_list_of_locks(&untold), "when the list of locks is read");
 }
 
 static bool is_told(const struct wulgach_received *received, uint32_t behind, uint64_t value, size_t offset, size_t size)
