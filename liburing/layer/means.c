@@ -16,6 +16,8 @@
 #include "syncing.h"
 #include "timeouts.h"
 #include "unwilling.h"
+#include "wulgach_openings.h"
+#include "wulgach_results.h"
 #include "wulgach_tables.h"
 
 #include <errno.h>

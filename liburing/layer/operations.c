@@ -12,6 +12,7 @@
 #include "splices.h"
 #include "trying.h"
 #include "unwilling.h"
+#include "wulgach_results.h"
 #include "wulgach_tries.h"
 
 #include <errno.h>
