@@ -218,35 +218,6 @@ bool wulgach_asks_broken(const struct wulgach_submission *entry, uint32_t family
 bool wulgach_is_found_ready(bool is_shown, bool is_tried_first, bool was_tried, bool is_broken);
 bool wulgach_asks_breaking(bool is_shown, bool is_tried_first, bool was_tried);
 
-/* ---- sleeps that were left ---- */
-
-/* Whether a sleep has this mark still, where its frame can be read and this was found there, or it can't: a stack that is no memory any more was left.
- * Our own rule. */
-bool wulgach_has_mark(uint64_t mark, bool is_read, uint64_t found);
-
-/* What a thread that calls sees of a sleep of its own, which a signal's handler may have left by a jump. */
-struct wulgach_seen_sleep {
-    uint64_t place;             /* where the sleep has its mark */
-    uint64_t from;              /* where its call was made: there too, or on another stack */
-    uint64_t here;              /* where the thread calls now */
-    uint64_t own_lowest, own_size;              /* the stack that the thread was made with; 0 where that isn't known */
-    uint64_t handlers_lowest, handlers_size;    /* the one that its handlers had as the sleep began, or 0 */
-    bool is_marked;             /* it has its mark still, as wulgach_has_mark has it */
-    bool is_on_handlers;        /* the thread runs on its handlers' stack now */
-};
-
-/* Whether the sleep was left: its mark is gone; or its thread calls from above it, or from another stack than a sleep that has a stack of its own, where both
- * calls were made on the stack that the thread was made with and this one is on no stack of a handler's. And whether it matters which stacks
- * the thread has: else they may be anything. Our own rule. */
-bool wulgach_was_left(const struct wulgach_seen_sleep *seen);
-bool wulgach_asks_stacks(const struct wulgach_seen_sleep *seen);
-
-/* Whether a thread can be cancelled outside of its calls that calls once more (pthread_setcancelstate(3)), where it has sleeps that it hasn't left, could be
- * as the outermost call of its sleeps began, and can be now: a call that was left by a jump hasn't allowed it again. And whether it can be at any
- * moment (PTHREAD_CANCEL_ASYNCHRONOUS), which one that was left hasn't forbidden again. Our own rule. */
-bool wulgach_is_cancellable(bool has_sleeps, bool could_be, bool can_be);
-bool wulgach_is_cancellable_at_once(bool has_sleeps, bool could_be, bool can_be);
-
 /* ---- what an instance tells of those that are dormant ---- */
 
 /* The instance has told that its descriptor is ready, by which it is dormant no more: it counts as seen ready, and threads that sleep are woken. */

@@ -16,6 +16,7 @@
 #include "sleep.h"
 #include "unwilling.h"
 #include "wulgach_setup.h"
+#include "wulgach_sleeps.h"
 #include "wulgach_times.h"
 
 #include <errno.h>

@@ -20,6 +20,7 @@
 #include "trace.h"
 #include "waiting.h"
 #include "wulgach_enter.h"
+#include "wulgach_sleeps.h"
 #include "wulgach_taking.h"
 
 #include <linux/io_uring.h>

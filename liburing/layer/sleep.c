@@ -12,6 +12,7 @@
 #include "process.h"
 #include "sleepers.h"
 #include "sockets.h"
+#include "wulgach_sleeps.h"
 
 #include <errno.h>
 #include <stddef.h>

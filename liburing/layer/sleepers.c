@@ -10,7 +10,7 @@
 #include "numbers.h"
 #include "process.h"
 #include "ring.h"
-#include "wulgach_lookout.h"
+#include "wulgach_sleeps.h"
 
 #include <stdlib.h>
 #include <sys/epoll.h>

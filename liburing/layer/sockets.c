@@ -9,6 +9,7 @@
 #include "operations.h"
 #include "ring.h"
 #include "wulgach_results.h"
+#include "wulgach_sleeps.h"
 #include "wulgach_tries.h"
 #include "wulgach_waits.h"
 
