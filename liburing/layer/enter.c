@@ -8,6 +8,7 @@
 #include "duties.h"
 #include "enrolling.h"
 #include "fault.h"
+#include "locking.h"
 #include "openness.h"
 #include "outlook.h"
 #include "policy.h"

@@ -8,6 +8,7 @@
 #include "descriptors.h"
 #include "ends.h"
 #include "glance.h"
+#include "locking.h"
 #include "operations.h"
 #include "process.h"
 #include "sleepers.h"

@@ -7,6 +7,7 @@
 #include "copying.h"
 #include "descriptors.h"
 #include "fault.h"
+#include "locking.h"
 #include "numbers.h"
 #include "process.h"
 #include "ring.h"
