@@ -110,7 +110,7 @@ uint32_t wulgach_asked_descriptors(uint8_t code);
  * is over, where it was asked, and has these by then: the same without. False, and nothing is written: it stays as it is, since it isn't to wait
  * anyway, or its flags aren't known, or it wasn't asked, or is to wait by then. Our own rule. */
 bool wulgach_asked_flags(bool is_known, uint32_t flags, uint32_t *asked);
-bool wulgach_flags_after(bool was_asked, bool is_known, uint32_t flags, uint32_t *behind);
+bool wulgach_flags_after(bool was_asked, bool is_known, uint32_t flags, uint32_t *after);
 
 /* What is known of the lock of a byte that no file has (fcntl(2), F_SETLK), by which processes that have one open file keep each other from such calls. */
 struct wulgach_locked {
@@ -145,7 +145,7 @@ struct wulgach_told_lock {
 bool wulgach_is_own_lock(const struct wulgach_told_lock *told);
 bool wulgach_is_lock_of_others(const struct wulgach_told_lock *told);
 
-/* Whether the list of all locks is read to know if the process has one (wulgach_is_lock_of): it told of another's, behind which there may be its own,
+/* Whether the list of all locks is read to know if the process has one (wulgach_is_lock_of): it told of another's, after which there may be its own,
  * or wasn't answered. */
 bool wulgach_asks_list_of_locks(const struct wulgach_told_lock *told);
 

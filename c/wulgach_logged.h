@@ -79,7 +79,7 @@ bool wulgach_syncs_itself(const struct wulgach_writing *writing);
 bool wulgach_synced_bytes(const struct wulgach_submission *entry, struct wulgach_synced_bytes *bytes);
 
 /* Whether a path is of the folder that counts as the disk, or below, by whether it begins with the folder's and the letter after that, or 0. */
-bool wulgach_is_on_disk(bool begins_with_folder, uint8_t behind);
+bool wulgach_is_on_disk(bool begins_with_folder, uint8_t after);
 
 /* What an open does (enum wulgach_logged_open) that has these flags, whose path names something, also through a symbolic link, or a regular file: O_PATH
  * nothing; O_TMPFILE and O_CREAT make a file, the latter where nothing is; O_TRUNC cuts a regular one, but with O_EXCL. open(2). */

@@ -141,7 +141,9 @@ enum wulgach_step_of_start {
 };
 
 /* As the core has let the request of an entry start, whose files were looked for before or weren't: those before it find theirs, it finds its own, time
- * begins, and its path is looked up where wulgach_looks_at_path says so; `how` as there. */
+ * begins, and its path is looked up, whether it names a pipe: if an open of one waits for its other end, as it does of an entry that is asynchronous
+ * (IOSQE_ASYNC), or whose flags may make or cut a file; and if it is opened to read or to write, and not for both. `how`: the flags of its struct
+ * open_how, where OPENAT2 has its own, or 0. */
 uint32_t wulgach_steps_at_start(const struct wulgach_submission *entry, uint64_t how, bool is_sought);
 
 /* Whether the core lets a request start, which stands as it does for this reason (enum wulgach_why_kind of wulgach.h): it may start, or it is doomed,

@@ -10,19 +10,14 @@
 extern "C" {
 #endif
 
-/* Whether the path of an entry is looked up as its request starts, whether it names a pipe; `how`: the flags of its struct open_how, where OPENAT2 has its
- * own, or 0. If an open of one waits for its other end, as it does of an entry that is asynchronous (IOSQE_ASYNC), or whose flags may make or cut a
- * file; and if it is opened to read or to write, and not for both. */
-bool wulgach_looks_at_path(const struct wulgach_submission *entry, uint64_t how);
-
 /* How a path is opened: the fields of struct open_how (openat2(2)). */
 struct wulgach_how {
     uint64_t flags, mode, resolve;
 };
 
-/* Writes how it is looked up, where `how` is its struct open_how, or zeros: for itself alone (O_PATH), followed as its open follows it (O_NOFOLLOW),
- * and resolved so. And how the pipe is opened that was found by that, through its link in /proc: with its open's flags but O_NOFOLLOW and O_DIRECT,
- * with O_NONBLOCK, its mode, and no way to resolve it. */
+/* Writes how the path of an entry is looked up as its request starts, where `how` is its struct open_how, or zeros: for itself alone (O_PATH), followed as
+ * its open follows it (O_NOFOLLOW), and resolved so. And how the pipe is opened that was found by that, through its link in /proc: with its open's flags
+ * but O_NOFOLLOW and O_DIRECT, with O_NONBLOCK, its mode, and no way to resolve it. */
 void wulgach_looking_how(const struct wulgach_submission *entry, const struct wulgach_how *how, struct wulgach_how *looking);
 void wulgach_found_how(const struct wulgach_submission *entry, const struct wulgach_how *how, struct wulgach_how *found);
 

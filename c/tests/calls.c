@@ -208,7 +208,7 @@ static uint32_t opens(uint8_t code, uint32_t flags, uint64_t how, bool names_pip
 static bool looks(uint8_t code, uint32_t flags, uint64_t how, bool is_async)
 {
     struct wulgach_submission entry = opening(code, flags, is_async);
-    return wulgach_looks_at_path(&entry, how);
+    return wulgach_opening_of(&entry, how, true) == WULGACH_OPENS_PIPE;
 }
 
 /* Whether this is next of an open of a pipe, which ends with that, or with nothing, 7. */

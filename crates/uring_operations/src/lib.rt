@@ -241,7 +241,6 @@ pub use files::pipe_open::ends_with_its_fault;
 pub use files::pipe_open::found_how;
 pub use files::pipe_open::has_writer;
 pub use files::pipe_open::looking_how;
-pub use files::pipe_open::looks_at_path;
 pub use files::pipe_open::opening_next;
 pub use files::pipe_open::opening_of;
 pub use files::pipe_open::opens_again;
