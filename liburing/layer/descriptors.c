@@ -255,7 +255,7 @@ int close_descriptor(int fd)
     return result;
 }
 
-void free_closed(void)
+static void free_closed(void)
 {
     sigset_t own;
     block_signals(&own);

@@ -25,9 +25,6 @@ int close_descriptor(int fd);
 /* Whether a descriptor may be a ring's, by its number alone; to be asked without a lock. */
 bool may_be_ring(int fd);
 
-/* Frees the rings that nobody can reach any more. */
-void free_closed(void);
-
 /* Looks at a few of the rings, in turn: a close that isn't heard may have left one of them, and what that keeps open be waited for. Returns whether
  * any was. */
 bool let_others_go(void);

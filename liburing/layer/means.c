@@ -59,7 +59,8 @@ int32_t make_passing_call(const struct wulgach_system_call *call)
     return (int32_t)pass((long)call->number, (long)call->first, (long)call->second, (long)call->third, (long)call->fourth, (long)call->fifth, (long)call->sixth);
 }
 
-struct wulgach_held held_of(const struct request *request)
+/* What is held for a request, but for the offsets of a splice. */
+static struct wulgach_held held_of(const struct request *request)
 {
     struct iovec first = request->vector_count > 0 ? *request->vectors : (struct iovec){0};
     return (struct wulgach_held){
