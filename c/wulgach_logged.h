@@ -1,5 +1,6 @@
-/* Wulgach: which system calls of a program are logged, so that it is known what a power failure may leave, and what the log has of them, as
- * decisions. The functions are in the library of wulgach.h, and proved as those are. `uring-run` calls them where a run has a log.
+/* Wulgach: which requests and which system calls of a program are logged, so that it is known what a power failure may leave, and what the log has of
+ * them, as decisions. The functions are in the library of wulgach.h, and proved as those are. The layer under liburing calls them, and `uring-run`
+ * where a run has a log.
  */
 #ifndef WULGACH_LOGGED_H
 #define WULGACH_LOGGED_H
@@ -11,6 +12,84 @@
 #ifdef __cplusplus
 extern "C" {
 #endif
+
+/* ---- what is logged of requests, and of what files they are ---- */
+
+/* Of what kind a file is. */
+struct wulgach_synced_kind {
+    bool is_regular;    /* a regular one */
+    bool is_folder;
+};
+
+/* Whether an fsync(2) or fdatasync(2) of a descriptor that is this is taken for done, and isn't made, by whoever needn't wait for the disk: of a regular
+ * file or a folder that counts as open by its number. Our own rule. */
+bool wulgach_counts_as_synced(const struct wulgach_openness *openness, const struct wulgach_synced_kind *kind);
+
+/* What is logged of a request. */
+enum wulgach_logged {
+    WULGACH_LOGS_NOTHING = 0,
+    WULGACH_LOGS_WRITE = 1,
+    WULGACH_LOGS_SYNC = 2
+};
+
+/* Where a write begins. */
+enum wulgach_begins {
+    WULGACH_BEGINS_AT_OFFSET = 0,
+    WULGACH_BEGINS_AT_POSITION = 1,     /* the descriptor's */
+    WULGACH_BEGINS_AT_END = 2           /* the file's */
+};
+
+/* How a write is made, by a request or by a system call. */
+struct wulgach_writing {
+    bool is_known;      /* it is known which flags its open file has: */
+    uint32_t status;    /* these (fcntl(2), F_GETFL) */
+    uint32_t flags;     /* its own (pwritev2(2), RWF_..) */
+    uint64_t offset;    /* or 2^64 - 1 */
+};
+
+/* The bytes of a sync that isn't of the whole file. */
+struct wulgach_synced_bytes {
+    uint64_t begin;
+    uint32_t length;
+};
+
+/* What an open does to a file and its names. */
+enum wulgach_logged_open {
+    WULGACH_OPEN_PLAIN = 0,     /* nothing */
+    WULGACH_OPEN_NAMES = 1,     /* it makes a file with a name, */
+    WULGACH_OPEN_NAMELESS = 2,  /* or one without, */
+    WULGACH_OPEN_CUTS = 3       /* or takes the bytes of one that is there */
+};
+
+/* Whether what happens to a file is logged that is of this kind: a regular one, or a folder. Our own rule. */
+bool wulgach_is_logged_kind(const struct wulgach_synced_kind *kind);
+
+/* What is logged of the request of an entry that is this to the core (enum wulgach_form), has this operation, and is on a stream or isn't: enum
+ * wulgach_logged. A write to what keeps its bytes, and FSYNC. What else changes a file is a system call of its own, and one with a fault isn't
+ * carried out. Our own rule. */
+uint32_t wulgach_logged_of(uint32_t form, uint8_t code, bool is_stream);
+
+/* Where a write begins (enum wulgach_begins): at the end, whatever its offset, with RWF_APPEND, or with O_APPEND without RWF_NOAPPEND; and whether
+ * a sync of its bytes follows it, before it ends: with O_DSYNC, O_SYNC, RWF_DSYNC or RWF_SYNC. */
+uint32_t wulgach_write_begins(const struct wulgach_writing *writing);
+bool wulgach_syncs_itself(const struct wulgach_writing *writing);
+
+/* Writes the bytes that the sync of an entry is of. False, and nothing is written: it is of the whole file, since it has neither an offset nor a
+ * length. One with an offset alone is of no byte. io_uring_prep_fsync(3). */
+bool wulgach_synced_bytes(const struct wulgach_submission *entry, struct wulgach_synced_bytes *bytes);
+
+/* Whether a path is of the folder that counts as the disk, or below, by whether it begins with the folder's and the letter after that, or 0. */
+bool wulgach_is_on_disk(bool begins_with_folder, uint8_t after);
+
+/* What an open does (enum wulgach_logged_open) that has these flags, whose path names something, also through a symbolic link, or a regular file: O_PATH
+ * nothing; O_TMPFILE and O_CREAT make a file, the latter where nothing is; O_TRUNC cuts a regular one, but with O_EXCL. open(2). */
+uint32_t wulgach_open_logged(uint64_t flags, bool is_there, bool is_regular);
+
+/* Writes with which flags an msync(2) is made that waits for the disk, by whoever needn't wait: MS_ASYNC in the place of MS_SYNC. False, and nothing is
+ * written: it doesn't wait, or is refused, and is made as it stands. */
+bool wulgach_unwaited(uint32_t flags, uint32_t *instead);
+
+/* ---- what is logged of system calls ---- */
 
 /* What a system call is logged as. */
 enum wulgach_logged_call {

@@ -141,7 +141,9 @@ enum wulgach_step_of_start {
 };
 
 /* As the core has let the request of an entry start, whose files were looked for before or weren't: those before it find theirs, it finds its own, time
- * begins, and its path is looked up where wulgach_looks_at_path says so; `how` as there. */
+ * begins, and its path is looked up, whether it names a pipe: if an open of one waits for its other end, as it does of an entry that is asynchronous
+ * (IOSQE_ASYNC), or whose flags may make or cut a file; and if it is opened to read or to write, and not for both. `how`: the flags of its struct
+ * open_how, where OPENAT2 has its own, or 0. */
 uint32_t wulgach_steps_at_start(const struct wulgach_submission *entry, uint64_t how, bool is_sought);
 
 /* Whether the core lets a request start, which stands as it does for this reason (enum wulgach_why_kind of wulgach.h): it may start, or it is doomed,
@@ -217,35 +219,6 @@ bool wulgach_asks_broken(const struct wulgach_submission *entry, uint32_t family
  * (wulgach_is_tried_first), and wasn't yet; or its socket was shut down so. And whether that is asked for it: else it may be either. Our own rule. */
 bool wulgach_is_found_ready(bool is_shown, bool is_tried_first, bool was_tried, bool is_broken);
 bool wulgach_asks_breaking(bool is_shown, bool is_tried_first, bool was_tried);
-
-/* ---- sleeps that were left ---- */
-
-/* Whether a sleep has this mark still, where its frame can be read and this was found there, or it can't: a stack that is no memory any more was left.
- * Our own rule. */
-bool wulgach_has_mark(uint64_t mark, bool is_read, uint64_t found);
-
-/* What a thread that calls sees of a sleep of its own, which a signal's handler may have left by a jump. */
-struct wulgach_seen_sleep {
-    uint64_t place;             /* where the sleep has its mark */
-    uint64_t from;              /* where its call was made: there too, or on another stack */
-    uint64_t here;              /* where the thread calls now */
-    uint64_t own_lowest, own_size;              /* the stack that the thread was made with; 0 where that isn't known */
-    uint64_t handlers_lowest, handlers_size;    /* the one that its handlers had as the sleep began, or 0 */
-    bool is_marked;             /* it has its mark still, as wulgach_has_mark has it */
-    bool is_on_handlers;        /* the thread runs on its handlers' stack now */
-};
-
-/* Whether the sleep was left: its mark is gone; or its thread calls from above it, or from another stack than a sleep that has a stack of its own, where both
- * calls were made on the stack that the thread was made with and this one is on no stack of a handler's. And whether it matters which stacks
- * the thread has: else they may be anything. Our own rule. */
-bool wulgach_was_left(const struct wulgach_seen_sleep *seen);
-bool wulgach_asks_stacks(const struct wulgach_seen_sleep *seen);
-
-/* Whether a thread can be cancelled outside of its calls that calls once more (pthread_setcancelstate(3)), where it has sleeps that it hasn't left, could be
- * as the outermost call of its sleeps began, and can be now: a call that was left by a jump hasn't allowed it again. And whether it can be at any
- * moment (PTHREAD_CANCEL_ASYNCHRONOUS), which one that was left hasn't forbidden again. Our own rule. */
-bool wulgach_is_cancellable(bool has_sleeps, bool could_be, bool can_be);
-bool wulgach_is_cancellable_at_once(bool has_sleeps, bool could_be, bool can_be);
 
 /* ---- what an instance tells of those that are dormant ---- */
 

@@ -32,7 +32,7 @@ bool wulgach_has_byte_of(uint64_t from, uint64_t size, uint64_t start, uint64_t 
 
 /* What a line of /proc/PID/maps (proc_pid_maps(5)) says of the memory that it is of. */
 struct wulgach_mapped {
-    uint64_t start, end;    /* the address where it starts, and the one behind it */
+    uint64_t start, end;    /* the address where it starts, and the one after it */
     uint64_t path;          /* where in the line the path of its file begins, or the line's length; */
     uint32_t major;         /* the major number of that file's device, 0 without one */
     bool is_shared;         /* other processes see what is written; */

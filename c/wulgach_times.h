@@ -134,9 +134,6 @@ void wulgach_times_stop(struct wulgach_times *times, struct wulgach_timeout *row
  * if neither is so of one that runs; then nothing changes. */
 int32_t wulgach_times_end(struct wulgach_times *times, struct wulgach_timeout *rows, size_t room, uint64_t number, int32_t *res);
 
-/* The result with which it would end now; -2 (ENOENT): it wouldn't. */
-int32_t wulgach_times_outcome(const struct wulgach_times *times, const struct wulgach_timeout *rows, size_t room, uint64_t number);
-
 /* Whether it runs, and would end now by its count. */
 bool wulgach_times_has_counted(const struct wulgach_times *times, const struct wulgach_timeout *rows, size_t room, uint64_t number);
 

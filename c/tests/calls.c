@@ -1,6 +1,8 @@
 /* By what operations are carried out: with the calls that the manual pages say they are like, made by hand, and the numbers of the C library's header. */
 #define _GNU_SOURCE
 #include "wulgach_calls.h"
+#include "wulgach_openings.h"
+#include "wulgach_results.h"
 
 #include <fcntl.h>
 #include <poll.h>
@@ -206,7 +208,7 @@ static uint32_t opens(uint8_t code, uint32_t flags, uint64_t how, bool names_pip
 static bool looks(uint8_t code, uint32_t flags, uint64_t how, bool is_async)
 {
     struct wulgach_submission entry = opening(code, flags, is_async);
-    return wulgach_looks_at_path(&entry, how);
+    return wulgach_opening_of(&entry, how, true) == WULGACH_OPENS_PIPE;
 }
 
 /* Whether this is next of an open of a pipe, which ends with that, or with nothing, 7. */
@@ -361,50 +363,10 @@ static void look_at_results(void)
     demand(wulgach_signal_after(&(struct wulgach_submission){.opcode = 23}, -27) == SIGXFSZ && wulgach_signal_after(&(struct wulgach_submission){.opcode = 17}, -27) == SIGXFSZ && wulgach_signal_after(&splice, -27) == SIGXFSZ && wulgach_signal_after(&(struct wulgach_submission){.opcode = 22}, -27) == 0 && wulgach_signal_after(&(struct wulgach_submission){.opcode = 23}, -28) == 0, "what may bring a signal");
     struct wulgach_submission put_off = {.opcode = 23, .flags = 16}, write = {.opcode = 23};
     demand(wulgach_signal_after(&splice, -32) == SIGPIPE && wulgach_signal_after(&put_off, -32) == SIGPIPE && wulgach_signal_after(&write, -32) == 0, "what breaks a pipe unheard");
-    static const struct wulgach_openness open = {.is_open = true}, path = {true, true};
-    static const struct wulgach_synced_kind regular = {.is_regular = true}, folder = {.is_folder = true}, pipe = {0};
-    demand(wulgach_counts_as_synced(&open, &regular) && wulgach_counts_as_synced(&open, &folder) && !wulgach_counts_as_synced(&open, &pipe) && !wulgach_counts_as_synced(&path, &regular) && !wulgach_counts_as_synced(&(struct wulgach_openness){0}, &regular), "what is synced");
     demand(wulgach_is_taken_back(SIGXFSZ, true, 0) && wulgach_is_taken_back(SIGXFSZ, true, 1ull << 40) && !wulgach_is_taken_back(SIGXFSZ, true, UINT64_MAX) && !wulgach_is_taken_back(SIGXFSZ, false, 0), "where files may get too long");
     demand(wulgach_is_taken_back(SIGPIPE, true, UINT64_MAX) && wulgach_is_taken_back(SIGPIPE, false, 0) && !wulgach_is_taken_back(0, true, 0), "where that doesn't matter");
     demand(wulgach_is_signal_of_call(0, true) && !wulgach_is_signal_of_call(0, false) && !wulgach_is_signal_of_call(-6, true), "whose signal it is");
     demand(wulgach_is_stream_type(1) && wulgach_is_stream_type(5) && !wulgach_is_stream_type(2) && !wulgach_is_stream_type(0), "streams");
-}
-
-/* The flags are those of open(2) and pwritev2(2), and the bytes of a sync those that a kernel's was seen to write. */
-static void look_at_logs(void)
-{
-    static const struct wulgach_synced_kind regular = {.is_regular = true}, folder = {.is_folder = true}, pipe = {0};
-    demand(wulgach_is_logged_kind(&regular) && wulgach_is_logged_kind(&folder) && !wulgach_is_logged_kind(&pipe), "which files are logged");
-    demand(wulgach_logged_of(WULGACH_FORM_TOKEN, 23, false) == WULGACH_LOGS_WRITE && wulgach_logged_of(WULGACH_FORM_TOKEN, 2, false) == WULGACH_LOGS_WRITE && wulgach_logged_of(WULGACH_FORM_TOKEN, 5, false) == WULGACH_LOGS_WRITE, "writes");
-    demand(wulgach_logged_of(WULGACH_FORM_TOKEN, 3, false) == WULGACH_LOGS_SYNC && wulgach_logged_of(WULGACH_FORM_TOKEN, 3, true) == WULGACH_LOGS_SYNC, "syncs");
-    demand(wulgach_logged_of(WULGACH_FORM_TOKEN, 23, true) == WULGACH_LOGS_NOTHING && wulgach_logged_of(WULGACH_FORM_REFUSED, 23, false) == WULGACH_LOGS_NOTHING && wulgach_logged_of(WULGACH_FORM_REFUSED, 3, false) == WULGACH_LOGS_NOTHING && wulgach_logged_of(WULGACH_FORM_TOKEN, 22, false) == WULGACH_LOGS_NOTHING && wulgach_logged_of(WULGACH_FORM_CANCEL, 14, false) == WULGACH_LOGS_NOTHING, "what isn't logged");
-    enum { APPENDS = 02000, SYNCS_DATA = 010000, SYNCS = 04010000 };
-    static const struct {
-        struct wulgach_writing writing;
-        uint32_t begins;
-        bool syncs;
-    } rows[] = {
-        {{true, 1, 0, 5}, WULGACH_BEGINS_AT_OFFSET, false},
-        {{true, 1, 0, UINT64_MAX}, WULGACH_BEGINS_AT_POSITION, false},
-        {{true, 1 | APPENDS, 0, 5}, WULGACH_BEGINS_AT_END, false},
-        {{true, 1 | APPENDS, 0, UINT64_MAX}, WULGACH_BEGINS_AT_END, false},
-        {{true, 1 | APPENDS, 32, 5}, WULGACH_BEGINS_AT_OFFSET, false},
-        {{true, 1 | APPENDS, 32, UINT64_MAX}, WULGACH_BEGINS_AT_POSITION, false},
-        {{true, 1, 16, 5}, WULGACH_BEGINS_AT_END, false},
-        {{true, 1, 32, 5}, WULGACH_BEGINS_AT_OFFSET, false},
-        {{false, 1 | APPENDS | SYNCS, 0, 5}, WULGACH_BEGINS_AT_OFFSET, false},
-        {{true, 1 | SYNCS_DATA, 0, 5}, WULGACH_BEGINS_AT_OFFSET, true},
-        {{true, 1 | SYNCS, 0, 5}, WULGACH_BEGINS_AT_OFFSET, true},
-        {{true, 1, 2, 5}, WULGACH_BEGINS_AT_OFFSET, true},
-        {{true, 1, 4, 5}, WULGACH_BEGINS_AT_OFFSET, true},
-        {{true, 1, 1 | 8, 5}, WULGACH_BEGINS_AT_OFFSET, false},
-    };
-    for (size_t i = 0; i < sizeof rows / sizeof *rows; i++)
-        demand(wulgach_write_begins(&rows[i].writing) == rows[i].begins && wulgach_syncs_itself(&rows[i].writing) == rows[i].syncs, "a write");
-    struct wulgach_synced_bytes synced = {7, 7};
-    demand(!wulgach_synced_bytes(&(struct wulgach_submission){.opcode = 3}, &synced) && synced.begin == 7 && synced.length == 7, "a sync of all");
-    demand(wulgach_synced_bytes(&(struct wulgach_submission){.opcode = 3, .len = 4096}, &synced) && synced.begin == 0 && synced.length == 4096, "of the first bytes");
-    demand(wulgach_synced_bytes(&(struct wulgach_submission){.opcode = 3, .off = 4096}, &synced) && synced.begin == 4096 && synced.length == 0, "of none");
 }
 
 int main(void)
@@ -413,7 +375,6 @@ int main(void)
     look_at_opens();
     look_at_messages();
     look_at_parts();
-    look_at_logs();
     compare_rows();
     look_at_slots();
     look_at_variants();

@@ -1,4 +1,4 @@
-/* Which system calls are logged as what: the numbers are those of <sys/syscall.h>, and the flags those of the C library. */
+/* Which system calls and requests are logged as what: the numbers are those of <sys/syscall.h>, and the flags those of the C library. */
 #define _GNU_SOURCE
 #include "wulgach_logged.h"
 
@@ -165,6 +165,45 @@ static void look_at_memory(void)
     demand(!wulgach_synced_part(&own, 8192, 1, &part) && !wulgach_synced_part(&elsewhere, 8192, 1, &part) && !wulgach_synced_part(&without, 8192, 1, &part), "memory that isn't a file's");
 }
 
+/* The flags are those of open(2) and pwritev2(2), and the bytes of a sync those that a kernel's was seen to write. */
+static void look_at_logs(void)
+{
+    static const struct wulgach_synced_kind regular = {.is_regular = true}, folder = {.is_folder = true}, pipe = {0};
+    demand(wulgach_is_logged_kind(&regular) && wulgach_is_logged_kind(&folder) && !wulgach_is_logged_kind(&pipe), "which files are logged");
+    static const struct wulgach_openness open = {.is_open = true}, path = {true, true};
+    demand(wulgach_counts_as_synced(&open, &regular) && wulgach_counts_as_synced(&open, &folder) && !wulgach_counts_as_synced(&open, &pipe) && !wulgach_counts_as_synced(&path, &regular) && !wulgach_counts_as_synced(&(struct wulgach_openness){0}, &regular), "what is synced");
+    demand(wulgach_logged_of(WULGACH_FORM_TOKEN, 23, false) == WULGACH_LOGS_WRITE && wulgach_logged_of(WULGACH_FORM_TOKEN, 2, false) == WULGACH_LOGS_WRITE && wulgach_logged_of(WULGACH_FORM_TOKEN, 5, false) == WULGACH_LOGS_WRITE, "writes");
+    demand(wulgach_logged_of(WULGACH_FORM_TOKEN, 3, false) == WULGACH_LOGS_SYNC && wulgach_logged_of(WULGACH_FORM_TOKEN, 3, true) == WULGACH_LOGS_SYNC, "syncs");
+    demand(wulgach_logged_of(WULGACH_FORM_TOKEN, 23, true) == WULGACH_LOGS_NOTHING && wulgach_logged_of(WULGACH_FORM_REFUSED, 23, false) == WULGACH_LOGS_NOTHING && wulgach_logged_of(WULGACH_FORM_REFUSED, 3, false) == WULGACH_LOGS_NOTHING && wulgach_logged_of(WULGACH_FORM_TOKEN, 22, false) == WULGACH_LOGS_NOTHING && wulgach_logged_of(WULGACH_FORM_CANCEL, 14, false) == WULGACH_LOGS_NOTHING, "what isn't logged");
+    enum { APPENDS = 02000, SYNCS_DATA = 010000, SYNCS = 04010000 };
+    static const struct {
+        struct wulgach_writing writing;
+        uint32_t begins;
+        bool syncs;
+    } rows[] = {
+        {{true, 1, 0, 5}, WULGACH_BEGINS_AT_OFFSET, false},
+        {{true, 1, 0, UINT64_MAX}, WULGACH_BEGINS_AT_POSITION, false},
+        {{true, 1 | APPENDS, 0, 5}, WULGACH_BEGINS_AT_END, false},
+        {{true, 1 | APPENDS, 0, UINT64_MAX}, WULGACH_BEGINS_AT_END, false},
+        {{true, 1 | APPENDS, 32, 5}, WULGACH_BEGINS_AT_OFFSET, false},
+        {{true, 1 | APPENDS, 32, UINT64_MAX}, WULGACH_BEGINS_AT_POSITION, false},
+        {{true, 1, 16, 5}, WULGACH_BEGINS_AT_END, false},
+        {{true, 1, 32, 5}, WULGACH_BEGINS_AT_OFFSET, false},
+        {{false, 1 | APPENDS | SYNCS, 0, 5}, WULGACH_BEGINS_AT_OFFSET, false},
+        {{true, 1 | SYNCS_DATA, 0, 5}, WULGACH_BEGINS_AT_OFFSET, true},
+        {{true, 1 | SYNCS, 0, 5}, WULGACH_BEGINS_AT_OFFSET, true},
+        {{true, 1, 2, 5}, WULGACH_BEGINS_AT_OFFSET, true},
+        {{true, 1, 4, 5}, WULGACH_BEGINS_AT_OFFSET, true},
+        {{true, 1, 1 | 8, 5}, WULGACH_BEGINS_AT_OFFSET, false},
+    };
+    for (size_t i = 0; i < sizeof rows / sizeof *rows; i++)
+        demand(wulgach_write_begins(&rows[i].writing) == rows[i].begins && wulgach_syncs_itself(&rows[i].writing) == rows[i].syncs, "a write");
+    struct wulgach_synced_bytes synced = {7, 7};
+    demand(!wulgach_synced_bytes(&(struct wulgach_submission){.opcode = 3}, &synced) && synced.begin == 7 && synced.length == 7, "a sync of all");
+    demand(wulgach_synced_bytes(&(struct wulgach_submission){.opcode = 3, .len = 4096}, &synced) && synced.begin == 0 && synced.length == 4096, "of the first bytes");
+    demand(wulgach_synced_bytes(&(struct wulgach_submission){.opcode = 3, .off = 4096}, &synced) && synced.begin == 4096 && synced.length == 0, "of none");
+}
+
 int main(void)
 {
     look_at_calls();
@@ -173,6 +212,7 @@ int main(void)
     look_at_bytes();
     look_at_names();
     look_at_memory();
+    look_at_logs();
     puts("logged: as called for");
     return 0;
 }

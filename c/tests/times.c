@@ -77,7 +77,7 @@ static void check_held(void)
     times.posted = 4;
     struct wulgach_start begun = {.number = 1, .more = 100, .count = 2}, other = {.number = 2, .more = 100};
     demand(wulgach_times_start(&times, rows, ROOM, &begun, 2) == 0 && wulgach_times_start(&times, rows, ROOM, &other, 2) == 0, "two start");
-    demand(wulgach_times_outcome(&times, rows, ROOM, 1) == 0 && wulgach_times_outcome(&times, rows, ROOM, 2) == -2, "one has counted enough");
+    demand(wulgach_times_has_counted(&times, rows, ROOM, 1) && !wulgach_times_has_counted(&times, rows, ROOM, 2), "one has counted enough");
 }
 
 static void check_counts_and_changes(void)
@@ -92,13 +92,13 @@ static void check_counts_and_changes(void)
     wulgach_course_note(&course, WULGACH_FACT_STARTED, 0);
     demand(!wulgach_times_count_end(&times, &course, true, true), "one doesn't");
     demand(times.posted == 1, "a timeout that its time has ended doesn't count");
-    demand(wulgach_times_outcome(&times, rows, ROOM, 1) == -2 && !wulgach_times_has_counted(&times, rows, ROOM, 1), "one completion isn't two");
+    demand(!wulgach_times_has_counted(&times, rows, ROOM, 1), "one completion isn't two");
     demand(wulgach_times_reached(&times, rows, ROOM, &reached) == -2 && reached.number == 7, "no count is reached");
     wulgach_course_note(&course, WULGACH_FACT_CANCELLED, 0);
     wulgach_times_count_end(&times, &course, true, false);
     demand(times.posted == 1, "what is skipped doesn't count");
     wulgach_times_count_end(&times, &course, true, true);
-    demand(wulgach_times_outcome(&times, rows, ROOM, 1) == 0 && wulgach_times_outcome(&times, rows, ROOM, 2) == -2 && wulgach_times_has_counted(&times, rows, ROOM, 1) && !wulgach_times_has_counted(&times, rows, ROOM, 2), "two are");
+    demand(wulgach_times_has_counted(&times, rows, ROOM, 1) && !wulgach_times_has_counted(&times, rows, ROOM, 2), "two are");
     demand(wulgach_times_reached(&times, rows, ROOM, &reached) == 0 && reached.number == 1, "the first one's count is reached");
     demand(wulgach_times_end(&times, rows, ROOM, 1, &res) == 0 && res == 0, "it ends by its count");
     wulgach_times_move_to(&times, 50);

@@ -7,15 +7,13 @@
  */
 #define _GNU_SOURCE
 #include "descriptors.h"
-#include "duties.h"
-#include "extras.h"
 #include "numbers.h"
 #include "policy.h"
 #include "process.h"
 #include "reached.h"
-#include "sleep.h"
 #include "unwilling.h"
 #include "wulgach_setup.h"
+#include "wulgach_sleeps.h"
 #include "wulgach_times.h"
 
 #include <errno.h>
@@ -257,7 +255,7 @@ int close_descriptor(int fd)
     return result;
 }
 
-void free_closed(void)
+static void free_closed(void)
 {
     sigset_t own;
     block_signals(&own);
@@ -358,55 +356,6 @@ void release_ring(struct ring *ring)
 {
     __atomic_sub_fetch(&ring->calls, 1, __ATOMIC_SEQ_CST);
     look_behind_call();
-}
-
-struct ring *lock_ring(int fd)
-{
-    struct ring *ring = hold_ring(fd);
-    if (!ring)
-        return NULL;
-    pthread_mutex_lock(&ring->lock);
-    ring->called_fd = fd;
-    return ring;
-}
-
-void call_by(struct ring *ring, int fd)
-{
-    if (ring->ready_fd >= 0)
-        ring->called_fd = is_reached_by(ring, fd) ? fd : find_descriptor(ring);
-}
-
-/* A message that comes while the lock is held is posted by who holds it; one that comes between its last look and its
- * unlocking, by who looks again. When that is done, the library says. */
-__attribute__((noinline)) static void visit_with_messages(struct ring *ring, int fd)
-{
-    bool is_left = false, may_post = false;
-    while (wulgach_visits_again(has_messages(ring), is_left, may_post) && pthread_mutex_trylock(&ring->lock) == 0) {
-        call_by(ring, fd);
-        post_messages(ring);
-        is_left = has_messages(ring);
-        may_post = is_left && can_post_extra(ring);
-        do_duties_after_posting(ring);
-        wake_sleepers(ring);
-        pthread_mutex_unlock(&ring->lock);
-    }
-}
-
-void visit_ring(struct ring *ring, int fd)
-{
-    if (has_messages(ring))
-        visit_with_messages(ring, fd);
-}
-
-void unlock_ring(struct ring *ring)
-{
-    if (ring->left & WULGACH_LEAVES_END)
-        return;
-    int fd = ring->called_fd;
-    wake_sleepers(ring);
-    pthread_mutex_unlock(&ring->lock);
-    visit_ring(ring, fd);
-    release_ring(ring);
 }
 
 bool find_index(int fd, uint32_t *index)

@@ -7,11 +7,6 @@
 /* Puts a ring that is made among the others, and frees those that nobody can reach any more. */
 void add_ring(struct ring *ring);
 
-/* The ring of a descriptor, with its lock held; NULL if it is none of this process's. It lives at least until it is
- * unlocked, also if its descriptor is closed. */
-struct ring *lock_ring(int fd);
-void unlock_ring(struct ring *ring);
-
 /* The ring of a descriptor, which isn't locked; NULL if it is none of this process's. It lives at least until it is
  * released. */
 struct ring *hold_ring(int fd);
@@ -19,12 +14,6 @@ void release_ring(struct ring *ring);
 
 /* What this process leaves undone with a ring, as the library says. */
 uint32_t what_is_left(const struct ring *ring);
-
-/* The lock of a ring is held again in a call by this descriptor, which another thread may have closed: then another that is open stands for it. */
-void call_by(struct ring *ring, int fd);
-
-/* Posts the messages that wait for a ring with this descriptor, unless another thread has it: that one does. */
-void visit_ring(struct ring *ring, int fd);
 
 /* Whether a descriptor is a ring's; and then that one's number among the process's rings. */
 bool is_ring(int fd);
@@ -35,9 +24,6 @@ int close_descriptor(int fd);
 
 /* Whether a descriptor may be a ring's, by its number alone; to be asked without a lock. */
 bool may_be_ring(int fd);
-
-/* Frees the rings that nobody can reach any more. */
-void free_closed(void);
 
 /* Looks at a few of the rings, in turn: a close that isn't heard may have left one of them, and what that keeps open be waited for. Returns whether
  * any was. */

@@ -7,6 +7,7 @@
 #include "readiness.h"
 #include "streams.h"
 #include "waiting.h"
+#include "wulgach_sleeps.h"
 
 static void do_duty(struct ring *ring, enum wulgach_duty duty)
 {

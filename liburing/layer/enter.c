@@ -8,6 +8,7 @@
 #include "duties.h"
 #include "enrolling.h"
 #include "fault.h"
+#include "locking.h"
 #include "openness.h"
 #include "outlook.h"
 #include "policy.h"
@@ -20,6 +21,7 @@
 #include "trace.h"
 #include "waiting.h"
 #include "wulgach_enter.h"
+#include "wulgach_sleeps.h"
 #include "wulgach_taking.h"
 
 #include <linux/io_uring.h>

@@ -8,6 +8,7 @@
 #include "duties.h"
 #include "ends.h"
 #include "fault.h"
+#include "locking.h"
 #include "openness.h"
 #include "ring.h"
 #include "steps.h"

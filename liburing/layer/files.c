@@ -14,6 +14,7 @@
 #include "numbers.h"
 #include "openness.h"
 #include "ring.h"
+#include "wulgach_results.h"
 #include "wulgach_tables.h"
 
 #include <fcntl.h>

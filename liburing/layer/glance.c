@@ -4,7 +4,7 @@
 #define _GNU_SOURCE
 #include "glance.h"
 #include "signals.h"
-#include "wulgach_waits.h"
+#include "wulgach_sleeps.h"
 
 #include <errno.h>
 #include <fcntl.h>

@@ -2,7 +2,7 @@
 #define _GNU_SOURCE
 #include "logged.h"
 #include "logging.h"
-#include "wulgach_calls.h"
+#include "wulgach_logged.h"
 
 #include <string.h>
 

@@ -16,6 +16,8 @@
 #include "syncing.h"
 #include "timeouts.h"
 #include "unwilling.h"
+#include "wulgach_openings.h"
+#include "wulgach_results.h"
 #include "wulgach_tables.h"
 
 #include <errno.h>
@@ -57,7 +59,8 @@ int32_t make_passing_call(const struct wulgach_system_call *call)
     return (int32_t)pass((long)call->number, (long)call->first, (long)call->second, (long)call->third, (long)call->fourth, (long)call->fifth, (long)call->sixth);
 }
 
-struct wulgach_held held_of(const struct request *request)
+/* What is held for a request, but for the offsets of a splice. */
+static struct wulgach_held held_of(const struct request *request)
 {
     struct iovec first = request->vector_count > 0 ? *request->vectors : (struct iovec){0};
     return (struct wulgach_held){
@@ -108,29 +111,11 @@ static int32_t update_listed(struct ring *ring, const struct wulgach_means *mean
     return update_files(ring, &lists);
 }
 
-static int32_t carry_out_by(struct ring *ring, struct request *request, const struct wulgach_means *means)
+/* What makes no call of its own: whoever keeps the ring does it. */
+static int32_t carry_out_on_ring(struct ring *ring, struct request *request, const struct wulgach_means *means)
 {
     const struct io_uring_sqe *entry = &request->entry;
     switch (means->kind) {
-    case WULGACH_BY_CALL:
-        return make_call_on(ring, request, &means->call);
-    case WULGACH_BY_SPLICE:
-        return make_call_of(request, &means->call);
-    case WULGACH_BY_OPENING:
-        return open_file(ring, request, means);
-    case WULGACH_BY_SYNC:
-        return is_taken_for_synced(request->fd) ? wulgach_done_result(submission_of(entry), 0, 0) : make_call(&means->call);
-    case WULGACH_BY_CLOSE:
-        return close_file(ring, request, &means->call);
-    case WULGACH_BY_CONNECT: {
-        int32_t res = make_call_of(request, &means->call);
-        request->done |= wulgach_has_begun(res);
-        return res;
-    }
-    case WULGACH_BY_SEND:
-    case WULGACH_BY_RECEIVE:
-    case WULGACH_BY_RECEIVE_MESSAGE:
-        return move_message(request, means);
     case WULGACH_BY_SLOT_REMOVAL:
         return remove_file(ring, means->slot);
     case WULGACH_BY_FILES_PLACING:
@@ -155,6 +140,33 @@ static int32_t carry_out_by(struct ring *ring, struct request *request, const st
         return remove_timeout(ring, request);
     default:
         stop_program("an operation is carried out by nothing");
+    }
+}
+
+static int32_t carry_out_by(struct ring *ring, struct request *request, const struct wulgach_means *means)
+{
+    switch (means->kind) {
+    case WULGACH_BY_CALL:
+        return make_call_on(ring, request, &means->call);
+    case WULGACH_BY_SPLICE:
+        return make_call_of(request, &means->call);
+    case WULGACH_BY_OPENING:
+        return open_file(ring, request, means);
+    case WULGACH_BY_SYNC:
+        return is_taken_for_synced(request->fd) ? wulgach_done_result(submission_of(&request->entry), 0, 0) : make_call(&means->call);
+    case WULGACH_BY_CLOSE:
+        return close_file(ring, request, &means->call);
+    case WULGACH_BY_CONNECT: {
+        int32_t res = make_call_of(request, &means->call);
+        request->done |= wulgach_has_begun(res);
+        return res;
+    }
+    case WULGACH_BY_SEND:
+    case WULGACH_BY_RECEIVE:
+    case WULGACH_BY_RECEIVE_MESSAGE:
+        return move_message(request, means);
+    default:
+        return carry_out_on_ring(ring, request, means);
     }
 }
 

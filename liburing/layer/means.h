@@ -10,9 +10,6 @@ struct ring;
 int32_t make_call(const struct wulgach_system_call *call);
 int32_t make_passing_call(const struct wulgach_system_call *call);
 
-/* What is held for a request, but for the offsets of a splice. */
-struct wulgach_held held_of(const struct request *request);
-
 /* Carries out all but transfers, polls and no-ops. Of what may have to wait, one call. */
 int32_t carry_out_by_means(struct ring *ring, struct request *request);
 

@@ -7,6 +7,7 @@
 #include "numbers.h"
 #include "operations.h"
 #include "signals.h"
+#include "wulgach_openings.h"
 
 #include <errno.h>
 #include <fcntl.h>

@@ -12,6 +12,7 @@
 #include "splices.h"
 #include "trying.h"
 #include "unwilling.h"
+#include "wulgach_results.h"
 #include "wulgach_tries.h"
 
 #include <errno.h>
@@ -220,7 +221,8 @@ static struct wulgach_nature nature_without_buffer(const struct request *request
     return nature;
 }
 
-int32_t fault_without_buffer(const struct request *request)
+/* With what one ends that finds no provided buffer. */
+static int32_t fault_without_buffer(const struct request *request)
 {
     struct wulgach_nature nature = nature_without_buffer(request);
     return wulgach_no_buffer_fault(submission_of(&request->entry), &nature);

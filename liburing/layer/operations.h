@@ -69,8 +69,7 @@ int32_t carry_out(struct ring *ring, struct request *request, enum injection fau
 /* How many bytes it has moved that would have to wait for more. */
 int32_t moved_so_far(const struct request *request);
 
-/* With what a request ends that finds no provided buffer, or whose registered one has this fault: its descriptor is asked what it is only then. */
-int32_t fault_without_buffer(const struct request *request);
+/* With what a request ends whose registered buffer has this fault: its descriptor is asked what it is only then. */
 int32_t fault_of_buffer(const struct request *request, int32_t why);
 
 /* Whether a result is a success, as links and IOSQE_CQE_SKIP_SUCCESS see it. */

@@ -22,6 +22,7 @@
 #include "timeouts.h"
 #include "ways.h"
 #include "wulgach_cancel.h"
+#include "wulgach_results.h"
 #include "wulgach_taking.h"
 
 

@@ -8,8 +8,8 @@
  */
 #define _GNU_SOURCE
 #include "readiness.h"
-#include "descriptors.h"
 #include "fault.h"
+#include "locking.h"
 #include "numbers.h"
 #include "operations.h"
 #include "passing.h"

@@ -9,6 +9,7 @@
 #include "eventfds.h"
 #include "groups.h"
 #include "injection.h"
+#include "locking.h"
 #include "openness.h"
 #include "passing.h"
 #include "policy.h"

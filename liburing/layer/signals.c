@@ -8,8 +8,8 @@
 #include "signals.h"
 #include "fault.h"
 #include "process.h"
-#include "wulgach_calls.h"
 #include "wulgach_enter.h"
+#include "wulgach_results.h"
 
 #include <linux/io_uring.h>
 #include <stdlib.h>

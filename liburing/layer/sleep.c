@@ -8,10 +8,12 @@
 #include "descriptors.h"
 #include "ends.h"
 #include "glance.h"
+#include "locking.h"
 #include "operations.h"
 #include "process.h"
 #include "sleepers.h"
 #include "sockets.h"
+#include "wulgach_sleeps.h"
 
 #include <errno.h>
 #include <stddef.h>

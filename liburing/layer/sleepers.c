@@ -7,10 +7,11 @@
 #include "copying.h"
 #include "descriptors.h"
 #include "fault.h"
+#include "locking.h"
 #include "numbers.h"
 #include "process.h"
 #include "ring.h"
-#include "wulgach_lookout.h"
+#include "wulgach_sleeps.h"
 
 #include <stdlib.h>
 #include <sys/epoll.h>

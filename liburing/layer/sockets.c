@@ -8,6 +8,8 @@
 #include "numbers.h"
 #include "operations.h"
 #include "ring.h"
+#include "wulgach_results.h"
+#include "wulgach_sleeps.h"
 #include "wulgach_tries.h"
 #include "wulgach_waits.h"
 

@@ -2,7 +2,7 @@
 #define _GNU_SOURCE
 #include "syncing.h"
 #include "openness.h"
-#include "wulgach_calls.h"
+#include "wulgach_logged.h"
 
 #include <pthread.h>
 #include <stdlib.h>

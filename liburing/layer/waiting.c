@@ -7,6 +7,7 @@
 #include "progress.h"
 #include "sleep.h"
 #include "timeouts.h"
+#include "wulgach_sleeps.h"
 
 #include <string.h>
 

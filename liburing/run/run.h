@@ -17,7 +17,6 @@
 void say(const char *message, const char *of);
 
 /* The C library's calls after those that are preloaded. */
-int real_sigaction(int number, const struct sigaction *action, struct sigaction *before);
 int real_sigmask(int how, const sigset_t *set, sigset_t *before);
 
 /* The set without SIGSYS, in this copy. NULL stays NULL. */

@@ -33,7 +33,7 @@ static void *next(const char *name)
     return dlsym(RTLD_NEXT, name);
 }
 
-int real_sigaction(int number, const struct sigaction *action, struct sigaction *before)
+static int real_sigaction(int number, const struct sigaction *action, struct sigaction *before)
 {
     static int (*call)(int, const struct sigaction *, struct sigaction *);
     if (!call)

@@ -1,5 +1,5 @@
 -- What is remembered of a descriptor's number, in words that C can read and keeps.
-use Rattle.std.specs.Prelude.{ℕ, true, false, ◌==◌, if◌then◌else◌}
+use Rattle.std.specs.Prelude.{ℕ, ◌==◌, if◌then◌else◌}
 use Rattle.uring_operations.specs.declared.files.remembering.Remembered.{Remembered}
 use Rattle.uring_operations.specs.declared.files.remembering.Remembered.TheVariants.{Nothing, File, InMemory, Slow}
 

@@ -1,5 +1,5 @@
 -- When a sleep begins and what came of it, in words that C can read.
-use Rattle.std.specs.Prelude.{ℕ, Bool, not, Option, Some, None, ◌==◌, if◌then◌else◌}
+use Rattle.std.specs.Prelude.{ℕ, not, Option, Some, None, ◌==◌, if◌then◌else◌}
 use Rattle.uring_enter.specs.declared.waiting.sleeping.Beginning.{Beginning}
 use Rattle.uring_enter.specs.declared.waiting.sleeping.Beginning.TheVariants.{Fails, Wakes, Sleeps}
 use Rattle.uring_enter.specs.declared.rings.closing.BeforeSleep.{BeforeSleep}

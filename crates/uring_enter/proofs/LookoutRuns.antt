@@ -2,7 +2,6 @@
 use Rattle.std.proofs.Common.{◌≡◌, ◌≤◌, ℕ, ◌+◌, Bool, true, false, not, ◌&&◌, ◌||◌, ◌==◌, ◌⊎◌, inl, inr, List, [], ◌∷◌, ◌++◌, if◌then◌else◌, refl, sym, ap, ◌∙◌, arith}
 use Rattle.std.proofs.lemmas.Bool.{false≢true, true≢false, or_parts}
 use Rattle.uring_enter.specs.TakingUp.Drainings as drains
-use Rattle.uring_enter.specs.TakingUp.Drainings.{Drainage}
 use Rattle.uring_enter.specs.Waiting.Lookouts.{Happening, Found, Started, Left, Touched, Updated, Waited, Moved, Told, Heard, Opened, Ended, Changed, Woke, have_to_wait, makes_ready, moments, has_moved, has_changed, EndLetsNone, LooksAfresh, WakesForEach, TakesItsOwn}
 use Rattle.uring_operations.specs.Requests.Readiness.{can_finish}
 use Rattle.uring_enter.proofs.Counts.{grows}

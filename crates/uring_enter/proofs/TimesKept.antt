@@ -7,8 +7,8 @@ use Rattle.uring_operations.specs.declared.entries.timeout.Timeout.{Timeout}
 use Rattle.uring_enter.specs.declared.call.wait.WakeSources.{WakeSources}
 use Rattle.uring_enter.specs.declared.call.wait.Woken.{Woken}
 use Rattle.uring_enter.specs.declared.call.wait.Woken.TheVariants.{TimedOut, Other}
-use Rattle.uring_operations.specs.Entries.Timeouts.{Event, Changed, later, time, posted, running, is_other, with_expiry, ends_before, IsNext, IsNextOf, is_over, outcome, has_counted, NoneIsOver, IsDueOf, IsEarliest, HasNone, IsRow, EndsNone, EndsWith, AreApart}
-use Rattle.uring_enter.specs.Time.Kept.{HasCounted, counted_found, due_of, earliest_of, outcome_at, outcome_found}
+use Rattle.uring_operations.specs.Entries.Timeouts.{Event, Changed, later, time, posted, running, is_other, with_expiry, ends_before, IsNext, IsNextOf, is_over, outcome, has_counted, NoneIsOver, IsDueOf, IsEarliest, HasNone, IsRow, EndsNone, AreApart}
+use Rattle.uring_enter.specs.Time.Kept.{HasCounted, counted_found, due_of, earliest_of, outcome_at}
 use Rattle.uring_enter.specs.Call.Waits.{has_any, IsWoken, IsPassing, IsPassingBy, woken_of, passing_of}
 
 -- none is among none
@@ -114,33 +114,13 @@ none_when number rows None none is = none
 none_when number rows (Some t) row is = absurd (false≢true (sym is))
 
 -- the rest that have its number are it
-ends_none : (log : List Event) (number : ℕ) (t : Timeout) → AreApart (running log) → IsRow number (running log) t
+pub none_ends : (log : List Event) (number : ℕ) (t : Timeout) → AreApart (running log) → IsRow number (running log) t
     → outcome log t ≡ None → EndsNone log number
-ends_none log number t apart row none u other =
+none_ends log number t apart row none u other =
     let same : t ≡ u = apart t u row.0 other.0 (row.1 ∙ sym other.1) in
     let P : Timeout → Type 0 = λ v. outcome log v ≡ None in subst P same none
 
-outcome_by : (log : List Event) (number : ℕ) (t : Timeout) (res : Option ℤ) → outcome log t ≡ res
-    → AreApart (running log) → IsRow number (running log) t → MatchOption res (EndsNone log number) (EndsWith log number)
-outcome_by log number t None is apart row = ends_none log number t apart row is
-outcome_by log number t (Some res) is apart row = (t, row, is)
-
-outcome_among : (log : List Event) (number : ℕ) (found : Option Timeout) → AreApart (running log)
-    → MatchOption found (HasNone number (running log)) (IsRow number (running log))
-    → MatchOption (outcome_found (posted log) (time log) found) (EndsNone log number) (EndsWith log number)
-outcome_among log number None apart none = λ u other. absurd (none u other.0 other.1)
-outcome_among log number (Some t) apart row = outcome_by log number t (outcome log t) refl apart row
-
-pub outcome_is : (log : List Event) (number sent now : ℕ) (found : Option Timeout) (result : Option ℤ)
-    → sent ≡ posted log → now ≡ time log → AreApart (running log)
-    → MatchOption found (HasNone number (running log)) (IsRow number (running log))
-    → result ≡ outcome_found sent now found → MatchOption result (EndsNone log number) (EndsWith log number)
-outcome_is log number sent now found result one two apart row made =
-    let P : Option ℤ → Type 0 = λ r. MatchOption r (EndsNone log number) (EndsWith log number) in
-    subst P (sym (made ∙ ap (λ n. outcome_found n now found) one ∙ ap (λ n. outcome_found (posted log) n found) two))
-    (outcome_among log number found apart row)
-
--- and whether it ends by its count
+-- whether one ends by its count
 counts_by : (log : List Event) (number : ℕ) (t : Timeout) (counts : Bool) → has_counted log t ≡ counts
     → AreApart (running log) → IsRow number (running log) t → HasCounted log number counts
 counts_by log number t true is apart row = (t, row, is)
@@ -177,10 +157,6 @@ pub outcome_told : (log : List Event) (t : Timeout) (sent now : ℕ) (told given
     → told ≡ outcome_at sent now t → told ≡ given → outcome log t ≡ given
 outcome_told log t sent now told given one two made is =
     sym (made ∙ ap (λ n. outcome_at n now t) one ∙ ap (λ n. outcome_at (posted log) n t) two) ∙ is
-
-pub none_ends : (log : List Event) (number : ℕ) (t : Timeout) → AreApart (running log) → IsRow number (running log) t
-    → outcome log t ≡ None → EndsNone log number
-none_ends log number t apart row none = ends_none log number t apart row none
 
 pub none_runs : (log : List Event) (number : ℕ) → HasNone number (running log) → EndsNone log number
 none_runs log number none u other = absurd (none u other.0 other.1)

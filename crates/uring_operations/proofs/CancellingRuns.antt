@@ -1,5 +1,5 @@
 -- The law of what is done with a request that a cancel has found.
-use Rattle.std.proofs.Common.{◌≡◌, Bool, true, false, refl}
+use Rattle.std.proofs.Common.{true, false, refl}
 use Rattle.std.proofs.lemmas.Bool.{false≢true}
 use Rattle.uring_operations.specs.Requests.Cancelling.{MarksAtLast}
 

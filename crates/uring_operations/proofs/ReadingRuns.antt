@@ -1,8 +1,8 @@
 -- The law that each byte which counts as readable stands in a page of which one was read.
-use Rattle.std.proofs.Common.{◌≡◌, ℕ, ◌<◌, ◌≤◌, ◌+◌, ◌-◌, ◌*◌, ◌/◌, ◌^◌, Bool, true, false, ◌&&◌, ◌==◌, nat_lt, Option, Some, None, if◌then◌else◌, refl, arith}
+use Rattle.std.proofs.Common.{◌≡◌, ℕ, ◌<◌, ◌≤◌, ◌+◌, ◌-◌, ◌/◌, Bool, true, false, ◌&&◌, ◌==◌, nat_lt, Some, None, if◌then◌else◌, refl, arith}
 use Rattle.std.proofs.lemmas.Bool.{eqb-true, false≢true}
 use Rattle.std.proofs.lemmas.Bool.Decides.{nat_tests}
-use Rattle.uring_operations.specs.Files.LoggedBytes.{asked_at, is_run, place_of, page_begin, read_until, readable_bytes, IsReadBy, ReadsWhatWasRead}
+use Rattle.uring_operations.specs.Files.LoggedBytes.{is_run, place_of, page_begin, read_until, IsReadBy, ReadsWhatWasRead}
 
 -- the question about a byte's page, which is this many after the first
 abbrev number_of : (begin k : ℕ) → ℕ

@@ -3,7 +3,6 @@ use Rattle.std.proofs.Common.{◌≡◌, ℕ, Bool, true, false, not, ◌&&◌, 
 use Rattle.std.specs.Int.Bits.{bit_and, and_zero_l}
 use Rattle.std.proofs.lemmas.Nat.{and_assoc}
 use Rattle.std.proofs.lemmas.Bool.{eqb-true, false≢true}
-use Rattle.uring_operations.specs.declared.files.logging.LoggedOpen.{LoggedOpen}
 use Rattle.uring_operations.specs.declared.files.logging.LoggedOpen.TheVariants.{Plain, Names, Nameless, Cuts}
 use Rattle.uring_operations.specs.Entries.Clocks.{has_some}
 use Rattle.uring_operations.specs.Files.LoggedCalls.{TrapsWhatChanges}

@@ -1,5 +1,5 @@
 -- What becomes of a list of files or buffers, by what its rows have come to, and in which order the slots of a table go. io_uring_register(2), IORING_REGISTER_FILES2, IORING_REGISTER_FILES_UPDATE2 and IORING_UNREGISTER_FILES; that none is registered after a fault, and which slot goes first, is what Linux 6.18 was seen to do.
-use Rattle.std.specs.Prelude.{◌≡◌, ◌+◌, ◌-◌, ◌<◌, ◌≤◌, ℕ, ℤ, Bool, true, false, not, ◌&&◌, nat_lt, Option, Some, None, if◌then◌else◌}
+use Rattle.std.specs.Prelude.{◌≡◌, ◌-◌, ◌<◌, ◌≤◌, ℕ, ℤ, Bool, true, false, not, ◌&&◌, nat_lt, Option, Some, None, if◌then◌else◌}
 use Rattle.uring_register.specs.declared.listing.Listing.{Listing}
 use Rattle.uring_register.specs.declared.listing.Listing.TheVariants.{Takes, Puts, Drops}
 use Rattle.uring_entry.specs.Errors.{is_below}

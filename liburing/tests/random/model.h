@@ -62,10 +62,9 @@ struct call {
     bool is_getting;
     int64_t limit, deadline;            /* the deadline: in virtual time, or negative */
     int64_t began;                      /* in virtual time */
-    int64_t elapsed;                    /* really */
     long result;
     uint32_t accepted;                  /* by the model */
-    uint32_t ready_before, ready;       /* completions that can be reaped */
+    uint32_t ready;                     /* completions that can be reaped */
     uint32_t tail_before, tail;
     uint32_t flags, dropped, head, overflow;
     bool is_fired;                      /* a timeout ended in it */

@@ -161,7 +161,6 @@ static void enter(struct world *world, uint32_t to_submit, uint32_t min_complete
     uint32_t taken = model->taken;
     look(world, &call);
     call.tail_before = call.tail;
-    call.ready_before = call.ready;
     model->is_late = world->is_kernel || call.flags & IORING_SQ_CQ_OVERFLOW;
     model->call = &call;
     call.began = model->now;

@@ -6,7 +6,7 @@ ghost use Rattle.uring_enter.specs.declared.call.wait.Wait.{Wait};
 ghost use Rattle.uring_enter.specs.declared.call.wait.Woken.{Woken};
 ghost use Rattle.uring_operations.specs.Entries.Timeouts.{Event, Started, Posted, Changed, Stopped, Clock, Passed, Ended};
 ghost use Rattle.uring_operations.specs.Entries.Timeouts.{nanoseconds_of, running, outcome, is_over, cancelled_by, fires, linked_outcome};
-ghost use Rattle.uring_operations.specs.Entries.Timeouts.{posted, NoneIsOver, IsNext, IsReachedOf, AreApart, HasNone, IsRow, EndsNone, EndsWith};
+ghost use Rattle.uring_operations.specs.Entries.Timeouts.{posted, NoneIsOver, IsNext, IsReachedOf, AreApart, HasNone, IsRow, EndsNone};
 ghost use Rattle.uring_enter.specs.Time.Held.{Posting, OfEnd, AtOnce, KeepsHeld, held_for};
 ghost use Rattle.uring_enter.specs.Time.Held.{is_at_once as posts_at_once};
 ghost use Rattle.uring_enter.specs.Time.Kept.{HasCounted, KeepsTime};
@@ -172,18 +172,6 @@ pub extern "C" fn wulgach_times_end(
     };
     *res = ended;
     0
-}
-
-/// The result with which the timeout of this number would end now, or -2.
-#[unsafe(no_mangle)]
-pub extern "C" fn wulgach_times_outcome(times: &Times, rows: &[Timeout], number: u64) -> i32
-    ensures { (log : List Event) → KeepsTime log times.now rows.now → AreApart (running log)
-        → ((result ≡ negsuc 1) × EndsNone log number) ⊎ EndsWith log number result }
-{
-    match times.outcome(rows, number) {
-        Some(res) => res,
-        None => -2,
-    }
 }
 
 /// Whether the timeout of this number runs, and would end now by its count.

@@ -1,10 +1,11 @@
-//! What counts as an open descriptor or a count, what an operation ends with that had a fault as it started, for what a splice is polled, and which signal is taken back, for C: functions of `c/wulgach_calls.h` and `c/wulgach_waits.h`.
+//! What counts as an open descriptor or a count, what an operation ends with that had a fault as it started, for what a splice is polled, and which signal is taken back, for C: functions of `c/wulgach_logged.h`, `c/wulgach_results.h` and `c/wulgach_waits.h`.
 ghost use Rattle.std.specs.Prelude.{◌≡◌};
 ghost use Rattle.uring_operations.specs.Files.Descriptors as found;
 ghost use Rattle.uring_operations.specs.Files.Openness as opened;
 ghost use Rattle.uring_operations.specs.Requests.Readiness as ready;
 ghost use Rattle.uring_operations.specs.Calls.Signals as signals;
 ghost use Rattle.uring_operations.specs.Calls.Splices as splices;
+ghost use Rattle.uring_operations.specs.Files.StartFaults as starting;
 ghost use Rattle.uring_operations.specs.Files.Syncing as syncing;
 ghost use Rattle.uring_c.specs.UnknownForm.{known_of};
 
@@ -47,7 +48,7 @@ pub extern "C" fn wulgach_is_missing(
 /// Whether it matters to what the request of an entry ends with, which had this fault as it started, whether its group has a buffer.
 #[unsafe(no_mangle)]
 pub extern "C" fn wulgach_fault_asks_buffer(entry: &Submission, fault: i32) -> bool
-    ensures { result ≡ found.fault_asks_buffer entry.now fault }
+    ensures { result ≡ starting.fault_asks_buffer entry.now fault }
 {
     fault_asks_buffer(entry, fault)
 }
@@ -60,7 +61,7 @@ pub extern "C" fn wulgach_ends_at_start(
     has_buffer: bool,
     nature: &Nature,
 ) -> i32
-    ensures { result ≡ found.ends_at_start entry.now fault has_buffer nature.now }
+    ensures { result ≡ starting.ends_at_start entry.now fault has_buffer nature.now }
 {
     ends_at_start(entry, fault, has_buffer, nature)
 }
@@ -84,7 +85,7 @@ pub extern "C" fn wulgach_is_counter_name(name: &[u8]) -> bool
 /// Whether the descriptor of the transfer of an entry, of so many bytes, is asked for its name, where it is this but for that.
 #[unsafe(no_mangle)]
 pub extern "C" fn wulgach_asks_counter(entry: &Submission, length: u64, nature: &Nature) -> bool
-    ensures { result ≡ found.asks_counter entry.now length nature.now }
+    ensures { result ≡ starting.asks_counter entry.now length nature.now }
 {
     asks_counter(entry, length, nature)
 }

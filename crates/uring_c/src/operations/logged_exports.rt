@@ -4,6 +4,7 @@ ghost use Rattle.uring_operations.specs.Files.LoggedBytes as logged;
 ghost use Rattle.uring_operations.specs.Files.LoggedCalls as calls;
 ghost use Rattle.uring_operations.specs.Files.LoggedNames as names;
 ghost use Rattle.uring_operations.specs.Files.LoggedNames.{IsLastPart};
+ghost use Rattle.uring_operations.specs.Files.LoggedWords as arguments;
 ghost use Rattle.uring_operations.specs.Files.Mapped as mapped;
 ghost use Rattle.uring_operations.specs.Files.Mapped.{IsChange};
 ghost use Rattle.uring_c.specs.LoggedForm.{word_of_logged_call, word_of_written};
@@ -58,7 +59,7 @@ pub extern "C" fn wulgach_bits_of_call(number: u64, bits: &mut Bits) -> bool
 /// Writes what the arguments of a call are.
 #[unsafe(no_mangle)]
 pub extern "C" fn wulgach_words_of_call(call: &SystemCall, words: &mut CallWords)
-    ensures { words.new ≡ calls.words_of_call call.now }
+    ensures { words.new ≡ arguments.words_of_call call.now }
 {
     *words = words_of_call(call);
 }

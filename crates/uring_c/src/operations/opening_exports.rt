@@ -1,4 +1,4 @@
-//! How paths are opened, for C: functions of `c/wulgach_calls.h`.
+//! How paths are opened, for C: the functions of `c/wulgach_openings.h`.
 ghost use Rattle.std.specs.Prelude.{◌≡◌};
 ghost use Rattle.uring_operations.specs.Files.PipeOpens as opens;
 ghost use Rattle.uring_c.specs.OpeningForm.{word_of_opening, word_of_opening_step, opening_end, opening_step_of};
@@ -6,19 +6,10 @@ ghost use Rattle.uring_c.specs.PinningForm.{known_of};
 
 use uring_operations::{
     OpenHow, Opening, OpeningStep, Standing, Submission, found_how, has_writer, looking_how,
-    looks_at_path, opening_next, opening_of, opens_again, polled_after_path, standing_after_path,
-    unwilling_flags,
+    opening_next, opening_of, opens_again, polled_after_path, standing_after_path, unwilling_flags,
 };
 
-/// Whether the path of an entry is looked up as its request starts, whether it names a pipe.
-#[unsafe(no_mangle)]
-pub extern "C" fn wulgach_looks_at_path(entry: &Submission, how: u64) -> bool
-    ensures { result ≡ opens.looks_at_path entry.now how }
-{
-    looks_at_path(entry, how)
-}
-
-/// Writes how it is looked up.
+/// Writes how the path of an entry is looked up as its request starts.
 #[unsafe(no_mangle)]
 pub extern "C" fn wulgach_looking_how(entry: &Submission, how: &OpenHow, looking: &mut OpenHow)
     ensures { looking.new ≡ opens.looking_how entry.now how.now }

@@ -2,6 +2,7 @@
 ghost use Rattle.std.specs.Prelude.{◌≡◌, true, false, MatchOption};
 ghost use Rattle.uring_operations.specs.Entries.Needs as needed;
 ghost use Rattle.uring_operations.specs.Files.Descriptors as found;
+ghost use Rattle.uring_operations.specs.Files.StartFaults as starting;
 ghost use Rattle.uring_operations.specs.Requests.Readiness as ready;
 ghost use Rattle.uring_operations.specs.Calls.Tries as tried;
 ghost use Rattle.uring_operations.specs.Calls.CallTries as called;
@@ -195,7 +196,7 @@ pub extern "C" fn wulgach_polling_fault(res: i32) -> i32
 /// With what the request of an entry ends whose buffer has this fault, where its descriptor is this.
 #[unsafe(no_mangle)]
 pub extern "C" fn wulgach_buffer_fault(entry: &Submission, nature: &Nature, why: i32) -> i32
-    ensures { result ≡ found.buffer_fault entry.now nature.now why }
+    ensures { result ≡ starting.buffer_fault entry.now nature.now why }
 {
     buffer_fault(entry, nature, why)
 }
@@ -203,7 +204,7 @@ pub extern "C" fn wulgach_buffer_fault(entry: &Submission, nature: &Nature, why:
 /// With what the request of an entry ends that finds no buffer, provided or registered, where its descriptor is this.
 #[unsafe(no_mangle)]
 pub extern "C" fn wulgach_no_buffer_fault(entry: &Submission, nature: &Nature) -> i32
-    ensures { result ≡ found.no_buffer_fault entry.now nature.now }
+    ensures { result ≡ starting.no_buffer_fault entry.now nature.now }
 {
     no_buffer_fault(entry, nature)
 }
@@ -216,7 +217,7 @@ pub extern "C" fn wulgach_start_fault(
     length: u64,
     nature: &Nature,
 ) -> i32
-    ensures { result ≡ found.start_fault entry.now is_wrong length nature.now }
+    ensures { result ≡ starting.start_fault entry.now is_wrong length nature.now }
 {
     start_fault(entry, is_wrong, length, nature)
 }

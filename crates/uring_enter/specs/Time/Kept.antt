@@ -45,7 +45,3 @@ counted_found posted (Some t) = is_reached_by posted t
 abbrev pub HasCounted : List Event → ℕ → Bool → Type 0
 HasCounted log number true = (t : Timeout) × IsRow number (running log) t × (has_counted log t ≡ true)
 HasCounted log number false = (t : Timeout) → IsRow number (running log) t → has_counted log t ≡ false
-
-abbrev pub outcome_found : ℕ → ℕ → Option Timeout → Option ℤ
-outcome_found posted now None = None
-outcome_found posted now (Some t) = outcome_at posted now t

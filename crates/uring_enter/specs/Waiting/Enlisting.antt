@@ -1,5 +1,5 @@
 -- Descriptors that are given to the epoll instance of those that wait. epoll_ctl(2), but where our own rule is named.
-use Rattle.std.specs.Prelude.{◌≡◌, ℤ, Bool, not, ◌&&◌, if◌then◌else◌}
+use Rattle.std.specs.Prelude.{ℤ, Bool, not, ◌&&◌, if◌then◌else◌}
 use Rattle.std.specs.Ordering.{int_eq}
 use Rattle.uring_entry.specs.Errors.{error, is_below}
 use Rattle.uring_enter.specs.declared.waiting.enlisting.Enlisting.{Enlisting}

@@ -1,5 +1,5 @@
 -- poll(2) by select(2). select(2), Correspondence between select() and poll() notifications; but where our own rule is named.
-use Rattle.std.specs.Prelude.{◌≡◌, ℕ, Bool, not, if◌then◌else◌}
+use Rattle.std.specs.Prelude.{ℕ, Bool, not, if◌then◌else◌}
 use Rattle.std.specs.Int.RustNames.{bit_and, bit_or}
 use Rattle.uring_operations.specs.Entries.Clocks.{has_some}
 use Rattle.uring_enter.specs.declared.waiting.selecting.Sets.{Sets}

@@ -5,8 +5,8 @@ ghost use Rattle.uring_operations.specs.declared.requests.act.Fact.{Fact};
 ghost use Rattle.uring_operations.specs.Requests.Courses.{KeepsCourse, counts};
 ghost use Rattle.uring_operations.specs.Entries.Timeouts.{Event, Started, Posted, Changed, Stopped, Clock, Slept, Passed, Ended};
 ghost use Rattle.uring_operations.specs.Entries.Timeouts.{running, posted, started, enough_after, expired_with, IsNextOf, IsReachedOf, IsDueOf, IsEarliest};
-ghost use Rattle.uring_operations.specs.Entries.Timeouts.{outcome, AreApart, HasNone, IsRow, EndsNone, EndsWith};
-ghost use Rattle.uring_enter.specs.Time.Kept.{HasCounted, KeepsTime, counted_found, due_of, earliest_of, outcome_at, outcome_found};
+ghost use Rattle.uring_operations.specs.Entries.Timeouts.{outcome, AreApart, HasNone, IsRow, EndsNone};
+ghost use Rattle.uring_enter.specs.Time.Kept.{HasCounted, KeepsTime, counted_found, due_of, earliest_of, outcome_at};
 
 use crate::time::timeout_rows::{next_of, reached_of, row_of, set_expiry, take_out};
 use uring_operations::{Course, Start, Timeout, is_reached_by, later};
@@ -217,14 +217,6 @@ impl Times {
         self.row(rows, number).is_some()
     }
 
-    /// How the timeout of this number would end now: with 0 if its count is reached, else with -62 if its time is over; or it doesn't, or none of this number runs.
-    pub fn outcome(&self, rows: &[Timeout], number: u64) -> Option<i32>
-        ensures { (log : List Event) → KeepsTime log self.now rows.now → AreApart (running log)
-            → MatchOption result (EndsNone log number) (EndsWith log number) }
-    {
-        self.outcome_found(self.row(rows, number))
-    }
-
     /// Whether the timeout of this number runs, and would end now by its count.
     pub fn has_counted(&self, rows: &[Timeout], number: u64) -> bool
         ensures { (log : List Event) → KeepsTime log self.now rows.now → AreApart (running log)
@@ -240,16 +232,6 @@ impl Times {
         match found {
             Some(row) => is_reached_by(row, self.posted),
             None => false,
-        }
-    }
-
-    /// How one that was found would end now.
-    fn outcome_found(&self, found: Option<Timeout>) -> Option<i32>
-        ensures { result ≡ outcome_found self.now.posted self.now.time found }
-    {
-        match found {
-            Some(row) => self.outcome_of(row),
-            None => None,
         }
     }
 

@@ -1,5 +1,5 @@
 -- What is copied of what an entry points to when it is submitted, in order, and which faults it has: the first ends the request. io_uring_setup(2), IORING_FEAT_SUBMIT_STABLE; io_uring_enter(2), CQE ERRORS. The order is what the kernel does.
-use Rattle.std.specs.Prelude.{ℕ, ℤ, pos, ◌+◌, ◌-◌, ◌*◌, ◌%◌, Bool, not, ◌&&◌, ◌||◌, ◌==◌, nat_le, min, Option, Some, None, if◌then◌else◌}
+use Rattle.std.specs.Prelude.{ℕ, ℤ, pos, ◌-◌, ◌*◌, ◌%◌, Bool, not, ◌&&◌, ◌||◌, ◌==◌, nat_le, min, Option, Some, None, if◌then◌else◌}
 use Rattle.std.specs.Int.RustNames.{bit_and}
 use Rattle.uring_operations.specs.declared.entries.submission.Submission.{Submission}
 use Rattle.uring_operations.specs.declared.copies.piece.What.{What}

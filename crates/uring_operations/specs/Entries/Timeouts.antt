@@ -168,10 +168,6 @@ IsRow number rows t = Contains rows t × (t.number ≡ number)
 abbrev pub EndsNone : List Event → ℕ → Type 0
 EndsNone log number = (t : Timeout) → IsRow number (running log) t → outcome log t ≡ None
 
--- the one of this number ends with this result now
-abbrev pub EndsWith : List Event → ℕ → ℤ → Type 0
-EndsWith log number res = (t : Timeout) × IsRow number (running log) t × (outcome log t ≡ Some res)
-
 -- no two that run have the same number
 abbrev pub AreApart : List Timeout → Type 0
 AreApart rows = (t u : Timeout) → Contains rows t → Contains rows u → t.number ≡ u.number → t ≡ u

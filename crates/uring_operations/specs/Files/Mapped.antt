@@ -1,5 +1,5 @@
 -- What is logged of mapped memory. mmap(2), msync(2), lseek(2), proc_pid_maps(5); what Linux 6.18 was seen to do.
-use Rattle.std.specs.Prelude.{◌≡◌, ◌≢◌, ◌≤◌, ◌<◌, List, length, get_or, ℕ, ℤ, pos, negsuc, ◌+◌, ◌-◌, ◌*◌, ◌/◌, ◌^◌, Bool, not, ◌&&◌, ◌||◌, ◌==◌, min, max, nat_lt, int_lt, Option, Some, None, if◌then◌else◌}
+use Rattle.std.specs.Prelude.{◌≢◌, ◌≤◌, ◌<◌, List, length, get_or, ℕ, ℤ, pos, negsuc, ◌+◌, ◌-◌, ◌*◌, ◌/◌, ◌^◌, Bool, not, ◌&&◌, ◌||◌, ◌==◌, min, max, nat_lt, int_lt, Option, Some, None, if◌then◌else◌}
 use Rattle.std.specs.Ordering.{int_eq}
 use Rattle.uring_operations.specs.declared.files.mapped.FilePart.{FilePart}
 use Rattle.uring_operations.specs.declared.files.mapped.MappedMemory.{MappedMemory}

@@ -1,5 +1,5 @@
 -- What counts as an open descriptor, and when that something wasn't there is why an operation ended. open(2), O_PATH; what Linux 6.18 was seen to do.
-use Rattle.std.specs.Prelude.{ℤ, Bool, not, ◌&&◌, ◌||◌, ◌==◌}
+use Rattle.std.specs.Prelude.{ℤ, Bool, not, ◌&&◌, ◌||◌}
 use Rattle.std.specs.Ordering.{int_eq}
 use Rattle.uring_operations.specs.declared.files.openness.Openness.{Openness}
 use Rattle.uring_operations.specs.declared.entries.submission.Submission.{Submission}

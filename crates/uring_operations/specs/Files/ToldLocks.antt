@@ -1,5 +1,5 @@
 -- Whose a lock of a file is of which a query tells. fcntl(2), F_GETLK and F_OFD_GETLK: of those that keep another out it tells of one, by its process, or by -1 where an open file has it; F_UNLCK (2) says that there is none.
-use Rattle.std.specs.Prelude.{◌≡◌, Bool, true, false, not, ◌&&◌, ◌||◌, pos}
+use Rattle.std.specs.Prelude.{◌≡◌, Bool, false, not, ◌&&◌, ◌||◌, pos}
 use Rattle.std.specs.Ordering.{int_eq}
 use Rattle.uring_operations.specs.declared.files.told_lock.ToldLock.{ToldLock}
 use Rattle.uring_operations.specs.Files.Asking.{is_layers_lock}
@@ -20,7 +20,7 @@ is_anothers l = is_there l && not (int_eq l.process l.own)
 abbrev pub is_of_others : ToldLock → Bool
 is_of_others l = is_anothers l && not (is_layers_lock l.start l.length)
 
--- of several locks it tells of one: so behind another's there may be the process's own, and the list of all is read, as it is where nothing was told
+-- of several locks it tells of one: so after another's there may be the process's own, and the list of all is read, as it is where nothing was told
 abbrev pub asks_list : ToldLock → Bool
 asks_list l = not l.is_told || is_anothers l
 

@@ -3,11 +3,25 @@
 ghost use Rattle.std.specs.Prelude.{◌≡◌};
 ghost use Rattle.uring_operations.specs.Calls.SystemCalls as spec;
 
+pub(crate) const WRITE: u64 = 1;
+
+pub(crate) const OPEN: u64 = 2;
+
 pub(crate) const CLOSE: u64 = 3;
+
+pub(crate) const MMAP: u64 = 9;
 
 pub(crate) const PREAD64: u64 = 17;
 
+pub(crate) const PWRITE64: u64 = 18;
+
+pub(crate) const WRITEV: u64 = 20;
+
+pub(crate) const MSYNC: u64 = 26;
+
 pub(crate) const MADVISE: u64 = 28;
+
+pub(crate) const SENDFILE: u64 = 40;
 
 pub(crate) const SOCKET: u64 = 41;
 
@@ -31,7 +45,25 @@ pub(crate) const FSYNC: u64 = 74;
 
 pub(crate) const FDATASYNC: u64 = 75;
 
+pub(crate) const TRUNCATE: u64 = 76;
+
 pub(crate) const FTRUNCATE: u64 = 77;
+
+pub(crate) const RENAME: u64 = 82;
+
+pub(crate) const MKDIR: u64 = 83;
+
+pub(crate) const RMDIR: u64 = 84;
+
+pub(crate) const CREAT: u64 = 85;
+
+pub(crate) const LINK: u64 = 86;
+
+pub(crate) const UNLINK: u64 = 87;
+
+pub(crate) const SYMLINK: u64 = 88;
+
+pub(crate) const SYNC: u64 = 162;
 
 pub(crate) const SETXATTR: u64 = 188;
 
@@ -43,6 +75,8 @@ pub(crate) const FGETXATTR: u64 = 193;
 
 pub(crate) const FADVISE64: u64 = 221;
 
+pub(crate) const EXIT_GROUP: u64 = 231;
+
 pub(crate) const EPOLL_CTL: u64 = 233;
 
 pub(crate) const OPENAT: u64 = 257;
@@ -50,6 +84,8 @@ pub(crate) const OPENAT: u64 = 257;
 pub(crate) const MKDIRAT: u64 = 258;
 
 pub(crate) const UNLINKAT: u64 = 263;
+
+pub(crate) const RENAMEAT: u64 = 264;
 
 pub(crate) const LINKAT: u64 = 265;
 
@@ -65,7 +101,13 @@ pub(crate) const FALLOCATE: u64 = 285;
 
 pub(crate) const ACCEPT4: u64 = 288;
 
+pub(crate) const PWRITEV: u64 = 296;
+
+pub(crate) const SYNCFS: u64 = 306;
+
 pub(crate) const RENAMEAT2: u64 = 316;
+
+pub(crate) const COPY_FILE_RANGE: u64 = 326;
 
 pub(crate) const PREADV2: u64 = 327;
 

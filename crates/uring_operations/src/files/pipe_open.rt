@@ -67,7 +67,7 @@ fn asks_opening(code: u8, flags: u64) -> bool
 }
 
 /// Whether the path of an entry is looked up as its request starts, whether it names a pipe: if an open of one waits for its other end, as it does of an entry that is asynchronous, or whose flags may make or cut a file. `how`: the flags of its `struct open_how`, if it has one.
-pub fn looks_at_path(entry: &Submission, how: u64) -> bool
+pub(crate) fn looks_at_path(entry: &Submission, how: u64) -> bool
     ensures { result ≡ spec.looks_at_path entry.now how }
 {
     let flags = flags_of(entry, how);

@@ -1,4 +1,4 @@
-use Rattle.std.proofs.Common.{◌≡◌, ◌+◌, ℕ, suc, get_or, refl, arith}
+use Rattle.std.proofs.Common.{◌≡◌, ◌+◌, suc, get_or, refl, arith}
 use Rattle.uring_crossing.specs.Cuts.{cut}
 use Rattle.uring_crossing.proofs.Cutting.{cut_step}
 use Rattle.uring_crossing.proofs.cuts.cut.Goals as goal

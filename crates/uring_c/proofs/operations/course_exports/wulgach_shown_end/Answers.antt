@@ -1,4 +1,4 @@
-use Rattle.std.proofs.Common.{List, ◌∷◌, Option, Bool, subst, ap, ◌∙◌, if◌then◌else◌}
+use Rattle.std.proofs.Common.{◌∷◌, Option, Bool, subst, ap, ◌∙◌, if◌then◌else◌}
 use Rattle.uring_enter.specs.declared.completions.posted.Completion.{Completion}
 use Rattle.uring_operations.specs.Requests.Courses.{shown as shown_by}
 use Rattle.uring_enter.specs.Completions.Showing.{KeepsShown}

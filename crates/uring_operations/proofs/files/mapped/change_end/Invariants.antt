@@ -1,4 +1,4 @@
-use Rattle.std.proofs.Common.{◌≡◌, ℕ, ◌≤◌, ◌<◌, ◌-◌, ◌⊎◌}
+use Rattle.std.proofs.Common.{ℕ, ◌≤◌, ◌<◌, ◌-◌}
 use Rattle.uring_operations.specs.Files.Mapped.{Differs}
 use Rattle.uring_operations.proofs.files.mapped.change_end.Given as goal
 
