@@ -59,6 +59,20 @@ void wulgach_sought_by_call(const struct wulgach_cancel_form *form, struct wulga
 /* Whether user data is looked for. Then a cancel passes over each request that has other, so that it need be shown those alone that have its own. */
 bool wulgach_goes_by_user_data(const struct wulgach_sought *sought);
 
+/* In which order requests are looked at: rank by rank, from the first on to WULGACH_LAST_RANK, of a rank the oldest first, or the newest. By Linux's
+ * rules, where one is looked for by user data, that is what waits for its descriptor, the newest first, then timeouts with a count, then all
+ * others; else all are of one rank, the oldest first. */
+#define WULGACH_LAST_RANK 2
+
+uint32_t wulgach_first_rank(const struct wulgach_sought *sought, bool linux_rules);
+
+/* The rank of a request of this operation, for who began with that rank: it may have to wait for its descriptor (is_stream), or counts so many
+ * completions (wulgach_timeout_count), which matters of a timeout alone. */
+uint32_t wulgach_rank_from(uint32_t first, uint8_t code, bool is_stream, uint64_t count);
+
+/* Whether of the requests of a rank the newest is looked at first. */
+bool wulgach_is_newest_first(uint32_t rank);
+
 /* Whether it matters to a cancel if a request is carried out on the file that is looked for: the cancel goes by a descriptor or a slot, and the
  * request is carried out on a file, which is known. If not, is_compared and is_same may be anything. A request fits that is carried out on that
  * file, however both name it; where it can't be told, one that names the same descriptor, or the same slot. */
@@ -108,7 +122,7 @@ bool wulgach_is_issued_before(uint8_t code, uint64_t cancel, bool is_linked, boo
 /* Whether it matters to a cancel if a request has to wait: it was issued first, runs, and doesn't go on. If not, is_ready may be anything. */
 bool wulgach_asks_wait(const struct wulgach_outstanding *request);
 
-/* A cancel that looks at requests, the oldest first. It is the caller's memory, and its fields are the library's. */
+/* A cancel that looks at requests, in the order of wulgach_first_rank. It is the caller's memory, and its fields are the library's. */
 struct wulgach_cancel {
     struct wulgach_sought sought;
     uint32_t count;
@@ -130,7 +144,7 @@ int32_t wulgach_cancel_result(const struct wulgach_cancel *cancel);
 
 /* ---- a cancel by user data for which the core has found a request that runs ---- */
 
-/* A search among the running requests, the oldest first. It is the caller's memory, and its fields are the library's. */
+/* A search among the running requests, in the order of wulgach_first_rank. It is the caller's memory, and its fields are the library's. */
 struct wulgach_search {
     uint64_t user_data;
     bool has_found;
@@ -140,7 +154,7 @@ struct wulgach_search {
 /* A search for this user data, which hasn't looked at any. */
 void wulgach_search_begin(struct wulgach_search *search, uint64_t user_data);
 
-/* Looks at the next running request, and says whether it is to be cancelled: it is the oldest of this user data, but cancels and timeouts that
+/* Looks at the next running request, and says whether it is to be cancelled: it is the first of this user data, but cancels and timeouts that
  * are linked to a request, and what has ended in a kernel before the cancel, no cancel has chosen it, and it waits for something. */
 bool wulgach_search_sees(struct wulgach_search *search, const struct wulgach_outstanding *request);
 

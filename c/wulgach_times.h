@@ -116,8 +116,8 @@ void wulgach_held_begin(struct wulgach_held_back *held, uint64_t first);
 /* A completion that counts (wulgach_times_count_end) was posted of the request of this number: of its end, or at once, as a message is. */
 void wulgach_held_posts(struct wulgach_held_back *held, uint64_t number, bool is_at_once);
 
-/* Whether a completion is posted at once that a request of this operation has before its end: but the event of a poll, and that bytes were sent
- * without copies. */
+/* Whether a completion is posted at once that a request of this operation has before its end, or that it brings another ring: but the event of a poll,
+ * and that bytes were sent without copies. */
 bool wulgach_is_at_once(uint8_t code);
 
 /* How many of those that were posted a timeout of this number counts that starts now: none, if it is issued late, after a link or a drain, and not as

@@ -104,9 +104,21 @@ static void issued_before(void)
     }
 }
 
+/* Which of several with one user data is looked at first. */
+static void ranks(void)
+{
+    struct wulgach_sought one = {.user_data = 1}, all = {.user_data = 1, .is_all = true}, any = {.is_any = true}, fd = {.is_by_fd = true};
+    demand(wulgach_first_rank(&one, true) == 0 && wulgach_first_rank(&one, false) == WULGACH_LAST_RANK, "one goes by ranks, by Linux's rules");
+    demand(wulgach_first_rank(&all, true) == WULGACH_LAST_RANK && wulgach_first_rank(&any, true) == WULGACH_LAST_RANK && wulgach_first_rank(&fd, true) == WULGACH_LAST_RANK, "no others do");
+    demand(wulgach_rank_from(0, 6, true, 0) == 0 && wulgach_rank_from(0, 11, false, 3) == 1, "what waits, and what counts");
+    demand(wulgach_rank_from(0, 11, false, 0) == 2 && wulgach_rank_from(0, 22, false, 3) == 2 && wulgach_rank_from(WULGACH_LAST_RANK, 6, true, 0) == WULGACH_LAST_RANK, "and all others");
+    demand(wulgach_is_newest_first(0) && !wulgach_is_newest_first(1) && !wulgach_is_newest_first(2), "the newest of what waits");
+}
+
 int main(void)
 {
     order();
+    ranks();
     issued_before();
     struct wulgach_cancel cancel;
     struct wulgach_outstanding waits = {.user_data = 1, .is_token = true};

@@ -72,7 +72,7 @@ static void check_held(void)
     wulgach_held_posts(&held, 6, true);
     wulgach_held_posts(&held, 7, false);
     demand(wulgach_held_for(&held, 8, false) == 2 && wulgach_held_for(&held, 8, true) == 0 && wulgach_held_for(&held, 4, false) == 0, "what is held back");
-    demand(wulgach_is_at_once(27) && !wulgach_is_at_once(6) && !wulgach_is_at_once(47) && !wulgach_is_at_once(48), "what is posted at once");
+    demand(wulgach_is_at_once(27) && wulgach_is_at_once(40) && !wulgach_is_at_once(6) && !wulgach_is_at_once(47) && !wulgach_is_at_once(48), "what is posted at once");
     wulgach_times_begin(&times);
     times.posted = 4;
     struct wulgach_start begun = {.number = 1, .more = 100, .count = 2}, other = {.number = 2, .more = 100};

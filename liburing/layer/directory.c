@@ -102,29 +102,77 @@ static bool has_directory(struct ring *ring)
     return ring->directory.room > 0;
 }
 
-void begin_seeking_named(struct seeking *seeking, struct ring *ring, uint64_t user_data)
+static const struct drawer *drawer_sought(const struct seeking *seeking)
 {
-    *seeking = (struct seeking){.ring = ring, .user_data = user_data, .is_by_directory = has_directory(ring)};
+    return drawer_of(&seeking->ring->directory, seeking->user_data);
+}
+
+static void begin_rank(struct seeking *seeking, uint32_t rank)
+{
+    bool is_backwards = wulgach_is_newest_first(rank);
+    seeking->rank = rank;
     if (seeking->is_by_directory)
-        seeking->next = drawer_of(&ring->directory, user_data)->first;
+        seeking->next = is_backwards ? drawer_sought(seeking)->last : drawer_sought(seeking)->first;
+    else
+        seeking->place = is_backwards ? seeking->ring->requests.count : 0;
 }
 
 void begin_seeking(struct seeking *seeking, struct ring *ring, const struct wulgach_sought *sought)
 {
-    if (wulgach_goes_by_user_data(sought))
-        begin_seeking_named(seeking, ring, sought->user_data);
-    else
-        *seeking = (struct seeking){.ring = ring};
+    bool is_named = wulgach_goes_by_user_data(sought);
+    *seeking = (struct seeking){.ring = ring, .user_data = sought->user_data, .is_by_directory = is_named && has_directory(ring)};
+    seeking->first = wulgach_first_rank(sought, ring->is_linux);
+    begin_rank(seeking, seeking->first);
+}
+
+void begin_seeking_named(struct seeking *seeking, struct ring *ring, uint64_t user_data)
+{
+    begin_seeking(seeking, ring, &(struct wulgach_sought){.user_data = user_data});
+}
+
+static struct request *one_on(const struct request *request, bool is_backwards)
+{
+    return is_backwards ? request->before : request->next;
+}
+
+static struct request *next_in_drawer(struct seeking *seeking, bool is_backwards)
+{
+    struct request *found = seeking->next;
+    while (found && found->entry.user_data != seeking->user_data)
+        found = one_on(found, is_backwards);
+    seeking->next = found ? one_on(found, is_backwards) : NULL;
+    return found;
+}
+
+static struct request *next_in_row(struct seeking *seeking, bool is_backwards)
+{
+    const struct requests *requests = &seeking->ring->requests;
+    if (seeking->place == (is_backwards ? 0 : requests->count))
+        return NULL;
+    return requests->rows[is_backwards ? --seeking->place : seeking->place++];
+}
+
+static bool is_of_rank(const struct seeking *seeking, const struct request *request)
+{
+    uint64_t count = wulgach_timeout_count(submission_of(&request->entry));
+    return wulgach_rank_from(seeking->first, request->entry.opcode, request->standing.is_stream, count) == seeking->rank;
+}
+
+/* The next of the rank that is looked at, or NULL. */
+static struct request *next_of_rank(struct seeking *seeking)
+{
+    bool is_backwards = wulgach_is_newest_first(seeking->rank);
+    struct request *found;
+    do
+        found = seeking->is_by_directory ? next_in_drawer(seeking, is_backwards) : next_in_row(seeking, is_backwards);
+    while (found && !is_of_rank(seeking, found));
+    return found;
 }
 
 struct request *next_sought(struct seeking *seeking)
 {
-    const struct requests *requests = &seeking->ring->requests;
-    if (!seeking->is_by_directory)
-        return seeking->place < requests->count ? requests->rows[seeking->place++] : NULL;
-    struct request *found = seeking->next;
-    while (found && found->entry.user_data != seeking->user_data)
-        found = found->next;
-    seeking->next = found ? found->next : NULL;
+    struct request *found;
+    while (!(found = next_of_rank(seeking)) && seeking->rank < WULGACH_LAST_RANK)
+        begin_rank(seeking, seeking->rank + 1);
     return found;
 }

@@ -30,16 +30,17 @@ void put_into_directory(struct ring *ring, struct request *request);
 void take_from_directory(struct ring *ring, struct request *request);
 void rename_in_directory(struct ring *ring, struct request *request, uint64_t user_data);
 
-/* The requests that a cancel has to look at, the oldest first. */
+/* The requests that a cancel has to look at, in the library's order: rank by rank. */
 struct seeking {
     struct ring *ring;
     uint64_t user_data;
+    uint32_t first, rank;       /* the rank with which it began, and the one that is looked at */
     bool is_by_directory;       /* those of this user data; else all that are outstanding */
     struct request *next;       /* by the directory: the next one, or NULL */
-    size_t place;               /* else its place */
+    size_t place;               /* else its place; backwards, the one after it */
 };
 
-/* Begins with the oldest. Where many are outstanding and the cancel goes by user data, it keeps the directory from then on. */
+/* Begins with the first. Where many are outstanding and the cancel goes by user data, it keeps the directory from then on. */
 void begin_seeking(struct seeking *seeking, struct ring *ring, const struct wulgach_sought *sought);
 void begin_seeking_named(struct seeking *seeking, struct ring *ring, uint64_t user_data);
 

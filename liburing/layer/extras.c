@@ -119,7 +119,7 @@ bool post_extra(struct ring *ring, const struct origin *of, int32_t res, uint32_
     request->is_message = of->is_message;
     request->is_extra = true;
     request->of = of->number;
-    request->is_at_once = of->is_message || wulgach_is_at_once(of->code);
+    request->is_at_once = wulgach_is_at_once(of->code);
     stage_own(ring, request);
     bool is_posted = take_own(ring, request, res);
     if (!is_posted)
@@ -168,7 +168,7 @@ __attribute__((noinline)) static void post_waiting(struct ring *ring)
 {
     struct message *message;
     while (posts_message(ring) && (message = take_message(&ring->inbox))) {
-        post_extra(ring, &(struct origin){.user_data = message->user_data, .is_message = true}, message->res, message->flags);
+        post_extra(ring, &(struct origin){.user_data = message->user_data, .code = IORING_OP_MSG_RING, .is_message = true}, message->res, message->flags);
         free(message);
     }
 }

@@ -2,8 +2,8 @@
  *
  *   WULGACH_FAULTS      ITEMS, separated by commas: [RING:]NUMBER=KIND, for request NUMBER of ring RING (0 if it isn't
  *                       given); KIND is EIO, ENOSPC or SHORT
- *   WULGACH_FAULT_RATE  N: each transfer, fsync or fallocate has a fault with a chance of one in N under a seed. Whether
- *                       it has is a choice, so a list replays it.
+ *   WULGACH_FAULT_RATE  N: each transfer, fsync or fallocate is given a fault with a chance of one in N under a seed. That
+ *                       is a choice, so a list replays it.
  */
 #include "injection.h"
 #include "fault.h"

@@ -1,10 +1,11 @@
 -- The laws of cancels.
-use Rattle.std.proofs.Common.{◌≡◌, ◌==◌, ℕ, ◌≤◌, Bool, true, false, not, ◌&&◌, ◌||◌, List, [], ◌∷◌, Option, Some, None, refl, arith, if◌then◌else◌}
+use Rattle.std.proofs.Common.{◌≡◌, ◌==◌, ℕ, ◌≤◌, max, nat_lt, Bool, true, false, not, ◌&&◌, ◌||◌, List, [], ◌∷◌, Option, Some, None, refl, arith, if◌then◌else◌}
 use Rattle.std.proofs.lemmas.Bool.{false≢true, true≢false}
 use Rattle.uring_enter.specs.declared.cancels.cancel.Sought.{Sought}
 use Rattle.uring_enter.specs.declared.cancels.cancel.Outstanding.{Outstanding}
 use Rattle.uring_enter.specs.Cancels.Cancels.{is_of_all, fits, fits_fd, is_named, is_ever_found, is_free, is_waiting, is_none, is_meant, has_ended_first, is_open, can_be_found, finds_any, first_of, one_more, count_of, oldest}
-use Rattle.uring_enter.specs.Cancels.CancelLaws.{CancelsWhatFits, CancelsAllThatFit, CancelsTheOldest, AsksWhatMatters, AsksFileWhereItMatters, AsksWaitWhereItMatters, FindsFirstThatWait, PassesOverLinked, PassesOverOthers, SearchPassesOverOthers}
+use Rattle.uring_enter.specs.Cancels.CancelLaws.{CancelsWhatFits, CancelsAllThatFit, CancelsTheFirst, AsksWhatMatters, AsksFileWhereItMatters, AsksWaitWhereItMatters, FindsFirstThatWait, PassesOverLinked, PassesOverOthers, SearchPassesOverOthers}
+use Rattle.uring_enter.specs.Cancels.Ranks.{RanksAll, is_ranked}
 
 fits_by : (b f g : Bool) → (b && f && g) ≡ true → (f ≡ true) × (g ≡ true)
 fits_by true true true is = (refl, refl)
@@ -53,8 +54,8 @@ one_of s [] one = record { none = λ is. refl; most = omega arith }
 one_of s (r ∷ earlier) one =
     one_by (is_of_all s) (finds_any s earlier) (fits s r) (can_be_found r) (count_of s earlier) one (one_of s earlier one)
 
-pub cancels_the_oldest : CancelsTheOldest
-cancels_the_oldest s earlier one = (
+pub cancels_the_first : CancelsTheFirst
+cancels_the_first s earlier one = (
   λ r is. oldest_by (is_of_all s) (finds_any s earlier) (fits s r) (can_be_found r) one is,
   (one_of s earlier one).most,
 )
@@ -183,3 +184,17 @@ passes_over_linked s earlier r is = (
   λ user_data. unsought_by (oldest user_data earlier) r (is_meant user_data r) r.is_cancelled (is_waiting r)
       (without_middle (r.user_data == user_data) (is_ever_found r) (not (has_ended_first r)) is),
 )
+
+-- a rank is neither before the first nor after the last, whichever they are
+ranks_by : (ranked is_stream counts : Bool)
+    → ((if ranked then 0 else 2) ≤ max (if ranked then 0 else 2) (if is_stream then 0 else if counts then 1 else 2))
+    × (max (if ranked then 0 else 2) (if is_stream then 0 else if counts then 1 else 2) ≤ 2)
+ranks_by true true counts = (omega arith, omega arith)
+ranks_by true false true = (omega arith, omega arith)
+ranks_by true false false = (omega arith, omega arith)
+ranks_by false true counts = (omega arith, omega arith)
+ranks_by false false true = (omega arith, omega arith)
+ranks_by false false false = (omega arith, omega arith)
+
+pub ranks_all : RanksAll
+ranks_all s linux code is_stream count = ranks_by (is_ranked s linux) is_stream (code == 11 && nat_lt 0 count)

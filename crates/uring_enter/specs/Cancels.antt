@@ -4,3 +4,4 @@ pub mod CancelLaws
 pub mod Seeking
 pub mod Updates
 pub mod Awaiting
+pub mod Ranks

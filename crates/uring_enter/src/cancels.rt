@@ -3,6 +3,7 @@
 pub mod awaiting;
 pub mod cancel;
 pub mod cancel_laws;
+pub mod ranks;
 pub mod search;
 pub mod seeking;
 pub mod update;

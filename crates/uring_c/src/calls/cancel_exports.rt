@@ -4,12 +4,14 @@ ghost use Rattle.uring_enter.specs.declared.cancels.cancel.Outstanding.{Outstand
 ghost use Rattle.uring_enter.specs.declared.cancels.cancel.Sought.{Sought};
 ghost use Rattle.uring_enter.specs.Cancels.Cancels as cancels;
 ghost use Rattle.uring_enter.specs.Cancels.Cancels.{is_waiting as waits};
+ghost use Rattle.uring_enter.specs.Cancels.Ranks as ranks;
 ghost use Rattle.uring_enter.specs.Cancels.Seeking as seeking;
 ghost use Rattle.uring_enter.specs.Cancels.Cancels.{result_of, is_cancelled, is_asked, HasSeen, HasSought, oldest, is_stopped, has_cancelled, found_by_core};
 
 use uring_enter::{
-    Cancel, Outstanding, Search, Sought, asks_file, asks_wait, comes_late, goes_by_user_data,
-    is_issued_before, is_taken_after, is_waiting, seeking_fault, sought_by_call, sought_of,
+    Cancel, Outstanding, Search, Sought, asks_file, asks_wait, comes_late, first_rank,
+    goes_by_user_data, is_issued_before, is_newest_first, is_taken_after, is_waiting, rank_from,
+    seeking_fault, sought_by_call, sought_of,
 };
 use uring_operations::Submission;
 use uring_register::CancelForm;
@@ -44,6 +46,30 @@ pub extern "C" fn wulgach_goes_by_user_data(sought: &Sought) -> bool
     ensures { result ≡ cancels.goes_by_user_data sought.now }
 {
     goes_by_user_data(sought)
+}
+
+/// The first rank of requests that a cancel looks at; those after it follow, up to 2, the last.
+#[unsafe(no_mangle)]
+pub extern "C" fn wulgach_first_rank(sought: &Sought, linux_rules: bool) -> u32
+    ensures { result ≡ ranks.first_rank sought.now linux_rules }
+{
+    first_rank(sought, linux_rules)
+}
+
+/// The rank of a request, for who begins with this one.
+#[unsafe(no_mangle)]
+pub extern "C" fn wulgach_rank_from(first: u32, code: u8, is_stream: bool, count: u64) -> u32
+    ensures { result ≡ ranks.rank_from first code is_stream count }
+{
+    rank_from(first, code, is_stream, count)
+}
+
+/// Whether of the requests of a rank the newest is looked at first.
+#[unsafe(no_mangle)]
+pub extern "C" fn wulgach_is_newest_first(rank: u32) -> bool
+    ensures { result ≡ ranks.is_newest_first rank }
+{
+    is_newest_first(rank)
 }
 
 /// Whether it matters to a cancel if a request is carried out on the file that is looked for.

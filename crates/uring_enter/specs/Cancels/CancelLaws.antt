@@ -14,9 +14,9 @@ abbrev pub CancelsAllThatFit : Type 0
 CancelsAllThatFit = (s : Sought) (earlier : List Outstanding) (r : Outstanding) → is_of_all s ≡ true
     → fits s r ≡ true → can_be_found r ≡ true → is_cancelled s earlier r ≡ true
 
--- another cancels the oldest that does, and no more than one
-abbrev pub CancelsTheOldest : Type 0
-CancelsTheOldest = (s : Sought) (earlier : List Outstanding) → is_of_all s ≡ false
+-- another cancels the first that does, and no more than one
+abbrev pub CancelsTheFirst : Type 0
+CancelsTheFirst = (s : Sought) (earlier : List Outstanding) → is_of_all s ≡ false
     → ((r : Outstanding) → is_cancelled s earlier r ≡ true → finds_any s earlier ≡ false)
     × (count_of s earlier ≤ 1)
 

@@ -87,7 +87,7 @@ pub struct Outstanding {
     pub is_ready: bool,
 }
 
-/// A cancel that looks at requests, the oldest first.
+/// A cancel that looks at requests, one after the other (`first_rank` says in which order).
 #[repr(C)]
 #[derive(Clone, Copy, Drop)]
 pub struct Cancel {
@@ -150,7 +150,7 @@ impl Cancel {
 }
 
 /// Whether a cancel is of all that it finds.
-fn is_of_all(sought: Sought) -> bool
+pub(crate) fn is_of_all(sought: Sought) -> bool
     ensures { result ≡ is_of_all sought }
 {
     sought.is_all || sought.is_any

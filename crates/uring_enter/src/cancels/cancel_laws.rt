@@ -1,6 +1,6 @@
 //! What holds of every cancel, whatever it looks at. Each law is the contract of a function that does nothing.
 
-ghost use Rattle.uring_enter.specs.Cancels.CancelLaws.{CancelsWhatFits, CancelsAllThatFit, CancelsTheOldest, AsksWhatMatters, AsksFileWhereItMatters, AsksWaitWhereItMatters, FindsFirstThatWait, PassesOverLinked, PassesOverOthers, SearchPassesOverOthers};
+ghost use Rattle.uring_enter.specs.Cancels.CancelLaws.{CancelsWhatFits, CancelsAllThatFit, CancelsTheFirst, AsksWhatMatters, AsksFileWhereItMatters, AsksWaitWhereItMatters, FindsFirstThatWait, PassesOverLinked, PassesOverOthers, SearchPassesOverOthers};
 
 /// What is cancelled fits, and can be found.
 pub fn cancels_what_fits()
@@ -12,9 +12,9 @@ pub fn cancels_all_that_fit()
     ensures { CancelsAllThatFit }
 {}
 
-/// Another cancels the oldest, and no more than one.
-pub fn cancels_the_oldest()
-    ensures { CancelsTheOldest }
+/// Another cancels the first, and no more than one.
+pub fn cancels_the_first()
+    ensures { CancelsTheFirst }
 {}
 
 /// Where it isn't asked whether a request could start, it doesn't matter.

@@ -6,7 +6,7 @@ ghost use Rattle.uring_enter.specs.Cancels.Cancels.{HasSought, oldest, is_meant,
 
 use crate::cancels::cancel::{Outstanding, has_ended_first, is_ever_found, is_waiting};
 
-/// A search among the running requests, the oldest first.
+/// A search among the running requests, one after the other, as a cancel looks at them.
 #[repr(C)]
 #[derive(Clone, Copy, Drop)]
 pub struct Search {
