@@ -144,7 +144,7 @@ int32_t wulgach_cancel_result(const struct wulgach_cancel *cancel);
 
 /* ---- a cancel by user data for which the core has found a request that runs ---- */
 
-/* A search among the running requests, in the order of wulgach_first_rank. It is the caller's memory, and its fields are the library's. */
+/* A search among the requests that haven't ended, in the order of wulgach_first_rank. It is the caller's memory, and its fields are the library's. */
 struct wulgach_search {
     uint64_t user_data;
     bool has_found;
@@ -154,14 +154,14 @@ struct wulgach_search {
 /* A search for this user data, which hasn't looked at any. */
 void wulgach_search_begin(struct wulgach_search *search, uint64_t user_data);
 
-/* Looks at the next running request, and says whether it is to be cancelled: it is the first of this user data, but cancels and timeouts that
+/* Looks at the next request, and says whether it is to be cancelled: it is the first of this user data that runs, but cancels and timeouts that
  * are linked to a request, and what has ended in a kernel before the cancel, no cancel has chosen it, and it waits for something. */
 bool wulgach_search_sees(struct wulgach_search *search, const struct wulgach_outstanding *request);
 
 /* Whether the one that was found is cancelled, by this cancel or another. */
 bool wulgach_search_has_cancelled(const struct wulgach_search *search);
 
-/* What the core has found that has ended the cancel so, once all that run were looked at: -2 (ENOENT) in the place of -114 (EALREADY) if, by
+/* What the core has found that has ended the cancel so, once all were looked at: -2 (ENOENT) in the place of -114 (EALREADY) if, by
  * Linux's rules, none of them is one that a cancel finds, or all of these have ended in a kernel before the cancel. */
 int32_t wulgach_search_found_by_core(const struct wulgach_search *search, int32_t res, bool linux_rules);
 

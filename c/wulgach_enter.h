@@ -211,11 +211,20 @@ bool wulgach_polls_writes(uint64_t watched);
 /* ---- the thread's signals ---- */
 
 /* Whether signals are blocked as a call begins that gets events (IORING_ENTER_GETEVENTS) and waits for so many: unless the program's handlers are quiet, which is that
- * none calls io_uring or leaves a call, and the call can't sleep. Our own rule. */
+ * none calls io_uring or leaves a call, and the call can't sleep. So none sleeps with signals open. Our own rule. */
 bool wulgach_blocks_at_begin(bool are_quiet, bool gets, uint32_t min_complete);
 
-/* Whether they are before the calls of an operation, where they are open: but for a read of what is no stream, a signal may end them early, or come of them. */
-bool wulgach_blocks_before(bool is_read, bool is_stream);
+/* What is about to be done in a call. */
+enum wulgach_doing {
+    WULGACH_DOES_LOOK = 0,              /* descriptors are looked at, without waiting: poll(2) and select(2) */
+    WULGACH_DOES_LOOK_UP = 1,           /* a path is looked up: open(2) */
+    WULGACH_DOES_ASK_NOT_TO_WAIT = 2,   /* a transfer is made whose descriptor is asked not to wait meanwhile */
+    WULGACH_DOES_OPERATION = 3          /* the calls of an operation are made, which is a read or isn't, of a stream or of a file */
+};
+
+/* Whether signals are blocked before it, where they are open: one may end it, come of it, or have a handler find a descriptor otherwise than the program left it. That is
+ * so of all but the read of a file. The last two are of an operation; a number past the last kind counts as one. Our own rule. */
+bool wulgach_blocks_before(uint32_t doing, bool is_read, bool is_stream);
 
 /* Whether a call that came to this, where they were open, is made once more, with signals blocked: one has ended it (-4). */
 bool wulgach_is_made_again(bool was_open, int32_t res);

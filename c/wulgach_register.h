@@ -33,19 +33,25 @@ bool wulgach_has_byte_of(uint64_t from, uint64_t size, uint64_t start, uint64_t 
 /* What a line of /proc/PID/maps (proc_pid_maps(5)) says of the memory that it is of. */
 struct wulgach_mapped {
     uint64_t start, end;    /* the address where it starts, and the one after it */
+    uint64_t offset;        /* where in its file it begins */
+    uint64_t inode;         /* that file's inode, 0 without one */
     uint64_t path;          /* where in the line the path of its file begins, or the line's length; */
     uint32_t major;         /* the major number of that file's device, 0 without one */
     bool is_shared;         /* other processes see what is written; */
     bool is_asked;          /* then, if it is a path from the root on, its file system is asked about by statfs(2) */
 };
 
-/* Writes what such a line says, without its end. False: it isn't one, since an address isn't a hexadecimal number of 64 bits, or that of its
- * device none of 32, and nothing is written. */
+/* Writes what such a line says, without its end. False: it isn't one, since an address or an offset isn't a hexadecimal number of 64
+ * bits, or that of its device none of 32, or its inode no decimal one of 64; and nothing is written. */
 bool wulgach_mapped_of(const uint8_t *line, size_t length, struct wulgach_mapped *mapped);
 
 /* Whether this memory is shared with a file that the kernel writes back: if the file's device has a major number, or else if its file system
  * keeps files elsewhere than in memory. `kind` is statfs's, if that is known. */
 bool wulgach_is_of_a_file(const struct wulgach_mapped *mapped, bool knows, uint64_t kind);
+
+/* Whether it is known with which files memory is shared (struct wulgach_memory), by that list: it was read to its end, and so many of its lines say what they
+ * are of, which are one at least. One that doesn't is passed over. Our own rule. */
+bool wulgach_is_listed(bool is_whole, uint64_t lines);
 
 /* ---- calls of io_uring_register(2) ---- */
 

@@ -167,6 +167,35 @@ bool wulgach_asks_next(bool has_started, bool can_start);
  * that drains is outstanding; and there is memory for it. */
 bool wulgach_drains_may_post(const struct wulgach_drains *drains, uint64_t staged, bool linux_rules, bool has_memory);
 
+/* ---- requests that find their files in their turn ---- */
+
+/* Those that are to: before one after them starts, or the call sleeps or returns. It is the caller's memory, and its fields are the library's. */
+struct wulgach_due {
+    uint64_t first, last;
+    bool is_any;
+};
+
+/* Requests from one number to another, both with them. */
+struct wulgach_due_span {
+    uint64_t first, last;
+};
+
+/* None is. */
+void wulgach_due_begin(struct wulgach_due *due);
+
+/* The request of this number finds its files in its turn (WULGACH_FOUND_IN_TURN). */
+void wulgach_due_notes(struct wulgach_due *due, uint64_t number);
+
+/* Those with lesser numbers have found theirs. */
+void wulgach_due_found_before(struct wulgach_due *due, uint64_t number);
+
+/* Whether any is to: it was noted, and those before a later one haven't found theirs since. */
+bool wulgach_due_is_any(const struct wulgach_due *due);
+
+/* Writes between which numbers all stand of those that are to, before this one: others may stand there too. False: none stands before it, and nothing is
+ * written. */
+bool wulgach_due_before(const struct wulgach_due *due, uint64_t number, struct wulgach_due_span *span);
+
 /* ---- after a completion that was put off ---- */
 
 /* What is to come in a ring. */

@@ -96,11 +96,9 @@ static void issued_before(void)
         demand(!wulgach_cancel_asks(&cancel, &seen), "whether it could start doesn't matter");
         demand(wulgach_asks_wait(&seen) == (seen.runs && !seen.goes_on), "whether it has to wait matters");
         demand(wulgach_cancel_sees(&cancel, &seen) == (seen.runs && !has_ended && !seen.is_cancelled), "what is issued before is found");
-        if (!seen.runs)
-            continue;
         wulgach_search_begin(&search, 1);
-        demand(wulgach_search_sees(&search, &seen) == (!has_ended && !seen.is_cancelled), "and so where it runs");
-        demand(wulgach_search_found_by_core(&search, -114, true) == (has_ended ? -2 : -114), "what has ended isn't found");
+        demand(wulgach_search_sees(&search, &seen) == (seen.runs && !has_ended && !seen.is_cancelled), "and so where the core has found one");
+        demand(wulgach_search_found_by_core(&search, -114, true) == (!seen.runs || has_ended ? -2 : -114), "what has ended isn't found");
     }
 }
 

@@ -301,6 +301,16 @@ static void do_duties_of_registering(void)
     }
 }
 
+/* Where handlers are quiet signals are open but in a call that may sleep, until something but the read of a file is done. */
+static void block_signals(void)
+{
+    running = "signals";
+    check(wulgach_blocks_at_begin(false, false, 0) && wulgach_blocks_at_begin(true, true, 1) && !wulgach_blocks_at_begin(true, true, 0) && !wulgach_blocks_at_begin(true, false, 1), "as a call begins");
+    check(wulgach_blocks_before(WULGACH_DOES_LOOK, true, false) && wulgach_blocks_before(WULGACH_DOES_LOOK_UP, true, false) && wulgach_blocks_before(WULGACH_DOES_ASK_NOT_TO_WAIT, true, false), "before looks");
+    check(!wulgach_blocks_before(WULGACH_DOES_OPERATION, true, false) && wulgach_blocks_before(WULGACH_DOES_OPERATION, true, true) && wulgach_blocks_before(WULGACH_DOES_OPERATION, false, false) && wulgach_blocks_before(WULGACH_DOES_OPERATION, false, true), "before operations");
+    check(wulgach_is_made_again(true, -4) && !wulgach_is_made_again(false, -4) && !wulgach_is_made_again(true, -11), "what is made once more");
+}
+
 int main(void)
 {
     read_arguments();
@@ -311,6 +321,7 @@ int main(void)
     take_in_rounds();
     go_by_policies();
     reach_rings();
+    block_signals();
     struct wulgach_enter call = {.before = 7};
     struct wulgach_command command = {.kind = 99};
     const struct wulgach_asked asked = {.policy = 3};

@@ -342,6 +342,7 @@ static void keep_pages(void)
     demand(PINNED(.from = 4096, .size = 1, .is_asked = true) == -14 && PINNED(.from = 4096, .size = 1, .is_asked = true, .is_there = true, .is_listed = true, .is_written_back = true) == -14 && PINNED(.from = 4096, .size = 1, .is_written_back = true) == 0, "pages that can't be kept");
     demand(PINNED(.from = UINT64_MAX - 4095, .size = 1, .is_asked = true) == -75 && PINNED(.from = UINT64_MAX - 4096, .size = 1, .is_asked = true) == -14 && PINNED(.from = 2, .size = UINT64_MAX) == -75, "memory without an end");
     demand(wulgach_has_byte_of(10, 5, 14, 20) && !wulgach_has_byte_of(10, 5, 15, 20) && wulgach_has_byte_of(10, 5, 0, 11) && !wulgach_has_byte_of(10, 5, 0, 10) && wulgach_has_byte_of(10, UINT64_MAX, 11, 12), "memory that has a byte of other");
+    demand(wulgach_is_listed(true, 1) && wulgach_is_listed(true, UINT64_MAX) && !wulgach_is_listed(true, 0) && !wulgach_is_listed(false, 1), "a list that says something");
 }
 
 /* What a line of /proc/self/maps says. */
@@ -355,7 +356,7 @@ static struct wulgach_mapped mapped_by(const char *line)
 static bool says(const char *line, struct wulgach_mapped wanted)
 {
     struct wulgach_mapped mapped = mapped_by(line);
-    return mapped.start == wanted.start && mapped.end == wanted.end && mapped.path == wanted.path && mapped.major == wanted.major && mapped.is_shared == wanted.is_shared && mapped.is_asked == wanted.is_asked;
+    return mapped.start == wanted.start && mapped.end == wanted.end && mapped.offset == wanted.offset && mapped.inode == wanted.inode && mapped.path == wanted.path && mapped.major == wanted.major && mapped.is_shared == wanted.is_shared && mapped.is_asked == wanted.is_asked;
 }
 
 static bool is_no_line(const char *line)
@@ -367,13 +368,13 @@ static bool is_no_line(const char *line)
 /* The first lines are the manual page's and a kernel's own. */
 static void list_memory(void)
 {
-    demand(says("00400000-00452000 r-xp 00000000 08:02 173521      /usr/bin/dbus-daemon", (struct wulgach_mapped){.start = 0x400000, .end = 0x452000, .path = 50, .major = 8}), "a program");
-    demand(says("7f8a9e0d7000-7f8a9e0d8000 rw-s 0001f000 fd:01 1837  /srv/a file", (struct wulgach_mapped){.start = 0x7f8a9e0d7000, .end = 0x7f8a9e0d8000, .path = 52, .major = 0xfd, .is_shared = true, .is_asked = true}), "a file with a blank in its name");
+    demand(says("00400000-00452000 r-xp 00000000 08:02 173521      /usr/bin/dbus-daemon", (struct wulgach_mapped){.start = 0x400000, .end = 0x452000, .inode = 173521, .path = 50, .major = 8}), "a program");
+    demand(says("7f8a9e0d7000-7f8a9e0d8000 rw-s 0001f000 fd:01 1837  /srv/a file", (struct wulgach_mapped){.start = 0x7f8a9e0d7000, .end = 0x7f8a9e0d8000, .offset = 0x1f000, .inode = 1837, .path = 52, .major = 0xfd, .is_shared = true, .is_asked = true}), "a file with a blank in its name");
     demand(says("e24000-f7b0000 rw-p 00000000 00:00 0 ", (struct wulgach_mapped){.start = 0xe24000, .end = 0xf7b0000, .path = 37}) && says("e24000-f7b0000 rw-p 00000000 00:00 0", (struct wulgach_mapped){.start = 0xe24000, .end = 0xf7b0000, .path = 36}), "memory of no file");
-    demand(says("10-20 rw-s 00000000 00:0f 5 anon_inode:[io_uring]", (struct wulgach_mapped){.start = 16, .end = 32, .path = 28, .is_shared = true}) && says("10-20 rw-s 00000000 00:01 5 /dev/zero (deleted)", (struct wulgach_mapped){.start = 16, .end = 32, .path = 28, .is_shared = true, .is_asked = true}), "a name, and a path that is gone");
-    demand(says("ffffffffff600000-ffffffffffffffff --xp 00000000 ffffffff:00 0 [vsyscall]", (struct wulgach_mapped){.start = 0xffffffffff600000, .end = UINT64_MAX, .path = 62, .major = UINT32_MAX}), "the largest numbers");
-    demand(is_no_line("") && is_no_line("400000 r-xp 00000000 08:02 173521 /a") && is_no_line("-452000 r-xp 0 08:02 1 /a") && is_no_line("4g-5 r-xp 0 08:02 1 /a") && is_no_line("4A-5B r-xp 0 08:02 1 /a") && is_no_line("4-5 r-xp 0"), "no line");
-    demand(is_no_line("0-10000000000000000 r-xp 0 08:02 1 /a") && is_no_line("0-1 r-xp 0 100000000:02 1 /a"), "numbers that are too large");
+    demand(says("10-20 rw-s 00000000 00:0f 5 anon_inode:[io_uring]", (struct wulgach_mapped){.start = 16, .end = 32, .inode = 5, .path = 28, .is_shared = true}) && says("10-20 rw-s 00000000 00:01 5 /dev/zero (deleted)", (struct wulgach_mapped){.start = 16, .end = 32, .inode = 5, .path = 28, .is_shared = true, .is_asked = true}), "a name, and a path that is gone");
+    demand(says("ffffffffff600000-ffffffffffffffff --xp ffffffffffffffff ffffffff:00 18446744073709551615 [vsyscall]", (struct wulgach_mapped){.start = 0xffffffffff600000, .end = UINT64_MAX, .offset = UINT64_MAX, .inode = UINT64_MAX, .path = 89, .major = UINT32_MAX}), "the largest numbers");
+    demand(is_no_line("") && is_no_line("400000 r-xp 00000000 08:02 173521 /a") && is_no_line("-452000 r-xp 0 08:02 1 /a") && is_no_line("4g-5 r-xp 0 08:02 1 /a") && is_no_line("4A-5B r-xp 0 08:02 1 /a") && is_no_line("4-5 r-xp 0") && is_no_line("4-5 r-xp  08:02 1 /a") && is_no_line("4-5 r-xp 0 08:02 a /a"), "no line");
+    demand(is_no_line("0-10000000000000000 r-xp 0 08:02 1 /a") && is_no_line("0-1 r-xp 0 100000000:02 1 /a") && is_no_line("0-1 r-xp 10000000000000000 08:02 1 /a") && is_no_line("0-1 r-xp 0 08:02 18446744073709551616 /a"), "numbers that are too large");
 }
 
 static bool is_of_a_file(uint32_t major, bool knows, uint64_t kind)

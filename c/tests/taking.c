@@ -89,6 +89,29 @@ static void put_off(void)
     demand(wulgach_order_after(WULGACH_SUBMISSION_COMES, true, true) == WULGACH_WAITS_BEHIND && wulgach_order_after(WULGACH_POSTING_COMES, true, true) == WULGACH_WAITS_BEHIND && wulgach_order_after(WULGACH_END_COMES, true, true) == WULGACH_COMES_NOW, "memory is refused still");
 }
 
+/* Which are looked at for those that find their files in their turn. */
+static void find_in_turn(void)
+{
+    struct wulgach_due due;
+    struct wulgach_due_span span = {77, 77};
+    wulgach_due_begin(&due);
+    demand(!wulgach_due_is_any(&due) && !wulgach_due_before(&due, UINT64_MAX, &span) && span.first == 77, "none at first");
+    wulgach_due_notes(&due, 3);
+    wulgach_due_notes(&due, 7);
+    demand(wulgach_due_is_any(&due) && !wulgach_due_before(&due, 3, &span) && wulgach_due_before(&due, 4, &span) && span.first == 3 && span.last == 3, "the first");
+    demand(wulgach_due_before(&due, UINT64_MAX, &span) && span.first == 3 && span.last == 7, "all");
+    wulgach_due_found_before(&due, 5);
+    demand(wulgach_due_is_any(&due) && !wulgach_due_before(&due, 5, &span) && wulgach_due_before(&due, 8, &span) && span.first == 5 && span.last == 7, "those that are left");
+    wulgach_due_found_before(&due, 2);
+    demand(!wulgach_due_before(&due, 5, &span), "none comes back");
+    wulgach_due_found_before(&due, 8);
+    demand(!wulgach_due_is_any(&due) && !wulgach_due_before(&due, UINT64_MAX, &span), "none is left");
+    wulgach_due_notes(&due, 9);
+    demand(wulgach_due_before(&due, UINT64_MAX, &span) && span.first == 9 && span.last == 9, "another");
+    wulgach_due_notes(&due, 6);
+    demand(wulgach_due_before(&due, 9, &span) && span.first == 6 && span.last == 8, "and one before it");
+}
+
 static void search_and_update(void)
 {
     struct wulgach_outstanding other = {.user_data = 1, .is_token = true, .runs = true, .is_stream = true}, read = {.user_data = 2, .is_token = true, .runs = true}, poll = {.user_data = 2, .is_token = true, .runs = true, .is_stream = true};
@@ -102,6 +125,9 @@ static void search_and_update(void)
     wulgach_search_begin(&search, 2);
     demand(!wulgach_search_sees(&search, &limiting) && wulgach_search_found_by_core(&search, -114, true) == -2 && wulgach_search_found_by_core(&search, -114, false) == -114 && wulgach_search_found_by_core(&search, 0, true) == 0, "a linked timeout isn't found");
     demand(wulgach_search_sees(&search, &poll) && wulgach_search_found_by_core(&search, -114, true) == -114, "what stands behind it is");
+    struct wulgach_outstanding unstarted = {.user_data = 2, .is_token = true, .may_start = true, .is_stream = true};
+    wulgach_search_begin(&search, 2);
+    demand(!wulgach_search_sees(&search, &unstarted) && wulgach_search_sees(&search, &poll), "what doesn't run is passed over");
     struct wulgach_submission changed = {.opcode = 6, .user_data = 5, .op_flags = 1, .len = 1, .off = 9};
     wulgach_updated_poll(&changed, &(struct wulgach_submission){.len = 4, .off = 6});
     demand(changed.user_data == 6 && changed.op_flags == 1, "user data");
@@ -285,6 +311,7 @@ int main(void)
     choose();
     post();
     put_off();
+    find_in_turn();
     search_and_update();
     copy_pieces();
     look_at_names();

@@ -162,19 +162,17 @@ void assign(struct ring *ring, struct request *request)
 void assign_in_turn(struct ring *ring, struct request *request)
 {
     request->is_due = true;
-    if (ring->due_from == ring->due_end)
-        ring->due_from = request->number;
-    ring->due_end = request->number + 1;
+    wulgach_due_notes(&ring->due, request->number);
 }
 
 void assign_before(struct ring *ring, uint64_t number)
 {
     const struct requests *requests = &ring->requests;
-    uint64_t end = number < ring->due_end ? number : ring->due_end;
-    if (end <= ring->due_from)
+    struct wulgach_due_span span;
+    if (!wulgach_due_before(&ring->due, number, &span))
         return;
-    for (size_t place = count_before(requests, ring->due_from); place < requests->count && requests->rows[place]->number < end; place++)
+    for (size_t place = count_before(requests, span.first); place < requests->count && requests->rows[place]->number <= span.last; place++)
         if (requests->rows[place]->is_due && !requests->rows[place]->is_assigned)
             assign(ring, requests->rows[place]);
-    ring->due_from = end;
+    wulgach_due_found_before(&ring->due, number);
 }

@@ -125,7 +125,7 @@ bool cancel_running(struct ring *ring, const struct request *cancel, int32_t *fo
     begin_seeking_named(&seeking, ring, user_data);
     for (struct request *request; (request = next_sought(&seeking));) {
         struct wulgach_outstanding seen = seen_by(ring, cancel, request);
-        if (seen.runs && wulgach_search_sees(&search, &seen))
+        if (wulgach_search_sees(&search, &seen))
             cancel_request(ring, request);
     }
     *found = wulgach_search_found_by_core(&search, *found, ring->is_linux);

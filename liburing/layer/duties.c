@@ -69,7 +69,7 @@ static struct wulgach_resting resting(const struct ring *ring)
     return (struct wulgach_resting){
         .waiting = count_waiting(ring),
         .looked_at = MOST_LOOKED_AT,
-        .has_due = ring->due_from < ring->due_end,
+        .has_due = wulgach_due_is_any(&ring->due),
         .runs = ring->running.count > 0,
         .has_new = ring->requests.count > 0 && ring->held_before < ring->accepted,
         .has_watches = ring->pipes.count > 0,

@@ -110,8 +110,7 @@ static int ask_select(struct pollfd *polled, nfds_t count, const struct timespec
 int poll_now(struct pollfd *polled, nfds_t count)
 {
     static const struct timespec now;
-    /* (where nothing is ready a signal that comes is an error) */
-    block_signals_of_call();
+    block_signals_before(WULGACH_DOES_LOOK, false, false);
     int came = poll(polled, count, 0);
     return came < 0 && wulgach_asks_select(-errno) ? ask_select(polled, count, &now, NULL) : came;
 }

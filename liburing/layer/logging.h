@@ -6,6 +6,7 @@
 
 #include "log.h"
 #include "../../c/wulgach_logged.h"
+#include "../../c/wulgach_register.h"
 
 #include <stdbool.h>
 #include <stdint.h>
@@ -61,6 +62,7 @@ SEEN bool wulgach_is_synced_number(int fd);
     CALL(bool, whole_pages, (uint64_t length, uint64_t *bytes), (length, bytes))                                                                           \
     CALL(uint64_t, next_mapped_page, (int64_t found, uint64_t at, uint64_t room), (found, at, room))                                                       \
     CALL(bool, has_synced_memory, (int64_t res), (res))                                                                                                    \
+    CALL(bool, mapped_of, (const uint8_t *line, size_t length, struct wulgach_mapped *mapped), (line, length, mapped))                                       \
     CALL(bool, synced_part, (const struct wulgach_mapped_memory *mapping, uint64_t begin, uint64_t length, struct wulgach_file_part *part), (mapping, begin, length, part))
 
 #define DECLARE_SEEN(result, name, parameters, arguments) SEEN result wulgach_seen_##name parameters;

@@ -60,7 +60,7 @@ static int look_up(const struct request *request)
 void look_for_pipe(struct request *request)
 {
     struct stat status;
-    block_signals_of_call();
+    block_signals_before(WULGACH_DOES_LOOK_UP, false, false);
     int fd = look_up(request);
     request->has_found_pipe = fd >= 0 && fstat(fd, &status) == 0 && S_ISFIFO(status.st_mode);
     if (request->has_found_pipe) {

@@ -130,7 +130,7 @@ static struct wulgach_vectors vectors_of(const struct request *request)
 static int32_t make_in_way(const struct request *request, const struct wulgach_system_call *call, uint32_t way)
 {
     if (way == WULGACH_CALL_UNWILLING) {
-        block_signals_of_call();
+        block_signals_before(WULGACH_DOES_ASK_NOT_TO_WAIT, false, false);
         return make_unwilling_transfer(call, request->fd);
     }
     if (!request->needs.is_read)
@@ -288,8 +288,7 @@ static int32_t call_with_buffer(struct ring *ring, struct request *request, bool
 /* Makes its calls, of half of its bytes or of all, and takes back the signal that comes of them. */
 static int32_t call_for(struct ring *ring, struct request *request, bool is_half)
 {
-    if (wulgach_blocks_before(request->needs.is_read, request->standing.is_stream))
-        block_signals_of_call();
+    block_signals_before(WULGACH_DOES_OPERATION, request->needs.is_read, request->standing.is_stream);
     if (is_half && !request->needs.selects)
         shorten(request);
     int32_t res = request->needs.selects ? call_with_buffer(ring, request, is_half) : call_or_wait(ring, request);

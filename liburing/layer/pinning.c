@@ -62,40 +62,49 @@ static char *read_file(const char *path)
     return NULL;
 }
 
-/* Whether a line of the thread's list of memory is of memory that is shared with a file which is written back, and where that is. */
-static bool is_of_a_file(const char *line, struct span *span)
+/* Whether the memory that a line of the thread's list is of is shared with a file which is written back. */
+static bool is_of_a_file(const char *line, const struct wulgach_mapped *mapped)
 {
-    struct wulgach_mapped mapped;
     struct statfs status;
-    if (!wulgach_mapped_of((const uint8_t *)line, strlen(line), &mapped))
-        return false;
-    *span = (struct span){mapped.start, mapped.end};
-    bool knows = mapped.is_asked && statfs(line + mapped.path, &status) == 0;
-    return wulgach_is_of_a_file(&mapped, knows, knows ? (uint64_t)(uint32_t)status.f_type : 0);
+    bool knows = mapped->is_asked && statfs(line + mapped->path, &status) == 0;
+    return wulgach_is_of_a_file(mapped, knows, knows ? (uint64_t)(uint32_t)status.f_type : 0);
 }
 
-/* Notes the memory of each line. Returns false if there is no room, or no line. */
-static bool note_lines(struct known_memory *known, char *text)
+/* Notes this memory. Returns false if there is no room. */
+static bool note(struct known_memory *known, const struct wulgach_mapped *mapped)
 {
-    size_t room = 0, lines = 0;
-    char *rest = NULL;
-    for (char *line = strtok_r(text, "\n", &rest); line; line = strtok_r(NULL, "\n", &rest), lines++) {
-        if (known->count == room) {
-            struct span *more = realloc(known->spans, (room = 2 * room + 8) * sizeof *more);
-            if (!more)
-                return false;
-            known->spans = more;
-        }
-        known->count += is_of_a_file(line, &known->spans[known->count]);
+    if (known->count == known->room) {
+        struct span *more = realloc(known->spans, (known->room = 2 * known->room + 8) * sizeof *more);
+        if (!more)
+            return false;
+        known->spans = more;
     }
-    return lines > 0;
+    known->spans[known->count++] = (struct span){mapped->start, mapped->end};
+    return true;
+}
+
+/* Notes what such lines are of, and counts those that say it. Returns false if there is no room. */
+static bool note_lines(struct known_memory *known, char *text, uint64_t *lines)
+{
+    struct wulgach_mapped mapped;
+    char *rest = NULL;
+    for (char *line = strtok_r(text, "\n", &rest); line; line = strtok_r(NULL, "\n", &rest)) {
+        if (!wulgach_mapped_of((const uint8_t *)line, strlen(line), &mapped))
+            continue;
+        ++*lines;
+        if (is_of_a_file(line, &mapped) && !note(known, &mapped))
+            return false;
+    }
+    return true;
 }
 
 static void look_up(struct known_memory *known)
 {
     char *text = read_file("/proc/thread-self/maps");
+    uint64_t lines = 0;
+    bool is_whole = text && note_lines(known, text, &lines);
     known->is_looked_up = true;
-    known->is_listed = text && note_lines(known, text);
+    known->is_listed = wulgach_is_listed(is_whole, lines);
     free(text);
 }
 

@@ -100,7 +100,7 @@ struct ring {
     uint64_t begun;                     /* and how many have started; */
     uint64_t unstarted;                 /* each with a lesser number has started, or ended */
     uint64_t held_before;               /* each with a lesser number was given its file to keep, if it was known */
-    uint64_t due_from, due_end;         /* from the one number up to the other some are to find their files in their turn */
+    struct wulgach_due due;             /* those that are to find their files in their turn */
     struct completions completions;     /* posted and not reaped */
     struct wulgach_held_back held;      /* what was posted of the ends of the newest submission */
     struct wulgach_times times;         /* its time, in nanoseconds, and how many timeouts run: */

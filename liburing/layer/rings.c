@@ -142,6 +142,7 @@ static int make_ring(struct ring **made, uint32_t entries, struct io_uring_param
     make_dormant(&ring->dormant);
     wulgach_shown_begin(&ring->completions.at);
     wulgach_drains_begin(&ring->drains);
+    wulgach_due_begin(&ring->due);
     wulgach_lookout_begin(&ring->lookout);
     ring->is_linux = sizes.linux_rules;
     ring->ready_fd = -1;

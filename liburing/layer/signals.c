@@ -2,13 +2,12 @@
  * before its process's: so the call's is taken first, if there is one. Which of those that are taken is the call's is the library's decision.
  *
  * A handler that comes amid a call may call io_uring, or leave by a jump: so all are blocked in a call, for two system calls. Where WULGACH_HANDLERS says that no
- * handler does anything of the kind, they are blocked from where one would be seen, as the library says; and before looks that a signal ends.
+ * handler does anything of the kind, they are blocked from where one would be seen, as the library says.
  */
 #define _GNU_SOURCE
 #include "signals.h"
 #include "fault.h"
 #include "process.h"
-#include "wulgach_enter.h"
 #include "wulgach_results.h"
 
 #include <linux/io_uring.h>
@@ -43,20 +42,24 @@ void begin_signals(struct call_signals *signals, bool is_open)
         block_signals(&signals->own);
 }
 
-void block_signals_of_call(void)
+static void block_open_call(void)
 {
-    if (!open_call)
-        return;
     block_signals(&open_call->own);
     open_call->are_blocked = true;
     open_call = NULL;
+}
+
+void block_signals_before(uint32_t doing, bool is_read, bool is_stream)
+{
+    if (open_call && wulgach_blocks_before(doing, is_read, is_stream))
+        block_open_call();
 }
 
 bool was_interrupted(int32_t res)
 {
     bool is_made_again = wulgach_is_made_again(open_call != NULL, res);
     if (is_made_again)
-        block_signals_of_call();
+        block_open_call();
     return is_made_again;
 }
 

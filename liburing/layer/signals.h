@@ -2,6 +2,8 @@
 #ifndef SIGNALS_H
 #define SIGNALS_H
 
+#include "wulgach_enter.h"
+
 #include <signal.h>
 #include <stdbool.h>
 #include <stdint.h>
@@ -22,8 +24,8 @@ struct call_signals {
 void begin_signals(struct call_signals *signals, bool is_open);
 void end_signals(const struct call_signals *signals);
 
-/* What comes now may be ended by a signal, or bring one: from here on none may come. */
-void block_signals_of_call(void);
+/* What comes now (enum wulgach_doing): from here on no signal may come, where the library says so. The last two are of an operation. */
+void block_signals_before(uint32_t doing, bool is_read, bool is_stream);
 
 /* Whether a signal has ended what came to this, so that it is to be done once more: none may come then. */
 bool was_interrupted(int32_t res);

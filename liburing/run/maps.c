@@ -211,11 +211,15 @@ static void add_map(int fd, uint64_t length, uint64_t offset)
 
 /* ---- msync ---- */
 
-/* What the kernel lists of the process's memory, from the first to the last, in a line each. */
+/* A line has its numbers, and a path (proc_pid_maps(5)). */
+enum { LINE_ROOM = 128 + PATH_ROOM };
+
+/* What the kernel lists of the process's memory, from the first to the last, in a line each; and the line that was read last, as much of it as there is room
+ * for, without its end. */
 struct list {
     int fd;
-    size_t at, length;
-    char room[PAGE];
+    size_t at, length, line_length;
+    char room[PAGE], line[LINE_ROOM];
 };
 
 static int next_letter(struct list *list)
@@ -228,47 +232,17 @@ static int next_letter(struct list *list)
     return list->at < list->length ? (unsigned char)list->room[list->at++] : -1;
 }
 
-/* A number up to a letter that is none of its digits, which is read too. */
-static uint64_t next_number(struct list *list, unsigned base)
+/* Reads the next line. False: there is none. */
+static bool next_line(struct list *list)
 {
-    uint64_t number = 0;
-    for (;;) {
-        int letter = next_letter(list);
-        unsigned digit = letter >= 'a' ? (unsigned)letter - 'a' + 10 : letter >= '0' && letter <= '9' ? (unsigned)letter - '0' : base;
-        if (digit >= base)
-            return number;
-        number = number * base + digit;
-    }
-}
-
-/* Reads the rest of a line, as much of it as there is room for, without the blanks in front. */
-static void read_rest(struct list *list, char room[PATH_ROOM])
-{
-    size_t length = 0;
-    int letter;
-    while ((letter = next_letter(list)) >= 0 && letter != '\n')
-        if (length + 1 < PATH_ROOM && (length > 0 || letter != ' '))
-            room[length++] = (char)letter;
-    room[length] = '\0';
-}
-
-/* A line: where it begins and ends, what may be done there and whether it's shared, the offset, the device and the inode, and the path (proc_pid_maps(5)). False: there
- * is none. */
-static bool next_mapping(struct list *list, struct wulgach_mapped_memory *mapping, char path[PATH_ROOM])
-{
-    mapping->begin = next_number(list, 16);
-    mapping->end = next_number(list, 16);
-    for (int i = 0; i < 3; i++)
-        next_letter(list);
-    mapping->is_shared = next_letter(list) == 's';
-    next_letter(list);
-    mapping->offset = next_number(list, 16);
-    next_number(list, 16);
-    next_number(list, 16);
-    mapping->file = next_number(list, 10);
-    read_rest(list, path);
-    mapping->is_on_disk = is_path_on_disk(path);
-    return mapping->end != 0;
+    int letter = next_letter(list);
+    bool is_there = letter >= 0;
+    list->line_length = 0;
+    for (; letter >= 0 && letter != '\n'; letter = next_letter(list))
+        if (list->line_length + 1 < LINE_ROOM)
+            list->line[list->line_length++] = (char)letter;
+    list->line[list->line_length] = '\0';
+    return is_there;
 }
 
 static void sync_part(uint64_t file, const char *path, const struct wulgach_file_part *part)
@@ -284,19 +258,29 @@ static void sync_part(uint64_t file, const char *path, const struct wulgach_file
     end_operation(0);
 }
 
+/* Syncs what a line says to be mapped of this memory. */
+static void sync_line(const struct list *list, uint64_t begin, uint64_t length)
+{
+    struct wulgach_mapped is;
+    struct wulgach_file_part part;
+    if (!wulgach_seen_mapped_of((const uint8_t *)list->line, list->line_length, &is))
+        return;
+    const char *path = list->line + is.path;
+    struct wulgach_mapped_memory memory = {.is_shared = is.is_shared, .is_on_disk = is_path_on_disk(path), .file = is.inode, .begin = is.start, .end = is.end, .offset = is.offset};
+    if (wulgach_seen_synced_part(&memory, begin, length, &part))
+        sync_part(is.inode, path, &part);
+}
+
 /* Which files the memory is of is asked as it is synced: what was mapped there before may be gone. */
 static void sync_memory(uint64_t begin, uint64_t length)
 {
     static struct list list;
-    static char path[PATH_ROOM];
-    struct wulgach_mapped_memory mapping;
-    struct wulgach_file_part part;
     sigset_t before;
     lock(&before);
-    list = (struct list){.fd = (int)pass(SYS_open, (long)"/proc/thread-self/maps", O_RDONLY | O_CLOEXEC, 0, 0, 0, 0)};
-    while (list.fd >= 0 && next_mapping(&list, &mapping, path))
-        if (wulgach_seen_synced_part(&mapping, begin, length, &part))
-            sync_part(mapping.file, path, &part);
+    list.fd = (int)pass(SYS_open, (long)"/proc/thread-self/maps", O_RDONLY | O_CLOEXEC, 0, 0, 0, 0);
+    list.at = list.length = 0;
+    while (list.fd >= 0 && next_line(&list))
+        sync_line(&list, begin, length);
     pass(SYS_close, list.fd, 0, 0, 0, 0, 0);
     unlock(&before);
 }

@@ -30,3 +30,4 @@ pub mod CarryingForm
 pub mod HearingForm
 pub mod LoggingForm
 pub mod LoggedForm
+pub mod SignalForm

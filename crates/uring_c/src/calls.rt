@@ -6,6 +6,7 @@ pub mod cancelling_exports;
 pub mod chain_exports;
 pub mod closing_exports;
 pub mod copying_exports;
+pub mod due_exports;
 pub mod duty_exports;
 pub mod enter_exports;
 pub mod following_exports;

@@ -4,7 +4,7 @@ use Rattle.std.proofs.lemmas.Bool.{false≢true, true≢false}
 use Rattle.uring_enter.specs.declared.cancels.cancel.Sought.{Sought}
 use Rattle.uring_enter.specs.declared.cancels.cancel.Outstanding.{Outstanding}
 use Rattle.uring_enter.specs.Cancels.Cancels.{is_of_all, fits, fits_fd, is_named, is_ever_found, is_free, is_waiting, is_none, is_meant, has_ended_first, is_open, can_be_found, finds_any, first_of, one_more, count_of, oldest}
-use Rattle.uring_enter.specs.Cancels.CancelLaws.{CancelsWhatFits, CancelsAllThatFit, CancelsTheFirst, AsksWhatMatters, AsksFileWhereItMatters, AsksWaitWhereItMatters, FindsFirstThatWait, PassesOverLinked, PassesOverOthers, SearchPassesOverOthers}
+use Rattle.uring_enter.specs.Cancels.CancelLaws.{CancelsWhatFits, CancelsAllThatFit, CancelsTheFirst, AsksWhatMatters, AsksFileWhereItMatters, AsksWaitWhereItMatters, FindsFirstThatWait, PassesOverLinked, PassesOverOthers, SearchPassesOverOthers, SearchPassesOverWaiting}
 use Rattle.uring_enter.specs.Cancels.Ranks.{RanksAll, is_ranked}
 
 fits_by : (b f g : Bool) → (b && f && g) ≡ true → (f ≡ true) × (g ≡ true)
@@ -78,7 +78,7 @@ asks_what_matters s earlier r is =
 wait_by : (free runs waiting may first goes one other same ever : Bool) → (first && runs && not goes) ≡ false
     → ((free && (if runs then waiting && not ((first && runs && not goes) && one) else may && not first))
     ≡ (free && (if runs then waiting && not ((first && runs && not goes) && other) else may && not first)))
-    × ((same && ever && not ((first && runs && not goes) && one)) ≡ (same && ever && not ((first && runs && not goes) && other)))
+    × ((same && ever && runs && not ((first && runs && not goes) && one)) ≡ (same && ever && runs && not ((first && runs && not goes) && other)))
 wait_by free runs waiting may false goes one other same ever is = (refl, refl)
 wait_by free false waiting may true goes one other same ever is = (refl, refl)
 wait_by free true waiting may true true one other same ever is = (refl, refl)
@@ -155,19 +155,30 @@ unsought_by found r true cancelled waiting is = absurd (true≢false is)
 unsought_by None r false cancelled waiting is = (refl, refl)
 unsought_by (Some it) r false cancelled waiting is = (refl, refl)
 
-without_first : (one two three : Bool) → one ≡ false → (one && two && three) ≡ false
-without_first true two three is = absurd (true≢false is)
-without_first false two three is = refl
+without_first : (one two three four : Bool) → one ≡ false → (one && two && three && four) ≡ false
+without_first true two three four is = absurd (true≢false is)
+without_first false two three four is = refl
 
-without_middle : (one two three : Bool) → two ≡ false → (one && two && three) ≡ false
-without_middle true true three is = absurd (true≢false is)
-without_middle true false three is = refl
-without_middle false two three is = refl
+without_second : (one two three four : Bool) → two ≡ false → (one && two && three && four) ≡ false
+without_second one true three four is = absurd (true≢false is)
+without_second true false three four is = refl
+without_second false false three four is = refl
+
+without_third : (one two three four : Bool) → three ≡ false → (one && two && three && four) ≡ false
+without_third one two true four is = absurd (true≢false is)
+without_third false two false four is = refl
+without_third true false false four is = refl
+without_third true true false four is = refl
 
 pub search_passes_over_others : SearchPassesOverOthers
 search_passes_over_others user_data earlier r is =
     unsought_by (oldest user_data earlier) r (is_meant user_data r) r.is_cancelled (is_waiting r)
-    (without_first (r.user_data == user_data) (is_ever_found r) (not (has_ended_first r)) is)
+    (without_first (r.user_data == user_data) (is_ever_found r) r.runs (not (has_ended_first r)) is)
+
+pub search_passes_over_waiting : SearchPassesOverWaiting
+search_passes_over_waiting user_data earlier r is =
+    unsought_by (oldest user_data earlier) r (is_meant user_data r) r.is_cancelled (is_waiting r)
+    (without_third (r.user_data == user_data) (is_ever_found r) r.runs (not (has_ended_first r)) is)
 
 unfound_by : (b f token cancelled ever next : Bool) → ever ≡ false
     → (b && f && ((token && not cancelled && ever) && next)) ≡ false
@@ -182,7 +193,7 @@ pub passes_over_linked : PassesOverLinked
 passes_over_linked s earlier r is = (
   unfound_by (is_of_all s || not (finds_any s earlier)) (fits s r) r.is_token r.is_cancelled (is_ever_found r) (is_open r) is,
   λ user_data. unsought_by (oldest user_data earlier) r (is_meant user_data r) r.is_cancelled (is_waiting r)
-      (without_middle (r.user_data == user_data) (is_ever_found r) (not (has_ended_first r)) is),
+      (without_second (r.user_data == user_data) (is_ever_found r) r.runs (not (has_ended_first r)) is),
 )
 
 -- a rank is neither before the first nor after the last, whichever they are

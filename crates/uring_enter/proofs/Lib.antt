@@ -19,3 +19,5 @@ mod PuttingOffRuns
 mod PassageRuns
 mod StepRuns
 mod JoiningRuns
+mod DueRuns
+mod SignalRuns

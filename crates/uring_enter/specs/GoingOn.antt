@@ -4,3 +4,4 @@ pub mod Duties
 pub mod Following
 pub mod PuttingOff
 pub mod Carrying
+pub mod Due

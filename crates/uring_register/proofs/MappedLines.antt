@@ -133,5 +133,7 @@ read_so f are =
           ap (λ (w : List ℕ). part_of (first_word w) 0) (after_3 ∙ device_line)
           ∙ ap (λ (w : List ℕ). part_of w 0) (word_first device inode none_in_device)
           ∙ ap (λ (parts : List (List ℕ)). unwrap_or (slice_get parts 0) []) (slice_split_at (λ byte. byte == 58) f.major 58 f.minor (All-from_recursion (λ other. (other == 58) ≡ false) f.major (number_without 16 58 f.major (omega arith) are.major)) refl);
+      offset = ap first_word after_2 ∙ word_first f.offset devices (number_without 16 32 f.offset (omega arith) are.offset);
+      inode = ap first_word after_4 ∙ word_first f.inode (replicate f.blanks 32 ++ f.path) (number_without 10 32 f.inode (omega arith) are.inode);
       path = ap after_word after_4 ∙ word_after f.inode f.blanks f.path (number_without 10 32 f.inode (omega arith) are.inode) are.path;
     }

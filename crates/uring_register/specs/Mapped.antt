@@ -16,17 +16,25 @@ end_of line = after_first (λ byte. byte == 45) (first_word line)
 abbrev pub rights_of : (line : List ℕ) → List ℕ
 rights_of line = first_word (after_word line)
 
+-- where in its file it begins
+abbrev pub offset_of : (line : List ℕ) → List ℕ
+offset_of line = first_word (after_word (after_word line))
+
 -- the two numbers of the device have a colon between
 abbrev pub major_of : (line : List ℕ) → List ℕ
 major_of line = part_of (first_word (after_word (after_word (after_word line)))) 0
+
+-- the file's inode, 0 without one
+abbrev pub inode_of : (line : List ℕ) → List ℕ
+inode_of line = first_word (after_word (after_word (after_word (after_word line))))
 
 -- all that stands after the inode, with blanks that are the path's own. Memory of no file has none
 abbrev pub path_of : (line : List ℕ) → List ℕ
 path_of line = after_word (after_word (after_word (after_word (after_word line))))
 
--- a hexadecimal number of so many bits
-abbrev pub number_of : (bits : ℕ) → List ℕ → Option ℕ
-number_of bits digits = if is_number 16 digits && nat_lt (value_of 16 digits) (2 ^ bits) then Some (value_of 16 digits) else None
+-- a number of so many bits, decimal by the base 10, and hexadecimal by 16
+abbrev pub number_of : (base bits : ℕ) → List ℕ → Option ℕ
+number_of base bits digits = if is_number base digits && nat_lt (value_of base digits) (2 ^ bits) then Some (value_of base digits) else None
 
 -- the last of the four rights is `s` of what is shared, and `p` of what is the process's own
 abbrev pub is_shared : (line : List ℕ) → Bool
@@ -40,22 +48,24 @@ abbrev pub has_path : (line : List ℕ) → Bool
 has_path line = begins_with 47 (path_of line)
 
 -- what a line says beside its numbers, if each is one. The file system of what is shared is asked about by its path: of other memory nothing depends on it
-abbrev pub with_numbers : (line : List ℕ) → (start end major : Option ℕ) → Option Mapped
-with_numbers line (Some start) (Some end) (Some major) =
+abbrev pub with_numbers : (line : List ℕ) → (start end offset major inode : Option ℕ) → Option Mapped
+with_numbers line (Some start) (Some end) (Some offset) (Some major) (Some inode) =
     Some (record {
       start = start;
       end = end;
+      offset = offset;
+      inode = inode;
       path = length line - length (path_of line);
       major = major;
       is_shared = is_shared line;
       is_asked = is_shared line && has_path line;
     })
-with_numbers line start end major = None
+with_numbers line start end offset major inode = None
 
--- addresses have 64 bits, and the number of a device 32
+-- addresses, offsets and inodes have 64 bits, and the number of a device 32
 abbrev pub mapped_of : (line : List ℕ) → Option Mapped
 mapped_of line =
-    with_numbers line (number_of 64 (start_of line)) (number_of 64 (end_of line)) (number_of 32 (major_of line))
+    with_numbers line (number_of 16 64 (start_of line)) (number_of 16 64 (end_of line)) (number_of 16 64 (offset_of line)) (number_of 16 32 (major_of line)) (number_of 10 64 (inode_of line))
 
 -- it is shared with a file that the kernel writes back
 abbrev pub is_of_a_file : Mapped → (kind : Option ℕ) → Bool
@@ -95,7 +105,9 @@ pub record IsReadSo (f : Fields) : Type 0 where
   pub start : start_of (line_of f) ≡ f.start
   pub end : end_of (line_of f) ≡ f.end
   pub rights : rights_of (line_of f) ≡ f.rights
+  pub offset : offset_of (line_of f) ≡ f.offset
   pub major : major_of (line_of f) ≡ f.major
+  pub inode : inode_of (line_of f) ≡ f.inode
   pub path : path_of (line_of f) ≡ f.path
 
 abbrev pub ReadsWhatIsWritten : Type 0

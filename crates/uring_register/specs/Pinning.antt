@@ -19,6 +19,10 @@ is_missing m = m.is_asked && not m.is_there
 abbrev pub is_of_a_file : Memory → Bool
 is_of_a_file m = m.is_listed && m.is_written_back
 
+-- whether the kernel's list of memory says with which files it is shared: it was read to its end, and one of its lines at least says what it is of. One that doesn't is passed over, as if its memory were shared with no file, and the others hold. Our own rules
+abbrev pub is_listed : (is_whole : Bool) → (lines : ℕ) → Bool
+is_listed is_whole lines = is_whole && nat_lt 0 lines
+
 -- the fault of registering it, or 0: -75 (EOVERFLOW) if it has no end, -14 (EFAULT) if its pages can't be kept and written
 abbrev pub pinning_fault : Memory → ℤ
 pinning_fault m =

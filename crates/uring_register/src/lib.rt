@@ -112,6 +112,7 @@ pub use numbering::RowStage;
 pub use numbering::next_of_row;
 pub use pinning::Memory;
 pub use pinning::has_byte_of;
+pub use pinning::is_listed;
 pub use pinning::is_written_back;
 pub use pinning::pinning_fault;
 pub use placing::PlacingOnto;

@@ -17,6 +17,12 @@ pub struct Mapped {
     /// and the one after it.
     pub end: u64,
 
+    /// Where in its file it begins.
+    pub offset: u64,
+
+    /// The inode of that file, 0 without one.
+    pub inode: u64,
+
     /// Where in the line the path of its file begins, or the line's length.
     pub path: u64,
 
@@ -36,10 +42,14 @@ pub fn mapped_of(line: &[u8]) -> Option<Mapped>
 {
     let start = address_of(start_of(line))?;
     let end = address_of(end_of(line))?;
+    let offset = address_of(offset_of(line))?;
     let major = device_number_of(major_of(line))?;
+    let inode = inode_number_of(inode_of(line))?;
     Some(Mapped {
         start,
         end,
+        offset,
+        inode,
         path: (line.len() - path_of(line).len()) as u64,
         major,
         is_shared: is_shared(line),
@@ -84,10 +94,22 @@ fn rights_of(line: &[u8]) -> &[u8]
     first_word(after_word(line))
 }
 
+fn offset_of(line: &[u8]) -> &[u8]
+    ensures { result.now ≡ spec.offset_of line.now }
+{
+    first_word(after_word(after_word(line)))
+}
+
 fn major_of(line: &[u8]) -> &[u8]
     ensures { result.now ≡ spec.major_of line.now }
 {
     part_of(first_word(after_word(after_word(after_word(line)))), 0)
+}
+
+fn inode_of(line: &[u8]) -> &[u8]
+    ensures { result.now ≡ spec.inode_of line.now }
+{
+    first_word(after_word(after_word(after_word(after_word(line)))))
 }
 
 fn path_of(line: &[u8]) -> &[u8]
@@ -108,9 +130,9 @@ fn has_path(line: &[u8]) -> bool
     matches!(path_of(line).get(0), Some(b'/'))
 }
 
-/// An address in hexadecimal.
+/// An address or an offset in hexadecimal.
 fn address_of(digits: &[u8]) -> Option<u64>
-    ensures { result ≡ spec.number_of 64 digits.now }
+    ensures { result ≡ spec.number_of 16 64 digits.now }
 {
     if !is_number(16, digits) {
         return None;
@@ -120,10 +142,20 @@ fn address_of(digits: &[u8]) -> Option<u64>
 
 /// A number of a device in hexadecimal.
 fn device_number_of(digits: &[u8]) -> Option<u32>
-    ensures { result ≡ spec.number_of 32 digits.now }
+    ensures { result ≡ spec.number_of 16 32 digits.now }
 {
     if !is_number(16, digits) {
         return None;
     }
     u32::try_from(value_of(16, digits)).ok()
+}
+
+/// The number of an inode in decimals.
+fn inode_number_of(digits: &[u8]) -> Option<u64>
+    ensures { result ≡ spec.number_of 10 64 digits.now }
+{
+    if !is_number(10, digits) {
+        return None;
+    }
+    u64::try_from(value_of(10, digits)).ok()
 }

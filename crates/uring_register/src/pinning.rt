@@ -29,6 +29,13 @@ pub struct Memory {
     pub is_written_back: bool,
 }
 
+/// Whether it is known with which files memory is shared, by the kernel's list of it: it was read to its end or wasn't, and so many of its lines say what they are of.
+pub fn is_listed(is_whole: bool, lines: u64) -> bool
+    ensures { result ≡ spec.is_listed is_whole lines }
+{
+    is_whole && 0 < lines
+}
+
 /// The fault of registering this memory, or 0.
 pub fn pinning_fault(memory: &Memory) -> i32
     ensures { result ≡ spec.pinning_fault memory.now }

@@ -168,7 +168,7 @@ pub extern "C" fn wulgach_cancel_result(cancel: &Cancel) -> i32
     cancel.result()
 }
 
-/// A search for a running request of this user data, which hasn't looked at any.
+/// A search for a request of this user data that runs, which hasn't looked at any.
 #[unsafe(no_mangle)]
 pub extern "C" fn wulgach_search_begin(search: &mut Search, user_data: u64)
     ensures { HasSought user_data [] search.new }
@@ -176,7 +176,7 @@ pub extern "C" fn wulgach_search_begin(search: &mut Search, user_data: u64)
     *search = Search::begin(user_data);
 }
 
-/// Looks at the next running request, and says whether it is to be cancelled.
+/// Looks at the next request, and says whether it is to be cancelled.
 #[unsafe(no_mangle)]
 pub extern "C" fn wulgach_search_sees(search: &mut Search, request: &Outstanding) -> bool
     ensures stopped { (user_data : ℕ) (seen : List Outstanding) → HasSought user_data seen search.old
@@ -196,7 +196,7 @@ pub extern "C" fn wulgach_search_has_cancelled(search: &Search) -> bool
     search.has_cancelled()
 }
 
-/// What the core has found that has ended the cancel so, once all that run were looked at: -2 in the place of -114 if, by Linux's rules, none of them is one that a cancel finds.
+/// What the core has found that has ended the cancel so, once all were looked at: -2 in the place of -114 if, by Linux's rules, none of them is one that a cancel finds.
 #[unsafe(no_mangle)]
 pub extern "C" fn wulgach_search_found_by_core(search: &Search, res: i32, linux: bool) -> i32
     ensures { (user_data : ℕ) (seen : List Outstanding) → HasSought user_data seen search.now

@@ -1,8 +1,9 @@
 //! From where on a thread's signals are blocked in a call, for C: functions of `c/wulgach_enter.h`.
 ghost use Rattle.std.specs.Prelude.{◌≡◌};
 ghost use Rattle.uring_enter.specs.Call.Signals as spec;
+ghost use Rattle.uring_c.specs.SignalForm.{doing_of};
 
-use uring_enter::{blocks_at_begin, blocks_before, is_made_again};
+use uring_enter::{Doing, blocks_at_begin, blocks_before, is_made_again};
 
 /// Whether signals are blocked as a call begins.
 #[unsafe(no_mangle)]
@@ -12,12 +13,23 @@ pub extern "C" fn wulgach_blocks_at_begin(are_quiet: bool, gets: bool, min_compl
     blocks_at_begin(are_quiet, gets, min_complete)
 }
 
-/// Whether signals are blocked before the calls of an operation.
+/// Whether signals are blocked before this is done.
 #[unsafe(no_mangle)]
-pub extern "C" fn wulgach_blocks_before(is_read: bool, is_stream: bool) -> bool
-    ensures { result ≡ spec.blocks_before is_read is_stream }
+pub extern "C" fn wulgach_blocks_before(doing: u32, is_read: bool, is_stream: bool) -> bool
+    ensures { result ≡ spec.blocks_before (doing_of doing is_read is_stream) }
 {
-    blocks_before(is_read, is_stream)
+    blocks_before(doing_by(doing, is_read, is_stream))
+}
+
+fn doing_by(word: u32, is_read: bool, is_stream: bool) -> Doing
+    ensures { result ≡ doing_of word is_read is_stream }
+{
+    match word {
+        0 => Doing::Looks,
+        1 => Doing::LooksUp,
+        2 => Doing::AsksNotToWait,
+        _ => Doing::CarriesOut(is_read, is_stream),
+    }
 }
 
 /// Whether a call is made once more, with signals blocked.

@@ -7,7 +7,8 @@ ghost use Rattle.uring_register.specs.Locks as locks;
 ghost use Rattle.uring_c.specs.PinningForm.{known_of};
 
 use uring_register::{
-    Mapped, Memory, has_byte_of, is_lock_of, is_of_a_file, lists_number, mapped_of, pinning_fault,
+    Mapped, Memory, has_byte_of, is_listed, is_lock_of, is_of_a_file, lists_number, mapped_of,
+    pinning_fault,
 };
 
 /// The fault of registering this memory, or 0.
@@ -24,6 +25,14 @@ pub extern "C" fn wulgach_has_byte_of(from: u64, size: u64, start: u64, end: u64
     ensures { result ≡ spec.has_byte_of from size start end }
 {
     has_byte_of(from, size, start, end)
+}
+
+/// Whether it is known with which files memory is shared, by the kernel's list of it.
+#[unsafe(no_mangle)]
+pub extern "C" fn wulgach_is_listed(is_whole: bool, lines: u64) -> bool
+    ensures { result ≡ spec.is_listed is_whole lines }
+{
+    is_listed(is_whole, lines)
 }
 
 /// Writes what a line of the kernel's list of a process's memory says. False: it isn't such a line, and nothing is written.

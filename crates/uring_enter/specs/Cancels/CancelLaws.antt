@@ -59,3 +59,8 @@ abbrev pub SearchPassesOverOthers : Type 0
 SearchPassesOverOthers = (user_data : ℕ) (earlier : List Outstanding) (r : Outstanding)
     → (r.user_data == user_data) ≡ false
     → (is_stopped user_data earlier r ≡ false) × (oldest user_data (r ∷ earlier) ≡ oldest user_data earlier)
+
+-- nor at one that doesn't run: it waits for others, and no cancel of the core's that has found one that runs ends it
+abbrev pub SearchPassesOverWaiting : Type 0
+SearchPassesOverWaiting = (user_data : ℕ) (earlier : List Outstanding) (r : Outstanding) → r.runs ≡ false
+    → (is_stopped user_data earlier r ≡ false) × (oldest user_data (r ∷ earlier) ≡ oldest user_data earlier)

@@ -113,16 +113,16 @@ abbrev pub first_of : Option Outstanding → Bool → Outstanding → Option Out
 first_of (Some found) fits r = Some found
 first_of None fits r = if fits then Some r else None
 
--- whether a cancel by user data looks for a running request, where the core has found one that runs: not for one that has ended in a kernel by then
+-- whether a cancel by user data looks for a request, where the core has found one that runs: for those that run, but not for one that has ended in a kernel by then
 abbrev pub is_meant : ℕ → Outstanding → Bool
-is_meant user_data r = r.user_data == user_data && is_ever_found r && not (has_ended_first r)
+is_meant user_data r = r.user_data == user_data && is_ever_found r && r.runs && not (has_ended_first r)
 
 -- the oldest of these that it looks for
 abbrev pub oldest : ℕ → List Outstanding → Option Outstanding
 oldest user_data [] = None
 oldest user_data (r ∷ earlier) = first_of (oldest user_data earlier) (is_meant user_data r) r
 
--- whether a running request is cancelled then: it is the oldest, and waits for something. One that is carried out isn't
+-- whether a request is cancelled then: it is the oldest, and waits for something. One that is carried out isn't
 abbrev pub is_stopped : ℕ → List Outstanding → Outstanding → Bool
 is_stopped user_data earlier r =
     is_none (oldest user_data earlier) && is_meant user_data r && not r.is_cancelled && is_waiting r

@@ -2,6 +2,23 @@
 
 ghost use Rattle.std.specs.Prelude.{◌≡◌};
 ghost use Rattle.uring_enter.specs.Call.Signals as spec;
+ghost use Rattle.uring_enter.specs.Call.Signals.{SleepsBlocked, ReadsFilesOpen};
+
+/// What is about to be done in a call.
+#[derive(Clone, Copy, Drop)]
+pub enum Doing {
+    /// Descriptors are looked at, without waiting: poll(2) and select(2).
+    Looks,
+
+    /// A path is looked up: open(2).
+    LooksUp,
+
+    /// A transfer is made whose descriptor is asked not to wait meanwhile.
+    AsksNotToWait,
+
+    /// The calls of an operation are made: which is a read or isn't, and then of a stream or of a file.
+    CarriesOut(bool, bool),
+}
 
 /// Whether signals are blocked as a call begins, whose program's handlers are quiet or aren't, that gets events or doesn't, and waits for so many completions: if it may sleep, since one that comes before it does so ends it too.
 pub fn blocks_at_begin(are_quiet: bool, gets: bool, min_complete: u32) -> bool
@@ -10,11 +27,14 @@ pub fn blocks_at_begin(are_quiet: bool, gets: bool, min_complete: u32) -> bool
     !are_quiet || (gets && 0 < min_complete)
 }
 
-/// Whether signals are blocked before the calls of an operation, which is a read or isn't, on a stream or on a file: one may end them early, or come of them, but not of a read of a file.
-pub fn blocks_before(is_read: bool, is_stream: bool) -> bool
-    ensures { result ≡ spec.blocks_before is_read is_stream }
+/// Whether signals are blocked before this, where they are open: one may end it, come of it, or have a handler find a descriptor otherwise than the program left it. That is so of all but the read of a file.
+pub fn blocks_before(doing: Doing) -> bool
+    ensures { result ≡ spec.blocks_before doing }
 {
-    !is_read || is_stream
+    match doing {
+        Doing::Looks | Doing::LooksUp | Doing::AsksNotToWait => true,
+        Doing::CarriesOut(is_read, is_stream) => !is_read || is_stream,
+    }
 }
 
 /// Whether a call is made once more, with signals blocked, that came to this where they were open or weren't.
@@ -23,3 +43,13 @@ pub fn is_made_again(was_open: bool, res: i32) -> bool
 {
     was_open && res == -4
 }
+
+/// A call sleeps only with signals blocked.
+pub fn sleeps_blocked()
+    ensures { SleepsBlocked }
+{}
+
+/// Nothing is done with signals open but the read of a file.
+pub fn reads_files_open()
+    ensures { ReadsFilesOpen }
+{}

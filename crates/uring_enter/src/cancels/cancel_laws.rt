@@ -1,6 +1,6 @@
 //! What holds of every cancel, whatever it looks at. Each law is the contract of a function that does nothing.
 
-ghost use Rattle.uring_enter.specs.Cancels.CancelLaws.{CancelsWhatFits, CancelsAllThatFit, CancelsTheFirst, AsksWhatMatters, AsksFileWhereItMatters, AsksWaitWhereItMatters, FindsFirstThatWait, PassesOverLinked, PassesOverOthers, SearchPassesOverOthers};
+ghost use Rattle.uring_enter.specs.Cancels.CancelLaws.{CancelsWhatFits, CancelsAllThatFit, CancelsTheFirst, AsksWhatMatters, AsksFileWhereItMatters, AsksWaitWhereItMatters, FindsFirstThatWait, PassesOverLinked, PassesOverOthers, SearchPassesOverOthers, SearchPassesOverWaiting};
 
 /// What is cancelled fits, and can be found.
 pub fn cancels_what_fits()
@@ -50,4 +50,9 @@ pub fn passes_over_others()
 /// And so it is where the core has found one that runs.
 pub fn search_passes_over_others()
     ensures { SearchPassesOverOthers }
+{}
+
+/// And one that doesn't run is passed over then.
+pub fn search_passes_over_waiting()
+    ensures { SearchPassesOverWaiting }
 {}

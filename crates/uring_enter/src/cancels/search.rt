@@ -6,7 +6,7 @@ ghost use Rattle.uring_enter.specs.Cancels.Cancels.{HasSought, oldest, is_meant,
 
 use crate::cancels::cancel::{Outstanding, has_ended_first, is_ever_found, is_waiting};
 
-/// A search among the running requests, one after the other, as a cancel looks at them.
+/// A search among the requests that haven't ended, one after the other, as a cancel looks at them.
 #[repr(C)]
 #[derive(Clone, Copy, Drop)]
 pub struct Search {
@@ -32,7 +32,7 @@ impl Search {
         }
     }
 
-    /// Looks at the next running request, and says whether it is to be cancelled.
+    /// Looks at the next request, and says whether it is to be cancelled.
     pub fn sees(&mut self, request: &Outstanding) -> bool
         ensures stopped { (user_data : ℕ) (seen : List Outstanding) → HasSought user_data seen self.old
             → result ≡ is_stopped user_data seen request.now }
@@ -55,7 +55,7 @@ impl Search {
         self.has_cancelled
     }
 
-    /// What the core has found that has ended the cancel so, once all that run were looked at: -2 in the place of -114 if, by Linux's rules, none of them is one that a cancel finds, or all of these have ended in a kernel by then.
+    /// What the core has found that has ended the cancel so, once all were looked at: -2 in the place of -114 if, by Linux's rules, none of them is one that a cancel finds, or all of these have ended in a kernel by then.
     pub fn found_by_core(&self, res: i32, linux: bool) -> i32
         ensures { (user_data : ℕ) (seen : List Outstanding) → HasSought user_data seen self.now
             → result ≡ found_by_core res seen user_data linux }
@@ -68,9 +68,12 @@ impl Search {
     }
 }
 
-/// Whether a cancel by user data looks for a running request.
+/// Whether a cancel by user data looks for a request, where the core has found one that runs.
 fn is_meant(user_data: u64, request: &Outstanding) -> bool
     ensures { result ≡ is_meant user_data request.now }
 {
-    request.user_data == user_data && is_ever_found(request) && !has_ended_first(request)
+    request.user_data == user_data
+        && is_ever_found(request)
+        && request.runs
+        && !has_ended_first(request)
 }
