@@ -174,6 +174,39 @@ static void test_mappings(void)
     close(fd);
 }
 
+/* An entry table is mapped whole, or longer. */
+static void test_part_of_entries(void)
+{
+    enum { ALL = PROT_READ | PROT_WRITE, ENTRIES = 256 };
+    struct io_uring_params params = {0};
+    long fd = wulgach_polled_syscall(SYS_io_uring_setup, ENTRIES, &params);
+    static const unsigned long long parts[] = {IORING_OFF_SQES, IORING_OFF_SQES + PAGE};
+    const size_t size = ENTRIES * sizeof(struct io_uring_sqe);
+    check(fd >= 0);
+    for (size_t i = 0; i < sizeof parts / sizeof *parts; i++) {
+        check(mapped((int)fd, NULL, PAGE, ALL, MAP_SHARED, parts[i]) == -EFAULT && mapped((int)fd, NULL, size - PAGE, PROT_READ, MAP_SHARED | MAP_POPULATE, parts[i]) == -EFAULT);
+        check(mapped((int)fd, NULL, size - PAGE + 1, ALL, MAP_SHARED, parts[i]) == 0 && mapped((int)fd, NULL, size, ALL, MAP_SHARED, parts[i]) == 0 && mapped((int)fd, NULL, 2 * size, ALL, MAP_SHARED, parts[i]) == 0);
+        check(mapped((int)fd, NULL, PAGE, ALL | PROT_EXEC, MAP_SHARED, parts[i]) == -EPERM && mapped((int)fd, NULL, PAGE, ALL, 0, parts[i]) == -EINVAL);
+        check(mapped((int)fd, NULL, PAGE, ALL, MAP_SHARED | MAP_GROWSDOWN, parts[i]) == -EINVAL);
+    }
+    check(mapped((int)fd, NULL, PAGE, ALL, MAP_SHARED, IORING_OFF_SQ_RING) == 0 && mapped((int)fd, NULL, PAGE, ALL, MAP_SHARED, IORING_OFF_CQ_RING) == 0);
+    close((int)fd);
+}
+
+/* A mapping that is refused says why, also where another ring was closed meanwhile, which the layer then lets go. */
+static void test_refusals(void)
+{
+    struct io_uring_params params = {0};
+    int fd = make_polled_ring(&params);
+    for (unsigned i = 0; i < 5; i++) {
+        struct io_uring_params of_other = {0};
+        close(make_polled_ring(&of_other));
+        usleep(11000);
+        check(mapped(fd, NULL, PAGE, PROT_READ, MAP_SHARED, 1 << 29) == -ENOMEM);
+    }
+    close(fd);
+}
+
 static void test_rights(void)
 {
     static const struct {
@@ -284,6 +317,7 @@ int main(int count, char **words)
         {"memory of no file", test_memory_of_no_file},
         {"memory of files", test_memory_of_files},
         {"mappings", test_mappings},
+        {"refusals", test_refusals},
         {"rights", test_rights},
         {"mask is read once", test_mask_is_read_once},
         {"unknown threads", test_unknown_threads},
