@@ -317,6 +317,7 @@ int main(int count, char **words)
         {"memory of no file", test_memory_of_no_file},
         {"memory of files", test_memory_of_files},
         {"mappings", test_mappings},
+        {"part of the entries", test_part_of_entries},
         {"refusals", test_refusals},
         {"rights", test_rights},
         {"mask is read once", test_mask_is_read_once},
