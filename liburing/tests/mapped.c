@@ -175,22 +175,27 @@ static void test_mappings(void)
 }
 
 /* An entry table is mapped whole, or longer. */
+static void expect_whole_entries(unsigned entries, unsigned flags)
+{
+    enum { ALL = PROT_READ | PROT_WRITE, SIZE = 4 * PAGE };
+    struct io_uring_params params = {.flags = flags};
+    long made = wulgach_polled_syscall(SYS_io_uring_setup, entries, &params);
+    static const unsigned long long parts[] = {IORING_OFF_SQES, IORING_OFF_SQES + PAGE};
+    int fd = (int)made;
+    check(made >= 0);
+    for (size_t i = 0; i < sizeof parts / sizeof *parts; i++) {
+        check(mapped(fd, NULL, PAGE, ALL, MAP_SHARED, parts[i]) == -EFAULT && mapped(fd, NULL, SIZE - PAGE, PROT_READ, MAP_SHARED | MAP_POPULATE, parts[i]) == -EFAULT);
+        check(mapped(fd, NULL, SIZE - PAGE + 1, ALL, MAP_SHARED, parts[i]) == 0 && mapped(fd, NULL, SIZE, ALL, MAP_SHARED, parts[i]) == 0 && mapped(fd, NULL, 2 * SIZE, ALL, MAP_SHARED, parts[i]) == 0);
+        check(mapped(fd, NULL, PAGE, ALL | PROT_EXEC, MAP_SHARED, parts[i]) == -EPERM && mapped(fd, NULL, PAGE, ALL, 0, parts[i]) == -EINVAL && mapped(fd, NULL, PAGE, ALL, MAP_SHARED | MAP_GROWSDOWN, parts[i]) == -EINVAL);
+    }
+    check(mapped(fd, NULL, PAGE, ALL, MAP_SHARED, IORING_OFF_SQ_RING) == 0 && mapped(fd, NULL, PAGE, ALL, MAP_SHARED, IORING_OFF_CQ_RING) == 0);
+    close(fd);
+}
+
 static void test_part_of_entries(void)
 {
-    enum { ALL = PROT_READ | PROT_WRITE, ENTRIES = 256 };
-    struct io_uring_params params = {0};
-    long fd = wulgach_polled_syscall(SYS_io_uring_setup, ENTRIES, &params);
-    static const unsigned long long parts[] = {IORING_OFF_SQES, IORING_OFF_SQES + PAGE};
-    const size_t size = ENTRIES * sizeof(struct io_uring_sqe);
-    check(fd >= 0);
-    for (size_t i = 0; i < sizeof parts / sizeof *parts; i++) {
-        check(mapped((int)fd, NULL, PAGE, ALL, MAP_SHARED, parts[i]) == -EFAULT && mapped((int)fd, NULL, size - PAGE, PROT_READ, MAP_SHARED | MAP_POPULATE, parts[i]) == -EFAULT);
-        check(mapped((int)fd, NULL, size - PAGE + 1, ALL, MAP_SHARED, parts[i]) == 0 && mapped((int)fd, NULL, size, ALL, MAP_SHARED, parts[i]) == 0 && mapped((int)fd, NULL, 2 * size, ALL, MAP_SHARED, parts[i]) == 0);
-        check(mapped((int)fd, NULL, PAGE, ALL | PROT_EXEC, MAP_SHARED, parts[i]) == -EPERM && mapped((int)fd, NULL, PAGE, ALL, 0, parts[i]) == -EINVAL);
-        check(mapped((int)fd, NULL, PAGE, ALL, MAP_SHARED | MAP_GROWSDOWN, parts[i]) == -EINVAL);
-    }
-    check(mapped((int)fd, NULL, PAGE, ALL, MAP_SHARED, IORING_OFF_SQ_RING) == 0 && mapped((int)fd, NULL, PAGE, ALL, MAP_SHARED, IORING_OFF_CQ_RING) == 0);
-    close((int)fd);
+    expect_whole_entries(256, 0);
+    expect_whole_entries(128, IORING_SETUP_SQE128);
 }
 
 /* A mapping that is refused says why, also where another ring was closed meanwhile, which the layer then lets go. */

@@ -252,7 +252,7 @@ static void test_refused_notice(void)
     close(listener), close(sender), close(receiver);
 }
 
-/* Where memory is refused at any place as a read begins to wait, who sleeps on the ring's descriptor is woken by what comes. */
+/* Where memory is refused at any place as a read begins to wait, who sleeps on the ring's descriptor is woken by what comes, and then sleeps. */
 static void test_refused_readiness(void)
 {
     bool is_refused = true;
@@ -272,7 +272,8 @@ static void test_refused_readiness(void)
         check(result == 1 || enter(&ring, 1, 0, IORING_ENTER_GETEVENTS) == 1);
         check(write(ends[1], "x", 1) == 1);
         check(poll(&(struct pollfd){.fd = ring.fd, .events = POLLIN}, 1, 1000) == 1);
-        check(wait_for_one(&ring) == 1);
+        check(wait_for_one(&ring) == 1 && enter(&ring, 0, 0, IORING_ENTER_GETEVENTS) == 0);
+        check(poll(&(struct pollfd){.fd = ring.fd, .events = POLLIN}, 1, 0) == 0);
         close(ends[0]), close(ends[1]);
         close_ring(&ring);
     }
