@@ -255,7 +255,8 @@ static void test_refused_notice(void)
 /* Where memory is refused at any place as a read begins to wait, who sleeps on the ring's descriptor is woken by what comes, and then sleeps. */
 static void test_refused_readiness(void)
 {
-    bool is_refused = true;
+    bool is_refused = !is_under_valgrind();
+    const char *before = getenv("WULGACH_TEST_POLLED");
     setenv("WULGACH_TEST_POLLED", "yes", 1);
     for (long turn = 0; is_refused; turn++) {
         struct ring ring;
@@ -277,7 +278,8 @@ static void test_refused_readiness(void)
         close(ends[0]), close(ends[1]);
         close_ring(&ring);
     }
-    unsetenv("WULGACH_TEST_POLLED");
+    if (!before)
+        unsetenv("WULGACH_TEST_POLLED");
 }
 
 int main(int count, char **words)
