@@ -55,7 +55,7 @@ pub fn is_gone(
     )
 }
 
-/// Whether a ring was made in the table of descriptors of the thread that looks, which the thread that it is of shares; or that had one of its own, or any other is seen to.
+/// Whether a ring was made in the table of descriptors of the thread that looks: the thread in whose table it was made shares this one; or that had none of its own, and nobody is seen to have one.
 pub fn was_made_here(shares: bool, was_apart: bool, sees_apart: bool) -> bool
     ensures { result ≡ spec.was_made_here shares was_apart sees_apart }
 {
