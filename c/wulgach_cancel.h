@@ -119,6 +119,9 @@ bool wulgach_comes_late(uint8_t code, bool is_linked);
  * has to wait or goes on. */
 bool wulgach_is_issued_before(uint8_t code, uint64_t cancel, bool is_linked, bool is_same, uint64_t number);
 
+/* Whether a request is to start before the cancel, if it can: it is issued first, it is a token, and it doesn't run. Another cancel has its own turn. */
+bool wulgach_is_due_first(const struct wulgach_outstanding *request);
+
 /* Whether it matters to a cancel if a request has to wait: it was issued first, runs, and doesn't go on. If not, is_ready may be anything. */
 bool wulgach_asks_wait(const struct wulgach_outstanding *request);
 

@@ -89,11 +89,11 @@ struct wulgach_mapping {
 /* Whether such a call, with these flags, maps what a descriptor names. */
 bool wulgach_names_descriptor(uint32_t flags);
 
-/* Why a ring's memory isn't mapped so, or 0. -22 (EINVAL) of an offset within a page, of huge pages and of no bytes; -12 (ENOMEM) of more bytes
+/* Why memory of a ring whose entries take so many bytes isn't mapped so, or 0. -22 (EINVAL) of an offset within a page, of huge pages and of no bytes; -12 (ENOMEM) of more bytes
  * than there are addresses; -22 of an address, since the kernel chooses that; -12 of an offset that names no part; -22 of what is neither
  * shared nor private, and -95 (EOPNOTSUPP) of a flag that MAP_SHARED_VALIDATE doesn't know; -1 (EPERM) of memory to be run, -22 of a stack,
- * and -19 (ENODEV) of a private copy that is to be written. A mapping may be longer than its part. */
-int32_t wulgach_mapping_fault(const struct wulgach_mapping *asked);
+ * and -19 (ENODEV) of a private copy that is to be written; -14 (EFAULT) of fewer pages than the entries take. A mapping may be longer than its part. */
+int32_t wulgach_mapping_fault(const struct wulgach_mapping *asked, uint64_t table);
 
 /* Returns which of its flags say where a ring's memory is to be that is mapped so: MAP_FIXED, MAP_FIXED_NOREPLACE and MAP_32BIT; the others change nothing
  * of what is there. And what may be done with it: PROT_READ and PROT_WRITE. */
@@ -125,6 +125,10 @@ enum wulgach_knowledge {
  * whether it was made in that table, or in one that another thread has of its own (CLONE_FILES), so that what it keeps open has other numbers here; and
  * whether a descriptor is open on it in another table. It is gone only if all of these are known, and nobody has one. Our own rule. */
 bool wulgach_is_gone(uint32_t listed, uint32_t of_table, uint32_t elsewhere);
+
+/* Whether a ring was made in the table of descriptors of the thread that looks: the thread in whose table it was made shares this one; or that had none of its
+ * own (was_apart), and nobody is seen to have one (sees_apart), since a thread that has ended can't be asked. */
+bool wulgach_was_made_here(bool shares, bool was_apart, bool sees_apart);
 
 /* It is looked of all rings whether they are closed. */
 enum { WULGACH_ALL_RINGS = 0x7fffffff };

@@ -83,7 +83,7 @@ static void order(void)
     demand(wulgach_is_issued_before(14, 3, true, true, 4) && !wulgach_is_issued_before(14, 3, true, false, 4) && !wulgach_is_issued_before(14, 4, true, true, 3), "what is issued before it");
 }
 
-/* Of what is issued before a cancel only what runs, and has to wait or goes on, is found. */
+/* Of what is issued before a cancel only what runs, and has to wait or goes on, is found; the rest is to start, but what the core ends. */
 static void issued_before(void)
 {
     struct wulgach_sought sought = {.user_data = 1};
@@ -92,9 +92,13 @@ static void issued_before(void)
         struct wulgach_search search;
         struct wulgach_outstanding seen = {.user_data = 1, .is_token = true, .is_stream = true, .may_start = true, .comes_first = true, .runs = i & 1, .goes_on = i & 2, .is_ready = i & 4, .is_cancelled = i & 8};
         bool has_ended = seen.is_ready && !seen.goes_on;
+        struct wulgach_outstanding late = seen, core = seen;
+        late.comes_first = core.is_token = false;
+        demand(!wulgach_is_due_first(&late) && !wulgach_is_due_first(&core), "what has its own turn");
         wulgach_cancel_begin(&cancel, &sought);
         demand(!wulgach_cancel_asks(&cancel, &seen), "whether it could start doesn't matter");
         demand(wulgach_asks_wait(&seen) == (seen.runs && !seen.goes_on), "whether it has to wait matters");
+        demand(wulgach_is_due_first(&seen) == !seen.runs, "what hasn't started is to start");
         demand(wulgach_cancel_sees(&cancel, &seen) == (seen.runs && !has_ended && !seen.is_cancelled), "what is issued before is found");
         wulgach_search_begin(&search, 1);
         demand(wulgach_search_sees(&search, &seen) == (seen.runs && !has_ended && !seen.is_cancelled), "and so where the core has found one");

@@ -310,6 +310,7 @@ static void go_through_set_ups(void)
     demand(wulgach_ring_fate(false, 0, true, false) == WULGACH_RING_STAYS && wulgach_ring_fate(true, 1, true, false) == WULGACH_RING_STAYS && wulgach_ring_fate(true, 0, false, false) == WULGACH_RING_ASKS, "rings that stay");
     demand(wulgach_ring_fate(true, 0, true, true) == WULGACH_RING_STAYS && wulgach_ring_fate(true, 0, true, false) == WULGACH_RING_GOES, "one that goes");
     demand(wulgach_is_gone(WULGACH_IS_NOT_SO, WULGACH_IS_SO, WULGACH_IS_NOT_SO) && !wulgach_is_gone(WULGACH_IS_SO, WULGACH_IS_SO, WULGACH_IS_NOT_SO) && !wulgach_is_gone(WULGACH_IS_NOT_SO, WULGACH_IS_NOT_SO, WULGACH_IS_NOT_SO) && !wulgach_is_gone(WULGACH_IS_NOT_SO, WULGACH_IS_SO, WULGACH_IS_SO) && !wulgach_is_gone(WULGACH_IS_NOT_KNOWN, WULGACH_IS_SO, WULGACH_IS_NOT_SO), "one that nobody reaches");
+    demand(wulgach_was_made_here(true, true, true) && wulgach_was_made_here(false, false, false) && !wulgach_was_made_here(false, true, false) && !wulgach_was_made_here(false, false, true), "one that was made here");
     demand(wulgach_may_name_ring_of(5, 5) && !wulgach_may_name_ring_of(4, 5), "whose ring a descriptor names");
     demand(wulgach_looked_at_before_sleep() == 8 && wulgach_looked_at_after(true, 1, 0) == WULGACH_ALL_RINGS && wulgach_looked_at_after(false, 2, 10000000) == 8 && wulgach_looked_at_after(false, 2, 9999999) == 0 && wulgach_looked_at_after(false, 1, UINT64_MAX) == 0, "how many are looked at");
     demand(wulgach_tries_rings_again(0) && wulgach_tries_rings_again(99) && !wulgach_tries_rings_again(100), "how often in a handler");
@@ -318,7 +319,8 @@ static void go_through_set_ups(void)
     demand(wulgach_takes_instance(233) && !wulgach_takes_instance(0) && !wulgach_takes_instance(21), "which call takes an instance");
 }
 
-#define MAPPED(...) wulgach_mapping_fault(&(struct wulgach_mapping){__VA_ARGS__})
+#define MAPPED_OF(table, ...) wulgach_mapping_fault(&(struct wulgach_mapping){__VA_ARGS__}, table)
+#define MAPPED(...) MAPPED_OF(4096, __VA_ARGS__)
 
 static void map_rings(void)
 {
@@ -329,6 +331,8 @@ static void map_rings(void)
     demand(MAPPED(.size = 1, .offset = 1ull << 31, .protection = RUN) == -12 && MAPPED(.size = 1, .flags = SHARED | FIXED) == 0, "an offset");
     demand(MAPPED(.size = 1, .protection = RUN) == -22 && MAPPED(.size = 1, .protection = RUN, .flags = 8) == -22 && MAPPED(.size = 1, .protection = RUN, .flags = VALIDATED | SYNC) == -95 && MAPPED(.size = 1, .flags = SHARED | SYNC) == 0, "a kind");
     demand(MAPPED(.size = 1, .protection = RUN, .flags = SHARED | STACK) == -1 && MAPPED(.size = 1, .flags = SHARED | STACK) == -22 && MAPPED(.size = 1, .protection = WRITE, .flags = PRIVATE) == -19, "a use");
+    demand(MAPPED_OF(4097, .size = 4096, .offset = 1ull << 28, .flags = SHARED) == -14 && MAPPED_OF(4097, .size = 4097, .offset = 1ull << 28, .flags = SHARED) == 0 && MAPPED_OF(8192, .size = 4097, .offset = 1ull << 28 | 4096, .flags = SHARED) == 0, "pages of the entries");
+    demand(MAPPED_OF(8192, .size = 4096, .flags = SHARED) == 0 && MAPPED_OF(8192, .size = 4096, .offset = 1ull << 28, .flags = SHARED | STACK) == -22, "and before them");
     struct wulgach_mapping asked = {.protection = READ | WRITE | RUN, .flags = SHARED | FIXED | UNTAKEN | SYNC | 0x40};
     demand(wulgach_mapping_placing(&asked) == (FIXED | UNTAKEN | 0x40) && wulgach_mapping_protection(&asked) == (READ | WRITE), "where it is, and for what");
     demand(wulgach_names_descriptor(SHARED) && !wulgach_names_descriptor(SHARED | 0x20), "memory of no file");

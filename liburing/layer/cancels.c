@@ -76,9 +76,16 @@ static void compare(struct wulgach_outstanding *seen, const struct request *requ
     seen->is_same = same > 0;
 }
 
-bool is_issued_before(const struct request *seeker, const struct request *request)
+static bool is_issued_before(const struct request *seeker, const struct request *request)
 {
     return wulgach_is_issued_before(seeker->entry.opcode, seeker->number, seeker->member.is_linked, seeker->call == request->call, request->number);
+}
+
+bool is_due_before(const struct request *seeker, const struct request *request)
+{
+    struct wulgach_outstanding seen = seen_of(request);
+    seen.comes_first = is_issued_before(seeker, request);
+    return wulgach_is_due_first(&seen);
 }
 
 /* A request as a seeker sees it, or a call of io_uring_register(2) (NULL). Whether one that is issued before it needn't wait is asked only where it matters. */

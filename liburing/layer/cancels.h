@@ -13,8 +13,8 @@ bool is_cancellable(const struct request *request);
 /* A cancel found this request running. It ends when it is next gone on with. */
 void cancel_request(struct ring *ring, struct request *request);
 
-/* Whether a kernel issues a request before this cancel or removal, though it was submitted after it. */
-bool is_issued_before(const struct request *seeker, const struct request *request);
+/* Whether a request that was submitted after this cancel or removal is to start before it, if the core lets it. */
+bool is_due_before(const struct request *seeker, const struct request *request);
 
 /* The core has found that a request runs whose user data this cancel names, which is what `found` tells: cancels the one that the library finds. Says whether that is
  * cancelled; then it ends so when it is next gone on with. If no cancel finds what the core has found, `found` tells that then. */

@@ -140,7 +140,7 @@ static void *map_part(const struct memory *memory, const struct wulgach_mapping 
 
 void *map_again(const struct memory *memory, const struct wulgach_mapping *asked)
 {
-    int32_t fault = wulgach_mapping_fault(asked);
+    int32_t fault = wulgach_mapping_fault(asked, memory->entries_size);
     if (fault == 0)
         return map_part(memory, asked);
     errno = -fault;

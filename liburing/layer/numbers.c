@@ -174,12 +174,14 @@ void forget_kept(int fd)
         __atomic_and_fetch(&kept[fd / BITS], ~((uint64_t)1 << fd % BITS), __ATOMIC_RELAXED);
 }
 
-void keep_for_later(int fd)
+bool keep_for_later(int fd)
 {
     lock_kept();
+    bool closes_on_exec = fcntl(fd, F_GETFD) & FD_CLOEXEC;
     fcntl(fd, F_SETFD, FD_CLOEXEC);
     note(fd);
     unlock_kept();
+    return closes_on_exec;
 }
 
 void give_to_application(int fd, bool closes_on_exec)

@@ -27,9 +27,9 @@ int made_high(int (*make)(void));
  * number. */
 int kept_copy_of(int fd);
 
-/* A descriptor that is to be the application's later, or that one request is for, has this number already: a child closes it, and a program that is started hasn't it. And now it is the
- * application's, where its open asks for O_CLOEXEC or not. */
-void keep_for_later(int fd);
+/* A descriptor that is to be the application's later, or that one request is for, has this number already: a child closes it, and a program that is started hasn't it. Returns
+ * whether that had it not before either. And now it is the application's, as it was then. */
+bool keep_for_later(int fd);
 void give_to_application(int fd, bool closes_on_exec);
 
 /* How many descriptors the program may have by its own limit. */

@@ -157,7 +157,7 @@ static void let_pipe_go(struct request *request, int32_t res, bool was_kept)
         return;
     }
     if (was_kept)
-        give_to_application(res, found_how_of(request).flags & O_CLOEXEC);
+        give_to_application(res, request->closes_on_exec);
     let_wait(res);
 }
 
@@ -171,7 +171,7 @@ static int32_t open_pipe(struct request *request, const struct wulgach_system_ca
         res = open_further(request, call, *step);
     if (*step == WULGACH_OPENING_WAITS) {
         if (request->is_opened && !was_kept)
-            keep_for_later(request->opened);
+            request->closes_on_exec = keep_for_later(request->opened);
         return WOULD_WAIT;
     }
     if (request->is_opened)

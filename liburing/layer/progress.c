@@ -270,7 +270,7 @@ static void issue_before(struct ring *ring, const struct request *seeker)
 {
     for (size_t i = count_before(&ring->requests, seeker->number + 1); i < ring->requests.count;) {
         struct request *request = ring->requests.rows[i];
-        bool is_due = !request->course.has_started && request->mapping == TOKEN && is_issued_before(seeker, request) && can_issue(ring, request->number);
+        bool is_due = is_due_before(seeker, request) && can_issue(ring, request->number);
         if (is_due)
             record_break();
         i += !is_due || issue_alone(ring, request);

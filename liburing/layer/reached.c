@@ -206,14 +206,13 @@ void note_table(struct ring *ring)
     close(own);
 }
 
-/* (a thread that has ended can't be asked: then a ring that was made in everybody's table is of everybody's) */
 bool is_reached_elsewhere(const struct ring *ring)
 {
     struct look look = {.ring = ring, .own = open_folder("/proc/self/task")};
     if (look.own < 0)
         return !wulgach_is_gone(WULGACH_IS_NOT_SO, WULGACH_IS_NOT_KNOWN, WULGACH_IS_NOT_KNOWN);
     uint32_t elsewhere = look_through(&look, has_descriptor, look.own);
-    bool is_here = shares_table(ring->table_of, look.own) || !(ring->is_table_apart || look.is_apart);
+    bool is_here = wulgach_was_made_here(shares_table(ring->table_of, look.own), ring->is_table_apart, look.is_apart);
     close(look.own);
     return !wulgach_is_gone(WULGACH_IS_NOT_SO, is_here ? WULGACH_IS_SO : WULGACH_IS_NOT_SO, elsewhere);
 }

@@ -200,16 +200,18 @@ void unwatch(struct ring *ring, int fd)
     wulgach_watched_give_back(&watched->at);
 }
 
-/* Puts the streams that are waited for in the place of those that were. If memory is refused, the next call tries. */
+/* Puts the streams that are waited for in the place of those that were. If memory is refused, it can't tell of them until the next call tries. */
 static void watch_streams(struct ring *ring)
 {
+    ring->is_untold = false;
     if (ring->running.count == 0 && ring->dormant.count == 0 && ring->watched_count == 0)
         return;
     struct watched *watched = calloc(ring->running.count + 3, sizeof *watched);
-    if (!watched)
+    if (!watched) {
+        ring->is_untold = true;
         return;
+    }
     size_t count = list_watched(ring, watched);
-    ring->is_untold = false;
     watch_changes(ring, ring->watched, ring->watched_count, watched, count);
     free(ring->watched);
     ring->watched = watched;

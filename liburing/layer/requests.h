@@ -55,6 +55,7 @@ struct request {
     uint32_t opening;               /* what was done last for that (enum wulgach_opening_step), or 0 */
     bool is_opened;                 /* a named pipe was opened to read, by this descriptor, and waits for who writes; */
     int opened;
+    bool closes_on_exec;            /* as its open asks */
     uint32_t vain;                  /* so often since its descriptor was last found not to be ready as a sleep began */
     bool is_draining;               /* a member of its chain drains, or it does: those after wait until all of them have ended */
     uint64_t wanted;                /* of one that takes a provided buffer: how many bytes at most, or 0 */

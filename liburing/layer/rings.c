@@ -238,8 +238,11 @@ void *map_file(void *at, size_t size, int protection, int flags, int fd, int64_t
     struct ring *ring = wulgach_names_descriptor(asked.flags) ? lock_ring(fd) : NULL;
     bool is_polled = ring && ring->ready_fd >= 0;
     void *mapped = is_polled ? map_again(&ring->memory, &asked) : map_passing(at, size, protection, flags, fd, offset);
+    /* (what is done as the ring is let go may end with an error of its own) */
+    int error = errno;
     if (ring)
         unlock_ring(ring);
     allow_signals(&own);
+    errno = error;
     return mapped;
 }

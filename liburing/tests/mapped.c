@@ -174,6 +174,44 @@ static void test_mappings(void)
     close(fd);
 }
 
+/* An entry table is mapped whole, or longer. */
+static void expect_whole_entries(unsigned entries, unsigned flags)
+{
+    enum { ALL = PROT_READ | PROT_WRITE, SIZE = 4 * PAGE };
+    struct io_uring_params params = {.flags = flags};
+    long made = wulgach_polled_syscall(SYS_io_uring_setup, entries, &params);
+    static const unsigned long long parts[] = {IORING_OFF_SQES, IORING_OFF_SQES + PAGE};
+    int fd = (int)made;
+    check(made >= 0);
+    for (size_t i = 0; i < sizeof parts / sizeof *parts; i++) {
+        check(mapped(fd, NULL, PAGE, ALL, MAP_SHARED, parts[i]) == -EFAULT && mapped(fd, NULL, SIZE - PAGE, PROT_READ, MAP_SHARED | MAP_POPULATE, parts[i]) == -EFAULT);
+        check(mapped(fd, NULL, SIZE - PAGE + 1, ALL, MAP_SHARED, parts[i]) == 0 && mapped(fd, NULL, SIZE, ALL, MAP_SHARED, parts[i]) == 0 && mapped(fd, NULL, 2 * SIZE, ALL, MAP_SHARED, parts[i]) == 0);
+        check(mapped(fd, NULL, PAGE, ALL | PROT_EXEC, MAP_SHARED, parts[i]) == -EPERM && mapped(fd, NULL, PAGE, ALL, 0, parts[i]) == -EINVAL && mapped(fd, NULL, PAGE, ALL, MAP_SHARED | MAP_GROWSDOWN, parts[i]) == -EINVAL);
+    }
+    check(mapped(fd, NULL, PAGE, ALL, MAP_SHARED, IORING_OFF_SQ_RING) == 0 && mapped(fd, NULL, PAGE, ALL, MAP_SHARED, IORING_OFF_CQ_RING) == 0);
+    close(fd);
+}
+
+static void test_part_of_entries(void)
+{
+    expect_whole_entries(256, 0);
+    expect_whole_entries(128, IORING_SETUP_SQE128);
+}
+
+/* A mapping that is refused says why, also where another ring was closed meanwhile, which the layer then lets go. */
+static void test_refusals(void)
+{
+    struct io_uring_params params = {0};
+    int fd = make_polled_ring(&params);
+    for (unsigned i = 0; i < 5; i++) {
+        struct io_uring_params of_other = {0};
+        close(make_polled_ring(&of_other));
+        usleep(11000);
+        check(mapped(fd, NULL, PAGE, PROT_READ, MAP_SHARED, 1 << 29) == -ENOMEM);
+    }
+    close(fd);
+}
+
 static void test_rights(void)
 {
     static const struct {
@@ -284,6 +322,8 @@ int main(int count, char **words)
         {"memory of no file", test_memory_of_no_file},
         {"memory of files", test_memory_of_files},
         {"mappings", test_mappings},
+        {"part of the entries", test_part_of_entries},
+        {"refusals", test_refusals},
         {"rights", test_rights},
         {"mask is read once", test_mask_is_read_once},
         {"unknown threads", test_unknown_threads},

@@ -252,6 +252,36 @@ static void test_refused_notice(void)
     close(listener), close(sender), close(receiver);
 }
 
+/* Where memory is refused at any place as a read begins to wait, who sleeps on the ring's descriptor is woken by what comes, and then sleeps. */
+static void test_refused_readiness(void)
+{
+    bool is_refused = !is_under_valgrind();
+    const char *before = getenv("WULGACH_TEST_POLLED");
+    setenv("WULGACH_TEST_POLLED", "yes", 1);
+    for (long turn = 0; is_refused; turn++) {
+        struct ring ring;
+        int ends[2];
+        char letter;
+        make_ring(&ring, 4, 0, 0);
+        check(pipe(ends) == 0);
+        put_transfer(&ring, IORING_OP_READ, 7, 0, ends[0], &letter, 1, 0);
+        allocations_left = turn;
+        long result = enter(&ring, 1, 0, IORING_ENTER_GETEVENTS);
+        is_refused = allocations_left < 0;
+        allocations_left = -1;
+        check(result == 1 || result == -EAGAIN);
+        check(result == 1 || enter(&ring, 1, 0, IORING_ENTER_GETEVENTS) == 1);
+        check(write(ends[1], "x", 1) == 1);
+        check(poll(&(struct pollfd){.fd = ring.fd, .events = POLLIN}, 1, 1000) == 1);
+        check(wait_for_one(&ring) == 1 && enter(&ring, 0, 0, IORING_ENTER_GETEVENTS) == 0);
+        check(poll(&(struct pollfd){.fd = ring.fd, .events = POLLIN}, 1, 0) == 0);
+        close(ends[0]), close(ends[1]);
+        close_ring(&ring);
+    }
+    if (!before)
+        unsetenv("WULGACH_TEST_POLLED");
+}
+
 int main(int count, char **words)
 {
     static const struct named tests[] = {
@@ -260,6 +290,7 @@ int main(int count, char **words)
         {"refused reaps", test_refused_reaps},
         {"refused extras", test_refused_extras},
         {"refused notice", test_refused_notice},
+        {"refused readiness", test_refused_readiness},
     };
     return run_tests(tests, sizeof tests / sizeof *tests, count > 1 ? words[1] : NULL);
 }

@@ -10,8 +10,8 @@ ghost use Rattle.uring_enter.specs.Cancels.Cancels.{result_of, is_cancelled, is_
 
 use uring_enter::{
     Cancel, Outstanding, Search, Sought, asks_file, asks_wait, comes_late, first_rank,
-    goes_by_user_data, is_issued_before, is_newest_first, is_taken_after, is_waiting, rank_from,
-    seeking_fault, sought_by_call, sought_of,
+    goes_by_user_data, is_due_first, is_issued_before, is_newest_first, is_taken_after, is_waiting,
+    rank_from, seeking_fault, sought_by_call, sought_of,
 };
 use uring_operations::Submission;
 use uring_register::CancelForm;
@@ -121,6 +121,14 @@ pub extern "C" fn wulgach_is_issued_before(
     ensures { result ≡ cancels.is_issued_before code cancel is_linked is_same number }
 {
     is_issued_before(code, cancel, is_linked, is_same, number)
+}
+
+/// Whether a request is to start before a cancel, if it may.
+#[unsafe(no_mangle)]
+pub extern "C" fn wulgach_is_due_first(request: &Outstanding) -> bool
+    ensures { result ≡ cancels.is_due_first request.now }
+{
+    is_due_first(request)
 }
 
 /// Whether it matters to a cancel if a request has to wait.

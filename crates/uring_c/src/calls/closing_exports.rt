@@ -6,7 +6,7 @@ ghost use Rattle.uring_c.specs.SleepForm.{word_of_sleep, step_of};
 
 use uring_enter::{
     BeforeSleep, Beginning, SleepOnto, asks_elapsed, is_gone, looked_at_after,
-    looked_at_before_sleep, may_name, next_before_sleep, tries_again,
+    looked_at_before_sleep, may_name, next_before_sleep, tries_again, was_made_here,
 };
 
 /// Whether a descriptor of this process may name a ring that was made by that one.
@@ -33,6 +33,14 @@ fn known(word: u32) -> Option<bool>
         1 => Some(true),
         _ => None,
     }
+}
+
+/// Whether a ring was made in the table of descriptors of the thread that looks.
+#[unsafe(no_mangle)]
+pub extern "C" fn wulgach_was_made_here(shares: bool, was_apart: bool, sees_apart: bool) -> bool
+    ensures { result ≡ spec.was_made_here shares was_apart sees_apart }
+{
+    was_made_here(shares, was_apart, sees_apart)
 }
 
 /// Of how many rings it is looked whether they are closed before a call sleeps.

@@ -31,12 +31,12 @@ pub extern "C" fn wulgach_names_descriptor(flags: u32) -> bool
     names_descriptor(flags)
 }
 
-/// Why a ring's memory isn't mapped so, or 0.
+/// Why memory of a ring whose entries take so many bytes isn't mapped so, or 0.
 #[unsafe(no_mangle)]
-pub extern "C" fn wulgach_mapping_fault(asked: &Mapping) -> i32
-    ensures { result ≡ mappings.mapping_fault asked.now }
+pub extern "C" fn wulgach_mapping_fault(asked: &Mapping, table: u64) -> i32
+    ensures { result ≡ mappings.mapping_fault table asked.now }
 {
-    mapping_fault(asked)
+    mapping_fault(asked, table)
 }
 
 /// Returns which of its flags say where a ring's memory is to be that is mapped so.

@@ -61,6 +61,10 @@ comes_late code is_linked = is_linked && (code == 7 || code == 12 || code == 14)
 abbrev pub is_issued_before : (code cancel : ℕ) → (is_linked is_same : Bool) → (number : ℕ) → Bool
 is_issued_before code cancel is_linked is_same number = comes_late code is_linked && is_same && nat_lt cancel number
 
+-- whether a request is to start before a cancel, if it may: a kernel issues it first, and it hasn't started. What the core ends by itself, as another cancel, has its own turn: our own rule
+abbrev pub is_due_first : Outstanding → Bool
+is_due_first r = r.comes_first && r.is_token && not r.runs
+
 -- whether it matters to a cancel if a request has to wait: of one that was issued first, and ends with what it brings
 abbrev pub asks_wait : Outstanding → Bool
 asks_wait r = r.comes_first && r.runs && not r.goes_on

@@ -1,5 +1,5 @@
 -- Whose ring a descriptor names, when it is looked whether rings are closed, and what a call does before it sleeps. Our own rules: a ring is of the process that made it, and not every close of a descriptor is heard.
-use Rattle.std.specs.Prelude.{◌≡◌, ℕ, ℤ, Bool, true, false, not, ◌&&◌, ◌==◌, nat_lt, nat_le, Option, Some, None, if◌then◌else◌}
+use Rattle.std.specs.Prelude.{◌≡◌, ℕ, ℤ, Bool, true, false, not, ◌&&◌, ◌||◌, ◌==◌, nat_lt, nat_le, Option, Some, None, if◌then◌else◌}
 use Rattle.uring_enter.specs.Waiting.Sleeping.{beginning_of}
 use Rattle.uring_enter.specs.declared.waiting.sleeping.Beginning.TheVariants.{Wakes, Sleeps}
 use Rattle.uring_enter.specs.declared.rings.closing.BeforeSleep.{BeforeSleep}
@@ -20,6 +20,10 @@ is_known (Some known) is_so = if is_so then known else not known
 abbrev pub is_gone : (is_listed is_of_table is_elsewhere : Option Bool) → Bool
 is_gone is_listed is_of_table is_elsewhere =
     is_known is_listed false && is_known is_of_table true && is_known is_elsewhere false
+
+-- whether a ring was made in the table of descriptors of the thread that looks: the thread in whose table it was made has this one too; or, since a thread that has ended can't be asked, it was made in everybody's, and nobody is seen with another
+abbrev pub was_made_here : (shares was_apart sees_apart : Bool) → Bool
+was_made_here shares was_apart sees_apart = shares || not (was_apart || sees_apart)
 
 -- in whichever table a descriptor is open, the ring stays
 abbrev pub StaysWhileOpen : Type 0

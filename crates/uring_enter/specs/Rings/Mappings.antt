@@ -1,7 +1,9 @@
 -- Why memory of a ring isn't mapped as it is asked for: the faults, in the kernel's order. mmap(2), io_uring_setup(2); what Linux 6.18 was seen to do, but where our own rule is named.
-use Rattle.std.specs.Prelude.{ℕ, ℤ, pos, Bool, not, ◌&&◌, ◌||◌, ◌==◌, nat_lt, nat_le, if◌then◌else◌}
+use Rattle.std.specs.Prelude.{ℕ, ℤ, ◌-◌, ◌/◌, pos, Bool, true, false, not, ◌&&◌, ◌||◌, ◌==◌, nat_lt, nat_le, Option, Some, None, if◌then◌else◌}
 use Rattle.std.specs.Int.RustNames.{bit_and}
 use Rattle.uring_enter.specs.declared.rings.mapping.Mapping.{Mapping}
+use Rattle.uring_enter.specs.declared.rings.ringing.Region.{Region}
+use Rattle.uring_enter.specs.declared.rings.ringing.Region.TheVariants.{Rings, Entries}
 use Rattle.uring_operations.specs.Entries.Clocks.{has_some}
 use Rattle.uring_enter.specs.Rings.Ringing.{region_of, is_region}
 use Rattle.uring_entry.specs.Errors.{error, is_below}
@@ -18,7 +20,7 @@ is_none m = has_some m.offset 4095 || has_some m.flags 262144 || m.size == 0
 abbrev pub is_placed : Mapping → Bool
 is_placed m = if has_some m.flags 1048592 then not (m.at == 0) else nat_le 4096 m.at
 
--- -12 (ENOMEM) of more bytes than a program has addresses for, 2^47 less a page. A ring is mapped where the kernel chooses: -22 (EINVAL) of an address. -12 of an offset that names no part. A mapping may be longer than its part
+-- -12 (ENOMEM) of more bytes than a program has addresses for, 2^47 less a page. A ring is mapped where the kernel chooses: -22 (EINVAL) of an address. -12 of an offset that names no part
 abbrev pub part_fault : Mapping → ℤ
 part_fault m =
     if is_none m then error 22 else
@@ -43,11 +45,26 @@ use_fault m =
     if has_some m.flags 256 then error 22 else
     if kind m == 2 && has_some m.protection 2 then error 19 else pos 0
 
--- why nothing is mapped, or 0
-abbrev pub mapping_fault : Mapping → ℤ
-mapping_fault m =
+abbrev pub is_of_entries : Option Region → Bool
+is_of_entries (Some Entries) = true
+is_of_entries (Some Rings) = false
+is_of_entries None = false
+
+-- the page of the last of so many bytes, from 0
+abbrev pub last_page : ℕ → ℕ
+last_page bytes = (bytes - 1) / 4096
+
+-- -14 (EFAULT) of fewer pages than the table of entries has, which are put there at once. Of the rings' pages as many are put there as fit. A mapping may be longer than its part
+abbrev pub size_fault : (table : ℕ) → Mapping → ℤ
+size_fault table m =
+    if is_of_entries (region_of m.offset) && nat_lt (last_page m.size) (last_page table) then error 14 else pos 0
+
+-- why nothing is mapped of a ring whose entries take so many bytes, or 0
+abbrev pub mapping_fault : (table : ℕ) → Mapping → ℤ
+mapping_fault table m =
     if is_below (part_fault m) then part_fault m else
-    if is_below (kind_fault m) then kind_fault m else use_fault m
+    if is_below (kind_fault m) then kind_fault m else
+    if is_below (use_fault m) then use_fault m else size_fault table m
 
 -- which flags say where it is to be: MAP_FIXED (16), MAP_32BIT (64) and MAP_FIXED_NOREPLACE (1048576). The rest change nothing of a ring's memory, which is there already
 abbrev pub placing_flags : Mapping → ℕ

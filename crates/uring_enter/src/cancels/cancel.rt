@@ -252,6 +252,13 @@ pub fn is_issued_before(code: u8, cancel: u64, is_linked: bool, is_same: bool, n
     comes_late(code, is_linked) && is_same && cancel < number
 }
 
+/// Whether a request is to start before a cancel, if it may.
+pub fn is_due_first(request: &Outstanding) -> bool
+    ensures { result ≡ spec.is_due_first request.now }
+{
+    request.comes_first && request.is_token && !request.runs
+}
+
 /// Whether it matters to a cancel if a request has to wait.
 pub fn asks_wait(request: &Outstanding) -> bool
     ensures { result ≡ spec.asks_wait request.now }

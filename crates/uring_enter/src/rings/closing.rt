@@ -55,6 +55,13 @@ pub fn is_gone(
     )
 }
 
+/// Whether a ring was made in the table of descriptors of the thread that looks: the thread in whose table it was made shares this one; or that had none of its own, and nobody is seen to have one.
+pub fn was_made_here(shares: bool, was_apart: bool, sees_apart: bool) -> bool
+    ensures { result ≡ spec.was_made_here shares was_apart sees_apart }
+{
+    shares || !(was_apart || sees_apart)
+}
+
 /// Of how many rings it is looked whether they are closed before a call sleeps.
 pub fn looked_at_before_sleep() -> u32
     ensures { result ≡ spec.looked_at_before_sleep }

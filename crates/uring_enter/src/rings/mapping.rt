@@ -3,7 +3,7 @@
 ghost use Rattle.std.specs.Prelude.{◌≡◌};
 ghost use Rattle.uring_enter.specs.Rings.Mappings as spec;
 
-use crate::rings::ringing::region_of;
+use crate::rings::ringing::{Region, region_of};
 
 /// What a call of mmap asks for.
 #[repr(C)]
@@ -32,16 +32,24 @@ pub fn names_descriptor(flags: u32) -> bool
     flags & 0x20 == 0
 }
 
-/// Why a ring's memory isn't mapped so, or 0.
-pub fn mapping_fault(asked: &Mapping) -> i32
-    ensures { result ≡ spec.mapping_fault asked.now }
+/// Why memory of a ring whose entries take so many bytes isn't mapped so, or 0.
+pub fn mapping_fault(asked: &Mapping, table: u64) -> i32
+    ensures { result ≡ spec.mapping_fault table asked.now }
 {
     let fault = part_fault(asked);
     if fault < 0 {
         return fault;
     }
     let fault = kind_fault(asked);
-    if fault < 0 { fault } else { use_fault(asked) }
+    if fault < 0 {
+        return fault;
+    }
+    let fault = use_fault(asked);
+    if fault < 0 {
+        fault
+    } else {
+        size_fault(asked, table)
+    }
 }
 
 /// Which of its flags say where a ring's memory is to be.
@@ -123,4 +131,23 @@ fn use_fault(asked: &Mapping) -> i32
     } else {
         0
     }
+}
+
+/// Why so many pages aren't mapped of it, or 0.
+fn size_fault(asked: &Mapping, table: u64) -> i32
+    ensures { result ≡ spec.size_fault table asked.now }
+{
+    let is_of_entries = matches!(region_of(asked.offset), Some(Region::Entries));
+    if is_of_entries && last_page(asked.size) < last_page(table) {
+        -14
+    } else {
+        0
+    }
+}
+
+/// The page of the last of so many bytes, from 0.
+fn last_page(bytes: u64) -> u64
+    ensures { result ≡ spec.last_page bytes }
+{
+    bytes.saturating_sub(1) / 4096
 }
