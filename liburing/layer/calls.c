@@ -21,7 +21,7 @@
 #include <sys/syscall.h>
 #include <unistd.h>
 
-#define SEEN __attribute__((visibility("default")))
+#define SEEN __attribute__((visibility("default"), externally_visible))
 SEEN long wulgach_syscall(long call, ...);
 SEEN long wulgach_polled_syscall(long call, ...);
 SEEN long wulgach_blocked_enter(const long words[6], const sigset_t *signals);

@@ -80,7 +80,8 @@ static uint64_t store_shown(struct ring *ring)
             break;
         const struct wulgach_posted *posted = posted_at(completions, store.place);
         store_completion(&ring->memory, posted, store.position);
-        told += wulgach_tells(posted, ring->telling.is_async);
+        if (ring->telling.is_registered)    /* (else nobody is told) */
+            told += wulgach_tells(posted, ring->telling.is_async);
     }
     store_word(&ring->memory.cq->tail, store.position);
     return told;

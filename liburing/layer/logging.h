@@ -12,7 +12,7 @@
 #include <stdint.h>
 #include <sys/types.h>
 
-#define SEEN __attribute__((visibility("default")))
+#define SEEN __attribute__((visibility("default"), externally_visible))
 
 /* Whether what happens to a file of this mode is logged. */
 SEEN bool wulgach_is_logged_mode(mode_t mode);

@@ -13,7 +13,7 @@
 #define MADV_WIPEONFORK 18
 #endif
 
-static pid_t *kept;     /* on that page, or NULL: then it is asked for each time */
+pid_t *kept_process;
 
 __attribute__((constructor)) static void make_page(void)
 {
@@ -22,26 +22,23 @@ __attribute__((constructor)) static void make_page(void)
     if (page == MAP_FAILED)
         return;
     if (madvise(page, size, MADV_WIPEONFORK) == 0)
-        kept = page;
+        kept_process = page;
     else
         munmap(page, size);
 }
 
-pid_t this_process(void)
+__attribute__((noinline)) pid_t ask_process(void)
 {
-    pid_t process = kept ? __atomic_load_n(kept, __ATOMIC_RELAXED) : 0;
-    if (process)
-        return process;
-    process = getpid();
-    if (kept)
-        __atomic_store_n(kept, process, __ATOMIC_RELAXED);
+    pid_t process = getpid();
+    if (kept_process)
+        __atomic_store_n(kept_process, process, __ATOMIC_RELAXED);
     return process;
 }
 
 /* A child of vfork has the very page of its parent, and leaves it as it is. */
 bool is_known_process(void)
 {
-    return kept && __atomic_load_n(kept, __ATOMIC_RELAXED) == getpid();
+    return kept_process && __atomic_load_n(kept_process, __ATOMIC_RELAXED) == getpid();
 }
 
 /* A forked child has the memory of the thread that forked it. */

@@ -155,8 +155,7 @@ void drop_requests(struct requests *requests, size_t count)
     }
 }
 
-/* Returns whether a file was closed. */
-static bool free_parts(const struct request *request)
+__attribute__((noinline)) static void free_copies(const struct request *request)
 {
     if (request->vectors != &request->one)
         free(request->vectors);
@@ -164,11 +163,25 @@ static bool free_parts(const struct request *request)
     free(request->second_path);
     free(request->value);
     free(request->how);
+    free(request->time);
+}
+
+/* (most have none: one look at all costs less than a call for each) */
+static bool has_copies(const struct request *request)
+{
+    bool has_vectors = request->vectors && request->vectors != &request->one;
+    return has_vectors || (uintptr_t)request->path | (uintptr_t)request->second_path | (uintptr_t)request->value | (uintptr_t)request->how | (uintptr_t)request->time;
+}
+
+/* Returns whether a file was closed. */
+static bool free_parts(const struct request *request)
+{
+    if (has_copies(request))
+        free_copies(request);
     if (request->has_found_pipe)
         close_kept(request->found_pipe, false);
     if (request->is_opened)
         close_kept(request->opened, false);
-    free(request->time);
     if (request->epoll >= 0)
         close(request->epoll);
     bool is_closed = release_file(request->file);

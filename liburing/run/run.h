@@ -60,6 +60,6 @@ const void *wulgach_note_caller(const void *now);
  * it returns, and the handler does. */
 void leave_trap(const ucontext_t *at);
 
-#define SEEN __attribute__((visibility("default")))
+#define SEEN __attribute__((visibility("default"), externally_visible))
 
 #endif

@@ -146,6 +146,7 @@ impl Enter {
     }
 
     /// Going on, once the entries are submitted.
+    #[inline(always)]
     fn going(&self, has_gone: bool, sight: Sight) -> Command
         ensures { (a : Asked) (log : List Reply) → Keeps a log self.now
             → result ≡ going a log has_gone sight }
