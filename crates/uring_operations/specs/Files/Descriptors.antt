@@ -153,13 +153,28 @@ is_eventfd_name name = bytes_eq name (codes "anon_inode:[eventfd]")
 abbrev pub is_counter_name : List ℕ → Bool
 is_counter_name name = is_eventfd_name name || bytes_eq name (codes "anon_inode:[timerfd]")
 
+-- what tells of signals, each by the 128 bytes of a struct signalfd_siginfo: a signalfd. signalfd(2)
+abbrev pub is_signals_name : List ℕ → Bool
+is_signals_name name = bytes_eq name (codes "anon_inode:[signalfd]")
+
 -- a transfer that moves fewer than 8 bytes; but a write of none is carried out, and writes none. What Linux 6.18 was seen to do
 abbrev pub is_too_short : Submission → ℕ → Bool
 is_too_short e length = nat_lt length 8 && not (length == 0 && is_write e.opcode) && not (has_some e.flags 32)
 
--- whether it is asked for its name: only one that is too short matters to it, and only what is no file of any type counts
-abbrev pub asks_counter : Submission → ℕ → Nature → Bool
-asks_counter e length d = is_transfer e.opcode && not d.has_type && is_too_short e length
+-- a read that has no room for what is told of a signal. signalfd(2), ERRORS
+abbrev pub is_less_than_signal : Submission → ℕ → Bool
+is_less_than_signal e length = is_read e.opcode && nat_lt length 128 && not (has_some e.flags 32)
+
+-- a transfer that is too short for what its descriptor gives or takes
+abbrev pub is_short_there : Submission → ℕ → Nature → Bool
+is_short_there e length d =
+    d.is_counter && is_too_short e length || d.tells_signals && is_less_than_signal e length
+
+-- whether it is asked for its name: only one that may be too short matters to it, and only what is no file of any type counts or tells of signals. But a read of 8 bytes, which what counts gives at once, is taken to be of that: our own rule, since to ask costs each such read a system call
+abbrev pub asks_name : Submission → ℕ → Nature → Bool
+asks_name e length d =
+    is_transfer e.opcode && not d.has_type
+    && (is_too_short e length || not (length == 8) && is_less_than_signal e length)
 
 -- what has no offsets, as a pipe, a socket or an eventfd: bytes are moved there at none. (of a device it isn't asked)
 abbrev pub passes_offset_over : Nature → Bool
@@ -179,11 +194,11 @@ flags_fault flags =
     if has_some flags 192 then error 95 else
     if has_some flags 1 then error 22 else pos 0
 
--- with what a transfer fails as it starts by its flags, where they count there; else by being too short for what counts, -22 (EINVAL; eventfd(2), timerfd_create(2)), or by its offset, which is none where it is 2^64 - 1
+-- with what a transfer fails as it starts by its flags, where they count there; else by being too short for what counts or tells of signals, -22 (EINVAL; eventfd(2), timerfd_create(2), signalfd(2)), or by its offset, which is none where it is 2^64 - 1
 abbrev pub fault_after_flags : Submission → ℕ → Nature → ℤ → ℤ
 fault_after_flags e length d fault =
     if passes_offset_over d && is_below fault then fault else
-    if d.is_counter && is_too_short e length then error 22 else
+    if is_short_there e length d then error 22 else
     if passes_offset_over d && not (e.off == 2 ^ 64 - 1) then offset_fault e.off length d.is_socket else pos 0
 
 -- a message that asks for a poll first, and isn't to wait (MSG_DONTWAIT, 64), is never polled: it ends with -11 (EAGAIN), whatever its socket has. What Linux 6.18 was seen to do

@@ -35,6 +35,9 @@ pub struct Nature {
     /// It counts, and so gives and takes 8 bytes at once: an eventfd, or a timerfd.
     pub is_counter: bool,
 
+    /// It tells of signals, each by 128 bytes at once: a signalfd.
+    pub tells_signals: bool,
+
     /// It has a type of file, as a pipe and a socket too have one.
     pub has_type: bool,
 }
@@ -143,6 +146,7 @@ pub fn with_status(before: Nature, is_in_memory: bool, is_open: bool, mode: u32)
         can_read: before.can_read,
         can_write: before.can_write,
         is_counter: before.is_counter,
+        tells_signals: before.tells_signals,
         has_type: kind != 0,
     }
 }
@@ -295,11 +299,35 @@ pub fn is_counter_name(name: &[u8]) -> bool
     is_eventfd_name(name) || name == "anon_inode:[timerfd]".as_bytes()
 }
 
-/// Whether the descriptor of the transfer of an entry, of so many bytes, is asked for its name, where it is this but for that.
-pub fn asks_counter(entry: &Submission, length: u64, nature: &Nature) -> bool
-    ensures { result ≡ spec.asks_counter entry.now length nature.now }
+/// Whether one with this name tells of signals: a signalfd.
+pub fn is_signals_name(name: &[u8]) -> bool
+    ensures { result ≡ spec.is_signals_name name.now }
 {
-    is_transfer(entry.opcode) && !nature.has_type && is_too_short(entry, length)
+    name == "anon_inode:[signalfd]".as_bytes()
+}
+
+/// Whether the descriptor of the transfer of an entry, of so many bytes, is asked for its name, where it is this but for that.
+pub fn asks_name(entry: &Submission, length: u64, nature: &Nature) -> bool
+    ensures { result ≡ spec.asks_name entry.now length nature.now }
+{
+    let may_be_short = is_too_short(entry, length)
+        || length != 8 && is_less_than_signal(entry, length);
+    is_transfer(entry.opcode) && !nature.has_type && may_be_short
+}
+
+/// Whether a read of so many bytes has no room for what is told of a signal.
+fn is_less_than_signal(entry: &Submission, length: u64) -> bool
+    ensures { result ≡ spec.is_less_than_signal entry.now length }
+{
+    is_read(entry.opcode) && length < 128 && entry.flags & 32 == 0
+}
+
+/// Whether the transfer of an entry, of so many bytes, is too short for what its descriptor gives or takes.
+fn is_short_there(entry: &Submission, length: u64, nature: &Nature) -> bool
+    ensures { result ≡ spec.is_short_there entry.now length nature.now }
+{
+    nature.is_counter && is_too_short(entry, length)
+        || nature.tells_signals && is_less_than_signal(entry, length)
 }
 
 /// Whether the transfer of an entry, of so many bytes, is too short for what counts: a write of none is none.
@@ -368,7 +396,7 @@ fn fault_after_flags(entry: &Submission, length: u64, nature: &Nature, fault: i3
 {
     if passes_offset_over(nature) && fault < 0 {
         fault
-    } else if nature.is_counter && is_too_short(entry, length) {
+    } else if is_short_there(entry, length, nature) {
         -22
     } else if passes_offset_over(nature) && entry.off != u64::MAX {
         offset_fault(entry.off, length, nature.is_socket)
