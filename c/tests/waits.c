@@ -184,6 +184,7 @@ static void be_impatient(void)
     demand(impatient(RECV, 0, listening) && impatient(26, 0, listening) && !impatient(ACCEPT, 0, listening) && !impatient(POLL_ADD, 0, listening), "by a socket that listens");
     demand(impatient(ACCEPT, 0, deaf) && !impatient(ACCEPT, 0, fresh) && !impatient(RECV, 0, deaf) && !impatient(26, 0, deaf), "by one that doesn't");
     demand(impatient(RECV, 1, fresh) && !impatient(RECV, 1, begun) && !impatient(26, 1, fresh), "urgent data");
+    demand(impatient(RECV, 8192, fresh) && !impatient(RECV, 8192, begun) && !impatient(26, 8192, fresh), "what a socket was told of errors");
     struct wulgach_needs plain = {0}, poll = {.is_poll = true}, splice = {.needs_second = true};
     demand(wulgach_asks_listening(&plain, false) && !wulgach_asks_listening(&plain, true) && !wulgach_asks_listening(&poll, false) && !wulgach_asks_listening(&splice, false), "whose socket is asked whether it listens");
     struct wulgach_submission write = {.opcode = WRITE}, read = {.opcode = READ, .ioprio = 1}, send = {.opcode = SEND}, polled = {.opcode = SEND, .ioprio = 1}, receive = {.opcode = RECV}, accept = {.opcode = ACCEPT};
@@ -242,11 +243,14 @@ static void call(void)
     demand(wulgach_counts_as_begun(1) && !wulgach_counts_as_begun(0), "what has begun");
     demand(wulgach_is_call_repeated(false, WULGACH_TURN_CALLS, WULGACH_TURN_CALLS) && !wulgach_is_call_repeated(false, WULGACH_TURN_POLLS, WULGACH_TURN_CALLS) && !wulgach_is_call_repeated(false, WULGACH_TURN_CALLS, WULGACH_TURN_WAITS) && wulgach_is_call_repeated(true, 0, WULGACH_TURN_CALLS), "what was made once more");
     demand(turn(CONNECT, 0, fresh, WULGACH_TURN_CALLS, -103) == 1000 + WULGACH_TURN_CALLS && turn(CONNECT, 0, begun, WULGACH_TURN_CALLS, -103) == 1000 + WULGACH_TURN_CALLS && turn(CONNECT, 0, repeated, WULGACH_TURN_CALLS, -103) == -103 && turn(CONNECT, 0, repeated, WULGACH_TURN_CALLS, 0) == 0, "a connect that is made once more");
-    demand(turn(RECV, 0, fresh, WULGACH_TURN_CALLS, -11) == 1000 + WULGACH_TURN_ASKS_WILL && turn(RECV, 64, fresh, WULGACH_TURN_CALLS, -11) == -11 && turn(RECV, 0, part, WULGACH_TURN_CALLS, 3) == 1000 + WULGACH_TURN_ENDS_WITH_DONE, "a receive");
+    demand(turn(RECV, 0, fresh, WULGACH_TURN_CALLS, -11) == 1000 + WULGACH_TURN_POLLS && turn(RECV, 64, fresh, WULGACH_TURN_CALLS, -11) == -11 && turn(RECV, 0, part, WULGACH_TURN_CALLS, 3) == 1000 + WULGACH_TURN_ENDS_WITH_DONE, "a receive");
     demand(turn(RECV, 256, part, WULGACH_TURN_CALLS, 3) == 1000 + WULGACH_TURN_ASKS_TYPE && turn(RECV, 256, part, WULGACH_TURN_ASKS_TYPE, 1) == 1000 + WULGACH_TURN_WAITS && turn(RECV, 256, part, WULGACH_TURN_CALLS, 0) == 1000 + WULGACH_TURN_ENDS_WITH_DONE && turn(RECV, 256, part, WULGACH_TURN_CALLS, -104) == 1000 + WULGACH_TURN_ENDS_WITH_DONE, "of all");
     struct wulgach_call with_control = {.length = 8, .done = 3, .control = 24, .is_stream = true};
     demand(turn(10, 256, with_control, WULGACH_TURN_CALLS, 3) == 1000 + WULGACH_TURN_ENDS_WITH_DONE && turn(10, 256, part, WULGACH_TURN_CALLS, 3) == 1000 + WULGACH_TURN_ASKS_TYPE && turn(9, 256, with_control, WULGACH_TURN_CALLS, 3) == 1000 + WULGACH_TURN_ASKS_TYPE, "with control data");
-    demand(turn(SPLICE, 0, begun, WULGACH_TURN_CALLS, -11) == 1000 + WULGACH_TURN_ASKS_WILL && turn(SPLICE, 0, begun, WULGACH_TURN_ASKS_WILL, 1) == -11 && turn(RECV, 8192, fresh, WULGACH_TURN_CALLS, -11) == -11 && turn(RECV, 1, fresh, WULGACH_TURN_CALLS, -11) == 1000 + WULGACH_TURN_ASKS_WILL && turn(SPLICE, 2, begun, WULGACH_TURN_CALLS, -11) == 1000 + WULGACH_TURN_ASKS_WILL && turn(SPLICE, 0, begun, WULGACH_TURN_CALLS, 5) == 5, "a splice");
+    demand(turn(SPLICE, 0, begun, WULGACH_TURN_CALLS, -11) == 1000 + WULGACH_TURN_ASKS_WILL && turn(SPLICE, 0, begun, WULGACH_TURN_ASKS_WILL, 1) == -11 && turn(SPLICE, 2, begun, WULGACH_TURN_CALLS, -11) == 1000 + WULGACH_TURN_ASKS_WILL && turn(SPLICE, 0, begun, WULGACH_TURN_CALLS, 5) == 5, "a splice");
+    demand(turn(RECV, 0, fresh, WULGACH_TURN_POLLS, 0) == 1000 + WULGACH_TURN_WAITS && turn(RECV, 0, fresh, WULGACH_TURN_POLLS, 1) == 1000 + WULGACH_TURN_WAITS && turn(SEND, 0, fresh, WULGACH_TURN_POLLS, 1) == 1000 + WULGACH_TURN_WAITS, "bytes that would have waited");
+    demand(turn(9, 0, fresh, WULGACH_TURN_POLLS, 0) == 1000 + WULGACH_TURN_WAITS && turn(9, 0, fresh, WULGACH_TURN_POLLS, 1) == 1000 + WULGACH_TURN_ASKS_WILL && turn(9, 0, fresh, WULGACH_TURN_ASKS_WILL, 1) == -11 && turn(10, 0, part, WULGACH_TURN_ASKS_WILL, 1) == 1000 + WULGACH_TURN_ENDS_WITH_DONE, "a message that would have waited");
+    demand(turn(RECV, 8192, fresh, WULGACH_TURN_CALLS, -11) == 1000 + WULGACH_TURN_POLLS && turn(RECV, 8192, fresh, WULGACH_TURN_POLLS, 0) == 1000 + WULGACH_TURN_WAITS && turn(RECV, 8192, fresh, WULGACH_TURN_POLLS, 1) == -11, "a receive of errors");
 }
 
 /* Which splices aren't to wait, with SPLICE_F_NONBLOCK or without. */
