@@ -205,11 +205,14 @@ fault_after_flags e length d fault =
 abbrev pub is_never_polled : Submission → Nature → Bool
 is_never_polled e d = polls_first e && has_some e.op_flags 64 && d.is_socket
 
--- with what an operation fails as it starts, though its descriptor might have to be waited for: that isn't open for it (Wrong), or isn't open at all where its call would look at the offset first, -9 (EBADF); and as above. 0: it doesn't
+-- a transfer fails so where its descriptor isn't open at all, and its call would look at the offset first; and as above
+abbrev pub transfer_fault : Submission → ℕ → Nature → ℤ
+transfer_fault e length d =
+    if has_no_place e && not d.is_open then error 9 else fault_after_flags e length d (flags_fault e.op_flags)
+
+-- with what an operation fails as it starts, though its descriptor might have to be waited for: that isn't open for it (Wrong), -9 (EBADF); and as above. 0: it doesn't
 abbrev pub start_fault : Submission → (is_wrong : Bool) → ℕ → Nature → ℤ
 start_fault e is_wrong length d =
     if is_wrong then error 9 else
     if is_never_polled e d then error 11 else
-    if not (is_transfer e.opcode) then pos 0 else
-    if has_no_place e && not d.is_open then error 9 else
-    fault_after_flags e length d (flags_fault e.op_flags)
+    if is_transfer e.opcode then transfer_fault e length d else pos 0

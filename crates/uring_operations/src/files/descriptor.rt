@@ -357,9 +357,18 @@ pub fn start_fault(entry: &Submission, is_wrong: bool, length: u64, nature: &Nat
         -9
     } else if is_never_polled(entry, nature) {
         -11
-    } else if !is_transfer(entry.opcode) {
+    } else if is_transfer(entry.opcode) {
+        transfer_fault(entry, length, nature)
+    } else {
         0
-    } else if has_no_place(entry) && !nature.is_open {
+    }
+}
+
+/// With what a transfer fails as it starts that is of no wrong kind; or 0.
+fn transfer_fault(entry: &Submission, length: u64, nature: &Nature) -> i32
+    ensures { result ≡ spec.transfer_fault entry.now length nature.now }
+{
+    if has_no_place(entry) && !nature.is_open {
         -9
     } else {
         fault_after_flags(entry, length, nature, flags_fault(entry.op_flags))
