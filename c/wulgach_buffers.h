@@ -80,6 +80,10 @@ int32_t wulgach_group_argument_fault(uint32_t count, bool has_argument, bool is_
 int32_t wulgach_group_registering_fault(const struct wulgach_group *group, uint64_t address, uint32_t entries, uint64_t page);
 void wulgach_group_register(struct wulgach_group *group, uint16_t entries);
 
+/* Whether a group goes where a ring of so many entries is to be registered for it, before the fault of that is asked: a list without buffers does, if a
+ * ring may have so many. */
+bool wulgach_group_gives_way(const struct wulgach_group *group, uint32_t entries);
+
 /* The fault of unregistering a group's ring, or 0: -2 of no group, -22 of a list. And that is done: then there is no group. */
 int32_t wulgach_group_unregistering_fault(const struct wulgach_group *group);
 void wulgach_group_unregister(struct wulgach_group *group);

@@ -80,13 +80,14 @@ enum wulgach_shutting {
     WULGACH_SHUTTING_ENDS = 0,          /* the call came to what is written */
     WULGACH_SHUTTING_ASKS = 1,          /* its socket is asked whether it was (wulgach_is_shut): 0 if it wasn't */
     WULGACH_SHUTTING_CALLS_AGAIN = 2,   /* it was: the call is made once more */
-    WULGACH_SHUTTING_ASKS_WILL = 3      /* its descriptor is asked whether it isn't to wait (O_NONBLOCK): 0 if it is */
+    WULGACH_SHUTTING_ASKS_WILL = 3,     /* its descriptor is asked whether it isn't to wait (O_NONBLOCK): 0 if it is */
+    WULGACH_SHUTTING_ASKS_LOCAL = 4     /* its socket is asked whether it is a local one (SO_DOMAIN, AF_UNIX): 0 if it isn't */
 };
 
 /* Returns what is next after a call of this entry, which was asked not to wait (enum wulgach_shutting), and writes what that came to, if it is known.
  * `last` is 0 after the call itself, which came to `res`; then it is what was done last, which came to that. After -11 (EAGAIN) of a read or a
- * receive that may wait, and doesn't go on, its socket is asked whether it was shut down for reading (shutdown(2)). If it was, the call is made
- * once more, since a datagram may have come just before that; and where it finds nothing again it came to 0, since none comes any more, but to -11
+ * receive that may wait, and doesn't go on, its socket is asked whether it was shut down for reading (shutdown(2)); with MSG_ERRQUEUE only if it is
+ * a local one. If it was, the call is made once more, since a datagram may have come just before that; and where it finds nothing again it came to 0, since none comes any more, but to -11
  * where its descriptor isn't to wait, unless it is a RECV. A stream's call comes to 0 by itself. */
 uint32_t wulgach_shutting_next(const struct wulgach_submission *entry, uint32_t last, int32_t res, int32_t *end);
 

@@ -87,7 +87,7 @@ enum wulgach_turn {
     WULGACH_TURN_ENDS_WITH_DONE = 1,    /* or with how many bytes it has moved */
     WULGACH_TURN_WAITS = 2,     /* it would have to wait */
     WULGACH_TURN_CALLS = 3,     /* its call is made, so that it doesn't wait */
-    WULGACH_TURN_POLLS = 4,     /* its descriptor is polled: 0 if it isn't ready */
+    WULGACH_TURN_POLLS = 4,     /* its descriptor is polled: 0 if it isn't ready. A message's after a call that would have waited */
     WULGACH_TURN_ASKS_WILL = 5, /* its descriptor is asked whether it isn't to wait (O_NONBLOCK): 0 if it is; of a splice
                                  * wulgach_splice_isnt_to_wait tells */
     WULGACH_TURN_ASKS_TYPE = 6, /* its socket is asked whether it is a stream: 0 if it isn't */

@@ -142,12 +142,13 @@ struct wulgach_nature {
     bool can_read;              /* it is open for reading, */
     bool can_write;             /* for writing */
     bool is_counter;            /* it gives and takes 8 bytes at once: an eventfd, or a timerfd */
+    bool tells_signals;         /* it gives 128 bytes for each signal: a signalfd */
     bool has_type;              /* it has a type of file, as a pipe and a socket too have one */
 };
 
 /* What is known of a descriptor: what was asked is so, and the rest counts for nothing. */
 struct wulgach_known {
-    bool status;                /* it was asked what it is: the first four and the last two, */
+    bool status;                /* it was asked what it is: the first four and the last three, */
     bool offsets;               /* whether it has offsets, */
     bool access;                /* for what it is open */
     struct wulgach_nature nature;
@@ -192,13 +193,15 @@ int32_t wulgach_no_buffer_fault(const struct wulgach_submission *entry, const st
 int32_t wulgach_ends_at_start(const struct wulgach_submission *entry, int32_t fault, bool has_buffer, const struct wulgach_nature *nature);
 bool wulgach_fault_asks_buffer(const struct wulgach_submission *entry, int32_t fault);
 
-/* Whether a descriptor with this name in /proc is an eventfd, and whether it counts: an eventfd, or a timerfd. The name has `length` bytes. */
+/* Whether a descriptor with this name in /proc is an eventfd, whether it counts: an eventfd, or a timerfd, and whether it tells of signals: a signalfd.
+ * The name has `length` bytes. */
 bool wulgach_is_eventfd_name(const uint8_t *name, size_t length);
 bool wulgach_is_counter_name(const uint8_t *name, size_t length);
+bool wulgach_is_signals_name(const uint8_t *name, size_t length);
 
-/* Whether the descriptor of the transfer of an entry, of so many bytes, is asked for that name, where it is this but for what counts: of fewer
- * than 8 bytes, but of a write of none, if it has no type of file. */
-bool wulgach_asks_counter(const struct wulgach_submission *entry, uint64_t length, const struct wulgach_nature *nature);
+/* Whether the descriptor of the transfer of an entry, of so many bytes, is asked for that name, where it is this but for what that says: a read of fewer
+ * than 128 bytes, but of 8, which what counts gives, and a write of fewer than 8, but of none, if it has no type of file. */
+bool wulgach_asks_name(const struct wulgach_submission *entry, uint64_t length, const struct wulgach_nature *nature);
 
 /* With what the request of an entry ends whose buffer has this fault (`why`), where its descriptor is this: -9 and -88 as above, else with that. */
 int32_t wulgach_buffer_fault(const struct wulgach_submission *entry, const struct wulgach_nature *nature, int32_t why);
@@ -214,7 +217,7 @@ void wulgach_directions_of(uint32_t flags, struct wulgach_directions *directions
 /* With what the operation of an entry, of so many bytes, fails as it starts, where its descriptor is this; or 0. First -9 (EBADF) where that is of the wrong
  * kind (WULGACH_KIND_WRONG). Then -11 (EAGAIN) of a message that asks for a poll first (IORING_RECVSEND_POLL_FIRST), and isn't to wait (MSG_DONTWAIT).
  * Then, of a transfer, -9 of what isn't open, at an offset of 2^63 or more; -95 (EOPNOTSUPP) and -22 (EINVAL) of flags that what has no offsets, and is no
- * device, doesn't take; -22 of fewer than 8 bytes of what counts, but of a write of none; and of what has no offsets, though one counts for nothing there, at
+ * device, doesn't take; -22 of fewer than 8 bytes of what counts, but of a write of none, and of fewer than 128 of a signalfd; and of what has no offsets, though one counts for nothing there, at
  * another than 2^64 - 1: -22 of one from which the bytes would go past the last that 63 bits have, and -29 (ESPIPE) of a socket's but 0. */
 int32_t wulgach_start_fault(const struct wulgach_submission *entry, bool is_wrong, uint64_t length, const struct wulgach_nature *nature);
 

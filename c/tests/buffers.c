@@ -89,13 +89,13 @@ static void take_from_a_ring(void)
 {
     uint16_t cell = 999;
     wulgach_group_begin(&group);
-    demand(register_fault(4096, 4) == 0 && wulgach_group_unregistering_fault(&group) == -2, "no group");
+    demand(register_fault(4096, 4) == 0 && wulgach_group_unregistering_fault(&group) == -2 && !wulgach_group_gives_way(&group, 4), "no group");
     room = MOST;
     provide(1, 1);
-    demand(register_fault(4096, 4) == -17 && wulgach_group_unregistering_fault(&group) == -22 && taken() == 1, "a list");
-    demand(register_fault(4096, 4) == 0, "an empty list");
+    demand(register_fault(4096, 4) == -17 && wulgach_group_unregistering_fault(&group) == -22 && !wulgach_group_gives_way(&group, 4) && taken() == 1, "a list");
+    demand(register_fault(4096, 4) == 0 && wulgach_group_gives_way(&group, 4) && !wulgach_group_gives_way(&group, 3) && !wulgach_group_gives_way(&group, 65536), "an empty list");
     wulgach_group_register(&group, 4);
-    demand(register_fault(4096, 4) == -17 && wulgach_group_unregistering_fault(&group) == 0, "a ring");
+    demand(register_fault(4096, 4) == -17 && wulgach_group_unregistering_fault(&group) == 0 && !wulgach_group_gives_way(&group, 4), "a ring");
     demand(wulgach_group_providing_fault(&group, 8, 8, 1, 0) == -22 && wulgach_group_removing_fault(&group) == -22, "a ring is no list");
     demand(wulgach_group_is_ring(&group), "a ring");
     demand(!wulgach_group_cell(&group, true, 0, &cell) && cell == 999 && !wulgach_group_cell(&group, false, 1, &cell) && cell == 999, "an empty ring, and one whose tail can't be read");

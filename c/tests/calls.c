@@ -342,10 +342,12 @@ static void look_at_results(void)
     demand(wulgach_tells_message(&receive, 0) && !wulgach_tells_message(&receive, -11) && !wulgach_tells_message(&send, 5), "what is told of a message");
     demand(wulgach_told_result(5, true) == 5 && wulgach_told_result(5, false) == -14, "one that can't be told");
     struct wulgach_submission going_on = {.opcode = 27, .ioprio = 2}, hasty = {.opcode = 27, .op_flags = 64}, read = {.opcode = 22}, unwilling = {.opcode = 22, .op_flags = 8};
-    enum { ENDS = WULGACH_SHUTTING_ENDS, ASKS = WULGACH_SHUTTING_ASKS, AGAIN = WULGACH_SHUTTING_CALLS_AGAIN, WILL = WULGACH_SHUTTING_ASKS_WILL };
+    enum { ENDS = WULGACH_SHUTTING_ENDS, ASKS = WULGACH_SHUTTING_ASKS, AGAIN = WULGACH_SHUTTING_CALLS_AGAIN, WILL = WULGACH_SHUTTING_ASKS_WILL, LOCAL = WULGACH_SHUTTING_ASKS_LOCAL };
     demand(shuts(&receive, 0, -11, ASKS, 7) && shuts(&read, 0, -11, ASKS, 7) && shuts(&receive, 0, -107, ENDS, -107) && shuts(&send, 0, -11, ENDS, -11), "whether a socket was shut down");
     demand(shuts(&going_on, 0, -11, ENDS, -11) && shuts(&hasty, 0, -11, ENDS, -11) && shuts(&unwilling, 0, -11, ENDS, -11), "where that doesn't matter");
     demand(shuts(&read, ASKS, 0, ENDS, -11) && shuts(&read, ASKS, 1, AGAIN, 7) && shuts(&read, AGAIN, 5, ENDS, 5) && shuts(&read, AGAIN, -11, WILL, 7) && shuts(&read, WILL, 0, ENDS, 0), "a socket that was shut down");
+    struct wulgach_submission of_errors = {.opcode = 27, .op_flags = 8192};
+    demand(shuts(&of_errors, 0, -11, LOCAL, 7) && shuts(&of_errors, LOCAL, 0, ENDS, -11) && shuts(&of_errors, LOCAL, 1, ASKS, 7) && shuts(&of_errors, WILL, 1, ENDS, 0), "a receive of errors");
     demand(shuts(&read, WILL, 1, ENDS, -11) && shuts(&receive, WILL, 1, ENDS, -11) && shuts(&hasty, WILL, 1, ENDS, 0), "one that isn't to wait");
     struct wulgach_system_call sent;
     wulgach_breaking_call(-1, &sent);

@@ -230,7 +230,7 @@ static void read_contents(void)
     demand(wulgach_content_fault(FILES2, false, &none) == -14 && CONTENT(FILES2, 0) == -22 && CONTENT(FILES2, .nr = 1) == 0, "files");
     demand(CONTENT(FILES2, .nr = 1, .flags = 2) == -22 && CONTENT(BUFFERS2, .nr = 1, .flags = 1) == 0 && CONTENT(BUFFERS2, .nr = 1, .flags = 1, .has_data = true) == -22, "sparse ones");
     demand(CONTENT(UPDATE, .nr = 1) == 0 && CONTENT(UPDATE, .nr = 1, .has_reserved = true) == -22 && CONTENT(14, 0) == -22, "updates");
-    demand(CONTENT(CANCEL, 0) == 0 && CONTENT(CANCEL, .flags = 16) == -22 && CONTENT(CANCEL, .flags = 6) == -22 && CONTENT(CANCEL, .flags = 11) == 0, "a cancel");
+    demand(CONTENT(CANCEL, 0) == 0 && CONTENT(CANCEL, .flags = 16) == -22 && CONTENT(CANCEL, .flags = 6) == 0 && CONTENT(CANCEL, .flags = 11) == 0, "a cancel");
     demand(CONTENT(PROBE, 0) == 0 && CONTENT(PROBE, .has_reserved = true) == -22 && CONTENT(9, 0) == -22, "a probe");
 }
 

@@ -117,9 +117,9 @@ static void look_at_descriptors(void)
     struct wulgach_submission selecting = {.opcode = READ, .flags = 32}, receive = {.opcode = RECV, .flags = 32}, fixed = {.opcode = 4};
     demand(wulgach_no_buffer_fault(&selecting, &none) == -9 && wulgach_no_buffer_fault(&selecting, &pipe) == -105 && wulgach_no_buffer_fault(&receive, &pipe) == -88 && wulgach_no_buffer_fault(&receive, &socket) == -105 && wulgach_no_buffer_fault(&fixed, &none) == -9 && wulgach_no_buffer_fault(&fixed, &file) == -14, "no buffer");
     demand(wulgach_buffer_fault(&fixed, &none, -14) == -9 && wulgach_buffer_fault(&fixed, &file, -14) == -14 && wulgach_buffer_fault(&fixed, &file, -105) == -105 && wulgach_buffer_fault(&receive, &pipe, -14) == -88, "what is wrong with a buffer");
-    struct wulgach_nature counter = {.is_open = true, .is_counter = true, .can_read = true};
+    struct wulgach_nature counter = {.is_open = true, .is_counter = true, .can_read = true}, signals = {.is_open = true, .tells_signals = true, .can_read = true};
     struct wulgach_submission writing = {.opcode = WRITE};
-    demand(wulgach_start_fault(&writing, false, 0, &counter) == 0 && wulgach_start_fault(&writing, false, 1, &counter) == -22 && wulgach_start_fault(&entry, false, 0, &counter) == -22 && !wulgach_asks_counter(&writing, 0, &none), "a write of no bytes to what counts");
+    demand(wulgach_start_fault(&writing, false, 0, &counter) == 0 && wulgach_start_fault(&writing, false, 1, &counter) == -22 && wulgach_start_fault(&entry, false, 0, &counter) == -22 && !wulgach_asks_name(&writing, 0, &none), "a write of no bytes to what counts");
     demand(wulgach_start_fault(&entry, false, 7, &counter) == -22 && wulgach_start_fault(&entry, false, 8, &counter) == 0 && wulgach_start_fault(&entry, false, 7, &pipe) == 0 && wulgach_start_fault(&selecting, false, 7, &counter) == 0, "what counts");
     struct wulgach_submission at = {.opcode = READ, .off = 7}, past = {.opcode = READ, .off = (1ull << 63) - 4}, negative = {.opcode = READ, .off = UINT64_MAX - 1}, anywhere = {.opcode = READ, .off = UINT64_MAX}, received = {.opcode = RECV, .off = 7};
     demand(wulgach_start_fault(&at, false, 4, &socket) == -29 && wulgach_start_fault(&at, false, 4, &pipe) == 0 && wulgach_start_fault(&at, false, 4, &file) == 0 && wulgach_start_fault(&at, false, 4, &none) == 0 && wulgach_start_fault(&received, false, 4, &socket) == 0, "an offset");
@@ -138,7 +138,9 @@ static void look_at_descriptors(void)
     demand(one.can_read && !one.can_write && !other.can_read && other.can_write && both.can_read && both.can_write && !neither.can_read && !neither.can_write, "directions");
     demand(wulgach_ends_at_start(&selecting, -9, true, &pipe) == -9 && wulgach_ends_at_start(&selecting, -9, false, &pipe) == -105 && wulgach_ends_at_start(&selecting, -9, false, &none) == -9 && wulgach_ends_at_start(&receive, -11, false, &socket) == -11 && wulgach_ends_at_start(&selecting, -29, false, &socket) == -105 && wulgach_ends_at_start(&selecting, -29, true, &socket) == -29 && wulgach_ends_at_start(&entry, -9, false, &pipe) == -9, "a fault as it started");
     demand(wulgach_fault_asks_buffer(&selecting, -9) && !wulgach_fault_asks_buffer(&selecting, 0) && !wulgach_fault_asks_buffer(&entry, -9), "whether a buffer matters");
-    demand(wulgach_asks_counter(&entry, 7, &none) && !wulgach_asks_counter(&entry, 8, &none) && !wulgach_asks_counter(&selecting, 7, &none) && !wulgach_asks_counter(&entry, 7, &(struct wulgach_nature){.has_type = true}), "whether a name matters");
+    demand(wulgach_asks_name(&entry, 7, &none) && !wulgach_asks_name(&entry, 8, &none) && !wulgach_asks_name(&selecting, 7, &none) && !wulgach_asks_name(&entry, 7, &(struct wulgach_nature){.has_type = true}), "whether a name matters");
+    demand(wulgach_asks_name(&entry, 9, &none) && wulgach_asks_name(&entry, 127, &none) && !wulgach_asks_name(&entry, 128, &none) && !wulgach_asks_name(&writing, 9, &none), "whether a name matters for signals");
+    demand(wulgach_start_fault(&entry, false, 0, &signals) == -22 && wulgach_start_fault(&entry, false, 127, &signals) == -22 && wulgach_start_fault(&entry, false, 128, &signals) == 0 && wulgach_start_fault(&selecting, false, 127, &signals) == 0 && wulgach_start_fault(&writing, false, 127, &signals) == 0, "what tells of signals");
     demand(wulgach_find_kind(&entry, &plain, &nothing) == WULGACH_ASK_STATUS && wulgach_find_kind(&entry, &plain, &status) == WULGACH_ASK_OFFSETS && wulgach_find_kind(&entry, &plain, &offsets) == WULGACH_ASK_ACCESS, "what is asked");
 }
 
@@ -182,6 +184,7 @@ static void be_impatient(void)
     demand(impatient(RECV, 0, listening) && impatient(26, 0, listening) && !impatient(ACCEPT, 0, listening) && !impatient(POLL_ADD, 0, listening), "by a socket that listens");
     demand(impatient(ACCEPT, 0, deaf) && !impatient(ACCEPT, 0, fresh) && !impatient(RECV, 0, deaf) && !impatient(26, 0, deaf), "by one that doesn't");
     demand(impatient(RECV, 1, fresh) && !impatient(RECV, 1, begun) && !impatient(26, 1, fresh), "urgent data");
+    demand(impatient(RECV, 8192, fresh) && !impatient(RECV, 8192, begun) && !impatient(26, 8192, fresh), "what a socket was told of errors");
     struct wulgach_needs plain = {0}, poll = {.is_poll = true}, splice = {.needs_second = true};
     demand(wulgach_asks_listening(&plain, false) && !wulgach_asks_listening(&plain, true) && !wulgach_asks_listening(&poll, false) && !wulgach_asks_listening(&splice, false), "whose socket is asked whether it listens");
     struct wulgach_submission write = {.opcode = WRITE}, read = {.opcode = READ, .ioprio = 1}, send = {.opcode = SEND}, polled = {.opcode = SEND, .ioprio = 1}, receive = {.opcode = RECV}, accept = {.opcode = ACCEPT};
@@ -240,11 +243,14 @@ static void call(void)
     demand(wulgach_counts_as_begun(1) && !wulgach_counts_as_begun(0), "what has begun");
     demand(wulgach_is_call_repeated(false, WULGACH_TURN_CALLS, WULGACH_TURN_CALLS) && !wulgach_is_call_repeated(false, WULGACH_TURN_POLLS, WULGACH_TURN_CALLS) && !wulgach_is_call_repeated(false, WULGACH_TURN_CALLS, WULGACH_TURN_WAITS) && wulgach_is_call_repeated(true, 0, WULGACH_TURN_CALLS), "what was made once more");
     demand(turn(CONNECT, 0, fresh, WULGACH_TURN_CALLS, -103) == 1000 + WULGACH_TURN_CALLS && turn(CONNECT, 0, begun, WULGACH_TURN_CALLS, -103) == 1000 + WULGACH_TURN_CALLS && turn(CONNECT, 0, repeated, WULGACH_TURN_CALLS, -103) == -103 && turn(CONNECT, 0, repeated, WULGACH_TURN_CALLS, 0) == 0, "a connect that is made once more");
-    demand(turn(RECV, 0, fresh, WULGACH_TURN_CALLS, -11) == 1000 + WULGACH_TURN_ASKS_WILL && turn(RECV, 64, fresh, WULGACH_TURN_CALLS, -11) == -11 && turn(RECV, 0, part, WULGACH_TURN_CALLS, 3) == 1000 + WULGACH_TURN_ENDS_WITH_DONE, "a receive");
+    demand(turn(RECV, 0, fresh, WULGACH_TURN_CALLS, -11) == 1000 + WULGACH_TURN_POLLS && turn(RECV, 64, fresh, WULGACH_TURN_CALLS, -11) == -11 && turn(RECV, 0, part, WULGACH_TURN_CALLS, 3) == 1000 + WULGACH_TURN_ENDS_WITH_DONE, "a receive");
     demand(turn(RECV, 256, part, WULGACH_TURN_CALLS, 3) == 1000 + WULGACH_TURN_ASKS_TYPE && turn(RECV, 256, part, WULGACH_TURN_ASKS_TYPE, 1) == 1000 + WULGACH_TURN_WAITS && turn(RECV, 256, part, WULGACH_TURN_CALLS, 0) == 1000 + WULGACH_TURN_ENDS_WITH_DONE && turn(RECV, 256, part, WULGACH_TURN_CALLS, -104) == 1000 + WULGACH_TURN_ENDS_WITH_DONE, "of all");
     struct wulgach_call with_control = {.length = 8, .done = 3, .control = 24, .is_stream = true};
     demand(turn(10, 256, with_control, WULGACH_TURN_CALLS, 3) == 1000 + WULGACH_TURN_ENDS_WITH_DONE && turn(10, 256, part, WULGACH_TURN_CALLS, 3) == 1000 + WULGACH_TURN_ASKS_TYPE && turn(9, 256, with_control, WULGACH_TURN_CALLS, 3) == 1000 + WULGACH_TURN_ASKS_TYPE, "with control data");
-    demand(turn(SPLICE, 0, begun, WULGACH_TURN_CALLS, -11) == 1000 + WULGACH_TURN_ASKS_WILL && turn(SPLICE, 0, begun, WULGACH_TURN_ASKS_WILL, 1) == -11 && turn(RECV, 8192, fresh, WULGACH_TURN_CALLS, -11) == -11 && turn(RECV, 1, fresh, WULGACH_TURN_CALLS, -11) == 1000 + WULGACH_TURN_ASKS_WILL && turn(SPLICE, 2, begun, WULGACH_TURN_CALLS, -11) == 1000 + WULGACH_TURN_ASKS_WILL && turn(SPLICE, 0, begun, WULGACH_TURN_CALLS, 5) == 5, "a splice");
+    demand(turn(SPLICE, 0, begun, WULGACH_TURN_CALLS, -11) == 1000 + WULGACH_TURN_ASKS_WILL && turn(SPLICE, 0, begun, WULGACH_TURN_ASKS_WILL, 1) == -11 && turn(SPLICE, 2, begun, WULGACH_TURN_CALLS, -11) == 1000 + WULGACH_TURN_ASKS_WILL && turn(SPLICE, 0, begun, WULGACH_TURN_CALLS, 5) == 5, "a splice");
+    demand(turn(RECV, 0, fresh, WULGACH_TURN_POLLS, 0) == 1000 + WULGACH_TURN_WAITS && turn(RECV, 0, fresh, WULGACH_TURN_POLLS, 1) == 1000 + WULGACH_TURN_WAITS && turn(SEND, 0, fresh, WULGACH_TURN_POLLS, 1) == 1000 + WULGACH_TURN_WAITS, "bytes that would have waited");
+    demand(turn(9, 0, fresh, WULGACH_TURN_POLLS, 0) == 1000 + WULGACH_TURN_WAITS && turn(9, 0, fresh, WULGACH_TURN_POLLS, 1) == 1000 + WULGACH_TURN_ASKS_WILL && turn(9, 0, fresh, WULGACH_TURN_ASKS_WILL, 1) == -11 && turn(10, 0, part, WULGACH_TURN_ASKS_WILL, 1) == 1000 + WULGACH_TURN_ENDS_WITH_DONE, "a message that would have waited");
+    demand(turn(RECV, 8192, fresh, WULGACH_TURN_CALLS, -11) == 1000 + WULGACH_TURN_POLLS && turn(RECV, 8192, fresh, WULGACH_TURN_POLLS, 0) == 1000 + WULGACH_TURN_WAITS && turn(RECV, 8192, fresh, WULGACH_TURN_POLLS, 1) == -11, "a receive of errors");
 }
 
 /* Which splices aren't to wait, with SPLICE_F_NONBLOCK or without. */
@@ -322,9 +328,10 @@ static void open_descriptors(void)
     demand(wulgach_asks_openness(&read, -9) && !wulgach_asks_openness(&read, -5) && !wulgach_asks_openness(&no_op, -9), "what is asked of one");
     demand(wulgach_is_missing(&read, false, -9, &closed) && wulgach_is_missing(&read, false, -9, &path) && !wulgach_is_missing(&read, false, -9, &file), "a file that is missing");
     demand(!wulgach_is_missing(&of_slot, false, -9, &path) && wulgach_is_missing(&read, true, -5, &file) && !wulgach_is_missing(&read, false, -5, &closed), "another");
-    static const uint8_t counts[] = "anon_inode:[eventfd]", timer[] = "anon_inode:[timerfd]", longer[] = "anon_inode:[eventfd]s", other[] = "anon_inode:[eventpoll]";
+    static const uint8_t counts[] = "anon_inode:[eventfd]", signals[] = "anon_inode:[signalfd]", timer[] = "anon_inode:[timerfd]", longer[] = "anon_inode:[eventfd]s", other[] = "anon_inode:[eventpoll]";
     demand(wulgach_is_eventfd_name(counts, 20) && !wulgach_is_eventfd_name(timer, 20) && !wulgach_is_eventfd_name(longer, 21) && !wulgach_is_eventfd_name(counts, 0), "an eventfd");
     demand(wulgach_is_counter_name(counts, 20) && wulgach_is_counter_name(timer, 20) && !wulgach_is_counter_name(other, 22) && !wulgach_is_counter_name(timer, 19), "what counts by its name");
+    demand(wulgach_is_signals_name(signals, 21) && !wulgach_is_signals_name(signals, 20) && !wulgach_is_signals_name(counts, 20) && !wulgach_is_counter_name(signals, 21), "what tells of signals by its name");
     struct wulgach_splice_poll source, target;
     wulgach_splice_polls(false, &source);
     wulgach_splice_polls(true, &target);

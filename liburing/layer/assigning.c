@@ -43,12 +43,13 @@ void end_asking(void)
     asked.is_kept = false;
 }
 
-/* Whether a descriptor counts, by its name. */
-static bool is_counter(int fd)
+/* Asks a descriptor for its name: whether it counts, or tells of signals. */
+static void ask_name(int fd, struct wulgach_nature *nature)
 {
     char name[MOST_OF_NAME];
     size_t length = name_of_descriptor(fd, name);
-    return wulgach_is_taken_so(WULGACH_IS_COUNTER, length > 0, wulgach_is_counter_name((uint8_t *)name, length));
+    nature->is_counter = wulgach_is_taken_so(WULGACH_IS_COUNTER, length > 0, wulgach_is_counter_name((uint8_t *)name, length));
+    nature->tells_signals = wulgach_is_signals_name((uint8_t *)name, length);
 }
 
 /* Asks a descriptor what it is: nothing, if it isn't open. */
@@ -119,8 +120,8 @@ int find_kind(struct request *request)
     request->standing.is_stream = kind == WULGACH_KIND_STREAM;
     request->is_socket = known.nature.is_socket;
     /* (of what wasn't asked, or has a type, the name doesn't matter) */
-    if (known.status && !known.nature.has_type && wulgach_asks_counter(submission_of(&request->entry), request->length, &known.nature))
-        known.nature.is_counter = is_counter(request->fd);
+    if (known.status && !known.nature.has_type && wulgach_asks_name(submission_of(&request->entry), request->length, &known.nature))
+        ask_name(request->fd, &known.nature);
     return wulgach_start_fault(submission_of(&request->entry), kind == WULGACH_KIND_WRONG, request->length, &known.nature);
 }
 

@@ -139,12 +139,21 @@ static int ring_step(struct ring *ring, const struct io_uring_buf_reg *asked, st
     }
 }
 
+/* An empty list goes that a ring is to take the place of. */
+static void make_way(struct ring *ring, const struct io_uring_buf_reg *asked)
+{
+    struct group *group = find_group(ring, asked->bgid);
+    if (group && wulgach_group_gives_way(&group->kept, asked->ring_entries))
+        drop_group(ring, group);
+}
+
 int register_buffer_ring(struct ring *ring, uint64_t at, uint32_t count)
 {
     struct io_uring_buf_reg asked;
     int result = read_ring(&asked, at, count);
     if (result < 0)
         return result;
+    make_way(ring, &asked);
     struct group *group = NULL;
     for (uint32_t steps = wulgach_ring_steps(); steps && result == 0; steps &= steps - 1)
         result = ring_step(ring, &asked, &group, (uint32_t)__builtin_ctz(steps));

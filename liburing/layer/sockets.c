@@ -254,7 +254,9 @@ int32_t call_unless_shut(const struct request *request, int32_t (*call)(void *),
     uint32_t step = WULGACH_SHUTTING_ENDS;
     int32_t res = call(with);
     while ((step = wulgach_shutting_next(entry, step, res, &res)) != WULGACH_SHUTTING_ENDS) {
-        if (step == WULGACH_SHUTTING_ASKS)
+        if (step == WULGACH_SHUTTING_ASKS_LOCAL)
+            res = option_of(request->fd, SO_DOMAIN) == AF_UNIX;
+        else if (step == WULGACH_SHUTTING_ASKS)
             res = is_shut(request->fd);
         else if (step == WULGACH_SHUTTING_ASKS_WILL)
             res = is_not_to_wait(request);

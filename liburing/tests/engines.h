@@ -70,6 +70,21 @@ static inline struct seen next_of(struct ring *ring)
     return found;
 }
 
+/* Whether the kernel makes rings, where these are its own. */
+static inline bool are_rings_there(void)
+{
+#ifdef IS_ALSO_REAL
+    struct io_uring_params params = {0};
+    long fd = set_up(1, &params);
+    if (fd < 0) {
+        puts("this kernel makes no rings");
+        return false;
+    }
+    close((int)fd);
+#endif
+    return true;
+}
+
 struct named {
     const char *name;
     void (*run)(void);

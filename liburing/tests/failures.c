@@ -7,8 +7,10 @@
 #include <fcntl.h>
 #include <netinet/in.h>
 #include <poll.h>
+#include <signal.h>
 #include <sys/epoll.h>
 #include <sys/eventfd.h>
+#include <sys/signalfd.h>
 #include <sys/socket.h>
 #include <sys/timerfd.h>
 
@@ -434,6 +436,35 @@ static void test_own_eventfd(void)
     stop();
 }
 
+/* A read of a signalfd that has no room for a signal fails, whether there is one or not. */
+static void test_reads_of_signals(void)
+{
+    static const unsigned lengths[] = {0, 7, 127};
+    static char told[sizeof(struct signalfd_siginfo)];
+    sigset_t signals;
+    sigemptyset(&signals);
+    sigaddset(&signals, SIGUSR1);
+    begin(0);
+    check(sigprocmask(SIG_BLOCK, &signals, NULL) == 0);
+    int fd = signalfd(-1, &signals, 0);
+    for (int is_there = 0; is_there < 2; is_there++) {
+        for (size_t i = 0; i < sizeof lengths / sizeof *lengths; i++) {
+            put_transfer(&ring, IORING_OP_READ, 0, 0, fd, told, lengths[i], UINT64_MAX);
+            submit(1);
+            EXPECT({0, -EINVAL});
+        }
+        put_transfer(&ring, IORING_OP_READ, 1, 0, fd, told, sizeof told, UINT64_MAX);
+        submit(1);
+        check(kill(getpid(), SIGUSR1) == 0);
+        EXPECT({1, sizeof told});
+        check(kill(getpid(), SIGUSR1) == 0);
+    }
+    close(fd);
+    signal(SIGUSR1, SIG_IGN);
+    check(sigprocmask(SIG_UNBLOCK, &signals, NULL) == 0);
+    stop();
+}
+
 int main(int count, char **words)
 {
     static const struct named tests[] = {
@@ -451,6 +482,7 @@ int main(int count, char **words)
         {"own eventfd", test_own_eventfd},
         {"splices that wait", test_splices_that_wait},
         {"splice to a full socket", test_splice_to_full_socket},
+        {"reads of signals", test_reads_of_signals},
     };
     return are_rings_there() ? run_tests(tests, sizeof tests / sizeof *tests, count > 1 ? words[1] : NULL) : 0;
 }

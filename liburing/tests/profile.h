@@ -59,18 +59,4 @@ static inline void feed(void)
     check(write(ends[1], "x", 1) == 1);
 }
 
-/* Whether the kernel makes rings, where these are its own. */
-static inline bool are_rings_there(void)
-{
-#ifdef IS_ALSO_REAL
-    long fd = set_up(1, &ring.params);
-    if (fd < 0) {
-        puts("this kernel makes no rings");
-        return false;
-    }
-    close((int)fd);
-#endif
-    return true;
-}
-
 #endif

@@ -1,5 +1,5 @@
 /* Tests of provided buffers, by direct calls: of lists and of rings in memory. All hold
- * under every policy, which the environment says.
+ * under every policy, which the environment says; and on a real ring, if the kernel gives one and it is built for that.
  *
  *   provided [NAME]          with a name: that test alone
  */
@@ -112,11 +112,31 @@ static void test_groups(void)
     close_ring(&ring);
 }
 
+/* A list without buffers goes where a ring of a good size is to take its place, though that is refused for its address or its pages. */
+static void test_empty_lists(void)
+{
+    struct ring ring;
+    static char memory[16];
+    char *cells = mmap(NULL, 8192, PROT_READ | PROT_WRITE, MAP_PRIVATE | MAP_ANONYMOUS, -1, 0);
+    char *refused[] = {NULL, cells + 8, cells + 4096};
+    make_ring(&ring, 8, 0, 0);
+    munmap(cells + 4096, 4096);
+    for (int i = 0; i < 3; i++) {
+        check(provide(&ring, (uintptr_t)memory, 1, 1, 0, 1) == 0 && remove_buffers(&ring, 1, 1) == 1);
+        check(register_group(&ring, cells, 3, 1) == -EINVAL && remove_buffers(&ring, 1, 1) == 0);
+        check(register_group(&ring, refused[i], 8, 1) == (i == 1 ? -EINVAL : -EFAULT));
+        check(remove_buffers(&ring, 1, 1) == -ENOENT && unregister_group(&ring, 1) == -ENOENT);
+    }
+    munmap(cells, 4096);
+    close_ring(&ring);
+}
+
 int main(int count, char **words)
 {
     static const struct named tests[] = {
         {"provided", test_provided},
         {"groups", test_groups},
+        {"empty lists", test_empty_lists},
     };
-    return run_tests(tests, sizeof tests / sizeof *tests, count > 1 ? words[1] : NULL);
+    return !are_rings_there() ? 0 : run_tests(tests, sizeof tests / sizeof *tests, count > 1 ? words[1] : NULL);
 }

@@ -1,5 +1,5 @@
 /* Tests of what a socket's state makes of an operation, by direct calls: whether it listens, is shut down, or isn't to wait, and how much room or how many
- * bytes it has. All hold under every policy, which the environment says.
+ * bytes it has. All hold under every policy, which the environment says; and on a real ring, if the kernel gives one and it is built for that.
  *
  *   socket_states [NAME]     with a name: that test alone
  */
@@ -346,6 +346,140 @@ static void test_shut_asleep(void)
     close_ring(&ring);
 }
 
+/* Nothing comes of the request that was put. */
+static void expect_waiting(const struct ring *ring)
+{
+    check(enter(ring, 1, 0, 0) == 1 && enter_for(ring, 1, 1000) == -ETIME);
+}
+
+/* A send and a message wait for room also in a socket that isn't to wait, as long as no poll finds any. */
+static void test_no_room_unwilling(void)
+{
+    static char page[4096];
+    struct ring ring;
+    int ends[2];
+    struct iovec vector = {page, sizeof page};
+    struct msghdr message = {.msg_iov = &vector, .msg_iovlen = 1};
+    make_ring(&ring, 8, 0, 0);
+    for (int type = SOCK_STREAM; type <= SOCK_DGRAM; type++) {
+        for (int is_message = 0; is_message < 2; is_message++) {
+            check(socketpair(AF_UNIX, type | SOCK_NONBLOCK, 0, ends) == 0);
+            while (send(ends[0], page, sizeof page, 0) > 0)
+                ;
+            if (is_message)
+                put_transfer(&ring, IORING_OP_SENDMSG, 0, 0, ends[0], &message, 1, 0);
+            else
+                put_transfer(&ring, IORING_OP_SEND, 0, 0, ends[0], page, sizeof page, 0);
+            expect_waiting(&ring);
+            while (recv(ends[1], page, sizeof page, 0) > 0)
+                ;
+            check(wait_for_one(&ring) == sizeof page);
+            close(ends[0]);
+            close(ends[1]);
+        }
+    }
+    close_ring(&ring);
+}
+
+/* A datagram for a socket that takes no more, of which no poll tells: a message ends so if its own socket isn't to wait, and a send waits. */
+static void test_full_target(void)
+{
+    struct ring ring;
+    struct sockaddr_un address;
+    socklen_t size = sizeof address;
+    char text[8];
+    struct iovec vector = {"four", 4};
+    struct msghdr message = {.msg_name = &address, .msg_iov = &vector, .msg_iovlen = 1};
+    int target = socket(AF_UNIX, SOCK_DGRAM, 0), sender = socket(AF_UNIX, SOCK_DGRAM | SOCK_NONBLOCK, 0);
+    check(bind(target, &(struct sockaddr){.sa_family = AF_UNIX}, sizeof(sa_family_t)) == 0 && getsockname(target, (void *)&address, &size) == 0);
+    message.msg_namelen = size;
+    make_ring(&ring, 8, 0, 0);
+    while (sendto(sender, "full", 4, 0, (void *)&address, size) == 4)
+        ;
+    put_transfer(&ring, IORING_OP_SENDMSG, 0, 0, sender, &message, 1, 0);
+    check(result_of_one(&ring, 1) == -EAGAIN);
+    put_transfer(&ring, IORING_OP_SEND, 0, 0, sender, "four", 4, (uintptr_t)&address)->addr_len = (uint16_t)size;
+    expect_waiting(&ring);
+    while (recv(target, text, 8, MSG_DONTWAIT) == 4)
+        ;
+    /* (a kernel sends an empty datagram by then) */
+    check(wait_for_one(&ring) >= 0);
+    close(target);
+    close(sender);
+    close_ring(&ring);
+}
+
+/* A socket by the loopback device, bound to a port of its own. */
+static int bind_here(int type, struct sockaddr_in *address)
+{
+    socklen_t size = sizeof *address;
+    int fd = socket(AF_INET, type, 0);
+    *address = (struct sockaddr_in){.sin_family = AF_INET, .sin_addr.s_addr = htonl(INADDR_LOOPBACK)};
+    check(bind(fd, (void *)address, size) == 0 && getsockname(fd, (void *)address, &size) == 0);
+    return fd;
+}
+
+static void put_receive(struct ring *ring, uint64_t user_data, int fd, char *text, uint32_t flags)
+{
+    put_transfer(ring, IORING_OP_RECV, user_data, 0, fd, text, 8, 0)->msg_flags = flags;
+}
+
+/* What a socket was told of errors is waited for, also of one that listens, until that is ready: then there is something, or isn't. */
+static void test_no_errors(void)
+{
+    struct ring ring;
+    struct sockaddr_in address;
+    char text[8];
+    int listener = bind_here(SOCK_STREAM, &address), caller = socket(AF_INET, SOCK_STREAM, 0);
+    check(listen(listener, 1) == 0);
+    make_ring(&ring, 8, 0, 0);
+    put_receive(&ring, 0, listener, text, MSG_ERRQUEUE);
+    expect_waiting(&ring);
+    check(connect(caller, (void *)&address, sizeof address) == 0);
+    check(wait_for_one(&ring) == -EAGAIN);
+    close(caller);
+    close(listener);
+    close_ring(&ring);
+}
+
+/* A local socket has no such errors: what is received of it is what it has, or nothing once it was shut down. */
+static void test_no_errors_of_local(void)
+{
+    struct ring ring;
+    int ends[2];
+    char text[8];
+    struct iovec vector = {text, 8};
+    struct msghdr message = {.msg_iov = &vector, .msg_iovlen = 1};
+    check(socketpair(AF_UNIX, SOCK_DGRAM | SOCK_NONBLOCK, 0, ends) == 0);
+    make_ring(&ring, 8, 0, 0);
+    put_receive(&ring, 0, ends[0], text, MSG_ERRQUEUE);
+    expect_waiting(&ring);
+    check(send(ends[1], "four", 4, 0) == 4 && wait_for_one(&ring) == 4 && shutdown(ends[0], SHUT_RD) == 0);
+    put_receive(&ring, 0, ends[0], text, MSG_ERRQUEUE);
+    check(result_of_one(&ring, 1) == 0);
+    put_transfer(&ring, IORING_OP_RECVMSG, 0, 0, ends[0], &message, 1, 0)->msg_flags = MSG_ERRQUEUE;
+    check(result_of_one(&ring, 1) == -EAGAIN);
+    close(ends[0]);
+    close(ends[1]);
+    close_ring(&ring);
+}
+
+/* Urgent data of a socket of datagrams, which has none, is the next datagram, and is waited for though that isn't to wait. */
+static void test_urgent_datagram(void)
+{
+    struct ring ring;
+    struct sockaddr_in address;
+    char text[8];
+    int fd = bind_here(SOCK_DGRAM | SOCK_NONBLOCK, &address);
+    make_ring(&ring, 8, 0, 0);
+    put_receive(&ring, 0, fd, text, MSG_OOB);
+    expect_waiting(&ring);
+    check(sendto(fd, "four", 4, 0, (void *)&address, sizeof address) == 4);
+    check(wait_for_one(&ring) == 4 && memcmp(text, "four", 4) == 0);
+    close(fd);
+    close_ring(&ring);
+}
+
 int main(int count, char **words)
 {
     static const struct named tests[] = {
@@ -359,6 +493,11 @@ int main(int count, char **words)
         {"empty writes", test_empty_writes},
         {"shut writing", test_shut_writing},
         {"shut asleep", test_shut_asleep},
+        {"no room, unwilling", test_no_room_unwilling},
+        {"full target", test_full_target},
+        {"no errors", test_no_errors},
+        {"no errors of a local socket", test_no_errors_of_local},
+        {"urgent datagram", test_urgent_datagram},
     };
-    return run_tests(tests, sizeof tests / sizeof *tests, count > 1 ? words[1] : NULL);
+    return !are_rings_there() ? 0 : run_tests(tests, sizeof tests / sizeof *tests, count > 1 ? words[1] : NULL);
 }

@@ -1,5 +1,5 @@
-/* Tests of cancels by io_uring_register(2), by direct calls: what such a call does besides. All hold under every policy, which the environment
- * says.
+/* Tests of cancels by io_uring_register(2), by direct calls: what such a call takes, and does besides. All hold under every policy, which the environment
+ * says; and on a real ring, if the kernel gives one and it is built for that.
  *
  *   sync_cancels [NAME]      with a name: that test alone
  */
@@ -83,12 +83,41 @@ static void test_code(void)
     close_ring(&ring);
 }
 
+/* One of any may name a file, which is looked for, and finds what is on others too; an entry may not. */
+static void test_any_beside_file(void)
+{
+    struct ring ring;
+    struct io_uring_sync_cancel_reg any = {.timeout = {-1, -1}, .flags = IORING_ASYNC_CANCEL_ANY | IORING_ASYNC_CANCEL_FD};
+    int ends[2];
+    char bytes[2];
+    check(pipe(ends) == 0);
+    make_ring(&ring, 4, 0, 0);
+    put_transfer(&ring, IORING_OP_READ, 0, 0, ends[0], &bytes[0], 1, 0);
+    put_transfer(&ring, IORING_OP_READ, 1, 0, ends[0], &bytes[1], 1, 0);
+    check(enter(&ring, 2, 0, 0) == 2 && enter_for(&ring, 1, 1000) == -ETIME);
+    any.fd = -1;
+    check(register_at(ring.fd, IORING_REGISTER_SYNC_CANCEL, &any, 1) == -EBADF);
+    any.flags |= IORING_ASYNC_CANCEL_FD_FIXED;
+    any.fd = 0;
+    check(register_at(ring.fd, IORING_REGISTER_SYNC_CANCEL, &any, 1) == -EBADF && count_ready(&ring) == 0);
+    put(&ring, IORING_OP_ASYNC_CANCEL, 2, 0)->cancel_flags = IORING_ASYNC_CANCEL_ANY | IORING_ASYNC_CANCEL_FD;
+    check(enter(&ring, 1, 1, IORING_ENTER_GETEVENTS) == 1 && reap(&ring).res == -EINVAL);
+    any.flags &= ~(uint32_t)IORING_ASYNC_CANCEL_FD_FIXED;
+    any.fd = ends[1];
+    check(register_at(ring.fd, IORING_REGISTER_SYNC_CANCEL, &any, 1) == 2 && count_ready(&ring) == 2);
+    check(reap(&ring).res == -ECANCELED && reap(&ring).res == -ECANCELED);
+    close(ends[0]);
+    close(ends[1]);
+    close_ring(&ring);
+}
+
 int main(int count, char **words)
 {
     static const struct named tests[] = {
         {"come and gone", test_come_and_gone},
         {"cancelled among many", test_cancelled_among_many},
         {"code", test_code},
+        {"any beside a file", test_any_beside_file},
     };
-    return run_tests(tests, sizeof tests / sizeof *tests, count > 1 ? words[1] : NULL);
+    return !are_rings_there() ? 0 : run_tests(tests, sizeof tests / sizeof *tests, count > 1 ? words[1] : NULL);
 }

@@ -106,10 +106,9 @@ is_table c =
 abbrev pub is_update : Content → Bool
 is_update c = not (c.nr == 0) && not c.has_reserved
 
--- IORING_ASYNC_CANCEL_ALL is 1, FD 2, ANY 4 and FD_FIXED 8; by a descriptor or any, and not both. Our own rule: Linux 6.18 takes both, and two flags more
+-- IORING_ASYNC_CANCEL_ALL is 1, FD 2, ANY 4 and FD_FIXED 8. One of any may name a file too, which is looked for, though an entry may not: what Linux 6.18 does. That takes two flags more, and this none of them: our own rule
 abbrev pub is_cancel : Content → Bool
-is_cancel c =
-    not c.has_reserved && bit_and c.flags 4294967280 == 0 && not (bit_and c.flags 6 == 6)
+is_cancel c = not c.has_reserved && bit_and c.flags 4294967280 == 0
 
 -- what a call reads may be this. A probe is all zero
 abbrev pub is_content : Call → Content → Bool

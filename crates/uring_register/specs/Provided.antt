@@ -133,6 +133,10 @@ registering_fault log address count page =
     if address == 0 then error 14 else
     if is_aligned address page then pos 0 else error 22
 
+-- a list without buffers goes where a ring of a size that one may have is to be registered, before its address is looked at: so it has gone too if that is refused. What Linux 6.18 was seen to do
+abbrev pub gives_way : List Change → ℕ → Bool
+gives_way log count = is_there log && is_size count && not (is_ring log || nat_lt 0 (left log))
+
 abbrev pub unregistering_fault : List Change → ℤ
 unregistering_fault log =
     if not (is_there log) then error 2 else

@@ -198,7 +198,7 @@ fn is_table(content: &Content) -> bool
 fn is_cancel(content: &Content) -> bool
     ensures { result ≡ spec.is_cancel content.now }
 {
-    !content.has_reserved && content.flags & !15 == 0 && content.flags & 6 != 6
+    !content.has_reserved && content.flags & !15 == 0
 }
 
 /// What a probe tells in front of its rows. `struct io_uring_probe`.

@@ -218,6 +218,15 @@ impl Group {
         }
     }
 
+    /// Whether it goes where a ring of so many entries is to be registered for it, whatever else is wrong with that: an empty list does.
+    pub fn gives_way(&self, entries: u32) -> bool
+        ensures { (log : List Change) (rows : List Buffer) → KeepsGroup log self.now rows
+            → result ≡ spec.gives_way log entries }
+    {
+        let has_any = self.entries != 0 || self.count > 0;
+        self.is_there && entries.is_power_of_two() && entries <= 0x8000 && !has_any
+    }
+
     /// It has a ring of so many entries.
     pub fn register(&mut self, entries: u16)
         ensures { (log : List Change) (rows : List Buffer) → KeepsGroup log self.old rows

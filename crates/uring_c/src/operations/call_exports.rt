@@ -240,6 +240,7 @@ fn shutting_word(step: Shutting) -> u32
         Shutting::AsksShut => 1,
         Shutting::CallsAgain => 2,
         Shutting::AsksWill => 3,
+        Shutting::AsksLocal => 4,
     }
 }
 
@@ -260,6 +261,7 @@ fn shutting(word: u32) -> Option<Shutting>
         1 => Some(Shutting::AsksShut),
         2 => Some(Shutting::CallsAgain),
         3 => Some(Shutting::AsksWill),
+        4 => Some(Shutting::AsksLocal),
         _ => None,
     }
 }

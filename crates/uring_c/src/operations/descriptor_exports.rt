@@ -10,10 +10,10 @@ ghost use Rattle.uring_operations.specs.Files.Syncing as syncing;
 ghost use Rattle.uring_c.specs.UnknownForm.{known_of};
 
 use uring_operations::{
-    Directions, Nature, Openness, SpliceEnds, SplicePoll, Submission, SyncedKind, asks_counter,
+    Directions, Nature, Openness, SpliceEnds, SplicePoll, Submission, SyncedKind, asks_name,
     asks_openness, counts_as_open, counts_as_synced, directions_of, ends_at_start,
     fault_asks_buffer, is_counter_name, is_eventfd_name, is_missing, is_signal_of_call,
-    is_taken_back, isnt_to_wait, signal_after, splice_poll, with_status,
+    is_signals_name, is_taken_back, isnt_to_wait, signal_after, splice_poll, with_status,
 };
 
 /// Whether a descriptor counts as open that is this, and is named by its number, or by the slot that holds its file.
@@ -82,12 +82,20 @@ pub extern "C" fn wulgach_is_counter_name(name: &[u8]) -> bool
     is_counter_name(name)
 }
 
+/// Whether one with this name tells of signals.
+#[unsafe(no_mangle)]
+pub extern "C" fn wulgach_is_signals_name(name: &[u8]) -> bool
+    ensures { result ≡ found.is_signals_name name.now }
+{
+    is_signals_name(name)
+}
+
 /// Whether the descriptor of the transfer of an entry, of so many bytes, is asked for its name, where it is this but for that.
 #[unsafe(no_mangle)]
-pub extern "C" fn wulgach_asks_counter(entry: &Submission, length: u64, nature: &Nature) -> bool
-    ensures { result ≡ starting.asks_counter entry.now length nature.now }
+pub extern "C" fn wulgach_asks_name(entry: &Submission, length: u64, nature: &Nature) -> bool
+    ensures { result ≡ starting.asks_name entry.now length nature.now }
 {
-    asks_counter(entry, length, nature)
+    asks_name(entry, length, nature)
 }
 
 /// Writes for which directions a descriptor is open that has these flags.

@@ -157,6 +157,15 @@ pub extern "C" fn wulgach_group_registering_fault(
     group.registering_fault(address, entries, page)
 }
 
+/// Whether a group goes where a ring of so many entries is to be registered for it.
+#[unsafe(no_mangle)]
+pub extern "C" fn wulgach_group_gives_way(group: &Group, entries: u32) -> bool
+    ensures { (log : List Change) (rows : List Buffer) → KeepsGroup log group.now rows
+        → result ≡ spec.gives_way log entries }
+{
+    group.gives_way(entries)
+}
+
 /// A group has a ring of so many entries.
 #[unsafe(no_mangle)]
 pub extern "C" fn wulgach_group_register(group: &mut Group, entries: u16)

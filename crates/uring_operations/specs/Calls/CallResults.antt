@@ -3,11 +3,11 @@ use Rattle.std.specs.Prelude.{◌≡◌, ℕ, ℤ, pos, ◌+◌, ◌-◌, ◌^�
 use Rattle.std.specs.Ordering.{int_eq}
 use Rattle.uring_operations.specs.declared.entries.submission.Submission.{Submission}
 use Rattle.uring_operations.specs.declared.calls.call_results.Shutting.{Shutting}
-use Rattle.uring_operations.specs.declared.calls.call_results.Shutting.TheVariants.{Ends, AsksShut, CallsAgain, AsksWill}
+use Rattle.uring_operations.specs.declared.calls.call_results.Shutting.TheVariants.{Ends, AsksShut, CallsAgain, AsksWill, AsksLocal}
 use Rattle.uring_entry.specs.Errors.{error, is_below}
 use Rattle.uring_operations.specs.Entries.NoOps.{signed}
 use Rattle.uring_operations.specs.Entries.Clocks.{has_some}
-use Rattle.uring_operations.specs.Entries.Needs.{fills_buffer, goes_on, is_read, is_read_multishot, is_receive, is_transfer}
+use Rattle.uring_operations.specs.Entries.Needs.{fills_buffer, goes_on, is_read, is_read_multishot, is_receive, is_transfer, takes_errors}
 use Rattle.uring_operations.specs.Calls.Advances.{moved_by}
 use Rattle.uring_operations.specs.Calls.CallTries.{is_asked}
 
@@ -34,9 +34,10 @@ abbrev pub shut_result : Submission → ℤ → (is_shut isnt_to_wait : Bool) �
 shut_result e came_to is_shut isnt_to_wait =
     if int_eq came_to (error 11) && is_shut && (not isnt_to_wait || e.opcode == 27) then pos 0 else came_to
 
--- a datagram may have come just before it was shut down, or while that is asked: so the call is made once more, and what that comes to counts. What is next, after what was done last, which came to `res`, a question to a number that is 0 for no; None: after the call itself, which has come to -11 (EAGAIN) wherever the socket is asked
+-- a datagram may have come just before it was shut down, or while that is asked: so the call is made once more, and what that comes to counts. Of a receive of errors only a local socket is asked, which has none, and takes it for one of bytes; another has none whether it was shut down or not. What is next, after what was done last, which came to `res`, a question to a number that is 0 for no; None: after the call itself, which has come to -11 (EAGAIN) wherever the socket is asked
 abbrev pub shutting_next : Submission → Option Shutting → ℤ → Shutting
-shutting_next e None res = if asks_shut e res then AsksShut else Ends res
+shutting_next e None res = if not (asks_shut e res) then Ends res else if takes_errors e then AsksLocal else AsksShut
+shutting_next e (Some AsksLocal) res = if int_eq res (pos 0) then Ends (error 11) else AsksShut
 shutting_next e (Some AsksShut) res = if int_eq res (pos 0) then Ends (error 11) else CallsAgain
 shutting_next e (Some CallsAgain) res = if int_eq res (error 11) then AsksWill else Ends res
 shutting_next e (Some AsksWill) res = Ends (shut_result e (error 11) true (not (int_eq res (pos 0))))

@@ -9,7 +9,7 @@ use Rattle.uring_operations.specs.declared.calls.waiting_call.Doing.TheVariants.
 use Rattle.uring_operations.specs.declared.calls.waiting_call.Turn.{Turn}
 use Rattle.uring_operations.specs.declared.calls.waiting_call.Turn.TheVariants.{Does, Waits, Ends, EndsWithDone}
 use Rattle.uring_operations.specs.Entries.Clocks.{has_some}
-use Rattle.uring_operations.specs.Entries.Needs.{is_receive, goes_on}
+use Rattle.uring_operations.specs.Entries.Needs.{takes_errors, goes_on}
 use Rattle.uring_operations.specs.Calls.Parts.{is_alone}
 use Rattle.uring_operations.specs.Requests.Readiness.{has_message_flags}
 use Rattle.uring_entry.specs.Errors.{error}
@@ -25,15 +25,25 @@ begins e c = if polls_first e c then Does Polls else Does Calls
 abbrev pub ends_with : Submission → Call → ℤ → Turn
 ends_with e c res = if has_message_flags e.opcode && not (c.done == 0) then EndsWithDone else Ends res
 
--- the entry asks it not to wait: MSG_DONTWAIT (64); and what a socket was told of errors, by MSG_ERRQUEUE (8192), is there or isn't. recv(2). That a splice asks so (SPLICE_F_NONBLOCK) doesn't count for each of its ends
+-- the entry asks it not to wait: MSG_DONTWAIT (64). recv(2). That a splice asks so (SPLICE_F_NONBLOCK) doesn't count for each of its ends
 abbrev pub is_asked : Submission → Bool
-is_asked e =
-    is_receive e.opcode && has_some e.op_flags 8192
-    || has_message_flags e.opcode && has_some e.op_flags 64
+is_asked e = has_message_flags e.opcode && has_some e.op_flags 64
 
--- what would have had to wait ends so (-11, EAGAIN) if the entry asks for that; else it waits, unless its descriptor isn't to wait (O_NONBLOCK), or its splice isn't
+-- what would have had to wait ends so (-11, EAGAIN) if the entry asks for that. A message waits as long as a poll finds its descriptor unready; another, unless its descriptor isn't to wait (O_NONBLOCK), or its splice isn't
 abbrev pub would_wait : Submission → Call → Turn
-would_wait e c = if is_asked e then ends_with e c (error 11) else Does AsksWill
+would_wait e c =
+    if is_asked e then ends_with e c (error 11) else
+    if has_message_flags e.opcode then Does Polls else Does AsksWill
+
+-- SENDMSG (9), RECVMSG (10) and SENDMSG_ZC (48) go by what the descriptor says of waiting, but a SEND and a RECV don't. What Linux 6.18 was seen to do
+abbrev pub heeds_will : ℕ → Bool
+heeds_will code = code == 9 || code == 10 || code == 48
+
+-- a message that would have had to wait, though its descriptor is ready, as a datagram to a socket that takes no more: what the socket was told of errors isn't there; a whole message waits unless its descriptor isn't to wait; and bytes wait. What Linux 6.18 was seen to do, whose worker carries it out then
+abbrev pub after_vain : Submission → Call → Turn
+after_vain e c =
+    if takes_errors e then ends_with e c (error 11) else
+    if heeds_will e.opcode then Does AsksWill else Waits
 
 -- with MSG_WAITALL (256) a message goes on until all is moved, on a socket that is a stream, unless it has one part alone
 abbrev pub waits_for_all : Submission → Call → Bool
@@ -68,10 +78,12 @@ after_call e c res =
     if int_eq res (error 11) then would_wait e c else
     if has_message_flags e.opcode then after_message e c res else Ends res
 
-abbrev pub after_poll : Submission → Bool → Turn
-after_poll e is_ready =
-    if e.opcode == 16 then (if is_ready then Does AsksError else Waits) else
-    if is_ready then Does Calls else Does AsksWill
+-- an ACCEPT (13) and a CONNECT (16) were polled before their call, a message after it
+abbrev pub after_poll : Submission → Call → Bool → Turn
+after_poll e c is_ready =
+    if e.opcode == 13 then (if is_ready then Does Calls else Does AsksWill) else
+    if not is_ready then Waits else
+    if e.opcode == 16 then Does AsksError else after_vain e c
 
 -- a connect ends with its socket's error, if that has one
 abbrev pub after_error : Submission → ℤ → Turn
@@ -80,7 +92,7 @@ after_error e res = if e.opcode == 16 && int_eq res (pos 0) then Does Calls else
 -- what is done next, after what was done last, which came to `res`: a question to a number that is 0 for no. After a call, `done` has what it has moved too
 abbrev pub after : Submission → Call → Doing → ℤ → Turn
 after e c Calls res = after_call e c res
-after e c Polls res = after_poll e (not (int_eq res (pos 0)))
+after e c Polls res = after_poll e c (not (int_eq res (pos 0)))
 after e c AsksWill res = if int_eq res (pos 0) then Waits else ends_with e c (error 11)
 after e c AsksType res = if int_eq res (pos 0) then EndsWithDone else Waits
 after e c AsksError res = after_error e res

@@ -40,7 +40,11 @@ is_receive code = code == 10 || code == 27
 abbrev pub takes_urgent : Submission → Bool
 takes_urgent e = is_receive e.opcode && has_some e.op_flags 1
 
--- these, ACCEPT and CONNECT
+-- a receive of what its socket was told of errors, by MSG_ERRQUEUE (8192). recv(2)
+abbrev pub takes_errors : Submission → Bool
+takes_errors e = is_receive e.opcode && has_some e.op_flags 8192
+
+-- sends, receives, ACCEPT and CONNECT
 abbrev pub is_of_sockets : ℕ → Bool
 is_of_sockets code = is_send code || is_receive code || code == 13 || code == 16
 

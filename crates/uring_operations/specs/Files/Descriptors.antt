@@ -130,3 +130,7 @@ is_eventfd_name name = bytes_eq name (codes "anon_inode:[eventfd]")
 
 abbrev pub is_counter_name : List ℕ → Bool
 is_counter_name name = is_eventfd_name name || bytes_eq name (codes "anon_inode:[timerfd]")
+
+-- what tells of signals, each by the 128 bytes of a struct signalfd_siginfo: a signalfd. signalfd(2)
+abbrev pub is_signals_name : List ℕ → Bool
+is_signals_name name = bytes_eq name (codes "anon_inode:[signalfd]")

@@ -4,7 +4,7 @@ use Rattle.std.specs.Ordering.{int_eq}
 use Rattle.uring_operations.specs.declared.entries.submission.Submission.{Submission}
 use Rattle.uring_operations.specs.declared.files.descriptor.Nature.{Nature}
 use Rattle.uring_operations.specs.Entries.Clocks.{has_some}
-use Rattle.uring_operations.specs.Entries.Needs.{is_write, is_transfer, is_of_sockets, needs_file}
+use Rattle.uring_operations.specs.Entries.Needs.{is_read, is_write, is_transfer, is_of_sockets, needs_file}
 use Rattle.uring_operations.specs.Files.Descriptors.{has_no_place}
 use Rattle.uring_operations.specs.Requests.Readiness.{polls_first}
 use Rattle.uring_entry.specs.Errors.{error, is_below}
@@ -32,9 +32,20 @@ ends_at_start e fault has_buffer d =
 abbrev pub is_too_short : Submission → ℕ → Bool
 is_too_short e length = nat_lt length 8 && not (length == 0 && is_write e.opcode) && not (has_some e.flags 32)
 
--- whether it is asked for its name: only one that is too short matters to it, and only what is no file of any type counts
-abbrev pub asks_counter : Submission → ℕ → Nature → Bool
-asks_counter e length d = is_transfer e.opcode && not d.has_type && is_too_short e length
+-- a read that has no room for what is told of a signal. signalfd(2), ERRORS
+abbrev pub is_less_than_signal : Submission → ℕ → Bool
+is_less_than_signal e length = is_read e.opcode && nat_lt length 128 && not (has_some e.flags 32)
+
+-- a transfer that is too short for what its descriptor gives or takes
+abbrev pub is_short_there : Submission → ℕ → Nature → Bool
+is_short_there e length d =
+    d.is_counter && is_too_short e length || d.tells_signals && is_less_than_signal e length
+
+-- whether it is asked for its name: only one that may be too short matters to it, and only what is no file of any type counts or tells of signals. But a read of 8 bytes, which what counts gives at once, is taken to be of that: our own rule, since to ask costs each such read a system call
+abbrev pub asks_name : Submission → ℕ → Nature → Bool
+asks_name e length d =
+    is_transfer e.opcode && not d.has_type
+    && (is_too_short e length || not (length == 8) && is_less_than_signal e length)
 
 -- what has no offsets, as a pipe, a socket or an eventfd: bytes are moved there at none. (of a device it isn't asked)
 abbrev pub passes_offset_over : Nature → Bool
@@ -54,22 +65,25 @@ flags_fault flags =
     if has_some flags 192 then error 95 else
     if has_some flags 1 then error 22 else pos 0
 
--- with what a transfer fails as it starts by its flags, where they count there; else by being too short for what counts, -22 (EINVAL; eventfd(2), timerfd_create(2)), or by its offset, which is none where it is 2^64 - 1
+-- with what a transfer fails as it starts by its flags, where they count there; else by being too short for what counts or tells of signals, -22 (EINVAL; eventfd(2), timerfd_create(2), signalfd(2)), or by its offset, which is none where it is 2^64 - 1
 abbrev pub fault_after_flags : Submission → ℕ → Nature → ℤ → ℤ
 fault_after_flags e length d fault =
     if passes_offset_over d && is_below fault then fault else
-    if d.is_counter && is_too_short e length then error 22 else
+    if is_short_there e length d then error 22 else
     if passes_offset_over d && not (e.off == 2 ^ 64 - 1) then offset_fault e.off length d.is_socket else pos 0
 
 -- a message that asks for a poll first, and isn't to wait (MSG_DONTWAIT, 64), is never polled: it ends with -11 (EAGAIN), whatever its socket has. What Linux 6.18 was seen to do
 abbrev pub is_never_polled : Submission → Nature → Bool
 is_never_polled e d = polls_first e && has_some e.op_flags 64 && d.is_socket
 
--- with what an operation fails as it starts, though its descriptor might have to be waited for: that isn't open for it (Wrong), or isn't open at all where its call would look at the offset first, -9 (EBADF); and as above. 0: it doesn't
+-- a transfer fails so where its descriptor isn't open at all, and its call would look at the offset first; and as above
+abbrev pub transfer_fault : Submission → ℕ → Nature → ℤ
+transfer_fault e length d =
+    if has_no_place e && not d.is_open then error 9 else fault_after_flags e length d (flags_fault e.op_flags)
+
+-- with what an operation fails as it starts, though its descriptor might have to be waited for: that isn't open for it (Wrong), -9 (EBADF); and as above. 0: it doesn't
 abbrev pub start_fault : Submission → (is_wrong : Bool) → ℕ → Nature → ℤ
 start_fault e is_wrong length d =
     if is_wrong then error 9 else
     if is_never_polled e d then error 11 else
-    if not (is_transfer e.opcode) then pos 0 else
-    if has_no_place e && not d.is_open then error 9 else
-    fault_after_flags e length d (flags_fault e.op_flags)
+    if is_transfer e.opcode then transfer_fault e length d else pos 0

@@ -16,7 +16,7 @@ use Rattle.uring_operations.specs.Calls.SystemCalls.{of_four, word_of}
 use Rattle.uring_operations.specs.Calls.SystemCalls as sys
 use Rattle.uring_entry.specs.Errors.{error, is_below}
 use Rattle.uring_operations.specs.Entries.Clocks.{has_some}
-use Rattle.uring_operations.specs.Entries.Needs.{is_transfer, is_read, is_write, is_send, is_receive, is_of_sockets, is_splice, takes_urgent}
+use Rattle.uring_operations.specs.Entries.Needs.{is_transfer, is_read, is_write, is_send, is_receive, is_of_sockets, is_splice, takes_urgent, takes_errors}
 
 -- one that is to take a provided buffer, and has found none since it started, ends so, whatever its descriptor has; but for one that is to be polled first, which counts as one that has found one. One that has found one waits for its descriptor, whatever becomes of that buffer: it takes what its group has then. So Linux 6.18 was seen to do
 abbrev pub finds_what_it_wants : Standing → Needs → Moment → Bool
@@ -164,9 +164,10 @@ is_impatient_transfer e p = has_some e.op_flags 8 || is_for_nothing e p
 abbrev pub polls_first : Submission → Bool
 polls_first e = has_message_flags e.opcode && has_some e.ioprio 1
 
--- a connect, a splice and a receive of urgent data are begun before they wait, so that their faults are found at once: no readiness tells of these. But a receive that is to be polled first waits before any fault
+-- a connect, a splice and a receive of urgent data or of errors are begun before they wait, so that their faults are found at once, and what is there: no readiness tells of these. But a receive that is to be polled first waits before any fault
 abbrev pub is_begun_at_once : Submission → Bool
-is_begun_at_once e = e.opcode == 16 || is_splice e.opcode || takes_urgent e && not (polls_first e)
+is_begun_at_once e =
+    e.opcode == 16 || is_splice e.opcode || (takes_urgent e || takes_errors e) && not (polls_first e)
 
 -- its socket was asked whether it listens, and is of no use to it: a transfer or a message of one that does ends with an error, as -107 (ENOTCONN) or -32 (EPIPE), and an ACCEPT (13) of one that doesn't, with -22 (EINVAL) or -95 (EOPNOTSUPP). But a message that is to be polled first waits. listen(2), accept(2)
 abbrev pub is_in_vain : Submission → Patience → Bool

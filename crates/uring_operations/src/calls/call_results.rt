@@ -6,7 +6,9 @@ ghost use Rattle.uring_operations.specs.Calls.CallResults.{ShuttingLosesNothing}
 
 use crate::calls::advance::moved_by;
 use crate::calls::waiting_call::is_asked;
-use crate::entries::needs::{goes_on, is_read, is_read_multishot, is_receive, is_transfer};
+use crate::entries::needs::{
+    goes_on, is_read, is_read_multishot, is_receive, is_transfer, takes_errors,
+};
 use crate::entries::no_op::signed;
 use crate::entries::submission::Submission;
 
@@ -65,6 +67,9 @@ pub enum Shutting {
 
     /// Its descriptor is asked whether it isn't to wait: 0 if it is.
     AsksWill,
+
+    /// Its socket is asked whether it is a local one: 0 if it isn't.
+    AsksLocal,
 }
 
 /// What is next after a call of this entry, where the last thing that was done is this, and came to `res`. `None`: the call.
@@ -73,10 +78,19 @@ pub fn shutting_next(entry: &Submission, last: Option<Shutting>, res: i32) -> Sh
 {
     match last {
         None => {
-            if asks_shut(entry, res) {
+            if !asks_shut(entry, res) {
+                Shutting::Ends(res)
+            } else if takes_errors(entry) {
+                Shutting::AsksLocal
+            } else {
+                Shutting::AsksShut
+            }
+        }
+        Some(Shutting::AsksLocal) => {
+            if res != 0 {
                 Shutting::AsksShut
             } else {
-                Shutting::Ends(res)
+                Shutting::Ends(-11)
             }
         }
         Some(Shutting::AsksShut) => {

@@ -5,7 +5,7 @@ ghost use Rattle.uring_operations.specs.Calls.CallTries as spec;
 ghost use Rattle.uring_operations.specs.Calls.CallTries.{AcceptsWhatCame, EndsWithWhatCame, LosesNoBytes};
 
 use crate::calls::parts::is_alone;
-use crate::entries::needs::{goes_on, is_receive};
+use crate::entries::needs::{goes_on, takes_errors};
 use crate::entries::submission::Submission;
 use crate::requests::ready::has_message_flags;
 
@@ -76,7 +76,7 @@ pub fn next_turn(entry: &Submission, call: &Call, last: Option<Doing>, res: i32)
     match last {
         None => begins(entry, call),
         Some(Doing::Calls) => after_call(entry, call, res),
-        Some(Doing::Polls) => after_poll(entry, res != 0),
+        Some(Doing::Polls) => after_poll(entry, call, res != 0),
         Some(Doing::AsksWill) => {
             if res == 0 {
                 Turn::Waits
@@ -144,8 +144,7 @@ fn ends_with(entry: &Submission, call: &Call, res: i32) -> Turn
 pub(crate) fn is_asked(entry: &Submission) -> bool
     ensures { result ≡ spec.is_asked entry.now }
 {
-    is_receive(entry.opcode) && entry.op_flags & 8192 != 0
-        || has_message_flags(entry.opcode) && entry.op_flags & 64 != 0
+    has_message_flags(entry.opcode) && entry.op_flags & 64 != 0
 }
 
 fn would_wait(entry: &Submission, call: &Call) -> Turn
@@ -153,8 +152,30 @@ fn would_wait(entry: &Submission, call: &Call) -> Turn
 {
     if is_asked(entry) {
         ends_with(entry, call, -11)
+    } else if has_message_flags(entry.opcode) {
+        Turn::Does(Doing::Polls)
     } else {
         Turn::Does(Doing::AsksWill)
+    }
+}
+
+/// Whether what is moved heeds that its descriptor isn't to wait: a whole message, and no bytes alone.
+fn heeds_will(code: u8) -> bool
+    ensures { result ≡ spec.heeds_will code }
+{
+    matches!(code, 9 | 10 | 48)
+}
+
+/// After a message's call that would have waited its descriptor was found ready all the same.
+fn after_vain(entry: &Submission, call: &Call) -> Turn
+    ensures { result ≡ spec.after_vain entry.now call.now }
+{
+    if takes_errors(entry) {
+        ends_with(entry, call, -11)
+    } else if heeds_will(entry.opcode) {
+        Turn::Does(Doing::AsksWill)
+    } else {
+        Turn::Waits
     }
 }
 
@@ -232,14 +253,21 @@ fn after_error(entry: &Submission, res: i32) -> Turn
     }
 }
 
-fn after_poll(entry: &Submission, is_ready: bool) -> Turn
-    ensures { result ≡ spec.after_poll entry.now is_ready }
+fn after_poll(entry: &Submission, call: &Call, is_ready: bool) -> Turn
+    ensures { result ≡ spec.after_poll entry.now call.now is_ready }
 {
-    match (entry.opcode == 16, is_ready) {
-        (true, true) => Turn::Does(Doing::AsksError),
-        (true, false) => Turn::Waits,
-        (false, true) => Turn::Does(Doing::Calls),
-        (false, false) => Turn::Does(Doing::AsksWill),
+    if entry.opcode == 13 {
+        Turn::Does(if is_ready {
+            Doing::Calls
+        } else {
+            Doing::AsksWill
+        })
+    } else if !is_ready {
+        Turn::Waits
+    } else if entry.opcode == 16 {
+        Turn::Does(Doing::AsksError)
+    } else {
+        after_vain(entry, call)
     }
 }
 

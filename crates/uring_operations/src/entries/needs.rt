@@ -297,6 +297,13 @@ pub(crate) fn takes_urgent(entry: &Submission) -> bool
     is_receive(entry.opcode) && entry.op_flags & 1 != 0
 }
 
+/// A receive of what its socket was told of errors. MSG_ERRQUEUE.
+pub(crate) fn takes_errors(entry: &Submission) -> bool
+    ensures { result ≡ spec.takes_errors entry.now }
+{
+    is_receive(entry.opcode) && entry.op_flags & 8192 != 0
+}
+
 /// Sends, receives, ACCEPT and CONNECT.
 pub fn is_of_sockets(code: u8) -> bool
     ensures { result ≡ spec.is_of_sockets code }

@@ -34,6 +34,9 @@ pub struct Nature {
     /// It counts, and so gives and takes 8 bytes at once: an eventfd, or a timerfd.
     pub is_counter: bool,
 
+    /// It tells of signals, each by 128 bytes at once: a signalfd.
+    pub tells_signals: bool,
+
     /// It has a type of file, as a pipe and a socket too have one.
     pub has_type: bool,
 }
@@ -142,6 +145,7 @@ pub fn with_status(before: Nature, is_in_memory: bool, is_open: bool, mode: u32)
         can_read: before.can_read,
         can_write: before.can_write,
         is_counter: before.is_counter,
+        tells_signals: before.tells_signals,
         has_type: kind != 0,
     }
 }
@@ -261,6 +265,13 @@ pub fn is_counter_name(name: &[u8]) -> bool
     ensures { result ≡ spec.is_counter_name name.now }
 {
     is_eventfd_name(name) || name == "anon_inode:[timerfd]".as_bytes()
+}
+
+/// Whether one with this name tells of signals: a signalfd.
+pub fn is_signals_name(name: &[u8]) -> bool
+    ensures { result ≡ spec.is_signals_name name.now }
+{
+    name == "anon_inode:[signalfd]".as_bytes()
 }
 
 /// What is told of a request is what it is by all that its descriptor is, whatever was asked before.

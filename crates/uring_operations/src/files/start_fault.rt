@@ -3,7 +3,7 @@
 ghost use Rattle.std.specs.Prelude.{◌≡◌};
 ghost use Rattle.uring_operations.specs.Files.StartFaults as spec;
 
-use crate::entries::needs::{is_of_sockets, is_transfer, is_write, needs_file};
+use crate::entries::needs::{is_of_sockets, is_read, is_transfer, is_write, needs_file};
 use crate::entries::submission::Submission;
 use crate::files::descriptor::{Nature, has_no_place};
 use crate::requests::ready::polls_first;
@@ -58,9 +58,18 @@ pub fn start_fault(entry: &Submission, is_wrong: bool, length: u64, nature: &Nat
         -9
     } else if is_never_polled(entry, nature) {
         -11
-    } else if !is_transfer(entry.opcode) {
+    } else if is_transfer(entry.opcode) {
+        transfer_fault(entry, length, nature)
+    } else {
         0
-    } else if has_no_place(entry) && !nature.is_open {
+    }
+}
+
+/// With what a transfer fails as it starts that is of no wrong kind; or 0.
+fn transfer_fault(entry: &Submission, length: u64, nature: &Nature) -> i32
+    ensures { result ≡ spec.transfer_fault entry.now length nature.now }
+{
+    if has_no_place(entry) && !nature.is_open {
         -9
     } else {
         fault_after_flags(entry, length, nature, flags_fault(entry.op_flags))
@@ -80,7 +89,7 @@ fn fault_after_flags(entry: &Submission, length: u64, nature: &Nature, fault: i3
 {
     if passes_offset_over(nature) && fault < 0 {
         fault
-    } else if nature.is_counter && is_too_short(entry, length) {
+    } else if is_short_there(entry, length, nature) {
         -22
     } else if passes_offset_over(nature) && entry.off != u64::MAX {
         offset_fault(entry.off, length, nature.is_socket)
@@ -132,10 +141,27 @@ fn offset_fault(offset: u64, length: u64, is_socket: bool) -> i32
 }
 
 /// Whether the descriptor of the transfer of an entry, of so many bytes, is asked for its name, where it is this but for that.
-pub fn asks_counter(entry: &Submission, length: u64, nature: &Nature) -> bool
-    ensures { result ≡ spec.asks_counter entry.now length nature.now }
+pub fn asks_name(entry: &Submission, length: u64, nature: &Nature) -> bool
+    ensures { result ≡ spec.asks_name entry.now length nature.now }
 {
-    is_transfer(entry.opcode) && !nature.has_type && is_too_short(entry, length)
+    let may_be_short = is_too_short(entry, length)
+        || length != 8 && is_less_than_signal(entry, length);
+    is_transfer(entry.opcode) && !nature.has_type && may_be_short
+}
+
+/// Whether a read of so many bytes has no room for what is told of a signal.
+fn is_less_than_signal(entry: &Submission, length: u64) -> bool
+    ensures { result ≡ spec.is_less_than_signal entry.now length }
+{
+    is_read(entry.opcode) && length < 128 && entry.flags & 32 == 0
+}
+
+/// Whether the transfer of an entry, of so many bytes, is too short for what its descriptor gives or takes.
+fn is_short_there(entry: &Submission, length: u64, nature: &Nature) -> bool
+    ensures { result ≡ spec.is_short_there entry.now length nature.now }
+{
+    nature.is_counter && is_too_short(entry, length)
+        || nature.tells_signals && is_less_than_signal(entry, length)
 }
 
 /// Whether the transfer of an entry, of so many bytes, is too short for what counts: a write of none is none.

@@ -9,7 +9,7 @@ ghost use Rattle.uring_operations.specs.Requests.Readiness.{FinishesWhatCan, Loo
 use crate::calls::system_call::{SENDTO, SystemCall, word_of};
 use crate::entries::needs::{
     Needs, is_of_sockets, is_read, is_receive, is_send, is_splice, is_transfer, is_write,
-    takes_urgent,
+    takes_errors, takes_urgent,
 };
 use crate::entries::submission::Submission;
 use crate::requests::course::Course;
@@ -110,7 +110,7 @@ pub struct Patience {
     /// It has failed when it started.
     pub has_failed: bool,
 
-    /// Of a connect or a splice, or of a receive of urgent data: it was begun.
+    /// Of a connect or a splice, or of a receive of urgent data or of errors: it was begun.
     pub has_begun: bool,
 
     /// Its socket was asked whether it listens,
@@ -324,11 +324,12 @@ pub fn is_tried_first(entry: &Submission, least: u32) -> bool
     }
 }
 
-/// A connect, a splice, and a receive of urgent data that isn't to be polled first.
+/// A connect, a splice, and a receive of urgent data or of errors that isn't to be polled first.
 fn is_begun_at_once(entry: &Submission) -> bool
     ensures { result ≡ spec.is_begun_at_once entry.now }
 {
-    entry.opcode == 16 || is_splice(entry.opcode) || takes_urgent(entry) && !polls_first(entry)
+    let is_unpolled = takes_urgent(entry) || takes_errors(entry);
+    entry.opcode == 16 || is_splice(entry.opcode) || is_unpolled && !polls_first(entry)
 }
 
 /// Whether the flags of an operation are those of a message.
