@@ -44,6 +44,7 @@ pub use call::reply::Reply;
 pub use call::reply::Sight;
 pub use call::signals::blocks_at_begin;
 pub use call::signals::blocks_before;
+pub use call::signals::ends_process;
 pub use call::signals::is_made_again;
 pub use call::slept::asks_mask;
 pub use call::slept::sleep_fault;

@@ -18,3 +18,7 @@ blocks_before is_read is_stream = not is_read || is_stream
 -- one that ends with EINTR (4) where signals were open is made once more, since it was a handler of theirs
 abbrev pub is_made_again : (was_open : Bool) → ℤ → Bool
 is_made_again was_open res = was_open && int_eq res (error 4)
+
+-- a signal that isn't caught ends the process by what it does by itself, as SIGSYS does, unless it is ignored. One that a filter for system calls has raised is ignored by nobody: seccomp(2), SECCOMP_RET_TRAP; signal(7)
+abbrev pub ends_process : (is_of_filter : Bool) → (is_caught : Bool) → (is_ignored : Bool) → Bool
+ends_process is_of_filter is_caught is_ignored = not is_caught && (is_of_filter || not is_ignored)
