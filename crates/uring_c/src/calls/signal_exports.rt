@@ -30,7 +30,11 @@ pub extern "C" fn wulgach_is_made_again(was_open: bool, res: i32) -> bool
 
 /// Whether a SIGSYS ends the process.
 #[unsafe(no_mangle)]
-pub extern "C" fn wulgach_ends_process(is_of_filter: bool, is_caught: bool, is_ignored: bool) -> bool
+pub extern "C" fn wulgach_ends_process(
+    is_of_filter: bool,
+    is_caught: bool,
+    is_ignored: bool,
+) -> bool
     ensures { result ≡ spec.ends_process is_of_filter is_caught is_ignored }
 {
     ends_process(is_of_filter, is_caught, is_ignored)
