@@ -184,14 +184,14 @@ uint32_t wulgach_timeout_removal(const struct wulgach_submission *entry, bool is
 /* What a removal ends with, or an update, that has found what it names, or hasn't: 0 or -2 (ENOENT). */
 int32_t wulgach_removal_result(bool is_found);
 
-/* A request as an update of linked timeouts sees it. */
+/* A timeout that runs, as an update of linked timeouts sees it. */
 struct wulgach_linked {
     uint64_t user_data;
-    bool is_linked;     /* a linked timeout, */
-    bool runs;          /* whose time runs */
+    bool is_linked;     /* it is a linked one */
 };
 
-/* An update of a linked timeout, which looks at all requests, the oldest first. It is the caller's memory, and its fields are the library's. */
+/* An update of a linked timeout, which looks at the timeouts that run, in the order in which they started (wulgach_times_nth). It is the caller's memory, and
+ * its fields are the library's. */
 struct wulgach_linked_update {
     uint64_t user_data;
     bool has_found;
@@ -200,7 +200,7 @@ struct wulgach_linked_update {
 /* An update of the linked timeout with this user data, which hasn't looked at any. */
 void wulgach_linked_update_begin(struct wulgach_linked_update *update, uint64_t user_data);
 
-/* Looks at the next request, and says whether it is changed: it is a linked timeout with this user data whose time runs, and the oldest that is. */
+/* Looks at the next one, and says whether it is changed: it is a linked timeout with this user data, and the first that is. */
 bool wulgach_linked_update_sees(struct wulgach_linked_update *update, const struct wulgach_linked *request);
 
 /* What it ends with, once it has looked at all: 0, or -2 (ENOENT) if it has changed none. */

@@ -163,6 +163,9 @@ int32_t wulgach_times_due(const struct wulgach_times *times, const struct wulgac
 /* The same of the one that started first of those whose count is reached. */
 int32_t wulgach_times_reached(const struct wulgach_times *times, const struct wulgach_timeout *rows, size_t room, struct wulgach_timeout *timeout);
 
+/* The same of the one at this place, from 0, of those that run, in the order in which they started: there is none past the last. */
+int32_t wulgach_times_nth(const struct wulgach_times *times, const struct wulgach_timeout *rows, size_t room, uint64_t place, struct wulgach_timeout *timeout);
+
 /* The same of the one that is to end where nothing else can go on and nobody waits: where time passes by itself one that is over,
  * else the one that ends next, unless a descriptor is waited for. */
 int32_t wulgach_times_passing(const struct wulgach_times *times, const struct wulgach_timeout *rows, size_t room, const struct wulgach_wake_sources *sources, struct wulgach_timeout *timeout);

@@ -311,9 +311,22 @@ static void block_signals(void)
     check(wulgach_is_made_again(true, -4) && !wulgach_is_made_again(false, -4) && !wulgach_is_made_again(true, -11), "what is made once more");
 }
 
+/* A SIGSYS that isn't caught ends the process, but one that is ignored and no filter's. */
+static void end_by_signals(void)
+{
+    for (int bits = 0; bits < 8; bits++) {
+        bool is_of_filter = bits & 1, is_caught = bits & 2, is_ignored = bits & 4;
+        if (wulgach_ends_process(is_of_filter, is_caught, is_ignored) != (bits == 0 || bits == 1 || bits == 5)) {
+            fprintf(stderr, "enter: a signal ends the process otherwise, %d\n", bits);
+            exit(1);
+        }
+    }
+}
+
 int main(void)
 {
     read_arguments();
+    end_by_signals();
     do_duties();
     take_by_steps();
     do_some_duties();

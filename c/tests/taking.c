@@ -139,11 +139,11 @@ static void search_and_update(void)
     demand(wulgach_poll_removal(&(struct wulgach_submission){.len = 1}, true) == WULGACH_REMOVAL_CANCELS && wulgach_poll_removal(&(struct wulgach_submission){.len = 2}, true) == WULGACH_REMOVAL_UPDATES && wulgach_poll_removal(&(struct wulgach_submission){.len = 2}, false) == WULGACH_REMOVAL_DOES_NOTHING, "a poll's removal");
     demand(wulgach_timeout_removal(&(struct wulgach_submission){0}, true) == WULGACH_REMOVAL_CANCELS && wulgach_timeout_removal(&(struct wulgach_submission){.op_flags = 3}, true) == WULGACH_REMOVAL_UPDATES && wulgach_timeout_removal(&(struct wulgach_submission){.op_flags = 19}, true) == WULGACH_REMOVAL_UPDATES_LINKED && wulgach_timeout_removal(&(struct wulgach_submission){.op_flags = 17}, true) == WULGACH_REMOVAL_CANCELS, "a timeout's");
     demand(wulgach_removal_result(true) == 0 && wulgach_removal_result(false) == -2, "what a removal ends with");
-    struct wulgach_linked linked = {.user_data = 5, .is_linked = true, .runs = true}, still = {.user_data = 5, .is_linked = true}, loose = {.user_data = 5, .runs = true};
+    struct wulgach_linked linked = {.user_data = 5, .is_linked = true}, loose = {.user_data = 5};
     struct wulgach_linked_update update;
     wulgach_linked_update_begin(&update, 5);
-    demand(!wulgach_linked_update_sees(&update, &still) && !wulgach_linked_update_sees(&update, &loose) && wulgach_linked_update_result(&update) == -2, "none runs that is linked");
-    demand(wulgach_linked_update_sees(&update, &linked) && !wulgach_linked_update_sees(&update, &linked) && wulgach_linked_update_result(&update) == 0, "the oldest is changed, and no other");
+    demand(!wulgach_linked_update_sees(&update, &loose) && wulgach_linked_update_result(&update) == -2, "none runs that is linked");
+    demand(wulgach_linked_update_sees(&update, &linked) && !wulgach_linked_update_sees(&update, &linked) && wulgach_linked_update_result(&update) == 0, "the first is changed, and no other");
     wulgach_linked_update_begin(&update, 6);
     demand(!wulgach_linked_update_sees(&update, &linked) && wulgach_linked_update_result(&update) == -2, "another's");
     struct wulgach_submission relative = {.opcode = 11, .off = 5, .op_flags = 33, .user_data = 7}, absolute = {.op_flags = 40};

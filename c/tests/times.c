@@ -86,6 +86,9 @@ static void check_counts_and_changes(void)
     int32_t res;
     wulgach_times_begin(&times);
     demand(start(1, 100, 2, false) == 0 && start(2, 100, 0, false) == 0, "two start");
+    struct wulgach_timeout running;
+    demand(wulgach_times_nth(&times, rows, ROOM, 0, &running) == 0 && running.number == 1 && wulgach_times_nth(&times, rows, ROOM, 1, &running) == 0 && running.number == 2, "in that order");
+    demand(wulgach_times_nth(&times, rows, ROOM, 2, &running) == -2 && running.number == 2, "and no others");
     struct wulgach_course course;
     wulgach_course_begin(&course);
     demand(wulgach_times_count_end(&times, &course, false, true), "an end counts");

@@ -32,7 +32,7 @@ SEEN uint32_t wulgach_logged_open(uint64_t flags, bool is_there, mode_t mode);
 /* Whether a sync of a descriptor counts as done. */
 SEEN bool wulgach_is_synced_number(int fd);
 
-/* The library's own functions under names that are seen. */
+/* The library's own functions under names that are seen; the last one is of a signal, and not of the log. */
 #define LOGGING_CALLS(CALL)                                                                                                                                \
     CALL(uint32_t, logged_call, (uint64_t number), (number))                                                                                               \
     CALL(bool, bits_of_call, (uint64_t number, struct wulgach_bits *bits), (number, bits))                                                                 \
@@ -63,7 +63,8 @@ SEEN bool wulgach_is_synced_number(int fd);
     CALL(uint64_t, next_mapped_page, (int64_t found, uint64_t at, uint64_t room), (found, at, room))                                                       \
     CALL(bool, has_synced_memory, (int64_t res), (res))                                                                                                    \
     CALL(bool, mapped_of, (const uint8_t *line, size_t length, struct wulgach_mapped *mapped), (line, length, mapped))                                       \
-    CALL(bool, synced_part, (const struct wulgach_mapped_memory *mapping, uint64_t begin, uint64_t length, struct wulgach_file_part *part), (mapping, begin, length, part))
+    CALL(bool, synced_part, (const struct wulgach_mapped_memory *mapping, uint64_t begin, uint64_t length, struct wulgach_file_part *part), (mapping, begin, length, part))\
+    CALL(bool, ends_process, (bool is_of_filter, bool is_caught, bool is_ignored), (is_of_filter, is_caught, is_ignored))
 
 #define DECLARE_SEEN(result, name, parameters, arguments) SEEN result wulgach_seen_##name parameters;
 LOGGING_CALLS(DECLARE_SEEN)

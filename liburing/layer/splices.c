@@ -2,6 +2,7 @@
 #define _GNU_SOURCE
 #include "splices.h"
 #include "operations.h"
+#include "sockets.h"
 #include "unwilling.h"
 #include "wulgach_waits.h"
 
@@ -21,22 +22,14 @@ struct pollfd poll_of_splice(const struct request *request)
     return shows_ready(source) ? poll_after(request, true) : source;
 }
 
-/* A number that a socket has, or 0. */
-static uint32_t number_of_socket(int fd, int name)
-{
-    int number = 0;
-    socklen_t size = sizeof number;
-    return getsockopt(fd, SOL_SOCKET, name, &number, &size) == 0 ? (uint32_t)number : 0;
-}
-
 bool is_unwilling_splice(const struct request *request)
 {
     struct wulgach_splice_poll asked;
     wulgach_splice_polls(shows_ready(poll_after(request, false)), &asked);
     int fd = asked.is_of_source ? request->second_fd : request->fd, other = asked.is_of_source ? request->fd : request->second_fd;
     struct wulgach_splice_ends ends = {
-        .domain = number_of_socket(fd, SO_DOMAIN),
-        .kind = number_of_socket(fd, SO_TYPE),
+        .domain = (uint32_t)option_of(fd, SO_DOMAIN),
+        .kind = (uint32_t)option_of(fd, SO_TYPE),
         .waits_to_read = asked.is_of_source,
         .is_pipe = is_pipe(fd),
         .other_is_pipe = is_pipe(other),

@@ -162,12 +162,11 @@ void change_timeout(struct ring *ring, struct request *timeout, const struct req
 int32_t change_linked_timeout(struct ring *ring, const struct request *change)
 {
     struct wulgach_linked_update update;
+    struct wulgach_timeout running;
     wulgach_linked_update_begin(&update, wulgach_target_of(submission_of(&change->entry)));
-    for (size_t i = 0; i < ring->requests.count; i++) {
-        struct request *timeout = ring->requests.rows[i];
-        struct wulgach_linked seen = {.user_data = timeout->entry.user_data, .is_linked = is_linked_timeout(timeout)};
-        seen.runs = seen.is_linked && wulgach_times_runs(&ring->times, ring->timeouts, ring->timeouts_room, timeout->number);
-        if (wulgach_linked_update_sees(&update, &seen))
+    for (uint64_t place = 0; wulgach_times_nth(&ring->times, ring->timeouts, ring->timeouts_room, place, &running) == 0; place++) {
+        struct request *timeout = request_of(&ring->requests, running.number);
+        if (wulgach_linked_update_sees(&update, &(struct wulgach_linked){timeout->entry.user_data, running.is_linked}))
             change_timeout(ring, timeout, change);
     }
     return wulgach_linked_update_result(&update);

@@ -42,6 +42,9 @@ static inline void put_mask_back(const sigset_t *before)
 /* Catches SIGSYS, whoever has a filter already. */
 bool catch_for_good(void (*handler)(int, siginfo_t *, void *));
 
+/* Does with a SIGSYS that isn't the trap's what the program asked for, as its own filter raises one, or another process. It came here. */
+void give_signal(int number, siginfo_t *info, ucontext_t *at, bool is_of_filter);
+
 struct sock_fprog;
 
 /* Adds a filter of our own for system calls. The kernel was told before that the process takes no new privileges. */

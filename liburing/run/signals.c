@@ -1,11 +1,12 @@
 /* SIGSYS stays the trap's: a program that asks to catch, ignore or block it, or all signals, is told that it is so, and
- * it isn't; so it is with masks (masks.c) and contexts (contexts.c). What a program says of SIGSYS is kept, so that it is told the same when it asks again. One
- * that asks the kernel itself, as the runtime of Go does, is told that it is done, and it isn't.
+ * it isn't; so it is with masks (masks.c) and contexts (contexts.c). What a program says of SIGSYS is kept, so that it is told the same when it asks again, and
+ * is done with a SIGSYS that isn't the trap's. One that asks the kernel itself, as the runtime of Go does, is told that it is done, and it isn't.
  *
  * A program that blocks it by a call of its own isn't reached: if a thread of its has blocked SIGSYS when it calls io_uring,
  * the kernel ends the program with that signal.
  */
 #define _GNU_SOURCE
+#include "../layer/logging.h"
 #include "run.h"
 
 #include <dlfcn.h>
@@ -13,6 +14,7 @@
 #include <pthread.h>
 #include <stddef.h>
 #include <stdint.h>
+#include <string.h>
 #include <sys/syscall.h>
 #include <unistd.h>
 
@@ -57,6 +59,41 @@ bool catch_for_good(void (*handler)(int, siginfo_t *, void *))
 {
     struct raw_action action = {handler, SA_SIGINFO | SA_NODEFER | SA_RESTART | SA_ONSTACK | HAS_RESTORER, return_from_handler, ~OPEN_IN_TRAP};
     return syscall(SYS_rt_sigaction, SIGSYS, &action, NULL, sizeof action.mask, 0, ASKS_KERNEL) == 0;
+}
+
+/* SIGSYS does what it does by itself. */
+static void end_process(void)
+{
+    struct raw_action action = {.flags = HAS_RESTORER, .restorer = return_from_handler};
+    syscall(SYS_rt_sigaction, SIGSYS, &action, NULL, sizeof action.mask, 0, ASKS_KERNEL);
+    syscall(SYS_tgkill, getpid(), gettid(), SIGSYS);
+}
+
+/* What the program's handler finds blocked: what was where the signal came, and what the program said besides. */
+static void block_for(const struct sigaction *action, const ucontext_t *at)
+{
+    sigset_t mask, own, copy;
+    sigemptyset(&own);
+    memcpy(&own, &at->uc_sigmask, sizeof(uint64_t));
+    sigorset(&mask, &own, &action->sa_mask);
+    real_sigmask(SIG_SETMASK, without_trap(&mask, &copy), NULL);
+}
+
+void give_signal(int number, siginfo_t *info, ucontext_t *at, bool is_of_filter)
+{
+    const struct sigaction action = asked;
+    bool is_ignored = action.sa_handler == SIG_IGN, is_caught = !is_ignored && action.sa_handler != SIG_DFL;
+    if (wulgach_seen_ends_process(is_of_filter, is_caught, is_ignored))
+        end_process();
+    if (!is_caught)
+        return;
+    if (action.sa_flags & (int)SA_RESETHAND)
+        asked = (struct sigaction){.sa_handler = SIG_DFL};
+    block_for(&action, at);
+    if (action.sa_flags & SA_SIGINFO)
+        action.sa_sigaction(number, info, at);
+    else
+        action.sa_handler(number);
 }
 
 const sigset_t *without_trap(const sigset_t *set, sigset_t *copy)

@@ -9,7 +9,7 @@
  */
 #define _GNU_SOURCE
 #include "files.h"
-#include "../layer/log.h"
+#include "../layer/logging.h"
 #include "../layer/passing.h"
 #include "rewriting.h"
 #include "run.h"
@@ -137,13 +137,40 @@ static void serve_trapped(void *argument)
     registers[REG_RAX] = serve(trapped->call, trapped->at);
 }
 
+/* Whether a call was made by us, to the kernel. */
+static bool is_our_own(long call, const greg_t *registers)
+{
+    uint64_t marked = (uint64_t)registers[call == SYS_mmap ? REG_R8 : REG_R9];
+    return marked == ASKS_KERNEL || marked >> 32 == PASSES;
+}
+
+/* Whether a call was trapped by a filter of ours, which stops none that we make ourselves: else by the program's. */
+static bool is_of_trap(long call, const ucontext_t *at)
+{
+    const greg_t *registers = at->uc_mcontext.gregs;
+    switch (call) {
+    case SYS_io_uring_enter:
+    case SYS_io_uring_setup:
+    case SYS_io_uring_register:
+    case SYS_mmap:
+    case SYS_seccomp:
+        return !is_our_own(call, registers);
+    case SYS_prctl:
+        return registers[REG_RDI] == PR_SET_SECCOMP && !is_our_own(call, registers);
+    default:
+        return wulgach_seen_logged_call((uint64_t)call) != WULGACH_CALL_NOTHING && !is_our_own(call, registers);
+    }
+}
+
 static void answer(int number, siginfo_t *info, void *context)
 {
     struct trapped trapped = {context, info->si_syscall};
-    (void)number;
-    if (info->si_code != BY_FILTER)
-        return;
     int kept = errno;
+    if (info->si_code != BY_FILTER || !is_of_trap(trapped.call, context)) {
+        give_signal(number, info, context, info->si_code == BY_FILTER);
+        errno = kept;
+        return;
+    }
     if (wants_own_stack(trapped.at))
         call_on_own_stack(trapped.at, serve_trapped, &trapped);
     else {

@@ -89,6 +89,41 @@ static void test_linked_update(void)
     close_ring(&ring);
 }
 
+/* Of two linked timeouts of one user data an update changes the one whose time began first: that of a chain's second member began later than that of a younger
+ * chain's first. */
+static void test_first_linked_update(void)
+{
+    struct ring ring;
+    char text[4];
+    int ends[3][2];
+    struct __kernel_timespec hour = {.tv_sec = 3600}, instant = {.tv_nsec = 1};
+    make_ring(&ring, 8, 0, 0);
+    for (int i = 0; i < 3; i++)
+        check(pipe(ends[i]) == 0);
+    put_transfer(&ring, IORING_OP_READ, 0, IOSQE_IO_LINK, ends[0][0], text, 4, 0);
+    put_transfer(&ring, IORING_OP_READ, 1, IOSQE_IO_LINK, ends[1][0], text, 4, 0);
+    put_transfer(&ring, IORING_OP_LINK_TIMEOUT, 4, 0, -1, &hour, 1, 0);
+    put_transfer(&ring, IORING_OP_READ, 2, IOSQE_IO_LINK, ends[2][0], text, 4, 0);
+    put_transfer(&ring, IORING_OP_LINK_TIMEOUT, 4, 0, -1, &hour, 1, 0);
+    check(enter(&ring, 5, 0, IORING_ENTER_GETEVENTS) == 5 && enter_for(&ring, 1, 1000) == -ETIME);
+    check(write(ends[0][1], "four", 4) == 4 && wait_for_one(&ring) == 4);
+    put_update(&ring, 3, 4, IORING_LINK_TIMEOUT_UPDATE | IORING_TIMEOUT_UPDATE, &instant);
+    check(enter(&ring, 1, 1, IORING_ENTER_GETEVENTS) == 1);
+    int32_t results[5] = {0};
+    check(enter(&ring, 0, 3, IORING_ENTER_GETEVENTS) == 0);
+    for (int i = 0; i < 3; i++) {
+        struct completion found = reap(&ring);
+        check(found.user_data < 5);
+        results[found.user_data] = found.res;
+    }
+    check(results[3] == 0 && results[4] == -ETIME && results[2] == -ECANCELED && results[1] == 0);
+    close_ring(&ring);
+    for (int i = 0; i < 3; i++) {
+        close(ends[i][0]);
+        close(ends[i][1]);
+    }
+}
+
 /* A timeout ends with 0 once as many completions were posted as it counts; one is removed; one is changed. */
 static void test_timeouts(void)
 {
@@ -386,6 +421,7 @@ int main(int count, char **words)
     static const struct named tests[] = {
         {"linked timeout", test_linked_timeout},
         {"linked update", test_linked_update},
+        {"first linked update", test_first_linked_update},
         {"timeouts", test_timeouts},
         {"cancels", test_cancels},
         {"cancels of any", test_cancels_of_any},

@@ -1,7 +1,7 @@
 /* A program that is linked with nothing of ours and calls io_uring by the processor's own instruction. Run by uring-run
  * its rings are the layer's, which it sees by their descriptors: those are epoll instances.
  *
- *   trapped begins | nop | shared | blocked | signals | registers | issuers | threads | fork | vfork | exec | list | spawn | shell | preload | fifo | sqpoll | filter | static PROGRAM
+ *   trapped begins | nop | shared | blocked | signals | registers | issuers | threads | fork | vfork | exec | list | spawn | shell | preload | fifo | sqpoll | filter | answered | static PROGRAM
  *
  * Status 0: all was as it is to be. Else a line says what wasn't.
  */
@@ -340,6 +340,54 @@ static void filtered(void)
     no_op();
 }
 
+static volatile sig_atomic_t trapped_call, answers;
+
+/* Answers a call in the kernel's place. */
+static void answer(int number, siginfo_t *info, void *context)
+{
+    (void)number;
+    trapped_call = info->si_syscall;
+    answers++;
+    if (info->si_code == 1)
+        ((ucontext_t *)context)->uc_mcontext.gregs[REG_RAX] = 4321;
+}
+
+/* A child ends by SIGSYS, which isn't caught there: by a call that the program's filter traps, or else by a signal. */
+static void ends_child(bool is_by_filter, sighandler_t handler, bool is_ended)
+{
+    int status = 0;
+    pid_t child = fork();
+    if (child == 0) {
+        signal(SIGSYS, handler);
+        is_by_filter ? (void)syscall(SYS_getpgid, 0) : (void)raise(SIGSYS);
+        _exit(0);
+    }
+    WANT(waitpid(child, &status, 0) == child && (is_ended ? WIFSIGNALED(status) && WTERMSIG(status) == SIGSYS : WIFEXITED(status)));
+}
+
+/* A SIGSYS that isn't the trap's comes to the program's handler, or does what it does by itself: by a filter of the program's own that traps a call, or by a
+ * signal. */
+static void answered(void)
+{
+    struct sigaction action = {.sa_sigaction = answer, .sa_flags = SA_SIGINFO};
+    struct sock_filter lines[] = {
+        BPF_STMT(BPF_LD | BPF_W | BPF_ABS, offsetof(struct seccomp_data, nr)),
+        BPF_JUMP(BPF_JMP | BPF_JEQ | BPF_K, SYS_getpgid, 0, 1),
+        BPF_STMT(BPF_RET | BPF_K, SECCOMP_RET_TRAP),
+        BPF_STMT(BPF_RET | BPF_K, SECCOMP_RET_ALLOW),
+    };
+    struct sock_fprog program = {.len = 4, .filter = lines};
+    WANT(sigaction(SIGSYS, &action, NULL) == 0 && prctl(PR_SET_NO_NEW_PRIVS, 1, 0, 0, 0) == 0 && prctl(PR_SET_SECCOMP, SECCOMP_MODE_FILTER, &program) == 0);
+    WANT(syscall(SYS_getpgid, 0) == 4321 && trapped_call == SYS_getpgid && answers == 1);
+    WANT(raise(SIGSYS) == 0 && answers == 2);
+    ends_child(true, SIG_DFL, true);
+    ends_child(true, SIG_IGN, true);
+    ends_child(false, SIG_DFL, true);
+    ends_child(false, SIG_IGN, false);
+    if (!getenv("WULGACH_TEST_KERNEL"))
+        no_op();
+}
+
 int main(int argc, char **argv)
 {
     int error = errno;
@@ -383,6 +431,8 @@ int main(int argc, char **argv)
         sqpoll();
     else if (strcmp(name, "filter") == 0)
         filtered();
+    else if (strcmp(name, "answered") == 0)
+        answered();
     else if (strcmp(name, "static") == 0 && argc > 2)
         execl(argv[2], argv[2], "nop", NULL);
     else

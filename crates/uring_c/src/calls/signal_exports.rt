@@ -3,7 +3,7 @@ ghost use Rattle.std.specs.Prelude.{◌≡◌};
 ghost use Rattle.uring_enter.specs.Call.Signals as spec;
 ghost use Rattle.uring_c.specs.SignalForm.{doing_of};
 
-use uring_enter::{Doing, blocks_at_begin, blocks_before, is_made_again};
+use uring_enter::{Doing, blocks_at_begin, blocks_before, ends_process, is_made_again};
 
 /// Whether signals are blocked as a call begins.
 #[unsafe(no_mangle)]
@@ -38,4 +38,16 @@ pub extern "C" fn wulgach_is_made_again(was_open: bool, res: i32) -> bool
     ensures { result ≡ spec.is_made_again was_open res }
 {
     is_made_again(was_open, res)
+}
+
+/// Whether a SIGSYS ends the process.
+#[unsafe(no_mangle)]
+pub extern "C" fn wulgach_ends_process(
+    is_of_filter: bool,
+    is_caught: bool,
+    is_ignored: bool,
+) -> bool
+    ensures { result ≡ spec.ends_process is_of_filter is_caught is_ignored }
+{
+    ends_process(is_of_filter, is_caught, is_ignored)
 }

@@ -1,5 +1,5 @@
 //! The time of a ring and its timeouts for C: the functions of `c/wulgach_times.h`. Rows are the caller's memory.
-ghost use Rattle.std.specs.Prelude.{◌≡◌, ◌↔◌, ◌⊎◌, ◌≤◌, ◌<◌, ◌-◌, ◌+◌, ◌^◌, ℕ, pos, negsuc, length, true, false, MatchOption, List, [], ◌∷◌, None, Some, ◌&&◌, if◌then◌else◌};
+ghost use Rattle.std.specs.Prelude.{◌≡◌, ◌↔◌, ◌⊎◌, ◌≤◌, ◌<◌, ◌-◌, ◌+◌, ◌^◌, ℕ, pos, negsuc, length, slice_get, true, false, MatchOption, List, [], ◌∷◌, None, Some, ◌&&◌, if◌then◌else◌};
 ghost use Rattle.uring_operations.specs.declared.requests.act.Fact.{Fact};
 ghost use Rattle.uring_operations.specs.Requests.Courses.{KeepsCourse, counts};
 ghost use Rattle.uring_enter.specs.declared.call.wait.Wait.{Wait};
@@ -253,6 +253,22 @@ pub extern "C" fn wulgach_times_reached(
         → (result ≡ negsuc 1) × IsReachedOf (running log) (posted log) None × (timeout.new ≡ timeout.old) }
 {
     write_found(times.reached(rows), timeout)
+}
+
+/// Writes the one at this place of those that run, in the order in which they started, and returns 0. Past the last it returns -2, and writes nothing.
+#[unsafe(no_mangle)]
+pub extern "C" fn wulgach_times_nth(
+    times: &Times,
+    rows: &[Timeout],
+    place: u64,
+    timeout: &mut Timeout,
+) -> i32
+    ensures running { (log : List Event) → KeepsTime log times.now rows.now → result ≡ pos 0
+        → slice_get (running log) place ≡ Some timeout.new }
+    ensures none { (log : List Event) → KeepsTime log times.now rows.now → (result ≡ pos 0 → ⊥)
+        → (result ≡ negsuc 1) × (slice_get (running log) place ≡ None) × (timeout.new ≡ timeout.old) }
+{
+    write_found(times.nth(rows, place), timeout)
 }
 
 /// Writes the timeout that is to end where nothing else can go on and nobody waits, and returns 0. If there is none, it returns -2, and writes nothing.

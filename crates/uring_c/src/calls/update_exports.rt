@@ -46,7 +46,7 @@ fn removal_word(removal: Removal) -> u32
     }
 }
 
-/// An update of the linked timeout with this user data, which hasn't looked at any request.
+/// An update of the linked timeout with this user data, which hasn't looked at any.
 #[unsafe(no_mangle)]
 pub extern "C" fn wulgach_linked_update_begin(update: &mut LinkedUpdate, user_data: u64)
     ensures { HasLooked user_data [] update.new }
@@ -54,15 +54,15 @@ pub extern "C" fn wulgach_linked_update_begin(update: &mut LinkedUpdate, user_da
     *update = LinkedUpdate::begin(user_data);
 }
 
-/// Looks at the next request, and says whether it is changed.
+/// Looks at the next timeout that runs, and says whether it is changed.
 #[unsafe(no_mangle)]
-pub extern "C" fn wulgach_linked_update_sees(update: &mut LinkedUpdate, request: &Linked) -> bool
+pub extern "C" fn wulgach_linked_update_sees(update: &mut LinkedUpdate, timeout: &Linked) -> bool
     ensures changed { (user_data : ℕ) (seen : List Linked) → HasLooked user_data seen update.old
-        → result ≡ spec.is_changed user_data seen request.now }
+        → result ≡ spec.is_changed user_data seen timeout.now }
     ensures after { (user_data : ℕ) (seen : List Linked) → HasLooked user_data seen update.old
-        → HasLooked user_data (request.now ∷ seen) update.new }
+        → HasLooked user_data (timeout.now ∷ seen) update.new }
 {
-    update.sees(request)
+    update.sees(timeout)
 }
 
 /// What it ends with, once it has looked at all.

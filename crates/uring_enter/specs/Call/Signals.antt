@@ -45,6 +45,10 @@ blocks_before doing = may_be_ended doing || may_bring_one doing || is_seen_amid 
 abbrev pub is_made_again : (was_open : Bool) → ℤ → Bool
 is_made_again was_open res = was_open && int_eq res (error 4)
 
+-- a signal that isn't caught ends the process by what it does by itself, as SIGSYS does, unless it is ignored. One that a filter for system calls has raised is ignored by nobody: seccomp(2), SECCOMP_RET_TRAP; signal(7)
+abbrev pub ends_process : (is_of_filter : Bool) → (is_caught : Bool) → (is_ignored : Bool) → Bool
+ends_process is_of_filter is_caught is_ignored = not is_caught && (is_of_filter || not is_ignored)
+
 -- a call sleeps only where signals are blocked as it begins
 abbrev pub SleepsBlocked : Type 0
 SleepsBlocked = (are_quiet : Bool) (a : Asked) (log : List Reply) → is_run a log ≡ true

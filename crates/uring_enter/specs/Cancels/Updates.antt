@@ -30,14 +30,14 @@ timeout_removal e =
 
 -- an update of linked timeouts may change one that runs and has its user data, and looks at nothing else that has it. IORING_LINK_TIMEOUT_UPDATE; what the kernel does
 abbrev pub updates_linked : ℕ → Linked → Bool
-updates_linked user_data seen = seen.is_linked && seen.runs && seen.user_data == user_data
+updates_linked user_data seen = seen.is_linked && seen.user_data == user_data
 
 -- whether it may change any of these
 abbrev pub changes_any : ℕ → List Linked → Bool
 changes_any user_data [] = false
 changes_any user_data (seen ∷ earlier) = updates_linked user_data seen || changes_any user_data earlier
 
--- it changes the oldest of which that is so, and no other: after those that it has looked at before. What the kernel does
+-- it changes the first of which that is so, and no other, of those that run in the order in which they started: so one that limits the first of a chain comes before one that limits a later member of an older chain. What Linux 6.18 was seen to do
 abbrev pub is_changed : ℕ → List Linked → Linked → Bool
 is_changed user_data earlier seen = not (changes_any user_data earlier) && updates_linked user_data seen
 

@@ -44,6 +44,13 @@ pub fn is_made_again(was_open: bool, res: i32) -> bool
     was_open && res == -4
 }
 
+/// Whether a SIGSYS ends the process, which a filter for system calls has raised or hasn't, and which is caught, ignored or neither.
+pub fn ends_process(is_of_filter: bool, is_caught: bool, is_ignored: bool) -> bool
+    ensures { result ≡ spec.ends_process is_of_filter is_caught is_ignored }
+{
+    !is_caught && (is_of_filter || !is_ignored)
+}
+
 /// A call sleeps only with signals blocked.
 pub fn sleeps_blocked()
     ensures { SleepsBlocked }

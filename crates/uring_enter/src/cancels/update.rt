@@ -9,7 +9,7 @@ use crate::rings::missing::{Missing, missing_fault};
 use crate::waiting::waiter::Waiter;
 use uring_operations::Submission;
 
-/// A request as an update of linked timeouts sees it.
+/// A timeout that runs, as an update of linked timeouts sees it.
 #[repr(C)]
 #[derive(Clone, Copy, Drop)]
 pub struct Linked {
@@ -17,9 +17,6 @@ pub struct Linked {
 
     /// It is a linked timeout. IORING_OP_LINK_TIMEOUT.
     pub is_linked: bool,
-
-    /// Its time runs.
-    pub runs: bool,
 }
 
 /// What a removal of a poll or of a timeout is to do with the one that it finds.
@@ -83,7 +80,7 @@ pub fn timeout_removal(entry: &Submission) -> Removal
     }
 }
 
-/// An update of a linked timeout, which looks for the one that it changes among all requests, the oldest first. IORING_LINK_TIMEOUT_UPDATE.
+/// An update of a linked timeout, which looks for the one that it changes among the timeouts that run, in the order in which they started. IORING_LINK_TIMEOUT_UPDATE.
 #[repr(C)]
 #[derive(Clone, Copy, Drop)]
 pub struct LinkedUpdate {
@@ -95,7 +92,7 @@ pub struct LinkedUpdate {
 }
 
 impl LinkedUpdate {
-    /// An update of the linked timeout with this user data, which hasn't looked at any request.
+    /// An update of the linked timeout with this user data, which hasn't looked at any.
     pub fn begin(user_data: u64) -> LinkedUpdate
         ensures { HasLooked user_data [] result }
     {
@@ -105,14 +102,14 @@ impl LinkedUpdate {
         }
     }
 
-    /// Looks at the next request, and says whether it is changed.
-    pub fn sees(&mut self, request: &Linked) -> bool
+    /// Looks at the next one, and says whether it is changed.
+    pub fn sees(&mut self, timeout: &Linked) -> bool
         ensures changed { (user_data : ℕ) (seen : List Linked) → HasLooked user_data seen self.old
-            → result ≡ spec.is_changed user_data seen request.now }
+            → result ≡ spec.is_changed user_data seen timeout.now }
         ensures after { (user_data : ℕ) (seen : List Linked) → HasLooked user_data seen self.old
-            → HasLooked user_data (request.now ∷ seen) self.new }
+            → HasLooked user_data (timeout.now ∷ seen) self.new }
     {
-        let fits = updates_linked(self.user_data, request);
+        let fits = updates_linked(self.user_data, timeout);
         let is_changed = !self.has_found && fits;
         self.has_found = fits || self.has_found;
         is_changed
@@ -131,7 +128,7 @@ impl LinkedUpdate {
 fn updates_linked(user_data: u64, seen: &Linked) -> bool
     ensures { result ≡ spec.updates_linked user_data seen.now }
 {
-    seen.is_linked && seen.runs && seen.user_data == user_data
+    seen.is_linked && seen.user_data == user_data
 }
 
 /// A poll's entry after an update by this one: its user data and its events are the update's, as far as that gives them. One that goes on still does, and another doesn't, whatever the update says.

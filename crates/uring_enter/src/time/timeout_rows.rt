@@ -1,6 +1,6 @@
 //! Timeouts that run, as rows in memory that the caller has.
 
-ghost use Rattle.std.specs.Prelude.{◌≡◌, ◌<◌, ◌≤◌, length, take, map, filter, slice_index_or, MatchOption, [], true};
+ghost use Rattle.std.specs.Prelude.{◌≡◌, ◌<◌, ◌≤◌, length, take, map, filter, slice_index_or, slice_get, MatchOption, [], true};
 ghost use Rattle.uring_operations.specs.Entries.Timeouts.{is_other, with_expiry, IsNextOf, IsReachedOf, HasNone, IsRow};
 ghost use Rattle.uring_enter.specs.Time.Kept.{nearer};
 
@@ -35,6 +35,18 @@ pub(crate) fn next_of(rows: &[Timeout], count: usize) -> Option<Timeout>
         next = Some(nearer(row, next));
     }
     next
+}
+
+/// The one at a place among the first so many rows, if there is one.
+pub(crate) fn nth_of(rows: &[Timeout], count: usize, place: u64) -> Option<Timeout>
+    requires { count ≤ length rows.now }
+    ensures { result ≡ slice_get (take count rows.now) place }
+{
+    if place < count as u64 {
+        Some(row_at(rows, place as usize))
+    } else {
+        None
+    }
 }
 
 /// The first one of this number among the first so many rows.

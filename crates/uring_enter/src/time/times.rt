@@ -1,6 +1,6 @@
 //! The time of a ring, and its timeouts.
 
-ghost use Rattle.std.specs.Prelude.{◌≡◌, ◌≤◌, ◌<◌, ◌+◌, ◌^◌, ◌↔◌, length, List, [], ◌∷◌, MatchOption, true, false, IsErr, OnOk, OnErr, IfSome, None, Some, ◌&&◌, if◌then◌else◌};
+ghost use Rattle.std.specs.Prelude.{◌≡◌, ◌≤◌, ◌<◌, ◌+◌, ◌^◌, ◌↔◌, length, slice_get, List, [], ◌∷◌, MatchOption, true, false, IsErr, OnOk, OnErr, IfSome, None, Some, ◌&&◌, if◌then◌else◌};
 ghost use Rattle.uring_operations.specs.declared.requests.act.Fact.{Fact};
 ghost use Rattle.uring_operations.specs.Requests.Courses.{KeepsCourse, counts};
 ghost use Rattle.uring_operations.specs.Entries.Timeouts.{Event, Started, Posted, Changed, Stopped, Clock, Slept, Passed, Ended};
@@ -8,7 +8,7 @@ ghost use Rattle.uring_operations.specs.Entries.Timeouts.{running, posted, start
 ghost use Rattle.uring_operations.specs.Entries.Timeouts.{outcome, AreApart, HasNone, IsRow, EndsNone};
 ghost use Rattle.uring_enter.specs.Time.Kept.{HasCounted, KeepsTime, counted_found, due_of, earliest_of, outcome_at};
 
-use crate::time::timeout_rows::{next_of, reached_of, row_of, set_expiry, take_out};
+use crate::time::timeout_rows::{next_of, nth_of, reached_of, row_of, set_expiry, take_out};
 use uring_operations::{Course, Start, Timeout, is_reached_by, later};
 
 /// There is no room for another timeout. Nothing changes.
@@ -189,6 +189,14 @@ impl Times {
             → IsReachedOf (running log) (posted log) result }
     {
         reached_of(rows, self.count_in(rows), self.posted)
+    }
+
+    /// The one at this place of those that run, in the order in which they started: `None` past the last.
+    pub fn nth(&self, rows: &[Timeout], place: u64) -> Option<Timeout>
+        ensures { (log : List Event) → KeepsTime log self.now rows.now
+            → result ≡ slice_get (running log) place }
+    {
+        nth_of(rows, self.count_in(rows), place)
     }
 
     /// Until when a call may sleep that has this limit: the earliest of it and of the times at which timeouts are over.
