@@ -5,8 +5,8 @@
 #define LOGGING_H
 
 #include "log.h"
-#include "../../c/wulgach_logged.h"
-#include "../../c/wulgach_register.h"
+#include "wulgach_logged.h"
+#include "wulgach_register.h"
 
 #include <stdbool.h>
 #include <stdint.h>

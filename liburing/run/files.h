@@ -3,7 +3,7 @@
 #ifndef FILES_H
 #define FILES_H
 
-#include "../../c/wulgach_logged.h"
+#include "wulgach_logged.h"
 
 #include <stdbool.h>
 #include <stddef.h>
