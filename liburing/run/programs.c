@@ -176,23 +176,27 @@ static void look_at(const char *path)
     look_below(AT_FDCWD, path);
 }
 
-/* The same of a name that is looked for in PATH. */
+/* The same of a name that is looked for in PATH, as the C library does: an empty part is the folder in which the process is, and without PATH it is
+ * in one of two. */
 static void look_for(const char *name)
 {
     const char *path = getenv("PATH");
-    if (strchr(name, '/') || !path) {
+    if (strchr(name, '/')) {
         look_at(name);
         return;
     }
-    while (*path) {
+    if (!path)
+        path = "/bin:/usr/bin";
+    for (bool is_last = false; !is_last; path++) {
         char found[PATH_MAX];
-        size_t length = strcspn(path, ":");
-        int size = snprintf(found, sizeof found, "%.*s/%s", (int)length, path, name);
-        if (size > 0 && size < (int)sizeof found && access(found, X_OK) == 0) {
+        int length = (int)strcspn(path, ":");
+        int size = snprintf(found, sizeof found, "%.*s%s%s", length, path, length > 0 ? "/" : "", name);
+        if (size < (int)sizeof found && access(found, X_OK) == 0) {
             look_at(found);
             return;
         }
-        path += length + (path[length] == ':');
+        path += length;
+        is_last = *path == '\0';
     }
 }
 
