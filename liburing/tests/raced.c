@@ -340,7 +340,7 @@ int main(int count, char **words)
 {
     static const struct named tests[] = {
         {"come and gone", test_come_and_gone},
-        {"gone behind a look", test_gone_after_a_look},
+        {"gone after a look", test_gone_after_a_look},
         {"heard by another", test_heard_by_another},
         {"two descriptors", test_two_descriptors},
         {"edges", test_edges},
