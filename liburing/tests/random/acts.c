@@ -167,8 +167,8 @@ static bool is_sought(const struct request *cancel, const struct request *reques
 
 enum finding { NOT_FOUND, MAY_BE_FOUND, FOUND };
 
-/* Whether a cancel finds what it looks for: what waits, or could start now, but one after it only if it has started. One that doesn't wait may run just now, and isn't found then; one
- * that isn't loose has its file only when it runs; and whether one has the file that is taken out and put in again isn't known. */
+/* Whether a cancel finds what it looks for: what waits, or could start now, but one after it only if it has started. One that doesn't wait may run just now, and isn't found then, nor may one whose chain has
+ * ended since the cancel was issued; one that isn't loose has its file only when it runs; and whether one has the file that is taken out and put in again isn't known. */
 static enum finding finding_of(const struct model *model, const struct request *cancel, const struct request *request)
 {
     bool is_in_turn = request->is_doomed ? can_end(model, request) : can_start(model, request);
@@ -177,7 +177,8 @@ static enum finding finding_of(const struct model *model, const struct request *
     bool has_waited = can_wait(model, request), is_one_choice = (is_in_order(model) || model->program->is_ends) && !may_be_early(model, request);
     bool has_its_file = request->is_loose || !(cancel->action->scope & IORING_ASYNC_CANCEL_FD) || (is_in_order(model) && request < cancel);
     bool is_known = !request->action->is_registered || request->action->object != OTHER_LOG;
-    bool is_certain = (has_waited || is_one_choice || request->is_doomed) && has_its_file && (is_known || !(cancel->action->scope & IORING_ASYNC_CANCEL_FD)) && !request->may_be_cancelled && !may_have_been_cancelled(model, request);
+    bool is_over = request->is_doomed && !may_be_early(model, cancel);
+    bool is_certain = (has_waited || is_one_choice || is_over) && has_its_file && (is_known || !(cancel->action->scope & IORING_ASYNC_CANCEL_FD)) && !request->may_be_cancelled && !may_have_been_cancelled(model, request);
     /* A cancel that is seen late may have ended before this one was submitted. */
     bool was_there = !model->is_late || request->call <= cancel->call;
     return is_certain && was_there && request < cancel ? FOUND : MAY_BE_FOUND;
