@@ -105,8 +105,8 @@ int32_t wulgach_core_submit_one(struct wulgach_core *core, const struct wulgach_
  * nothing has changed. */
 int32_t wulgach_core_reap_all(struct wulgach_core *core, struct wulgach_completion *completions, size_t room, uint64_t *count);
 
-/* The steps that a whole call stands for, by their places from 0, as a trace has them. Each writes a step and its answer, and returns true;
- * after the last one it writes nothing and returns false.
+/* The steps that a whole call stands for, by their places from 0, as a trace has them. Each writes a step, with 0 in what its kind doesn't use, and its
+ * answer, and returns true; after the last one it writes nothing and returns false.
  *
  * Of a submission call of count entries: where its first LOAD_HEAD was answered with `head`, and wulgach_core_submit wrote `end`: of one whose BEGIN was
  * refused that is the last. There are none of more than 4,096 entries, which no core's ring has. */

@@ -64,7 +64,7 @@ bool wulgach_group_is_ring(const struct wulgach_group *group);
 bool wulgach_group_next(const struct wulgach_group *group, const struct wulgach_buffer *rows, size_t room, struct wulgach_buffer *next);
 
 /* Writes the cell of the next buffer of a ring, whose tail the application has stored. False: there is none, where the tail is the head, or it
- * couldn't be read. And the buffer of a cell in which this stands; false: it couldn't be read. */
+ * couldn't be read, or the group is a list. And the buffer of a cell in which this stands; false: it couldn't be read. */
 bool wulgach_group_cell(const struct wulgach_group *group, bool is_read, uint16_t tail, uint16_t *cell);
 bool wulgach_group_in_cell(bool is_read, const struct wulgach_buffer *stands, struct wulgach_buffer *buffer);
 

@@ -60,17 +60,19 @@ enum wulgach_reply_kind {
     WULGACH_INTERRUPTED = 9,    /* a signal came */
     WULGACH_ENDLESS = 10,       /* nothing that is awaited can ever come */
     WULGACH_FAILED = 11,        /* the sleep failed, with the negative of this error number */
-    WULGACH_PASSED = 12
+    WULGACH_PASSED = 12,
+    WULGACH_LEAST_OVER = 13     /* of a sleep: the time is over after which one completion is enough */
 };
 
-/* What became of what a call wanted. What is seen then has a meaning in HEARD, WAS_TAKEN, NOT_TAKEN, WENT_ON, STUCK, TIMED_OUT and
- * INTERRUPTED. */
+/* What became of what a call wanted. What is seen then has a meaning in HEARD, WAS_TAKEN, NOT_TAKEN, WENT_ON, STUCK, TIMED_OUT, INTERRUPTED and
+ * LEAST_OVER. */
 struct wulgach_reply {
     uint64_t expired;   /* seen: how many timeouts of the ring have ended so far, */
     uint32_t kind;      /* enum wulgach_reply_kind */
     uint32_t number;    /* WAS_TAKEN, NOT_TAKEN, FAILED */
     uint32_t ready;     /* how many completions can be reaped, */
     bool is_due;        /* and whether the time of another timeout is over, which hasn't ended yet */
+    bool has_limit;     /* LEAST_OVER: the caller gave a limit too */
 };
 
 /* A call. The library keeps nothing of it: it is the caller's memory, and its fields are the library's. */
@@ -81,6 +83,7 @@ struct wulgach_enter {
     uint64_t expired;
     uint32_t before;
     bool took_all;
+    bool is_least_over;
 };
 
 /* What is looked at of a call, or done, before it is carried out. Of one that passes: what is done of it, a set of bits, which are done by rising bits. */
@@ -115,7 +118,7 @@ int32_t wulgach_no_ring_fault(bool is_open);
  *
  * A call hears the application first, and submits once. It waits only if it gets events, for one at least, and all was submitted;
  * then it sleeps only where nothing can go on and there isn't enough, and ends only if there is enough, its sleep has failed, or
- * the application's head is wrong. A lazy one that wakes a thread which takes entries, and gets no events, goes on in order, since the
+ * the application's head is wrong. Once its least time is over one completion is enough, and it ends without one if it has no limit. A lazy one that wakes a thread which takes entries, and gets no events, goes on in order, since the
  * application may look at memory alone after it. */
 int32_t wulgach_enter_begin(struct wulgach_enter *call, const struct wulgach_asked *asked, struct wulgach_command *command);
 
@@ -240,7 +243,6 @@ struct wulgach_argument {
     uint64_t size;              /* as the call gives it */
     bool is_extended;           /* IORING_ENTER_EXT_ARG: a structure of a mask and a time, and no mask alone */
     bool is_readable;           /* the structure can be read, */
-    bool has_min_wait;          /* its `pad` isn't 0, `min_wait_usec` of newer pages: a time after which one completion is enough, */
     bool has_time;              /* it gives a time, */
     bool is_time_readable;      /* and that can be read */
 };
@@ -248,7 +250,8 @@ struct wulgach_argument {
 /* The structure as it stands in memory: `struct io_uring_getevents_arg`. */
 struct wulgach_extended_form {
     uint64_t sigmask;
-    uint32_t sigmask_sz, pad;
+    uint32_t sigmask_sz;
+    uint32_t min_wait_usec;     /* `pad` in older headers */
     uint64_t ts;
 };
 
@@ -257,9 +260,11 @@ struct wulgach_given {
     uint64_t mask_at, mask_size;    /* where its mask is, and its size; 0: it has none */
     uint64_t time_at;               /* where its time is, */
     bool has_time;                  /* unless it has none */
+    uint64_t least;                 /* its least time in nanoseconds, after which one completion is enough, */
+    bool has_least;                 /* unless it has none */
 };
 
-/* Writes that: the mask stands at `sigmask`, and the time at `ts`, unless that is 0. */
+/* Writes that: the mask stands at `sigmask`; the time at `ts`, unless that is 0; and the least time is `min_wait_usec`, unless that is 0. */
 void wulgach_argument_gives(const struct wulgach_extended_form *extended, struct wulgach_given *given);
 
 /* Whether a call reads its last argument that is asked to submit so many entries, and whose submission came to this: it gets events
@@ -267,9 +272,13 @@ void wulgach_argument_gives(const struct wulgach_extended_form *extended, struct
 bool wulgach_reads_argument(bool gets, uint32_t to_submit, int64_t submitted);
 
 /* The fault of a call's last argument, or 0. Of a structure the size is looked at first: -22 unless it is 24; then -14 if it can't be
- * read; -22 if it has a time after which one completion is enough, since there is no IORING_FEAT_MIN_TIMEOUT; and -14 if the time that it gives
- * can't be read. */
+ * read, and -14 if the time that it gives can't be read. */
 int32_t wulgach_last_argument_fault(const struct wulgach_argument *argument);
+
+/* Writes until when a call sleeps at most that has this least time, which isn't over, or none, and this limit: the limit is looked at once the least
+ * time is over, also where it is the shorter of them. */
+struct wulgach_limit;
+void wulgach_sleeps_to(const struct wulgach_limit *least, const struct wulgach_limit *limit, struct wulgach_limit *until);
 
 /* The fault of a mask of this size, or 0: -22 unless it is 8, then -14 if it can't be read. It matters where the call is to sleep. */
 int32_t wulgach_mask_fault(uint64_t size, bool is_readable);

@@ -1,6 +1,6 @@
-/* Wulgach: what an entry of the submission ring is to the core and which fault it has, and which requests go on, as decisions, for
- * whoever keeps a ring as the kernel does. The functions are in the library of wulgach.h, and proved as those are. The layer under
- * liburing calls them.
+/* Wulgach: what an entry of the submission ring is to the core and which fault it has, what is copied of it, which requests go on, and
+ * what a message to another ring does, as decisions, for whoever keeps a ring as the kernel does. The functions are in the library of
+ * wulgach.h, and proved as those are. The layer under liburing calls them.
  */
 #ifndef WULGACH_FORM_H
 #define WULGACH_FORM_H
@@ -158,7 +158,7 @@ struct wulgach_copied {
 /* Writes the piece that is copied next of an entry when it is submitted, and returns 1. Else nothing more is copied, and it returns the fault
  * of the entry, or 0. That is the first of those of its pieces, in their order, where one that is too long (an address, a value) isn't
  * copied; -22 (EINVAL) if it takes a provided buffer and hasn't one vector; and -22 of a linked timeout, but after an entry that links it
- * and is none itself. */
+ * and is none itself. Of an OPENAT2, after its structure and before its path, come -22 of a registered buffer and -9 (EBADF) of a slot. */
 int32_t wulgach_next_piece(const struct wulgach_submission *entry, const struct wulgach_copied *copied, struct wulgach_piece *piece);
 
 /* Writes the one buffer of a READ, a WRITE, a READ_FIXED or a WRITE_FIXED, `addr` and `len`, and returns true: whatever stands before the entry, that is the
@@ -229,7 +229,7 @@ struct wulgach_layout {
  * true. False: what stands in front of the bytes has no room itself. */
 bool wulgach_layout_of(uint32_t name, uint64_t control, uint64_t size, struct wulgach_layout *layout);
 
-/* How much of the buffer has something after a message of so many bytes. */
+/* How much of the buffer has something after a message of so many bytes: 2^64 - 1 at most. */
 uint64_t wulgach_layout_filled(const struct wulgach_layout *layout, uint32_t came);
 
 /* What a no-op ends with that has found the file and the buffer that it looks for: the number that it is to inject, or 0. */
@@ -334,9 +334,23 @@ struct wulgach_core_entry {
 /* Writes what the core is given of an entry that is this to it (enum wulgach_form). */
 void wulgach_core_entry_of(const struct wulgach_submission *entry, uint32_t form, struct wulgach_core_entry *made);
 
-/* Writes what the core is given of it once the next entry of its call is known to be this one. By Linux's rules a soft link before a linked
- * timeout that ends the chain is told as a hard one, so that the timeout posts as its own flags say; by the manual pages' all is as before. */
-void wulgach_core_entry_before(const struct wulgach_submission *entry, uint32_t form, const struct wulgach_submission *next, bool linux_rules, struct wulgach_core_entry *made);
+/* An entry of a call, as far as what the core is told of the one beside it goes by it; all 0: there is none. */
+struct wulgach_beside {
+    bool is_there;
+    bool begins;        /* it is the first of its chain */
+    bool is_refused;    /* it has a fault, */
+    bool is_past;       /* which isn't of its operation or its flags, if it has one */
+    uint8_t opcode;
+    uint8_t flags;
+};
+
+/* Writes that of an entry that is this to the core (enum wulgach_form), and which the one before it links or doesn't. */
+void wulgach_beside_of(const struct wulgach_submission *entry, uint32_t form, bool is_linked, struct wulgach_beside *beside);
+
+/* Writes what the core is given of an entry between these of its call. By Linux's rules a linked timeout that ends its chain posts as its own flags say:
+ * so a soft link before one is told as a hard one; and if the one before it is the chain's first entry, and has a fault, that is told to ask for skipped
+ * success as the timeout does, and the timeout if either does, so that drains after it are refused. By the manual pages' all is as without them. */
+void wulgach_core_entry_between(const struct wulgach_submission *entry, uint32_t form, const struct wulgach_beside *before, const struct wulgach_beside *next, bool linux_rules, struct wulgach_core_entry *made);
 
 /* Writes the words of what the core is given, as calls of wulgach.h take them: each field stands where that of struct io_uring_sqe does, `target` as
  * its address, and all others are 0. */

@@ -327,6 +327,15 @@ uint16_t wulgach_left_events(void);
 /* Whether a pipe counts as written to after an event of these bits (inotify(7)): events were dropped, or it tells of a write, and names this pipe. */
 bool wulgach_counts_as_written(uint32_t mask, bool is_own);
 
+/* Whether an operation may take what polls wait for: it may have to wait for its descriptor until there is something to be read, as a read, a receive or an
+ * accept, or room to be written to, as a write, a send or a splice, and is no poll. */
+bool wulgach_may_take(const struct wulgach_standing *standing, const struct wulgach_needs *needs);
+
+/* Whether a request that runs has its event before such an operation, if it can: a poll whose descriptor was looked at since it started, and wasn't
+ * ready (`has_waited`), and is open on the same file, or on either one of a splice. So both end, as in a kernel, which tells each in the moment in which something comes. Whether the file is
+ * the same matters only where it would be first if it is. */
+bool wulgach_has_event_first(const struct wulgach_needs *needs, bool has_waited, bool is_same_file);
+
 /* Whether whoever polls a ring's descriptor is told anew: that it is readable now, or isn't any more; or that more was posted while it was, where
  * somebody may wait for an edge. */
 bool wulgach_tells_anew(bool was_readable, bool is_readable, bool has_posted, bool may_wait_for_edges);

@@ -1,5 +1,6 @@
-/* Wulgach: which rings a set-up makes, and what is registered with a ring, as decisions, for whoever keeps one as the kernel does. The
- * functions are in the library of wulgach.h, and proved as those are. The layer under liburing calls them.
+/* Wulgach: what calls of io_uring_register(2) read and refuse, which memory they take, a ring's eventfd, which thread may call, and rings
+ * by number, as decisions, for whoever keeps a ring as the kernel does. The functions are in the library of wulgach.h, and proved as those
+ * are. The layer under liburing calls them.
  */
 #ifndef WULGACH_REGISTER_H
 #define WULGACH_REGISTER_H

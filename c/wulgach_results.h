@@ -62,7 +62,8 @@ struct wulgach_rest {
 
 /* How many bytes a call of a message has moved that came to this: none, if that is an error. And what is left of a vector, of which and of those after
  * it so many were moved: each in its turn is moved on by what the one before has left, and then the bytes that are left are those after the ones that
- * were moved, in their order. */
+ * were moved, in their order. Where those end past all memory, it isn't told where the rest of the vector begins; how much is left of it, and for those
+ * after it, is. */
 uint64_t wulgach_moved_by(int32_t came_to);
 void wulgach_rest_of(const struct wulgach_vector *vector, uint64_t moved, struct wulgach_rest *rest);
 
@@ -85,10 +86,10 @@ enum wulgach_shutting {
 };
 
 /* Returns what is next after a call of this entry, which was asked not to wait (enum wulgach_shutting), and writes what that came to, if it is known.
- * `last` is 0 after the call itself, which came to `res`; then it is what was done last, which came to that. After -11 (EAGAIN) of a read or a
- * receive that may wait, and doesn't go on, its socket is asked whether it was shut down for reading (shutdown(2)); with MSG_ERRQUEUE only if it is
- * a local one. If it was, the call is made once more, since a datagram may have come just before that; and where it finds nothing again it came to 0, since none comes any more, but to -11
- * where its descriptor isn't to wait, unless it is a RECV. A stream's call comes to 0 by itself. */
+ * `last` is 0 after the call itself, which came to `res`; then it is what was done last, which came to that. After -11 (EAGAIN) of a read, a
+ * receive or an accept that may wait, and doesn't go on, its socket is asked whether it was shut down for reading (shutdown(2)); with MSG_ERRQUEUE only if it is
+ * a local one. If it was, the call is made once more, since a datagram may have come just before that; and where it finds nothing again it came to 0, since none comes any more, an accept to -22
+ * (EINVAL), but to -11 where its descriptor isn't to wait, unless it is a RECV. A stream's call comes to 0 by itself. */
 uint32_t wulgach_shutting_next(const struct wulgach_submission *entry, uint32_t last, int32_t res, int32_t *end);
 
 /* Whether an operation has taken its provided buffer though it moved nothing: a transfer at the end of its file, but a READ_MULTISHOT hasn't. */

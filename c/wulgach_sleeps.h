@@ -69,7 +69,8 @@ struct wulgach_waited {
     bool is_never;              /* there was nothing to wait for, and it didn't sleep */
     bool has_messages;          /* another ring has left a message, */
     bool may_post;              /* and a completion may be posted that belongs to no end of a request */
-    bool is_over;               /* the caller's time is over */
+    bool is_over;               /* the caller's time is over, */
+    bool is_least;              /* and that is its least time, after which one completion is enough */
 };
 
 /* Returns what came of a wait, as the reply to a call that wants to sleep (enum wulgach_reply_kind). */

@@ -192,8 +192,8 @@ void wulgach_due_found_before(struct wulgach_due *due, uint64_t number);
 /* Whether any is to: it was noted, and those before a later one haven't found theirs since. */
 bool wulgach_due_is_any(const struct wulgach_due *due);
 
-/* Writes between which numbers all stand of those that are to, before this one: others may stand there too. False: none stands before it, and nothing is
- * written. */
+/* Writes between which numbers all stand of those that are to, before this one: others may stand there too, but none of those that have found theirs, unless it or
+ * a lesser one was noted since. False: none stands before it, and nothing is written. */
 bool wulgach_due_before(const struct wulgach_due *due, uint64_t number, struct wulgach_due_span *span);
 
 /* ---- after a completion that was put off ---- */

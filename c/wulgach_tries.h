@@ -63,10 +63,13 @@ uint32_t wulgach_remembered_after_status(uint32_t was, bool is_file);
  * descriptor was asked anything (WULGACH_CALL_AT_ONCE), or wasn't: -95 (EOPNOTSUPP) means that it can't be asked so. */
 bool wulgach_asks_seals(uint32_t was, bool is_at_once, int32_t res);
 
-/* Whether it is asked for them before it is taken to be in memory still. */
+/* Returns what is remembered after a call that came to this: nothing after -29 (ESPIPE), since what has no offsets is no file. */
+uint32_t wulgach_remembered_after_call(uint32_t was, int32_t res);
+
+/* Whether it was in memory. It is asked for them before it is taken to be there still. */
 bool wulgach_was_in_memory(uint32_t was);
 
-/* Returns what is remembered after that. */
+/* Returns what is remembered after it was asked for them. */
 uint32_t wulgach_remembered_after_seals(uint32_t was, bool has_seals);
 
 /* ---- what becomes of an operation of sockets, of a splice and of a poll ---- */
@@ -135,6 +138,9 @@ void wulgach_poll_starts(uint16_t events, bool goes_on, int32_t res, struct wulg
 /* With what a READ_MULTISHOT fails as it starts, where asking an instance for its descriptor came to `res`; or 0: with that error, but with -77
  * (EBADFD) where the descriptor can't be polled (EPERM). */
 int32_t wulgach_polling_fault(int32_t res);
+
+/* Whether a regular file counts as one that can be polled, where asking an instance for it came to `res`: to 0. Where there is no instance, it doesn't. */
+bool wulgach_counts_as_polled(int32_t res);
 
 #ifdef __cplusplus
 }

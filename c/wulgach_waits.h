@@ -135,8 +135,8 @@ bool wulgach_asks_openness(const struct wulgach_submission *entry, int32_t res);
 /* What a descriptor is. */
 struct wulgach_nature {
     bool is_open;               /* there is such a descriptor */
-    bool is_file;               /* a regular file */
-    bool is_device;             /* a character device */
+    bool is_file;               /* a regular file that can't be polled */
+    bool is_device;             /* a character device, or a regular file that can be polled, as a queue of messages or /proc/kmsg: it may have to wait */
     bool is_socket;
     bool has_offsets;           /* it can be read or written at an offset */
     bool can_read;              /* it is open for reading, */
@@ -158,7 +158,9 @@ struct wulgach_known {
 struct wulgach_trial {
     uint64_t length;            /* the bytes of its vectors */
     bool was_tried;
-    bool was_file;              /* its descriptor's number was that of a file that could be asked not to wait, when that was last asked */
+    bool was_file;              /* its descriptor's number was that of a file that could be asked not to wait, when that was last asked, */
+    bool was_in_memory;         /* or of one in memory, which can't be asked so */
+    bool has_no_devices;        /* the user says that no device whose reads wait is read */
     bool is_asked_before;       /* a choice rests on whether it may have to wait */
 };
 
@@ -166,7 +168,8 @@ struct wulgach_trial {
 enum wulgach_kind {
     WULGACH_KIND_NEVER = 0,     /* it never has to wait */
     WULGACH_KIND_AT_ONCE = 1,   /* a read that is made at once, asked not to wait: nothing was asked */
-    WULGACH_KIND_TRIED = 2,     /* a transfer on a file, made at its offset before more is asked */
+    WULGACH_KIND_TRIED = 2,     /* a transfer that is made at its offset before more is asked: on a file; or a read of what was one in memory, where no device is
+                                 * read: nothing was asked, since what has no offsets ends it at once, with -29 (ESPIPE) */
     WULGACH_KIND_STREAM = 3,    /* it may have to wait */
     WULGACH_KIND_WRONG = 4,     /* its descriptor isn't open for it, and would never get ready: it fails with -9 (EBADF) */
     WULGACH_ASK_STATUS = 5,
@@ -174,8 +177,13 @@ enum wulgach_kind {
     WULGACH_ASK_ACCESS = 7
 };
 
-/* Writes what is known of a descriptor once it was asked for its status: by its mode, if it is open; or, of a file in memory, unasked. */
-void wulgach_note_status(struct wulgach_nature *nature, bool is_in_memory, bool is_open, uint32_t mode);
+/* Whether a descriptor of which fstat(2) says this, its mode and how many blocks it has, is asked whether it can be polled (wulgach_counts_as_polled): a
+ * regular file that has none, which what lies on a disk has. */
+bool wulgach_asks_polling(uint32_t mode, uint64_t blocks);
+
+/* Writes what is known of a descriptor once it was asked for its status: by its mode, if it is open, and whether it can be polled, if it was asked for that;
+ * or, of a file in memory, unasked. */
+void wulgach_note_status(struct wulgach_nature *nature, bool is_in_memory, bool is_open, bool can_be_polled, uint32_t mode);
 
 /* Returns what is asked next of the descriptor of an entry's request, or what the request is on it (enum wulgach_kind). Nothing is asked
  * twice, and nothing that doesn't matter. A poll and a splice may have to wait whatever their descriptors are, an operation of sockets on a

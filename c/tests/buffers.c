@@ -1,18 +1,10 @@
 /* Which provided buffer an operation takes, and when registered files and buffers are gone: with what the manual pages call for, written
  * by hand. */
+#include "demand.h"
 #include "wulgach_buffers.h"
 #include "wulgach_tables.h"
 
 #include <stdio.h>
-#include <stdlib.h>
-
-static void demand(bool holds, const char *what)
-{
-    if (!holds) {
-        printf("FAILED: %s\n", what);
-        exit(1);
-    }
-}
 
 enum { MOST = 64 };
 

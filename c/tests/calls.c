@@ -1,5 +1,6 @@
 /* By what operations are carried out: with the calls that the manual pages say they are like, made by hand, and the numbers of the C library's header. */
 #define _GNU_SOURCE
+#include "demand.h"
 #include "wulgach_calls.h"
 #include "wulgach_openings.h"
 #include "wulgach_results.h"
@@ -9,18 +10,9 @@
 #include <signal.h>
 #include <stddef.h>
 #include <stdio.h>
-#include <stdlib.h>
 #include <string.h>
 #include <sys/socket.h>
 #include <sys/syscall.h>
-
-static void demand(bool holds, const char *what)
-{
-    if (!holds) {
-        printf("FAILED: %s\n", what);
-        exit(1);
-    }
-}
 
 enum { NOP, READV, WRITEV, FSYNC, READ_FIXED, WRITE_FIXED, POLL_ADD, POLL_REMOVE, SYNC_FILE_RANGE, SENDMSG, RECVMSG, TIMEOUT, TIMEOUT_REMOVE, ACCEPT, ASYNC_CANCEL, LINK_TIMEOUT, CONNECT, FALLOCATE, OPENAT, CLOSE, FILES_UPDATE, STATX, READ, WRITE, FADVISE, MADVISE, SEND, RECV, OPENAT2, EPOLL_CTL, SPLICE, PROVIDE_BUFFERS, REMOVE_BUFFERS, TEE, SHUTDOWN, RENAMEAT, UNLINKAT, MKDIRAT, SYMLINKAT, LINKAT, MSG_RING, FSETXATTR, SETXATTR, FGETXATTR, GETXATTR, SOCKET, SEND_ZC = 47, SENDMSG_ZC, FIXED_FD_INSTALL = 54, FTRUNCATE, BIND, LISTEN };
 
@@ -346,6 +338,8 @@ static void look_at_results(void)
     demand(shuts(&receive, 0, -11, ASKS, 7) && shuts(&read, 0, -11, ASKS, 7) && shuts(&receive, 0, -107, ENDS, -107) && shuts(&send, 0, -11, ENDS, -11), "whether a socket was shut down");
     demand(shuts(&going_on, 0, -11, ENDS, -11) && shuts(&hasty, 0, -11, ENDS, -11) && shuts(&unwilling, 0, -11, ENDS, -11), "where that doesn't matter");
     demand(shuts(&read, ASKS, 0, ENDS, -11) && shuts(&read, ASKS, 1, AGAIN, 7) && shuts(&read, AGAIN, 5, ENDS, 5) && shuts(&read, AGAIN, -11, WILL, 7) && shuts(&read, WILL, 0, ENDS, 0), "a socket that was shut down");
+    struct wulgach_submission accept = {.opcode = 13}, accepts_on = {.opcode = 13, .ioprio = 1};
+    demand(shuts(&accept, 0, -11, ASKS, 7) && shuts(&accept, AGAIN, 5, ENDS, 5) && shuts(&accept, WILL, 0, ENDS, -22) && shuts(&accept, WILL, 1, ENDS, -11) && shuts(&accepts_on, 0, -11, ENDS, -11), "an accept by what was shut down");
     struct wulgach_submission of_errors = {.opcode = 27, .op_flags = 8192};
     demand(shuts(&of_errors, 0, -11, LOCAL, 7) && shuts(&of_errors, LOCAL, 0, ENDS, -11) && shuts(&of_errors, LOCAL, 1, ASKS, 7) && shuts(&of_errors, WILL, 1, ENDS, 0), "a receive of errors");
     demand(shuts(&read, WILL, 1, ENDS, -11) && shuts(&receive, WILL, 1, ENDS, -11) && shuts(&hasty, WILL, 1, ENDS, 0), "one that isn't to wait");

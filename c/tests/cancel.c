@@ -1,18 +1,10 @@
 /* What a cancel finds: each call once, with what the manual page calls for, written by hand. */
+#include "demand.h"
 #include "wulgach_cancel.h"
 #include "wulgach_form.h"
 #include "wulgach_register.h"
 
 #include <stdio.h>
-#include <stdlib.h>
-
-static void demand(bool holds, const char *what)
-{
-    if (!holds) {
-        printf("FAILED: %s\n", what);
-        exit(1);
-    }
-}
 
 /* Looks at three requests with user data 1, 1 and 2, of which the first is after a link. */
 static int32_t look(const struct wulgach_sought *sought, const bool *wanted)

@@ -1,4 +1,5 @@
 /* The course of a request, what is shown of its end, and its chain: each call once, with what the manual page calls for, written by hand. */
+#include "demand.h"
 #include "wulgach_cancel.h"
 #include "wulgach_course.h"
 #include "wulgach_form.h"
@@ -6,14 +7,6 @@
 
 #include <stdio.h>
 #include <stdlib.h>
-
-static void demand(bool holds, const char *what)
-{
-    if (!holds) {
-        printf("FAILED: %s\n", what);
-        exit(1);
-    }
-}
 
 static struct wulgach_course started(void)
 {

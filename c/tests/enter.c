@@ -2,6 +2,7 @@
  * wants then. */
 #include "wulgach_enter.h"
 #include "wulgach_taking.h"
+#include "wulgach_times.h"
 
 #include <stdio.h>
 #include <stdlib.h>
@@ -13,7 +14,7 @@ struct turn {
     uint32_t kind;          /* the reply, */
     uint32_t number, ready; /* with what it tells */
     uint64_t expired;
-    bool is_due;
+    bool is_due, has_limit;
     uint32_t wanted;        /* and what the call wants then, */
     int64_t value;          /* with the flag or the result */
 };
@@ -55,6 +56,26 @@ static const struct row rows[] = {
         {WULGACH_STUCK, .wanted = WULGACH_HEAR, .value = 1},
         {WULGACH_HEARD, .wanted = WULGACH_SLEEP},
         {WULGACH_TIMED_OUT, .wanted = WULGACH_RETURN, .value = -62}}},
+    {"one is enough once the least time is over", GETS(0, 2, WULGACH_IN_ORDER), {
+        {WULGACH_HEARD, .ready = 1, .wanted = WULGACH_SUBMIT},
+        {WULGACH_WAS_TAKEN, 0, .ready = 1, .wanted = WULGACH_GO_ON_FULLY},
+        {WULGACH_STUCK, .ready = 1, .wanted = WULGACH_HEAR, .value = 1},
+        {WULGACH_HEARD, .ready = 1, .wanted = WULGACH_SLEEP},
+        {WULGACH_LEAST_OVER, .ready = 1, .has_limit = true, .wanted = WULGACH_RETURN}}},
+    {"without a limit the least time is one", GETS(0, 2, WULGACH_IN_ORDER), {
+        {WULGACH_HEARD, .wanted = WULGACH_SUBMIT},
+        {WULGACH_WAS_TAKEN, 0, .wanted = WULGACH_GO_ON_FULLY},
+        {WULGACH_STUCK, .wanted = WULGACH_HEAR, .value = 1},
+        {WULGACH_HEARD, .wanted = WULGACH_SLEEP},
+        {WULGACH_LEAST_OVER, .wanted = WULGACH_RETURN, .value = -62}}},
+    {"with one the call goes on until one comes", GETS(0, 2, WULGACH_LAZY), {
+        {WULGACH_HEARD, .wanted = WULGACH_SUBMIT},
+        {WULGACH_WAS_TAKEN, 0, .wanted = WULGACH_GO_ON},
+        {WULGACH_STUCK, .wanted = WULGACH_HEAR, .value = 1},
+        {WULGACH_HEARD, .wanted = WULGACH_SLEEP},
+        {WULGACH_LEAST_OVER, .has_limit = true, .wanted = WULGACH_HEAR, .value = 1},
+        {WULGACH_HEARD, .wanted = WULGACH_GO_ON},
+        {WULGACH_WENT_ON, .ready = 1, .wanted = WULGACH_RETURN}}},
     {"a signal is none beside a completion", GETS(0, 2, WULGACH_IN_ORDER), {
         {WULGACH_HEARD, .wanted = WULGACH_SUBMIT},
         {WULGACH_WAS_TAKEN, 0, .wanted = WULGACH_GO_ON_FULLY},
@@ -128,9 +149,9 @@ static void run(const struct row *row)
     check(wulgach_enter_begin(&call, &row->asked, &command) == 0, "it doesn't begin");
     check(command.kind == WULGACH_HEAR && command.flag == row->asked.gets, "the application isn't heard first");
     for (const struct turn *turn = row->turns; turn < row->turns + MOST && (turn->kind || turn->wanted); turn++) {
-        const struct wulgach_reply reply = {turn->expired, turn->kind, turn->number, turn->ready, turn->is_due};
+        const struct wulgach_reply reply = {turn->expired, turn->kind, turn->number, turn->ready, turn->is_due, turn->has_limit};
         refuse(&call, command.kind == WULGACH_HEAR ? WULGACH_PASSED : WULGACH_HEARD);
-        refuse(&call, WULGACH_PASSED + 1);
+        refuse(&call, WULGACH_LEAST_OVER + 1);
         check(wulgach_enter_next(&call, &reply, &command) == 0, "a reply isn't taken");
         check(command.kind == turn->wanted && value_of(&command) == turn->value, "it wants something else");
     }
@@ -144,21 +165,31 @@ static void read_arguments(void)
     check(wulgach_last_argument_fault(&argument) == 0, "one without a time");
     argument.has_time = true;
     check(wulgach_last_argument_fault(&argument) == -14, "a time that can't be read");
-    argument.has_min_wait = true;
-    check(wulgach_last_argument_fault(&argument) == -22, "a time after which one completion is enough");
     argument.is_readable = false;
     check(wulgach_last_argument_fault(&argument) == -14, "one that can't be read");
     argument.size = 8;
     check(wulgach_last_argument_fault(&argument) == -22, "one of another size");
     argument.is_extended = false;
     check(wulgach_last_argument_fault(&argument) == 0, "a mask");
-    struct wulgach_extended_form extended = {.sigmask = 3, .sigmask_sz = 8, .pad = 9, .ts = 1ull << 32};
+    struct wulgach_extended_form extended = {.sigmask = 3, .sigmask_sz = 8, .min_wait_usec = UINT32_MAX, .ts = 1ull << 32};
     struct wulgach_given given;
     wulgach_argument_gives(&extended, &given);
-    check(given.mask_at == 3 && given.mask_size == 8 && given.time_at == 1ull << 32 && given.has_time, "a structure with both");
-    extended = (struct wulgach_extended_form){.pad = 9};
+    check(given.mask_at == 3 && given.mask_size == 8 && given.time_at == 1ull << 32 && given.has_time && given.least == 4294967295000 && given.has_least, "a structure with all");
+    extended = (struct wulgach_extended_form){.min_wait_usec = 9};
     wulgach_argument_gives(&extended, &given);
-    check(given.mask_at == 0 && given.mask_size == 0 && !given.has_time, "one with neither");
+    check(given.mask_at == 0 && given.mask_size == 0 && !given.has_time && given.least == 9000 && given.has_least, "one with a least time");
+    extended = (struct wulgach_extended_form){.ts = 9};
+    wulgach_argument_gives(&extended, &given);
+    check(given.has_time && !given.has_least, "one with a limit");
+    struct wulgach_limit least = {5, true}, limit = {3, true}, none = {0}, until;
+    wulgach_sleeps_to(&least, &limit, &until);
+    check(until.is_set && until.at == 5, "until its least time");
+    wulgach_sleeps_to(&least, &none, &until);
+    check(until.is_set && until.at == 5, "without a limit");
+    wulgach_sleeps_to(&none, &limit, &until);
+    check(until.is_set && until.at == 3, "until its limit");
+    wulgach_sleeps_to(&none, &none, &until);
+    check(!until.is_set, "without either");
     check(wulgach_asks_mask(true, 0, 0) && !wulgach_asks_mask(true, 0, 1) && !wulgach_asks_mask(true, 0, UINT32_MAX) && !wulgach_asks_mask(false, 0, 0) && !wulgach_asks_mask(true, -14, 0), "when a mask is read");
     check(wulgach_sleep_fault(0, true, -14) == -14 && wulgach_sleep_fault(-22, true, -14) == -22 && wulgach_sleep_fault(0, false, -14) == 0, "which fault counts");
     check(wulgach_mask_fault(8, true) == 0 && wulgach_mask_fault(8, false) == -14 && wulgach_mask_fault(3, false) == -22, "its faults");
@@ -247,9 +278,9 @@ static void do_duties(void)
     check(wulgach_duties_before_sleep(&quiet, false) == 0 && wulgach_duties_before_sleep(&busy, false) == (FOUND | FILES | PIPES) && wulgach_duties_before_sleep(&busy, true) == (FOUND | FILES), "before it sleeps");
     check(wulgach_duties_when_stuck(&busy, true, false) == ENDS && wulgach_duties_when_stuck(&busy, false, false) == 0 && wulgach_duties_when_stuck(&busy, true, true) == 0 && wulgach_duties_when_stuck(&quiet, true, false) == 0, "where nothing can go on");
     check(wulgach_duties_at_rest(&quiet) == 0 && wulgach_duties_at_rest(&busy) == (DORMANT | ENDS | READINESS), "as it rests");
-    for (uint32_t kind = WULGACH_HEARD; kind <= WULGACH_PASSED + 1; kind++) {
+    for (uint32_t kind = WULGACH_HEARD; kind <= WULGACH_LEAST_OVER + 1; kind++) {
         struct wulgach_reply reply = {.kind = kind};
-        bool has_sight = kind == WULGACH_HEARD || kind == WULGACH_WAS_TAKEN || kind == WULGACH_NOT_TAKEN || kind == WULGACH_WENT_ON || kind == WULGACH_STUCK || kind == WULGACH_TIMED_OUT || kind == WULGACH_INTERRUPTED;
+        bool has_sight = kind == WULGACH_HEARD || kind == WULGACH_WAS_TAKEN || kind == WULGACH_NOT_TAKEN || kind == WULGACH_WENT_ON || kind == WULGACH_STUCK || kind == WULGACH_TIMED_OUT || kind == WULGACH_INTERRUPTED || kind == WULGACH_LEAST_OVER;
         check(wulgach_duties_at_reply(&reply, true) == (has_sight ? ENDS : 0) && wulgach_duties_at_reply(&reply, false) == 0, "before a reply");
     }
     check(at_return(&quiet) == LAST && at_return(&busy) == (FOUND | FILES | PIPES | DORMANT | ENDS | READINESS | LAST), "as it returns");

@@ -1,16 +1,9 @@
 /* What an entry is to the core, and which requests go on: with what the manual page calls for, written by hand. */
+#include "demand.h"
 #include "wulgach_form.h"
 
 #include <stdio.h>
 #include <stdlib.h>
-
-static void demand(bool holds, const char *what)
-{
-    if (!holds) {
-        printf("FAILED: %s\n", what);
-        exit(1);
-    }
-}
 
 /* The fault of an entry, or 0: it is a token; or 1: a cancel. */
 static int32_t form(struct wulgach_submission entry)
@@ -29,6 +22,7 @@ static void look_at_fields(void)
     demand(FORM(.opcode = NOP) == 0 && FORM(.opcode = NOP, .ioprio = 1) == -22, "a no-op");
     demand(FORM(.opcode = 46) == -22 && FORM(.opcode = 49) == -22 && FORM(.opcode = 49, .flags = 32) == 0 && FORM(.opcode = 49, .flags = 32, .len = 1) == -22 && FORM(.opcode = 48, .ioprio = 9) == 0 && FORM(.opcode = 48, .ioprio = 4) == -22 && FORM(.opcode = 47, .file_index = 65535) == 0 && FORM(.opcode = 47, .file_index = 65536) == -22, "what is served");
     demand(FORM(.opcode = NOP, .flags = 128) == -22 && FORM(.opcode = NOP, .personality = 1) == -22 && FORM(.opcode = NOP, .flags = 127 - 32) == 0, "flags");
+    demand(FORM(.opcode = READV, .len = 2, .flags = 32) == -22 && FORM(.opcode = READV, .flags = 32) == -22 && FORM(.opcode = READV, .len = 1, .flags = 32) == 0, "one vector beside a provided buffer");
     demand(FORM(.opcode = READV, .len = 1024) == 0 && FORM(.opcode = WRITEV, .len = 1025) == -22 && FORM(.opcode = READ_FIXED, .ioprio = 32767) == 0 && FORM(.opcode = READ_FIXED, .ioprio = 32768) == -22, "transfers");
     demand(FORM(.opcode = FSYNC, .op_flags = 1) == 0 && FORM(.opcode = FSYNC, .op_flags = 2) == -22 && FORM(.opcode = FSYNC, .addr = 1) == -22, "an fsync");
     demand(FORM(.opcode = POLL_ADD, .len = 1) == 0 && FORM(.opcode = POLL_ADD, .len = 1, .flags = 64) == -22 && FORM(.opcode = POLL_ADD, .len = 2) == -22, "a poll");
@@ -41,7 +35,7 @@ static void look_at_fields(void)
 
 static void look_at_more_fields(void)
 {
-    demand(FORM(.opcode = 18, .file_index = 1) == 0 && FORM(.opcode = 18, .file_index = 1, .op_flags = 0x80000) == 0 && FORM(.opcode = 28, .len = 24) == 0 && FORM(.opcode = 28, .len = 23) == -22 && FORM(.opcode = 28, .len = 24, .buf_index = 1) == -22, "opens");
+    demand(FORM(.opcode = 18, .file_index = 1) == 0 && FORM(.opcode = 18, .file_index = 1, .op_flags = 0x80000) == 0 && FORM(.opcode = 28, .len = 24) == 0 && FORM(.opcode = 28, .len = 23) == -22 && FORM(.opcode = 28, .len = 24, .buf_index = 1, .flags = 1) == 0 && FORM(.opcode = 28, .len = 23, .flags = 1) == -22 && FORM(.opcode = 18, .buf_index = 1, .flags = 1) == -22, "opens");
     demand(FORM(.opcode = 19, .fd = 3) == 0 && FORM(.opcode = 19, .file_index = 1) == 0 && FORM(.opcode = 19, .fd = 3, .file_index = 1) == -22, "a close");
     demand(FORM(.opcode = 20, .len = 1) == 0 && FORM(.opcode = 20) == -22 && FORM(.opcode = 20, .len = 1, .flags = 1) == -22, "an update of files");
     demand(FORM(.opcode = 31, .fd = 65536, .len = 1) == 0 && FORM(.opcode = 31, .fd = 1, .len = 1, .off = 65535) == 0 && FORM(.opcode = 31, .fd = 65537, .len = 1) == -7 && FORM(.opcode = 31, .fd = -1, .op_flags = 1) == -22 && FORM(.opcode = 31, .fd = 1, .len = 1, .off = 65536) == -7, "provided buffers");
@@ -77,7 +71,7 @@ static void look_at_slots(void)
     static const uint8_t of_paths[] = {18, 19, 21, 35, 36, 37, 38, 39, 42, 44};
     for (size_t i = 0; i < sizeof of_paths; i++)
         demand(FORM(.opcode = of_paths[i]) == 0 && FORM(.opcode = of_paths[i], .flags = 1) == -9 && FORM(.opcode = of_paths[i], .flags = 1, .ioprio = 1) == -22, "a path");
-    demand(FORM(.opcode = 28, .len = 24, .flags = 1) == -9 && FORM(.opcode = 44, .flags = 1, .op_flags = 1) == -9 && FORM(.opcode = 19, .flags = 1, .fd = 1, .file_index = 1) == -9, "before what else is wrong");
+    demand(FORM(.opcode = 28, .len = 24, .flags = 1) == 0 && FORM(.opcode = 44, .flags = 1, .op_flags = 1) == -9 && FORM(.opcode = 19, .flags = 1, .fd = 1, .file_index = 1) == -9, "before what else is wrong");
     demand(FORM(.opcode = 29, .flags = 1) == 0 && FORM(.opcode = 41, .flags = 1) == 0 && FORM(.opcode = 3, .flags = 1) == 0, "where a slot is taken or passed over");
 }
 

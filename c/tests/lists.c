@@ -1,18 +1,10 @@
 /* The structures and lists that calls of io_uring_register(2) read, and in which steps what they name is made: with what the manual page calls for,
  * written by hand. */
+#include "demand.h"
 #include "wulgach_register.h"
 #include "wulgach_tables.h"
 
 #include <stdio.h>
-#include <stdlib.h>
-
-static void demand(bool holds, const char *what)
-{
-    if (!holds) {
-        printf("FAILED: %s\n", what);
-        exit(1);
-    }
-}
 
 static void read_structures(void)
 {

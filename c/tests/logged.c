@@ -1,24 +1,16 @@
 /* Which system calls and requests are logged as what: the numbers are those of <sys/syscall.h>, and the flags those of the C library. */
 #define _GNU_SOURCE
+#include "demand.h"
 #include "wulgach_logged.h"
 
 #include <fcntl.h>
 #include <limits.h>
 #include <stdio.h>
-#include <stdlib.h>
 #include <string.h>
 #include <sys/mman.h>
 #include <sys/stat.h>
 #include <sys/syscall.h>
 #include <unistd.h>
-
-static void demand(bool holds, const char *what)
-{
-    if (!holds) {
-        printf("FAILED: %s\n", what);
-        exit(1);
-    }
-}
 
 static void look_at_calls(void)
 {

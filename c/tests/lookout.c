@@ -1,18 +1,10 @@
 /* What a ring looks out for, and which polls are told of writes: written by hand, of runs of a few happenings. */
+#include "demand.h"
 #include "wulgach.h"
 #include "wulgach_lookout.h"
 
 #include <stdio.h>
-#include <stdlib.h>
 #include <string.h>
-
-static void demand(bool holds, const char *what)
-{
-    if (!holds) {
-        printf("FAILED: %s\n", what);
-        exit(1);
-    }
-}
 
 /* A ring of which so many requests run, and all were found to wait. */
 static struct wulgach_lookout waiting(unsigned running)
@@ -268,6 +260,14 @@ static void tell_others(void)
     demand(wulgach_is_heard(010600, 0) && wulgach_is_heard(010600, 2) && !wulgach_is_heard(010600, 1) && !wulgach_is_heard(0140600, 2) && !wulgach_is_heard(010600, 1u << 21), "which pipes are heard");
 }
 
+static void take_from_polls(void)
+{
+    static const struct wulgach_needs read = {.events = 1}, write = {.events = 4}, none = {.events = 0}, poll = {.events = 1, .is_poll = true};
+    static const struct wulgach_standing stream = {.is_stream = true}, file = {.is_stream = false};
+    demand(wulgach_may_take(&stream, &read) && !wulgach_may_take(&file, &read) && wulgach_may_take(&stream, &write) && !wulgach_may_take(&stream, &none) && !wulgach_may_take(&stream, &poll), "what may take what polls wait for");
+    demand(wulgach_has_event_first(&poll, true, true) && !wulgach_has_event_first(&poll, false, true) && !wulgach_has_event_first(&poll, true, false) && !wulgach_has_event_first(&read, true, true), "who has its event first");
+}
+
 static void lie(void)
 {
     struct wulgach_lookout lookout = waiting(1);
@@ -316,6 +316,7 @@ int main(void)
     keep_files();
     tell_locks();
     tell_others();
+    take_from_polls();
     lie();
     miss();
     follow();

@@ -1,4 +1,5 @@
 /* Which rings a set-up makes, and what is registered with a ring: with what the manual page calls for, written by hand. */
+#include "demand.h"
 #include "wulgach_register.h"
 #include "wulgach_setup.h"
 #include "wulgach_tables.h"
@@ -6,14 +7,6 @@
 #include <stdio.h>
 #include <stdlib.h>
 #include <string.h>
-
-static void demand(bool holds, const char *what)
-{
-    if (!holds) {
-        printf("FAILED: %s\n", what);
-        exit(1);
-    }
-}
 
 /* Flags of a set-up. */
 enum { SQPOLL = 2, SQ_AFF = 4, CQSIZE = 8, CLAMP = 16, ATTACH_WQ = 32, R_DISABLED = 64, COOP = 256, FLAG = 512, SINGLE = 4096, DEFER = 8192 };

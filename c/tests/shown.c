@@ -1,17 +1,9 @@
 /* What the application of a ring is shown: each call once, on a ring of two entries whose positions wrap, with what the header calls for,
  * written by hand. */
+#include "demand.h"
 #include "wulgach_course.h"
 
 #include <stdio.h>
-#include <stdlib.h>
-
-static void demand(bool holds, const char *what)
-{
-    if (!holds) {
-        printf("FAILED: %s\n", what);
-        exit(1);
-    }
-}
 
 static void watch(void)
 {

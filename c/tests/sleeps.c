@@ -1,17 +1,9 @@
 /* When a call sleeps, for what, and what came of it: written by hand. */
+#include "demand.h"
 #include "wulgach_sleeps.h"
 #include "wulgach_times.h"
 
 #include <stdio.h>
-#include <stdlib.h>
-
-static void demand(bool holds, const char *what)
-{
-    if (!holds) {
-        printf("FAILED: %s\n", what);
-        exit(1);
-    }
-}
 
 static uint32_t waited(struct wulgach_waited waited)
 {
@@ -60,7 +52,7 @@ static void sleep_or_not(void)
     demand(wulgach_sleep_came(WULGACH_LOOKS_BY_INSTANCE, 0) == 1 && wulgach_sleep_came(WULGACH_LOOKS_BY_INSTANCE, -4) == -4 && wulgach_sleep_came(WULGACH_SLEEPS_BY_INSTANCE, 0) == 0, "and what it came to");
     demand(wulgach_asks_select(-22) && !wulgach_asks_select(-4) && !wulgach_asks_select(1), "in the place of which poll select(2) is asked");
     demand(wulgach_left_of(7, 7) == 0 && wulgach_left_of(7, 8) == 63, "a child leaves its parent's ring");
-    demand(waited((struct wulgach_waited){0}) == WULGACH_WOKEN && waited((struct wulgach_waited){.result = 2}) == WULGACH_WOKEN && waited((struct wulgach_waited){.is_over = true}) == WULGACH_TIMED_OUT, "a sleep that ends");
+    demand(waited((struct wulgach_waited){0}) == WULGACH_WOKEN && waited((struct wulgach_waited){.result = 2}) == WULGACH_WOKEN && waited((struct wulgach_waited){.is_over = true}) == WULGACH_TIMED_OUT && waited((struct wulgach_waited){.is_over = true, .is_least = true}) == WULGACH_LEAST_OVER && waited((struct wulgach_waited){.is_least = true}) == WULGACH_WOKEN, "a sleep that ends");
     demand(waited((struct wulgach_waited){.result = -4, .is_over = true}) == WULGACH_INTERRUPTED && waited((struct wulgach_waited){.result = -12}) == WULGACH_FAILED, "a sleep that fails");
     demand(waited((struct wulgach_waited){.is_never = true}) == WULGACH_ENDLESS && waited((struct wulgach_waited){.is_never = true, .has_messages = true}) == WULGACH_ENDLESS && waited((struct wulgach_waited){.is_never = true, .has_messages = true, .may_post = true}) == WULGACH_WOKEN, "nothing to wait for");
 }

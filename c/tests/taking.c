@@ -1,5 +1,6 @@
 /* Which positions a call takes, what goes on next, what waits behind drains, what an update changes and what is copied of an entry: with
  * what the manual page calls for, written by hand. */
+#include "demand.h"
 #include "wulgach.h"
 #include "wulgach_cancel.h"
 #include "wulgach_enter.h"
@@ -7,16 +8,7 @@
 #include "wulgach_taking.h"
 
 #include <stdio.h>
-#include <stdlib.h>
 #include <string.h>
-
-static void demand(bool holds, const char *what)
-{
-    if (!holds) {
-        printf("FAILED: %s\n", what);
-        exit(1);
-    }
-}
 
 static void take_positions(void)
 {
@@ -161,11 +153,56 @@ static int32_t next(struct wulgach_submission entry, uint32_t count, struct wulg
 
 #define NEXT(count, ...) next((struct wulgach_submission){__VA_ARGS__}, count, &piece)
 
+static const struct wulgach_beside nobody;
+
 static uint8_t flags_before(uint8_t flags, const struct wulgach_submission *next, bool linux_rules)
 {
     struct wulgach_core_entry made;
-    wulgach_core_entry_before(&(struct wulgach_submission){.flags = flags}, WULGACH_FORM_TOKEN, next, linux_rules, &made);
+    struct wulgach_beside beside;
+    wulgach_beside_of(next, WULGACH_FORM_TOKEN, true, &beside);
+    wulgach_core_entry_between(&(struct wulgach_submission){.flags = flags}, WULGACH_FORM_TOKEN, &nobody, &beside, linux_rules, &made);
     return made.flags;
+}
+
+/* The flags that the core is told of an entry with a fault, of this operation, and of a linked timeout after it; the entry before them links it or doesn't. */
+static void tell_two(uint8_t code, bool is_linked, uint8_t fault_flags, uint8_t timeout_flags, bool linux_rules, uint8_t told[2])
+{
+    struct wulgach_submission fault = {.opcode = code, .flags = fault_flags}, timeout = {.opcode = 15, .flags = timeout_flags}, earlier = {.flags = is_linked ? 4 : 0};
+    struct wulgach_beside before, first, second;
+    struct wulgach_core_entry made;
+    wulgach_beside_of(&earlier, WULGACH_FORM_TOKEN, false, &before);
+    wulgach_beside_of(&fault, WULGACH_FORM_REFUSED, is_linked, &first);
+    wulgach_beside_of(&timeout, WULGACH_FORM_TOKEN, true, &second);
+    wulgach_core_entry_between(&fault, WULGACH_FORM_REFUSED, &before, &second, linux_rules, &made);
+    told[0] = made.flags;
+    wulgach_core_entry_between(&timeout, WULGACH_FORM_TOKEN, &first, &nobody, linux_rules, &made);
+    told[1] = made.flags;
+}
+
+static void skip_after_faults(void)
+{
+    enum { LINK = 4, HARD = 8, SKIP = 64, DRAIN = 2, ANY = 0, UNKNOWN = 99 };
+    static const struct {
+        uint8_t code, fault, timeout, told[2];
+        bool is_linked, by_manual;
+    } rows[] = {
+        {ANY, LINK, 0, {LINK | HARD, 0}, .is_linked = false},
+        {ANY, LINK | SKIP, 0, {LINK | HARD, SKIP}, .is_linked = false},
+        {ANY, LINK, SKIP, {LINK | HARD | SKIP, SKIP}, .is_linked = false},
+        {ANY, HARD | SKIP, SKIP, {HARD | SKIP, SKIP}, .is_linked = false},
+        {UNKNOWN, HARD | SKIP, 0, {HARD, 0}, .is_linked = false},
+        {UNKNOWN, HARD, SKIP, {HARD | SKIP, SKIP}, .is_linked = false},
+        {ANY, HARD | SKIP, 0, {HARD | SKIP, 0}, .is_linked = true},
+        {ANY, HARD | SKIP, LINK, {HARD | SKIP, LINK}, .is_linked = false},
+        {ANY, HARD | SKIP | DRAIN, 0, {HARD | SKIP | DRAIN, 0}, .is_linked = false},
+        {ANY, HARD | SKIP, DRAIN, {HARD | SKIP, DRAIN}, .is_linked = false},
+        {ANY, LINK | SKIP, 0, {LINK | SKIP, 0}, .is_linked = false, .by_manual = true},
+    };
+    for (size_t i = 0; i < sizeof rows / sizeof *rows; i++) {
+        uint8_t told[2];
+        tell_two(rows[i].code, rows[i].is_linked, rows[i].fault, rows[i].timeout, !rows[i].by_manual, told);
+        demand(told[0] == rows[i].told[0] && told[1] == rows[i].told[1], "a linked timeout after a fault");
+    }
 }
 
 static void copy_pieces(void)
@@ -187,6 +224,7 @@ static void copy_pieces(void)
     demand(NEXT(0, .opcode = OPENAT2, .addr = 1, .off = 2, .len = 32) == 1 && piece.what == WULGACH_HOW_REST && piece.from == 2 && piece.size == 32, "what is newer in how a file is opened");
     demand(NEXT(1, .opcode = OPENAT2, .addr = 1, .off = 2, .len = 32) == 1 && piece.what == WULGACH_HOW && piece.from == 2 && piece.size == 24, "what is known of that");
     demand(NEXT(2, .opcode = OPENAT2, .addr = 1, .off = 2, .len = 32) == 1 && piece.what == WULGACH_PATH && piece.from == 1, "its path comes behind that");
+    demand(NEXT(1, .opcode = OPENAT2, .len = 24, .flags = 1, .buf_index = 1) == 1 && NEXT(2, .opcode = OPENAT2, .len = 24, .flags = 1) == -9 && NEXT(2, .opcode = OPENAT2, .len = 24, .flags = 1, .buf_index = 1) == -22, "a slot and a buffer come after its structure");
     demand(NEXT(0, .opcode = OPENAT2, .len = 4097) == 1 && wulgach_how_fault(false) == -7 && wulgach_how_fault(true) == 0, "a longer structure");
     demand(wulgach_time_fault(0, 0) == 0 && wulgach_time_fault(-1, 5) == -22 && wulgach_time_fault(5, -1) == -22, "a time");
     struct wulgach_submission selects = {.opcode = RECVMSG, .flags = 32};
@@ -314,6 +352,7 @@ int main(void)
     find_in_turn();
     search_and_update();
     copy_pieces();
+    skip_after_faults();
     look_at_names();
     look_at_messages();
     printf("taking: as called for\n");

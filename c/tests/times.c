@@ -1,20 +1,12 @@
 /* The time of a ring and its timeouts: each call once, with what the manual page and the header call for, written by hand. */
+#include "demand.h"
 #include "wulgach_course.h"
 #include "wulgach_form.h"
 #include "wulgach_times.h"
 
 #include <stdio.h>
-#include <stdlib.h>
 
 enum { ROOM = 3, SECOND = 1000000000 };
-
-static void demand(bool holds, const char *what)
-{
-    if (!holds) {
-        printf("FAILED: %s\n", what);
-        exit(1);
-    }
-}
 
 static struct wulgach_times times;
 static struct wulgach_timeout rows[ROOM];

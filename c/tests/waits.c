@@ -1,4 +1,5 @@
 /* What an operation needs, whether it has to wait, and what becomes of a try: with what the manual pages call for, written by hand. */
+#include "demand.h"
 #include "wulgach_lookout.h"
 #include "wulgach_tries.h"
 #include "wulgach_waits.h"
@@ -6,14 +7,6 @@
 #include <errno.h>
 #include <stdio.h>
 #include <stdlib.h>
-
-static void demand(bool holds, const char *what)
-{
-    if (!holds) {
-        printf("FAILED: %s\n", what);
-        exit(1);
-    }
-}
 
 enum { NOP, READV, WRITEV, FSYNC, READ_FIXED, WRITE_FIXED, POLL_ADD, TIMEOUT = 11, ACCEPT = 13, CONNECT = 16, CLOSE = 19, FILES_UPDATE, READ = 22, WRITE, SEND = 26, RECV, SPLICE = 30, TEE = 33, SEND_ZC = 47 };
 
@@ -110,8 +103,18 @@ static void look_at_descriptors(void)
     struct wulgach_nature none = {0}, file = {.is_open = true, .is_file = true, .has_offsets = true, .can_read = true}, pipe = {.is_open = true, .can_read = true}, tty = {.is_open = true, .is_device = true, .has_offsets = true, .can_write = true}, socket = {.is_open = true, .is_socket = true, .can_read = true, .can_write = true};
     demand(kind(READ, 0, plain, file) == WULGACH_KIND_TRIED && kind(READ, 0, tried, file) == WULGACH_KIND_NEVER && kind(READ, 0, known, pipe) == WULGACH_KIND_AT_ONCE, "a file");
     demand(kind(READ, UINT64_MAX, known, file) == WULGACH_KIND_NEVER && kind(READ, 0, asked, file) == WULGACH_KIND_NEVER && kind(READ, 0, empty, file) == WULGACH_KIND_NEVER && kind(WRITE, 0, known, file) == WULGACH_KIND_TRIED, "what is asked before");
+    struct wulgach_trial memory = {.length = 8, .was_in_memory = true}, alone = {.length = 8, .was_in_memory = true, .has_no_devices = true}, again = {.length = 8, .was_tried = true, .was_in_memory = true, .has_no_devices = true}, unknown = {.length = 8, .has_no_devices = true};
+    demand(kind(READ, 0, alone, pipe) == WULGACH_KIND_TRIED && kind(READ, 0, memory, pipe) == WULGACH_KIND_STREAM && kind(READ, 0, again, pipe) == WULGACH_KIND_STREAM && kind(READ, 0, unknown, pipe) == WULGACH_KIND_STREAM && kind(READ, UINT64_MAX, alone, pipe) == WULGACH_KIND_STREAM && kind(WRITE, 0, alone, socket) == WULGACH_KIND_STREAM, "what was in memory");
     demand(kind(READ, 0, plain, pipe) == WULGACH_KIND_STREAM && kind(WRITE, 0, plain, pipe) == WULGACH_KIND_WRONG && kind(WRITE, 0, plain, tty) == WULGACH_KIND_STREAM && kind(READ, 0, plain, none) == WULGACH_KIND_NEVER, "streams");
     demand(kind(RECV, 0, plain, socket) == WULGACH_KIND_STREAM && kind(RECV, 0, plain, pipe) == WULGACH_KIND_NEVER && kind(POLL_ADD, 0, plain, none) == WULGACH_KIND_STREAM && kind(FSYNC, 0, plain, pipe) == WULGACH_KIND_NEVER, "others");
+    demand(wulgach_remembered_after_call(WULGACH_REMEMBERED_IN_MEMORY, -29) == WULGACH_REMEMBERED_NOTHING && wulgach_remembered_after_call(WULGACH_REMEMBERED_IN_MEMORY, -22) == WULGACH_REMEMBERED_IN_MEMORY && wulgach_remembered_after_call(WULGACH_REMEMBERED_SLOW, 8) == WULGACH_REMEMBERED_SLOW && wulgach_remembered_after_call(WULGACH_REMEMBERED_FILE, -29) == WULGACH_REMEMBERED_NOTHING, "what has no offsets is no file");
+    struct wulgach_nature on_disk = {0}, queue = {0}, in_memory = {0}, gone = {.is_open = true};
+    wulgach_note_status(&on_disk, false, true, false, 0100644);
+    wulgach_note_status(&queue, false, true, true, 0100600);
+    wulgach_note_status(&in_memory, true, true, false, 0);
+    wulgach_note_status(&gone, false, false, false, 0);
+    demand(on_disk.is_open && on_disk.is_file && !on_disk.is_device && on_disk.has_type && queue.is_open && !queue.is_file && queue.is_device && queue.has_type && in_memory.is_file && !gone.is_open && !gone.has_type, "what a file is");
+    demand(wulgach_asks_polling(0100600, 0) && !wulgach_asks_polling(0100600, 8) && !wulgach_asks_polling(0040755, 0) && !wulgach_asks_polling(0010600, 0), "which is asked whether it can be polled");
     struct wulgach_submission entry = {.opcode = READ};
     struct wulgach_known nothing = {0}, status = {.status = true, .nature = pipe}, offsets = {.status = true, .offsets = true, .nature = pipe};
     struct wulgach_submission selecting = {.opcode = READ, .flags = 32}, receive = {.opcode = RECV, .flags = 32}, fixed = {.opcode = 4};
@@ -238,6 +241,9 @@ static void call(void)
     demand(turn(ACCEPT, 0, fresh, 0, 0) == 1000 + WULGACH_TURN_POLLS && turn(ACCEPT, 0, fresh, WULGACH_TURN_POLLS, 1) == 1000 + WULGACH_TURN_CALLS && turn(ACCEPT, 0, fresh, WULGACH_TURN_POLLS, 0) == 1000 + WULGACH_TURN_ASKS_WILL, "an accept");
     demand(turn(ACCEPT, 0, (struct wulgach_call){.is_stream = true, .is_impatient = true}, 0, 0) == 1000 + WULGACH_TURN_CALLS, "one that doesn't wait");
     demand(turn(ACCEPT, 0, fresh, WULGACH_TURN_ASKS_WILL, 1) == -11 && turn(ACCEPT, 0, fresh, WULGACH_TURN_ASKS_WILL, 0) == 1000 + WULGACH_TURN_WAITS && turn(ACCEPT, 0, fresh, WULGACH_TURN_CALLS, 0) == 0, "what its socket says");
+    struct wulgach_submission accepts_on = {.opcode = ACCEPT, .ioprio = 1};
+    int32_t end = 777;
+    demand(wulgach_call_next(&accepts_on, &fresh, WULGACH_TURN_ASKS_WILL, 1, &end) == WULGACH_TURN_WAITS && end == 777, "one that goes on");
     demand(turn(CONNECT, 0, fresh, 0, 0) == 1000 + WULGACH_TURN_CALLS && turn(CONNECT, 0, fresh, WULGACH_TURN_CALLS, -115) == 1000 + WULGACH_TURN_WAITS && turn(CONNECT, 0, begun, 0, 0) == 1000 + WULGACH_TURN_POLLS && turn(CONNECT, 0, begun, WULGACH_TURN_POLLS, 1) == 1000 + WULGACH_TURN_ASKS_ERROR && turn(CONNECT, 0, begun, WULGACH_TURN_ASKS_ERROR, -111) == -111 && turn(CONNECT, 0, begun, WULGACH_TURN_ASKS_ERROR, 0) == 1000 + WULGACH_TURN_CALLS && turn(CONNECT, 0, begun, WULGACH_TURN_CALLS, -106) == 0 && turn(CONNECT, 0, fresh, WULGACH_TURN_CALLS, -106) == -106 && turn(CONNECT, 0, fresh, WULGACH_TURN_CALLS, -11) == 1000 + WULGACH_TURN_ASKS_WILL && turn(CONNECT, 0, fresh, WULGACH_TURN_ASKS_WILL, 1) == -11 && turn(CONNECT, 0, begun, WULGACH_TURN_CALLS, -114) == 1000 + WULGACH_TURN_WAITS, "a connect");
     struct wulgach_call repeated = {.is_stream = true, .was_repeated = true};
     demand(wulgach_counts_as_begun(1) && !wulgach_counts_as_begun(0), "what has begun");
@@ -275,6 +281,7 @@ static void seek(void)
 {
     const uint32_t file = 1u << WULGACH_NEEDS_FILE, second = 1u << WULGACH_NEEDS_SECOND, is_open = 1u << WULGACH_NEEDS_OPEN, buffer = 1u << WULGACH_NEEDS_BUFFER, polling = 1u << WULGACH_NEEDS_POLLING, kind = 1u << WULGACH_NEEDS_KIND;
     demand(NEEDS(.opcode = NOP).sought == 0 && NEEDS(.opcode = 11).sought == 0 && NEEDS(.opcode = READ).sought == (file | kind) && NEEDS(.opcode = FSYNC).sought == (file | kind), "a file");
+    demand(NEEDS(.opcode = 55, .off = 1ull << 63).sought == (file | is_open | kind) && NEEDS(.opcode = 55, .off = (1ull << 63) - 1).sought == (file | kind), "a cut to a negative length");
     demand(NEEDS(.opcode = SPLICE).sought == (file | second | kind) && NEEDS(.opcode = 4).sought == (file | buffer | kind) && NEEDS(.opcode = 6).sought == (file | is_open | kind) && NEEDS(.opcode = 49).sought == (file | is_open | polling | kind), "what else is looked for");
     demand(file < second && second < is_open && is_open < buffer && buffer < polling && polling < kind, "its order");
 }
@@ -307,6 +314,7 @@ static void poll_one(void)
     demand(wulgach_asks_instance(&urgent) && !wulgach_asks_instance(&readable) && wulgach_asks_instance(&edges), "an instance is asked");
     struct wulgach_poll_start start;
     demand(wulgach_instance_events(0x203b) == 0x8000203b, "it tells of edges");
+    demand(wulgach_counts_as_polled(0) && !wulgach_counts_as_polled(-EPERM) && !wulgach_counts_as_polled(-EMFILE), "a file that can be polled");
     demand(wulgach_polling_fault(0) == 0 && wulgach_polling_fault(-EPERM) == -EBADFD && wulgach_polling_fault(-EMFILE) == -EMFILE, "a read that goes on");
     wulgach_poll_starts(0x203b, true, 0, &start);
     demand(start.fault == 0 && start.goes_on, "one that goes on");

@@ -12,10 +12,12 @@ import time
 from crashing.images import all_images, image_of, losses, pieces, unsettled
 from crashing.labels import Chosen
 from crashing.pictures import NAMES, draw
+from crashing.remarks import Remarks
 from crashing.rooms import Room
 from crashing.runs import PRELOADED, Run
 from crashing.volumes import LIBRARY
 from crashing.workers import answers
+from exploring.ending import adopt, children, end_adopted
 from exploring.runs import list_of, priorities, stop
 from exploring.serving import ROOM
 
@@ -105,6 +107,7 @@ crasher = shared = None
 
 def begin_worker(options):
     global crasher
+    adopt()
     crasher = Crasher(options)
 
 
@@ -117,7 +120,7 @@ def work(task):
         found, passed = crasher.crash_all(run)
     else:
         found, passed = crasher.crash(run, specs or plan(run, count, seed)), 0
-    return found, crasher.crashes - before[0], len(crasher.known) - before[1], run.remarks if policy else [], passed
+    return found, crasher.crashes - before[0], len(crasher.known) - before[1], (policy, run.status, run.remarks), passed
 
 
 def tasks(options, run):
@@ -143,10 +146,13 @@ def policy_of(options, seed, choices):
 def crash(options, program):
     """The command: all that it makes lies in one folder, which is removed at its end."""
     split_words(options)
-    options.place = tempfile.mkdtemp(prefix="wulgach-crash-", dir=ROOM)
+    options.place, others = tempfile.mkdtemp(prefix="wulgach-crash-", dir=ROOM), children()
+    adopt()
     try:
         return crash_in_place(options)
     finally:
+        # (what workers ran that were ended)
+        end_adopted(others)
         shutil.rmtree(options.place, ignore_errors=True)
 
 
@@ -157,11 +163,10 @@ def crash_in_place(options):
     look_at(options, run)
     if options.at is not None:
         return show(options, run, options.at, Chosen("lose", options.lose))
-    failures, crashes, images, passed = [], 0, 0, 0
-    for remark in ([f"the run in order ends with status {run.status}"] if run.status != 0 else []) + run.remarks:
-        print(f"explore: {remark}", file=sys.stderr)
+    failures, crashes, images, passed, remarks = [], 0, 0, 0, Remarks(run)
     with contextlib.closing(answers(tasks(options, run), options.jobs, lambda: begin_worker(options), work)) as answered:
-        for found, count, different, remarks, left in answered:
+        for found, count, different, ended, left in answered:
+            remarks.add(*ended)
             crashes, images, passed = crashes + count, images + different, passed + left
             failures += found
             if failures and not options.keep_going:
@@ -169,9 +174,9 @@ def crash_in_place(options):
             if options.time and time.monotonic() - begun > options.time:
                 break
     seconds = time.monotonic() - begun
-    print(f"{crashes} crashes, {images} checked: {len(failures)} fail; {crashes / seconds:.0f} a second{f'; {passed} moments have more than {options.most} images' if passed else ''}", flush=True)
+    print(f"{crashes} crashes, {images} checked: {len(failures)} fail; {crashes / seconds:.0f} a second{f'; {passed} moments have more than {options.most} images' if passed else ''}{remarks.unlike()}", flush=True)
     if not failures:
-        return 0
+        return 1 if remarks.others else 0
     return tell(options, failures[0]) if not options.keep_going else 1
 
 

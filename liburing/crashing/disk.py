@@ -7,7 +7,7 @@ import errno
 import os
 import stat
 
-from crashing.events import COPY, CREATE, IS_OF_RANGE, LENGTH, LINK, MAKE_FOLDER, MAKE_LINK, MAPPED, OF_NAMES, REMOVE, RENAME, SPACE, SYNC, SYNC_ALL, SYNCS_ITS_RANGE, WRITE
+from crashing.events import COPY, CREATE, IS_OF_DATA, IS_OF_RANGE, LENGTH, LINK, MAKE_FOLDER, MAKE_LINK, MAPPED, OF_NAMES, REMOVE, RENAME, SPACE, SYNC, SYNC_ALL, SYNCS_ITS_RANGE, WRITE
 from crashing.labels import Bytes, Parts
 
 # Modes of fallocate, and a flag of renameat2.
@@ -151,9 +151,19 @@ class Disk:
             if self.files[number].kind == "folder":
                 self.name_syncs.append(Sync(operation, operation.begin, operation.end, not operation.fails(), covers=lambda naming: number in naming.folders))
             elif self.is_ordered:
-                self.name_syncs.append(Sync(operation, operation.begin, operation.end, not operation.fails(), covers=lambda naming: number in naming.files))
+                grown = self.grown_at(self.files[number], operation)
+                self.name_syncs.append(Sync(operation, operation.begin, operation.end, not operation.fails(), covers=lambda naming: number in naming.files and is_met(operation, naming, grown)))
         else:
             self.begin_change(operation)
+
+    def grown_at(self, file, sync):
+        """Where the last change began that made a file longer or shorter, of those that have ended before a sync; -1: there is none."""
+        length, found = file.length, -1
+        for change in file.changes:
+            before, length = length, change.lengthen(length)
+            if length != before and change.end is not None and change.end < sync.begin:
+                found = change.begin
+        return found
 
     def begin_sync(self, number, operation, range):
         file = self.files[number]
@@ -281,7 +291,7 @@ class Disk:
             for effect in effects:
                 self.name(operation, [effect], moved)
         else:
-            self.name(operation, effects, moved, replaced)
+            self.name(operation, effects, moved, None if operation.flags & EXCHANGE else replaced)
 
     def current(self, folder, name):
         """The file that has a name, as the program sees it."""
@@ -299,6 +309,11 @@ class Disk:
 
     def short(self, file):
         return os.path.relpath(file.path, self.folder) if file.path.startswith(self.folder) else file.path or "a file without a name"
+
+
+def is_met(sync, naming, grown):
+    """Whether a sync of a file reaches an operation on its names, where names are ordered (ext4's journal): one of the data only its creation, and what came before the file's length last changed (i_datasync_tid)."""
+    return not sync.flags & IS_OF_DATA or naming.operation.kind == CREATE or (naming.end is not None and naming.end < grown)
 
 
 def is_open(sync, now):

@@ -1,10 +1,10 @@
-"""The log of a run's files, as layer/log.h has it: its events, and the operations that begin and end in them."""
+"""The log of a run's files, as layer/traces/log.h has it: its events, and the operations that begin and end in them."""
 
 import struct
 
 HEAD = struct.Struct("<IHHIIQQQqQqHHI")
 WRITE, COPY, SYNC, SYNC_ALL, LENGTH, SPACE, CREATE, MAKE_FOLDER, MAKE_LINK, LINK, RENAME, REMOVE, END, CARRY, PRINT, MAPPED = range(1, 17)
-SYNCS_ITS_RANGE, IS_OF_RANGE = 1, 2
+SYNCS_ITS_RANGE, IS_OF_RANGE, IS_OF_DATA = 1, 2, 4
 OF_NAMES = {CREATE, MAKE_FOLDER, MAKE_LINK, LINK, RENAME, REMOVE}
 
 
@@ -52,7 +52,7 @@ class Log:
         self.events, self.is_cut = read_events(data)
         self.count = len(self.events)
         self.operations, self.printed = [], []
-        self.open, self.of_rings, self.carried, self.compared = {}, {}, {}, {}
+        self.open, self.of_rings, self.carried, self.compared, self.mapped = {}, {}, {}, {}, {}
         for at, event in enumerate(self.events):
             self.take(at, event)
         # (a mapped write began where its file was last compared)
@@ -64,8 +64,7 @@ class Log:
         thread = (event.process, event.thread)
         carried = self.carried.get(thread)
         if carried is not None and not (event.kind == END and event.operation):
-            if event.kind == WRITE:
-                carried.actual = (event.offset, event.bytes)
+            self.carry(at, event, thread, carried)
             return
         if event.kind == END:
             self.end(at, event, thread)
@@ -76,22 +75,36 @@ class Log:
         else:
             self.begin(at, event, thread)
 
+    def carry(self, at, event, thread, carried):
+        """What a thread does for a ring's operation is part of that; but what is found in mapped memory meanwhile was written by the program."""
+        if event.kind == WRITE:
+            carried.actual = (event.offset, event.bytes)
+        elif event.kind == MAPPED:
+            self.begin(at, event, thread)
+        elif event.kind in (SYNC, SYNC_ALL):
+            self.compared[event.process, 0] = at
+
     def begin(self, at, event, thread):
         operation = Operation(event, at)
+        if event.kind == MAPPED and not event.length:
+            self.compared[event.process, event.file] = at
+            self.mapped.setdefault(event.file, at)
+            return
         self.operations.append(operation)
         if event.kind == MAPPED:
-            operation.begin, operation.end, operation.result = self.compared_at(event.file, at), at, event.length
+            operation.begin, operation.end, operation.result = self.compared_at(event, at), at, event.length
             return
-        if event.kind in (SYNC, SYNC_ALL):
-            self.compared[event.file] = at
+        if event.kind in (SYNC, SYNC_ALL) and not event.operation:
+            self.compared[event.process, 0] = at
         if event.operation:
             self.of_rings[event.process, event.operation] = operation
         else:
             self.open.setdefault(thread, []).append(operation)
 
-    def compared_at(self, file, at):
-        """Where a file was last compared with what was mapped of it, by a sync of it or of all (0): where such a sync began or ended."""
-        return max((self.compared[it] for it in (file, 0) if it in self.compared), default=at)
+    def compared_at(self, event, at):
+        """Where a process has last compared a file with what is mapped of it: where it mapped it, or where a sync by a call of its own (0) began or ended. A child may have neither: its parent had mapped it."""
+        keys = (event.process, event.file), (event.process, 0)
+        return max((self.compared[it] for it in keys if it in self.compared), default=self.mapped.get(event.file, at))
 
     def end(self, at, event, thread):
         if event.operation:
@@ -102,7 +115,7 @@ class Log:
         if operation is None:
             return
         operation.end, operation.result, operation.made = at, event.result, event.file
-        if operation.kind in (SYNC, SYNC_ALL):
-            self.compared[operation.file] = at
+        if operation.kind in (SYNC, SYNC_ALL) and not event.operation:
+            self.compared[event.process, 0] = at
         if operation.kind == COPY:
             operation.bytes = event.bytes

@@ -3,7 +3,7 @@
 import itertools
 
 from crashing.disk import Sync, is_open
-from crashing.labels import Bytes, Chosen, Parts
+from crashing.labels import Bytes, Chosen, Parts, hides, merged
 
 
 class Image:
@@ -13,7 +13,7 @@ class Image:
         self.tree, self.links, self.shown, self.left = {}, {}, {}, []
 
     def key(self):
-        return hash(tuple(sorted((path, it if it is None else it[:2]) for path, it in self.tree.items())))
+        return hash((tuple(sorted((path, it if it is None else it[:2]) for path, it in self.tree.items())), tuple(sorted(self.links.items()))))
 
 
 def image_of(disk, chosen):
@@ -29,13 +29,15 @@ def assemble(disk, groups, contents_of):
         naming.apply(names)
     synced = flushed(disk, image.left)
 
-    def put(number, path):
+    def put(number, path, above=()):
         file = disk.files[number]
         if file.kind == "folder":
             if path:
                 image.tree[path] = None
             for name, inside in sorted(names.get(number, {}).items()):
-                put(inside, f"{path}/{name}" if path else name)
+                # (with `apart` a folder may have two names, one of them in itself: that one isn't there)
+                if inside != number and inside not in above:
+                    put(inside, f"{path}/{name}" if path else name, (*above, number))
         elif file.kind == "link":
             image.tree[path] = ("link", bytes(file.contents))
         elif number in made:
@@ -60,10 +62,10 @@ def flushed(disk, left):
 
 
 class Synced:
-    """A file as the volumes read it, with other syncs, or without some changes."""
+    """A file as the volumes read it, with other syncs, without some changes, and without the length of these truncations."""
 
-    def __init__(self, changes, syncs):
-        self.changes, self.syncs = changes, syncs
+    def __init__(self, changes, syncs, cuts=()):
+        self.changes, self.syncs, self.cuts = changes, syncs, cuts
 
 
 def crash_file(disk, file, syncs, chosen):
@@ -84,12 +86,8 @@ def with_length(disk, file, syncs, left):
         grows = disk.is_ordered and not change.is_exact and change.length is not None and change.length > file.length
         if (grows or (change.is_exact and not disk.is_apart)) and change.last > change.first and not is_open(change, disk.now):
             kept.append(Sync(change.operation, change.end + 0.25, change.end + 0.5, True, (change.first, change.last)))
-    changes = [it for it in file.changes if it not in lost and not any(is_behind(it, cut) for cut in lost)]
-    return Synced(changes, kept)
-
-
-def is_behind(change, cut):
-    return cut.end is not None and cut.end < change.begin and change.last > cut.length
+    changes = [it for it in file.changes if not any(hides(cut, it, it.first - it.first % disk.unit + disk.unit) for cut in lost)]
+    return Synced(changes, kept, lost)
 
 
 def tears_of(file, unit, chosen):
@@ -159,7 +157,7 @@ def ways_of(disk, file, syncs, most):
     """Each way in which a file may be left."""
     kept = {}
     for left in Parts(Synced(file.changes, syncs), disk.now).images(most) or [None]:
-        cells = left is not None and Bytes(with_length(disk, file, syncs, left), disk.now, disk.unit, every_unit(file, disk.unit)).images(most)
+        cells = left is not None and every_cell(with_length(disk, file, syncs, left), disk, most)
         if not cells:
             return None
         for shown in cells:
@@ -170,12 +168,16 @@ def ways_of(disk, file, syncs, most):
     return list(kept.values())
 
 
-def every_unit(file, unit):
-    """All places where a unit begins that a change touches; of a long write so many that there are too many images anyway."""
-    found = []
-    for change in file.changes:
-        found += list(range(change.first - change.first % unit, min(change.last, change.first + 64 * unit), unit))
-    return found
+def every_cell(synced, disk, most):
+    """All that may be left of a file's bytes; None if that is more than so many. A run of units that the same changes touch is cut into these, if it may be left in several ways: each doubles the images at least."""
+    runs, units = Bytes(synced, disk.now, disk.unit).images(most), []
+    for ways in zip(*runs or []):
+        first, last, _ = ways[0]
+        if len(set(ways)) > 1 and last - first > disk.unit:
+            units += range(first, last, disk.unit)
+    if runs is None or len(units) >= most.bit_length():
+        return None
+    return Bytes(synced, disk.now, disk.unit, units).images(most)
 
 
 def losses(disk, image, whole):
@@ -188,12 +190,17 @@ def losses(disk, image, whole):
         if number not in image.shown:
             continue
         file, (cells, length, _), (shown, shorter, _) = disk.files[number], whole.shown[number], image.shown[number]
-        name = disk.short(file)
-        for change, ranges in lost_ranges(cells, shown).items():
+        name, lost = disk.short(file), lost_ranges(cells, shown)
+        for change, ranges in lost.items():
             found.append(f"{told_ranges(ranges)} of {name} are lost: {why_lost(disk, change, file.all_syncs, name)}")
-        if length != shorter and not any(name in it for it in found):
+        if length != shorter and not are_lost(lost, shorter, length):
             found.append(f"the length of {name} is {shorter} and not {length}")
     return found
+
+
+def are_lost(lost, first, last):
+    """Whether what is lost of changes says already that a file is shorter."""
+    return any(one <= first < last <= other for one, other in merged([it for ranges in lost.values() for it in ranges]))
 
 
 def pieces(image, whole):

@@ -35,12 +35,12 @@ class Chosen:
             return self.some(numbers)
         return [number for number, change in numbers if change.operation.number not in self.short]
 
-    def parts(self, cells, numbers):
-        """Those of a file's cells, each of the changes that touch it. A seed leaves the same of each, or, torn, of each something else."""
+    def parts(self, cells, numbers, is_hidden):
+        """Those of a file's cells, each of the changes that touch it and aren't hidden there. A seed leaves the same of each, or, torn, of each something else."""
         choice, same = array.array("Q"), self.some(numbers) if self.kind == "seed" else []
         places = {number: at for at, number in enumerate(same)}
         for first, last, _ in cells:
-            own = [(number, change) for number, change in numbers if change.first < last and first < change.last]
+            own = [(number, change) for number, change in numbers if change.first < last and first < change.last and not is_hidden(change, last)]
             if self.kind != "seed":
                 part = [number for number, change in own if not self.loses(change.operation.number, first, last)]
             elif self.is_torn:
@@ -161,8 +161,8 @@ class Bytes(History):
     """A file's bytes. `tears` are places at which a run of units is cut, so that what is on both sides is chosen apart."""
 
     def __init__(self, file, now, unit, tears=()):
-        self.changes = [it for it in file.changes if it.last > it.first]
-        self.lay_out(unit, tears)
+        self.changes, self.cuts = [it for it in file.changes if it.last > it.first], getattr(file, "cuts", ())
+        self.lay_out(unit, [*tears, *(place for cut in self.cuts for place in (cut.length, cut.length + unit - 1))])
         self.width = 2 if len(self.changes) < 1 << 16 else 4
         self.labels = {change: at + 1 for at, change in enumerate(self.changes)}
         self.play(Volume(self.slots * self.width, bytes(len(self.cells) * self.slots * self.width)), self.changes, file.syncs, now)
@@ -231,7 +231,11 @@ class Bytes(History):
     def choice(self, chosen):
         if chosen.kind == "least":
             return array.array("Q")
-        return array.array("Q", [0]) + chosen.parts(self.cells, self.numbers)
+        return array.array("Q", [0]) + chosen.parts(self.cells, self.numbers, self.is_hidden)
+
+    def is_hidden(self, change, last):
+        """Whether nothing of a change is left of units up to a place, since a truncation isn't."""
+        return any(hides(cut, change, last) for cut in self.cuts)
 
     def crash(self, chosen):
         """Which change shows where: ranges, each with its change or None."""
@@ -249,7 +253,16 @@ class Bytes(History):
 
     def images(self, most):
         found = self.volume.images(most)
-        return None if found is None else [self.read(it) for it in found]
+        return None if found is None else [cells for cells in map(self.read, found) if not self.shows_hidden(cells)]
+
+    def shows_hidden(self, cells):
+        lasts = (last for _, last, inner in self.cells for _ in range(len(inner) + 1))
+        return bool(self.cuts) and any(change and self.is_hidden(change, last) for (_, _, change), last in zip(cells, lasts))
+
+
+def hides(cut, change, last):
+    """Whether nothing of a change is left of units up to a place where a truncation's length isn't: of the truncation's zeros, and of what was written once it had ended, if they have bytes behind its place."""
+    return last > cut.length and (change is cut or (cut.end is not None and cut.end < change.begin))
 
 
 def merged(ranges):

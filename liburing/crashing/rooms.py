@@ -2,25 +2,23 @@
 
 import os
 import shutil
-import subprocess
 import tempfile
 
+from crashing.runs import run_and_end
+
 BLOCK = 4096
-# A file up to this size is read anyway: memory that is shared with a file may change it without a sign.
-SMALL = 1 << 22
-# The time that a file has which we have written: whoever writes to it later leaves another.
+# The time that each file has.
 OURS = 10**18
 
 
 class Room:
-    """What changed is written, and no more: of a file that nobody has touched since, the blocks that differ."""
+    """What differs is written, and no more. What a check has left is read: memory that is shared with a file changes it without a sign."""
 
     def __init__(self, check, seconds, place):
         self.check, self.seconds = check, seconds
         self.place = tempfile.mkdtemp(prefix="room-", dir=place)
         self.folder = f"{self.place}/image"
         os.mkdir(self.folder)
-        self.known = {}
 
     def close(self):
         shutil.rmtree(self.place, ignore_errors=True)
@@ -52,24 +50,19 @@ class Room:
                     self.drop(whole)
 
     def drop(self, whole):
-        self.known.pop(whole, None)
         if os.path.isdir(whole) and not os.path.islink(whole):
             shutil.rmtree(whole)
         elif os.path.lexists(whole):
             os.unlink(whole)
 
     def bring_file(self, whole, contents, mode):
-        signature, before = self.known.get(whole, (None, None))
         descriptor = os.open(whole, os.O_RDWR | os.O_CREAT | os.O_NOFOLLOW, 0o600)
         try:
-            size = os.fstat(descriptor).st_size
-            if size <= SMALL or signature != signature_of(descriptor):
-                before = os.pread(descriptor, size, 0)
+            before = os.pread(descriptor, os.fstat(descriptor).st_size, 0)
             if before != contents:
                 write_what_differs(descriptor, before, contents)
             os.fchmod(descriptor, (mode & 0o7777) | 0o600)
             os.utime(descriptor, ns=(OURS, OURS))
-            self.known[whole] = (signature_of(descriptor), contents)
         finally:
             os.close(descriptor)
 
@@ -78,17 +71,10 @@ class Room:
         with open(f"{self.place}/printed", "wb") as file:
             file.write(printed)
         surroundings = {name: value for name, value in os.environ.items() if not name.startswith("WULGACH_") and name != "LD_PRELOAD"}
-        try:
-            with open(f"{self.place}/printed", "rb") as file:
-                done = subprocess.run(self.check, cwd=self.folder, env={**surroundings, "DISK": self.folder}, stdin=file, stdout=subprocess.PIPE, stderr=subprocess.STDOUT, timeout=self.seconds)
-        except subprocess.TimeoutExpired as late:
-            return "none: it took too long", late.stdout or b""
-        return done.returncode, done.stdout
-
-
-def signature_of(descriptor):
-    about = os.fstat(descriptor)
-    return about.st_ino, about.st_size, about.st_mtime_ns
+        with open(f"{self.place}/printed", "rb") as file, open(f"{self.place}/said", "w+b") as said:
+            status = run_and_end(self.check, self.seconds, cwd=self.folder, env={**surroundings, "DISK": self.folder}, stdin=file, stdout=said, stderr=said)
+            said.seek(0)
+            return status, said.read()
 
 
 def write_what_differs(descriptor, before, contents):

@@ -10,9 +10,38 @@ import tempfile
 
 from crashing.disk import Disk
 from crashing.events import Log
+from exploring.ending import children, end_adopted, run_to_end
+from exploring.runs import stop
 
 HERE = os.path.dirname(os.path.dirname(os.path.realpath(__file__)))
 PRELOADED = next((it for it in (f"{HERE}/out/uring-run.so", f"{HERE}/uring-run.so") if os.path.exists(it)), f"{HERE}/out/uring-run.so")
+
+
+def run_and_end(words, seconds, **how):
+    """The status of a program or a check, in words if it took too long. Nothing of it runs on: it would change the next one's files."""
+    others = children()
+    try:
+        status, is_late = run_to_end(words, seconds, **how)
+    except OSError as error:
+        stop(f"{words[0]}: {error.strerror}")
+    finally:
+        end_adopted(others)
+    return "none: it took too long" if is_late else status
+
+
+def copy_folder(there, folder):
+    """With its links: a file that has two names has them in the copy too."""
+    copies = {}
+
+    def copy_file(path, other):
+        about = os.lstat(path)
+        if (about.st_dev, about.st_ino) in copies:
+            os.link(copies[about.st_dev, about.st_ino], other)
+        else:
+            copies[about.st_dev, about.st_ino] = other
+            shutil.copy2(path, other)
+
+    shutil.copytree(there, folder, symlinks=True, copy_function=copy_file)
 
 
 class Run:
@@ -23,14 +52,14 @@ class Run:
         place = tempfile.mkdtemp(prefix="run-", dir=options.place)
         try:
             folder = os.path.realpath(f"{place}/disk")
-            shutil.copytree(options.disk, folder, symlinks=True) if options.disk else os.mkdir(folder)
+            copy_folder(options.disk, folder) if options.disk else os.mkdir(folder)
             self.disk = Disk(folder, options.names == "ordered", options.unit, options.apart)
             self.status, self.said = self.call(options, place, folder)
             with open(f"{place}/log", "rb") as file:
                 self.log = Log(file.read())
                 self.is_ended = not os.fstat(file.fileno()).st_mode & stat.S_IWUSR
             self.choices = self.read_choices(place)
-            self.remarks = self.compare()
+            self.remarks = self.compare() + self.compare_output(f"{place}/printed")
         finally:
             shutil.rmtree(place, ignore_errors=True)
 
@@ -41,10 +70,7 @@ class Run:
             own["WULGACH_SYNC_FAILS"] = str(options.fsync_fails)
         own["LD_PRELOAD"] = ":".join([PRELOADED, *filter(None, [os.environ.get("LD_PRELOAD")])])
         with open(f"{place}/printed", "wb") as printed, open(f"{place}/said", "wb") as said:
-            try:
-                status = subprocess.run(options.words, cwd=folder, env={**os.environ, **own}, stdin=subprocess.DEVNULL, stdout=printed, stderr=said, timeout=options.seconds).returncode
-            except subprocess.TimeoutExpired:
-                status = "none: it took too long"
+            status = run_and_end(options.words, options.seconds, cwd=folder, env={**os.environ, **own}, stdin=subprocess.DEVNULL, stdout=printed, stderr=said)
         with open(f"{place}/said", "rb") as said:
             return status, said.read()
 
@@ -90,6 +116,12 @@ class Run:
                 naming.apply(names)
         remarks += differences(disk, names, disk.root, disk.folder, "")
         return remarks
+
+
+    def compare_output(self, path):
+        """More was printed than the log has: nobody would look for what that acknowledges."""
+        is_seen = os.path.getsize(path) <= sum(len(data) for _, data in self.log.printed)
+        return [] if is_seen else ["the standard output was written to in a way that wasn't seen, so a check isn't given all that was acknowledged"]
 
 
 def ended(it):

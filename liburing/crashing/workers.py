@@ -6,6 +6,7 @@ from multiprocessing.connection import wait
 
 from exploring.runs import stop
 
+DIED = "a process that crashes and checks has died"
 FORK = multiprocessing.get_context("fork")
 
 
@@ -28,11 +29,11 @@ def serve(pipe, begin, work, others):
     # Else it would keep open what tells itself and the others that nobody asks any more.
     for it in others:
         it.close()
-    begin()
     try:
+        begin()
         while True:
             pipe.send(work(pipe.recv()))
-    except EOFError:
+    except (EOFError, KeyboardInterrupt):
         pass
 
 
@@ -61,11 +62,14 @@ def give(pipe, left, busy):
     if left:
         number, task = left.popleft()
         busy[pipe] = number
-        pipe.send(task)
+        try:
+            pipe.send(task)
+        except OSError:
+            stop(DIED)
 
 
 def take(pipe):
     try:
         return pipe.recv()
     except EOFError:
-        stop("a process that crashes and checks has died")
+        stop(DIED)

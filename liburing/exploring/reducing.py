@@ -1,6 +1,6 @@
 """Which things that could go on commute, and so which runs only repeat others.
 
-A way is a letter, a ring and a request's number, as `liburing/layer/outlook.h` tells it: `i` starts a request, `e` ends it unstarted, `f` finishes it, `b` starts and finishes it, and `r` returns to the application. Two ways commute if each can still go on behind the other, does the same there, and the application can't tell in which order they went. What isn't known to commute is taken not to.
+A way is a letter, a ring and a request's number, as `liburing/layer/choices/outlook.h` tells it: `i` starts a request, `e` ends it unstarted, `f` finishes it, `b` starts and finishes it, and `r` returns to the application. Two ways commute if each can still go on behind the other, does the same there, and the application can't tell in which order they went. What isn't known to commute is taken not to.
 """
 
 import collections

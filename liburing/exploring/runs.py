@@ -11,6 +11,7 @@ import threading
 import time
 import types
 
+from exploring.ending import run_to_end
 from exploring.reducing import Outlook
 from exploring.serving import ACCOUNT_SIZE, ROOM, Lost, Server
 
@@ -25,7 +26,7 @@ class Program:
         self.grain = "ends" if options.ends else "events"
         self.start, self.wanted = None, options.start
         self.folder, self.surroundings = None, {}
-        self.own, self.lock, self.hands = threading.local(), threading.Lock(), []
+        self.own, self.lock, self.hands, self.is_closed = threading.local(), threading.Lock(), [], False
         if self.is_fresh and self.words:
             # (the folder is another one then)
             self.words = [absolute(self.words[0]), *self.words[1:]]
@@ -66,6 +67,7 @@ class Program:
 
     def close(self):
         """Ends what its hands keep, which they else do when this process ends."""
+        self.is_closed = True
         for hand in self.hands:
             atexit.unregister(hand.close)
             hand.close()
@@ -146,12 +148,14 @@ class Hand:
             try:
                 told = list(self.server.run_all(asked))
             except Lost:
+                if self.program.is_closed:
+                    sys.exit(1)
                 stop(f"{self.program.words[0]}: the process that forks runs has ended (--start new begins each by a new process)")
         else:
             told = [self.run_new(variables) for variables in asked]
         runs = [Run(variables, *it) for variables, it in zip(asked, told)]
         if is_tracing or is_recorded:
-            self.read_records(runs)
+            self.read_records(runs, is_recorded)
         return runs
 
     def run_new(self, variables):
@@ -159,12 +163,12 @@ class Hand:
         with open(self.account, "r+b") as file:
             file.write(bytes(OF_RUN.size))
         place = tempfile.mkdtemp(dir=ROOM) if self.program.is_fresh else None
-        is_late, status = False, 0
+        surroundings = {**os.environ, **self.program.surroundings, **variables, "WULGACH_ACCOUNT": self.account}
         try:
-            done = subprocess.run(self.program.words, cwd=place or self.program.folder, env={**os.environ, **self.program.surroundings, **variables, "WULGACH_ACCOUNT": self.account}, stdin=subprocess.DEVNULL, stdout=subprocess.PIPE, stderr=subprocess.STDOUT, timeout=self.program.seconds)
-            status, output = done.returncode, done.stdout
-        except subprocess.TimeoutExpired as late:
-            is_late, output = True, late.stdout or b""
+            with tempfile.TemporaryFile(dir=ROOM) as printed:
+                status, is_late = run_to_end(self.program.words, self.program.seconds, cwd=place or self.program.folder, env=surroundings, stdin=subprocess.DEVNULL, stdout=printed, stderr=printed)
+                printed.seek(0)
+                output = printed.read()
         except OSError as error:
             stop(f"{self.program.words[0]}: {error.strerror}")
         finally:
@@ -173,7 +177,7 @@ class Hand:
         with open(self.account, "rb") as file:
             return [status, is_late, *OF_RUN.unpack(file.read(OF_RUN.size))], output
 
-    def read_records(self, runs):
+    def read_records(self, runs, is_recorded):
         """Gives each run its choices and traces, which lie in files that its number begins."""
         names = [name for name in os.listdir(self.room) if name != "account"]
         for name in sorted(names, key=lambda name: [int(it) for it in name.split("-")[1].split(".")[1:]]):
@@ -185,6 +189,9 @@ class Hand:
             elif os.path.getsize(path):
                 run.read_choices(path)
             os.unlink(path)
+        for run in runs:
+            if not run.fails() and is_recorded and len(run.choices) != run.choice_count:
+                stop(f"{run.policy}: of {run.choice_count} choices {len(run.choices)} could be recorded: is the disk of {self.room} full?")
 
 
 def read_rules(account):

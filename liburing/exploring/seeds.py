@@ -1,6 +1,7 @@
 """Runs under seeds, until one fails."""
 
 import json
+import shlex
 import sys
 
 from exploring.coverage import added, print_rules
@@ -60,6 +61,9 @@ def merged(options, program):
         with open(path) as file:
             parts.append(json.load(file))
     counted = {}
+    others = next((part["program"] for part in parts if part["program"] != parts[0]["program"]), None)
+    if others:
+        sys.exit(f"explore: the summaries are of different programs: {shlex.join(parts[0]['program'])}, and {shlex.join(others)}")
     for part in parts:
         for seed in range(part["first"], part["first"] + part["runs"]):
             if (part["policy"], seed) in counted:

@@ -1,4 +1,4 @@
-"""A program that is started once, and forks each of its runs: `liburing/layer/server.h` is the other side."""
+"""A program that is started once, and forks each of its runs: `liburing/layer/forks/server.h` is the other side."""
 
 import fcntl
 import os
@@ -9,7 +9,7 @@ import subprocess
 import tempfile
 
 # Where the folders of runs lie: where TMPDIR says, else in memory, if there is such a place.
-ROOM = os.environ.get("TMPDIR") or ("/dev/shm" if os.access("/dev/shm", os.W_OK) else None)
+ROOM = os.path.abspath(os.environ["TMPDIR"]) if os.environ.get("TMPDIR") else ("/dev/shm" if os.access("/dev/shm", os.W_OK) else None)
 # status, too late, rings, processes that chose, choices, order, bytes printed
 TOLD = struct.Struct("<iI5Q")
 ACCOUNT_SIZE = 4096

@@ -58,6 +58,9 @@ def shrink(options, program):
         if len(fewer) == len(items):
             break
         items = fewer
+    if not program.run(list_of(items)).fails():
+        print(f"{name} fails, and the list that is left passes when it is run again: the program doesn't do the same in each run")
+        return 2
     enough = f"{name} made {before} choices; {len(items)} {'is' if len(items) == 1 else 'are'} enough"
     print(f"{enough}:\n")
     return print_run(options, program, list_of(items), enough)

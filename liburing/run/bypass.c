@@ -90,7 +90,7 @@ uint32_t are_vectors_short __attribute__((visibility("hidden")));
     "5:\n\t"
 
 /* All signals are blocked as in the trap, and may come as it ends; but where the layer says that they needn't be. The program's stack stood 192 bytes above
- * the words. */
+ * the words, and 48 above them it was asked which one that is. */
 __attribute__((used)) long enter_bypassed(const long words[6])
 {
     int kept = errno;
@@ -100,7 +100,7 @@ __attribute__((used)) long enter_bypassed(const long words[6])
         sigemptyset(&before);
         set_mask(~OPEN_IN_TRAP, &before);
     }
-    const void *caller = wulgach_note_caller(is_on(&large_stack, (uintptr_t)words) ? NULL : (const void *)((uintptr_t)words + 192));
+    const void *caller = wulgach_note_caller(is_on(&large_stack, (uintptr_t)words + 48) ? NULL : (const void *)((uintptr_t)words + 192));
     long result = wulgach_blocked_enter(words, is_open ? NULL : &before);
     wulgach_note_caller(caller);
     if (!is_open)

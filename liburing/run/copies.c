@@ -1,8 +1,8 @@
 /* Calls that move bytes from one file to another: what they moved is read where it went, and stands at the event's end. */
 #define _GNU_SOURCE
 #include "files.h"
-#include "../layer/logging.h"
-#include "../layer/passing.h"
+#include "../layer/traces/logging.h"
+#include "../layer/process/passing.h"
 
 #include <sys/mman.h>
 #include <sys/syscall.h>

@@ -1,13 +1,13 @@
 /* Traps the calls that change files, and serves those that write and sync. A filter of seccomp of its own raises SIGSYS at them;
- * what the handler calls itself carries a mark (layer/passing.h) and passes.
+ * what the handler calls itself carries a mark (layer/process/passing.h) and passes.
  *
  * A sync isn't waited for: a run's disk doesn't lose power, only its log does. WULGACH_SYNC_FAILS=N: the Nth sync of a process
  * fails with EIO.
  */
 #define _GNU_SOURCE
 #include "files.h"
-#include "../layer/logging.h"
-#include "../layer/passing.h"
+#include "../layer/traces/logging.h"
+#include "../layer/process/passing.h"
 #include "run.h"
 
 #include <errno.h>
@@ -106,17 +106,17 @@ static bool fails_now(void)
     return word && *word && atomic_fetch_add(&count, 1) + 1 == atol(word);
 }
 
-/* A sync of a file. */
+/* A sync of a file; of none: memory is compared (layer/traces/logged.c). */
 static long call_sync(const struct file_call *call)
 {
     char path[PATH_ROOM];
     uint64_t file;
+    compare_maps();
     if (!wulgach_is_synced_number(call->is.fd) || !is_on_disk(call->is.fd, path, &file))
         return carry(call);
-    compare_maps(file);
-    struct event event = {.kind = EVENT_SYNC, .file = file};
+    struct event event = {.kind = EVENT_SYNC, .flags = call->number == SYS_fdatasync ? IS_OF_DATA : 0, .file = file};
     log_event(&event, path, NULL, NULL, 0);
-    compare_maps(file);
+    compare_maps();
     return end_operation(wulgach_seen_is_made((uint64_t)call->number) ? carry(call) : fails_now() ? -EIO : 0);
 }
 
@@ -130,10 +130,10 @@ static long call_sync_all(const struct file_call *call)
 {
     if (call->is.by_descriptor && !is_number_on_disk(call->is.fd))
         return carry(call);
-    compare_maps(0);
+    compare_maps();
     struct event event = {.kind = EVENT_SYNC_ALL};
     log_event(&event, NULL, NULL, NULL, 0);
-    compare_maps(0);
+    compare_maps();
     return end_operation(wulgach_seen_is_made((uint64_t)call->number) ? carry(call) : 0);
 }
 
@@ -156,7 +156,7 @@ static long call_on_length(const struct file_call *call)
 /* The process ends: what it wrote through memory is seen for the last time. */
 static long call_exit(const struct file_call *call)
 {
-    compare_maps(0);
+    compare_maps();
     return carry(call);
 }
 
@@ -211,8 +211,28 @@ bool trap_files(void)
         BPF_JUMP(BPF_JMP | BPF_JEQ | BPF_K, (uint32_t)PASSES, 0, 1),
         BPF_STMT(BPF_RET | BPF_K, SECCOMP_RET_ALLOW),
         BPF_STMT(BPF_LD | BPF_W | BPF_ABS, offsetof(struct seccomp_data, nr)),
+        /* A mask that may block SIGSYS, as the C library's where it starts a program or a thread of its own, which then write files. */
+        BPF_JUMP(BPF_JMP | BPF_JEQ | BPF_K, SYS_rt_sigprocmask, 0, 8),
+        BPF_STMT(BPF_LD | BPF_W | BPF_ABS, offsetof(struct seccomp_data, args[0])),
+        BPF_JUMP(BPF_JMP | BPF_JEQ | BPF_K, SIG_UNBLOCK, 5, 0),
+        BPF_STMT(BPF_LD | BPF_W | BPF_ABS, offsetof(struct seccomp_data, args[1])),
+        BPF_JUMP(BPF_JMP | BPF_JEQ | BPF_K, 0, 0, 2),
+        BPF_STMT(BPF_LD | BPF_W | BPF_ABS, offsetof(struct seccomp_data, args[1]) + 4),
+        BPF_JUMP(BPF_JMP | BPF_JEQ | BPF_K, 0, 1, 0),
+        BPF_STMT(BPF_RET | BPF_K, SECCOMP_RET_TRAP),
+        BPF_STMT(BPF_RET | BPF_K, SECCOMP_RET_ALLOW),
+        /* And an action of another signal, whose mask may. */
+        BPF_JUMP(BPF_JMP | BPF_JEQ | BPF_K, SYS_rt_sigaction, 0, 8),
+        BPF_STMT(BPF_LD | BPF_W | BPF_ABS, offsetof(struct seccomp_data, args[0])),
+        BPF_JUMP(BPF_JMP | BPF_JEQ | BPF_K, SIGSYS, 5, 0),
+        BPF_STMT(BPF_LD | BPF_W | BPF_ABS, offsetof(struct seccomp_data, args[1])),
+        BPF_JUMP(BPF_JMP | BPF_JEQ | BPF_K, 0, 0, 2),
+        BPF_STMT(BPF_LD | BPF_W | BPF_ABS, offsetof(struct seccomp_data, args[1]) + 4),
+        BPF_JUMP(BPF_JMP | BPF_JEQ | BPF_K, 0, 1, 0),
+        BPF_STMT(BPF_RET | BPF_K, SECCOMP_RET_TRAP),
+        BPF_STMT(BPF_RET | BPF_K, SECCOMP_RET_ALLOW),
     };
-    size_t count = 9;
+    size_t count = 27;
     for (uint32_t call = 0; call < ALL_CALLS; call++) {
         if (wulgach_seen_logged_call(call) == WULGACH_CALL_NOTHING)
             continue;

@@ -1,4 +1,4 @@
-/* The calls that change files, trapped where the run has a log (layer/log.h): each is put into it and carried out. Which call is logged as what, and what its
+/* The calls that change files, trapped where the run has a log (layer/traces/log.h): each is put into it and carried out. Which call is logged as what, and what its
  * arguments are, the library says. */
 #ifndef FILES_H
 #define FILES_H
@@ -43,8 +43,8 @@ bool read_memory(const void *from, void *to, size_t size);
 /* A descriptor of our own that reads a file, and stays open; negative if there is none. */
 int reader_of(uint64_t file, int fd);
 
-/* Puts into the log what has changed in the mapped memory of a file, or of any (0). */
-void compare_maps(ino_t file);
+/* Puts into the log what has changed of the files that are mapped. */
+void compare_maps(void);
 
 /* An event of a thread's operation is its end. */
 long end_operation(long result);

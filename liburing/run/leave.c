@@ -11,7 +11,7 @@
 #include <sys/syscall.h>
 
 /* What the kernel's headers call so. The C library's ucontext.h can't stand beside them. */
-enum { HAS_EXTENDED_STATE = 1, EXTENDED_STATE = 0x46505853, AT_MARK = 464, STEPS = 0x100 };
+enum { HAS_EXTENDED_STATE = 1, EXTENDED_STATE = 0x46505853, AT_MARK = 464, AT_PARTS = 472, STEPS = 0x100 };
 
 static const uint32_t AUTODISARM = 1u << 31;
 
@@ -35,7 +35,8 @@ static bool is_plain(const ucontext_t *at)
     return mark == EXTENDED_STATE && is_behind_call && !(registers[REG_EFL] & STEPS) && !((uint32_t)at->uc_stack.ss_flags & AUTODISARM) && !has_shadow_stack();
 }
 
-/* rcx has where the call returns to, as after any call. The last registers are taken from the frame with the stack in it, since signals
+/* Of the vectors those parts are restored that the frame has room for: a processor may read all that it is asked for, and the frame may be the last that the
+ * stack has. rcx has where the call returns to, as after any call. The last registers are taken from the frame with the stack in it, since signals
  * may come again: their frames lie below the stack, and so below what is still to be read. */
 _Static_assert(offsetof(ucontext_t, uc_mcontext.gregs) == 40, "the registers stand where they are read");
 _Static_assert(REG_RSI == REG_RDI + 1 && REG_RBP == REG_RDI + 2 && REG_RBX == REG_RDI + 3 && REG_RDX == REG_RDI + 4 && REG_RAX == REG_RDI + 5 && REG_RCX == REG_RDI + 6 && REG_RSP == REG_RDI + 7, "the last ones stand in this order");
@@ -43,6 +44,8 @@ _Static_assert(REG_RSI == REG_RDI + 1 && REG_RBP == REG_RDI + 2 && REG_RBX == RE
 __attribute__((noreturn)) static void jump_back(const ucontext_t *at)
 {
     const void *vectors = at->uc_mcontext.fpregs;
+    uint32_t parts[2];
+    memcpy(parts, (const char *)vectors + AT_PARTS, sizeof parts);
     __asm__ volatile("xrstor64 (%[vectors])\n\t"
                      "pushq %c[flags](%%rdi)\n\t"
                      "popfq\n\t"
@@ -65,7 +68,7 @@ __attribute__((noreturn)) static void jump_back(const ucontext_t *at)
                      "pop %%rsp\n\t"
                      "jmp *%%rcx"
                      :
-                     : "D"(at), [vectors] "r"(vectors), "a"(-1), "d"(-1),
+                     : "D"(at), [vectors] "r"(vectors), "a"(parts[0]), "d"(parts[1]),
 #define PLACE(name, number) [name] "i"(40 + 8 * (number))
                        PLACE(r8, REG_R8), PLACE(r9, REG_R9), PLACE(r10, REG_R10), PLACE(r12, REG_R12), PLACE(r13, REG_R13), PLACE(r14, REG_R14), PLACE(r15, REG_R15),
                        PLACE(own, REG_RDI), PLACE(flags, REG_EFL)
@@ -77,14 +80,9 @@ __attribute__((noreturn)) static void jump_back(const ucontext_t *at)
 /* A signal that was blocked meanwhile comes at the call of the mask, as it would come at sigreturn. */
 void leave_trap(const ucontext_t *at)
 {
-    long result;
-    register long size __asm__("r10") = sizeof(uint64_t);
 #if defined __SANITIZE_ADDRESS__ || defined __SANITIZE_THREAD__
     return;
 #endif
-    if (!is_plain(at))
-        return;
-    __asm__ volatile("syscall" : "=a"(result) : "a"((long)SYS_rt_sigprocmask), "D"((long)SIG_SETMASK), "S"(&at->uc_sigmask), "d"(0L), "r"(size) : "rcx", "r11", "memory");
-    if (result == 0)
+    if (is_plain(at) && pass(SYS_rt_sigprocmask, SIG_SETMASK, (long)&at->uc_sigmask, 0, sizeof(uint64_t), 0, 0) == 0)
         jump_back(at);
 }

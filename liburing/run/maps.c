@@ -1,11 +1,11 @@
-/* Memory that is shared with a file. Nobody sees when it is written: the file is compared with a copy, page by page, where an msync
- * or fsync of it begins and where it ends, and where the process ends. What has changed since goes into the log. Its bytes are read by a descriptor of our own,
+/* Memory that is shared with a file. Nobody sees when it is written: the file is compared with a copy, page by page, where it is mapped, where a call
+ * syncs any file, as that begins and as it ends, and where the process ends. What has changed since goes into the log. Its bytes are read by a descriptor of our own,
  * which stays open: whether the memory is still mapped doesn't matter, and to close it would take the program's locks away.
  */
 #define _GNU_SOURCE
 #include "files.h"
-#include "../layer/logging.h"
-#include "../layer/passing.h"
+#include "../layer/traces/logging.h"
+#include "../layer/process/passing.h"
 #include "run.h"
 
 #include <errno.h>
@@ -31,19 +31,22 @@ struct mapped {
 };
 
 static struct mapped files[MOST_FILES];
-static atomic_flag is_looked_at = ATOMIC_FLAG_INIT;
+
+/* Whether a thread looks at them: where it can be, on a page that the kernel empties in a child, since one that was forked by a system call of the program's own has none
+ * that would give it back. */
+static atomic_flag ordinary = ATOMIC_FLAG_INIT, *is_looked_at = &ordinary;
 
 /* (a handler that came meanwhile would wait for itself) */
 static void lock(sigset_t *before)
 {
     set_mask(~OPEN_IN_TRAP, before);
-    while (atomic_flag_test_and_set(&is_looked_at))
+    while (atomic_flag_test_and_set(is_looked_at))
         pass(SYS_sched_yield, 0, 0, 0, 0, 0, 0);
 }
 
 static void unlock(const sigset_t *before)
 {
-    atomic_flag_clear(&is_looked_at);
+    atomic_flag_clear(is_looked_at);
     put_mask_back(before);
 }
 
@@ -65,8 +68,12 @@ static void unlock_after_fork(void)
 
 static void __attribute__((constructor)) hold_in_forks(void)
 {
-    if (is_logging())
-        pthread_atfork(lock_for_fork, unlock_after_fork, unlock_after_fork);
+    if (!is_logging())
+        return;
+    void *page = mmap(NULL, PAGE, PROT_READ | PROT_WRITE, MAP_PRIVATE | MAP_ANONYMOUS, -1, 0);
+    if (page != MAP_FAILED && madvise(page, PAGE, MADV_WIPEONFORK) == 0)
+        is_looked_at = page;
+    pthread_atfork(lock_for_fork, unlock_after_fork, unlock_after_fork);
 }
 
 static bool is_address(long result)
@@ -113,13 +120,18 @@ static void compare(struct mapped *mapped)
     }
 }
 
-void compare_maps(ino_t file)
+/* All: what was written before a sync of another file is told from what is written after it. */
+static void compare_all(void)
+{
+    for (struct mapped *mapped = files; mapped < files + MOST_FILES && mapped->is_used; mapped++)
+        compare(mapped);
+}
+
+void compare_maps(void)
 {
     sigset_t before;
     lock(&before);
-    for (struct mapped *mapped = files; mapped < files + MOST_FILES && mapped->is_used; mapped++)
-        if (file == 0 || mapped->file == file)
-            compare(mapped);
+    compare_all();
     unlock(&before);
 }
 
@@ -195,6 +207,13 @@ int reader_of(uint64_t file, int fd)
     return mapped ? mapped->fd : -1;
 }
 
+/* From here on what is written through it is seen: no bytes are told of yet. */
+static void log_map(uint64_t file, const char *path)
+{
+    struct event event = {.kind = EVENT_MAPPED, .file = file};
+    log_event(&event, path, NULL, NULL, 0);
+}
+
 static void add_map(int fd, uint64_t length, uint64_t offset)
 {
     char path[PATH_ROOM];
@@ -204,7 +223,11 @@ static void add_map(int fd, uint64_t length, uint64_t offset)
         return;
     lock(&before);
     struct mapped *mapped = mapped_of(file, fd);
-    if (!mapped || !make_room(mapped, offset + length))
+    if (mapped)
+        compare(mapped);
+    if (mapped && make_room(mapped, offset + length))
+        log_map(file, path);
+    else
         say("memory that is shared with this file isn't looked at", path);
     unlock(&before);
 }
@@ -247,14 +270,10 @@ static bool next_line(struct list *list)
 
 static void sync_part(uint64_t file, const char *path, const struct wulgach_file_part *part)
 {
-    struct mapped *mapped = find_mapped(file);
-    struct event event = {.kind = EVENT_SYNC, .flags = IS_OF_RANGE, .file = file, .offset = (int64_t)part->offset, .length = part->length};
-    bool is_known = mapped && mapped->is_used && mapped->copy;
-    if (is_known)
-        compare(mapped);
+    struct event event = {.kind = EVENT_SYNC, .flags = IS_OF_RANGE | IS_OF_DATA, .file = file, .offset = (int64_t)part->offset, .length = part->length};
+    compare_all();
     log_event(&event, path, NULL, NULL, 0);
-    if (is_known)
-        compare(mapped);
+    compare_all();
     end_operation(0);
 }
 

@@ -1,6 +1,7 @@
 /* Calls that wait with another mask, or give a thread one: SIGSYS stays open in it, since a handler that comes meanwhile may call io_uring. And
- * the older calls whose masks are of 32 signals. */
+ * the older calls whose masks are of 32 signals; and, where the run has a log, the kernel's own call. */
 #define _GNU_SOURCE
+#include "files.h"
 #include "run.h"
 
 #include <dlfcn.h>
@@ -104,4 +105,18 @@ SEEN int pthread_attr_setsigmask_np(pthread_attr_t *attributes, const sigset_t *
     REAL(int, pthread_attr_setsigmask_np, (pthread_attr_t *, const sigset_t *));
     sigset_t copy;
     return pthread_attr_setsigmask_np ? pthread_attr_setsigmask_np(attributes, without_trap(set, &copy)) : ENOSYS;
+}
+
+/* (the thread has its own mask meanwhile, and goes on with what that is after the call) */
+long set_mask_without_trap(const long words[6], ucontext_t *at)
+{
+    uint64_t mask;
+    if ((size_t)words[3] != sizeof mask)
+        return -EINVAL;
+    if (!read_memory((const void *)words[1], &mask, sizeof mask))
+        return -EFAULT;
+    mask &= ~((uint64_t)1 << (SIGSYS - 1));
+    long result = pass(SYS_rt_sigprocmask, words[0], (long)&mask, words[2], sizeof mask, 0, 0);
+    pass(SYS_rt_sigprocmask, SIG_SETMASK, 0, (long)&at->uc_sigmask, sizeof mask, 0, 0);
+    return result;
 }

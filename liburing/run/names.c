@@ -1,8 +1,8 @@
 /* Calls that change names: a file is made, linked, renamed, removed. */
 #define _GNU_SOURCE
 #include "files.h"
-#include "../layer/logging.h"
-#include "../layer/passing.h"
+#include "../layer/traces/logging.h"
+#include "../layer/process/passing.h"
 
 #include <errno.h>
 #include <fcntl.h>

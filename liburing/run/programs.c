@@ -1,15 +1,17 @@
 /* A program that this one becomes or starts inherits the filter, and so needs this library too: a surrounding without
- * LD_PRELOAD is given it again, and one that preloads others has it in front of these. One that can't take it, since it is linked statically or changes its user, is told of: the
- * kernel ends it with SIGSYS if it calls io_uring.
+ * LD_PRELOAD is given it again, and one that preloads others has it in front of these. One that can't take it, since it is linked statically or has other rights than its user, is
+ * told of: the kernel ends it with SIGSYS if it calls io_uring.
  */
 #define _GNU_SOURCE
 #include "run.h"
 
 #include <dlfcn.h>
 #include <elf.h>
+#include <endian.h>
 #include <errno.h>
 #include <fcntl.h>
 #include <limits.h>
+#include <linux/capability.h>
 #include <spawn.h>
 #include <stdarg.h>
 #include <stdbool.h>
@@ -18,6 +20,7 @@
 #include <string.h>
 #include <sys/stat.h>
 #include <sys/syscall.h>
+#include <sys/xattr.h>
 #include <unistd.h>
 #include <wordexp.h>
 
@@ -142,30 +145,68 @@ static bool is_static(int file)
     return true;
 }
 
-static bool changes_user(int file)
+/* Whether a file's capabilities, so many bytes, give some: those that this process has, since it gets no others; or are to be in effect, though there are none. */
+static bool gives_capabilities(const struct vfs_ns_cap_data *given, size_t size)
 {
-    struct stat about;
-    return fstat(file, &about) == 0 && S_ISREG(about.st_mode) && ((about.st_mode & S_ISUID && about.st_uid != geteuid()) || (about.st_mode & S_ISGID && about.st_gid != getegid()));
+    struct __user_cap_header_struct head = {.version = _LINUX_CAPABILITY_VERSION_3};
+    struct __user_cap_data_struct own[_LINUX_CAPABILITY_U32S_3] = {0};
+    uint32_t gained = 0;
+    syscall(SYS_capget, &head, own);
+    for (size_t i = 0; i < VFS_CAP_U32 && sizeof given->magic_etc + (i + 1) * sizeof *given->data <= size; i++)
+        gained |= own[i].permitted & (le32toh(given->data[i].permitted) | (le32toh(given->data[i].inheritable) & own[i].inheritable));
+    return gained || le32toh(given->magic_etc) & VFS_CAP_FLAGS_EFFECTIVE;
 }
 
-/* Tells of a program that isn't reached. */
-static void look_at_file(int file, const char *name)
+/* Whether the loader of a program passes over what is preloaded (AT_SECURE of getauxval(3)): whoever starts it acts for another user than its real one, or its file
+ * gives it capabilities. That its mode is to change its user the kernel passes over, since this process takes no new privileges. */
+static bool has_other_rights(int file)
 {
-    if (is_static(file))
+    struct vfs_ns_cap_data given;
+    if (getuid() != geteuid() || getgid() != getegid())
+        return true;
+    ssize_t size = getuid() == 0 ? -1 : fgetxattr(file, "security.capability", &given, sizeof given);
+    return size >= (ssize_t)sizeof given.magic_etc && gives_capabilities(&given, (size_t)size);
+}
+
+/* The kernel reads so much of a script's first line, and looks for what runs it in so many that name each other. */
+enum { FIRST_LINE = 256, MOST_SCRIPTS = 5 };
+
+/* The path of what runs a script, which stands in its first line, or NULL: the file is none. */
+static const char *interpreter_of(int file, char line[FIRST_LINE])
+{
+    ssize_t size = pread(file, line, FIRST_LINE - 1, 0);
+    if (size < 2 || memcmp(line, "#!", 2) != 0)
+        return NULL;
+    line[size] = '\0';
+    char *path = line + 2 + strspn(line + 2, " \t");
+    path[strcspn(path, " \t\n")] = '\0';
+    return path;
+}
+
+static void look_below(int folder, const char *path, unsigned depth);
+
+/* Tells of a program that isn't reached; of a script it is the one that runs it. */
+static void look_at_file(int file, const char *name, unsigned depth)
+{
+    char line[FIRST_LINE];
+    const char *interpreter = depth < MOST_SCRIPTS ? interpreter_of(file, line) : NULL;
+    if (interpreter)
+        look_below(AT_FDCWD, interpreter, depth + 1);
+    else if (is_static(file))
         say("it is linked statically and can't be reached: SIGSYS ends it if it calls io_uring, or writes to memory that it shares with a file", name);
-    else if (changes_user(file))
-        say("it changes its user and can't be reached: SIGSYS ends it if it calls io_uring, or writes to memory that it shares with a file", name);
+    else if (has_other_rights(file))
+        say("it has other rights than its user and can't be reached: SIGSYS ends it if it calls io_uring, or writes to memory that it shares with a file", name);
 }
 
 /* (what opens something else waits, as for the other end of a named pipe, or does something, as of a device) */
-static void look_below(int folder, const char *path)
+static void look_below(int folder, const char *path, unsigned depth)
 {
     struct stat about;
     int kept = errno, file = -1;
     if (fstatat(folder, path, &about, 0) == 0 && S_ISREG(about.st_mode))
         file = openat(folder, path, O_RDONLY | O_NONBLOCK | O_CLOEXEC);
     if (file >= 0) {
-        look_at_file(file, path);
+        look_at_file(file, path, depth);
         close(file);
     }
     errno = kept;
@@ -173,7 +214,7 @@ static void look_below(int folder, const char *path)
 
 static void look_at(const char *path)
 {
-    look_below(AT_FDCWD, path);
+    look_below(AT_FDCWD, path, 0);
 }
 
 /* The same of a name that is looked for in PATH, as the C library does: an empty part is the folder in which the process is, and without PATH it is
@@ -218,7 +259,7 @@ SEEN int fexecve(int file, char *const *words, char *const *surrounding)
 {
     int (*call)(int, char *const *, char *const *);
     *(void **)&call = next("fexecve");
-    look_at_file(file, "a program");
+    look_at_file(file, "a program", 0);
     ROOM_FOR(surrounding);
     return call(file, words, with_ours(surrounding, room, preload));
 }
@@ -226,9 +267,9 @@ SEEN int fexecve(int file, char *const *words, char *const *surrounding)
 /* The file itself has an empty path. (A C library before 2.34 hasn't this call.) */
 SEEN int execveat(int at, const char *path, char *const *words, char *const *surrounding, int flags)
 {
-    look_below(at, path);
+    look_below(at, path, 0);
     if (flags & AT_EMPTY_PATH && faccessat(at, path, F_OK, 0) != 0)
-        look_at_file(at, "a program");
+        look_at_file(at, "a program", 0);
     ROOM_FOR(surrounding);
     return (int)syscall(SYS_execveat, at, path, words, with_ours(surrounding, room, preload), flags);
 }

@@ -2,7 +2,7 @@
 #ifndef RUN_H
 #define RUN_H
 
-#include "../layer/passing.h"
+#include "../layer/process/passing.h"
 
 #include <signal.h>
 #include <stdbool.h>
@@ -16,8 +16,14 @@
 /* Says a line on standard error: of what, if it is of something, and what is to be said of it. */
 void say(const char *message, const char *of);
 
-/* The C library's calls after those that are preloaded. */
+/* The C library's call after the one that is preloaded; or, where the run has a log and that would be trapped, the kernel's. */
 int real_sigmask(int how, const sigset_t *set, sigset_t *before);
+
+/* Carries out a trapped rt_sigprocmask, but that SIGSYS stays open: the mask with which the thread goes on. Returns what the kernel's does. */
+long set_mask_without_trap(const long words[6], ucontext_t *at);
+
+/* The same of a trapped rt_sigaction of another signal: SIGSYS stays open while that is handled. */
+long set_action_without_trap(const long words[6]);
 
 /* The set without SIGSYS, in this copy. NULL stays NULL. */
 const sigset_t *without_trap(const sigset_t *set, sigset_t *copy);
@@ -50,11 +56,11 @@ struct sock_fprog;
 /* Adds a filter of our own for system calls. The kernel was told before that the process takes no new privileges. */
 bool add_filter(const struct sock_fprog *program);
 
-/* Whether a call was trapped on a stack that may be small, as any other than the one that the thread was made with; what the program says of where its
- * signals come; and calling a function on one that is large. */
+/* Whether a call was trapped on a stack that may be small, as any other than the one that the thread was made with, or that has little room left; what the
+ * program says of where its signals come; and calling a function on one that is large. False: there is no memory for one. */
 bool wants_own_stack(const ucontext_t *at);
 void note_signal_stack(const stack_t *stack);
-void call_on_own_stack(ucontext_t *at, void (*function)(void *), void *argument);
+bool call_on_own_stack(ucontext_t *at, void (*function)(void *), void *argument);
 
 /* Tells the layer where the stack stands of a call that runs on another one, or NULL, and returns what it was told before. */
 const void *wulgach_note_caller(const void *now);

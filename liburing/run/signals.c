@@ -2,11 +2,12 @@
  * it isn't; so it is with masks (masks.c) and contexts (contexts.c). What a program says of SIGSYS is kept, so that it is told the same when it asks again, and
  * is done with a SIGSYS that isn't the trap's. One that asks the kernel itself, as the runtime of Go does, is told that it is done, and it isn't.
  *
- * A program that blocks it by a call of its own isn't reached: if a thread of its has blocked SIGSYS when it calls io_uring,
+ * A program that blocks it by a call of its own isn't reached, unless the run has a log: if a thread of its has blocked SIGSYS when it calls io_uring,
  * the kernel ends the program with that signal.
  */
 #define _GNU_SOURCE
-#include "../layer/logging.h"
+#include "../layer/traces/logging.h"
+#include "files.h"
 #include "run.h"
 
 #include <dlfcn.h>
@@ -43,12 +44,35 @@ static int real_sigaction(int number, const struct sigaction *action, struct sig
     return call(number, action, before);
 }
 
+/* (the C library's two signals of its own are never blocked) */
+static int kernels_sigmask(int how, const sigset_t *set, sigset_t *before)
+{
+    uint64_t mask = 0;
+    if (set)
+        memcpy(&mask, set, sizeof mask);
+    mask &= ~((uint64_t)3 << 31);
+    return (int)-pass(SYS_rt_sigprocmask, how, set ? (long)&mask : 0, (long)before, sizeof mask, 0, 0);
+}
+
 int real_sigmask(int how, const sigset_t *set, sigset_t *before)
 {
     static int (*call)(int, const sigset_t *, sigset_t *);
+    if (is_logging())
+        return kernels_sigmask(how, set, before);
     if (!call)
         *(void **)&call = next("pthread_sigmask");
     return call(how, set, before);
+}
+
+long set_action_without_trap(const long words[6])
+{
+    struct raw_action action;
+    if ((size_t)words[3] != sizeof action.mask)
+        return -EINVAL;
+    if (!read_memory((const void *)words[1], &action, sizeof action))
+        return -EFAULT;
+    action.mask &= ~((uint64_t)1 << (SIGSYS - 1));
+    return pass(SYS_rt_sigaction, words[0], (long)&action, words[2], sizeof action.mask, 0, 0);
 }
 
 /* What a handler returns to. Unwinders know it by these bytes, if the byte before them is no function's. */

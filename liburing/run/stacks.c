@@ -1,7 +1,7 @@
 /* A program may have its signals on a stack of its own, as the runtime of Go, whose other stacks are small; coroutines have stacks that the
- * program made (makecontext(3)); and a thread may have been made with a small one (pthread_attr_setstacksize(3)). The layer wants more than
- * these may have: so it runs on one that is mapped for the thread, unless it is called on the stack that the thread was made with, and that is
- * large. Meanwhile other signals come on another part of that, where the program's own signal stack holds the frame that this call returns to.
+ * program made (makecontext(3)); and a thread may have been made with a small one (pthread_attr_setstacksize(3)), or have little of its own left. The
+ * layer wants more than these may have: so it runs on one that is mapped for the thread, unless it is called on the stack that the thread was made with, and
+ * there is room below. Meanwhile other signals come on another part of that, where the program's own signal stack holds the frame that this call returns to.
  */
 #define _GNU_SOURCE
 #include "rewriting.h"
@@ -13,15 +13,14 @@
 #include <sys/auxv.h>
 #include <sys/mman.h>
 #include <sys/resource.h>
-#include <unistd.h>
 
 /* Of a thread's memory the lowest part is for signals, the next for traps, and the last for bypasses. */
 enum { SIGNAL_STACK = 1 << 17, STACK = 1 << 20, WHOLE = SIGNAL_STACK + 2 * STACK };
 
-/* A thread was made with a small stack if it is below this. */
-enum { LARGE = 1 << 17 };
+/* A thread was made with a small stack if it is below this. On a large one a call has this much below it, or runs elsewhere. */
+enum { LARGE = 1 << 17, ROOM_BELOW = 1 << 16 };
 
-/* The stack that the thread was made with, once that is known, and the same if it is large. */
+/* The stack that the thread was made with, once that is known, and the part of it where there is room below, if it is large. */
 static __thread struct stack made_with;
 static __thread bool is_made_with_known;
 __thread struct stack large_stack;
@@ -36,7 +35,10 @@ static __thread bool is_in_use;
 static __thread uintptr_t used_from, used_frame;
 static __thread stack_t used_before;
 static __thread const char *innermost;
+
+/* By which the thread's memory is given back as that ends: a program may have taken all keys, and then it stays. */
 static pthread_key_t key;
+static bool has_key;
 static pthread_once_t once = PTHREAD_ONCE_INIT;
 
 static void unmap(void *memory)
@@ -56,7 +58,13 @@ static void end_thread(void *memory)
 
 static void make_key(void)
 {
-    pthread_key_create(&key, end_thread);
+    has_key = pthread_key_create(&key, end_thread) == 0;
+}
+
+static void note_own(void)
+{
+    if (has_key)
+        pthread_setspecific(key, own);
 }
 
 static char *map(void)
@@ -80,7 +88,7 @@ static void note_made_with(uintptr_t lowest, size_t size)
     made_with = (struct stack){lowest, size};
     is_made_with_known = true;
     if (size >= LARGE && !is_on(&made_with, signals_at))
-        large_stack = made_with;
+        large_stack = (struct stack){lowest + ROOM_BELOW, size - ROOM_BELOW};
 }
 
 /* Where signals come on a part of the stack that the thread was made with, that isn't told from the rest, and counts as small. */
@@ -147,7 +155,7 @@ static bool change_memory(void)
         bypass_stack = (uintptr_t)other + WHOLE;
     spare = own;
     own = other;
-    pthread_setspecific(key, own);
+    note_own();
     return true;
 }
 
@@ -202,7 +210,7 @@ static void make_own(void)
 {
     pthread_once(&once, make_key);
     if (!own && (own = map()))
-        pthread_setspecific(key, own);
+        note_own();
 }
 
 /* Once, and once more for calls on other stacks than the one that the thread was made with: a bypass that a signal has left by a jump may still be
@@ -227,7 +235,7 @@ static void note_use(const ucontext_t *at)
     used_before = at->uc_stack;
 }
 
-void call_on_own_stack(ucontext_t *at, void (*function)(void *), void *argument)
+bool call_on_own_stack(ucontext_t *at, void (*function)(void *), void *argument)
 {
     make_own();
     if (is_left(at))
@@ -235,10 +243,8 @@ void call_on_own_stack(ucontext_t *at, void (*function)(void *), void *argument)
     /* A signal's handler that calls while its thread is in a call has another. */
     bool is_first = own && !is_in_use;
     char *memory = is_first ? own : map();
-    if (!memory) {
-        say("there is no memory for a stack", "");
-        _exit(125);
-    }
+    if (!memory)
+        return false;
     struct task task = {function, argument, {.ss_sp = memory, .ss_size = SIGNAL_STACK}, at->uc_stack};
     if (is_first)
         note_use(at);
@@ -252,4 +258,5 @@ void call_on_own_stack(ucontext_t *at, void (*function)(void *), void *argument)
         is_in_use = false;
     else
         unmap(memory);
+    return true;
 }

@@ -9,8 +9,8 @@
  */
 #define _GNU_SOURCE
 #include "files.h"
-#include "../layer/logging.h"
-#include "../layer/passing.h"
+#include "../layer/traces/logging.h"
+#include "../layer/process/passing.h"
 #include "rewriting.h"
 #include "run.h"
 
@@ -97,7 +97,7 @@ static sigset_t mask_of(const ucontext_t *at)
 
 /* The result of a trapped call. Leaving the handler puts the thread's mask back: so one of enter, which wants all signals
  * blocked, takes no call for that; the others have the thread's mask. */
-static long serve(long call, const ucontext_t *at)
+static long serve(long call, ucontext_t *at)
 {
     const greg_t *registers = at->uc_mcontext.gregs;
     const long words[6] = {registers[REG_RDI], registers[REG_RSI], registers[REG_RDX], registers[REG_R10], registers[REG_R8], registers[REG_R9]};
@@ -108,7 +108,8 @@ static long serve(long call, const ucontext_t *at)
         note_site(at);
         return result;
     }
-    real_sigmask(SIG_SETMASK, &mask, NULL);
+    /* (with the C library's two signals: a thread of its own waits for one, and has it blocked) */
+    put_mask_back(&mask);
     switch (call) {
     case SYS_io_uring_setup:
     case SYS_io_uring_register:
@@ -119,6 +120,10 @@ static long serve(long call, const ucontext_t *at)
     case SYS_prctl:
         result = set_filter(call, registers);
         return result == -1 ? -errno : result;
+    case SYS_rt_sigprocmask:
+        return set_mask_without_trap(words, at);
+    case SYS_rt_sigaction:
+        return set_action_without_trap(words);
     default:
         return serve_file_call(call, words, &result) ? result : -ENOSYS;
     }
@@ -157,6 +162,10 @@ static bool is_of_trap(long call, const ucontext_t *at)
         return !is_our_own(call, registers);
     case SYS_prctl:
         return registers[REG_RDI] == PR_SET_SECCOMP && !is_our_own(call, registers);
+    case SYS_rt_sigprocmask:
+        return is_logging() && (int)registers[REG_RDI] != SIG_UNBLOCK && registers[REG_RSI] && !is_our_own(call, registers);
+    case SYS_rt_sigaction:
+        return is_logging() && (int)registers[REG_RDI] != SIGSYS && registers[REG_RSI] && !is_our_own(call, registers);
     default:
         return wulgach_seen_logged_call((uint64_t)call) != WULGACH_CALL_NOTHING && !is_our_own(call, registers);
     }
@@ -171,9 +180,12 @@ static void answer(int number, siginfo_t *info, void *context)
         errno = kept;
         return;
     }
-    if (wants_own_stack(trapped.at))
-        call_on_own_stack(trapped.at, serve_trapped, &trapped);
-    else {
+    /* (one of the mask or of an action takes next to no room, and may be the last that its thread makes) */
+    bool is_small = trapped.call == SYS_rt_sigprocmask || trapped.call == SYS_rt_sigaction;
+    if (!is_small && wants_own_stack(trapped.at)) {
+        if (!call_on_own_stack(trapped.at, serve_trapped, &trapped))
+            trapped.at->uc_mcontext.gregs[REG_RAX] = wulgach_seen_missing_fault(WULGACH_NO_MEMORY_OWN);
+    } else {
         const void *before = wulgach_note_caller(NULL);
         serve_trapped(&trapped);
         wulgach_note_caller(before);

@@ -11,10 +11,10 @@ use Rattle.uring_enter.specs.declared.call.enter.Before.TheVariants as before
 use Rattle.uring_enter.specs.declared.call.enter.Enter.{Enter}
 use Rattle.uring_enter.specs.declared.call.enter.WrongReply.{WrongReply}
 use Rattle.uring_enter.specs.declared.call.reply.Reply.{Reply}
-use Rattle.uring_crossing.specs.EnterForm.{word_of_policy, policy_of, asked_of, words_of_asked, command_of, words_of_command, word_of_before, before_of_word, enter_of, words_of_enter, AreAfter}
+use Rattle.uring_crossing.specs.LayerWords.EnterForm.{word_of_policy, policy_of, asked_of, words_of_asked, command_of, words_of_command, word_of_before, before_of_word, enter_of, words_of_enter, AreAfter}
 use Rattle.uring_enter.specs.Call.After.{IsAfter}
 use Rattle.uring_enter.specs.Call.Due.{due}
-use Rattle.uring_crossing.specs.declared.enter_words.EnterWords.{EnterWords}
+use Rattle.uring_crossing.specs.declared.layer_words.enter_words.EnterWords.{EnterWords}
 
 policy_back : (p : Policy) → policy_of (word_of_policy p) ≡ Some p
 policy_back InOrder = refl

@@ -5,8 +5,8 @@ use Rattle.std.proofs.lemmas.List.{take_min, drop_min, length-drop, length-take,
 use Rattle.uring_entry.specs.Layout.{Sqe}
 use Rattle.uring_files.specs.Contents.{max_len}
 use Rattle.uring_outcomes.specs.Faults.{entry_count}
-use Rattle.uring_crossing.specs.Crashing.{AreShort}
-use Rattle.uring_crossing.specs.Cuts.{cut}
+use Rattle.uring_crossing.specs.Machines.Crashing.{AreShort}
+use Rattle.uring_crossing.specs.CoreWords.Cuts.{cut}
 
 drop_plus : {X : Type 0} (n m : ℕ) (xs : List X) → drop (n + m) xs ≡ drop m (drop n xs)
 drop_plus zero m xs = ap (λ (k : ℕ). drop k xs) (let same : 0 + m ≡ m = omega arith in same)

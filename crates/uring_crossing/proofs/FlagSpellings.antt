@@ -4,8 +4,8 @@ use Rattle.std.specs.Prelude.{codes, bit_and, sum_by}
 use Rattle.std.specs.List.{AllByRecursion, filter}
 use Rattle.std.proofs.lemmas.Bool.{and_parts, cases_Bool, eqb-true, eqb-false}
 use Rattle.uring_text.specs.Tokens.{flag_value, NoneAgain, AreFlags}
-use Rattle.uring_crossing.specs.SetupLines.{named_if}
-use Rattle.uring_crossing.specs.FlagLetters.{has_flag, letters_of, flags_text}
+use Rattle.uring_crossing.specs.Traces.SetupLines.{named_if}
+use Rattle.uring_crossing.specs.Traces.FlagLetters.{has_flag, letters_of, flags_text}
 
 -- a letter that passes stands before the others that do
 filter_one : (p : ℕ → Bool) (x : ℕ) (xs : List ℕ) → filter p (x ∷ xs) ≡ named_if (p x) (x ∷ []) ++ filter p xs

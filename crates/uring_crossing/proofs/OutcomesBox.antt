@@ -6,9 +6,9 @@ use Rattle.std.proofs.BoxSteps.Form.{Bx}
 use Rattle.std.proofs.alloc.Global.TheLaws as heap
 use Rattle.std.specs.contracts.alloc.Global as Heap
 use Rattle.std.specs.contracts.impls.GlobalAllocator.TheImpl.{ghosts, dict}
-use Rattle.uring_crossing.proofs.outcome_list.OutcomeList.TheLaws as outcomes
-use Rattle.uring_crossing.specs.Slots.{outcomes_row}
-use Rattle.uring_crossing.specs.contracts.parts.Parts as Parts
+use Rattle.uring_crossing.proofs.outcomes.outcome_list.OutcomeList.TheLaws as outcomes
+use Rattle.uring_crossing.specs.Boxes.Slots.{outcomes_row}
+use Rattle.uring_crossing.specs.contracts.boxes.parts.Parts as Parts
 
 abbrev pub E : Bx
 E = record { row = outcomes_row; laws = outcomes.the_row_laws; al = record { row = Heap.the_row; laws = heap.the_row_laws; g = ghosts; d = dict; drops = impl [] tnil dnil } }

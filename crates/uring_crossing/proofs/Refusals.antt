@@ -18,11 +18,11 @@ use Rattle.uring_core.specs.declared.cores.submit.NotSubmitted.TheVariants as no
 use Rattle.uring_machine.specs.Machine.{Machine, Fits, IsUnrefused, elements_for_step}
 use Rattle.uring_epochs.specs.Asked.{IsUnrefusedOn}
 use Rattle.uring_epochs.specs.Epochs.{CrashMachine, Epoch, FitsRun}
-use Rattle.uring_crossing.specs.AnswerForm.{kind_of, words_of, IsAgain}
-use Rattle.uring_crossing.specs.Crashing.{TellsUnrefusedOn}
-use Rattle.uring_crossing.specs.Stepping.{TellUnrefused}
-use Rattle.uring_crossing.specs.Whole.{SubmittedApart, submit_told}
-use Rattle.uring_crossing.specs.declared.answer_words.AnswerWords.{AnswerWords}
+use Rattle.uring_crossing.specs.CoreWords.AnswerForm.{kind_of, words_of, IsAgain}
+use Rattle.uring_crossing.specs.Machines.Crashing.{TellsUnrefusedOn}
+use Rattle.uring_crossing.specs.Cores.Stepping.{TellUnrefused}
+use Rattle.uring_crossing.specs.Cores.Whole.{SubmittedApart, submit_told}
+use Rattle.uring_crossing.specs.declared.core_words.answer_words.AnswerWords.{AnswerWords}
 
 -- no other answer has the kind of Again
 again_alone : (a : Answer) → kind_of a ≡ 11 → a ≡ answer.Again

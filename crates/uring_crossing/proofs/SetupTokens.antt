@@ -11,7 +11,7 @@ use Rattle.std.proofs.lemmas.List.Splits.{slice_split_at, slice_split_none}
 use Rattle.uring_text.specs.Tokens.{tokens_of}
 use Rattle.uring_text.proofs.Numbers.{own}
 use Rattle.uring_entry.specs.Setup.{Setup}
-use Rattle.uring_crossing.specs.SetupLines.{named_if, token_if, setup_line, setup_tokens}
+use Rattle.uring_crossing.specs.Traces.SetupLines.{named_if, token_if, setup_line, setup_tokens}
 
 abbrev HasNoBlank : List ℕ → Type 0
 HasNoBlank bytes = All (λ b. eqb b 32 ≡ false) bytes

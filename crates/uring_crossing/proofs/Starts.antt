@@ -4,10 +4,10 @@ use Rattle.std.specs.Prelude.{All}
 use Rattle.std.proofs.lemmas.Bool.{both_ways}
 use Rattle.uring_entry.specs.Setup.{Setup}
 use Rattle.uring_entry.proofs.Powers.{rounded_once}
-use Rattle.uring_crossing.specs.Crashing.{IsNoStart}
-use Rattle.uring_crossing.specs.Outcomes.{TakesWhole, IsNoWalk}
-use Rattle.uring_crossing.specs.SetUps.{IsAskedFor, IsRefused}
-use Rattle.uring_crossing.specs.declared.set_up_words.SetupWords.{SetupWords}
+use Rattle.uring_crossing.specs.Machines.Crashing.{IsNoStart}
+use Rattle.uring_crossing.specs.Outcomes.Outcomes.{TakesWhole, IsNoWalk}
+use Rattle.uring_crossing.specs.CoreWords.SetUps.{IsAskedFor, IsRefused}
+use Rattle.uring_crossing.specs.declared.core_words.set_up_words.SetupWords.{SetupWords}
 
 -- A machine that begins on so many files.
 

@@ -6,8 +6,8 @@ use Rattle.uring_core.specs.declared.answer.Answer.{Answer}
 use Rattle.uring_core.specs.declared.answer.Answer.TheVariants as answer
 use Rattle.uring_core.specs.declared.step.Step.{Step}
 use Rattle.uring_core.specs.declared.step.Step.TheVariants as step
-use Rattle.uring_crossing.specs.Traced.{put_steps, filled, put_event, take_or_close, taken_or_end, call_event, TellsEachStep}
-use Rattle.uring_crossing.specs.declared.whole_call_memory.EntryWords.{EntryWords}
+use Rattle.uring_crossing.specs.Traces.Traced.{put_steps, filled, put_event, take_or_close, taken_or_end, call_event, TellsEachStep}
+use Rattle.uring_crossing.specs.declared.cores.whole_call_memory.EntryWords.{EntryWords}
 
 -- the step of an entry, whose slot is this: it is filled, or staged; or another one, if there is no such entry
 abbrev fill : ℕ → Option EntryWords → Option Step

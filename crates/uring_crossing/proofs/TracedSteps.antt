@@ -7,8 +7,8 @@ use Rattle.uring_core.specs.Histories.{History}
 use Rattle.uring_core.specs.WholeCalls.{after_head, after_fill, after_index, after_entries, after_published, after_begin, after_takes}
 use Rattle.uring_core.specs.declared.step.Step.{Step}
 use Rattle.uring_core.specs.declared.step.Step.TheVariants as step
-use Rattle.uring_crossing.specs.Traced.{put_steps, call_steps, steps_of, NamesTheSteps}
-use Rattle.uring_crossing.specs.declared.whole_call_memory.EntryWords.{EntryWords}
+use Rattle.uring_crossing.specs.Traces.Traced.{put_steps, call_steps, steps_of, NamesTheSteps}
+use Rattle.uring_crossing.specs.declared.cores.whole_call_memory.EntryWords.{EntryWords}
 
 -- steps one after the other, onto those before, the newest first
 abbrev onto : List Step → List Step → List Step

@@ -7,8 +7,8 @@ use Rattle.std.proofs.alloc.Global.TheLaws as heap
 use Rattle.std.specs.contracts.alloc.Global as Heap
 use Rattle.std.specs.contracts.impls.GlobalAllocator.TheImpl.{ghosts, dict}
 use Rattle.uring_volume.proofs.volume.Volume.TheLaws as volume
-use Rattle.uring_crossing.specs.Slots.{volume_row}
-use Rattle.uring_crossing.specs.contracts.parts.Parts as Parts
+use Rattle.uring_crossing.specs.Boxes.Slots.{volume_row}
+use Rattle.uring_crossing.specs.contracts.boxes.parts.Parts as Parts
 
 abbrev pub E : Bx
 E = record { row = volume_row; laws = volume.the_row_laws; al = record { row = Heap.the_row; laws = heap.the_row_laws; g = ghosts; d = dict; drops = impl [] tnil dnil } }

@@ -1,43 +1,26 @@
 //! What crosses between a program in C and the proved calls: values as words, the places that C holds, and each call that asks for memory, by any memory. `uring_c` exports these under the names of the header.
 #![tactic(auto)]
 
-pub mod answer_words;
-pub mod box_memory;
-pub mod completion_words;
-pub mod core_calls;
-pub mod core_memory;
-pub mod core_place;
-pub mod count_words;
-pub mod course_words;
-pub mod crash_image_calls;
-pub mod crash_machine_calls;
-pub mod crash_machine_memory;
-pub mod crash_machine_place;
-pub mod cuts;
-pub mod enter_words;
-pub mod flag_letters;
-pub mod machine_calls;
-pub mod machine_memory;
-pub mod machine_place;
-pub mod operation_words;
-pub mod outcome_list;
-pub mod outcomes_calls;
-pub mod outcomes_memory;
-pub mod outcomes_place;
-pub mod parts;
-pub mod set_up_words;
-pub mod setup_lines;
-pub mod slot;
-pub mod state_words;
-pub mod step_words;
-pub mod taken_words;
-pub mod time_words;
-pub mod trace_lines;
-pub mod traced;
-pub mod volume_calls;
-pub mod volume_memory;
-pub mod volume_place;
-pub mod wait_words;
-pub mod whole_call_memory;
-pub mod whole_calls;
-pub mod why_words;
+mod boxes;
+mod core_words;
+mod cores;
+mod layer_words;
+mod machines;
+mod outcomes;
+mod traces;
+mod volumes;
+
+pub use boxes::{box_memory, parts, slot};
+pub use core_words::{
+    answer_words, completion_words, count_words, cuts, operation_words, set_up_words, state_words,
+    step_words, taken_words, why_words,
+};
+pub use cores::{core_calls, core_memory, core_place, whole_call_memory, whole_calls};
+pub use layer_words::{course_words, enter_words, time_words, wait_words};
+pub use machines::{
+    crash_image_calls, crash_machine_calls, crash_machine_memory, crash_machine_place,
+    machine_calls, machine_memory, machine_place,
+};
+pub use outcomes::{outcome_list, outcomes_calls, outcomes_memory, outcomes_place};
+pub use traces::{flag_letters, setup_lines, trace_lines, traced};
+pub use volumes::{volume_calls, volume_memory, volume_place};

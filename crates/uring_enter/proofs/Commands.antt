@@ -5,11 +5,11 @@ use Rattle.uring_enter.specs.declared.call.command.Command.{Command}
 use Rattle.uring_enter.specs.declared.call.command.Command.TheVariants as command
 use Rattle.uring_enter.specs.declared.call.reply.Sight.{Sight}
 use Rattle.uring_enter.specs.declared.call.reply.Reply.{Reply}
-use Rattle.uring_enter.specs.declared.call.reply.Reply.TheVariants.{Woken}
+use Rattle.uring_enter.specs.declared.call.reply.Reply.TheVariants.{Woken, LeastOver}
 use Rattle.uring_enter.specs.Call.Replies.{waits, looks, is_enough}
 use Rattle.uring_enter.specs.declared.call.asked.Policy.{Policy}
 use Rattle.uring_enter.specs.declared.call.asked.Policy.TheVariants.{InOrder, Lazy, ByChoice}
-use Rattle.uring_enter.specs.Call.Due.{go_by, ended, waiting, looking, leaving, going, stuck, hearing}
+use Rattle.uring_enter.specs.Call.Due.{go_by, ended, waiting, looking, leaving, going, stuck, hearing, least_over}
 use Rattle.std.proofs.Common.{pos, ◌&&◌, not, nat_lt}
 
 pub true_is_not_false : true ≡ false → ⊥
@@ -78,12 +78,20 @@ pub stuck_unless_waiting : (p : Command → Bool) → IsElse p → p command.Pas
 stuck_unless_waiting p rest at_passing a log sight passes =
     stuck_by p rest at_passing a log sight (waits a log) refl passes
 
+-- once the least time is over, for a test that a hearing doesn't pass
+pub least_over_else : (p : Command → Bool) → ((v : ℤ) → p (command.Return v) ≡ false)
+    → p (command.Hear true) ≡ false → (log : List Reply) (sight : Sight) (b : Bool)
+    → p (least_over log sight b) ≡ false
+least_over_else p at_end at_hearing log sight b = if_false p _ _ _ (at_end _) at_hearing
+
 -- of a hearing, for a test that submitting and sleeping don't pass either
 pub hearing_else : (p : Command → Bool) → IsElse p → p command.Submit ≡ false
     → p command.Sleep ≡ false → (a : Asked) (log : List Reply) (sight : Sight)
     → p (hearing a log sight) ≡ false
 hearing_else p rest at_submit at_sleep a [] sight = at_submit
 hearing_else p rest at_submit at_sleep a (Woken ∷ log) sight = going_else p rest a log true sight
+hearing_else p rest at_submit at_sleep a (LeastOver seen b ∷ log) sight =
+    going_else p rest a (LeastOver seen b ∷ log) true sight
 hearing_else p rest at_submit at_sleep a (last ∷ log) sight =
     if_false p (is_enough a (last ∷ log) sight) _ _ (rest.at_end _) at_sleep
 

@@ -1,9 +1,9 @@
 -- What is kept of the requests that are due holds each of them.
-use Rattle.std.proofs.Common.{◌≡◌, ℕ, ◌-◌, ◌≤◌, ◌<◌, Bool, true, false, not, ◌&&◌, ◌||◌, ◌==◌, nat_le, nat_lt, List, ◌∷◌, Some, None, refl, sym, subst, ◌∙◌, inl, inr, arith, if◌then◌else◌}
+use Rattle.std.proofs.Common.{◌≡◌, ℕ, ◌-◌, ◌≤◌, ◌<◌, Bool, true, false, not, ◌&&◌, ◌||◌, ◌==◌, nat_le, nat_lt, List, [], ◌∷◌, ◌++◌, Some, None, refl, sym, subst, ◌∙◌, inl, inr, arith, if◌then◌else◌}
 use Rattle.std.specs.Prelude.{min, max}
 use Rattle.std.proofs.lemmas.Bool.{false≢true, true≢false, and_parts, ltb-true, ltb-false, leb-true, leb-false, eqb-true, lt-ltb, le-ltb, le-leb, eq-eqb, cases_Bool}
 use Rattle.uring_enter.specs.declared.going_on.due.Due.{Due}
-use Rattle.uring_enter.specs.GoingOn.Due.{Happening, Noted, FoundBefore, KeepsDue, joined, cut, is_due, IsIn, LooksAtEachDue, LooksBefore}
+use Rattle.uring_enter.specs.GoingOn.Due.{Happening, Noted, FoundBefore, KeepsDue, joined, cut, is_due, may_be_up_to, notes_up_to, IsIn, LooksAtEachDue, LooksAtNoneAgain, LooksBefore}
 
 -- a number stands from the first to the last, if any does
 abbrev Within : (any : Bool) → (first last number : ℕ) → Type 0
@@ -40,10 +40,23 @@ last_joined log true last n keep =
           subst (λ m. is_due (Noted n ∷ log) m ≡ true) (sym is) (or_first (n == n) (is_due log n) (eq-eqb n n refl))
     ]
 
+first_joined : (log : List Happening) (any : Bool) (first n number : ℕ)
+    → ((m : ℕ) → any ≡ true → first ≤ m → may_be_up_to log m ≡ true)
+    → (if any then min first n else n) ≤ number → may_be_up_to (Noted n ∷ log) number ≡ true
+first_joined log false first n number keep le = or_first (nat_le n number) (may_be_up_to log number) (le-leb n number le)
+first_joined log true first n number keep le =
+    elim (cases_Bool (nat_le n number)) [
+      | inl is ↦ or_first (nat_le n number) (may_be_up_to log number) is
+      | inr more ↦
+          let past = leb-false n number more in
+          or_second (nat_le n number) (may_be_up_to log number) (keep number refl (omega (arith, past, le)))
+    ]
+
 pub noted : (log : List Happening) (d : Due) (n : ℕ) → KeepsDue log d → KeepsDue (Noted n ∷ log) (joined d n)
 noted log d n keeps = record {
   within = λ number is. within_joined d.is_any (number == n) (is_due log number) d.first d.last n number (eqb-true number n) (keeps.within number) is;
   last = λ any. last_joined log d.is_any d.last n keeps.last;
+  first = λ number any le. first_joined log d.is_any d.first n number keeps.first le;
 }
 
 not_true : (b : Bool) → not b ≡ true → b ≡ false
@@ -66,10 +79,19 @@ last_cut log any last end keep is =
     let past : nat_lt last end ≡ false = le-ltb last end (leb-true end last parts.1) in
     subst (λ b. (not b && is_due log last) ≡ true) (sym past) (keep parts.0)
 
+first_cut : (log : List Happening) (any : Bool) (first last end number : ℕ)
+    → ((m : ℕ) → any ≡ true → first ≤ m → may_be_up_to log m ≡ true)
+    → (any && nat_le end last) ≡ true → max first end ≤ number → may_be_up_to (FoundBefore end ∷ log) number ≡ true
+first_cut log any first last end number keep is le =
+    let parts = and_parts any (nat_le end last) is in
+    let past : nat_lt number end ≡ false = le-ltb number end (omega (arith, le)) in
+    subst (λ b. (not b && may_be_up_to log number) ≡ true) (sym past) (keep number parts.0 (omega (arith, le)))
+
 pub found : (log : List Happening) (d : Due) (end : ℕ) → KeepsDue log d → KeepsDue (FoundBefore end ∷ log) (cut d end)
 found log d end keeps = record {
   within = λ number is. within_cut d.is_any (is_due log number) d.first d.last end number (keeps.within number) is;
   last = last_cut log d.is_any d.last end keeps.last;
+  first = λ number. first_cut log d.is_any d.first d.last end number keeps.first;
 }
 
 pub none_due : (log : List Happening) (d : Due) (number : ℕ) → KeepsDue log d → d.is_any ≡ false → is_due log number ≡ false
@@ -98,3 +120,31 @@ before_by false first last end number low is = absurd is
 pub looks_before : LooksBefore
 looks_before d number end =
     before_by (d.is_any && nat_lt d.first end) d.first d.last end number (λ some. ltb-true d.first end (and_parts d.is_any (nat_lt d.first end) some).1)
+
+up_to_by : (newer earlier : List Happening) (found number : ℕ) → number < found
+    → may_be_up_to (newer ++ FoundBefore found ∷ earlier) number ≡ true → notes_up_to newer number ≡ true
+up_to_by [] earlier found number low is =
+    absurd (false≢true (subst (λ b. (not b && may_be_up_to earlier number) ≡ true) (lt-ltb number found low) is))
+up_to_by (Noted n ∷ newer) earlier found number low is =
+    elim (cases_Bool (nat_le n number)) [
+      | inl le ↦ or_first (nat_le n number) (notes_up_to newer number) le
+      | inr more ↦
+          or_second (nat_le n number) (notes_up_to newer number)
+          (up_to_by newer earlier found number low
+          (subst (λ b. (b || may_be_up_to (newer ++ FoundBefore found ∷ earlier) number) ≡ true) more is))
+    ]
+up_to_by (FoundBefore end ∷ newer) earlier found number low is =
+    up_to_by newer earlier found number low
+    (and_parts (not (nat_lt number end)) (may_be_up_to (newer ++ FoundBefore found ∷ earlier) number) is).1
+
+in_span : (any low : Bool) (first last end number : ℕ)
+    → IsIn number (if any && low then Some (record { first = first; last = min last (end - 1) }) else None)
+    → (any ≡ true) × (first ≤ number)
+in_span true true first last end number is = (refl, is.0)
+in_span true false first last end number is = absurd is
+in_span false low first last end number is = absurd is
+
+pub looks_at_none_again : LooksAtNoneAgain
+looks_at_none_again newer earlier d found number end keeps low none is =
+    let kept = in_span d.is_any (nat_lt d.first end) d.first d.last end number is in
+    false≢true (sym none ∙ up_to_by newer earlier found number low (keeps.first number kept.0 kept.1))

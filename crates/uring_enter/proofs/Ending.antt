@@ -8,11 +8,11 @@ use Rattle.uring_enter.specs.declared.call.command.Command.{Command}
 use Rattle.uring_enter.specs.declared.call.command.Command.TheVariants as command
 use Rattle.uring_enter.specs.declared.call.reply.Sight.{Sight}
 use Rattle.uring_enter.specs.declared.call.reply.Reply.{Reply}
-use Rattle.uring_enter.specs.declared.call.reply.Reply.TheVariants.{Heard, WrongHead, Taken, NotTaken, WentOn, Chosen, Stuck, Woken, TimedOut, Interrupted, Endless, Failed, Passed}
+use Rattle.uring_enter.specs.declared.call.reply.Reply.TheVariants.{Heard, WrongHead, Taken, NotTaken, WentOn, Chosen, Stuck, Woken, TimedOut, Interrupted, Endless, Failed, Passed, LeastOver}
 use Rattle.uring_enter.specs.Call.Replies.{waits, is_enough}
 use Rattle.uring_enter.specs.Call.Due.{due, is_reply_to, go_by, ended, going, stuck}
 use Rattle.uring_enter.specs.Call.Laws.{saw_enough, EndsForAReason}
-use Rattle.uring_enter.proofs.Commands.{if_false, going_else, stuck_else, hearing_else, going_waiting, stuck_waiting}
+use Rattle.uring_enter.proofs.Commands.{if_false, going_else, stuck_else, hearing_else, least_over_else, going_waiting, stuck_waiting}
 use Rattle.uring_enter.proofs.Running.{against, passing_is_else}
 
 -- no entries were taken: the call doesn't wait
@@ -63,6 +63,7 @@ chosen : (a : Asked) (log : List Reply) → waits a log ≡ true
 chosen a [] waits_on answers = cc
 chosen a (Heard s ∷ []) waits_on answers = cc
 chosen a (Heard s ∷ Woken ∷ log) waits_on answers = waiting_offers a log true s waits_on answers
+chosen a (Heard s ∷ LeastOver t b ∷ log) waits_on answers = waiting_offers a (LeastOver t b ∷ log) true s waits_on answers
 chosen a (Heard s ∷ last ∷ log) waits_on answers =
     absurd (against _ (if_false (λ c. is_reply_to c Chosen) (is_enough a (last ∷ log) s) _ _ refl refl) answers)
 chosen a (Taken n s ∷ log) waits_on answers =
@@ -75,6 +76,8 @@ chosen a (Woken ∷ log) waits_on answers = cc
 chosen a (WrongHead ∷ log) waits_on answers = cc
 chosen a (Chosen ∷ log) waits_on answers = cc
 chosen a (TimedOut t ∷ log) waits_on answers = cc
+chosen a (LeastOver t b ∷ log) waits_on answers =
+    absurd (against _ (least_over_else (λ c. is_reply_to c Chosen) (λ v. refl) refl log t b) answers)
 chosen a (Interrupted t ∷ log) waits_on answers = cc
 chosen a (Endless ∷ log) waits_on answers = cc
 chosen a (Failed n ∷ log) waits_on answers = cc
@@ -97,6 +100,8 @@ passed a (Woken ∷ log) waits_on answers = cc
 passed a (WrongHead ∷ log) waits_on answers = cc
 passed a (Chosen ∷ log) waits_on answers = cc
 passed a (TimedOut t ∷ log) waits_on answers = cc
+passed a (LeastOver t b ∷ log) waits_on answers =
+    against _ (least_over_else (λ c. is_reply_to c Passed) (λ v. refl) refl log t b) answers
 passed a (Interrupted t ∷ log) waits_on answers = cc
 passed a (Endless ∷ log) waits_on answers = cc
 passed a (Failed n ∷ log) waits_on answers = cc
@@ -112,6 +117,7 @@ unfolding is_end
 ends_for_a_reason a [] v run waits_on is = cc
 ends_for_a_reason a (Heard s ∷ []) v run waits_on is = cc
 ends_for_a_reason a (Heard s ∷ Woken ∷ log) v run waits_on is = waiting_ends a log true s v waits_on is
+ends_for_a_reason a (Heard s ∷ LeastOver t b ∷ log) v run waits_on is = waiting_ends a (LeastOver t b ∷ log) true s v waits_on is
 ends_for_a_reason a (Heard s ∷ last ∷ log) v run waits_on is = then_of _ _ _ v refl is
 ends_for_a_reason a (Taken n s ∷ log) v run waits_on is =
     waiting_ends a (Taken n s ∷ log) false s v waits_on is
@@ -123,6 +129,7 @@ ends_for_a_reason a (Passed ∷ log) v run waits_on is = absurd (passed a log wa
 ends_for_a_reason a (Chosen ∷ log) v run waits_on is = chosen a log waits_on (and_parts _ _ run).0
 ends_for_a_reason a (WrongHead ∷ log) v run waits_on is = tt
 ends_for_a_reason a (TimedOut t ∷ log) v run waits_on is = tt
+ends_for_a_reason a (LeastOver t b ∷ log) v run waits_on is = then_of _ _ _ v refl is
 ends_for_a_reason a (Interrupted t ∷ log) v run waits_on is = tt
 ends_for_a_reason a (Endless ∷ log) v run waits_on is = tt
 ends_for_a_reason a (Failed n ∷ log) v run waits_on is = tt

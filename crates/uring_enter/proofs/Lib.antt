@@ -2,6 +2,7 @@ mod Next
 mod Commands
 mod Running
 mod Ending
+mod Returning
 mod TimeoutOrder
 mod TimeoutRows
 mod TimeoutRuns
@@ -18,6 +19,9 @@ mod LeavingRuns
 mod PuttingOffRuns
 mod PassageRuns
 mod StepRuns
+mod TakingRuns
+mod RingingRuns
 mod JoiningRuns
 mod DueRuns
 mod SignalRuns
+mod RivalRuns

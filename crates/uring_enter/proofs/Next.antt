@@ -1,13 +1,13 @@
 -- What comes next, after some replies.
-use Rattle.std.proofs.Common.{◌≡◌, ℕ, pos, true, false, List, [], ◌∷◌, refl}
+use Rattle.std.proofs.Common.{◌≡◌, ℕ, pos, Bool, true, false, List, [], ◌∷◌, refl}
 use Rattle.uring_enter.specs.declared.call.asked.Asked.{Asked}
 use Rattle.uring_enter.specs.declared.call.command.Command.TheVariants as command
 use Rattle.uring_enter.specs.declared.call.enter.Before.TheVariants.{Other}
 use Rattle.uring_enter.specs.declared.call.reply.Sight.{Sight}
 use Rattle.uring_enter.specs.declared.call.reply.Reply.{Reply}
-use Rattle.uring_enter.specs.declared.call.reply.Reply.TheVariants.{Woken, Taken, NotTaken}
+use Rattle.uring_enter.specs.declared.call.reply.Reply.TheVariants.{Woken, Taken, NotTaken, LeastOver}
 use Rattle.uring_enter.specs.Call.Replies.{is_enough}
-use Rattle.uring_enter.specs.Call.Due.{hearing, ended, due, going}
+use Rattle.uring_enter.specs.Call.Due.{hearing, ended, least_over, due, going}
 use Rattle.uring_enter.specs.Call.After.{before_of}
 
 -- the application was heard after anything but a sleep
@@ -16,6 +16,7 @@ pub heard_enough : (a : Asked) (log : List Reply) (sight : Sight)
     → hearing a log sight ≡ ended log (pos 0)
 heard_enough a [] sight other enough = cc
 heard_enough a (Woken ∷ log) sight other enough = cc
+heard_enough a (LeastOver seen b ∷ log) sight other enough = cc
 heard_enough a (last ∷ log) sight other enough = rw enough refl
 
 pub heard_too_few : (a : Asked) (log : List Reply) (sight : Sight)
@@ -23,6 +24,7 @@ pub heard_too_few : (a : Asked) (log : List Reply) (sight : Sight)
     → hearing a log sight ≡ command.Sleep
 heard_too_few a [] sight other few = cc
 heard_too_few a (Woken ∷ log) sight other few = cc
+heard_too_few a (LeastOver seen b ∷ log) sight other few = cc
 heard_too_few a (last ∷ log) sight other few = rw few refl
 
 -- what comes once the entries are submitted
@@ -33,3 +35,8 @@ due_taken a log reply count sight is = rw is refl
 pub due_not_taken : (a : Asked) (log : List Reply) (reply : Reply) (number : ℕ) (sight : Sight)
     → reply ≡ NotTaken number sight → due a (reply ∷ log) ≡ going a (reply ∷ log) false sight
 due_not_taken a log reply number sight is = rw is refl
+
+-- what comes once the least time is over
+pub due_least_over : (a : Asked) (log : List Reply) (reply : Reply) (sight : Sight) (has_limit : Bool)
+    → reply ≡ LeastOver sight has_limit → due a (reply ∷ log) ≡ least_over (reply ∷ log) sight has_limit
+due_least_over a log reply sight has_limit is = rw is refl

@@ -6,11 +6,11 @@ use Rattle.uring_enter.specs.declared.call.command.Command.{Command}
 use Rattle.uring_enter.specs.declared.call.command.Command.TheVariants as command
 use Rattle.uring_enter.specs.declared.call.reply.Sight.{Sight}
 use Rattle.uring_enter.specs.declared.call.reply.Reply.{Reply}
-use Rattle.uring_enter.specs.declared.call.reply.Reply.TheVariants.{Heard, WrongHead, Taken, NotTaken, WentOn, Chosen, Stuck, Woken, TimedOut, Interrupted, Endless, Failed, Passed}
+use Rattle.uring_enter.specs.declared.call.reply.Reply.TheVariants.{Heard, WrongHead, Taken, NotTaken, WentOn, Chosen, Stuck, Woken, TimedOut, Interrupted, Endless, Failed, Passed, LeastOver}
 use Rattle.uring_enter.specs.Call.Replies.{is_enough}
 use Rattle.uring_enter.specs.Call.Due.{due, is_reply_to, ended}
 use Rattle.uring_enter.specs.Call.Laws.{IsInVain, SleepsInVain, GivesUpInVain, SubmitsOnce}
-use Rattle.uring_enter.proofs.Commands.{true_is_not_false, if_false, IsElse, going_else, stuck_else, stuck_unless_waiting, hearing_else}
+use Rattle.uring_enter.proofs.Commands.{true_is_not_false, if_false, IsElse, going_else, stuck_else, stuck_unless_waiting, hearing_else, least_over_else}
 
 -- what can't be
 pub against : (x : Bool) → x ≡ false → x ≡ true → ⊥
@@ -32,7 +32,7 @@ submitting_is_else : IsElse submits
 unfolding submits
 submitting_is_else = record { at_end = λ v. refl; at_going = λ b. refl; at_going_fully = refl }
 
-hearing_is_else : (sight : Sight) → IsElse (λ c. is_reply_to c (Heard sight))
+pub hearing_is_else : (sight : Sight) → IsElse (λ c. is_reply_to c (Heard sight))
 hearing_is_else sight = record { at_end = λ v. refl; at_going = λ b. refl; at_going_fully = refl }
 
 pub passing_is_else : IsElse (λ c. is_reply_to c Passed)
@@ -73,6 +73,8 @@ heard_after a s (WentOn t) log answers is =
 heard_after a s WrongHead log answers is = cc
 heard_after a s Chosen log answers is = cc
 heard_after a s (TimedOut t) log answers is = cc
+heard_after a s (LeastOver t b) log answers is =
+    absurd (no_sleep _ (going_else sleeps sleeping_is_else a (LeastOver t b ∷ log) true s) is)
 heard_after a s (Interrupted t) log answers is = cc
 heard_after a s Endless log answers is = cc
 heard_after a s (Failed n) log answers is = cc
@@ -95,6 +97,7 @@ sleeps_in_vain a (Woken ∷ log) run is = cc
 sleeps_in_vain a (WrongHead ∷ log) run is = cc
 sleeps_in_vain a (Chosen ∷ log) run is = cc
 sleeps_in_vain a (TimedOut t ∷ log) run is = cc
+sleeps_in_vain a (LeastOver t b ∷ log) run is = absurd (no_sleep _ (least_over_else sleeps (λ v. refl) refl log t b) is)
 sleeps_in_vain a (Interrupted t ∷ log) run is = cc
 sleeps_in_vain a (Endless ∷ log) run is = cc
 sleeps_in_vain a (Failed n ∷ log) run is = cc
@@ -119,6 +122,8 @@ submits_once a [] run is = cc
 submits_once a (Heard s ∷ []) run is = (s, refl)
 submits_once a (Heard s ∷ Woken ∷ log) run is =
     absurd (no_submission _ (going_else submits submitting_is_else a log true s) is)
+submits_once a (Heard s ∷ LeastOver t b ∷ log) run is =
+    absurd (no_submission _ (going_else submits submitting_is_else a (LeastOver t b ∷ log) true s) is)
 submits_once a (Heard s ∷ last ∷ log) run is =
     absurd (no_submission _ (if_false submits (is_enough a (last ∷ log) s) _ _ refl refl) is)
 submits_once a (Taken n t ∷ log) run is =
@@ -133,6 +138,7 @@ submits_once a (Woken ∷ log) run is = cc
 submits_once a (WrongHead ∷ log) run is = cc
 submits_once a (Chosen ∷ log) run is = cc
 submits_once a (TimedOut t ∷ log) run is = cc
+submits_once a (LeastOver t b ∷ log) run is = absurd (no_submission _ (least_over_else submits (λ v. refl) refl log t b) is)
 submits_once a (Interrupted t ∷ log) run is = cc
 submits_once a (Endless ∷ log) run is = cc
 submits_once a (Failed n ∷ log) run is = cc

@@ -23,7 +23,7 @@ quotients_in_order : (n p q : ℕ) → p < q → p * n + n ≤ q * n
 quotients_in_order n p q less = grind arith
 
 -- numbers less than n apart have one remainder only where they are equal
-same_remainder : (n a b : ℕ) → a ≤ b → b < a + n → a % n ≡ b % n → a ≡ b
+pub same_remainder : (n a b : ℕ) → a ≤ b → b < a + n → a % n ≡ b % n → a ≡ b
 same_remainder n a b ordered near same =
     let left : a / n * n + a % n ≡ a = div-add-mod' a n in
     let right : b / n * n + b % n ≡ b = div-add-mod' b n in
@@ -35,7 +35,7 @@ same_remainder n a b ordered near same =
     (cases_order (a / n) (b / n))
 
 -- the cell of a position is that of its count
-cell_of_position : (k x : ℕ) → k ≤ 32 → x % 2 ^ 32 % 2 ^ k ≡ x % 2 ^ k
+pub cell_of_position : (k x : ℕ) → k ≤ 32 → x % 2 ^ 32 % 2 ^ k ≡ x % 2 ^ k
 cell_of_position k x fits =
     let whole : (32 - k) + k ≡ 32 = omega arith in
     let P : ℕ → Type 0 = λ w. x % 2 ^ w % 2 ^ k ≡ x % 2 ^ k in

@@ -3,7 +3,7 @@ use Rattle.std.proofs.Common.{◌≡◌, Bool, true, false, not, ◌&&◌, ◌||
 use Rattle.std.proofs.lemmas.Bool.{false≢true, true≢false}
 use Rattle.uring_enter.specs.declared.call.asked.Asked.{Asked}
 use Rattle.uring_enter.specs.declared.call.reply.Reply.{Reply}
-use Rattle.uring_enter.specs.declared.call.reply.Reply.TheVariants.{Heard, WrongHead, Taken, NotTaken, WentOn, Chosen, Stuck, Woken, TimedOut, Interrupted, Endless, Failed, Passed}
+use Rattle.uring_enter.specs.declared.call.reply.Reply.TheVariants.{Heard, WrongHead, Taken, NotTaken, WentOn, Chosen, Stuck, Woken, TimedOut, Interrupted, Endless, Failed, Passed, LeastOver}
 use Rattle.uring_enter.specs.Call.Replies.{has_taken_all}
 use Rattle.uring_enter.specs.Call.Laws.{IsInVain}
 use Rattle.uring_enter.specs.declared.call.signals.Doing.TheVariants.{Looks, LooksUp, AsksNotToWait, CarriesOut}
@@ -31,6 +31,7 @@ blocked_in_vain q a (Heard s ∷ Woken ∷ log) is = absurd is
 blocked_in_vain q a (Heard s ∷ WrongHead ∷ log) is = absurd is
 blocked_in_vain q a (Heard s ∷ Chosen ∷ log) is = absurd is
 blocked_in_vain q a (Heard s ∷ TimedOut t ∷ log) is = absurd is
+blocked_in_vain q a (Heard s ∷ LeastOver t b ∷ log) is = absurd is
 blocked_in_vain q a (Heard s ∷ Interrupted t ∷ log) is = absurd is
 blocked_in_vain q a (Heard s ∷ Endless ∷ log) is = absurd is
 blocked_in_vain q a (Heard s ∷ Failed n ∷ log) is = absurd is
@@ -43,6 +44,7 @@ blocked_in_vain q a (Woken ∷ log) is = absurd is
 blocked_in_vain q a (WrongHead ∷ log) is = absurd is
 blocked_in_vain q a (Chosen ∷ log) is = absurd is
 blocked_in_vain q a (TimedOut t ∷ log) is = absurd is
+blocked_in_vain q a (LeastOver t b ∷ log) is = absurd is
 blocked_in_vain q a (Interrupted t ∷ log) is = absurd is
 blocked_in_vain q a (Endless ∷ log) is = absurd is
 blocked_in_vain q a (Failed n ∷ log) is = absurd is

@@ -13,3 +13,4 @@ pub mod Jumps
 pub mod Hearing
 pub mod Selecting
 pub mod Enlisting
+pub mod Rivals

@@ -4,3 +4,4 @@ pub mod core_entry;
 pub mod drains;
 pub mod rounds;
 pub mod taking;
+pub mod taking_laws;

@@ -9,6 +9,7 @@ pub mod lookout;
 pub mod lying;
 pub mod missed;
 pub mod pipe_poll;
+pub mod rivals;
 pub mod selecting;
 pub mod sighting;
 pub mod sleeping;

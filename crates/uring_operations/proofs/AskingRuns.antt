@@ -1,9 +1,10 @@
--- The law of what is asked of open files, and taken back.
-use Rattle.std.proofs.Common.{◌≡◌, ℕ, ◌+◌, ◌^◌, ◌<◌, Bool, true, false, not, ◌==◌, Option, Some, None, refl, sym, ap, ◌∙◌, if◌then◌else◌, arith}
+-- The laws of what is asked of open files, and taken back.
+use Rattle.std.proofs.Common.{◌≡◌, ℕ, ◌+◌, ◌^◌, ◌<◌, Bool, true, false, not, ◌&&◌, ◌||◌, ◌==◌, nat_lt, Option, Some, None, refl, sym, ap, ◌∙◌, if◌then◌else◌, arith}
 use Rattle.std.specs.Int.RustNames.{bit_and, bit_or}
 use Rattle.std.proofs.lemmas.Bool.{eqb-true, false≢true}
 use Rattle.std.proofs.lemmas.Nat.{and_comm, and_or_self, or_disjoint, or_lt, and-not}
-use Rattle.uring_operations.specs.Files.Asking.{TakesBackWhatItAsked, flags_after}
+use Rattle.uring_operations.specs.Entries.Needs.{is_of_sockets}
+use Rattle.uring_operations.specs.Files.Asking.{CallsNeverSleep, TakesBackWhatItAsked, flags_after}
 
 -- a bit that is set and cleared again leaves the others
 back : (flags : ℕ) → flags < 2 ^ 32 → bit_and flags 2048 ≡ 0 → bit_and (bit_or flags 2048) 4294965247 ≡ flags
@@ -41,3 +42,19 @@ taken_back flags asked false below is was = absurd (false≢true (ap is_none_of 
 pub takes_back_what_it_asked : TakesBackWhatItAsked
 takes_back_what_it_asked flags asked below =
     (taken_back flags asked (bit_and flags 2048 == 0) below refl, λ is_known. refl)
+
+-- what has no flag of a message is asked by its descriptors
+asked : (sockets accept connect splice tee : Bool) → sockets || (splice || tee) ≡ true
+    → (sockets && not accept && not connect) || nat_lt 0 (if accept || connect then 1 else if splice || tee then 2 else 0) ≡ true
+asked true true connect splice tee is = refl
+asked true false true splice tee is = refl
+asked true false false splice tee is = refl
+asked false true connect splice tee is = refl
+asked false false true splice tee is = refl
+asked false false false true tee is = refl
+asked false false false false true is = refl
+asked false false false false false is = absurd (false≢true is)
+
+pub calls_never_sleep : CallsNeverSleep
+calls_never_sleep e is =
+    asked (is_of_sockets e.opcode) (e.opcode == 13) (e.opcode == 16) (e.opcode == 30) (e.opcode == 33) is

@@ -9,7 +9,7 @@ use Rattle.uring_operations.specs.declared.calls.waiting_call.Turn.{Turn}
 use Rattle.uring_operations.specs.declared.calls.waiting_call.Turn.TheVariants.{Does, Waits, Ends, EndsWithDone}
 use Rattle.uring_operations.specs.Entries.Needs.{is_of_sockets, takes_errors}
 use Rattle.uring_operations.specs.Requests.Readiness.{has_message_flags}
-use Rattle.uring_operations.specs.Calls.CallTries.{polls_first, is_asked, heeds_will, after_vain, is_connected, is_repeated, waits_for_all, would_wait, ends_with, after, after_call, after_connect, after_message, EndsWithWhatCame, LosesNoBytes}
+use Rattle.uring_operations.specs.Calls.CallTries.{accepts_on, polls_first, is_asked, heeds_will, after_vain, is_connected, is_repeated, waits_for_all, would_wait, ends_with, after, after_call, after_connect, after_message, EndsWithWhatCame, LosesNoBytes}
 use Rattle.uring_entry.specs.Errors.{error}
 
 abbrev end_in : Turn → ℤ
@@ -87,7 +87,7 @@ ends_with_what_came e c (Some Polls) res end is =
     inr (inl (poll_end (e.opcode == 13) (not (int_eq res (pos 0))) (e.opcode == 16) (after_vain e c) end
     (λ vain. vain_end (takes_errors e) (heeds_will e.opcode) (has_message_flags e.opcode && not (c.done == 0)) end vain) is))
 ends_with_what_came e c (Some AsksWill) res end is =
-    inr (inl (will_end (int_eq res (pos 0)) (has_message_flags e.opcode && not (c.done == 0)) end is))
+    inr (inl (will_end (int_eq res (pos 0) || accepts_on e) (has_message_flags e.opcode && not (c.done == 0)) end is))
 ends_with_what_came e c (Some AsksType) res end is = absurd (no_end (int_eq res (pos 0)) EndsWithDone Waits end refl refl is)
 ends_with_what_came e c (Some AsksError) res end is = inl (error_end (e.opcode == 16 && int_eq res (pos 0)) res end is)
 
@@ -157,7 +157,7 @@ loses_no_bytes e c (Some Polls) res end message moved is =
     absurd (ends_not (after e c Polls res) end (moved_poll (e.opcode == 13) (not (int_eq res (pos 0))) (e.opcode == 16) (after_vain e c)
     (moved_vain (takes_errors e) (heeds_will e.opcode) (has_message_flags e.opcode) (c.done == 0) message moved)) is)
 loses_no_bytes e c (Some AsksWill) res end message moved is =
-    absurd (ends_not (after e c AsksWill res) end (chosen_end (int_eq res (pos 0)) Waits (ends_with e c (error 11)) refl
+    absurd (ends_not (after e c AsksWill res) end (chosen_end (int_eq res (pos 0) || accepts_on e) Waits (ends_with e c (error 11)) refl
     (moved_end (has_message_flags e.opcode) (c.done == 0) (error 11) message moved)) is)
 loses_no_bytes e c (Some AsksType) res end message moved is = absurd (no_end (int_eq res (pos 0)) EndsWithDone Waits end refl refl is)
 loses_no_bytes e c (Some AsksError) res end message moved is = refl

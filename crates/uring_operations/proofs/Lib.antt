@@ -4,7 +4,6 @@ mod ChainRuns
 mod WayRuns
 mod DescriptorRuns
 mod CallTryRuns
-mod MeansRuns
 mod CancellingRuns
 mod AfreshRuns
 mod AdvanceRuns

@@ -2,6 +2,7 @@
 
 pub mod advance;
 pub mod call_results;
+pub mod held;
 pub mod instance;
 pub mod layout;
 pub mod means;

@@ -3,8 +3,8 @@ use Rattle.std.proofs.Common.{◌≡◌, pos, negsuc, Bool, true, false, not, if
 use Rattle.std.specs.Prelude.{nat_le}
 use Rattle.std.specs.Ordering.{int_eq}
 use Rattle.uring_entry.specs.Errors.{error}
-use Rattle.uring_register.specs.Calling.{call_of, is_call}
-use Rattle.uring_register.specs.CallingLaws.{IsMadeByRight}
+use Rattle.uring_register.specs.Calls.Calling.{call_of, is_call}
+use Rattle.uring_register.specs.Calls.CallingLaws.{IsMadeByRight}
 
 -- what is so where there is no fault
 made : (past bare there ring another allowed served : Bool)

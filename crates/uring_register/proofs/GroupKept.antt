@@ -1,8 +1,8 @@
 -- What is kept of a group whose first buffers are gone.
 use Rattle.std.proofs.Common.{◌≡◌, ℕ, ◌+◌, ◌-◌, ◌^◌, ◌%◌, ◌<◌, ◌≤◌, slice_index_or, List, ◌∷◌, ◌∙◌, sym, ap, arith}
-use Rattle.uring_register.specs.declared.group.Group.{Group}
-use Rattle.uring_register.specs.declared.group.Buffer.{Buffer}
-use Rattle.uring_register.specs.Provided.{Change, KeepsGroup, is_there, entries, taken, gone, provided, nth, nothing}
+use Rattle.uring_register.specs.declared.buffers.group.Group.{Group}
+use Rattle.uring_register.specs.declared.buffers.group.Buffer.{Buffer}
+use Rattle.uring_register.specs.Buffers.Provided.{Change, KeepsGroup, is_there, entries, taken, gone, provided, nth, nothing}
 
 -- of the n-th that is left, where so many are gone
 next_rows : (log : List Change) (g : Group) (rows : List Buffer) (n i : ℕ) → KeepsGroup log g rows

@@ -2,8 +2,8 @@
 use Rattle.std.proofs.Common.{◌≡◌, ℕ, ◌+◌, ◌-◌, ◌%◌, ◌^◌, ◌<◌, ◌≤◌, inl, inr, refl, List, [], ◌∷◌, ◌++◌, ◌∙◌, sym, subst, arith}
 use Rattle.std.proofs.lemmas.Bool.{cases_lt}
 use Rattle.std.proofs.Math.Pow.{mod-mod-pow}
-use Rattle.uring_register.specs.Provided.{Change, Provided, Removed, Took, Registered, Unregistered, provided, gone, nth}
-use Rattle.uring_register.specs.ProvidedLaws.{IsProvided, GivesWhatWasProvided, KeepsWhatWasProvided, TakesNoMore, TakesInOrder, TakesCellsInTurn}
+use Rattle.uring_register.specs.Buffers.Provided.{Change, Provided, Removed, Took, Registered, Unregistered, provided, gone, nth}
+use Rattle.uring_register.specs.Buffers.ProvidedLaws.{IsProvided, GivesWhatWasProvided, KeepsWhatWasProvided, TakesNoMore, TakesInOrder, TakesCellsInTurn}
 
 pub takes_no_more : TakesNoMore
 takes_no_more [] = omega arith

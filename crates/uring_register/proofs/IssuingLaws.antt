@@ -1,7 +1,7 @@
 -- The laws of issuers.
 use Rattle.std.proofs.Common.{[], ◌∷◌, refl, arith}
-use Rattle.uring_register.specs.Issuing.{SetUp, Enabled, Called}
-use Rattle.uring_register.specs.IssuingLaws.{DisabledHasNone}
+use Rattle.uring_register.specs.Rings.Issuing.{SetUp, Enabled, Called}
+use Rattle.uring_register.specs.Rings.IssuingLaws.{DisabledHasNone}
 
 pub disabled_has_none : DisabledHasNone
 disabled_has_none [] so = refl

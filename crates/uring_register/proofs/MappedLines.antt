@@ -6,8 +6,8 @@ use Rattle.std.specs.Option.{unwrap_or}
 use Rattle.std.proofs.lemmas.Bool.{and_parts, cases_Bool, eqb-true}
 use Rattle.std.proofs.lemmas.List.Elements.{All-from_recursion}
 use Rattle.std.proofs.lemmas.List.Splits.{slice_split_at}
-use Rattle.uring_register.specs.Texts.{digit_value, is_number, position_of, first_word, after_word, blanks_of, part_of}
-use Rattle.uring_register.specs.Mapped.{Fields, AreFields, IsReadSo, begins_with, line_of}
+use Rattle.uring_register.specs.KernelLists.Texts.{digit_value, is_number, position_of, first_word, after_word, blanks_of, part_of}
+use Rattle.uring_register.specs.KernelLists.Mapped.{Fields, AreFields, IsReadSo, begins_with, line_of}
 
 abbrev HasNo : (byte : ℕ) → List ℕ → Type 0
 HasNo byte text = AllByRecursion (λ other. (other == byte) ≡ false) text

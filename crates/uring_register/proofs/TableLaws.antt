@@ -1,8 +1,8 @@
 -- The laws of tables.
 use Rattle.std.proofs.Common.{◌≡◌, ℕ, ◌<◌, ◌≤◌, ◌⊎◌, List, [], ◌∷◌, inl, inr, arith}
 use Rattle.std.proofs.lemmas.Bool.{cases_lt}
-use Rattle.uring_register.specs.Tables.{Filing, Registered, Unregistered, Filled, Ranged, content, hint, start, start_by, range_from, range_end, IsGivenBy, GivesNoneBy}
-use Rattle.uring_register.specs.TableLaws.{GivesFreeSlots, GivesWhatIsFree, KeepsOthers}
+use Rattle.uring_register.specs.Tables.Tables.{Filing, Registered, Unregistered, Filled, Ranged, content, hint, start, start_by, range_from, range_end, IsGivenBy, GivesNoneBy}
+use Rattle.uring_register.specs.Tables.TableLaws.{GivesFreeSlots, GivesWhatIsFree, KeepsOthers}
 
 ordered : (log : List Filing) → range_from log ≤ range_end log
 ordered [] = omega arith

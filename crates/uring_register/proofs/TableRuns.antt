@@ -1,7 +1,7 @@
 -- Which slot a file gets.
 use Rattle.std.proofs.Common.{◌≡◌, ℕ, ◌<◌, ◌≤◌, List, slice_index_or, sym, inl, ◌∙◌, arith}
-use Rattle.uring_register.specs.declared.table.Table.{Table}
-use Rattle.uring_register.specs.Tables.{Filing, content, size, start_by, NoneIsFree, IsFirstFree, IsGiven, KeepsTable}
+use Rattle.uring_register.specs.declared.tables.table.Table.{Table}
+use Rattle.uring_register.specs.Tables.Tables.{Filing, content, size, start_by, NoneIsFree, IsFirstFree, IsGiven, KeepsTable}
 
 none_by : (f g : ℕ → ℕ) (from end most : ℕ) → ((s : ℕ) → s < most → f s ≡ g s) → end ≤ most
     → NoneIsFree f from end → NoneIsFree g from end

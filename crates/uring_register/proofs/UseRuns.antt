@@ -1,8 +1,8 @@
 -- The laws of registered files and buffers.
 use Rattle.std.proofs.Common.{◌≡◌, Bool, true, false, not, ◌↔◌, List, [], ◌∷◌, ◌++◌, if◌then◌else◌, refl, arith}
-use Rattle.uring_register.specs.declared.uses.Ending.TheVariants.{Stays, Goes, Tells}
-use Rattle.uring_register.specs.Uses.{Use, Put, Lost, Taken, Given, Dropped, is_had, is_gone, is_told}
-use Rattle.uring_register.specs.UseLaws.{IsUsing, IsGoneOnce, EndsAsItIs}
+use Rattle.uring_register.specs.declared.tables.uses.Ending.TheVariants.{Stays, Goes, Tells}
+use Rattle.uring_register.specs.Tables.Uses.{Use, Put, Lost, Taken, Given, Dropped, is_had, is_gone, is_told}
+use Rattle.uring_register.specs.Tables.UseLaws.{IsUsing, IsGoneOnce, EndsAsItIs}
 
 -- nothing happens to what no one has any more
 last : (next : Use) (log : List Use) → IsUsing (next ∷ log) → is_gone log ≡ true → ⊥

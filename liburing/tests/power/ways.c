@@ -1,6 +1,6 @@
 /* Each way in which a program writes a file and syncs it. */
 #define _GNU_SOURCE
-#include "../trapped.h"
+#include "../trapped/trapped.h"
 #include "ways.h"
 
 #include <fcntl.h>
@@ -326,11 +326,23 @@ static void by_ring(void)
     do_by_ring(&syncs, (struct io_uring_sqe){.opcode = IORING_OP_FSYNC, .fd = file, .off = is_synced ? 0 : SIZE / 2, .len = is_synced ? SIZE : 0}, 0);
 }
 
+/* Memory that a ring's sync makes safe, or, of a range that has half of it, doesn't. */
+static void by_memory_and_ring(void)
+{
+    struct ring syncs = set_up(0);
+    int file = make("data", 0);
+    demand(ftruncate(file, SIZE) == 0, "ftruncate");
+    char *memory = mmap(NULL, SIZE, PROT_READ | PROT_WRITE, MAP_SHARED, file, 0);
+    demand(memory != MAP_FAILED, "mmap");
+    memcpy(memory, bytes, SIZE);
+    do_by_ring(&syncs, (struct io_uring_sqe){.opcode = IORING_OP_FSYNC, .fd = file, .len = is_synced ? SIZE : SIZE / 2}, 0);
+}
+
 const struct way ways[] = {
     {"write", by_write}, {"creat", by_creat}, {"writev", by_vectors}, {"pwritev2", by_flags}, {"dsync", by_synced_file},
     {"osync", by_wholly_synced_file}, {"direct", by_direct}, {"append", by_append}, {"stream", by_stream}, {"cut", by_cut},
     {"length", by_length}, {"room", by_room}, {"copy", by_copy}, {"sendfile", by_sendfile}, {"memory", by_memory}, {"msync", by_synced_memory},
     {"rename", by_rename}, {"link", by_link}, {"nameless", by_nameless}, {"symlink", by_symbolic_link},
     {"folder", by_folder}, {"exchange", by_exchange}, {"range", by_range}, {"child", by_child}, {"threads", by_threads}, {"inline", by_inline},
-    {"sync", by_whole_sync}, {"syncfs", by_disk_sync}, {"splice", by_splice}, {"ring", by_ring}, {NULL, NULL},
+    {"sync", by_whole_sync}, {"syncfs", by_disk_sync}, {"splice", by_splice}, {"ring", by_ring}, {"both", by_memory_and_ring}, {NULL, NULL},
 };

@@ -74,6 +74,7 @@ static int wait_for(pid_t child, unsigned seconds)
 static bool run_child(const struct program *program, bool is_kernel, unsigned seconds)
 {
     int file = memfd_create("said", 0);
+    struct outcome *outcome = shared_outcome(is_kernel);
     sigset_t ended, own;
     sigemptyset(&ended);
     sigaddset(&ended, SIGCHLD);
@@ -83,7 +84,7 @@ static bool run_child(const struct program *program, bool is_kernel, unsigned se
         sigprocmask(SIG_SETMASK, &own, NULL);
         dup2(file, STDERR_FILENO);
         set_environment(program);
-        run_program(program, is_kernel, shared_outcome(is_kernel));
+        run_program(program, is_kernel, outcome);
         _exit(0);
     }
     int status = child > 0 ? wait_for(child, seconds) : -1;

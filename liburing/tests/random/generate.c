@@ -149,6 +149,15 @@ struct progress {
     bool is_skipping;
 };
 
+/* What a fault has ended already may end unseen. */
+static uint8_t flags_after_fault(const struct action *action, uint16_t index, const struct program *program, const struct progress *progress, const struct action *before)
+{
+    bool is_after_fault = before && before->flags & (IOSQE_IO_LINK | IOSQE_IO_HARDLINK) && before->flaw != NO_FLAW && before->flaw != BAD_DATA;
+    bool may_skip = !program->has_scopes && (!program->is_plain || (progress->is_skipping && !program->is_manual));
+    bool is_last = action->code == IORING_OP_LINK_TIMEOUT && !(action->flags & (IOSQE_IO_LINK | IOSQE_IO_HARDLINK));
+    return is_last && is_after_fault && may_skip && index % 2 ? IOSQE_CQE_SKIP_SUCCESS : 0;
+}
+
 /* What is registered with the ring: its file, a buffer of its own or one that is provided. */
 static void choose_registered(struct action *action, uint16_t index, bool is_plain)
 {
@@ -246,6 +255,7 @@ static void choose_entry(struct program *program, struct action *action, struct 
     if (action->code == IORING_OP_ASYNC_CANCEL && program->has_scopes)
         choose_scope(program, action);
     action->flags |= any_flags(action, index, program, progress->is_skipping);
+    action->flags |= flags_after_fault(action, index, program, progress, before);
     action->flaw = any_flaw(action, is_plain);
     progress->before[action->ring] = action;
     progress->published[action->ring]++;

@@ -61,6 +61,12 @@ void let_deferred_go_on(struct model *model)
         model->is_deferred[group] = false;
 }
 
+/* A first member with a fault, and a linked timeout without one that ends its chain: where neither asks to drain, that is silent as it says itself. */
+static bool is_own_timeout(const struct model *model, const struct request *first, const struct request *request)
+{
+    return first && request == first + 1 && first->is_faulty && is_before_last_timeout(model, first) && !request->is_faulty && !has_flag(first, IOSQE_IO_DRAIN) && !has_flag(request, IOSQE_IO_DRAIN);
+}
+
 /* The first member counts as the one that failed. */
 void doom_group(struct model *model, uint16_t group)
 {
@@ -69,7 +75,7 @@ void doom_group(struct model *model, uint16_t group)
         if (request->group != group)
             continue;
         request->is_doomed = true;
-        request->is_silent = first && has_flag(first, IOSQE_CQE_SKIP_SUCCESS);
+        request->is_silent = first && has_flag(is_own_timeout(model, first, request) ? request : first, IOSQE_CQE_SKIP_SUCCESS);
         first = first ? first : request;
     }
 }

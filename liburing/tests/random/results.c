@@ -225,6 +225,9 @@ static int32_t result_of(struct model *model, const struct request *request, uin
 static int32_t success_of(const struct request *request)
 {
     bool is_transfer = is_read(request->action) || is_write(request->action);
+    /* (the end of its request cancels it) */
+    if (request->action->code == IORING_OP_LINK_TIMEOUT)
+        return -ECANCELED;
     return is_transfer ? (int32_t)most_of(request->action) : 0;
 }
 

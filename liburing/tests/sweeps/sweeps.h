@@ -3,7 +3,7 @@
 #define SWEEPS_H
 
 #define _GNU_SOURCE
-#include "../engines.h"
+#include "../direct/engines.h"
 
 #include <arpa/inet.h>
 #include <netinet/in.h>

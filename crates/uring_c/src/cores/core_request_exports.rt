@@ -2,8 +2,8 @@
 ghost use Rattle.std.specs.Prelude.{◌≡◌, ◌↔◌, pos, neg_ℤ, None, IsSome, IsSomeAnd};
 ghost use Rattle.uring_entry.specs.declared.errno.TheConstants.{EBADF};
 ghost use Rattle.uring_core.specs.declared.step.Step.TheVariants as step;
-ghost use Rattle.uring_crossing.specs.Places.{core_in};
-ghost use Rattle.uring_crossing.specs.Stepping.{FinishedApart, TellsKind, TellsEnd, no_bytes};
+ghost use Rattle.uring_crossing.specs.Boxes.Places.{core_in};
+ghost use Rattle.uring_crossing.specs.Cores.Stepping.{FinishedApart, TellsKind, TellsEnd, no_bytes};
 
 use std::alloc::Global;
 use uring_crossing::answer_words::{kind as kind_of, res as res_of};

@@ -2,8 +2,8 @@
 ghost use Rattle.std.specs.Prelude.{◌≡◌, ◌↔◌, pos, neg_ℤ, None, IsSome};
 ghost use Rattle.uring_entry.specs.declared.errno.TheConstants.{EBADF};
 ghost use Rattle.uring_core.specs.declared.step.Step.TheVariants as step;
-ghost use Rattle.uring_crossing.specs.Places.{core_in};
-ghost use Rattle.uring_crossing.specs.Stepping.{TellsWord, TellsNumber};
+ghost use Rattle.uring_crossing.specs.Boxes.Places.{core_in};
+ghost use Rattle.uring_crossing.specs.Cores.Stepping.{TellsWord, TellsNumber};
 
 use std::alloc::Global;
 use uring_crossing::answer_words::{kind as kind_of, number as number_of, word as word_of};

@@ -4,9 +4,9 @@
 ghost use Rattle.std.specs.Prelude.{◌≡◌, ◌↔◌, ◌≤◌, ◌-◌, ◌^◌, min, true, false, pos, neg_ℤ, None, IsSomeAnd, length};
 ghost use Rattle.uring_entry.specs.declared.errno.TheConstants.{EBADF, EFBIG, ENOENT, ENOMEM};
 ghost use Rattle.uring_epochs.specs.Asked.{log_at};
-ghost use Rattle.uring_crossing.specs.Places.{crash_machine_in};
-ghost use Rattle.uring_crossing.specs.VolumeForms.{TellsCrash, TellsCount, TellsImages, HasMore};
-ghost use Rattle.uring_crossing.specs.declared.crash_machine_memory.TheConstants.{ENOTRECOVERABLE};
+ghost use Rattle.uring_crossing.specs.Boxes.Places.{crash_machine_in};
+ghost use Rattle.uring_crossing.specs.Volumes.VolumeForms.{TellsCrash, TellsCount, TellsImages, HasMore};
+ghost use Rattle.uring_crossing.specs.declared.machines.crash_machine_memory.TheConstants.{ENOTRECOVERABLE};
 
 use std::alloc::Global;
 use uring_crossing::crash_machine_memory::{

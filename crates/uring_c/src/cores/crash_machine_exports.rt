@@ -1,7 +1,7 @@
 //! The calls of a machine whose power may fail that C makes: `wulgach_crash_machine_..` of the header.
 //!
 //! Each returns 0, or the negative of an error number: -9 (EBADF) exactly at an empty place.
-ghost use Rattle.std.specs.Prelude.{◌≡◌, ◌↔◌, ◌-◌, ◌^◌, min, true, false, [], List, pos, neg_ℤ, None, IsSome, IfSome, IsSomeAnd, MatchOption, slice_get, length};
+ghost use Rattle.std.specs.Prelude.{◌≡◌, ◌↔◌, ◌-◌, true, false, [], List, pos, neg_ℤ, None, IsSome, IfSome, IsSomeAnd, MatchOption, slice_get, length};
 ghost use Rattle.uring_entry.specs.Completions.{unreaped};
 ghost use Rattle.uring_entry.specs.Requests.{operation_running};
 ghost use Rattle.uring_entry.specs.declared.errno.TheConstants.{EBADF, EFBIG, EINVAL, ENOENT, ENOMEM};
@@ -12,14 +12,13 @@ ghost use Rattle.uring_core.specs.Core.{FitsApart, IsCounts};
 ghost use Rattle.uring_core.specs.Histories.{History, world};
 ghost use Rattle.uring_epochs.specs.Asked.{log_at, is_safe_of};
 ghost use Rattle.uring_epochs.specs.Epochs.{Epoch, FitsRun, files_from};
-ghost use Rattle.uring_crossing.specs.Crashing.{IsNoStart, AreShort, BeginsOn, TellsStepOn, GoesOn, IsLostFrom};
-ghost use Rattle.uring_crossing.specs.Cuts as spec;
-ghost use Rattle.uring_crossing.specs.OperationForm.{words_of_operation};
-ghost use Rattle.uring_crossing.specs.Places.{crash_machine_in};
-ghost use Rattle.uring_crossing.specs.ReadingForms.{words_of_completion, counts_told, words_of_state};
-ghost use Rattle.uring_crossing.specs.StepForm.{step_of};
-ghost use Rattle.uring_crossing.specs.VolumeForms.{TellsCrash, TellsCount, TellsImages, HasMore};
-ghost use Rattle.uring_crossing.specs.declared.crash_machine_memory.TheConstants.{ENOTRECOVERABLE};
+ghost use Rattle.uring_crossing.specs.Machines.Crashing.{IsNoStart, AreShort, BeginsOn, TellsStepOn, GoesOn, IsLostFrom};
+ghost use Rattle.uring_crossing.specs.CoreWords.Cuts as spec;
+ghost use Rattle.uring_crossing.specs.CoreWords.OperationForm.{words_of_operation};
+ghost use Rattle.uring_crossing.specs.Boxes.Places.{crash_machine_in};
+ghost use Rattle.uring_crossing.specs.CoreWords.ReadingForms.{words_of_completion, counts_told, words_of_state};
+ghost use Rattle.uring_crossing.specs.CoreWords.StepForm.{step_of};
+ghost use Rattle.uring_crossing.specs.declared.machines.crash_machine_memory.TheConstants.{ENOTRECOVERABLE};
 
 use std::alloc::Global;
 use uring_crossing::answer_words::AnswerWords;

@@ -5,10 +5,10 @@ ghost use Rattle.std.specs.Prelude.{◌≡◌, ◌↔◌, pos, neg_ℤ, None, Is
 ghost use Rattle.std.specs.Option.{option_and_then};
 ghost use Rattle.uring_entry.specs.declared.errno.TheConstants.{EBADF, EINVAL, ENOENT, ENOMEM};
 ghost use Rattle.uring_files.specs.Operations.{state_of, byte_of};
-ghost use Rattle.uring_crossing.specs.Cuts as spec;
-ghost use Rattle.uring_crossing.specs.Outcomes.{IsNoWalk, AreFound, ArePosted};
-ghost use Rattle.uring_crossing.specs.Places.{outcomes_in};
-ghost use Rattle.uring_crossing.specs.ReadingForms.{words_of_state};
+ghost use Rattle.uring_crossing.specs.CoreWords.Cuts as spec;
+ghost use Rattle.uring_crossing.specs.Outcomes.Outcomes.{IsNoWalk, AreFound, ArePosted};
+ghost use Rattle.uring_crossing.specs.Boxes.Places.{outcomes_in};
+ghost use Rattle.uring_crossing.specs.CoreWords.ReadingForms.{words_of_state};
 
 use std::alloc::Global;
 use uring_crossing::completion_words::CompletionWords;

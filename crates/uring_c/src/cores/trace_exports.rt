@@ -1,13 +1,13 @@
 //! Lines of traces, and the steps that whole calls have in them, for C: functions of `c/wulgach.h`.
 ghost use Rattle.std.specs.Prelude.{◌≡◌, ◌↔◌, pos, neg_ℤ};
 ghost use Rattle.uring_entry.specs.declared.errno.TheConstants.{EINVAL, ENOMEM};
-ghost use Rattle.uring_crossing.specs.AnswerForm.{answer_of};
-ghost use Rattle.uring_crossing.specs.FlagLetters.{flags_text};
-ghost use Rattle.uring_crossing.specs.SetUps.{IsRefused};
-ghost use Rattle.uring_crossing.specs.SetupLines.{TellsSetup};
-ghost use Rattle.uring_crossing.specs.TraceLines.{TellsLine};
-ghost use Rattle.uring_crossing.specs.VolumeForms.{IsGiven};
-ghost use Rattle.uring_crossing.specs.Traced.{TellsEvent, submitted_for, reaped_event};
+ghost use Rattle.uring_crossing.specs.CoreWords.AnswerForm.{answer_of};
+ghost use Rattle.uring_crossing.specs.Traces.FlagLetters.{flags_text};
+ghost use Rattle.uring_crossing.specs.CoreWords.SetUps.{IsRefused};
+ghost use Rattle.uring_crossing.specs.Traces.SetupLines.{TellsSetup};
+ghost use Rattle.uring_crossing.specs.Traces.TraceLines.{TellsLine};
+ghost use Rattle.uring_crossing.specs.Volumes.VolumeForms.{IsGiven};
+ghost use Rattle.uring_crossing.specs.Traces.Traced.{TellsEvent, submitted_for, reaped_event};
 
 use std::alloc::Global;
 use uring_crossing::answer_words::AnswerWords;

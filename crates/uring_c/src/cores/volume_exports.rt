@@ -7,8 +7,8 @@ ghost use Rattle.uring_volume.specs.Choices.{issued, named, has_safe};
 ghost use Rattle.uring_volume.specs.Volume.{with_event, with_write, with_sync, is_one_of, running_writes, running_syncs};
 ghost use Rattle.uring_volume.specs.declared.event.Event.TheVariants.{WriteEnded, SyncEnded, SyncFailed};
 ghost use Rattle.uring_volume.specs.declared.event.SyncRange.TheVariants.{Whole, Part};
-ghost use Rattle.uring_crossing.specs.Places.{volume_in};
-ghost use Rattle.uring_crossing.specs.VolumeForms.{TellsContents, TellsCrash, TellsCount, TellsImages, HasMore};
+ghost use Rattle.uring_crossing.specs.Boxes.Places.{volume_in};
+ghost use Rattle.uring_crossing.specs.Volumes.VolumeForms.{TellsContents, TellsCrash, TellsCount, TellsImages, HasMore};
 ghost use Rattle.uring_volume.specs.Writes.{Write};
 ghost use Rattle.uring_volume.specs.Folds.{IsFoldable, IsFoldedFrom};
 

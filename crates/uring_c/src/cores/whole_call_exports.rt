@@ -1,8 +1,8 @@
 //! The whole calls of a core that C makes: `wulgach_core_submit` and `wulgach_core_reap_all` of the header.
-ghost use Rattle.std.specs.Prelude.{◌≡◌, ◌↔◌, pos, neg_ℤ, None, IsSome, map, [], ◌∷◌};
+ghost use Rattle.std.specs.Prelude.{◌≡◌, ◌↔◌, pos, neg_ℤ, None, IsSome, length, map, [], ◌∷◌};
 ghost use Rattle.uring_entry.specs.declared.errno.TheConstants.{EBADF, ENOMEM};
-ghost use Rattle.uring_crossing.specs.Places.{core_in};
-ghost use Rattle.uring_crossing.specs.Whole.{TellsSubmit, TellsTaken, TellsReaped};
+ghost use Rattle.uring_crossing.specs.Boxes.Places.{core_in};
+ghost use Rattle.uring_crossing.specs.Cores.Whole.{TellsSubmit, TellsTaken, TellsReaped};
 
 use std::alloc::Global;
 use uring_crossing::answer_words::AnswerWords;
@@ -12,7 +12,7 @@ use uring_crossing::taken_words::{TakenWords, taken_words};
 use uring_crossing::whole_call_memory::{EntryWords, core_reap_all_in, core_submit_in};
 use uring_entry::{Sqe, errno};
 
-/// Makes all steps of a submission call of these entries, and writes the answer. -12 (ENOMEM) if memory for a copy of the entries is refused; then nothing changes.
+/// Makes all steps of a submission call of these entries, and writes the answer. -12 (ENOMEM) if memory for a copy of the entries is refused, which a single one doesn't need; then nothing changes.
 #[unsafe(no_mangle)]
 pub extern "C" fn wulgach_core_submit(
     alloc: Global,
@@ -22,6 +22,7 @@ pub extern "C" fn wulgach_core_submit(
 ) -> i32
     ensures empty { (result ≡ neg_ℤ EBADF) ↔ (core_in place.old ≡ None) }
     ensures results { (result ≡ pos 0 → ⊥) → (result ≡ neg_ℤ EBADF → ⊥) → result ≡ neg_ℤ ENOMEM }
+    ensures single { length entries.now ≡ 1 → result ≡ neg_ℤ ENOMEM → ⊥ }
     ensures kept { (result ≡ pos 0 → ⊥)
         → (core_in place.new ≡ core_in place.old) × (answer.new ≡ answer.old) }
     ensures made { result ≡ pos 0
@@ -54,7 +55,7 @@ pub extern "C" fn wulgach_core_submit_one(
     0
 }
 
-/// Reaps all completions that the ring shows into these places, as far as there are places, and writes how many. -12 (ENOMEM) if memory for them is refused; then nothing changes.
+/// Reaps all completions that the ring shows into these places, as far as there are places, and writes how many. -12 (ENOMEM) if memory for them is refused, which a single place doesn't need; then nothing changes.
 #[unsafe(no_mangle)]
 pub extern "C" fn wulgach_core_reap_all(
     alloc: Global,
@@ -64,6 +65,7 @@ pub extern "C" fn wulgach_core_reap_all(
 ) -> i32
     ensures empty { (result ≡ neg_ℤ EBADF) ↔ (core_in place.old ≡ None) }
     ensures results { (result ≡ pos 0 → ⊥) → (result ≡ neg_ℤ EBADF → ⊥) → result ≡ neg_ℤ ENOMEM }
+    ensures single { length completions.old ≡ 1 → result ≡ neg_ℤ ENOMEM → ⊥ }
     ensures kept { (result ≡ pos 0 → ⊥) → (core_in place.new ≡ core_in place.old)
         × (completions.new ≡ completions.old) × (count.new ≡ count.old) }
     ensures made { result ≡ pos 0

@@ -1,10 +1,10 @@
 //! Which rings a thread has by number, for C: functions of `c/wulgach_register.h`. The words of rows are the caller's memory.
 ghost use Rattle.std.specs.Prelude.{◌≡◌, ◌+◌, ◌≤◌, ◌<◌, length, pos, List, [], ◌∷◌};
-ghost use Rattle.uring_register.specs.Enrolling.{Enrolling, Enrolled, Dismissed, KeepsEnrolled, IsEnrolledAt, HasNoRow, content};
-ghost use Rattle.uring_register.specs.Enrolling as spec;
-ghost use Rattle.uring_register.specs.Numbering as numbering;
-ghost use Rattle.uring_c.specs.PassageForm.{word_of_row, row_stage_of, deed_of};
-ghost use Rattle.uring_c.specs.PinningForm.{known_of};
+ghost use Rattle.uring_register.specs.Rings.Enrolling.{Enrolling, Enrolled, Dismissed, KeepsEnrolled, IsEnrolledAt, HasNoRow, content};
+ghost use Rattle.uring_register.specs.Rings.Enrolling as spec;
+ghost use Rattle.uring_register.specs.Rings.Numbering as numbering;
+ghost use Rattle.uring_c.specs.Enter.Call.PassageForm.{word_of_row, row_stage_of, deed_of};
+ghost use Rattle.uring_c.specs.Registered.PinningForm.{known_of};
 
 use uring_register::{
     Deed, RowOnto, RowStage, begin_rows, closes_row, dismiss, dismissed_rows, dismissing_fault,

@@ -1,8 +1,8 @@
 //! What becomes of a list of files or buffers, and in which steps a file is put where there is room, for C: functions of `c/wulgach_tables.h`.
 ghost use Rattle.std.specs.Prelude.{◌≡◌, is_some, unwrap_or};
-ghost use Rattle.uring_register.specs.Listing as spec;
-ghost use Rattle.uring_register.specs.Placing as placing;
-ghost use Rattle.uring_c.specs.ListingForm.{word_of_listing, word_of_placing, placing_stage_of};
+ghost use Rattle.uring_register.specs.Tables.Listing as spec;
+ghost use Rattle.uring_register.specs.Tables.Placing as placing;
+ghost use Rattle.uring_c.specs.Registered.ListingForm.{word_of_listing, word_of_placing, placing_stage_of};
 
 use uring_register::{
     Listing, PlacingOnto, PlacingStage, listing_of, next_of_placing, next_to_go, takes_next,

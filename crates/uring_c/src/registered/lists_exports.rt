@@ -1,6 +1,6 @@
 //! Where the lists of a call of io_uring_register(2) stand, and of which slot each row is, for C: functions of `c/wulgach_register.h`.
 ghost use Rattle.std.specs.Prelude.{◌≡◌};
-ghost use Rattle.uring_register.specs.Lists as spec;
+ghost use Rattle.uring_register.specs.Tables.Lists as spec;
 
 use uring_register::{
     FilesForm, ListRow, Lists, TableForm, UpdateForm, lists_of_call, lists_of_files,

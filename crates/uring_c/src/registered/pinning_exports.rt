@@ -1,10 +1,10 @@
 //! Which memory may be registered, what the lines of the kernel's list of memory say, which processors a list names, and which lines are of a lock, for C: functions of `c/wulgach_register.h`, `c/wulgach_setup.h` and `c/wulgach_lookout.h`.
 ghost use Rattle.std.specs.Prelude.{◌≡◌, is_some, unwrap_or};
-ghost use Rattle.uring_register.specs.Pinning as spec;
-ghost use Rattle.uring_register.specs.Mapped as maps;
-ghost use Rattle.uring_register.specs.Processors as processors;
-ghost use Rattle.uring_register.specs.Locks as locks;
-ghost use Rattle.uring_c.specs.PinningForm.{known_of};
+ghost use Rattle.uring_register.specs.Buffers.Pinning as spec;
+ghost use Rattle.uring_register.specs.KernelLists.Mapped as maps;
+ghost use Rattle.uring_register.specs.KernelLists.Processors as processors;
+ghost use Rattle.uring_register.specs.KernelLists.Locks as locks;
+ghost use Rattle.uring_c.specs.Registered.PinningForm.{known_of};
 
 use uring_register::{
     Mapped, Memory, has_byte_of, is_listed, is_lock_of, is_of_a_file, lists_number, mapped_of,

@@ -1,8 +1,8 @@
 //! Groups of buffers that the application provides, for C: functions of `c/wulgach_buffers.h`. The rows of a list are the caller's memory.
 ghost use Rattle.std.specs.Prelude.{◌≡◌, ◌+◌, ◌-◌, ◌^◌, ◌≤◌, min, length, nat_le, ℕ, true, false, List, [], ◌∷◌, MatchOption};
-ghost use Rattle.uring_register.specs.declared.group.Buffer.{Buffer};
-ghost use Rattle.uring_register.specs.Provided.{Change, Provided, Removed, Took, Registered, Unregistered, KeepsGroup, IsTold, left};
-ghost use Rattle.uring_register.specs.Provided as spec;
+ghost use Rattle.uring_register.specs.declared.buffers.group.Buffer.{Buffer};
+ghost use Rattle.uring_register.specs.Buffers.Provided.{Change, Provided, Removed, Took, Registered, Unregistered, KeepsGroup, IsTold, left};
+ghost use Rattle.uring_register.specs.Buffers.Provided as spec;
 
 use uring_register::{Buffer, Buffers, Group, group_argument_fault};
 
@@ -96,7 +96,7 @@ pub extern "C" fn wulgach_group_is_ring(group: &Group) -> bool
     group.is_ring()
 }
 
-/// Writes the cell of the next buffer of a ring whose tail is this, if that could be read. `false`: there is none, and nothing is written.
+/// Writes the cell of the next buffer of a ring whose tail is this, if that could be read. `false`: there is none, as of a list, and nothing is written.
 #[unsafe(no_mangle)]
 pub extern "C" fn wulgach_group_cell(
     group: &Group,
@@ -109,6 +109,8 @@ pub extern "C" fn wulgach_group_cell(
         → MatchOption (spec.cell_of log n) ((result ≡ false) × (cell.new ≡ cell.old))
         (λ next. (result ≡ true) × (cell.new ≡ next)) }
     ensures unread { is_read ≡ false → (result ≡ false) × (cell.new ≡ cell.old) }
+    ensures list { (log : List Change) (rows : List Buffer) → KeepsGroup log group.now rows
+        → spec.is_ring log ≡ false → (result ≡ false) × (cell.new ≡ cell.old) }
 {
     match group.cell(is_read, tail) {
         Some(next) => {

@@ -1,11 +1,11 @@
 //! Which calls of io_uring_register(2) are made, and by whom, for C: functions of `c/wulgach_register.h`.
-ghost use Rattle.std.specs.Prelude.{◌≡◌, Bool, List, [], ◌∷◌};
-ghost use Rattle.uring_register.specs.Issuing.{Doing, SetUp, Enabled, KeepsIssuer};
-ghost use Rattle.uring_register.specs.Issuing as issuing;
-ghost use Rattle.uring_register.specs.Telling.{Telling, Registered, Unregistered, KeepsEventfd};
-ghost use Rattle.uring_register.specs.Telling as telling;
-ghost use Rattle.uring_register.specs.Calling as spec;
-ghost use Rattle.uring_c.specs.RegisterForm.{argument_fault_of, content_fault_of};
+ghost use Rattle.std.specs.Prelude.{◌≡◌, List, [], ◌∷◌};
+ghost use Rattle.uring_register.specs.Rings.Issuing.{Doing, SetUp, Enabled, KeepsIssuer};
+ghost use Rattle.uring_register.specs.Rings.Issuing as issuing;
+ghost use Rattle.uring_register.specs.Rings.Telling.{Telling, Registered, Unregistered, KeepsEventfd};
+ghost use Rattle.uring_register.specs.Rings.Telling as telling;
+ghost use Rattle.uring_register.specs.Calls.Calling as spec;
+ghost use Rattle.uring_c.specs.Registered.RegisterForm.{argument_fault_of, content_fault_of};
 
 use uring_register::{
     Caller, Content, Eventfd, Issuer, Probe, argument_fault, call_of, calling_fault, content_fault,

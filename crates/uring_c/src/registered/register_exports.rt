@@ -1,13 +1,13 @@
 //! What is registered with a ring, for C: functions of `c/wulgach_tables.h`. The words of slots are the caller's memory.
-ghost use Rattle.std.specs.Prelude.{◌≡◌, ◌≢◌, ◌+◌, ◌≤◌, ◌<◌, pos, negsuc, length, ℕ, true, false, Option, None, Some, List, [], ◌∷◌, reverse};
-ghost use Rattle.uring_register.specs.declared.restrictions.Restriction.{Restriction};
-ghost use Rattle.uring_register.specs.Restricting.{KeepsRestrictions, list_fault, allows_entry, allows_call};
-ghost use Rattle.uring_register.specs.Restricting.{restricting_fault as fault_of_list};
-ghost use Rattle.uring_register.specs.Restricting.{enabling_fault as fault_of_enabling};
-ghost use Rattle.uring_register.specs.Tables.{Filing, Registered, Unregistered, Filled, KeepsTable, IsGiven, GivesNone, range_fault, after_range, size, content};
-ghost use Rattle.uring_register.specs.Registering as spec;
-ghost use Rattle.uring_register.specs.Structures.{range_has_reserved};
-ghost use Rattle.uring_c.specs.RegisterForm.{row_of_word, word_of_row, fault_of_row};
+ghost use Rattle.std.specs.Prelude.{◌≡◌, ◌≢◌, ◌+◌, ◌≤◌, ◌<◌, pos, length, ℕ, Option, None, Some, List, [], ◌∷◌, reverse};
+ghost use Rattle.uring_register.specs.declared.rings.restrictions.Restriction.{Restriction};
+ghost use Rattle.uring_register.specs.Rings.Restricting.{KeepsRestrictions, list_fault, allows_entry, allows_call};
+ghost use Rattle.uring_register.specs.Rings.Restricting.{restricting_fault as fault_of_list};
+ghost use Rattle.uring_register.specs.Rings.Restricting.{enabling_fault as fault_of_enabling};
+ghost use Rattle.uring_register.specs.Tables.Tables.{Filing, Registered, Unregistered, Filled, KeepsTable, IsGiven, GivesNone, range_fault, after_range, size, content};
+ghost use Rattle.uring_register.specs.Tables.Registering as spec;
+ghost use Rattle.uring_register.specs.Calls.Structures.{range_has_reserved};
+ghost use Rattle.uring_c.specs.Registered.RegisterForm.{row_of_word, word_of_row, fault_of_row};
 
 use uring_register::{
     RangeForm, Restriction, Restrictions, Row, Table, buffer_row, enabling_fault, file_row,

@@ -1,6 +1,6 @@
 //! Which fields of the structures that calls read are reserved, and what is judged of these, for C: functions of `c/wulgach_register.h`.
 ghost use Rattle.std.specs.Prelude.{◌≡◌};
-ghost use Rattle.uring_register.specs.Structures as spec;
+ghost use Rattle.uring_register.specs.Calls.Structures as spec;
 
 use uring_register::{
     CancelForm, Content, FilesForm, ParametersForm, RingForm, TableForm, UpdateForm,

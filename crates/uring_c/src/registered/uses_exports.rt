@@ -1,8 +1,8 @@
 //! When registered files and buffers are gone, and what an operation has of a buffer, for C: functions of `c/wulgach_buffers.h`.
 ghost use Rattle.std.specs.Prelude.{◌≡◌, ◌+◌, ◌<◌, ◌-◌, ◌^◌, Bool, true, false, MatchOption, List, [], ◌∷◌};
-ghost use Rattle.uring_register.specs.Uses.{Use, Put, Lost, Taken, Given, Dropped, KeepsUses, slots, requests, ending_of};
-ghost use Rattle.uring_register.specs.Bytes as spec;
-ghost use Rattle.uring_c.specs.UsesForm.{word_of_ending};
+ghost use Rattle.uring_register.specs.Tables.Uses.{Use, Put, Lost, Taken, Given, Dropped, KeepsUses, slots, requests, ending_of};
+ghost use Rattle.uring_register.specs.Buffers.Bytes as spec;
+ghost use Rattle.uring_c.specs.Registered.UsesForm.{word_of_ending};
 
 use uring_register::{
     Buffer, Ending, Uses, bytes_fault, flags_after, further_in, is_taken, part_of,

@@ -7,7 +7,7 @@ use Rattle.uring_enter.specs.declared.call.command.Command.{Command}
 use Rattle.uring_enter.specs.declared.call.command.Command.TheVariants.{Hear, Submit, GoOn, GoOnFully, Sleep, PassTime, Return}
 use Rattle.uring_enter.specs.declared.call.reply.Sight.{Sight}
 use Rattle.uring_enter.specs.declared.call.reply.Reply.{Reply}
-use Rattle.uring_enter.specs.declared.call.reply.Reply.TheVariants.{Heard, WrongHead, Taken, NotTaken, WentOn, Chosen, Stuck, Woken, TimedOut, Interrupted, Endless, Failed, Passed}
+use Rattle.uring_enter.specs.declared.call.reply.Reply.TheVariants.{Heard, WrongHead, Taken, NotTaken, WentOn, Chosen, Stuck, Woken, TimedOut, Interrupted, Endless, Failed, Passed, LeastOver}
 use Rattle.uring_entry.specs.Errors.{error}
 use Rattle.uring_enter.specs.Call.Replies.{submission, is_none, waits, looks, is_enough}
 
@@ -54,6 +54,11 @@ ended log outcome = Return (returned log outcome)
 abbrev pub unless_ready : Sight → ℕ → ℤ
 unless_ready sight number = if nat_lt 0 sight.ready then pos 0 else error number
 
+-- once its least time is over a call ends if there is a completion, and if it has no limit; else it goes on until there is one, or the limit is over. What Linux 6.18 was seen to do
+abbrev pub least_over : List Reply → Sight → Bool → Command
+least_over log sight has_limit =
+    if nat_lt 0 sight.ready || not has_limit then ended log (unless_ready sight 62) else Hear true
+
 -- a call that waits goes on, and where there is enough it may end, unless it is to leave nothing that can go on; lazily it does. Our own rule
 abbrev pub waiting : Asked → List Reply → Sight → Command
 waiting a log sight =
@@ -89,6 +94,7 @@ stuck a log sight =
 abbrev pub hearing : Asked → List Reply → Sight → Command
 hearing a [] sight = Submit
 hearing a (Woken ∷ earlier) sight = going a earlier true sight
+hearing a (LeastOver seen has_limit ∷ earlier) sight = going a (LeastOver seen has_limit ∷ earlier) true sight
 hearing a (last ∷ earlier) sight =
     if is_enough a (last ∷ earlier) sight then ended (last ∷ earlier) (pos 0) else Sleep
 
@@ -104,6 +110,7 @@ due a (Woken ∷ earlier) = Hear true
 due a (Chosen ∷ earlier) = ended earlier (pos 0)
 due a (Passed ∷ earlier) = ended earlier (pos 0)
 due a (TimedOut sight ∷ earlier) = ended earlier (unless_ready sight 62)
+due a (LeastOver sight has_limit ∷ earlier) = least_over earlier sight has_limit
 due a (Interrupted sight ∷ earlier) = ended earlier (unless_ready sight 4)
 due a (Endless ∷ earlier) = ended earlier (error 35)
 due a (Failed number ∷ earlier) = ended earlier (error number)
@@ -123,6 +130,7 @@ is_reply_to GoOnFully (Stuck _) = true
 is_reply_to GoOnFully WrongHead = true
 is_reply_to Sleep Woken = true
 is_reply_to Sleep (TimedOut _) = true
+is_reply_to Sleep (LeastOver _ _) = true
 is_reply_to Sleep (Interrupted _) = true
 is_reply_to Sleep Endless = true
 is_reply_to Sleep (Failed _) = true

@@ -1,5 +1,5 @@
 -- In which order requests are looked at by who looks for one of them by user data that several may have. What Linux 6.18 does; by the manual pages' rules the oldest goes first, our own rule.
-use Rattle.std.specs.Prelude.{◌≡◌, ◌≤◌, ◌==◌, ◌&&◌, not, nat_lt, max, ℕ, Bool, true, false, if◌then◌else◌}
+use Rattle.std.specs.Prelude.{◌≤◌, ◌==◌, ◌&&◌, not, nat_lt, max, ℕ, Bool, if◌then◌else◌}
 use Rattle.uring_enter.specs.declared.cancels.cancel.Sought.{Sought}
 use Rattle.uring_enter.specs.Cancels.Cancels.{is_of_all, goes_by_user_data}
 

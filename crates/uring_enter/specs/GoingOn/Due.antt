@@ -1,5 +1,5 @@
 -- Which requests are to find their files in their turn: before one after them starts, or the call sleeps or returns. By what has happened, the newest first. Our own rules: a ring keeps two numbers in the place of a list.
-use Rattle.std.specs.Prelude.{◌≡◌, ℕ, ◌-◌, ◌≤◌, ◌<◌, min, max, Bool, true, false, not, ◌&&◌, ◌||◌, ◌==◌, nat_le, nat_lt, List, [], ◌∷◌, Option, Some, None, if◌then◌else◌}
+use Rattle.std.specs.Prelude.{◌≡◌, ℕ, ◌-◌, ◌≤◌, ◌<◌, min, max, Bool, true, false, not, ◌&&◌, ◌||◌, ◌==◌, nat_le, nat_lt, List, [], ◌∷◌, ◌++◌, Option, Some, None, if◌then◌else◌}
 use Rattle.uring_enter.specs.declared.going_on.due.Due.{Due}
 use Rattle.uring_enter.specs.declared.going_on.due.DueSpan.{DueSpan}
 
@@ -15,10 +15,17 @@ is_due [] number = false
 is_due (Noted noted ∷ earlier) number = number == noted || is_due earlier number
 is_due (FoundBefore end ∷ earlier) number = not (nat_lt number end) && is_due earlier number
 
--- what a ring keeps of it: each that is due stands from the first to the last, and the last is due
+-- whether one may be due up to this number: it or a lesser one was noted, and those before a greater one haven't found theirs since
+abbrev pub may_be_up_to : List Happening → ℕ → Bool
+may_be_up_to [] number = false
+may_be_up_to (Noted noted ∷ earlier) number = nat_le noted number || may_be_up_to earlier number
+may_be_up_to (FoundBefore end ∷ earlier) number = not (nat_lt number end) && may_be_up_to earlier number
+
+-- what a ring keeps of it: each that is due stands from the first to the last; the last is due, and none may be before the first
 pub record KeepsDue (log : List Happening) (d : Due) : Type 0 where
   pub within : (number : ℕ) → is_due log number ≡ true → (d.is_any ≡ true) × ((d.first ≤ number) × (number ≤ d.last))
   pub last : d.is_any ≡ true → is_due log d.last ≡ true
+  pub first : (number : ℕ) → d.is_any ≡ true → d.first ≤ number → may_be_up_to log number ≡ true
 
 abbrev pub joined : Due → (number : ℕ) → Due
 joined d number = record {
@@ -51,3 +58,15 @@ LooksAtEachDue = (log : List Happening) (d : Due) (number end : ℕ) → KeepsDu
 -- and none that isn't before it
 abbrev pub LooksBefore : Type 0
 LooksBefore = (d : Due) (number end : ℕ) → IsIn number (span_before d end) → number < end
+
+-- whether one up to this number is noted
+abbrev pub notes_up_to : List Happening → ℕ → Bool
+notes_up_to [] number = false
+notes_up_to (Noted noted ∷ earlier) number = nat_le noted number || notes_up_to earlier number
+notes_up_to (FoundBefore end ∷ earlier) number = notes_up_to earlier number
+
+-- nor one of those that have found theirs, unless it or one before it was noted since: so what is outstanding isn't looked through at each start
+abbrev pub LooksAtNoneAgain : Type 0
+LooksAtNoneAgain = (newer earlier : List Happening) (d : Due) (found number end : ℕ)
+    → KeepsDue (newer ++ FoundBefore found ∷ earlier) d → number < found → notes_up_to newer number ≡ false
+    → IsIn number (span_before d end) → ⊥

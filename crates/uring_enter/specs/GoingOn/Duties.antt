@@ -107,6 +107,7 @@ has_sight (reply.Interrupted _) = true
 has_sight reply.Endless = false
 has_sight (reply.Failed _) = false
 has_sight reply.Passed = false
+has_sight (reply.LeastOver _ _) = true
 
 -- before a call is told what became of what it wanted: what has ended is shown where it is told how many completions are ready, which are those that the application can reap. What goes on until nothing can is told once
 abbrev pub at_reply : Reply → (has_ends : Bool) → Duties

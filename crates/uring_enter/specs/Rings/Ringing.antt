@@ -1,5 +1,5 @@
 -- What a program maps of a ring, in which order a set-up is refused, and when a ring is freed. io_uring_setup(2), but where the kernel or our own rule is named.
-use Rattle.std.specs.Prelude.{ℕ, ℤ, Bool, true, false, not, ◌||◌, ◌==◌, Option, Some, None, if◌then◌else◌}
+use Rattle.std.specs.Prelude.{◌≡◌, ℕ, ℤ, Bool, true, false, not, ◌||◌, ◌==◌, Option, Some, None, List, [], ◌∷◌, if◌then◌else◌}
 use Rattle.std.specs.Int.RustNames.{bit_and}
 use Rattle.uring_enter.specs.declared.rings.ringing.Region.{Region}
 use Rattle.uring_enter.specs.declared.rings.ringing.Region.TheVariants.{Rings, Entries}
@@ -45,6 +45,33 @@ abbrev pub next_of : Option Stage → ℤ → Onto
 next_of last res =
     if not (is_below res) then after_stage last else
     if has_made last then Drops res else Fails res
+
+-- a run of a set-up: what it has done, the newest first, each of which came next once all before it went well
+abbrev pub last_of : List Stage → Option Stage
+last_of [] = None
+last_of (stage ∷ earlier) = Some stage
+
+abbrev pub IsSetUp : List Stage → Type 0
+IsSetUp [] = Unit {0}
+IsSetUp (stage ∷ earlier) = IsSetUp earlier × (after_stage (last_of earlier) ≡ Does stage)
+
+abbrev pub is_making : Stage → Bool
+is_making Makes = true
+is_making _ = false
+
+-- whether a ring was made by then
+abbrev pub makes_any : List Stage → Bool
+makes_any [] = false
+makes_any (stage ∷ earlier) = is_making stage || makes_any earlier
+
+-- a set-up that fails drops the ring exactly if one was made before: so none stays that nobody has a descriptor of, and nothing is dropped that isn't there
+abbrev pub DropsWhatIsMade : Type 0
+DropsWhatIsMade = (done : List Stage) (stage : Stage) (fault : ℤ) → IsSetUp (stage ∷ done) → is_below fault ≡ true
+    → next_of (Some stage) fault ≡ (if makes_any done then Drops fault else Fails fault)
+
+-- the parameters are told just before the descriptor is opened: whoever has that can have read them
+abbrev pub TellsBeforeItOpens : Type 0
+TellsBeforeItOpens = (done : List Stage) → IsSetUp (Opens ∷ done) → last_of done ≡ Some Tells
 
 abbrev pub fate_by : Option Bool → Fate
 fate_by None = Asks

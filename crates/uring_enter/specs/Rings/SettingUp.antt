@@ -89,7 +89,7 @@ entry_cells flags = if has_some flags 1024 then 2 else 1
 abbrev pub completion_cells : ℕ → ℕ
 completion_cells flags = if has_some flags 2048 then 2 else 1
 
--- what a ring can do: IORING_FEAT_NODROP (2), SUBMIT_STABLE (4), RW_CUR_POS (8), CUR_PERSONALITY (16), FAST_POLL (32), SQPOLL_NONFIXED (128), EXT_ARG (256), NATIVE_WORKERS (512), RSRC_TAGS (1024), CQE_SKIP (2048) and LINKED_FILE (4096); and SINGLE_MMAP (1)
+-- what a ring can do: IORING_FEAT_NODROP (2), SUBMIT_STABLE (4), RW_CUR_POS (8), CUR_PERSONALITY (16), FAST_POLL (32), SQPOLL_NONFIXED (128), EXT_ARG (256), NATIVE_WORKERS (512), RSRC_TAGS (1024), CQE_SKIP (2048), LINKED_FILE (4096) and MIN_TIMEOUT (32768); and SINGLE_MMAP (1)
 abbrev pub features : Bool → ℕ
 features one =
-    2 + 4 + 8 + 16 + 32 + 128 + 256 + 512 + 1024 + 2048 + 4096 + (if one then 1 else 0)
+    2 + 4 + 8 + 16 + 32 + 128 + 256 + 512 + 1024 + 2048 + 4096 + 32768 + (if one then 1 else 0)

@@ -10,7 +10,7 @@ use Rattle.uring_enter.specs.declared.waiting.sleeping.SleptFor.{SleptFor}
 use Rattle.uring_enter.specs.declared.waiting.sleeping.Waited.{Waited}
 use Rattle.uring_operations.specs.Requests.Readiness.{polls}
 use Rattle.uring_enter.specs.declared.waiting.sleeping.Outcome.{Outcome}
-use Rattle.uring_enter.specs.declared.waiting.sleeping.Outcome.TheVariants.{Woken, TimedOut, Interrupted, Endless, Failed}
+use Rattle.uring_enter.specs.declared.waiting.sleeping.Outcome.TheVariants.{Woken, TimedOut, Interrupted, Endless, Failed, LeastOver}
 
 abbrev pub is_error : ℤ → Bool
 is_error (negsuc _) = true
@@ -71,10 +71,14 @@ NapsAlikeUnasked = (s : Standing) (n : Needs) (vain : ℕ) (asks_broken : Bool) 
 abbrev pub can_be_woken : (has_descriptor naps : Bool) → Bool
 can_be_woken has_descriptor naps = has_descriptor && not naps
 
+-- which of the caller's times is over: its least time, after which one completion is enough, or its limit
+abbrev pub over : (is_least : Bool) → Outcome
+over is_least = if is_least then LeastOver else TimedOut
+
 -- a signal ends the sleep with -4 (EINTR), and another error with itself; else the caller's time is over, or something may go on
 abbrev pub outcome_of : Waited → Outcome
 outcome_of w =
     if w.is_never then unless_message (w.has_messages && w.may_post) else
     if int_eq w.result (error 4) then Interrupted else
     if is_error w.result then Failed else
-    if w.is_over then TimedOut else Woken
+    if w.is_over then over w.is_least else Woken

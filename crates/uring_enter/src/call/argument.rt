@@ -1,7 +1,7 @@
 //! The last arguments of a call: whether they are read, and which are refused. io_uring_enter(2), IORING_ENTER_EXT_ARG.
 
 ghost use Rattle.std.specs.Prelude.{◌≡◌};
-ghost use Rattle.uring_enter.specs.Call.Arguments.{is_extended, is_read, given_by, argument_fault, time_fault, mask_fault, slept_with, with_fault};
+ghost use Rattle.uring_enter.specs.Call.Arguments.{is_extended, is_read, given_by, argument_fault, time_fault, mask_fault, slept_with, with_fault, sleeps_to};
 
 /// The last argument of a call, as far as it was read.
 #[repr(C)]
@@ -15,9 +15,6 @@ pub struct Argument {
 
     /// The structure can be read.
     pub is_readable: bool,
-
-    /// The structure gives a time after which one completion is enough. IORING_FEAT_MIN_TIMEOUT, which isn't served.
-    pub has_min_wait: bool,
 
     /// The structure gives a time.
     pub has_time: bool,
@@ -36,8 +33,8 @@ pub struct Extended {
     /// Its size.
     pub sigmask_sz: u32,
 
-    /// The time after which one completion is enough, in microseconds, `min_wait_usec` of newer pages; 0 for none.
-    pub pad: u32,
+    /// The time after which one completion is enough, in microseconds; 0 for none. It is `pad` in older headers. IORING_FEAT_MIN_TIMEOUT.
+    pub min_wait_usec: u32,
 
     /// Where the time is.
     pub ts: u64,
@@ -58,6 +55,12 @@ pub struct Given {
 
     /// There is one.
     pub has_time: bool,
+
+    /// The time after which one completion is enough, in nanoseconds, its least time.
+    pub least: u64,
+
+    /// There is one.
+    pub has_least: bool,
 }
 
 /// What a structure of a mask and a time gives.
@@ -69,6 +72,8 @@ pub fn given_by(extended: &Extended) -> Given
         mask_size: extended.sigmask_sz as u64,
         time_at: extended.ts,
         has_time: extended.ts != 0,
+        least: extended.min_wait_usec as u64 * 1000,
+        has_least: extended.min_wait_usec != 0,
     }
 }
 
@@ -96,8 +101,6 @@ pub fn argument_fault(argument: &Argument) -> i32
         -22
     } else if !argument.is_readable {
         -14
-    } else if argument.has_min_wait {
-        -22
     } else {
         time_fault(argument)
     }
@@ -146,5 +149,15 @@ pub fn with_fault(submitted: i64, fault: i32) -> i64
         fault as i64
     } else {
         submitted
+    }
+}
+
+/// Until when a call sleeps at most that has this least time, while it isn't over, and this limit.
+pub fn sleeps_to(least: Option<u64>, limit: Option<u64>) -> Option<u64>
+    ensures { result ≡ sleeps_to least limit }
+{
+    match least {
+        Some(least) => Some(least),
+        None => limit,
     }
 }

@@ -1,9 +1,8 @@
 //! One call: what it keeps, and what it does next.
 
-ghost use Rattle.std.specs.Prelude.{◌≡◌, ◌↔◌, ℤ, pos, List, [], ◌∷◌, true, false, Ok, IsErr, IfOk, OnErr};
-ghost use Rattle.uring_entry.specs.Errors.{error};
-ghost use Rattle.uring_enter.specs.Call.Replies.{waits, looks, is_enough};
-ghost use Rattle.uring_enter.specs.Call.Due.{due, is_reply_to, is_lazy, unless_ready, go_by, ended, waiting, looking, leaving, going, stuck, hearing};
+ghost use Rattle.std.specs.Prelude.{◌≡◌, ◌↔◌, List, [], ◌∷◌, false, IsErr, IfOk, OnErr};
+ghost use Rattle.uring_enter.specs.Call.Replies.{waits, looks, enough, is_enough};
+ghost use Rattle.uring_enter.specs.Call.Due.{due, is_reply_to, is_lazy, unless_ready, go_by, ended, least_over, waiting, looking, leaving, going, stuck, hearing};
 ghost use Rattle.uring_enter.specs.Call.After.{IsAfter, Keeps, before_of};
 
 use crate::call::asked::{Asked, Policy};
@@ -40,6 +39,8 @@ pub struct Enter {
     pub took_all: bool,
     /// How many timeouts had ended then.
     pub expired: u64,
+    /// The time is over after which one completion is enough.
+    pub is_least_over: bool,
 }
 
 impl Enter {
@@ -54,6 +55,7 @@ impl Enter {
             submitted: 0,
             took_all: false,
             expired: 0,
+            is_least_over: false,
         }
     }
 
@@ -79,14 +81,14 @@ impl Enter {
         if !is_reply_to(self.wanted, reply) {
             return Err(WrongReply);
         }
-        self.note_submission(reply);
+        self.note(reply);
         self.wanted = self.due(reply);
         self.before = kind(reply);
         Ok(self.wanted)
     }
 
-    /// Notes what the submission came to.
-    fn note_submission(&mut self, reply: Reply)
+    /// Notes what the submission came to, and that the least time is over.
+    fn note(&mut self, reply: Reply)
         ensures keeps { (a : Asked) (log : List Reply) → Keeps a log self.old
             → Keeps a (reply ∷ log) self.new }
         ensures before { self.new.before ≡ self.old.before }
@@ -101,6 +103,9 @@ impl Enter {
                 self.submitted = -(number as i64);
                 self.took_all = false;
                 self.expired = sight.expired;
+            }
+            Reply::LeastOver(_, _) => {
+                self.is_least_over = true;
             }
             _ => {}
         }
@@ -120,6 +125,7 @@ impl Enter {
             Reply::Woken => Command::Hear(true),
             Reply::Chosen | Reply::Passed => self.ended(0),
             Reply::TimedOut(sight) => self.ended(unless_ready(sight, 62)),
+            Reply::LeastOver(sight, has_limit) => self.least_over(sight, has_limit),
             Reply::Interrupted(sight) => self.ended(unless_ready(sight, 4)),
             Reply::Endless => self.ended(-35),
             Reply::Failed(number) => self.ended(-(number as i64)),
@@ -215,6 +221,18 @@ impl Enter {
         }
     }
 
+    /// The time is over after which one completion is enough.
+    fn least_over(&self, sight: Sight, has_limit: bool) -> Command
+        ensures { (a : Asked) (log : List Reply) → Keeps a log self.now
+            → result ≡ least_over log sight has_limit }
+    {
+        if 0 < sight.ready || !has_limit {
+            self.ended(unless_ready(sight, 62))
+        } else {
+            Command::Hear(true)
+        }
+    }
+
     /// The end of a call, with what became of its waiting.
     fn ended(&self, outcome: i64) -> Command
         ensures { (a : Asked) (log : List Reply) → Keeps a log self.now
@@ -253,8 +271,19 @@ impl Enter {
         ensures { (a : Asked) (log : List Reply) → Keeps a log self.now
             → result ≡ is_enough a log sight }
     {
-        let enough = self.asked.min_complete.min(self.asked.cq);
-        enough <= sight.ready || (sight.expired != self.expired && !sight.is_due)
+        self.enough() <= sight.ready || (sight.expired != self.expired && !sight.is_due)
+    }
+
+    /// How many completions are enough for a call that waits.
+    fn enough(&self) -> u32
+        ensures { (a : Asked) (log : List Reply) → Keeps a log self.now
+            → result ≡ enough a log }
+    {
+        if self.is_least_over {
+            1
+        } else {
+            self.asked.min_complete.min(self.asked.cq)
+        }
     }
 }
 
@@ -301,6 +330,7 @@ fn ends_sleep(reply: Reply) -> bool
 {
     match reply {
         Reply::Woken | Reply::TimedOut(_) | Reply::Interrupted(_) => true,
+        Reply::LeastOver(_, _) => true,
         Reply::Endless | Reply::Failed(_) => true,
         _ => false,
     }
@@ -311,7 +341,7 @@ fn kind(reply: Reply) -> Before
     ensures { (log : List Reply) → result ≡ before_of (reply ∷ log) }
 {
     match reply {
-        Reply::Woken => Before::Sleep,
+        Reply::Woken | Reply::LeastOver(_, _) => Before::Sleep,
         _ => Before::Other,
     }
 }

@@ -1,6 +1,6 @@
 //! What holds of every call, whatever is replied. Each law is the contract of a function that does nothing.
 
-ghost use Rattle.uring_enter.specs.Call.Laws.{SleepsInVain, GivesUpInVain, EndsForAReason, SubmitsOnce};
+ghost use Rattle.uring_enter.specs.Call.Laws.{SleepsInVain, GivesUpInVain, EndsForAReason, LeavesNothing, ReturnsWhatWasSubmitted, SubmitsOnce};
 
 /// A call sleeps only if it waits, nothing can go on, and there isn't enough.
 pub fn sleeps_in_vain()
@@ -20,4 +20,14 @@ pub fn ends_for_a_reason()
 /// Entries are submitted once.
 pub fn submits_once()
     ensures { SubmitsOnce }
+{}
+
+/// What was submitted is returned, whatever became of the call's waiting.
+pub fn returns_what_was_submitted()
+    ensures { ReturnsWhatWasSubmitted }
+{}
+
+/// A call that isn't to leave what can go on ends only where nothing can, or the application's head is wrong.
+pub fn leaves_nothing()
+    ensures { LeavesNothing }
 {}

@@ -54,4 +54,7 @@ pub enum Reply {
 
     /// A timeout has ended, or there was none.
     Passed,
+
+    /// The time is over after which one completion is enough. With `true` the caller gave a limit too.
+    LeastOver(Sight, bool),
 }

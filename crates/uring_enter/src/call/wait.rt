@@ -1,6 +1,6 @@
 //! How a call waits where nothing can go on, and what has come when it wakes.
 
-ghost use Rattle.std.specs.Prelude.{◌≡◌, ◌<◌, List};
+ghost use Rattle.std.specs.Prelude.{◌≡◌, List};
 ghost use Rattle.uring_operations.specs.Entries.Timeouts.{Event};
 ghost use Rattle.uring_enter.specs.Time.Kept.{KeepsTime};
 ghost use Rattle.uring_enter.specs.Call.Waits.{deadline, wait_of, woken_of, passing_of, IsWait, IsWoken, IsPassing};

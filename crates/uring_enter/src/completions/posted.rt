@@ -1,6 +1,6 @@
 //! The completions that were posted and aren't reaped, with the results that the application sees. Their rows are the caller's memory: the first `posted` of those that each call is given.
 
-ghost use Rattle.std.specs.Prelude.{◌≡◌, ◌↔◌, ◌<◌, ◌-◌, ◌^◌, length, List, ◌∷◌, true, false, IsErr, IfOk, OnErr, if◌then◌else◌};
+ghost use Rattle.std.specs.Prelude.{◌≡◌, ◌↔◌, ◌<◌, ◌-◌, ◌^◌, length, List, ◌∷◌, false, IsErr, IfOk, OnErr, if◌then◌else◌};
 ghost use Rattle.uring_operations.specs.declared.requests.act.Fact.{Fact};
 ghost use Rattle.uring_operations.specs.Requests.Courses.{KeepsCourse, shown};
 ghost use Rattle.uring_enter.specs.Completions.Showing.{Change, KeepsShown};

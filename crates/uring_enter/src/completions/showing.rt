@@ -1,6 +1,6 @@
 //! Which completions the application is shown in ring memory, and what it has reaped.
 
-ghost use Rattle.std.specs.Prelude.{◌≡◌, ◌+◌, ◌<◌, ◌≤◌, ◌%◌, ◌^◌, ◌-◌, ℕ, drop, List, [], ◌∷◌, nat_le};
+ghost use Rattle.std.specs.Prelude.{◌≡◌, ◌+◌, ◌≤◌, ◌%◌, ◌^◌, ℕ, drop, List, [], ◌∷◌, nat_le};
 ghost use Rattle.uring_enter.specs.Completions.Showing.{Change, Reaped, KeepsShown, IsTold, posted, written, reaped, store_of, after_store, heard_of, ready, overflows, loads_head, waits, may_bring, flags_of};
 ghost use Rattle.uring_enter.specs.declared.completions.posted.Posted.{Posted as Row};
 ghost use Rattle.uring_enter.specs.Completions.Postings.{Posting, Reaped as RowsReaped, KeepsPosted};

@@ -2,7 +2,7 @@
 
 ghost use Rattle.std.specs.Prelude.{◌≡◌, ℕ, true, false, List, [], ◌∷◌};
 ghost use Rattle.uring_enter.specs.GoingOn.Due as spec;
-ghost use Rattle.uring_enter.specs.GoingOn.Due.{Happening, Noted, FoundBefore, KeepsDue, LooksAtEachDue, LooksBefore, is_due};
+ghost use Rattle.uring_enter.specs.GoingOn.Due.{Happening, Noted, FoundBefore, KeepsDue, LooksAtEachDue, LooksAtNoneAgain, LooksBefore, is_due};
 
 /// What a ring keeps of those that are due.
 #[repr(C)]
@@ -113,4 +113,9 @@ pub fn looks_at_each_due()
 /// And none that isn't before it.
 pub fn looks_before()
     ensures { LooksBefore }
+{}
+
+/// And none of those that have found theirs, unless it or one before it was noted since.
+pub fn looks_at_none_again()
+    ensures { LooksAtNoneAgain }
 {}

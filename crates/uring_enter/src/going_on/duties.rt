@@ -146,7 +146,7 @@ fn has_sight(reply: Reply) -> bool
     match reply {
         Reply::Heard(_) | Reply::WentOn(_) | Reply::Stuck(_) => true,
         Reply::Taken(_, _) | Reply::NotTaken(_, _) => true,
-        Reply::TimedOut(_) | Reply::Interrupted(_) => true,
+        Reply::TimedOut(_) | Reply::Interrupted(_) | Reply::LeastOver(_, _) => true,
         Reply::WrongHead | Reply::Chosen | Reply::Woken => false,
         Reply::Endless | Reply::Failed(_) | Reply::Passed => false,
     }

@@ -202,5 +202,5 @@ pub fn completion_cells(flags: u32) -> u32
 pub fn features(is_one_mapping: bool) -> u32
     ensures { result ≡ spec.features is_one_mapping }
 {
-    if is_one_mapping { 8127 } else { 8126 }
+    if is_one_mapping { 40895 } else { 40894 }
 }

@@ -2,6 +2,7 @@
 
 ghost use Rattle.std.specs.Prelude.{◌≡◌};
 ghost use Rattle.uring_enter.specs.Rings.Ringing as spec;
+ghost use Rattle.uring_enter.specs.Rings.Ringing.{DropsWhatIsMade, TellsBeforeItOpens};
 
 /// A part of a ring's memory that is mapped by itself.
 #[derive(Clone, Copy, Drop)]
@@ -116,3 +117,13 @@ pub fn fate_of(is_own: bool, calls: u32, known: Option<bool>) -> Fate
         Some(false) => Fate::Goes,
     }
 }
+
+/// A set-up that fails drops the ring exactly if one was made before.
+pub fn drops_what_is_made()
+    ensures { DropsWhatIsMade }
+{}
+
+/// The parameters are told just before the descriptor is opened.
+pub fn tells_before_it_opens()
+    ensures { TellsBeforeItOpens }
+{}

@@ -6,6 +6,27 @@ ghost use Rattle.uring_enter.specs.TakingUp.CoreEntries as spec;
 use uring_entry::Sqe;
 use uring_operations::{Form, Member, Submission, core_flags, first_fault};
 
+/// An entry of a call, as far as what the core is told of the one beside it goes by it.
+#[repr(C)]
+#[derive(Clone, Copy, Drop)]
+pub struct Beside {
+    /// There is one.
+    pub is_there: bool,
+
+    /// The first of its chain: the one before it doesn't link it.
+    pub begins: bool,
+
+    /// It has a fault.
+    pub is_refused: bool,
+
+    /// That isn't one of its operation or its flags, if it has one.
+    pub is_past: bool,
+
+    pub opcode: u8,
+
+    pub flags: u8,
+}
+
 /// An entry of the core's.
 #[repr(C)]
 #[derive(Clone, Copy, Drop)]
@@ -69,30 +90,103 @@ pub fn core_entry_of(entry: &Submission, form: Form) -> CoreEntry
     }
 }
 
-/// What the core is given of an entry, once the next of its call is known to be this one.
-pub fn core_entry_before(
+/// An entry that is this to the core, and which the one before it links or doesn't, as far as what is told of the one beside it goes by it.
+pub fn beside_of(entry: &Submission, form: Form, is_linked: bool) -> Beside
+    ensures { result ≡ spec.beside_of entry.now form is_linked }
+{
+    Beside {
+        is_there: true,
+        begins: !is_linked,
+        is_refused: is_refused(form),
+        is_past: first_fault(entry) >= 0,
+        opcode: entry.opcode,
+        flags: entry.flags,
+    }
+}
+
+/// What the core is given of an entry between these of its call.
+pub fn core_entry_between(
     entry: &Submission,
     form: Form,
-    next: &Submission,
+    before: &Beside,
+    next: &Beside,
     linux: bool,
 ) -> CoreEntry
-    ensures { result ≡ spec.core_entry_before entry.now form next.now linux }
+    ensures { result ≡ spec.core_entry_between entry.now form before.now next.now linux }
 {
+    let own = beside_of(entry, form, links_next(before));
     CoreEntry {
-        flags: flags_before(core_flags(entry.flags), next, linux),
+        flags: flags_between(core_flags(entry.flags), &own, before, next, linux),
         ..core_entry_of(entry, form)
     }
 }
 
-/// The flags that the core is told of an entry, where these were its flags and the next entry of its call is this one. By Linux's rules a soft link before a linked timeout that ends the chain is told as a hard one: so the timeout ends by itself, and posts as its own flags say. By the manual pages' they stay as they were.
-fn flags_before(flags: u8, next: &Submission, linux: bool) -> u8
-    ensures { result ≡ spec.flags_before flags next.now linux }
+/// The flags that the core is told of an entry that has these. By Linux's rules a linked timeout that ends its chain posts as its own flags say, whatever becomes of the request that it limits, and so does one after a chain's first entry that has a fault. By the manual pages' they stay as they were.
+fn flags_between(flags: u8, own: &Beside, before: &Beside, next: &Beside, linux: bool) -> u8
+    ensures { result ≡ spec.flags_between flags own.now before.now next.now linux }
 {
-    let is_soft = linux && flags & 4 != 0 && flags & 8 == 0;
-    if is_soft && (next.opcode == 15 && next.flags & 12 == 0) {
+    if !linux {
+        flags
+    } else if are_fault_and_timeout(own, next) {
+        with_skip(hard_before(flags, next), skips(next))
+    } else if are_fault_and_timeout(before, own) {
+        with_skip(flags, skips(own) || skips(before) && before.is_past)
+    } else {
+        hard_before(flags, next)
+    }
+}
+
+/// These flags, with a hard link for a soft one before a linked timeout that ends the chain.
+fn hard_before(flags: u8, next: &Beside) -> u8
+    ensures { result ≡ spec.hard_before flags next.now }
+{
+    if flags & 4 != 0 && flags & 8 == 0 && is_last_timeout(next) {
         flags | 8
     } else {
         flags
+    }
+}
+
+/// Whether these are a chain's first entry, which has a fault, and a linked timeout without one that ends the chain after it, where neither asks to drain.
+fn are_fault_and_timeout(first: &Beside, next: &Beside) -> bool
+    ensures { result ≡ spec.are_fault_and_timeout first.now next.now }
+{
+    let is_fault = first.begins && first.is_refused && first.flags & 2 == 0;
+    let is_timeout = is_last_timeout(next) && !next.is_refused && next.flags & 2 == 0;
+    links_next(first) && is_fault && is_timeout
+}
+
+fn is_last_timeout(entry: &Beside) -> bool
+    ensures { result ≡ spec.is_last_timeout entry.now }
+{
+    entry.is_there && entry.opcode == 15 && entry.flags & 12 == 0
+}
+
+fn links_next(entry: &Beside) -> bool
+    ensures { result ≡ spec.links_next entry.now }
+{
+    entry.is_there && entry.flags & 12 != 0
+}
+
+fn skips(entry: &Beside) -> bool
+    ensures { result ≡ spec.skips entry.now }
+{
+    entry.flags & 64 != 0
+}
+
+/// These flags, asking for skipped success or not.
+fn with_skip(flags: u8, is_skipped: bool) -> u8
+    ensures { result ≡ spec.with_skip flags is_skipped }
+{
+    if is_skipped { flags | 64 } else { flags & 191 }
+}
+
+fn is_refused(form: Form) -> bool
+    ensures { result ≡ spec.is_refused form }
+{
+    match form {
+        Form::Refused(_) => true,
+        _ => false,
     }
 }
 

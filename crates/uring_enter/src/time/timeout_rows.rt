@@ -1,6 +1,6 @@
 //! Timeouts that run, as rows in memory that the caller has.
 
-ghost use Rattle.std.specs.Prelude.{◌≡◌, ◌<◌, ◌≤◌, length, take, map, filter, slice_index_or, slice_get, MatchOption, [], true};
+ghost use Rattle.std.specs.Prelude.{◌≡◌, ◌<◌, ◌≤◌, length, take, map, filter, slice_index_or, slice_get, MatchOption};
 ghost use Rattle.uring_operations.specs.Entries.Timeouts.{is_other, with_expiry, IsNextOf, IsReachedOf, HasNone, IsRow};
 ghost use Rattle.uring_enter.specs.Time.Kept.{nearer};
 

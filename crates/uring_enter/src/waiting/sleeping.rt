@@ -36,6 +36,9 @@ pub struct Waited {
 
     /// The caller's time is over.
     pub is_over: bool,
+
+    /// That is its least time, after which one completion is enough.
+    pub is_least: bool,
 }
 
 /// What came of a wait.
@@ -55,6 +58,9 @@ pub enum Outcome {
 
     /// The sleep failed, with what it came to.
     Failed,
+
+    /// The caller's least time is over.
+    LeastOver,
 }
 
 /// Whether a timeout fires after a wait, if its time is over.
@@ -180,7 +186,7 @@ pub fn outcome_of(waited: &Waited) -> Outcome
     } else if waited.result < 0 {
         Outcome::Failed
     } else if waited.is_over {
-        Outcome::TimedOut
+        over(waited.is_least)
     } else {
         Outcome::Woken
     }
@@ -194,5 +200,16 @@ fn unless_message(can_post: bool) -> Outcome
         Outcome::Woken
     } else {
         Outcome::Endless
+    }
+}
+
+/// What came of a wait that one of the caller's times ended: the least time, or its limit.
+fn over(is_least: bool) -> Outcome
+    ensures { result ≡ spec.over is_least }
+{
+    if is_least {
+        Outcome::LeastOver
+    } else {
+        Outcome::TimedOut
     }
 }

@@ -23,16 +23,20 @@ tells_message e came_to = e.opcode == 10 && not (is_below came_to)
 abbrev pub told_result : ℤ → (is_told : Bool) → ℤ
 told_result came_to is_told = if is_told then came_to else error 14
 
--- a socket of datagrams that was shut down for reading has no more, and a receive or a read that waits ends with 0; but one that is asked not to wait is told -11 (EAGAIN) there too. So after that it matters whether a socket was shut down, unless the entry asks it not to wait, by its flags of a message or RWF_NOWAIT (8), or goes on. shutdown(2), SHUT_RD; what Linux 6.18 was seen to do
+-- a socket of datagrams that was shut down for reading has no more, and a receive or a read that waits ends with 0; but one that is asked not to wait is told -11 (EAGAIN) there too. So after that it matters whether a socket was shut down, unless the entry asks it not to wait, by its flags of a message or RWF_NOWAIT (8), or goes on. So it is of an ACCEPT (13) by a local socket that was shut down, whom nobody can connect to any more. shutdown(2), SHUT_RD; what Linux 6.18 was seen to do
 abbrev pub asks_shut : Submission → ℤ → Bool
 asks_shut e came_to =
     int_eq came_to (error 11) && not (goes_on e)
-    && (is_receive e.opcode && not (is_asked e) || is_read e.opcode && not (has_some e.op_flags 8))
+    && (e.opcode == 13 || is_receive e.opcode && not (is_asked e) || is_read e.opcode && not (has_some e.op_flags 8))
 
--- what a call came to counts as 0 that was asked not to wait, where the socket was shut down; but where its descriptor isn't to wait (O_NONBLOCK), of a RECV (27) alone, which doesn't go by that. What Linux 6.18 was seen to do
+-- what a call comes to that finds nothing where the socket was shut down: an accept to -22 (EINVAL), as one that waits in accept(2) does there, and any other to 0
+abbrev pub end_when_shut : Submission → ℤ
+end_when_shut e = if e.opcode == 13 then error 22 else pos 0
+
+-- what a call came to counts as that which was asked not to wait, where the socket was shut down; but where its descriptor isn't to wait (O_NONBLOCK), of a RECV (27) alone, which doesn't go by that. What Linux 6.18 was seen to do
 abbrev pub shut_result : Submission → ℤ → (is_shut isnt_to_wait : Bool) → ℤ
 shut_result e came_to is_shut isnt_to_wait =
-    if int_eq came_to (error 11) && is_shut && (not isnt_to_wait || e.opcode == 27) then pos 0 else came_to
+    if int_eq came_to (error 11) && is_shut && (not isnt_to_wait || e.opcode == 27) then end_when_shut e else came_to
 
 -- a datagram may have come just before it was shut down, or while that is asked: so the call is made once more, and what that comes to counts. Of a receive of errors only a local socket is asked, which has none, and takes it for one of bytes; another has none whether it was shut down or not. What is next, after what was done last, which came to `res`, a question to a number that is 0 for no; None: after the call itself, which has come to -11 (EAGAIN) wherever the socket is asked
 abbrev pub shutting_next : Submission → Option Shutting → ℤ → Shutting

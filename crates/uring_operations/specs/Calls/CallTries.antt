@@ -89,11 +89,15 @@ after_poll e c is_ready =
 abbrev pub after_error : Submission → ℤ → Turn
 after_error e res = if e.opcode == 16 && int_eq res (pos 0) then Does Calls else Ends res
 
+-- an accept that goes on waits though its descriptor isn't to: it was ready, and others have taken what was there, or its socket was shut down. What Linux 6.18 was seen to do
+abbrev pub accepts_on : Submission → Bool
+accepts_on e = e.opcode == 13 && goes_on e
+
 -- what is done next, after what was done last, which came to `res`: a question to a number that is 0 for no. After a call, `done` has what it has moved too
 abbrev pub after : Submission → Call → Doing → ℤ → Turn
 after e c Calls res = after_call e c res
 after e c Polls res = after_poll e c (not (int_eq res (pos 0)))
-after e c AsksWill res = if int_eq res (pos 0) then Waits else ends_with e c (error 11)
+after e c AsksWill res = if int_eq res (pos 0) || accepts_on e then Waits else ends_with e c (error 11)
 after e c AsksType res = if int_eq res (pos 0) then EndsWithDone else Waits
 after e c AsksError res = after_error e res
 

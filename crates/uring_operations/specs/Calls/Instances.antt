@@ -18,6 +18,10 @@ can_be_polled res = not (int_eq res (error 1))
 abbrev pub polling_fault : ℤ → ℤ
 polling_fault res = if can_be_polled res then res else error 77
 
+-- a regular file can be polled if an instance takes it. Where there is no instance, or it takes no more, the file is taken for one that can't be, as most are. Our own rule
+abbrev pub counts_as_polled : ℤ → Bool
+counts_as_polled res = int_eq res (pos 0)
+
 -- with what an unpolled one fails as it starts; or 0: poll(2) finds at once what it ends with
 abbrev pub fault_of : ℤ → ℤ
 fault_of unpolled = if is_below unpolled then unpolled else pos 0

@@ -1,5 +1,5 @@
 -- Where the parts of a message stand in a buffer, of a receive that goes on. io_uring_prep_recvmsg_multishot(3), struct io_uring_recvmsg_out: 16 bytes, the address, the control data, and the bytes of the message.
-use Rattle.std.specs.Prelude.{ℕ, ◌+◌, ◌-◌, min, nat_le, nat_lt, Option, Some, None, if◌then◌else◌}
+use Rattle.std.specs.Prelude.{ℕ, ◌+◌, ◌-◌, ◌^◌, min, nat_le, nat_lt, Option, Some, None, if◌then◌else◌}
 use Rattle.std.specs.Int.RustNames.{bit_or}
 use Rattle.uring_operations.specs.declared.calls.layout.Layout.{Layout}
 use Rattle.uring_operations.specs.declared.entries.submission.Submission.{Submission}
@@ -29,9 +29,9 @@ layout_by name control (Some room) =
 abbrev pub layout_of : ℕ → ℕ → ℕ → Option Layout
 layout_of name control size = layout_by name control (room_for name control size)
 
--- how much of the buffer has something after a message of so many bytes, which may have been cut to the room that there was: what stands in front, and those that came
+-- how much of the buffer has something after a message of so many bytes, which may have been cut to the room that there was: what stands in front, and those that came. No buffer has more than 2^64 - 1
 abbrev pub filled : Layout → ℕ → ℕ
-filled l came = l.bytes + min came l.room
+filled l came = min (l.bytes + min came l.room) (2 ^ 64 - 1)
 
 -- the flags with which the call of a message is made: the entry's, and none waits, by MSG_DONTWAIT (0x40); and no send ends the program by a signal, by MSG_NOSIGNAL (0x4000). send(2); that it is so of each request is what the kernel does
 abbrev pub call_flags : Submission → ℕ

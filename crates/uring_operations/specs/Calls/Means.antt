@@ -1,18 +1,16 @@
 -- By what the operation of an entry is carried out: which system call, and with which arguments; or what whoever keeps the ring does itself. io_uring_enter(2), at each operation, which names the call of section 2 that it is like: its fields are that call's arguments. The numbers of operations are those of <linux/io_uring.h>.
-use Rattle.std.specs.Prelude.{◌≡◌, ℕ, ◌-◌, Bool, true, not, ◌&&◌, ◌||◌, ◌==◌, nat_lt, nat_le, Option, Some, None, if◌then◌else◌}
+use Rattle.std.specs.Prelude.{ℕ, ◌-◌, Bool, not, ◌&&◌, ◌||◌, ◌==◌, nat_le, if◌then◌else◌}
 use Rattle.std.specs.Int.RustNames.{bit_and, bit_or}
 use Rattle.uring_operations.specs.declared.entries.submission.Submission.{Submission}
 use Rattle.uring_operations.specs.declared.calls.system_call.SystemCall.{SystemCall}
-use Rattle.uring_operations.specs.declared.calls.means.Held.{Held}
+use Rattle.uring_operations.specs.declared.calls.held.Held.{Held}
 use Rattle.uring_operations.specs.declared.calls.means.Listed.{Listed}
 use Rattle.uring_operations.specs.declared.calls.means.Means.{Means}
 use Rattle.uring_operations.specs.declared.calls.means.Means.TheVariants.{Nothing, Transfer, Poll, Call, Opening, Sync, Close, Connect, Splice, Send, Receive, ReceiveMessage, SlotRemoval, FilesPlacing, FilesUpdate, Timeout, LinkedTimeout, Provision, ProvisionRemoval, Message, Cancel, PollRemoval, TimeoutRemoval}
-use Rattle.uring_operations.specs.Files.Asking.{asked_descriptors}
 use Rattle.uring_operations.specs.Entries.Clocks.{has_some}
 use Rattle.uring_operations.specs.Calls.Layouts.{call_flags}
-use Rattle.uring_operations.specs.Entries.Needs.{is_transfer, is_send, is_of_sockets, is_splice, advised_length}
+use Rattle.uring_operations.specs.Entries.Needs.{is_transfer, is_send, advised_length}
 use Rattle.uring_operations.specs.Copies.Pieces.{address_size}
-use Rattle.uring_operations.specs.Requests.Readiness.{has_message_flags}
 use Rattle.uring_operations.specs.Calls.SystemCalls as sys
 use Rattle.uring_operations.specs.Calls.SystemCalls.{of_three, of_four, of_five, of_six, word_of}
 
@@ -173,19 +171,6 @@ of_ring e =
     if e.opcode == 40 then Message else
     -- NOP, and what isn't served
     Nothing
-
--- of an end of a splice or a tee it is asked if that is no pipe, which the flag of the call asks (SPLICE_F_NONBLOCK), and no regular file, which never waits, and whose locks the application may have
-abbrev pub asks_end : (is_pipe is_regular : Bool) → Bool
-asks_end is_pipe is_regular = not is_pipe && not is_regular
-
--- a pipe's end that is open to read alone (O_RDONLY, 0) is shared with others who ask it so and take that back, and no lock keeps them away, since a file is locked to be written by who can write it. fcntl(2), F_SETLK. So for a call that has no flag it is opened once more, by its name in /proc, not to wait (O_NONBLOCK, 2048), and to be closed in a program that is started (O_CLOEXEC, 524288); nobody else has that. Our own rule
-abbrev pub asks_anew : (is_pipe : Bool) → (access : ℕ) → Option ℕ
-asks_anew is_pipe access = if is_pipe && access == 0 then Some 526336 else None
-
--- the call of an operation of sockets, of a splice or a tee is asked not to wait: it has the flags of a message, with MSG_DONTWAIT among them (`call_flags`), or its descriptors are asked while it is made. It says no more than that: of two processes that use one descriptor, each may take back what the other has asked of it
-abbrev pub CallsNeverSleep : Type 0
-CallsNeverSleep = (e : Submission) → is_of_sockets e.opcode || is_splice e.opcode ≡ true
-    → has_message_flags e.opcode || nat_lt 0 (asked_descriptors e.opcode) ≡ true
 
 abbrev pub is_on_descriptor : ℕ → Bool
 is_on_descriptor code =

@@ -29,10 +29,19 @@ abbrev pub piece_or : Option Piece → ℤ → Copying
 piece_or (Some p) fault = unless_too_long p
 piece_or None fault = Ends fault
 
+-- the fault of an OPENAT2 (28) that is found once its structure was copied, which is two pieces, and before its path: -22 (EINVAL) of a registered buffer, and -9 (EBADF) of a slot (IOSQE_FIXED_FILE, 1); or 0. What Linux 6.18 was seen to do
+abbrev pub fault_after_how : Submission → ℕ → ℤ
+fault_after_how e copied =
+    if not (e.opcode == 28 && copied == 2) then pos 0 else
+    if not (e.buf_index == 0) then error 22 else
+    if has_some e.flags 1 then error 9 else pos 0
+
 -- after so many pieces, of which the last has this fault, or 0
 abbrev pub next_of : Submission → ℕ → ℤ → ℕ → Option Entry → Copying
 next_of e copied fault vectors before =
-    if is_below fault then Ends fault else piece_or (piece_of e copied) (last_fault e vectors before)
+    if is_below fault then Ends fault else
+    if is_below (fault_after_how e copied) then Ends (fault_after_how e copied) else
+    piece_or (piece_of e copied) (last_fault e vectors before)
 
 -- whether copying what an entry points to came to a fault of its own: an error, but -12 (ENOMEM), which is whoever copies it's, who had no memory for it. Our own rule: a kernel refuses such an entry with -12
 abbrev pub is_own_fault : ℤ → Bool

@@ -28,6 +28,10 @@ given e =
 abbrev pub is_priority : ℕ → Bool
 is_priority ioprio = nat_lt ioprio 32768 && (nat_le 8192 ioprio || not (has_some ioprio 7))
 
+-- a transfer has 1,024 vectors at most; and one, if it takes a provided buffer (32), which is found before what it points to is looked at
+abbrev pub is_count_of_vectors : Submission → Bool
+is_count_of_vectors e = nat_le e.len 1024 && (not (has_some e.flags 32) || e.len == 1)
+
 -- one time, and one clock at most
 abbrev pub is_timeout : Submission → Bool
 is_timeout e = e.len == 1 && not (bit_and e.op_flags 12 == 12)
@@ -50,7 +54,7 @@ is_poll_removal e =
 abbrev pub meets : Also → Submission → Bool
 meets Nothing e = true
 meets Transfer e = is_priority e.ioprio
-meets Vectors e = is_priority e.ioprio && nat_le e.len 1024
+meets Vectors e = is_priority e.ioprio && is_count_of_vectors e
 meets Sync e = nat_lt e.off (2 ^ 63)
 meets Poll e = is_poll e
 meets PollRemoval e = is_poll_removal e
@@ -99,10 +103,10 @@ abbrev pub is_right : Option Rule → Submission → Bool
 is_right (Some rule) e = bit_and rule.flags e.op_flags == e.op_flags && meets rule.also e
 is_right None e = false
 
--- an operation of a path, or a close: OPENAT, CLOSE, STATX, OPENAT2, RENAMEAT, UNLINKAT, MKDIRAT, SYMLINKAT, LINKAT, SETXATTR and GETXATTR
+-- an operation of a path, or a close: OPENAT, CLOSE, STATX, RENAMEAT, UNLINKAT, MKDIRAT, SYMLINKAT, LINKAT, SETXATTR and GETXATTR. (an OPENAT2 has none either, but its structure is looked at first, `fault_after_how`)
 abbrev pub has_no_file : ℕ → Bool
 has_no_file code =
-    code == 18 || code == 19 || code == 21 || code == 28 || nat_le 35 code && nat_le code 39 || code == 42 || code == 44
+    code == 18 || code == 19 || code == 21 || nat_le 35 code && nat_le code 39 || code == 42 || code == 44
 
 -- a personality, or fields that must be 0
 abbrev pub gives_what_is_barred : Submission → Bool

@@ -1,5 +1,5 @@
 -- What carrying out an operation needs, and of which kind it is, by lists of operations. io_uring_enter(2), at each operation; the numbers are those of <linux/io_uring.h>.
-use Rattle.std.specs.Prelude.{ℕ, pos, Bool, false, not, ◌&&◌, ◌||◌, ◌==◌, ◌^◌, if◌then◌else◌}
+use Rattle.std.specs.Prelude.{ℕ, pos, Bool, false, not, ◌&&◌, ◌||◌, ◌==◌, ◌^◌, nat_le, if◌then◌else◌}
 use Rattle.std.specs.Int.{w32, cast_signed}
 use Rattle.std.specs.Int.RustNames.{bit_and, bit_or}
 use Rattle.uring_operations.specs.declared.entries.submission.Submission.{Submission}
@@ -74,9 +74,13 @@ abbrev pub uses_buffer : Submission → Bool
 uses_buffer e =
     e.opcode == 4 || e.opcode == 5 || e.opcode == 47 && has_some e.ioprio 4 || wants_buffer e
 
--- a poll and a no-op ask whether their file is open: no call of theirs would say that it isn't. A READ_MULTISHOT does so before it asks whether that can be polled
+-- an FTRUNCATE (55) to a length that is negative in 64 bits: ftruncate(2) refuses that before it looks for the file, and a kernel's ring after. What Linux 6.18 was seen to do
+abbrev pub has_negative_length : Submission → Bool
+has_negative_length e = e.opcode == 55 && nat_le (2 ^ 63) e.off
+
+-- a poll, a no-op and such an FTRUNCATE ask whether their file is open: no call of theirs would say that it isn't. A READ_MULTISHOT does so before it asks whether that can be polled
 abbrev pub asks_file : Submission → Bool
-asks_file e = is_poll e.opcode || is_read_multishot e.opcode || wants_file e
+asks_file e = is_poll e.opcode || is_read_multishot e.opcode || wants_file e || has_negative_length e
 
 -- it has more than one completion: IORING_POLL_ADD_MULTI is 1, IORING_ACCEPT_MULTISHOT 1 and IORING_RECV_MULTISHOT 2; a READ_MULTISHOT always has. A poll hasn't that has EPOLLONESHOT (2^30) among its events: what Linux 6.18 was seen to do
 abbrev pub goes_on : Submission → Bool

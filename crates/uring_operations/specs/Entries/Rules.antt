@@ -80,9 +80,9 @@ rule_of code =
     if code == 15 then row (priority + buffer + slot + third + padding) 45 LinkedTimeout else
     -- FALLOCATE
     if code == 17 then bars (priority + own_flags + buffer + slot) else
-    -- OPENAT, OPENAT2, CLOSE and FILES_UPDATE
+    -- OPENAT, OPENAT2, CLOSE and FILES_UPDATE. The buffer of an OPENAT2 is looked at after its structure (`fault_after_how`)
     if code == 18 then row (priority + buffer) any Nothing else
-    if code == 28 then row (priority + buffer) any OpenHow else
+    if code == 28 then row priority any OpenHow else
     if code == 19 then row (priority + offset + address + length + own_flags + buffer) any Close else
     if code == 20 then row (priority + own_flags + slot) any FilesUpdate else
     -- FADVISE and MADVISE; STATX, EPOLL_CTL, RENAMEAT and LINKAT

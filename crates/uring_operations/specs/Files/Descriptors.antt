@@ -30,6 +30,10 @@ may_be_tried e t =
 abbrev pub is_tried_at_once : Submission → Trial → Bool
 is_tried_at_once e t = is_read e.opcode && t.was_file && may_be_tried e t
 
+-- nor is it before a read by the number of what was a file in memory, which can't be asked not to wait, where the user says that no device whose reads wait is read. By now the number may be a stream's, as a pipe's or a socket's: a read at an offset of what has none ends at once, with -29 (ESPIPE). pread(2); our own rule
+abbrev pub is_tried_unasked : Submission → Trial → Bool
+is_tried_unasked e t = t.was_in_memory && t.has_no_devices && is_read e.opcode && may_be_tried e t
+
 -- of the access mode (O_ACCMODE, 3) O_RDONLY is 0, O_WRONLY 1 and O_RDWR 2; 3 is open for neither, and so is what is open for its path alone (O_PATH, 2^21). open(2)
 abbrev pub directions_of : (flags : ℕ) → Directions
 directions_of flags = record {
@@ -41,11 +45,15 @@ directions_of flags = record {
 abbrev pub type_of : (is_in_memory is_open : Bool) → (mode : ℕ) → ℕ
 type_of is_in_memory is_open mode = if is_in_memory then 32768 else if is_open then bit_and mode 61440 else 0
 
-abbrev pub with_status : Nature → (is_in_memory is_open : Bool) → (mode : ℕ) → Nature
-with_status before is_in_memory is_open mode = record before {
+-- some regular files wait, as a queue of messages (mq_overview(7)) and what the kernel says (/proc/kmsg, syslog(2)). Such a one can be polled, and what lies on a disk can't: so a regular file that has no blocks there is asked, and one that can be polled counts as a device. Our own rule, after what the kernel does with any file that can be polled
+abbrev pub asks_polling : (mode blocks : ℕ) → Bool
+asks_polling mode blocks = bit_and mode 61440 == 32768 && blocks == 0
+
+abbrev pub with_status : Nature → (is_in_memory is_open can_be_polled : Bool) → (mode : ℕ) → Nature
+with_status before is_in_memory is_open can_be_polled mode = record before {
   is_open = is_in_memory || is_open;
-  is_file = type_of is_in_memory is_open mode == 32768;
-  is_device = type_of is_in_memory is_open mode == 8192;
+  is_file = type_of is_in_memory is_open mode == 32768 && not can_be_polled;
+  is_device = type_of is_in_memory is_open mode == 8192 || type_of is_in_memory is_open mode == 32768 && can_be_polled;
   is_socket = type_of is_in_memory is_open mode == 49152;
   has_type = not (type_of is_in_memory is_open mode == 0);
 }
@@ -73,6 +81,7 @@ abbrev pub kind_of : Submission → Trial → Nature → Kind
 kind_of e t d =
     if is_poll e.opcode || is_splice e.opcode then Stream else
     if is_tried_at_once e t then AtOnce else
+    if is_tried_unasked e t then Tried else
     if is_transfer e.opcode || is_of_sockets e.opcode then kind_on e t d else Never
 
 -- what is asked next of a transfer's descriptor that is open, or what it is
@@ -96,6 +105,7 @@ abbrev pub next_of : Submission → Trial → Known → Finding
 next_of e t k =
     if is_poll e.opcode || is_splice e.opcode then Is Stream else
     if is_tried_at_once e t then Is AtOnce else
+    if is_tried_unasked e t then Is Tried else
     if not (is_transfer e.opcode || is_of_sockets e.opcode) then Is Never else
     if not k.status then Asks Status else asks_after_status e t k
 
@@ -113,6 +123,11 @@ pub record Fits (k : Known) (d : Nature) : Type 0 where
 abbrev pub FindsTheKind : Type 0
 FindsTheKind = (e : Submission) (t : Trial) (k : Known) (d : Nature) (kind : Kind) → Fits k d
     → next_of e t k ≡ Is kind → kind ≡ kind_of e t d
+
+-- what is made before its descriptor was asked what it is, and isn't asked not to wait, is made so because the user says that no device is read
+abbrev pub AsksUnlessSaid : Type 0
+AsksUnlessSaid = (e : Submission) (t : Trial) (k : Known) → k.status ≡ false → next_of e t k ≡ Is Tried
+    → t.has_no_devices ≡ true
 
 abbrev pub was_asked : Question → Known → Bool
 was_asked Status k = k.status

@@ -1,5 +1,5 @@
 -- What is remembered of a descriptor's number. Our own rules, but that -95 (EOPNOTSUPP) of a call with RWF_NOWAIT means that its file can't be asked so (preadv2(2)), and that files in memory alone have seals (fcntl(2), F_GET_SEALS).
-use Rattle.std.specs.Prelude.{◌≡◌, ℤ, Bool, true, false, ◌&&◌}
+use Rattle.std.specs.Prelude.{◌≡◌, ℤ, Bool, true, false, ◌&&◌, if◌then◌else◌}
 use Rattle.std.specs.Ordering.{int_eq}
 use Rattle.uring_operations.specs.declared.files.remembering.Remembered.{Remembered}
 use Rattle.uring_operations.specs.declared.files.remembering.Remembered.TheVariants.{Nothing, File, InMemory, Slow}
@@ -19,6 +19,10 @@ asks_seals Nothing is_at_once res = false
 asks_seals File is_at_once res = is_at_once && int_eq res (error 95)
 asks_seals InMemory is_at_once res = false
 asks_seals Slow is_at_once res = false
+
+-- a call at an offset that came to -29 (ESPIPE): its descriptor has none, as a stream, and is no file. pread(2)
+abbrev pub after_call : Remembered → (res : ℤ) → Remembered
+after_call was res = if int_eq res (error 29) then Nothing else was
 
 -- one that was in memory is asked before a call that isn't asked not to wait: by then the number may be another file's
 abbrev pub was_in_memory : Remembered → Bool
@@ -40,3 +44,7 @@ after_seals Slow has_seals = Slow
 abbrev pub AsksWhatWasAFile : Type 0
 AsksWhatWasAFile = (was : Remembered) (is_at_once has_seals : Bool) (res : ℤ)
     → asks_seals (after_seals was has_seals) is_at_once res ≡ false
+
+-- what has shown that it has no offsets isn't taken to be in memory, nor to be a file
+abbrev pub ForgetsStreams : Type 0
+ForgetsStreams = (was : Remembered) → after_call was (error 29) ≡ Nothing

@@ -1,5 +1,5 @@
 -- What has happened to a request that was accepted, the newest first, and what is to be done with it. io_uring(7); io_uring_enter(2); but where our own rule is named.
-use Rattle.std.specs.Prelude.{◌≡◌, ℤ, pos, negsuc, Bool, true, false, not, ◌&&◌, int_lt, Option, Some, None, List, [], ◌∷◌, if◌then◌else◌}
+use Rattle.std.specs.Prelude.{◌≡◌, ℤ, pos, negsuc, Bool, true, false, not, ◌&&◌, int_lt, Option, Some, None, unwrap_or, List, [], ◌∷◌, if◌then◌else◌}
 use Rattle.uring_operations.specs.declared.requests.act.Fact.{Fact}
 use Rattle.uring_operations.specs.declared.requests.act.Fact.TheVariants.{Started, Dropped, Cancelled, Tried, Waits, WentOn, Done, Notified, Ended}
 use Rattle.uring_operations.specs.declared.requests.act.Act.{Act}
@@ -131,11 +131,12 @@ notice_of e may_post =
     if not may_post then None else
     Some (if has_some e.ioprio 8 then negsuc 2147483647 else pos 0)
 
--- glue: what is kept is that of a request to which this has happened
+-- glue: what is kept is that of a request to which this has happened. A result that isn't known is 0, for who reads the field
 pub record KeepsCourse (log : List Fact) (c : Course) : Type 0 where
   pub started : c.has_started ≡ has_started log
   pub cancelled : c.is_cancelled ≡ is_cancelled log
   pub tried : c.is_tried ≡ is_tried log
   pub ended : c.has_ended ≡ has_ended log
+  pub res : c.res ≡ unwrap_or (result log) (pos 0)
   pub result : option_of c.has_result c.res ≡ result log
   pub moved : c.moved ≡ moved log

@@ -33,9 +33,11 @@ pub fn moved_by(came_to: i32) -> u64
     if came_to < 0 { 0 } else { came_to as u64 }
 }
 
-/// What is left of a vector, of which and of those after it so many bytes were moved. It ends in a memory of 64 bits.
+/// What is left of a vector, of which and of those after it so many bytes were moved. Those end in a memory of 64 bits; if they don't, as many bytes are left, and of the vectors after it the same.
 pub fn rest_of(vector: &Vector, moved: u64) -> Rest
-    ensures { vector.now.from + vector.now.size < 2 ^ 64 → result ≡ spec.rest_of vector.now moved }
+    ensures rest { vector.now.from + spec.part_of vector.now moved < 2 ^ 64 → result ≡ spec.rest_of vector.now moved }
+    ensures left { result.vector.size ≡ (spec.rest_of vector.now moved).vector.size }
+    ensures later { result.moved ≡ (spec.rest_of vector.now moved).moved }
 {
     let part = moved.min(vector.size);
     Rest {

@@ -40,9 +40,17 @@ fn asks_shut(entry: &Submission, came_to: i32) -> bool
     if came_to != -11 || goes_on(entry) {
         false
     } else {
-        is_receive(entry.opcode) && !is_asked(entry)
+        entry.opcode == 13
+            || is_receive(entry.opcode) && !is_asked(entry)
             || is_read(entry.opcode) && entry.op_flags & 8 == 0
     }
+}
+
+/// What a call of this entry comes to that finds nothing where its socket was shut down for reading.
+fn end_when_shut(entry: &Submission) -> i32
+    ensures { result ≡ spec.end_when_shut entry.now }
+{
+    if entry.opcode == 13 { -22 } else { 0 }
 }
 
 /// What a call of this entry counts as that came to this, where its socket was shut down for reading or wasn't, and its descriptor isn't to wait or is.
@@ -50,7 +58,11 @@ fn shut_result(entry: &Submission, came_to: i32, is_shut: bool, isnt_to_wait: bo
     ensures { result ≡ spec.shut_result entry.now came_to is_shut isnt_to_wait }
 {
     let is_end = is_shut && (!isnt_to_wait || entry.opcode == 27);
-    if came_to == -11 && is_end { 0 } else { came_to }
+    if came_to == -11 && is_end {
+        end_when_shut(entry)
+    } else {
+        came_to
+    }
 }
 
 /// What is done after a call whose socket may have been shut down for reading.

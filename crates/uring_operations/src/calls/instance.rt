@@ -57,6 +57,13 @@ pub fn polling_fault(res: i32) -> i32
     if res != -1 { res } else { -77 }
 }
 
+/// Whether a regular file counts as one that can be polled, where asking an instance for it came to this, 0 or an error.
+pub fn counts_as_polled(res: i32) -> bool
+    ensures { result ≡ spec.counts_as_polled res }
+{
+    res == 0
+}
+
 fn fault_of(unpolled: i32) -> i32
     ensures { result ≡ spec.fault_of unpolled }
 {

@@ -1,6 +1,6 @@
 //! Where the parts of a message stand in a buffer, of a receive that goes on, and with which flags a message is sent or received. io_uring_prep_recvmsg_multishot(3), struct io_uring_recvmsg_out; send(2).
 
-ghost use Rattle.std.specs.Prelude.{◌≡◌, ◌+◌, ◌<◌, ◌^◌};
+ghost use Rattle.std.specs.Prelude.{◌≡◌};
 ghost use Rattle.uring_operations.specs.Calls.Layouts as spec;
 
 use crate::entries::needs::is_send;
@@ -57,7 +57,7 @@ pub fn layout_of(name: u32, control: u64, size: u64) -> Option<Layout>
 impl Layout {
     /// How much of the buffer has something after a message of so many bytes.
     pub fn filled(&self, came: u32) -> u64
-        ensures { self.now.bytes + self.now.room < 2 ^ 64 → result ≡ spec.filled self.now came }
+        ensures { result ≡ spec.filled self.now came }
     {
         self.bytes.saturating_add((came as u64).min(self.room))
     }

@@ -2,8 +2,8 @@
 
 ghost use Rattle.std.specs.Prelude.{◌≡◌};
 ghost use Rattle.uring_operations.specs.Calls.Means as spec;
-ghost use Rattle.uring_operations.specs.Calls.Means.{CallsNeverSleep};
 
+use crate::calls::held::Held;
 use crate::calls::layout::call_flags;
 use crate::calls::system_call::{
     ACCEPT4, BIND, CLOSE, CONNECT, EPOLL_CTL, FADVISE64, FALLOCATE, FCNTL, FDATASYNC, FGETXATTR,
@@ -12,45 +12,8 @@ use crate::calls::system_call::{
     SYNC_FILE_RANGE, SystemCall, TEE, UNLINKAT, word_of,
 };
 use crate::copies::piece::address_size;
-use crate::entries::needs::{advised_length, is_send, is_transfer};
+use crate::entries::needs::{advised_length, is_transfer};
 use crate::entries::submission::Submission;
-
-/// What is held for a request when it is carried out: descriptors, and where in memory the copies of what its entry points to stand, or 0.
-#[repr(C)]
-#[derive(Clone, Copy, Drop)]
-pub struct Held {
-    /// The descriptor that it is carried out on.
-    pub fd: i32,
-
-    /// Of a splice: where it reads.
-    pub second_fd: i32,
-
-    pub path: u64,
-
-    /// A second path, or the name of an attribute.
-    pub second_path: u64,
-
-    /// How a file is opened.
-    pub how: u64,
-
-    /// A value that is read, an address or a message.
-    pub value: u64,
-
-    /// Of a splice: a copy of the offset where it reads,
-    pub offset_in: u64,
-
-    /// and of that where it writes.
-    pub offset_out: u64,
-
-    /// Of a send to an address: where its bytes stand that are left,
-    pub buffer: u64,
-
-    /// how many they are,
-    pub length: u64,
-
-    /// and the address.
-    pub address: u64,
-}
 
 /// A list of descriptors, whose files are put into slots.
 #[repr(C)]
@@ -132,29 +95,6 @@ pub enum Means {
     /// or of a timeout.
     TimeoutRemoval,
 }
-
-/// Whether an end of a splice is asked so: no pipe, which SPLICE_F_NONBLOCK asks, and no regular file, which never waits. Our own rule.
-pub fn asks_end(is_pipe: bool, is_regular: bool) -> bool
-    ensures { result ≡ spec.asks_end is_pipe is_regular }
-{
-    !is_pipe && !is_regular
-}
-
-/// With which flags a descriptor of this access mode, a pipe's end or not, is opened once more for a call that has no flag by which it is asked not to wait. `None`: it is asked itself. Our own rule.
-pub fn asks_anew(is_pipe: bool, access: u32) -> Option<u32>
-    ensures { result ≡ spec.asks_anew is_pipe access }
-{
-    if is_pipe && access == 0 {
-        Some(0x8_0800)
-    } else {
-        None
-    }
-}
-
-/// What may have to wait for its descriptor is asked not to, by a flag of its call or by its descriptors.
-pub fn calls_never_sleep()
-    ensures { CallsNeverSleep }
-{}
 
 /// By what the operation of an entry is carried out, for which this is held.
 pub fn means_of(entry: &Submission, held: &Held) -> Means

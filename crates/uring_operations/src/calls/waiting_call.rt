@@ -78,7 +78,7 @@ pub fn next_turn(entry: &Submission, call: &Call, last: Option<Doing>, res: i32)
         Some(Doing::Calls) => after_call(entry, call, res),
         Some(Doing::Polls) => after_poll(entry, call, res != 0),
         Some(Doing::AsksWill) => {
-            if res == 0 {
+            if res == 0 || accepts_on(entry) {
                 Turn::Waits
             } else {
                 ends_with(entry, call, -11)
@@ -93,6 +93,13 @@ pub fn next_turn(entry: &Submission, call: &Call, last: Option<Doing>, res: i32)
         }
         Some(Doing::AsksError) => after_error(entry, res),
     }
+}
+
+/// Whether it is an accept that goes on, which waits though its descriptor isn't to.
+fn accepts_on(entry: &Submission) -> bool
+    ensures { result ≡ spec.accepts_on entry.now }
+{
+    entry.opcode == 13 && goes_on(entry)
 }
 
 /// Whether an operation counts as begun that has moved so many bytes: a connect is told 1 as it begins.

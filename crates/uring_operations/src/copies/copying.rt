@@ -33,6 +33,10 @@ pub fn next_piece(
     if fault < 0 {
         return Copying::Ends(fault);
     }
+    let after_how = fault_after_how(entry, copied);
+    if after_how < 0 {
+        return Copying::Ends(after_how);
+    }
     match piece_of(entry, copied) {
         Some(piece) => unless_too_long(piece),
         None => Copying::Ends(last_fault(entry, vectors, before)),
@@ -61,6 +65,21 @@ pub fn one_buffer(entry: &Submission) -> Option<Piece>
             size: entry.len as u64,
         }),
         _ => None,
+    }
+}
+
+/// The fault of an OPENAT2 of which so many pieces were copied: once its structure was, a registered buffer and a slot, which it can't have; or 0.
+fn fault_after_how(entry: &Submission, copied: u32) -> i32
+    ensures { result ≡ spec.fault_after_how entry.now copied }
+{
+    if entry.opcode != 28 || copied != 2 {
+        0
+    } else if entry.buf_index != 0 {
+        -22
+    } else if entry.flags & 1 != 0 {
+        -9
+    } else {
+        0
     }
 }
 

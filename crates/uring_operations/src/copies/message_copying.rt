@@ -1,6 +1,6 @@
 //! What is copied next of a message, after its header, and which fault it has. sendmsg(2), recvmsg(2).
 
-ghost use Rattle.std.specs.Prelude.{◌≡◌, ◌*◌, ◌^◌, ◌<◌};
+ghost use Rattle.std.specs.Prelude.{◌≡◌, ◌^◌, ◌<◌};
 ghost use Rattle.uring_operations.specs.Copies.MessageCopies as spec;
 
 use crate::copies::copying::Copying;

@@ -6,7 +6,7 @@ ghost use Rattle.uring_operations.specs.Entries.Rules as rules;
 
 use crate::entries::provision::has_count;
 use crate::entries::rule::{
-    ADDRESS, Also, BUFFER, FLAGS, LENGTH, OFFSET, PAD, PRIORITY, SLOT, THIRD, rule_of,
+    ADDRESS, ANY, Also, BUFFER, FLAGS, LENGTH, OFFSET, PAD, PRIORITY, SLOT, THIRD, rule_of,
 };
 use crate::entries::socket_form::{
     is_accept, is_receive, is_send, is_send_message, is_send_message_zero_copy, is_send_zero_copy,
@@ -32,6 +32,22 @@ pub(crate) fn is_right(entry: &Submission) -> bool
         Some(rule) => rule.flags & entry.op_flags == entry.op_flags && meets(rule.also, entry),
         None => false,
     }
+}
+
+/// Whether the entry of a READ gives none of them.
+pub(crate) fn is_bare_read(entry: &Submission) -> bool
+    requires { entry.now.opcode ≡ 22 }
+    ensures { result ≡ spec.is_bare (rules.rule_of entry.now.opcode) entry.now }
+{
+    PAD & given(entry) == 0
+}
+
+/// Whether it has what else a READ asks for.
+pub(crate) fn is_right_read(entry: &Submission) -> bool
+    requires { entry.now.opcode ≡ 22 }
+    ensures { result ≡ spec.is_right (rules.rule_of entry.now.opcode) entry.now }
+{
+    ANY & entry.op_flags == entry.op_flags && is_priority(entry.ioprio)
 }
 
 fn bit_of(bit: u16, field: u64) -> u16
@@ -63,7 +79,7 @@ fn meets(also: Also, entry: &Submission) -> bool
     match also {
         Also::Nothing => true,
         Also::Transfer => is_priority(entry.ioprio),
-        Also::Vectors => is_priority(entry.ioprio) && entry.len <= 1024,
+        Also::Vectors => is_priority(entry.ioprio) && is_count_of_vectors(entry),
         Also::Sync => entry.off < 1 << 63,
         Also::Poll => is_poll(entry),
         Also::PollRemoval => is_poll_removal(entry),
@@ -84,6 +100,13 @@ fn meets(also: Also, entry: &Submission) -> bool
         Also::SendMessageZeroCopy => is_send_message_zero_copy(entry),
         Also::Selection => entry.flags & 32 != 0,
     }
+}
+
+/// Whether a transfer may have so many vectors: 1,024 at most, and one where it takes a provided buffer.
+fn is_count_of_vectors(entry: &Submission) -> bool
+    ensures { result ≡ spec.is_count_of_vectors entry.now }
+{
+    entry.len <= 1024 && (entry.flags & 32 == 0 || entry.len == 1)
 }
 
 /// Whether there is such a priority: a class from 1 to 3 with a level, or neither.

@@ -2,9 +2,10 @@
 
 ghost use Rattle.std.specs.Prelude.{◌≡◌};
 ghost use Rattle.uring_operations.specs.Entries.Forms as spec;
+ghost use Rattle.uring_operations.specs.Entries.Rules as rules;
 
 use crate::entries::buffer::is_out_of_reach;
-use crate::entries::fields::{is_bare, is_right};
+use crate::entries::fields::{is_bare, is_bare_read, is_right, is_right_read};
 use crate::entries::provision::provision_fault;
 use crate::entries::rule::rule_of;
 use crate::entries::submission::Submission;
@@ -33,7 +34,14 @@ fn can_select(code: u8) -> bool
 fn is_unknown(entry: &Submission) -> bool
     ensures { result ≡ spec.is_unknown entry.now }
 {
-    entry.flags & 128 != 0 || rule_of(entry.opcode).is_none()
+    entry.flags & 128 != 0 || !is_served(entry.opcode)
+}
+
+/// Whether an operation is served: a READ is, whose rule isn't looked for.
+fn is_served(code: u8) -> bool
+    ensures { result ≡ rules.is_rule (rules.rule_of code) }
+{
+    code == 22 || rule_of(code).is_some()
 }
 
 /// Whether it asks for one and can't have it.
@@ -63,11 +71,11 @@ fn is_plain_cancel(entry: &Submission) -> bool
     entry.opcode == 14 && entry.op_flags == 0 && entry.flags & 76 == 0
 }
 
-/// An operation of a path, or a close.
+/// An operation of a path, but an OPENAT2, whose structure is looked at first, or a close.
 fn has_no_file(code: u8) -> bool
     ensures { result ≡ spec.has_no_file code }
 {
-    matches!(code, 18 | 19 | 21 | 28 | 35..=39 | 42 | 44)
+    matches!(code, 18 | 19 | 21 | 35..=39 | 42 | 44)
 }
 
 /// Whether it has a buffer of its own, at which the kernel looks beforehand.
@@ -125,6 +133,22 @@ fn field_fault(entry: &Submission) -> i32
     }
 }
 
+/// The same of a READ, by its own rule, which isn't looked for.
+fn field_fault_of_read(entry: &Submission) -> i32
+    requires { entry.now.opcode ≡ 22 }
+    ensures { result ≡ spec.field_fault entry.now }
+{
+    if entry.personality != 0 || !is_bare_read(entry) {
+        -22
+    } else if names_wrong_file(entry) {
+        -9
+    } else if !is_right_read(entry) {
+        -22
+    } else {
+        fault_of_buffers(entry)
+    }
+}
+
 /// The first fault of an entry, or 0.
 fn fault_of(entry: &Submission, refusal: i32, is_allowed: bool) -> i32
     ensures { result ≡ spec.fault_of entry.now refusal is_allowed }
@@ -137,7 +161,10 @@ fn fault_of(entry: &Submission, refusal: i32, is_allowed: bool) -> i32
     } else if !is_allowed {
         -13
     } else {
-        field_fault(entry)
+        match entry.opcode {
+            22 => field_fault_of_read(entry),
+            _ => field_fault(entry),
+        }
     }
 }
 

@@ -347,11 +347,18 @@ fn uses_buffer(entry: &Submission) -> bool
         || wants_buffer(entry)
 }
 
-/// A poll, a read that goes on and a no-op find their file closed before they are carried out.
+/// A poll, a read that goes on, a no-op and a cut to a negative length find their file closed before they are carried out.
 fn asks_file(entry: &Submission) -> bool
     ensures { result ≡ spec.asks_file entry.now }
 {
-    matches!(entry.opcode, 6 | 49) || wants_file(entry)
+    matches!(entry.opcode, 6 | 49) || wants_file(entry) || has_negative_length(entry)
+}
+
+/// An FTRUNCATE to one, which ftruncate(2) refuses before it looks for its file.
+fn has_negative_length(entry: &Submission) -> bool
+    ensures { result ≡ spec.has_negative_length entry.now }
+{
+    entry.opcode == 55 && entry.off >= 1 << 63
 }
 
 /// Among the events of a poll: it ends with the first, though it is to go on. EPOLLONESHOT.

@@ -23,7 +23,7 @@ pub(crate) const THIRD: u16 = 128;
 pub(crate) const PAD: u16 = 256;
 
 /// All flags of an operation.
-const ANY: u32 = 0xffff_ffff;
+pub(crate) const ANY: u32 = 0xffff_ffff;
 
 /// The flags of splice(2), and SPLICE_F_FD_IN_FIXED.
 const OF_SPLICE: u32 = 0x8000_000f;
@@ -136,7 +136,7 @@ pub fn rule_of(code: u8) -> Option<Rule>
         ),
         17 => bars(PRIORITY | FLAGS | BUFFER | SLOT),
         18 => row(PRIORITY | BUFFER, ANY, Also::Nothing),
-        28 => row(PRIORITY | BUFFER, ANY, Also::OpenHow),
+        28 => row(PRIORITY, ANY, Also::OpenHow),
         19 => row(
             PRIORITY | OFFSET | ADDRESS | LENGTH | FLAGS | BUFFER,
             ANY,

@@ -2,7 +2,7 @@
 
 ghost use Rattle.std.specs.Prelude.{◌≡◌};
 ghost use Rattle.uring_operations.specs.Files.Asking as spec;
-ghost use Rattle.uring_operations.specs.Files.Asking.{TakesBackWhatItAsked};
+ghost use Rattle.uring_operations.specs.Files.Asking.{CallsNeverSleep, TakesBackWhatItAsked};
 
 /// What is done for the lock by which processes that have one open file keep each other from such calls.
 #[derive(Clone, Copy, Drop)]
@@ -51,6 +51,24 @@ pub fn asked_descriptors(code: u8) -> u32
     }
 }
 
+/// Whether an end of a splice is asked so: no pipe, which SPLICE_F_NONBLOCK asks, and no regular file, which never waits. Our own rule.
+pub fn asks_end(is_pipe: bool, is_regular: bool) -> bool
+    ensures { result ≡ spec.asks_end is_pipe is_regular }
+{
+    !is_pipe && !is_regular
+}
+
+/// With which flags a descriptor of this access mode, a pipe's end or not, is opened once more for a call that has no flag by which it is asked not to wait. `None`: it is asked itself. Our own rule.
+pub fn asks_anew(is_pipe: bool, access: u32) -> Option<u32>
+    ensures { result ≡ spec.asks_anew is_pipe access }
+{
+    if is_pipe && access == 0 {
+        Some(0x8_0800)
+    } else {
+        None
+    }
+}
+
 /// Which flags an open file gets that is asked not to wait, where it has these, if they are known. `None`: it stays as it is.
 pub fn asked_flags(is_known: bool, flags: u32) -> Option<u32>
     ensures { result ≡ spec.asked_flags is_known flags }
@@ -76,6 +94,11 @@ pub fn flags_after(was_asked: bool, is_known: bool, flags: u32) -> Option<u32>
 /// An open file that was asked not to wait has its flags again after the call, and one that wasn't stays as it is.
 pub fn takes_back_what_it_asked()
     ensures { TakesBackWhatItAsked }
+{}
+
+/// What may have to wait for its descriptor is asked not to, by a flag of its call or by its descriptors.
+pub fn calls_never_sleep()
+    ensures { CallsNeverSleep }
 {}
 
 /// Whether a try that came to this has the lock, or nobody can have it. fcntl(2), F_SETLK.

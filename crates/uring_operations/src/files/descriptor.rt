@@ -2,7 +2,7 @@
 
 ghost use Rattle.std.specs.Prelude.{◌≡◌};
 ghost use Rattle.uring_operations.specs.Files.Descriptors as spec;
-ghost use Rattle.uring_operations.specs.Files.Descriptors.{AsksOnce, FindsTheKind};
+ghost use Rattle.uring_operations.specs.Files.Descriptors.{AsksOnce, AsksUnlessSaid, FindsTheKind};
 
 use crate::entries::needs::{is_of_sockets, is_read, is_splice, is_transfer};
 use crate::entries::submission::Submission;
@@ -14,10 +14,10 @@ pub struct Nature {
     /// There is such a descriptor.
     pub is_open: bool,
 
-    /// It is a regular file.
+    /// It is a regular file that can't be polled.
     pub is_file: bool,
 
-    /// It is a character device.
+    /// It is a character device, or a regular file that can be polled, as a queue of messages.
     pub is_device: bool,
 
     pub is_socket: bool,
@@ -81,6 +81,12 @@ pub struct Trial {
     /// Its descriptor's number was that of a file that could be asked not to wait, when that was last asked.
     pub was_file: bool,
 
+    /// It was that of a file in memory then, which can't be asked so.
+    pub was_in_memory: bool,
+
+    /// The user says that no device whose reads wait is read.
+    pub has_no_devices: bool,
+
     /// A choice rests on whether it may have to wait.
     pub is_asked_before: bool,
 }
@@ -94,7 +100,7 @@ pub enum Kind {
     /// It is made at once, asked not to wait, before its descriptor is asked anything.
     AtOnce,
 
-    /// Its descriptor is a file: it is made at its offset, before more is asked.
+    /// It is made at its offset before more is asked: its descriptor is a file, or was one in memory, and nothing that is read so waits.
     Tried,
 
     /// It may have to wait.
@@ -125,9 +131,22 @@ pub enum Finding {
     Is(Kind),
 }
 
-/// What is known of a descriptor once it was asked for its status: what fstat(2) says of one that is open, which is its mode; or that it is a file in memory, of which nothing is asked. inode(7)
-pub fn with_status(before: Nature, is_in_memory: bool, is_open: bool, mode: u32) -> Nature
-    ensures { result ≡ spec.with_status before is_in_memory is_open mode }
+/// Whether a descriptor of which fstat(2) says this, its mode and how many blocks it has on a disk, is asked whether it can be polled: a regular file that has none. inode(7)
+pub fn asks_polling(mode: u32, blocks: u64) -> bool
+    ensures { result ≡ spec.asks_polling mode blocks }
+{
+    mode & 61440 == 32768 && blocks == 0
+}
+
+/// What is known of a descriptor once it was asked for its status: what fstat(2) says of one that is open, which is its mode, and whether it can be polled, if it is a regular file; or that it is a file in memory, of which nothing is asked. inode(7)
+pub fn with_status(
+    before: Nature,
+    is_in_memory: bool,
+    is_open: bool,
+    can_be_polled: bool,
+    mode: u32,
+) -> Nature
+    ensures { result ≡ spec.with_status before is_in_memory is_open can_be_polled mode }
 {
     let kind = if is_in_memory {
         32768
@@ -138,8 +157,8 @@ pub fn with_status(before: Nature, is_in_memory: bool, is_open: bool, mode: u32)
     };
     Nature {
         is_open: is_in_memory || is_open,
-        is_file: kind == 32768,
-        is_device: kind == 8192,
+        is_file: kind == 32768 && !can_be_polled,
+        is_device: kind == 8192 || kind == 32768 && can_be_polled,
         is_socket: kind == 49152,
         has_offsets: before.has_offsets,
         can_read: before.can_read,
@@ -159,6 +178,9 @@ pub fn next_finding(entry: &Submission, trial: &Trial, known: &Known) -> Finding
     }
     if is_tried_at_once(entry, trial) {
         return Finding::Is(Kind::AtOnce);
+    }
+    if is_tried_unasked(entry, trial) {
+        return Finding::Is(Kind::Tried);
     }
     if !is_transfer(entry.opcode) && !is_of_sockets(entry.opcode) {
         return Finding::Is(Kind::Never);
@@ -190,6 +212,15 @@ fn is_tried_at_once(entry: &Submission, trial: &Trial) -> bool
     ensures { result ≡ spec.is_tried_at_once entry.now trial.now }
 {
     trial.was_file && is_read(entry.opcode) && may_be_tried(entry, trial)
+}
+
+fn is_tried_unasked(entry: &Submission, trial: &Trial) -> bool
+    ensures { result ≡ spec.is_tried_unasked entry.now trial.now }
+{
+    trial.was_in_memory
+        && trial.has_no_devices
+        && is_read(entry.opcode)
+        && may_be_tried(entry, trial)
 }
 
 /// What is to be asked of a descriptor of which it is known what it is.
@@ -277,6 +308,11 @@ pub fn is_signals_name(name: &[u8]) -> bool
 /// What is told of a request is what it is by all that its descriptor is, whatever was asked before.
 pub fn finds_the_kind()
     ensures { FindsTheKind }
+{}
+
+/// What is made before its descriptor is asked what it is, and isn't asked not to wait, is made so because the user says that no device is read.
+pub fn asks_unless_said()
+    ensures { AsksUnlessSaid }
 {}
 
 /// A descriptor is asked nothing twice.

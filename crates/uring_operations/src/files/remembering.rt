@@ -2,7 +2,7 @@
 
 ghost use Rattle.std.specs.Prelude.{◌≡◌};
 ghost use Rattle.uring_operations.specs.Files.Remembering as spec;
-ghost use Rattle.uring_operations.specs.Files.Remembering.{AsksWhatWasAFile};
+ghost use Rattle.uring_operations.specs.Files.Remembering.{AsksWhatWasAFile, ForgetsStreams};
 
 /// What is remembered of a number.
 #[derive(Clone, Copy, Drop)]
@@ -47,6 +47,17 @@ impl Remembered {
         }
     }
 
+    /// After a call by the number that came to this: what has no offsets is no file, and what it was is forgotten.
+    pub fn after_call(self, res: i32) -> Remembered
+        ensures { result ≡ spec.after_call self res }
+    {
+        if res == -29 {
+            Remembered::Nothing
+        } else {
+            self
+        }
+    }
+
     /// Whether it is asked for them before a call is made that may wait if it isn't in memory any more.
     pub fn was_in_memory(self) -> bool
         ensures { result ≡ spec.was_in_memory self }
@@ -84,4 +95,9 @@ impl Remembered {
 /// Once it was asked for seals, no call by the number asks for them, until it is another file's.
 pub fn asks_what_was_a_file()
     ensures { AsksWhatWasAFile }
+{}
+
+/// No call is made first by a number of which a call has shown that it isn't a file's.
+pub fn forgets_streams()
+    ensures { ForgetsStreams }
 {}

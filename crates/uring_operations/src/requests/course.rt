@@ -2,7 +2,7 @@
 
 ghost use Rattle.std.specs.Prelude.{◌≡◌, List, [], ◌∷◌, true, false};
 ghost use Rattle.uring_operations.specs.declared.requests.act.Fact.{Fact};
-ghost use Rattle.uring_operations.specs.Requests.Courses.{KeepsCourse, act, act_by, after_act, by_cancel, end_by, fits, is_ending, is_carrying_out, notice_of, option_of, shown};
+ghost use Rattle.uring_operations.specs.Requests.Courses.{KeepsCourse, act, after_act, by_cancel, end_by, fits, is_ending, is_carrying_out, notice_of, option_of, shown};
 
 use crate::entries::submission::Submission;
 use crate::requests::act::{Act, Fact};

@@ -1,0 +1,3 @@
+-- Which entries a call takes, and which are drained.
+pub mod TakingForm
+pub mod DecisionForm

@@ -1,0 +1,2 @@
+-- The time of a ring, and its timeouts.
+pub mod ChangingForm

@@ -1,0 +1,2 @@
+-- What an entry asks for, and what is wrong with it.
+pub mod EntryForm

@@ -1,0 +1,4 @@
+//! Which entries a call takes, and which are drained.
+
+pub mod chain_exports;
+pub mod taking_exports;

@@ -1,0 +1,4 @@
+//! The time of a ring, and its timeouts.
+
+pub mod time_exports;
+pub mod timing_exports;

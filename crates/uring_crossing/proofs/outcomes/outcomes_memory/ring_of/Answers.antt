@@ -1,0 +1,10 @@
+use Rattle.std.proofs.Common.{◌≤◌, ℕ, subst, sym}
+use Rattle.std.specs.Prelude.{All}
+use Rattle.std.proofs.lemmas.Bool.{both_ways}
+use Rattle.uring_crossing.proofs.Starts.{no_walk_long}
+use Rattle.uring_crossing.proofs.outcomes.outcomes_memory.ring_of.Goals as goal
+
+pub returns-then-not-fit : goal.returns-then-not-fit
+returns-then-not-fit c =
+    no_walk_long c.args.setup.now c.in_ok-ring.ring c.args.lens.now c.in_ok-ring.ensures
+    (λ all. both_ways c.fit.result c.if-not-fit.true (c.fit.ensures.1 (subst (λ (k : ℕ). All (λ len. len ≤ k) c.args.lens.now) (sym c.sq.ensures.value) all)))

@@ -1,6 +1,0 @@
-use Rattle.std.proofs.Common.{◌≡◌, length, map, take}
-use Rattle.uring_crossing.proofs.volume_memory.lengths.Given as goal
-
-abbrev pub invariant-loop-list : goal.invariant-loop-list
-invariant-loop-list g l =
-    l.lengths.items ≡ map (λ bytes. length bytes) (map (λ b. b.items) (take l.list-index l.lists))

@@ -1,0 +1,2 @@
+-- What is told of a volume.
+pub mod VolumeForms

@@ -1,0 +1,241 @@
+//! An answer as words that C can read.
+ghost use Rattle.std.specs.Prelude.{◌≡◌};
+ghost use Rattle.uring_crossing.specs.CoreWords.AnswerForm as spec;
+
+use uring_entry::{Cqe, Sqe};
+use uring_machine::Answer;
+
+/// The words of an answer: `struct wulgach_answer` of the header. A word that an answer hasn't is 0.
+#[repr(C)]
+#[derive(Clone, Copy, Drop)]
+pub struct AnswerWords {
+    /// The kind: the place of the answer in `Answer`, from 0.
+    pub kind: u32,
+
+    /// The tail, the head, the length of the call, or how many entries were accepted.
+    pub word: u32,
+
+    /// How many words the ring has dropped so far.
+    pub dropped: u32,
+
+    /// The head as a call ends.
+    pub head: u32,
+
+    /// How many moved, the number of the next request, or the user data of a completion.
+    pub number: u64,
+
+    /// The words of the entry.
+    pub entry: [u64; 16],
+
+    /// The result.
+    pub res: i32,
+
+    /// The bytes of a completion.
+    pub bytes: [u8; 64],
+}
+
+impl AnswerWords {
+    /// The answer that the words tell, if they tell one.
+    pub fn answer(&self) -> Option<Answer>
+        ensures { result ≡ spec.answer_of self.now }
+    {
+        match self.kind {
+            0..=9 => self.early_answer(),
+            10..=19 => self.middle_answer(),
+            _ => self.late_answer(),
+        }
+    }
+
+    /// The answer of a kind from 0 up to 9.
+    fn early_answer(&self) -> Option<Answer>
+        ensures { result ≡ spec.early_answer_of self.now }
+    {
+        let told = match self.kind {
+            0 => Answer::Filled,
+            1 => Answer::NoSlot,
+            2 => Answer::Busy,
+            3 => Answer::Staged,
+            4 => Answer::Full,
+            5 => Answer::Tail(self.word),
+            6 => Answer::Head(self.word),
+            7 => Answer::Call(self.word),
+            8 => Answer::Closed,
+            9 => Answer::InCall,
+            _ => return None,
+        };
+        Some(told)
+    }
+
+    /// The answer of a kind from 10 up to 19.
+    fn middle_answer(&self) -> Option<Answer>
+        ensures { result ≡ spec.middle_answer_of self.now }
+    {
+        let told = match self.kind {
+            10 => Answer::Spent,
+            11 => Answer::Again,
+            12 => Answer::Entry(Sqe::from_words(self.entry)),
+            13 => Answer::Dropped,
+            14 => Answer::NoMore,
+            15 => Answer::NoCall,
+            16 => Answer::Taken {
+                accepted: self.word,
+                dropped: self.dropped,
+                head: self.head,
+            },
+            17 => Answer::NotAll,
+            18 => Answer::Run,
+            19 => Answer::Ended {
+                res: self.res,
+                bytes: self.bytes,
+            },
+            _ => return None,
+        };
+        Some(told)
+    }
+
+    /// The answer of a kind from 20 up to 28.
+    fn late_answer(&self) -> Option<Answer>
+        ensures { result ≡ spec.late_answer_of self.now }
+    {
+        let told = match self.kind {
+            20 => Answer::NotReady,
+            21 => Answer::Running,
+            22 => Answer::Unknown,
+            23 => Answer::NotRunning,
+            24 => Answer::Moved(self.number),
+            25 => Answer::Reaped(Cqe::new(self.number, self.res, self.bytes)),
+            26 => Answer::Nothing,
+            27 => Answer::Shut,
+            28 => Answer::Next(self.number),
+            _ => return None,
+        };
+        Some(told)
+    }
+}
+
+/// The words of an answer.
+pub fn answer_words(answer: &Answer) -> AnswerWords
+    ensures { result ≡ spec.words_of answer.now }
+{
+    AnswerWords {
+        kind: kind(answer),
+        word: word(answer),
+        dropped: dropped(answer),
+        head: head(answer),
+        number: number(answer),
+        entry: entry(answer),
+        res: res(answer),
+        bytes: bytes(answer),
+    }
+}
+
+/// The kind of an answer.
+pub fn kind(answer: &Answer) -> u32
+    ensures { result ≡ spec.kind_of answer.now }
+{
+    match *answer {
+        Answer::Filled => 0,
+        Answer::NoSlot => 1,
+        Answer::Busy => 2,
+        Answer::Staged => 3,
+        Answer::Full => 4,
+        Answer::Tail(_) => 5,
+        Answer::Head(_) => 6,
+        Answer::Call(_) => 7,
+        Answer::Closed => 8,
+        Answer::InCall => 9,
+        Answer::Spent => 10,
+        Answer::Again => 11,
+        Answer::Entry(_) => 12,
+        Answer::Dropped => 13,
+        Answer::NoMore => 14,
+        Answer::NoCall => 15,
+        Answer::Taken { .. } => 16,
+        Answer::NotAll => 17,
+        Answer::Run => 18,
+        Answer::Ended { .. } => 19,
+        Answer::NotReady => 20,
+        Answer::Running => 21,
+        Answer::Unknown => 22,
+        Answer::NotRunning => 23,
+        Answer::Moved(_) => 24,
+        Answer::Reaped(_) => 25,
+        Answer::Nothing => 26,
+        Answer::Shut => 27,
+        Answer::Next(_) => 28,
+    }
+}
+
+/// The word of an answer: 0 if it has none.
+pub fn word(answer: &Answer) -> u32
+    ensures { result ≡ spec.word_of answer.now }
+{
+    match *answer {
+        Answer::Tail(word) | Answer::Head(word) | Answer::Call(word) => word,
+        Answer::Taken { accepted, .. } => accepted,
+        _ => 0,
+    }
+}
+
+/// How many words were dropped: 0 if the answer doesn't say.
+pub fn dropped(answer: &Answer) -> u32
+    ensures { result ≡ spec.dropped_of answer.now }
+{
+    match *answer {
+        Answer::Taken { dropped, .. } => dropped,
+        _ => 0,
+    }
+}
+
+/// The head as a call ends, 0 in any other answer.
+pub fn head(answer: &Answer) -> u32
+    ensures { result ≡ spec.head_of answer.now }
+{
+    match *answer {
+        Answer::Taken { head, .. } => head,
+        _ => 0,
+    }
+}
+
+/// The number of an answer: 0 if it has none.
+pub fn number(answer: &Answer) -> u64
+    ensures { result ≡ spec.number_of answer.now }
+{
+    match *answer {
+        Answer::Moved(number) | Answer::Next(number) => number,
+        Answer::Reaped(completion) => completion.user_data(),
+        _ => 0,
+    }
+}
+
+/// The entry of an answer: zeros if it has none.
+fn entry(answer: &Answer) -> [u64; 16]
+    ensures { result ≡ spec.entry_words answer.now }
+{
+    match *answer {
+        Answer::Entry(entry) => entry.words(),
+        _ => [0; 16],
+    }
+}
+
+/// The result of an answer: 0 if it has none.
+pub fn res(answer: &Answer) -> i32
+    ensures { result ≡ spec.res_of answer.now }
+{
+    match *answer {
+        Answer::Ended { res, .. } => res,
+        Answer::Reaped(completion) => completion.res(),
+        _ => 0,
+    }
+}
+
+/// The bytes of an answer: zeros if it has none.
+fn bytes(answer: &Answer) -> [u8; 64]
+    ensures { result ≡ spec.bytes_of answer.now }
+{
+    match *answer {
+        Answer::Ended { bytes, .. } => bytes,
+        Answer::Reaped(completion) => completion.payload(),
+        _ => [0; 64],
+    }
+}

@@ -1,0 +1,53 @@
+//! Lists of lists, which C gives in one piece with the length of each.
+ghost use Rattle.std.specs.Prelude.{◌≡◌, ℕ, ◌+◌, ◌-◌, ◌≤◌, min, map, length, IfOk, IsOk};
+ghost use Rattle.uring_crossing.specs.CoreWords.Cuts as spec;
+
+use std::alloc::{AllocError, Global};
+use uring_memory::Memory;
+
+/// A list of these values, by this memory. `AllocError`: out of memory.
+pub fn copied<M: Memory, T: Copy>(
+    memory: &M,
+    alloc: Global,
+    values: &[T],
+) -> Result<Vec<T>, AllocError>
+    ensures values { IfOk result (λ list. list.items ≡ values.now) }
+    ensures granted { (n : ℕ) → M.grants memory.now n → length values.now ≤ n → IsOk result }
+{
+    let mut list = memory.list(alloc, values.len())?;
+    list.extend_from_slice(values)?;
+    Ok(list)
+}
+
+/// These values cut into parts of these lengths, by this memory. `AllocError`: out of memory.
+pub fn cut<M: Memory, T: Copy>(
+    memory: &M,
+    alloc: Global,
+    values: &[T],
+    lens: &[u64],
+) -> Result<Vec<Vec<T>>, AllocError>
+    ensures parts { IfOk result (λ parts. map (λ p. p.items) parts.items ≡ spec.cut lens.now values.now) }
+    ensures granted { ((n : ℕ) → M.grants memory.now n) → IsOk result }
+{
+    let mut parts = memory.list(alloc, lens.len())?;
+    let mut from = 0;
+    for len in lens {
+        let to = end_of_part(values, from, *len);
+        parts.push_reserved(copied(memory, alloc, &values[from..to])?);
+        from = to;
+    }
+    Ok(parts)
+}
+
+/// Where a part of this length ends that begins here: at the end of the values, if they don't suffice.
+fn end_of_part<T: Copy>(values: &[T], from: usize, len: u64) -> usize
+    requires { from ≤ length values.now }
+    ensures { result ≡ from + min len (length values.now - from) }
+{
+    let left = values.len() - from;
+    if len < left as u64 {
+        from + len as usize
+    } else {
+        values.len()
+    }
+}

@@ -1,0 +1,141 @@
+//! The calls of a list of outcomes, made on the list in a place. Each takes the list out, and puts it back; its box doesn't move.
+ghost use Rattle.std.specs.Prelude.{◌≡◌, ℕ, ◌<◌, ◌^◌, None, IsSome, IsSomeAnd, IfOk, IsOk, MatchOption, map, slice_get, length};
+ghost use Rattle.std.specs.Option.{option_and_then};
+ghost use Rattle.uring_files.specs.Operations.{state_of, byte_of};
+ghost use Rattle.uring_outcomes.specs.Faults.{entry_count};
+ghost use Rattle.uring_crossing.specs.Outcomes.Outcomes.{AreOf, ArePosted};
+ghost use Rattle.uring_crossing.specs.Boxes.Places.{outcomes_in};
+
+use crate::core_words::completion_words::CompletionWords;
+use crate::cores::whole_call_memory::give_completions;
+use crate::outcomes::outcome_list::OutcomeList;
+use crate::outcomes::outcomes_place::OutcomesPlace;
+use std::alloc::{AllocError, Global};
+use uring_machine::{FileState, Setup, Sqe};
+use uring_outcomes::{Found, MapMemory, WalkFault, outcomes_within_in};
+
+impl OutcomesPlace {
+    /// How many outcomes there are.
+    pub fn count(&mut self, alloc: Global) -> u64
+        requires { IsSome (outcomes_in self.old) }
+        ensures kept { outcomes_in self.new ≡ outcomes_in self.old }
+        ensures count { IsSomeAnd (outcomes_in self.old) (λ found. result ≡ length found.endings.items) }
+    {
+        let Some(found) = self.take(alloc) else {
+            unreachable!()
+        };
+        let count = found.endings.len() as u64;
+        self.put(found);
+        count
+    }
+
+    /// Whether these are all.
+    pub fn is_all(&mut self, alloc: Global) -> bool
+        requires { IsSome (outcomes_in self.old) }
+        ensures kept { outcomes_in self.new ≡ outcomes_in self.old }
+        ensures all { IsSomeAnd (outcomes_in self.old) (λ found. result ≡ found.is_all) }
+    {
+        let Some(found) = self.take(alloc) else {
+            unreachable!()
+        };
+        let is_all = found.is_all;
+        self.put(found);
+        is_all
+    }
+
+    /// Gives the completions of the outcome at this place, as many as there is room for, and returns how many there are: `None` past the last.
+    pub fn completions(
+        &mut self,
+        alloc: Global,
+        index: u64,
+        completions: &mut [CompletionWords],
+    ) -> Option<u64>
+        requires { IsSome (outcomes_in self.old) }
+        ensures kept { outcomes_in self.new ≡ outcomes_in self.old }
+        ensures posted { IsSomeAnd (outcomes_in self.old)
+            (λ found. MatchOption (slice_get found.endings.items index) ((result ≡ None) × (completions.new ≡ completions.old)) (λ e. IsSomeAnd result (ArePosted e.posted completions.old completions.new))) }
+    {
+        let Some(found) = self.take(alloc) else {
+            unreachable!()
+        };
+        let count = give_posted(&found, index, completions);
+        self.put(found);
+        count
+    }
+
+    /// How the file of a descriptor stands that the outcome at this place leaves.
+    pub fn state(&mut self, alloc: Global, index: u64, fd: i32) -> Option<FileState>
+        requires { IsSome (outcomes_in self.old) }
+        ensures kept { outcomes_in self.new ≡ outcomes_in self.old }
+        ensures state { IsSomeAnd (outcomes_in self.old)
+            (λ found. result ≡ option_and_then (λ e. state_of e.files fd) (slice_get found.endings.items index)) }
+    {
+        let Some(found) = self.take(alloc) else {
+            unreachable!()
+        };
+        let state = state_at(&found, index, fd);
+        self.put(found);
+        state
+    }
+
+    /// The byte at an offset of the file of a descriptor that the outcome at this place leaves.
+    pub fn byte(&mut self, alloc: Global, index: u64, fd: i32, at: u64) -> Option<u8>
+        requires { IsSome (outcomes_in self.old) }
+        ensures kept { outcomes_in self.new ≡ outcomes_in self.old }
+        ensures byte { IsSomeAnd (outcomes_in self.old)
+            (λ found. result ≡ option_and_then (λ e. byte_of e.files fd at) (slice_get found.endings.items index)) }
+    {
+        let Some(found) = self.take(alloc) else {
+            unreachable!()
+        };
+        let byte = byte_at(&found, index, fd, at);
+        self.put(found);
+        byte
+    }
+}
+
+/// What these calls may come to, as far as so many paths show, by this memory. `AllocError`: out of memory.
+pub fn found_in<M: MapMemory>(
+    memory: &M,
+    alloc: Global,
+    setup: &Setup,
+    calls: &[Vec<Sqe>],
+    most: u64,
+) -> Result<OutcomeList, AllocError>
+    requires { entry_count (map (λ call. call.items) calls.now) < 2 ^ 63 }
+    ensures found { IfOk result (AreOf setup.now (map (λ call. call.items) calls.now)) }
+    ensures granted { ((n : ℕ) → M.grants memory.now n) → IsOk result }
+{
+    match outcomes_within_in(memory, alloc, setup, calls, most) {
+        Ok(Found { endings, is_all }) => Ok(OutcomeList { endings, is_all }),
+        Err(WalkFault::Memory) => Err(AllocError),
+        Err(WalkFault::Spent) => unreachable!(),
+        Err(WalkFault::Paths) => unreachable!(),
+    }
+}
+
+/// Gives the completions of the outcome at this place, as many as there is room for, and returns how many there are: `None` past the last.
+fn give_posted(found: &OutcomeList, index: u64, completions: &mut [CompletionWords]) -> Option<u64>
+    ensures { MatchOption (slice_get found.now.endings.items index) ((result ≡ None) × (completions.new ≡ completions.old)) (λ e. IsSomeAnd result (ArePosted e.posted completions.old completions.new)) }
+{
+    let ending = found.endings.get(index as usize)?;
+    let posted = ending.posted();
+    give_completions(posted, posted.len().min(completions.len()), completions);
+    Some(posted.len() as u64)
+}
+
+/// How the file of a descriptor stands that the outcome at this place leaves.
+fn state_at(found: &OutcomeList, index: u64, fd: i32) -> Option<FileState>
+    ensures { result ≡ option_and_then (λ e. state_of e.files fd) (slice_get found.now.endings.items index) }
+{
+    let ending = found.endings.get(index as usize)?;
+    ending.files().state(fd)
+}
+
+/// The byte at an offset of the file of a descriptor that the outcome at this place leaves.
+fn byte_at(found: &OutcomeList, index: u64, fd: i32, at: u64) -> Option<u8>
+    ensures { result ≡ option_and_then (λ e. byte_of e.files fd at) (slice_get found.now.endings.items index) }
+{
+    let ending = found.endings.get(index as usize)?;
+    ending.files().byte(fd, at)
+}

@@ -1,0 +1,75 @@
+//! A C program's handle of a list of outcomes.
+ghost use Rattle.std.specs.Prelude.{◌≡◌, None, Some, is_some};
+ghost use Rattle.uring_crossing.specs.Boxes.Slots.{outcomes_of};
+
+use crate::boxes::parts::Parts;
+use crate::boxes::slot::Slot;
+use crate::outcomes::outcome_list::OutcomeList;
+use std::alloc::Global;
+use std::mem;
+
+/// Nothing, or a list of outcomes. `struct wulgach_outcomes` of the header: a struct of zeros is an empty place.
+#[repr(C)]
+pub struct OutcomesPlace {
+    pub slot: Slot,
+    pub is_full: bool,
+    ghost agrees: { is_some (outcomes_of slot.held) ≡ is_full },
+}
+
+impl OutcomesPlace {
+    ghost use Rattle.uring_crossing.specs.Boxes.Places.{outcomes_in};
+    ghost use Rattle.uring_crossing.specs.Boxes.Boxes.{boxed};
+
+    /// A place with nothing in it.
+    pub fn empty(alloc: Global) -> OutcomesPlace
+        ensures { outcomes_in result ≡ None }
+    {
+        OutcomesPlace {
+            slot: Slot::none(alloc),
+            is_full: false,
+        }
+    }
+
+    /// A place with these outcomes.
+    pub fn full(outcomes: Box<OutcomeList, Global>) -> OutcomesPlace
+        ensures { outcomes_in result ≡ Some outcomes.value }
+    {
+        OutcomesPlace {
+            slot: Slot::of_outcomes(Parts::of(outcomes)),
+            is_full: true,
+        }
+    }
+
+    /// The outcomes of a place, if there are some.
+    pub fn into_outcomes(self) -> Option<Box<OutcomeList, Global>>
+        ensures { boxed result ≡ outcomes_in self }
+    {
+        let OutcomesPlace { slot, is_full } = self;
+        if is_full {
+            Some(slot.into_outcomes().into_box())
+        } else {
+            None
+        }
+    }
+
+    /// The outcomes of a place, which is empty from then on.
+    pub fn take(&mut self, alloc: Global) -> Option<Box<OutcomeList, Global>>
+        ensures taken { boxed result ≡ outcomes_in self.old }
+        ensures empty { outcomes_in self.new ≡ None }
+    {
+        mem::replace(self, OutcomesPlace::empty(alloc)).into_outcomes()
+    }
+
+    /// Puts outcomes into a place. What was there is freed.
+    pub fn put(&mut self, outcomes: Box<OutcomeList, Global>)
+        ensures { outcomes_in self.new ≡ Some outcomes.value }
+    {
+        *self = OutcomesPlace::full(outcomes);
+    }
+}
+
+impl Drop for OutcomesPlace {
+    fn drop(self) {
+        drop(self.into_outcomes());
+    }
+}

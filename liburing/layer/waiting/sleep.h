@@ -1,0 +1,19 @@
+/* Sleeping in a call, without the ring's lock and with the application's signals. */
+#ifndef SLEEP_H
+#define SLEEP_H
+
+#include "rings/ring.h"
+
+#include <signal.h>
+
+/* Whether the process may have another thread, which could call on a ring. */
+bool has_threads(void);
+
+/* Sleeps until a stream is ready, another thread's call has changed something, or the ring's time would be `until`. Adds the time that was slept to virtual time. Returns what it came to: the negative of
+ * an error number, or how many descriptors have ended it. */
+int sleep_until(struct ring *ring, const struct wulgach_limit *until, const sigset_t *signals);
+
+/* Wakes the threads that sleep on a ring, if anything has changed since they were last woken. */
+void wake_sleepers(struct ring *ring);
+
+#endif

@@ -1,0 +1,130 @@
+/* What tests share beside rings: single requests, completions with their flags, and a list of tests. */
+#ifndef ENGINES_H
+#define ENGINES_H
+
+#include "ring.h"
+
+#include <dirent.h>
+
+static inline struct io_uring_sqe *put_plain(struct ring *ring, uint8_t code, uint64_t user_data, int fd)
+{
+    struct io_uring_sqe *entry = put(ring, code, user_data, 0);
+    entry->fd = fd;
+    return entry;
+}
+
+/* Whether rings go by the manual pages' rules, where Linux's are others. */
+static inline bool is_by_manual(void)
+{
+    const char *profile = getenv("WULGACH_PROFILE");
+    return profile && strcmp(profile, "manual") == 0;
+}
+
+/* Submits this many entries, whose user data are 0, 1 and so on, waits for all, and returns the result of the last. */
+static inline int32_t result_of_one(struct ring *ring, uint32_t count)
+{
+    int32_t results[16];
+    check(enter(ring, count, 0, 0) == (long)count);
+    check(enter(ring, 0, count, IORING_ENTER_GETEVENTS) == 0);
+    check(count_ready(ring) == count);
+    for (uint32_t i = 0; i < count; i++) {
+        struct completion found = reap(ring);
+        results[found.user_data] = found.res;
+    }
+    return results[count - 1];
+}
+
+static inline void submit_nop(struct ring *ring, uint64_t user_data)
+{
+    put(ring, IORING_OP_NOP, user_data, 0);
+    check(enter(ring, 1, 0, 0) == 1);
+}
+
+/* Whether it runs under valgrind, which maps no ring whose descriptor polls, and tells of each address where nothing is. */
+static inline bool is_under_valgrind(void)
+{
+    return getenv("WULGACH_TEST_VALGRIND");
+}
+
+/* Whether requests go on by their numbers, so that a call has what can go on in it. */
+static inline bool is_in_order(void)
+{
+    const char *policy = getenv("WULGACH_POLICY");
+    return !policy || strcmp(policy, "order") == 0;
+}
+
+/* All that can go on has, and what waits was waited for. */
+static inline void settle(struct ring *ring)
+{
+    check(enter_for(ring, 1, 1000) == -ETIME);
+}
+
+/* How many names /proc has for the process's descriptors, to be compared with what it was before. */
+static inline size_t count_descriptors(void)
+{
+    size_t count = 0;
+    DIR *folder = opendir("/proc/self/fd");
+    while (readdir(folder))
+        count++;
+    closedir(folder);
+    return count;
+}
+
+/* Waits for one completion, and returns its result. */
+static inline int32_t wait_for_one(struct ring *ring)
+{
+    check(enter(ring, 0, 1, IORING_ENTER_GETEVENTS) == 0);
+    return reap(ring).res;
+}
+
+/* The next completion, with its flags. */
+struct seen {
+    uint64_t user_data;
+    int32_t res;
+    uint32_t flags;
+};
+
+static inline struct seen next_of(struct ring *ring)
+{
+    while (count_ready(ring) == 0)
+        check(enter(ring, 0, 1, IORING_ENTER_GETEVENTS) == 0);
+    unsigned *head = cq_word(ring, ring->params.cq_off.head);
+    const struct io_uring_cqe *cells = (const void *)(ring->cq + ring->params.cq_off.cqes);
+    const struct io_uring_cqe *cell = &cells[*head & (ring->params.cq_entries - 1)];
+    struct seen found = {cell->user_data, cell->res, cell->flags};
+    __atomic_store_n(head, *head + 1, __ATOMIC_RELEASE);
+    return found;
+}
+
+/* Whether the kernel makes rings, where these are its own. */
+static inline bool are_rings_there(void)
+{
+#ifdef IS_ALSO_REAL
+    struct io_uring_params params = {0};
+    long fd = set_up(1, &params);
+    if (fd < 0) {
+        puts("this kernel makes no rings");
+        return false;
+    }
+    close((int)fd);
+#endif
+    return true;
+}
+
+struct named {
+    const char *name;
+    void (*run)(void);
+};
+
+/* Runs all tests, or the one that is named. */
+static inline int run_tests(const struct named *tests, size_t count, const char *name)
+{
+    for (size_t i = 0; i < count; i++) {
+        test = tests[i].name;
+        if (!name || strcmp(name, test) == 0)
+            tests[i].run();
+    }
+    return 0;
+}
+
+#endif
