@@ -2,10 +2,11 @@
 #ifndef ASLEEP_H
 #define ASLEEP_H
 
-#include "ring.h"
-
 #include <signal.h>
+#include <stdbool.h>
+#include <stdio.h>
 #include <sys/wait.h>
+#include <unistd.h>
 
 /* (a thread that hasn't begun yet has the number 0) */
 static inline bool is_asleep(const pid_t *thread)
@@ -25,21 +26,20 @@ static inline void await_sleep(const pid_t *thread)
         usleep(1000);
 }
 
-/* A child that sends this process the signal once that sleeps. */
+/* A child that sends this process a signal once that sleeps. */
 static inline pid_t signal_asleep(int number)
 {
     pid_t parent = getpid(), child = fork();
-    check(child >= 0);
     if (child != 0)
         return child;
     await_sleep(&parent);
     _exit(kill(parent, number) != 0);
 }
 
-static inline void end_signaller(pid_t child)
+static inline bool has_signalled(pid_t child)
 {
     int status;
-    check(waitpid(child, &status, 0) == child && status == 0);
+    return waitpid(child, &status, 0) == child && status == 0;
 }
 
 #endif

@@ -41,7 +41,7 @@ static void test_jump(void)
             child = signal_asleep(SIGUSR2);
             check(enter(&ring, 0, 1, IORING_ENTER_GETEVENTS) != 0);
         }
-        end_signaller(child);
+        check(has_signalled(child));
         use_stack();
         submit_nop(&ring, 1);
         check(wait_for_one(&ring) == 0);
@@ -114,7 +114,7 @@ static void test_stack_in_a_stack(void)
     pid_t child = signal_asleep(SIGUSR2);
     check(enter(&ring, 0, 1, IORING_ENTER_GETEVENTS) == -EINTR);
     check(wait_for_one(&other) == 0);
-    end_signaller(child);
+    check(has_signalled(child));
     check(write(ends[1], "x", 1) == 1 && wait_for_one(&ring) == 1);
     check(sigaltstack(&none, NULL) == 0);
     close(ends[0]);
@@ -148,7 +148,7 @@ static void test_fork_from_signal(void)
     if (child == 0)
         _exit(result == -EINTR && enter(&ring, 0, 0, 0) == -EOPNOTSUPP ? 0 : 1);
     check(result == -EINTR && waitpid(child, &status, 0) == child && status == 0);
-    end_signaller(signaller);
+    check(has_signalled(signaller));
     check(write(ends[1], "x", 1) == 1 && wait_for_one(&ring) == 1);
     close(ends[0]);
     close(ends[1]);
