@@ -63,7 +63,7 @@ class Browser:
                     raise RuntimeError(f"{method}: {answer['error']}")
                 return answer["result"]
 
-    def next(self, seconds=120):
+    def next(self, seconds=600):
         """The next message; errors of the page are kept."""
         end = time.monotonic() + seconds
         while b"\0" not in self.rest:

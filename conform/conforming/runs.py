@@ -28,7 +28,7 @@ class NoTrace(Exception):
 def record(scenario):
     """What the recorder saw of a scenario."""
     try:
-        ran = subprocess.run([RECORDER], input=scenario, capture_output=True, text=True, timeout=60)
+        ran = subprocess.run([RECORDER], input=scenario, capture_output=True, text=True, timeout=600)
     except subprocess.TimeoutExpired as late:
         raise NoTrace("it took more than a minute") from late
     if ran.returncode == NO_RING:
@@ -40,7 +40,7 @@ def record(scenario):
 
 def features():
     """The bits of what the ring says that it can do."""
-    ran = subprocess.run([RECORDER, "features"], capture_output=True, text=True, timeout=60)
+    ran = subprocess.run([RECORDER, "features"], capture_output=True, text=True, timeout=600)
     if ran.returncode == NO_RING:
         raise NoRing(ran.stderr.strip())
     return int(ran.stdout, 0)

@@ -33,7 +33,7 @@ class Cluster:
         self.program, self.rules = program, {}
         self.distributed = distributed()
         try:
-            self.client = self.distributed.Client(address, timeout=10)
+            self.client = self.distributed.Client(address, timeout=60)
         except OSError as error:
             print(f"explore: {address}: no scheduler answers ({error})", file=sys.stderr)
             sys.exit(2)

@@ -3,10 +3,9 @@
  *   clock
  */
 #define _GNU_SOURCE
+#include "asleep.h"
 #include "engines.h"
 
-#include <signal.h>
-#include <sys/time.h>
 #include <time.h>
 
 enum { MILLISECOND = 1000000 };
@@ -109,14 +108,12 @@ static void hear_signal(int number)
 static void test_signal(void)
 {
     struct sigaction action = {.sa_handler = hear_signal};
-    struct itimerval soon = {.it_value.tv_usec = 50000}, never = {.it_value.tv_usec = 0};
     struct ring ring;
     make_ring(&ring, 8, 0, 0);
-    int64_t start = now();
-    check(sigaction(SIGALRM, &action, NULL) == 0 && setitimer(ITIMER_REAL, &soon, NULL) == 0);
+    check(sigaction(SIGALRM, &action, NULL) == 0);
+    pid_t child = is_real() ? signal_asleep(SIGALRM) : 0;
     check(enter(&ring, 0, 1, IORING_ENTER_GETEVENTS) == (is_real() ? -EINTR : -EDEADLK));
-    check(has_lasted(start, 50 * MILLISECOND) && (heard == 1 || !is_real()));
-    check(setitimer(ITIMER_REAL, &never, NULL) == 0);
+    check(heard == is_real() && (!is_real() || has_signalled(child)));
     close_ring(&ring);
 }
 

@@ -4,6 +4,7 @@
  *   closed [NAME]            with a name: that test alone
  */
 #define _GNU_SOURCE
+#include "asleep.h"
 #include "engines.h"
 
 #include <poll.h>
@@ -109,7 +110,7 @@ static int read_from[2], opened[2];
 static void *close_later(void *of)
 {
     enum instead instead = *(const enum instead *)of;
-    usleep(20000);
+    await_sleep(&(pid_t){getpid()});
     check(close(read_from[0]) == 0);
     if (instead != CLOSED)
         check(pipe(opened) == 0 && opened[0] == read_from[0]);

@@ -4,6 +4,7 @@
  *   confined [NAME]          with a name: that test alone
  */
 #define _GNU_SOURCE
+#include "asleep.h"
 #include "engines.h"
 
 #include <netinet/in.h>
@@ -199,7 +200,7 @@ static void test_stop(void)
 {
     check(pipe(waited_for) == 0);
     pid_t child = begin_child(wait_to_be_stopped);
-    usleep(200000u * (unsigned)patience());
+    await_sleep(&child);
     check(kill(child, SIGSTOP) == 0);
     check(waitpid(child, NULL, WUNTRACED) == child);
     check(kill(child, SIGCONT) == 0);

@@ -116,7 +116,10 @@ static void note(struct ring *ring, uint8_t code)
     }
 }
 
-/* Asks with one entry; a linked timeout stands after what it limits, a read that waits. A worker of the kernel's may take its time. */
+/* A worker of the kernel's may take its time: this many times as long as on a quiet machine. */
+static int slowness = 1;
+
+/* Asks with one entry; a linked timeout stands after what it limits, a read that waits. */
 static void ask_with(uint8_t code, struct change one, struct change other)
 {
     struct ring ring;
@@ -138,7 +141,7 @@ static void ask_with(uint8_t code, struct change one, struct change other)
     make_change(&entry, other);
     *put(&ring, 0, 0, 0) = entry;
     answer->taken = (int32_t)enter(&ring, count, 0, 0);
-    enter_for(&ring, count, entry.flags & IOSQE_CQE_SKIP_SUCCESS ? 30000000 : 500000000);
+    enter_for(&ring, count, slowness * (entry.flags & IOSQE_CQE_SKIP_SUCCESS ? 30000000ll : 500000000ll));
     note(&ring, code);
     answer->is_there = true;
 }
@@ -155,7 +158,7 @@ static struct answer answer_to(uint8_t code, struct change one, struct change ot
     pid_t child = fork();
     check(child >= 0);
     if (child == 0) {
-        alarm(10);
+        alarm((unsigned)(PATIENCE * patience()));
         make_all(folder);
         ask_with(code, one, other);
         _exit(0);
@@ -235,10 +238,15 @@ static unsigned asked, differing, unknown;
 
 static void compare(uint8_t code, struct change one, struct change other)
 {
-    is_real = true;
-    struct answer real = answer_to(code, one, other);
-    is_real = false;
-    struct answer here = answer_to(code, one, other);
+    struct answer real, here;
+    for (slowness = 1; slowness <= 64; slowness *= 8) {
+        is_real = true;
+        real = answer_to(code, one, other);
+        is_real = false;
+        here = answer_to(code, one, other);
+        if (is_same(&real, &here) || is_known(code, one) || is_known(code, other))
+            break;
+    }
     asked++;
     if (is_same(&real, &here))
         return;

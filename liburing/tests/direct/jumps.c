@@ -2,14 +2,11 @@
  * every policy, and on a real ring. A test that hangs ends by an alarm.
  */
 #define _GNU_SOURCE
+#include "asleep.h"
 #include "engines.h"
 
 #include <poll.h>
-#include <pthread.h>
 #include <setjmp.h>
-#include <signal.h>
-#include <sys/wait.h>
-#include <time.h>
 #include <ucontext.h>
 
 /* ---- what is waited for, and whether it is gone ---- */
@@ -71,26 +68,15 @@ static void catch(int number, void (*handler)(int), int flags)
     check(sigaction(number, &action, NULL) == 0);
 }
 
-/* In a while the signal comes to this thread, once. */
-static timer_t signal_soon(int number)
-{
-    struct sigevent event = {.sigev_notify = SIGEV_THREAD_ID, .sigev_signo = number};
-    struct itimerspec soon = {.it_value.tv_nsec = 5000000};
-    timer_t timer;
-    event._sigev_un._tid = gettid();
-    check(timer_create(CLOCK_MONOTONIC, &event, &timer) == 0 && timer_settime(timer, 0, &soon, NULL) == 0);
-    return timer;
-}
-
 __attribute__((noinline)) static void leave_wait(struct ring *ring, int number)
 {
-    volatile timer_t timer;
+    volatile pid_t child;
     if (sigsetjmp(back, 1) == 0) {
         may_jump = 1;
-        timer = signal_soon(number);
+        child = signal_asleep(number);
         check(enter(ring, 0, 1, IORING_ENTER_GETEVENTS) == 0 && may_jump < 0);
     }
-    timer_delete(timer);
+    check(has_signalled(child));
 }
 
 /* Fills the stack below, where calls stood. */
@@ -188,9 +174,9 @@ static void leave_in_handler(int number)
 static void expect_interrupted(struct waited *waited)
 {
     inner_result = 0;
-    timer_t timer = signal_soon(SIGUSR1);
+    pid_t child = signal_asleep(SIGUSR1);
     check(enter(&waited->ring, 0, 1, IORING_ENTER_GETEVENTS) == -EINTR && inner_result == -ETIME);
-    check(timer_delete(timer) == 0);
+    check(has_signalled(child));
 }
 
 /* A handler that waits too, and returns; or waits, and leaves that wait by a jump, and returns. The outer wait goes on. */
@@ -259,13 +245,13 @@ static void test_stack_is_gone(void)
     make_waited(&waited);
     of_own_stack = &waited;
     catch(SIGUSR1, jump, 0);
-    volatile timer_t timer;
+    volatile pid_t child;
     if (sigsetjmp(back, 1) == 0) {
         may_jump = 1;
-        timer = signal_soon(SIGUSR1);
+        child = signal_asleep(SIGUSR1);
         check(swapcontext(&rest, &own) == 0 && false);
     }
-    timer_delete(timer);
+    check(has_signalled(child));
     check(munmap(memory, SIZE) == 0);
     expect_good(&waited);
     expect_gone(&waited);

@@ -96,6 +96,29 @@ static long wait_meanwhile(size_t bytes, unsigned to_submit, unsigned count, int
     return result;
 }
 
+static _Atomic bool is_over;     /* the wait beside another thread */
+
+static void *write_behind(void *none)
+{
+    (void)none;
+    while (!is_over)
+        usleep(1000);
+    check(write(ends[1], "x", 1) == 1);
+    return NULL;
+}
+
+/* Waits beside another thread, which writes a byte once the wait is over. */
+static long wait_before(unsigned to_submit, unsigned count, int64_t least, int64_t limit)
+{
+    pthread_t thread;
+    is_over = false;
+    check(pthread_create(&thread, NULL, write_behind, NULL) == 0);
+    long result = wait_for(to_submit, count, least, limit);
+    is_over = true;
+    check(pthread_join(thread, NULL) == 0);
+    return result;
+}
+
 /* Nothing comes: the limit counts once the least time is over, and without one the wait ends then. */
 static void test_nothing_comes(void)
 {
@@ -134,7 +157,7 @@ static void test_one_comes_later(void)
     check(wait_meanwhile(1, 0, MANY, 5 * MILLISECOND, 3600ll * 1000 * MILLISECOND) == 0);
     check(found == 1 && reap(&ring).user_data == 6);
     put_read(7);
-    check(wait_meanwhile(1, 1, MANY, 5 * MILLISECOND, never) == 1 && found == 0);
+    check(wait_before(1, MANY, 5 * MILLISECOND, never) == 1 && found == 0);
     check(wait_for_one(&ring) == 1);
     stop();
 }

@@ -282,7 +282,7 @@ static void test_readable(void)
         rest(&ring);
         check(!getenv("WULGACH_TEST_POLLED") || poll(&at, 1, 0) == 0);
         check(write(ends[1], "x", 1) == 1);
-        check(poll(&at, 1, 1000) == 1);
+        check(poll(&at, 1, 1000 * patience()) == 1);
         expect(&ring, 0, POLLIN, 0);
         check(read(ends[0], &byte, 1) == 1);
     }

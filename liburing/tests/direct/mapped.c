@@ -4,6 +4,7 @@
  *   mapped [NAME]            with a name: that test alone
  */
 #define _GNU_SOURCE
+#include "asleep.h"
 #include "engines.h"
 
 #include <poll.h>
@@ -235,11 +236,13 @@ struct waiter {
     struct ring *ring;
     const void *mask;
     long result;
+    pid_t thread;       /* once it runs */
 };
 
 static void *wait_with_mask(void *argument)
 {
     struct waiter *waiter = argument;
+    __atomic_store_n(&waiter->thread, gettid(), __ATOMIC_RELEASE);
     waiter->result = wulgach_syscall(SYS_io_uring_enter, waiter->ring->fd, 0, 1, IORING_ENTER_GETEVENTS, waiter->mask, waiter->mask ? 8 : 0);
     waiter->result = waiter->result < 0 ? -errno : waiter->result;
     return NULL;
@@ -252,11 +255,11 @@ static void test_mask_is_read_once(void)
     pthread_t thread;
     int ends[2];
     char *mask = anonymous(PROT_READ | PROT_WRITE, MAP_PRIVATE);
-    struct waiter waiter = {&ring, mask, 99};
+    struct waiter waiter = {&ring, mask, 99, 0};
     check(pipe(ends) == 0);
     make_ring(&ring, 8, 0, 0);
     check(pthread_create(&thread, NULL, wait_with_mask, &waiter) == 0);
-    usleep(100000);
+    await_sleep(&waiter.thread);
     check(munmap(mask, BOTH) == 0);
     put_plain(&ring, IORING_OP_POLL_ADD, 5, ends[0])->poll32_events = POLLIN;
     check(enter(&ring, 1, 0, 0) == 1);
@@ -274,11 +277,11 @@ static void test_unknown_threads(void)
 {
     struct ring ring;
     pthread_t thread;
-    struct waiter waiter = {&ring, NULL, 99};
+    struct waiter waiter = {&ring, NULL, 99, 0};
     make_ring(&ring, 8, 0, 0);
     has_no_proc = true;
     check(pthread_create(&thread, NULL, wait_with_mask, &waiter) == 0);
-    usleep(100000);
+    await_sleep(&waiter.thread);
     check(waiter.result == 99);
     submit_nop(&ring, 1);
     check(pthread_join(thread, NULL) == 0 && waiter.result == 0);

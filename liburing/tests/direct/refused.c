@@ -212,7 +212,7 @@ static long run_child(long number, bool is_polled, bool is_crowded)
     check(pipe(results) == 0);
     pid_t child = fork();
     if (child == 0) {
-        alarm(10);
+        alarm((unsigned)(PATIENCE * patience()));
         refused = number;
         run_refused(is_polled, is_crowded);
         told.asked = asked;

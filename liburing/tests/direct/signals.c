@@ -3,11 +3,10 @@
  *   signals [NAME]           with a name: that test alone
  */
 #define _GNU_SOURCE
+#include "asleep.h"
 #include "engines.h"
 
 #include <setjmp.h>
-#include <signal.h>
-#include <sys/wait.h>
 #include <time.h>
 
 static sigjmp_buf outside;
@@ -28,26 +27,26 @@ __attribute__((noinline)) static void use_stack(void)
 static void test_jump(void)
 {
     struct sigaction action = {.sa_handler = jump_out};
-    struct sigevent event = {.sigev_notify = SIGEV_SIGNAL, .sigev_signo = SIGUSR2};
-    struct itimerspec soon = {.it_value.tv_nsec = 10000000};
     struct ring ring;
-    timer_t timer;
     int ends[2];
     char byte;
     check(pipe(ends) == 0);
     make_ring(&ring, 4, 0, 0);
-    check(sigaction(SIGUSR2, &action, NULL) == 0 && timer_create(CLOCK_MONOTONIC, &event, &timer) == 0);
+    check(sigaction(SIGUSR2, &action, NULL) == 0);
     put_transfer(&ring, IORING_OP_READ, 0, 0, ends[0], &byte, 1, 0);
     check(enter(&ring, 1, 0, 0) == 1);
     for (volatile int i = 0; i < 3; i++) {
-        check(timer_settime(timer, 0, &soon, NULL) == 0);
-        if (sigsetjmp(outside, true) == 0)
+        volatile pid_t child;
+        if (sigsetjmp(outside, true) == 0) {
+            child = signal_asleep(SIGUSR2);
             check(enter(&ring, 0, 1, IORING_ENTER_GETEVENTS) != 0);
+        }
+        check(has_signalled(child));
         use_stack();
         submit_nop(&ring, 1);
         check(wait_for_one(&ring) == 0);
     }
-    check(timer_delete(timer) == 0 && write(ends[1], "x", 1) == 1);
+    check(write(ends[1], "x", 1) == 1);
     check(wait_for_one(&ring) == 1);
     close(ends[0]);
     close(ends[1]);
@@ -102,22 +101,21 @@ static void test_stack_in_a_stack(void)
     char room[65536];
     stack_t stack = {.ss_sp = room, .ss_size = sizeof room}, none = {.ss_flags = SS_DISABLE};
     struct sigaction action = {.sa_handler = submit_from_signal, .sa_flags = SA_ONSTACK};
-    struct sigevent event = {.sigev_notify = SIGEV_SIGNAL, .sigev_signo = SIGUSR2};
-    struct itimerspec soon = {.it_value.tv_nsec = 20000000};
     struct ring ring, other;
-    timer_t timer;
     int ends[2];
     char byte;
     check(pipe(ends) == 0 && sigaltstack(&stack, NULL) == 0);
     make_ring(&ring, 4, 0, 0);
     make_ring(&other, 4, 0, 0);
     called = &other;
-    check(sigaction(SIGUSR2, &action, NULL) == 0 && timer_create(CLOCK_MONOTONIC, &event, &timer) == 0);
+    check(sigaction(SIGUSR2, &action, NULL) == 0);
     put_transfer(&ring, IORING_OP_READ, 0, 0, ends[0], &byte, 1, 0);
-    check(enter(&ring, 1, 0, 0) == 1 && timer_settime(timer, 0, &soon, NULL) == 0);
+    check(enter(&ring, 1, 0, 0) == 1);
+    pid_t child = signal_asleep(SIGUSR2);
     check(enter(&ring, 0, 1, IORING_ENTER_GETEVENTS) == -EINTR);
     check(wait_for_one(&other) == 0);
-    check(timer_delete(timer) == 0 && write(ends[1], "x", 1) == 1 && wait_for_one(&ring) == 1);
+    check(has_signalled(child));
+    check(write(ends[1], "x", 1) == 1 && wait_for_one(&ring) == 1);
     check(sigaltstack(&none, NULL) == 0);
     close(ends[0]);
     close(ends[1]);
@@ -137,22 +135,20 @@ static void fork_from_signal(int number)
 static void test_fork_from_signal(void)
 {
     struct sigaction action = {.sa_handler = fork_from_signal};
-    struct sigevent event = {.sigev_notify = SIGEV_SIGNAL, .sigev_signo = SIGUSR2};
-    struct itimerspec soon = {.it_value.tv_nsec = 20000000};
     struct ring ring;
-    timer_t timer;
     int ends[2], status = -1;
     char byte;
     check(pipe(ends) == 0);
     make_ring(&ring, 4, 0, 0);
-    check(sigaction(SIGUSR2, &action, NULL) == 0 && timer_create(CLOCK_MONOTONIC, &event, &timer) == 0);
+    check(sigaction(SIGUSR2, &action, NULL) == 0);
     put_transfer(&ring, IORING_OP_READ, 0, 0, ends[0], &byte, 1, 0);
-    check(enter(&ring, 1, 0, 0) == 1 && timer_settime(timer, 0, &soon, NULL) == 0);
+    check(enter(&ring, 1, 0, 0) == 1);
+    pid_t signaller = signal_asleep(SIGUSR2);
     int result = enter(&ring, 0, 1, IORING_ENTER_GETEVENTS);
     if (child == 0)
         _exit(result == -EINTR && enter(&ring, 0, 0, 0) == -EOPNOTSUPP ? 0 : 1);
     check(result == -EINTR && waitpid(child, &status, 0) == child && status == 0);
-    check(timer_delete(timer) == 0);
+    check(has_signalled(signaller));
     check(write(ends[1], "x", 1) == 1 && wait_for_one(&ring) == 1);
     close(ends[0]);
     close(ends[1]);

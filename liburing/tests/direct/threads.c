@@ -2,6 +2,7 @@
  * time. All hold under every policy. A test that hangs ends by an alarm.
  */
 #define _GNU_SOURCE
+#include "asleep.h"
 #include "engines.h"
 
 #include <pthread.h>
@@ -80,24 +81,11 @@ static void *sleep_in_call(void *sleep)
     return NULL;
 }
 
-/* Whether it sleeps, as the kernel tells of its thread. */
-static bool is_asleep(const struct sleep *sleep)
-{
-    char path[64], state = 0;
-    snprintf(path, sizeof path, "/proc/self/task/%d/stat", (int)__atomic_load_n(&sleep->thread, __ATOMIC_ACQUIRE));
-    FILE *file = fopen(path, "re");
-    bool is_told = file && fscanf(file, "%*d (%*[^)]) %c", &state) == 1;
-    if (file)
-        fclose(file);
-    return is_told && state == 'S';
-}
-
 static pthread_t start_sleeper(struct sleep *sleep)
 {
     pthread_t thread;
     check(pthread_create(&thread, NULL, sleep_in_call, sleep) == 0);
-    while (!is_asleep(sleep))
-        usleep(1000);
+    await_sleep(&sleep->thread);
     return thread;
 }
 

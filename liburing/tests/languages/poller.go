@@ -82,7 +82,7 @@ func main() {
 	r.post()
 	must(syscall.SetNonblock(int(r.fd), true) == nil, "nonblocking")
 	file := os.NewFile(r.fd, "ring")
-	must(file.SetReadDeadline(time.Now().Add(20*time.Second)) == nil, "the poller doesn't take it")
+	must(file.SetReadDeadline(time.Now().Add(120*time.Second)) == nil, "the poller doesn't take it")
 	raw, err := file.SyscallConn()
 	must(err == nil, "raw", err)
 	go func() {

@@ -5,6 +5,7 @@
  * Status 0: all was as it is to be. Else a line says what wasn't.
  */
 #define _GNU_SOURCE
+#include "../direct/asleep.h"
 #include "held.h"
 
 #include <dlfcn.h>
@@ -60,8 +61,11 @@ static void accepts(void)
     WANT(listener >= 0 && bind(listener, (void *)&at, sizeof at) == 0 && close(listener) == 0);
 }
 
+static pid_t waiter;     /* its thread, once it runs */
+
 static void *wait_in(void *of)
 {
+    __atomic_store_n(&waiter, gettid(), __ATOMIC_RELEASE);
     WANT(enter(of, 0, 1, NULL) == 0);
     return NULL;
 }
@@ -80,7 +84,7 @@ static void closed_in_a_call(void)
     publish(&ring, (struct io_uring_sqe){.opcode = IORING_OP_POLL_ADD, .fd = ends[0], .poll32_events = POLLIN});
     WANT(enter(&ring, 1, 0, NULL) == 1);
     WANT(pthread_create(&thread, NULL, wait_in, &ring) == 0);
-    usleep(100000);
+    await_sleep(&waiter);
     WANT(close(ring.fd) == 0);
     usleep(20000);
     WANT(is_held(read) && write(ends[1], "x", 1) == 1 && pthread_join(thread, NULL) == 0);

@@ -5,6 +5,7 @@
  * Status 0: all was as it is to be. Else a line says what wasn't.
  */
 #define _GNU_SOURCE
+#include "../direct/asleep.h"
 #include "held.h"
 
 #include <alloca.h>
@@ -278,16 +279,17 @@ static void jump_in_handler(int number)
     siglongjmp(after_sleep, 1);
 }
 
-static volatile sig_atomic_t has_left;
+static volatile sig_atomic_t has_left, jumps_of_one;
+static pid_t jumper;        /* its thread, once it may jump */
 
 /* Sleeps that are left by a jump, each of which the next call notices; then the thread waits to be cancelled. */
 static void *jump_and_wait(void *of)
 {
-    static volatile int jumps;
     stack_t signals;
     if (sigsetjmp(after_sleep, 1) != 0)
-        jumps++;
-    if (jumps < 3)
+        jumps_of_one++;
+    __atomic_store_n(&jumper, gettid(), __ATOMIC_RELEASE);
+    if (jumps_of_one < 3)
         enter(of, 0, 1, NULL);
     WANT(enter(of, 0, 0, NULL) == 0);
     WANT(sigaltstack(NULL, &signals) == 0);
@@ -399,13 +401,14 @@ static void jumps(void)
     WANT(pthread_attr_init(&attributes) == 0 && pthread_attr_setstacksize(&attributes, 65536) == 0);
     WANT(pthread_create(&thread, &attributes, jump_and_wait, &ring) == 0);
     for (int i = 0; i < 3; i++) {
-        usleep(50000);
+        while (jumps_of_one < i || !is_asleep(&jumper))
+            usleep(1000);
         WANT(pthread_kill(thread, SIGUSR1) == 0);
     }
     while (!has_left)
         usleep(1000);
     WANT(clock_gettime(CLOCK_REALTIME, &until) == 0 && pthread_cancel(thread) == 0);
-    until.tv_sec += 5;
+    until.tv_sec += 60;
     WANT(pthread_timedjoin_np(thread, NULL, &until) == 0 && count_descriptors() <= before + 1);
     jump_in_coroutines(&ring);
 }
