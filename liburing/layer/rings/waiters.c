@@ -71,7 +71,8 @@ void note_polled_ring(uint64_t mark)
 
 bool may_wait_for_edges(void)
 {
-    return wulgach_may_wait_for_edges(is_denied, are_heard, are_heard && is_so(&shared->was_heard));
+    bool is_heard = is_so(&are_heard);
+    return wulgach_may_wait_for_edges(is_denied, is_heard, is_heard && is_so(&shared->was_heard));
 }
 
 /* Whether it is of use to hear more: there is a ring, and nobody was heard yet. */
@@ -111,7 +112,8 @@ void wulgach_share_waiters(void)
 /* From here on each call is heard, in this process and in those that it forks. */
 void wulgach_hear_waiters(void)
 {
-    are_heard = shared != NULL;
+    if (shared)
+        make_so(&are_heard);
 }
 
 bool wulgach_listens_for_waiters(void)

@@ -284,6 +284,7 @@ static void post_for(const struct ring *ring, int socket, pid_t child)
     WANT(waitpid(child, &status, 0) == child && status == 0);
 }
 
+/* (who dies closes his end, so that the other doesn't wait) */
 static void make_ends(int ends[2])
 {
     WANT(socketpair(AF_UNIX, SOCK_STREAM | SOCK_CLOEXEC, 0, ends) == 0);
@@ -295,6 +296,7 @@ static void in_child(change_of *change, bool is_own)
     int ends[2];
     make_ends(ends);
     pid_t child = is_own ? (pid_t)call(SYS_clone, SIGCHLD, 0, 0, 0, 0, 0) : fork();
+    close(ends[child != 0]);
     if (child == 0)
         hear_for(ends[1], ring.fd, change);
     post_for(&ring, ends[0], child);
@@ -343,6 +345,7 @@ static void sent(void)
     int ends[2];
     make_ends(ends);
     pid_t child = fork();
+    close(ends[child != 0]);
     if (child == 0) {
         receive_byte(ends[1]);
         hear_for(ends[1], receive_descriptor(ends[1]), by_library);
