@@ -69,9 +69,12 @@ void note_polled_ring(uint64_t mark)
     make_so(&shared->has_ring);
 }
 
+/* (what was posted is seen by whoever begins to wait after this) */
 bool may_wait_for_edges(void)
 {
     bool is_heard = is_so(&are_heard);
+    if (is_heard)
+        __atomic_thread_fence(__ATOMIC_SEQ_CST);
     return wulgach_may_wait_for_edges(is_denied, is_heard, is_heard && is_so(&shared->was_heard));
 }
 
