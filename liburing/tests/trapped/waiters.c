@@ -3,62 +3,27 @@
  *
  *   waiters nobody | others | library | own | generic | copy | nested | changed | ring | poll | child | own_child | sent | started | kept | loaded | threads
  *   waiters starts PROGRAM       one that is linked statically, and is given `loop`
- *   waiters hears FD SOCKET      what `started` and `kept` start
+ *   waiters hears FD SOCKET      what `started` and `kept` start,
+ *   waiters receives SOCKET      and `sent`
  */
 #define _GNU_SOURCE
-#include "trapped.h"
+#include "handing.h"
+#include "posts.h"
 
 #include <dlfcn.h>
 #include <errno.h>
 #include <fcntl.h>
 #include <pthread.h>
-#include <sched.h>
 #include <signal.h>
 #include <spawn.h>
 #include <stdlib.h>
 #include <sys/socket.h>
 #include <sys/wait.h>
 
-enum { ROUNDS = 20, NOTHING = -1 };
+enum { ROUNDS = 20 };
 
 extern char **environ;
 static const char *own_path;
-
-static void put(const struct ring *ring, struct io_uring_sqe entry)
-{
-    uint32_t *tail = (uint32_t *)(ring->sq + ring->params.sq_off.tail);
-    uint32_t at = *tail & (ring->params.sq_entries - 1);
-    ring->entries[at] = entry;
-    ((uint32_t *)(ring->sq + ring->params.sq_off.array))[at] = at;
-    __atomic_store_n(tail, *tail + 1, __ATOMIC_RELEASE);
-}
-
-/* Stores the head behind what is there, and returns the last result. */
-static int reap(const struct ring *ring)
-{
-    uint32_t *head = (uint32_t *)(ring->cq + ring->params.cq_off.head);
-    uint32_t tail = __atomic_load_n((uint32_t *)(ring->cq + ring->params.cq_off.tail), __ATOMIC_ACQUIRE);
-    const struct io_uring_cqe *completions = (const void *)(ring->cq + ring->params.cq_off.cqes);
-    WANT(tail != *head);
-    __atomic_store_n(head, tail, __ATOMIC_RELEASE);
-    return completions[(tail - 1) & (ring->params.cq_entries - 1)].res;
-}
-
-/* A call in which one completion is posted, which is reaped then: the descriptor stays readable, since no call has heard of that. */
-static void post(const struct ring *ring)
-{
-    put(ring, (struct io_uring_sqe){.opcode = IORING_OP_NOP});
-    WANT(enter(ring, 1, 1, NULL) == 1 && reap(ring) == 0);
-}
-
-/* How many calls of write(2) and its like the process has made. */
-static long count_writes(void)
-{
-    char text[512] = "";
-    int file = open("/proc/self/io", O_RDONLY | O_CLOEXEC);
-    WANT(file >= 0 && read(file, text, sizeof text - 1) > 0 && close(file) == 0);
-    return atol(strstr(text, "syscw: ") + 7);
-}
 
 static void want_writes(const struct ring *ring, bool are_many)
 {
@@ -247,18 +212,6 @@ static void threads(void)
 
 /* ---- in others ---- */
 
-static void send_byte(int socket, char byte)
-{
-    WANT(write(socket, &byte, 1) == 1);
-}
-
-static char receive_byte(int socket)
-{
-    char byte = 0;
-    WANT(read(socket, &byte, 1) == 1);
-    return byte;
-}
-
 /* Waits for edges, and says what it was told of each call. */
 static void hear_for(int socket, int fd, change_of *change)
 {
@@ -312,44 +265,30 @@ static void own_child(void)
     in_child(by_instruction, true);
 }
 
-union control {
-    struct cmsghdr head;
-    char bytes[CMSG_SPACE(sizeof(int))];
-};
-
-static void send_descriptor(int socket, int fd)
+/* Starts this program with these words. */
+static pid_t start_with(char **words, posix_spawn_file_actions_t *actions)
 {
-    char byte = 'd';
-    union control control = {.head = {.cmsg_len = CMSG_LEN(sizeof fd), .cmsg_level = SOL_SOCKET, .cmsg_type = SCM_RIGHTS}};
-    struct iovec vector = {&byte, 1};
-    struct msghdr message = {.msg_iov = &vector, .msg_iovlen = 1, .msg_control = &control, .msg_controllen = sizeof control};
-    memcpy(CMSG_DATA(&control.head), &fd, sizeof fd);
-    WANT(sendmsg(socket, &message, 0) == 1);
+    pid_t process;
+    WANT(posix_spawn(&process, own_path, actions, NULL, words, environ) == 0);
+    return process;
 }
 
-static int receive_descriptor(int socket)
+static void receives(int socket)
 {
-    char byte;
-    int fd = NOTHING;
-    union control control;
-    struct iovec vector = {&byte, 1};
-    struct msghdr message = {.msg_iov = &vector, .msg_iovlen = 1, .msg_control = &control, .msg_controllen = sizeof control};
-    WANT(recvmsg(socket, &message, 0) == 1);
-    memcpy(&fd, CMSG_DATA(&control.head), sizeof fd);
-    return fd;
+    receive_byte(socket);
+    hear_for(socket, receive_descriptor(socket), by_library);
 }
 
-/* A process that was there before the ring is sent its descriptor; a message without one tells nobody, and what can't be read is refused. */
+/* A program that was there before the ring is sent its descriptor; a message without one tells nobody, and what can't be read is refused. */
 static void sent(void)
 {
     int ends[2];
+    char number[16];
     make_ends(ends);
-    pid_t child = fork();
-    close(ends[child != 0]);
-    if (child == 0) {
-        receive_byte(ends[1]);
-        hear_for(ends[1], receive_descriptor(ends[1]), by_library);
-    }
+    WANT(fcntl(ends[1], F_SETFD, 0) == 0);
+    snprintf(number, sizeof number, "%d", ends[1]);
+    pid_t process = start_with((char *[]){(char *)own_path, "receives", number, NULL}, NULL);
+    close(ends[1]);
     struct ring ring = used_ring();
     struct msghdr plain = {.msg_iov = &(struct iovec){"m", 1}, .msg_iovlen = 1};
     WANT(sendmsg(ends[0], &plain, 0) == 1);
@@ -357,19 +296,16 @@ static void sent(void)
     WANT(sendmsg(ends[0], (void *)16, 0) == -1 && errno == EFAULT);
     want_writes(&ring, false);
     send_descriptor(ends[0], ring.fd);
-    post_for(&ring, ends[0], child);
+    post_for(&ring, ends[0], process);
 }
 
 /* Starts this program, which waits for edges of a descriptor. */
 static pid_t start(int fd, int socket, posix_spawn_file_actions_t *actions)
 {
     char numbers[2][16];
-    pid_t process;
     snprintf(numbers[0], sizeof numbers[0], "%d", fd);
     snprintf(numbers[1], sizeof numbers[1], "%d", socket);
-    char *words[] = {(char *)own_path, "hears", numbers[0], numbers[1], NULL};
-    WANT(posix_spawn(&process, own_path, actions, NULL, words, environ) == 0);
-    return process;
+    return start_with((char *[]){(char *)own_path, "hears", numbers[0], numbers[1], NULL}, actions);
 }
 
 /* A program that is started has no descriptor of the ring's; but one has that is given one as it starts. */
@@ -446,6 +382,8 @@ int main(int count, char **words)
     if (count == 4 && strcmp(words[1], "hears") == 0)
         hear_for(atoi(words[3]), atoi(words[2]), by_library);
     alarm(30);
+    if (count == 3 && strcmp(words[1], "receives") == 0)
+        receives(atoi(words[2]));
     if (count == 3 && strcmp(words[1], "starts") == 0) {
         starts(words[2]);
         return 0;
