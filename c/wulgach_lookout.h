@@ -340,6 +340,17 @@ bool wulgach_has_event_first(const struct wulgach_needs *needs, bool has_waited,
  * somebody may wait for an edge. */
 bool wulgach_tells_anew(bool was_readable, bool is_readable, bool has_posted, bool may_wait_for_edges);
 
+/* Whether a call of epoll_ctl(2) may have somebody wait for edges of a ring's descriptor: it adds or changes (EPOLL_CTL_ADD, EPOLL_CTL_MOD) one that may be an
+ * epoll instance's, as a ring's is. Whoever waits for such an instance within another has made that call before. */
+bool wulgach_may_begin_to_wait(uint32_t change, bool may_be_instance);
+
+/* Whether a message with so many bytes of control data may hand a descriptor to another process (unix(7)), which waits unheard: it has any. */
+bool wulgach_may_hand_on(uint64_t control);
+
+/* Whether somebody may wait for edges of a ring's descriptor: unless who runs the program says that nobody does, or all calls are heard by which one
+ * begins to, and none was. */
+bool wulgach_may_wait_for_edges(bool is_denied, bool are_heard, bool was_heard);
+
 #ifdef __cplusplus
 }
 #endif

@@ -255,6 +255,9 @@ static void tell_others(void)
     };
     for (size_t i = 0; i < sizeof rows / sizeof *rows; i++)
         demand(wulgach_tells_anew(rows[i].was_readable, rows[i].is_readable, rows[i].has_posted, rows[i].may_wait_for_edges) == rows[i].is_told, "who polls the ring's descriptor");
+    demand(wulgach_may_begin_to_wait(1, true) && wulgach_may_begin_to_wait(3, true) && !wulgach_may_begin_to_wait(2, true) && !wulgach_may_begin_to_wait(1, false), "a call by which one may begin to wait for edges");
+    demand(wulgach_may_hand_on(16) && !wulgach_may_hand_on(0), "a message that may carry a descriptor");
+    demand(wulgach_may_wait_for_edges(false, false, false) && wulgach_may_wait_for_edges(false, true, true) && !wulgach_may_wait_for_edges(false, true, false) && !wulgach_may_wait_for_edges(true, false, true), "who may wait for edges");
     demand(wulgach_counts_as_written(0x4000, false) && wulgach_counts_as_written(2, true) && !wulgach_counts_as_written(2, false) && !wulgach_counts_as_written(1, true), "a pipe that was written to");
     demand(wulgach_heard_events() == 2 && wulgach_left_events() == 1, "what is heard, and what is left");
     demand(wulgach_is_heard(010600, 0) && wulgach_is_heard(010600, 2) && !wulgach_is_heard(010600, 1) && !wulgach_is_heard(0140600, 2) && !wulgach_is_heard(010600, 1u << 21), "which pipes are heard");

@@ -115,9 +115,10 @@ static char *put_own(const char *other, char *room)
     char *room[count_of(surrounding) + MOST_VARIABLES + 1];         \
     char preload[room_with_own(surrounding)]
 
-/* The surrounding with what is missing of ours. */
+/* The surrounding with what is missing of ours, for a program that is about to be started. */
 static char *const *with_ours(char *const *surrounding, char **room, char *preload)
 {
+    wulgach_note_start();
     char *const *other = preload_without_own(surrounding);
     size_t count = count_of(surrounding);
     if (count > 0)
@@ -350,6 +351,7 @@ SEEN int posix_spawnp(pid_t *process, const char *name, const posix_spawn_file_a
 /* The C library starts the shell of these by itself, with the program's own surrounding. */
 static void restore(void)
 {
+    wulgach_note_start();
     char *const *other = preload_without_own(environ);
     char *preload = other ? malloc(room_with_own(environ)) : NULL;
     if (preload)

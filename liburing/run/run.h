@@ -62,6 +62,22 @@ bool wants_own_stack(const ucontext_t *at);
 void note_signal_stack(const stack_t *stack);
 bool call_on_own_stack(ucontext_t *at, void (*function)(void *), void *argument);
 
+/* Whether the program has set a filter of its own. */
+bool has_filter_of_its_own(void);
+
+/* Hears from here on who begins to wait for edges of a ring's descriptor, if that can be; and traps what the program's own instructions do of that: false if that can't be. */
+void hear_waiters(void);
+bool trap_own_calls(void);
+
+/* What is heard of that, for the layer (layer/rings/waiters.c). */
+void wulgach_share_waiters(void);
+void wulgach_hear_waiters(void);
+bool wulgach_listens_for_waiters(void);
+void wulgach_note_waiter(uint32_t change, int fd);
+void wulgach_note_message(uint64_t control);
+void wulgach_note_start(void);
+void wulgach_note_unheard(void);
+
 /* Tells the layer where the stack stands of a call that runs on another one, or NULL, and returns what it was told before. */
 const void *wulgach_note_caller(const void *now);
 

@@ -56,11 +56,20 @@ static void tell_of_setup(const struct io_uring_params *params, long result)
         say("a ring with SQPOLL was asked for: its entries are taken in calls alone, and a program that only looks at memory waits for ever", "");
 }
 
+static bool has_own_filter;
+
+bool has_filter_of_its_own(void)
+{
+    return __atomic_load_n(&has_own_filter, __ATOMIC_SEQ_CST);
+}
+
 /* A filter of the program's own stands beside this one. */
 static long set_filter(long call, const greg_t *registers)
 {
-    if (call == SYS_prctl || registers[REG_RDI] != SECCOMP_GET_ACTION_AVAIL)
+    if (call == SYS_prctl || registers[REG_RDI] != SECCOMP_GET_ACTION_AVAIL) {
+        __atomic_store_n(&has_own_filter, true, __ATOMIC_SEQ_CST);
         say("the program sets a filter of its own for system calls: what that refuses the layer, of reads, writes and the like, fails or ends the program", "");
+    }
     return syscall(call, (long)registers[REG_RDI], (long)registers[REG_RSI], (long)registers[REG_RDX], (long)registers[REG_R10], (long)registers[REG_R8], ASKS_KERNEL);
 }
 
@@ -112,8 +121,13 @@ static long serve(long call, ucontext_t *at)
     put_mask_back(&mask);
     switch (call) {
     case SYS_io_uring_setup:
+        hear_waiters();
+        return call_layer(call, words);
     case SYS_io_uring_register:
         return call_layer(call, words);
+    case SYS_epoll_ctl:
+        wulgach_note_waiter((uint32_t)words[1], (int)words[2]);
+        return pass(call, words[0], words[1], words[2], words[3], words[4], words[5]);
     case SYS_mmap:
         return map_shared(words);
     case SYS_seccomp:
@@ -159,6 +173,7 @@ static bool is_of_trap(long call, const ucontext_t *at)
     case SYS_io_uring_register:
     case SYS_mmap:
     case SYS_seccomp:
+    case SYS_epoll_ctl:
         return !is_our_own(call, registers);
     case SYS_prctl:
         return registers[REG_RDI] == PR_SET_SECCOMP && !is_our_own(call, registers);
@@ -180,8 +195,8 @@ static void answer(int number, siginfo_t *info, void *context)
         errno = kept;
         return;
     }
-    /* (one of the mask or of an action takes next to no room, and may be the last that its thread makes) */
-    bool is_small = trapped.call == SYS_rt_sigprocmask || trapped.call == SYS_rt_sigaction;
+    /* (one of the mask, of an action or of an epoll instance takes next to no room, and may be the last that its thread makes) */
+    bool is_small = trapped.call == SYS_rt_sigprocmask || trapped.call == SYS_rt_sigaction || trapped.call == SYS_epoll_ctl;
     if (!is_small && wants_own_stack(trapped.at)) {
         if (!call_on_own_stack(trapped.at, serve_trapped, &trapped))
             trapped.at->uc_mcontext.gregs[REG_RAX] = wulgach_seen_missing_fault(WULGACH_NO_MEMORY_OWN);

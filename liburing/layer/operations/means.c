@@ -15,6 +15,7 @@
 #include "requests/timeouts.h"
 #include "rings/descriptors.h"
 #include "rings/ring.h"
+#include "rings/waiters.h"
 #include "waiting/streams.h"
 #include "wulgach_openings.h"
 #include "wulgach_results.h"
@@ -82,7 +83,10 @@ static int32_t make_call_on(const struct ring *ring, struct request *request, co
     struct wulgach_system_call made = *call;
     if (wulgach_takes_instance(call->number) && is_ring((int)call->first))
         made.first = (uint64_t)(ring->ready_fd >= 0 ? ring->ready_fd : ring->called_fd);
-    return make_call_of(request, &made);
+    if (made.number != SYS_epoll_ctl)
+        return make_call_of(request, &made);
+    note_waiter((uint32_t)made.second, (int)made.third);
+    return make_passing_call(&made);
 }
 
 static int32_t open_file(struct ring *ring, struct request *request, const struct wulgach_means *means)
@@ -162,6 +166,8 @@ static int32_t carry_out_by(struct ring *ring, struct request *request, const st
         return res;
     }
     case WULGACH_BY_SEND:
+        note_message(request->control);
+        return move_message(request, means);
     case WULGACH_BY_RECEIVE:
     case WULGACH_BY_RECEIVE_MESSAGE:
         return move_message(request, means);

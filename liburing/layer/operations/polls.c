@@ -8,6 +8,7 @@
 #include "registered/eventfds.h"
 #include "rings/descriptors.h"
 #include "rings/ring.h"
+#include "rings/waiters.h"
 #include "waiting/glance.h"
 #include "waiting/pipes.h"
 #include "wulgach_tries.h"
@@ -40,6 +41,7 @@ static int32_t ask_instance(struct request *request)
     request->epoll = made_instance();
     if (request->epoll < 0)
         return -errno;
+    note_waiter(EPOLL_CTL_ADD, request->fd);
     return epoll_ctl(request->epoll, EPOLL_CTL_ADD, request->fd, &event) < 0 ? -errno : 0;
 }
 

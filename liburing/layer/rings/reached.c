@@ -6,6 +6,7 @@
 #include "rings/reached.h"
 #include "process/process.h"
 #include "rings/readiness.h"
+#include "rings/waiters.h"
 #include "wulgach_setup.h"
 
 #include <dirent.h>
@@ -109,6 +110,23 @@ int find_descriptor(const struct ring *ring)
     if (is_found)
         return look.found;
     return wulgach_is_taken_so(WULGACH_IS_REACHED, folder >= 0, false) ? last : -1;
+}
+
+static enum wulgach_knowledge is_kept_open(struct look *look, int fd)
+{
+    (void)look;
+    int flags = fcntl(fd, F_GETFD);
+    return flags >= 0 && !(flags & FD_CLOEXEC) && may_be_instance(fd) ? WULGACH_IS_SO : WULGACH_IS_NOT_SO;
+}
+
+bool is_instance_kept_open(void)
+{
+    struct look look = {0};
+    int folder = open_folder("/proc/thread-self/fd");
+    bool is_kept = folder < 0 || look_through(&look, is_kept_open, folder) != WULGACH_IS_NOT_SO;
+    if (folder >= 0)
+        close(folder);
+    return is_kept;
 }
 
 /* ---- the tables of other threads ---- */

@@ -25,4 +25,7 @@ void note_table(struct ring *ring);
  * or the ring was made in another table than this thread's, so that what it keeps open has other numbers here. */
 bool is_reached_elsewhere(const struct ring *ring);
 
+/* Whether a descriptor that may be an epoll instance's is kept open by a program that is started now, or that can't be found out. */
+bool is_instance_kept_open(void);
+
 #endif

@@ -3,23 +3,20 @@
  * of the streams that running requests wait for. The eventfd also tells the instance from others, and so does a mark.
  *
  * The layer isn't told when the application reaps: so the eventfd stays set until the next call, and meanwhile
- * IORING_SQ_TASKRUN makes a peek that finds nothing call. Nor is it told who waits for edges, as an epoll instance may, of any process that has the
- * descriptor: so each call that posts writes the eventfd, though it is set, unless WULGACH_EDGES says that nobody does.
+ * IORING_SQ_TASKRUN makes a peek that finds nothing call. Where somebody may wait for edges (waiters.c), each call that posts writes the eventfd, though it is set.
  */
 #define _GNU_SOURCE
 #include "rings/readiness.h"
 #include "operations/operations.h"
-#include "process/fault.h"
 #include "process/numbers.h"
 #include "process/passing.h"
 #include "requests/progress.h"
 #include "rings/locking.h"
+#include "rings/waiters.h"
 #include "waiting/waiting.h"
 
 #include <errno.h>
-#include <pthread.h>
 #include <stdlib.h>
-#include <string.h>
 #include <sys/epoll.h>
 #include <sys/ioctl.h>
 #include <sys/random.h>
@@ -27,8 +24,6 @@
 
 /* An instance keeps how whoever waits on it looks for what a network brings: 31 bits of microseconds and 6 of a count, which any program may set and a kernel
  * since 6.9 keeps. Nobody waits on a ring's, so there it has the ring's mark. */
-#define SETS_MARK _IOW(0x8a, 1, uint64_t)
-#define GETS_MARK _IOR(0x8a, 2, uint64_t)
 #define BITS_OF_MARK 0x3f7fffffffu
 
 /* Draws a mark, and gives it to an instance. 0: it has none. */
@@ -41,25 +36,14 @@ static uint64_t make_mark(int fd)
     return ioctl(fd, SETS_MARK, &mark) == 0 ? mark : 0;
 }
 
-static bool may_wait_for_edges;
-
-static void read_environment(void)
-{
-    const char *word = getenv("WULGACH_EDGES");
-    bool is_no = word && strcmp(word, "no") == 0;
-    demand(is_no || !word || !*word || strcmp(word, "yes") == 0, "WULGACH_EDGES is yes or no");
-    may_wait_for_edges = !is_no;
-}
-
 int make_polled(struct ring *ring)
 {
-    static pthread_once_t once = PTHREAD_ONCE_INIT;
     struct epoll_event event = {.events = EPOLLIN};
-    pthread_once(&once, read_environment);
     int fd = epoll_create1(EPOLL_CLOEXEC);
     if (fd < 0)
         return -errno;
     ring->mark = make_mark(fd);
+    note_polled_ring(ring->mark);
     ring->ready_fd = made_eventfd();
     if (ring->ready_fd >= 0 && epoll_ctl(fd, EPOLL_CTL_ADD, ring->ready_fd, &event) == 0)
         return fd;
@@ -247,7 +231,7 @@ void show_readiness(struct ring *ring)
     watch_streams(ring);
     bool is_readable = is_readable_now(ring);
     /* (another thread or process may wait for an edge, or this one between its calls) */
-    if (!wulgach_tells_anew(ring->is_readable, is_readable, has_posted(ring), may_wait_for_edges))
+    if (!wulgach_tells_anew(ring->is_readable, is_readable, has_posted(ring), may_wait_for_edges()))
         return;
     ring->is_readable = is_readable;
     /* (by the kernel's call itself: the C library's asks besides whether the thread is cancelled) */

@@ -42,11 +42,23 @@ left_events = 1
 abbrev pub counts_as_written : (mask : ℕ) → (is_own : Bool) → Bool
 counts_as_written mask is_own = has_some mask 16384 || has_some mask heard_events && is_own
 
--- whether whoever polls a ring's descriptor is told anew: it has become readable, or isn't any more; or it is readable still, more was posted since it was told last, and somebody may wait for an edge of it (epoll(7), EPOLLET), which a kernel gives for each completion: another thread or process, or this one between its calls. That nobody does is for who runs the program to say
+-- whether whoever polls a ring's descriptor is told anew: it has become readable, or isn't any more; or it is readable still, more was posted since it was told last, and somebody may wait for an edge of it (epoll(7), EPOLLET), which a kernel gives for each completion: another thread or process, or this one between its calls. So it is told of each call that posts, unless nobody does (`may_wait_for_edges`)
 abbrev pub tells_anew : (was_readable is_readable has_posted may_wait_for_edges : Bool) → Bool
 tells_anew was_readable is_readable has_posted may_wait_for_edges =
     (is_readable && not was_readable) || (was_readable && not is_readable)
     || is_readable && has_posted && may_wait_for_edges
+
+-- whether a call may have somebody wait for edges of a ring's descriptor which makes this change of what an epoll instance waits for: it adds a descriptor or takes another look at one (EPOLL_CTL_ADD, 1, and EPOLL_CTL_MOD, 3), which may be an epoll instance's, as a ring's is. Who waits for an instance within another has put the inner one's descriptor there before. epoll_ctl(2)
+abbrev pub may_begin_to_wait : (change : ℕ) → (may_be_instance : Bool) → Bool
+may_begin_to_wait change may_be_instance = may_be_instance && (change == 1 || change == 3)
+
+-- whether a message may hand a descriptor to another process, which waits unheard: it carries control data, in so many bytes, as descriptors are sent. unix(7), SCM_RIGHTS
+abbrev pub may_hand_on : (control : ℕ) → Bool
+may_hand_on control = nat_lt 0 control
+
+-- whether somebody may wait for edges of a ring's descriptor: who runs the program doesn't say that nobody does, and either the calls aren't all heard by which one begins to, or one was heard. Nobody is heard to end it
+abbrev pub may_wait_for_edges : (is_denied are_heard was_heard : Bool) → Bool
+may_wait_for_edges is_denied are_heard was_heard = not is_denied && (not are_heard || was_heard)
 
 -- whether it is asked, as a copy of a file's descriptor is to be closed, if the process has locks on the file: it is a regular one, as almost all are that have any. Then it is asked of each copy that has stayed so far too, and those are closed that needn't stay any more
 abbrev pub asks_locks : (is_regular : Bool) → Bool

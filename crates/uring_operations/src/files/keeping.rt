@@ -83,6 +83,27 @@ pub fn tells_anew(
     has_changed || is_readable && has_posted && may_wait_for_edges
 }
 
+/// Whether a call may have somebody wait for edges of a ring's descriptor: one of epoll_ctl(2) which makes this change, of a descriptor that may be an epoll instance's, as a ring's is, or can't be.
+pub fn may_begin_to_wait(change: u32, may_be_instance: bool) -> bool
+    ensures { result ≡ spec.may_begin_to_wait change may_be_instance }
+{
+    may_be_instance && (change == 1 || change == 3)
+}
+
+/// Whether a message with so many bytes of control data may hand a descriptor to another process, which waits unheard.
+pub fn may_hand_on(control: u64) -> bool
+    ensures { result ≡ spec.may_hand_on control }
+{
+    0 < control
+}
+
+/// Whether somebody may wait for edges of a ring's descriptor, where who runs the program says that nobody does, or doesn't; the calls by which one begins to are all heard, or aren't; and one was heard, or none.
+pub fn may_wait_for_edges(is_denied: bool, are_heard: bool, was_heard: bool) -> bool
+    ensures { result ≡ spec.may_wait_for_edges is_denied are_heard was_heard }
+{
+    !is_denied && (!are_heard || was_heard)
+}
+
 /// Whether it is asked, as a copy of a file's descriptor is to be closed that nobody needs, if the process has locks on that file, and on those of the copies that stay open: one of a regular file, or another. Our own rule.
 pub fn asks_locks(is_regular: bool) -> bool
     ensures { result ≡ spec.asks_locks is_regular }

@@ -5,7 +5,8 @@ ghost use Rattle.uring_c.specs.Enter.Call.PassageForm.{copied_if};
 
 use uring_operations::{
     Standing, asks_locks, counts_as_written, heard_events, is_heard, keeps_before_close,
-    left_events, may_close_last, shares_copy, stays_open, tells_anew,
+    left_events, may_begin_to_wait, may_close_last, may_hand_on, may_wait_for_edges, shares_copy,
+    stays_open, tells_anew,
 };
 
 /// Whether the request of this number, on this descriptor, keeps its file before a close of this number, of this descriptor.
@@ -92,6 +93,34 @@ pub extern "C" fn wulgach_tells_anew(
     ensures { result ≡ keeping.tells_anew was_readable is_readable has_posted may_wait_for_edges }
 {
     tells_anew(was_readable, is_readable, has_posted, may_wait_for_edges)
+}
+
+/// Whether a call of epoll_ctl(2) may have somebody wait for edges of a ring's descriptor.
+#[unsafe(no_mangle)]
+pub extern "C" fn wulgach_may_begin_to_wait(change: u32, may_be_instance: bool) -> bool
+    ensures { result ≡ keeping.may_begin_to_wait change may_be_instance }
+{
+    may_begin_to_wait(change, may_be_instance)
+}
+
+/// Whether a message with so many bytes of control data may hand a descriptor to another process.
+#[unsafe(no_mangle)]
+pub extern "C" fn wulgach_may_hand_on(control: u64) -> bool
+    ensures { result ≡ keeping.may_hand_on control }
+{
+    may_hand_on(control)
+}
+
+/// Whether somebody may wait for edges of a ring's descriptor.
+#[unsafe(no_mangle)]
+pub extern "C" fn wulgach_may_wait_for_edges(
+    is_denied: bool,
+    are_heard: bool,
+    was_heard: bool,
+) -> bool
+    ensures { result ≡ keeping.may_wait_for_edges is_denied are_heard was_heard }
+{
+    may_wait_for_edges(is_denied, are_heard, was_heard)
 }
 
 /// Whether it is asked, as a copy of a file's descriptor is to be closed that nobody needs, if the process has locks on the file.
