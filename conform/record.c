@@ -9,21 +9,21 @@
  *   call N                           a call that submits N of it
  *   events                           a call that submits nothing and asks for events
  *   release UD                       writes a byte into that pipe
- *   head off, head on                from here on the head isn't stored behind a look, or is
+ *   head off, head on                from here on the head isn't stored after a look, or is
  *   wait N                           waits until N more completions are seen, or half a second has passed
  *
  * With the word `features` it writes what the ring says that it can do, as a number, and reads nothing.
  *
  * A first line `# setup --sq N --cq N --files N --stop` has the options of `uring`. What is seen is written a line each:
  *
- *   call ASKED RETURNED HEAD DROPPED     a call, what it returned, and the words head and dropped behind it
+ *   call ASKED RETURNED HEAD DROPPED     a call, what it returned, and the words head and dropped after it
  *   tail WORD                            a look at the completion ring, if something new is there
  *   cqe UD RES                           each completion that is new then
  *   head WORD                            the head was stored
  *   events                               the call just told, or to come, asked for events
  *   released UD                          a byte was written
  *
- * Behind the last line each pipe gets its byte, and the ring is looked at until nothing comes any more. The files are temporary
+ * After the last line each pipe gets its byte, and the ring is looked at until nothing comes any more. The files are temporary
  * ones without a name, and all ends with the process, also if it is killed.
  */
 #define _GNU_SOURCE

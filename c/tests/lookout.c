@@ -25,18 +25,18 @@ static void pass_over(void)
     static const struct wulgach_end_of_one plain = {0}, counted = {.is_count_reached = true}, drained = {.has_drains = true};
     struct wulgach_lookout lookout = waiting(5);
     wulgach_lookout_starts(&lookout, 5);
-    demand(lookout.count == 5, "one behind all others");
+    demand(lookout.count == 5, "one after all others");
     wulgach_lookout_leaves(&lookout, 5);
     wulgach_lookout_ends(&lookout, &plain);
     demand(lookout.count == 5, "an end that lets none go on");
     wulgach_lookout_updates(&lookout, 4, false);
-    demand(lookout.count == 5, "one that waits behind its update");
+    demand(lookout.count == 5, "one that waits after its update");
     wulgach_lookout_updates(&lookout, 4, true);
-    demand(lookout.count == 4, "one that needn't wait behind its update");
+    demand(lookout.count == 4, "one that needn't wait after its update");
     wulgach_lookout_touches(&lookout, 3);
     demand(lookout.count == 3, "one that is cancelled is looked at again");
     wulgach_lookout_leaves(&lookout, 1);
-    demand(lookout.count == 1, "those behind one that has left are looked at again");
+    demand(lookout.count == 1, "those after one that has left are looked at again");
     lookout = waiting(5);
     wulgach_lookout_ends(&lookout, &counted);
     demand(lookout.count == 0, "a count that is reached");
@@ -299,9 +299,9 @@ static void miss(void)
 static void follow(void)
 {
     const uint32_t always = BIT(WULGACH_END_KEEPS) | BIT(WULGACH_END_COUNTS) | BIT(WULGACH_END_STOPS_TIMEOUT) | BIT(WULGACH_END_LOOKS_AT_COUNTS) | BIT(WULGACH_END_LOOKS_BEHIND) | BIT(WULGACH_END_LETS_START) | BIT(WULGACH_END_LEAVES) | BIT(WULGACH_END_HAS_ENDS);
-    demand(wulgach_duties_after_end(false, false, false, false) == always, "behind each end");
-    demand(wulgach_duties_after_end(true, false, false, false) == (always | BIT(WULGACH_END_UNWATCHES)) && wulgach_duties_after_end(false, true, false, false) == (always | BIT(WULGACH_END_UNWATCHES)), "behind that of one with a file");
-    demand(wulgach_duties_after_end(false, false, true, false) == (always | BIT(WULGACH_END_FORGETS)) && wulgach_duties_after_end(false, false, false, true) == (always | BIT(WULGACH_END_ENDS_DRAIN)), "behind others");
+    demand(wulgach_duties_after_end(false, false, false, false) == always, "after each end");
+    demand(wulgach_duties_after_end(true, false, false, false) == (always | BIT(WULGACH_END_UNWATCHES)) && wulgach_duties_after_end(false, true, false, false) == (always | BIT(WULGACH_END_UNWATCHES)), "after that of one with a file");
+    demand(wulgach_duties_after_end(false, false, true, false) == (always | BIT(WULGACH_END_FORGETS)) && wulgach_duties_after_end(false, false, false, true) == (always | BIT(WULGACH_END_ENDS_DRAIN)), "after others");
 }
 
 int main(void)

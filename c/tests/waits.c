@@ -72,12 +72,12 @@ static void find_files(void)
     struct wulgach_chain chain;
     struct wulgach_member first = {.number = 4, .chain = 4}, second = {.number = 5, .chain = 4, .is_linked = true};
     wulgach_drains_begin(&drains);
-    demand(wulgach_drains_find_file(&drains, &first, false, false, false, false) == WULGACH_FOUND_BY_CALL && wulgach_drains_find_file(&drains, &second, false, true, true, true) == WULGACH_FOUND_AT_START, "behind a link");
-    demand(wulgach_drains_find_file(&drains, &first, false, true, false, false) == WULGACH_FOUND_IN_TURN, "behind a change of slots");
+    demand(wulgach_drains_find_file(&drains, &first, false, false, false, false) == WULGACH_FOUND_BY_CALL && wulgach_drains_find_file(&drains, &second, false, true, true, true) == WULGACH_FOUND_AT_START, "after a link");
+    demand(wulgach_drains_find_file(&drains, &first, false, true, false, false) == WULGACH_FOUND_IN_TURN, "after a change of slots");
     wulgach_chain_first(&chain, 2);
     wulgach_drains_accept(&drains, &chain);
-    demand(wulgach_drains_find_file(&drains, &first, false, false, true, true) == WULGACH_FOUND_AT_START && wulgach_drains_find_file(&drains, &first, true, false, false, true) == WULGACH_ASKS_START, "behind a drain");
-    demand(wulgach_drains_find_file(&drains, &first, true, true, true, true) == WULGACH_FOUND_IN_TURN && wulgach_drains_find_file(&drains, &first, true, true, false, true) == WULGACH_ASKS_START, "behind both");
+    demand(wulgach_drains_find_file(&drains, &first, false, false, true, true) == WULGACH_FOUND_AT_START && wulgach_drains_find_file(&drains, &first, true, false, false, true) == WULGACH_ASKS_START, "after a drain");
+    demand(wulgach_drains_find_file(&drains, &first, true, true, true, true) == WULGACH_FOUND_IN_TURN && wulgach_drains_find_file(&drains, &first, true, true, false, true) == WULGACH_ASKS_START, "after both");
     demand(wulgach_drains_find_file(&drains, &first, true, false, true, true) == WULGACH_FOUND_BY_CALL && wulgach_drains_find_file(&drains, &first, true, false, true, false) == WULGACH_FOUND_AT_START, "as the core lets it start");
     demand(wulgach_polls(&(struct wulgach_standing){.is_stream = true}) && !wulgach_polls(&(struct wulgach_standing){.has_found_buffer = true}), "whom a sleep polls for");
     static const struct wulgach_standing stream = {.is_stream = true}, plain = {0};
@@ -215,7 +215,7 @@ static void transfer(void)
 {
     struct wulgach_transfer once = {.length = 8, .is_at_once = true}, tried = {.length = 8, .is_tried = true}, file = {.length = 8}, stream = {.length = 8, .is_stream = true}, hasty = {.is_stream = true, .is_impatient = true}, failed = {.length = 8, .fault = -9};
     demand(next(once, 0, 0) == 1000 + WULGACH_CALL_AT_ONCE && next(once, WULGACH_CALL_AT_ONCE, 8) == 8 && next(once, WULGACH_CALL_AT_ONCE, 5) == 1000 + WULGACH_TRY_FINDS, "at once");
-    demand(next(stream, WULGACH_TRY_FINDS, 5) == 5 && next(file, WULGACH_TRY_FINDS, 5) == 1000 + WULGACH_CALL_PLAIN && next(stream, WULGACH_TRY_FINDS, 0) == 1000 + WULGACH_CALL_NONBLOCKING && next(failed, WULGACH_TRY_FINDS, -11) == -9, "behind that");
+    demand(next(stream, WULGACH_TRY_FINDS, 5) == 5 && next(file, WULGACH_TRY_FINDS, 5) == 1000 + WULGACH_CALL_PLAIN && next(stream, WULGACH_TRY_FINDS, 0) == 1000 + WULGACH_CALL_NONBLOCKING && next(failed, WULGACH_TRY_FINDS, -11) == -9, "after that");
     demand(next(tried, 0, 0) == 1000 + WULGACH_CALL_TRIED && next(tried, WULGACH_CALL_TRIED, 5) == 5 && next(tried, WULGACH_CALL_TRIED, -29) == 1000 + WULGACH_TRY_FINDS, "one that is tried");
     demand(next(stream, WULGACH_CALL_NONBLOCKING, -11) == 1000 + WULGACH_TRY_WAITS && next(stream, WULGACH_CALL_NONBLOCKING, -95) == 1000 + WULGACH_TRY_POLLS && next(stream, WULGACH_CALL_NONBLOCKING, -5) == -5, "asked not to wait");
     struct wulgach_transfer shut = {.length = 8, .is_stream = true, .is_socket = true, .is_shut = true};

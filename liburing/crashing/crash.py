@@ -233,7 +233,7 @@ def look_at(options, run):
 def tell(options, failure):
     """Makes a failure short and tells it: the fewest choices before, then the fewest losses, then the earliest moment. It takes so many seconds at most, and tells what it has by then."""
     how = {"list:": "in order"}.get(failure.policy, failure.policy)
-    print(f"a crash fails: run {how}, behind event {failure.moment}, status {failure.status}", flush=True)
+    print(f"a crash fails: run {how}, after event {failure.moment}, status {failure.status}", flush=True)
     crasher = Crasher(options)
     crasher.deadline = time.monotonic() + options.shorten
     try:
@@ -343,7 +343,7 @@ def show(options, run, moment, chosen):
             print(f"choice {at}: {what}, way {way} of 0 to {count - 1}")
     for line in told_operations(disk, run, moment):
         print(line)
-    print(f"the power fails behind event {moment}")
+    print(f"the power fails after event {moment}")
     for line in losses(disk, image, whole):
         print(line)
     print(f"\nstatus {status}", flush=True)

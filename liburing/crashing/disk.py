@@ -118,7 +118,7 @@ class Disk:
                 self.ends.setdefault(operation.end, []).append(operation)
 
     def advance(self, moment):
-        """Goes on to the moment behind so many events."""
+        """Goes on to the moment after so many events."""
         for at in range(self.now, moment):
             self.now = at + 1
             for operation in self.begins.get(at, []):

@@ -20,7 +20,7 @@ OF_FILES = (*OF_BYTES, LENGTH, SPACE)
 def draw(options, run, moment, image, whole, status, said):
     """Writes the page of one crash, and its data."""
     last = printing(said.rstrip(b"\n").rsplit(b"\n", 1)[-1][-200:])
-    told = f"the power fails behind event {moment}; the check ends with status {status}" + (f": {last}" if last else "")
+    told = f"the power fails after event {moment}; the check ends with status {status}" + (f": {last}" if last else "")
     data = {"group": "disk", "name": "the run, until the power fails", "told": told, "setup": {"sq": 0, "cq": 0, "start": 0, "stops": False}, "headings": ["operations"]}
     data.update(of_run(run, moment, image, whole, status))
     write({"form": 2, "title": "A crash", "told": " ".join(options.shown), "runs": [data]}, options.page, options.json)
@@ -82,7 +82,7 @@ def request_of(disk, operation):
 
 
 def state_of(disk, operation, moment):
-    """How the file of an operation stands behind it."""
+    """How the file of an operation stands after it."""
     if operation.kind not in (*OF_FILES, SYNC) or operation.file not in disk.by_inode:
         return {}
     file = disk.files[disk.by_inode[operation.file]]

@@ -424,7 +424,7 @@ int main(int count, char **words)
         {"timeouts", test_timeouts},
         {"cancels", test_cancels},
         {"cancels of any", test_cancels_of_any},
-        {"behind a cancel", test_after_a_cancel},
+        {"after a cancel", test_after_a_cancel},
         {"cancel by an unused descriptor", test_cancel_by_unused_descriptor},
         {"cancel by a file", test_cancel_by_file},
         {"cancelled middle", test_cancelled_middle},

@@ -17,10 +17,10 @@
 enum { FIXED_FD_INSTALL = 54, FTRUNCATE, BIND, LISTEN, NO_CLOEXEC = 1 };
 
 /* What a failure leaves of the member after it: it is carried out, or ends with -125. By the manual pages' rules each failure breaks a link. */
-enum behind { GOES_ON, IS_CANCELLED };
+enum after { GOES_ON, IS_CANCELLED };
 
 /* Submits the one entry, links a no-op after it, and wants this result. */
-static void want(struct ring *ring, struct io_uring_sqe *entry, int32_t res, enum behind behind)
+static void want(struct ring *ring, struct io_uring_sqe *entry, int32_t res, enum after after)
 {
     int32_t results[2];
     entry->flags |= IOSQE_IO_LINK;
@@ -30,7 +30,7 @@ static void want(struct ring *ring, struct io_uring_sqe *entry, int32_t res, enu
     reap_all(ring, 2, results);
     check(results[0] == res);
     if (taken == 2)
-        check(results[1] == (res < 0 && (behind == IS_CANCELLED || is_by_manual()) ? -ECANCELED : 0));
+        check(results[1] == (res < 0 && (after == IS_CANCELLED || is_by_manual()) ? -ECANCELED : 0));
 }
 
 static struct io_uring_sqe *put_length(struct ring *ring, uint8_t flags, int fd, int64_t length)

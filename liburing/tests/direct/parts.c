@@ -262,8 +262,8 @@ int main(int count, char **words)
 {
     static const struct named tests[] = {
         {"parts in a buffer", test_parts_in_a_buffer},
-        {"end behind a part", test_end_after_a_part},
-        {"cancel behind a part", test_cancel_after_a_part},
+        {"end after a part", test_end_after_a_part},
+        {"cancel after a part", test_cancel_after_a_part},
         {"cancelled sends", test_cancelled_sends},
         {"cancelled zero copy", test_cancelled_zero_copy},
         {"descriptor passed once", test_descriptor_passed_once},

@@ -173,7 +173,7 @@ static void registers(void)
         seen.vectors[i / 4][i % 4] = is_whole || i % 4 < 2 ? 0x9e3779b97f4a7c15u * (i + 1) : 0;
     publish(&ring, (struct io_uring_sqe){.opcode = IORING_OP_NOP, .user_data = 77});
     call_with_registers(is_whole);
-    WANT(memcmp(seen.behind, arguments, sizeof arguments) == 0 && seen.behind[6] == seen.frame && memcmp(seen.behind + 7, others, sizeof others) == 0);
+    WANT(memcmp(seen.after, arguments, sizeof arguments) == 0 && seen.after[6] == seen.frame && memcmp(seen.after + 7, others, sizeof others) == 0);
     WANT(memcmp(seen.vectors, seen.vectors_after, sizeof seen.vectors) == 0);
 }
 
