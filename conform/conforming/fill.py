@@ -75,16 +75,21 @@ class Fill:
         user_data, result = self.completions[posted]
         return f"no history posts cqe {user_data} {result}, completion {posted} from 0 on", posted
 
-    def search(self, at, posted, requests, ring, dropped, path):
-        """The parts of a trace from this event on, after those of the path, or None."""
-        key = at, posted, requests.key(), ring.key()
+    def is_new(self, key, posted, event, path):
+        """Whether the search is in this state for the first time. It is noted, and so is the path if none reached so far."""
         if key in self.been:
-            return None
+            return False
         self.been.add(key)
         if len(self.been) > MOST_STATES:
             raise GaveUp
-        if (posted, at) > self.furthest:
-            self.furthest, self.reached = (posted, at), path
+        if (posted, event) > self.furthest:
+            self.furthest, self.reached = (posted, event), path
+        return True
+
+    def search(self, at, posted, requests, ring, dropped, path):
+        """The parts of a trace from this event on, after those of the path, or None."""
+        if not self.is_new((at, posted, requests.key(), ring.key()), posted, at, path):
+            return None
         if at == len(self.events):
             rest = self.rest(requests)
             if rest is not None and posted == len(self.completions):

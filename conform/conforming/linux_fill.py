@@ -1,6 +1,6 @@
 """The quick search by Linux's rules. By the rules alone its histories are traces that `uring check --results` takes; with what cancels do beyond them, their steps are words of its own."""
 
-from conforming.fill import MOST_STATES, Fill, GaveUp, Ring
+from conforming.fill import Fill, Ring
 from conforming.gaps import Written
 from conforming.linux import CarriedOut, LinuxRequests
 from conforming.requests import RUNS, WAITS
@@ -20,15 +20,9 @@ class LinuxFill(Fill):
         return steps if steps is None else [line for part in steps for line in part]
 
     def search(self, at, posted, requests, ring, dropped, path):
-        key = at, posted, requests.key(), ring.key()
-        if key in self.been:
-            return None
-        self.been.add(key)
-        if len(self.been) > MOST_STATES:
-            raise GaveUp
         event = at[0]
-        if (posted, event) > self.furthest:
-            self.furthest, self.reached = (posted, event), path
+        if not self.is_new((at, posted, requests.key(), ring.key()), posted, event, path):
+            return None
         if event == len(self.events):
             is_over = not any(requests.is_outstanding(it) for it in range(len(requests.entries)))
             if is_over and posted == len(self.completions):

@@ -291,8 +291,7 @@ static void test_locks_after_a_splice(void)
     entry->len = 4;
     check(enter(&ring, 1, 0, 0) == 1 && write(ends[1], "abcd", 4) == 4);
     check(wait_for_one(&ring) == 4 && is_locked_for_others(fd));
-    close(ends[0]);
-    close(ends[1]);
+    close_pair(ends);
     close(fd);
     close_ring(&ring);
 }

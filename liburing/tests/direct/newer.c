@@ -67,8 +67,7 @@ static void test_lengths(void)
     want(&ring, put_length(&ring, 0, for_path, 3), -EBADF, IS_CANCELLED);
     want(&ring, put_length(&ring, IOSQE_FIXED_FILE, 1, 3), -EBADF, IS_CANCELLED);
     check(length_of(file) == 7);
-    for (int i = 0; i < 2; i++)
-        close(ends[i]);
+    close_pair(ends);
     close(file);
     close(for_reading);
     close(for_path);
@@ -186,8 +185,7 @@ static void test_names_are_copied(void)
     reap_all(&ring, 4, results);
     check(results[0] == 1 && results[1] == 0 && results[2] == 0 && results[3] >= 0);
     close(results[3]);
-    for (int i = 0; i < 2; i++)
-        close(ends[i]);
+    close_pair(ends);
     close(fd);
     close(caller);
     close_ring(&ring);

@@ -44,8 +44,7 @@ static void test_provided(void)
     check(pipe(ends) == 0);
     put_transfer(&ring, IORING_OP_READ, 0, IOSQE_BUFFER_SELECT, ends[0], NULL, 4, 0)->buf_group = 2;
     check(result_of_one(&ring, 1) == -ENOBUFS);
-    close(ends[0]);
-    close(ends[1]);
+    close_pair(ends);
     put_plain(&ring, IORING_OP_REMOVE_BUFFERS, 0, 1)->buf_group = 3;
     check(result_of_one(&ring, 1) == -ENOENT);
     check(register_at(ring.fd, IORING_UNREGISTER_PBUF_RING, &asked, 1) == 0);

@@ -49,8 +49,7 @@ static void test_jump(void)
     }
     check(timer_delete(timer) == 0 && write(ends[1], "x", 1) == 1);
     check(wait_for_one(&ring) == 1);
-    close(ends[0]);
-    close(ends[1]);
+    close_pair(ends);
     close_ring(&ring);
 }
 
@@ -119,8 +118,7 @@ static void test_stack_in_a_stack(void)
     check(wait_for_one(&other) == 0);
     check(timer_delete(timer) == 0 && write(ends[1], "x", 1) == 1 && wait_for_one(&ring) == 1);
     check(sigaltstack(&none, NULL) == 0);
-    close(ends[0]);
-    close(ends[1]);
+    close_pair(ends);
     close_ring(&other);
     close_ring(&ring);
 }
@@ -154,8 +152,7 @@ static void test_fork_from_signal(void)
     check(result == -EINTR && waitpid(child, &status, 0) == child && status == 0);
     check(timer_delete(timer) == 0);
     check(write(ends[1], "x", 1) == 1 && wait_for_one(&ring) == 1);
-    close(ends[0]);
-    close(ends[1]);
+    close_pair(ends);
     close_ring(&ring);
 }
 
