@@ -230,6 +230,11 @@ static void copy_pieces(void)
     struct wulgach_submission selects = {.opcode = RECVMSG, .flags = 32};
     demand(wulgach_message_vectors(&selects, 0) == 1 && wulgach_message_vectors(&selects, 2) == 2 && wulgach_message_vectors(&(struct wulgach_submission){.opcode = RECVMSG}, 0) == 0, "its vectors");
     demand(wulgach_wanted_of(&selects, 9) == 9 && wulgach_wanted_of(&(struct wulgach_submission){.opcode = RECVMSG}, 9) == 0, "how much of a buffer");
+}
+
+/* What the core is given for an entry, and its words. */
+static void core_entries(void)
+{
     struct wulgach_core_entry made;
     struct wulgach_submission cancel = {.opcode = 14, .flags = 255, .user_data = 5, .addr = 6};
     wulgach_core_entry_of(&cancel, WULGACH_FORM_CANCEL, &made);
@@ -251,10 +256,21 @@ static void copy_pieces(void)
     wulgach_core_words(&(struct wulgach_core_entry){.code = 22, .len = 65, .user_data = UINT64_MAX}, &words);
     wulgach_read(wanted.words, UINT64_MAX, 0, 0, 0, 65);
     demand(memcmp(&words, &wanted, sizeof words) == 0, "and of one that is refused");
+}
+
+static void no_ends(void)
+{
     uint8_t code = 5;
     demand(wulgach_extra_of(true, &code) == WULGACH_FORM_REFUSED && code == 255 && wulgach_extra_of(false, &code) == WULGACH_FORM_TOKEN && code == 0, "a completion that belongs to no end");
     demand(wulgach_told_of_end(true) == 0 && wulgach_told_of_end(false) == -9, "what it is told of an end");
     demand(wulgach_names_slot(7, 8) && !wulgach_names_slot(8, 8), "a slot");
+}
+
+/* One buffer is told as its piece is, and nothing after it. */
+static void one_buffers(void)
+{
+    enum { READ = 22, SETXATTR = 42 };
+    struct wulgach_piece piece;
     for (int code = 0; code < 256; code++) {
         struct wulgach_submission entry = {.opcode = (uint8_t)code, .flags = 32, .addr = 8, .len = 3};
         bool is_buffer = next(entry, 0, &piece) == 1 && piece.what == WULGACH_BUFFER, ends = next(entry, 1, &piece) == 0;
@@ -262,7 +278,7 @@ static void copy_pieces(void)
         bool has_one = wulgach_one_buffer(&entry, &one);
         demand(has_one ? is_buffer && ends && one.what == WULGACH_BUFFER && one.from == 8 && one.size == 3 : one.from == 1, "one buffer is told, and then nothing");
     }
-    demand(wulgach_one_buffer(&(struct wulgach_submission){.opcode = READ}, &piece) && !wulgach_one_buffer(&set, &piece), "a read has one buffer");
+    demand(wulgach_one_buffer(&(struct wulgach_submission){.opcode = READ}, &piece) && !wulgach_one_buffer(&(struct wulgach_submission){.opcode = SETXATTR, .len = 5}, &piece), "a read has one buffer");
 }
 
 /* As a real ring of Linux 6.18 ends entries with such a path or name. */
@@ -352,6 +368,9 @@ int main(void)
     find_in_turn();
     search_and_update();
     copy_pieces();
+    core_entries();
+    no_ends();
+    one_buffers();
     skip_after_faults();
     look_at_names();
     look_at_messages();

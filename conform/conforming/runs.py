@@ -7,7 +7,7 @@ from conforming import gaps
 from conforming.fill import Fill, GaveUp
 from conforming.linux import BEYOND
 from conforming.linux_fill import LinuxFill
-from conforming.seen import Look, events_of
+from conforming.seen import events_of
 from conforming.setup import Setup
 
 TOP = os.path.dirname(os.path.dirname(os.path.dirname(os.path.abspath(__file__))))

@@ -276,7 +276,7 @@ def search(crasher, run):
             disk.advance(moment)
             numbers = unsettled(disk)
             for at in range(min(tries, max(1, len(numbers))) if kind == "single" else tries):
-                lost = lost_by(disk, kind, at, numbers)
+                lost = lost_by(kind, at, numbers)
                 if crasher.is_over():
                     return None
                 if lost and crasher.verdict(image_of(disk, Chosen("lose", lost)), run.printed(moment))[0] != 0:
@@ -284,7 +284,7 @@ def search(crasher, run):
     return None
 
 
-def lost_by(disk, kind, at, numbers):
+def lost_by(kind, at, numbers):
     if kind == "least":
         return [(it,) for it in numbers]
     if kind == "single":

@@ -38,7 +38,7 @@ def of_run(run, moment, image, whole, status):
             lines.append(line_of(at, f"{NAMES[operation.kind]} of {path_of(disk, operation)} begins", [{"request": operation.number, "is": "accepted"}, {"request": operation.number, "is": "runs", "why": "runs"}]))
         for operation in ends.get(at, []):
             lines.append(line_of(at, f"operation {operation.number} ends", [{"request": operation.number, "is": "ended", "result": operation.result or 0}]))
-            lines[-1].update(answer=str(operation.result or 0), **state_of(disk, operation, moment))
+            lines[-1].update(answer=str(operation.result or 0), **state_of(disk, operation))
             if makes_safe(operation):
                 lines[-1]["changes"] += newly_safe(disk, begun, at, safe)
         if at in printed:
@@ -81,7 +81,7 @@ def request_of(disk, operation):
     return request
 
 
-def state_of(disk, operation, moment):
+def state_of(disk, operation):
     """How the file of an operation stands after it."""
     if operation.kind not in (*OF_FILES, SYNC) or operation.file not in disk.by_inode:
         return {}

@@ -6,7 +6,6 @@ A way is a letter, a ring and a request's number, as `liburing/layer/choices/out
 import collections
 
 READS, WRITES, NOTHING = (22, 1), (23, 2), (0, 3)
-SKIP_SUCCESS = 64
 
 Request = collections.namedtuple("Request", "code flags address offset length kind")
 Way = collections.namedtuple("Way", "letter ring number request is_silent")
