@@ -54,6 +54,27 @@ static void write_and_read(const int ends[2])
     check(write(ends[1], "b", 1) == 1 && read(ends[0], &byte, 1) == 1);
 }
 
+/* The poll of user data 1, whose descriptor is ready, gets another one, and is told by that at once. It is removed. */
+static void rename_poll(struct ring *ring)
+{
+    struct io_uring_sqe *change = put(ring, IORING_OP_POLL_REMOVE, 2, 0);
+    change->addr = 1;
+    change->off = 3;
+    change->len = IORING_POLL_UPDATE_USER_DATA;
+    check(enter(ring, 1, 0, 0) == 1);
+    bool is_told = false, is_done = false;
+    for (int i = 0; i < 2; i++) {
+        struct seen found = next_of(ring);
+        is_told |= found.user_data == 3 && found.res == POLLIN && found.flags == IORING_CQE_F_MORE;
+        is_done |= found.user_data == 2 && found.res == 0;
+    }
+    check(is_told && is_done);
+    put(ring, IORING_OP_POLL_REMOVE, 4, 0)->addr = 3;
+    check(enter(ring, 1, 0, 0) == 1);
+    next_of(ring);
+    next_of(ring);
+}
+
 /* An update changes what a poll waits for, and neither whether it goes on nor how: what is there is told at once, and again. */
 static void test_updated_polls(void)
 {
@@ -79,24 +100,8 @@ static void test_updated_polls(void)
             check(found.user_data == 1 && found.res == POLLIN && found.flags == (goes_on ? IORING_CQE_F_MORE : 0));
             check(round == 1 || read(ends[0], &byte, 1) == 1);
         }
-        if (goes_on) {
-            change = put(&ring, IORING_OP_POLL_REMOVE, 2, 0);
-            change->addr = 1;
-            change->off = 3;
-            change->len = IORING_POLL_UPDATE_USER_DATA;
-            check(enter(&ring, 1, 0, 0) == 1);
-            bool is_told = false, is_done = false;
-            for (int i = 0; i < 2; i++) {
-                struct seen found = next_of(&ring);
-                is_told |= found.user_data == 3 && found.res == POLLIN && found.flags == IORING_CQE_F_MORE;
-                is_done |= found.user_data == 2 && found.res == 0;
-            }
-            check(is_told && is_done);
-            put(&ring, IORING_OP_POLL_REMOVE, 4, 0)->addr = 3;
-            check(enter(&ring, 1, 0, 0) == 1);
-            next_of(&ring);
-            next_of(&ring);
-        }
+        if (goes_on)
+            rename_poll(&ring);
         close_pair(ends);
     }
     close_ring(&ring);
