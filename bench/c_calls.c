@@ -1,5 +1,5 @@
 /* The measures of `measures/` that cost least a step, through the library for C: the full path of a no-op, and each kind of
- * step behind 16 requests that run. Each line is a measure: its name, how many steps were timed, the nanoseconds that they
+ * step after 16 requests that run. Each line is a measure: its name, how many steps were timed, the nanoseconds that they
  * took, and a digest of their answers, made as `measures/` makes it. */
 #define _POSIX_C_SOURCE 200809L
 #include "wulgach.h"

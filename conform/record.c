@@ -9,21 +9,21 @@
  *   call N                           a call that submits N of it
  *   events                           a call that submits nothing and asks for events
  *   release UD                       writes a byte into that pipe
- *   head off, head on                from here on the head isn't stored behind a look, or is
+ *   head off, head on                from here on the head isn't stored after a look, or is
  *   wait N                           waits until N more completions are seen, or half a second has passed
  *
  * With the word `features` it writes what the ring says that it can do, as a number, and reads nothing.
  *
  * A first line `# setup --sq N --cq N --files N --stop` has the options of `uring`. What is seen is written a line each:
  *
- *   call ASKED RETURNED HEAD DROPPED     a call, what it returned, and the words head and dropped behind it
+ *   call ASKED RETURNED HEAD DROPPED     a call, what it returned, and the words head and dropped after it
  *   tail WORD                            a look at the completion ring, if something new is there
  *   cqe UD RES                           each completion that is new then
  *   head WORD                            the head was stored
  *   events                               the call just told, or to come, asked for events
  *   released UD                          a byte was written
  *
- * Behind the last line each pipe gets its byte, and the ring is looked at until nothing comes any more. The files are temporary
+ * After the last line each pipe gets its byte, and the ring is looked at until nothing comes any more. The files are temporary
  * ones without a name, and all ends with the process, also if it is killed.
  */
 #define _GNU_SOURCE
@@ -304,6 +304,57 @@ static bool faulty_item(char **words)
     return true;
 }
 
+/* A read that waits for the byte of a pipe, which a `release` writes. */
+static void hold_by(struct io_uring_sqe *it)
+{
+    if (hold_count == MOST_HOLDS)
+        stop(BAD_LINE, "too many holds");
+    struct hold *hold = &holds[hold_count++];
+    hold->user_data = it->user_data;
+    must(!pipe(hold->ends), "pipe");
+    it->opcode = IORING_OP_READ;
+    it->fd = hold->ends[0];
+    it->off = (uint64_t)-1;
+    it->len = 1;
+    it->addr = (uintptr_t)fresh_memory();
+}
+
+static void transfer_by(struct io_uring_sqe *it, unsigned char opcode, char **words)
+{
+    it->opcode = opcode;
+    it->fd = descriptor_of(words[3]);
+    it->off = strtoull(words[4], NULL, 10);
+    it->addr = (uintptr_t)fresh_memory();
+}
+
+/* Whether these words are one of the operations that the kernel serves. */
+static bool served_item(struct io_uring_sqe *it, int count, char **words)
+{
+    if (!strcmp(words[0], "nop") && count == 3) {
+        it->opcode = IORING_OP_NOP;
+    } else if (!strcmp(words[0], "fsync") && count == 4) {
+        it->opcode = IORING_OP_FSYNC;
+        it->fd = descriptor_of(words[3]);
+    } else if (!strcmp(words[0], "read") && count == 6 && atoi(words[5]) <= DATA) {
+        transfer_by(it, IORING_OP_READ, words);
+        it->len = (unsigned)atoi(words[5]);
+    } else if (!strcmp(words[0], "write") && count == 6 && strlen(words[5]) <= 2 * DATA) {
+        transfer_by(it, IORING_OP_WRITE, words);
+        it->len = strcmp(words[5], "-") ? (unsigned)strlen(words[5]) / 2 : 0;
+        for (unsigned at = 0; at < it->len; at++)
+            sscanf(words[5] + 2 * at, "%2hhx", (unsigned char *)(uintptr_t)it->addr + at);
+    } else if ((!strcmp(words[0], "cancel") || !strcmp(words[0], "cancelall")) && count == 4) {
+        it->opcode = IORING_OP_ASYNC_CANCEL;
+        it->addr = strtoull(words[3], NULL, 10);
+        it->cancel_flags = words[0][6] ? IORING_ASYNC_CANCEL_ALL : 0;
+    } else if (!strcmp(words[0], "hold") && count == 3) {
+        hold_by(it);
+    } else {
+        return false;
+    }
+    return true;
+}
+
 /* Stages the item that these words are, or says that they are none. */
 static bool item(int count, char **words)
 {
@@ -319,41 +370,7 @@ static bool item(int count, char **words)
         it.opcode = (unsigned char)atoi(words[1]);
         if (it.opcode < 100)
             stop(BAD_LINE, "an operation below 100, which the kernel may serve");
-    } else if (!strcmp(words[0], "nop") && count == 3) {
-        it.opcode = IORING_OP_NOP;
-    } else if (!strcmp(words[0], "fsync") && count == 4) {
-        it.opcode = IORING_OP_FSYNC;
-        it.fd = descriptor_of(words[3]);
-    } else if (!strcmp(words[0], "read") && count == 6 && atoi(words[5]) <= DATA) {
-        it.opcode = IORING_OP_READ;
-        it.fd = descriptor_of(words[3]);
-        it.off = strtoull(words[4], NULL, 10);
-        it.len = (unsigned)atoi(words[5]);
-        it.addr = (uintptr_t)fresh_memory();
-    } else if (!strcmp(words[0], "write") && count == 6 && strlen(words[5]) <= 2 * DATA) {
-        it.opcode = IORING_OP_WRITE;
-        it.fd = descriptor_of(words[3]);
-        it.off = strtoull(words[4], NULL, 10);
-        it.len = strcmp(words[5], "-") ? (unsigned)strlen(words[5]) / 2 : 0;
-        it.addr = (uintptr_t)fresh_memory();
-        for (unsigned at = 0; at < it.len; at++)
-            sscanf(words[5] + 2 * at, "%2hhx", (unsigned char *)(uintptr_t)it.addr + at);
-    } else if ((!strcmp(words[0], "cancel") || !strcmp(words[0], "cancelall")) && count == 4) {
-        it.opcode = IORING_OP_ASYNC_CANCEL;
-        it.addr = strtoull(words[3], NULL, 10);
-        it.cancel_flags = words[0][6] ? IORING_ASYNC_CANCEL_ALL : 0;
-    } else if (!strcmp(words[0], "hold") && count == 3) {
-        if (hold_count == MOST_HOLDS)
-            stop(BAD_LINE, "too many holds");
-        struct hold *hold = &holds[hold_count++];
-        hold->user_data = it.user_data;
-        must(!pipe(hold->ends), "pipe");
-        it.opcode = IORING_OP_READ;
-        it.fd = hold->ends[0];
-        it.off = (uint64_t)-1;
-        it.len = 1;
-        it.addr = (uintptr_t)fresh_memory();
-    } else {
+    } else if (!served_item(&it, count, words)) {
         return false;
     }
     stage(&it, 0);

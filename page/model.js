@@ -1,4 +1,4 @@
-// The data of a run as the page goes through them: for each request the spans of its states, for each line the counts behind it. Lines are known by their places, from 0 on.
+// The data of a run as the page goes through them: for each request the spans of its states, for each line the counts after it. Lines are known by their places, from 0 on.
 const data = JSON.parse(document.getElementById("data").textContent);
 const DATA_RUNS = data.runs || [data];
 const COUNTS = ["accepted", "ended", "running", "posted", "reaped", "overflow"];
@@ -159,7 +159,7 @@ function wordsOf(request) {
   return parts.join(" ");
 }
 
-// How each file stands behind a line, newest entry of each.
+// How each file stands after a line, newest entry of each.
 function filesAt(run, here) {
   const found = new Map();
   for (const file of run.files) {
@@ -169,7 +169,7 @@ function filesAt(run, here) {
   return [...found.values()].sort((one, other) => one.file - other.file);
 }
 
-// The state of a request behind a line.
+// The state of a request after a line.
 function stateAt(request, here) {
   if (here < request.from) return null;
   const span = request.spans.findLast(span => span.from <= here);

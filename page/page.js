@@ -167,7 +167,7 @@ function ends(ring) {
   return `head ${word("head")}, tail ${word("tail")}`;
 }
 
-// Which writes of a file are safe behind the chosen line, and which are not.
+// Which writes of a file are safe after the chosen line, and which are not.
 function safeOf(file) {
   const { run, here } = view;
   const writes = run.requests.filter(one => one.operation === "write" && one.file === file && one.until <= here && one.result > 0);
@@ -216,7 +216,7 @@ function tellChange(change) {
   }
 }
 
-// The requests that are on their way behind the chosen line, the first of them.
+// The requests that are on their way after the chosen line, the first of them.
 function standing() {
   const { run, here } = view;
   const items = [];
@@ -248,7 +248,7 @@ function lines() {
   clean(get("lines"), ...items);
 }
 
-// The next line behind the chosen one that changes something, or the one before it.
+// The next line after the chosen one that changes something, or the one before it.
 function nearest(isOn) {
   const { changed } = view.run;
   const found = isOn ? changed[firstFrom(changed, view.here + 1)] : changed[firstFrom(changed, view.here) - 1];
@@ -264,7 +264,7 @@ function zoom(factor) {
   draw();
 }
 
-// The next choice behind the chosen line that isn't in order, or the first one.
+// The next choice after the chosen line that isn't in order, or the first one.
 function nextChoice() {
   const choices = view.run.choices.filter(one => one.way);
   return (choices.find(one => one.place > view.here) || choices[0] || { place: view.here }).place;

@@ -12,12 +12,12 @@ def part(name):
 
 
 def halves():
-    """What stands before the data and behind them, without the comments of the scripts."""
+    """What stands before the data and after them, without the comments of the scripts."""
     page = part("page.html").replace("/*STYLE*/\n", part("page.css"))
     script = part("model.js") + part("draw.js") + part("page.js")
-    before, behind = page.split("/*DATA*/\n")
+    before, after = page.split("/*DATA*/\n")
     script = "".join(line for line in script.splitlines(keepends=True) if not line.lstrip().startswith("//"))
-    return before, behind.replace("/*SCRIPT*/\n", script)
+    return before, after.replace("/*SCRIPT*/\n", script)
 
 
 def text_of(data):
@@ -28,8 +28,8 @@ def text_of(data):
 
 def write(data, page=None, other=None):
     """Writes a page of the data to the one file, and the data alone to the other, if they are given."""
-    before, behind = halves()
-    for path, text in (page, before + text_of(data) + behind), (other, text_of(data)):
+    before, after = halves()
+    for path, text in (page, before + text_of(data) + after), (other, text_of(data)):
         if path:
             with open(path, "w", encoding="utf-8") as file:
                 file.write(text)

@@ -122,7 +122,7 @@ class Run:
         return (-114, []) if standing[named[0]] == "runs" else (0, named[:1])
 
     def carried_out(self, files, entry):
-        """What an operation ends with, its bytes, and the files behind it."""
+        """What an operation ends with, its bytes, and the files after it."""
         if entry.op == NOP:
             return 0, b"", files
         if not 0 <= entry.fd < len(files):
@@ -144,7 +144,7 @@ class Run:
         return files[:fd] + (file,) + files[fd + 1 :]
 
     def ended(self, state, n, result, data, chosen, files):
-        """The state behind an end, and what it posts."""
+        """The state after an end, and what it posts."""
         taken, standing, before, _ = state
         entry = self.entries[n]
         is_success = entry.is_success(result)

@@ -13,7 +13,7 @@ from outcomes import FSYNC, LARGEST, WRITE, Run, calls_of, completion_text
 
 
 def logged(run, standing, after, logs):
-    """What has happened to each file behind a move: (kind, request) in order, where a write begins as w and ends as e, and a sync as s and S."""
+    """What has happened to each file after a move: (kind, request) in order, where a write begins as w and ends as e, and a sync as s and S."""
     for n, now in enumerate(after):
         then = standing[n] if n < len(standing) else "waits"
         entry = run.entries[n]
@@ -33,7 +33,7 @@ def logged(run, standing, after, logs):
 
 
 class Volume:
-    """A file behind a log: its writes, which are safe, and which had ended when another began."""
+    """A file after a log: its writes, which are safe, and which had ended when another began."""
 
     def __init__(self, run, log):
         at = {event: time for time, event in enumerate(log)}
@@ -95,10 +95,10 @@ def lines_of(text, files=2, unit=1):
         for images in itertools.product(*(left(log) for log in logs)):
             lines.add(", ".join(completions + [f"file {fd} len {len(data)} data {data.hex() or '-'}" for fd, data in enumerate(images)]))
         for after, more in run.moves(state):
-            behind = (after, logged(run, state[1], after[1], logs), posted + more)
-            if behind not in seen:
-                seen.add(behind)
-                todo.append(behind)
+            reached = (after, logged(run, state[1], after[1], logs), posted + more)
+            if reached not in seen:
+                seen.add(reached)
+                todo.append(reached)
     return sorted(lines) + [f"crashes {len(lines)}"]
 
 

@@ -27,7 +27,7 @@ class Trace:
         self.rng = rng
         self.size = rng.choice([1, 1, 2, 4, 4, 8])
         self.lines = []
-        # Whether a call stops behind a faulty entry, and which slots were last filled with one.
+        # Whether a call stops after a faulty entry, and which slots were last filled with one.
         self.stops, self.faulty = rng.random() < 0.4, set()
         # The words staged, the positions published and those of the open call, in order, and how many entries were accepted. A position is its word, and whether its entry is faulty.
         self.staged, self.published, self.call, self.accepted = [], [], None, 0
@@ -190,7 +190,7 @@ class Trace:
     def make(self, count):
         moves = [self.fill, self.index, self.tail, self.begin, self.take, self.end, self.submit, self.work, self.settle, self.reap, self.odd]
         weights = [3, 3, 2, 2, 2, 2, 6, 8, 3, 6, 2]
-        # How often the ring is still to be closed: near the end, and once more behind that.
+        # How often the ring is still to be closed: near the end, and once more after that.
         closing = 2 if self.rng.random() < 0.2 else 0
         while len(self.lines) < count:
             self.rng.choices(moves, weights)[0]()

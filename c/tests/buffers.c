@@ -43,7 +43,7 @@ static void take_from_a_list(void)
     demand(!provide(3, 1) && group.count == 2 && wulgach_group_room(&group, 3, room) == 10 && wulgach_group_room(&group, 2, room) == 4, "no room");
     demand(provide(2, 1) && group.first == 0 && taken() == 8 && taken() == 9 && taken() == 1 && taken() == 2 && taken() == -105, "in their order");
     room = MOST;
-    demand(provide(10, 20) && wulgach_group_removing_fault(&group) == 0 && wulgach_group_remove(&group, 4) == 4 && taken() == 24, "behind those that were removed");
+    demand(provide(10, 20) && wulgach_group_removing_fault(&group) == 0 && wulgach_group_remove(&group, 4) == 4 && taken() == 24, "after those that were removed");
     demand(wulgach_group_remove(&group, 100) == 5 && wulgach_group_remove(&group, 1) == 0 && taken() == -105 && wulgach_group_removing_fault(&group) == 0, "all are removed");
     demand(provide(1, 65535) && taken() == 65535, "the last number");
 }
@@ -97,7 +97,7 @@ static void take_from_a_ring(void)
         demand(!wulgach_group_cell(&group, true, (uint16_t)(i + 1), &cell), "all are taken");
     }
     wulgach_group_unregister(&group);
-    demand(wulgach_group_unregistering_fault(&group) == -2 && wulgach_group_removing_fault(&group) == -2 && taken() == -105, "behind its ring");
+    demand(wulgach_group_unregistering_fault(&group) == -2 && wulgach_group_removing_fault(&group) == -2 && taken() == -105, "after its ring");
     wulgach_group_register(&group, 32768);
     demand(wulgach_group_cell(&group, true, 1, &cell) && cell == 0 && !wulgach_group_cell(&group, true, 0, &cell), "another ring");
     struct wulgach_buffer stands = {.address = 16, .length = 5, .id = 9}, found = {.id = 1};

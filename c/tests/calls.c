@@ -257,10 +257,10 @@ static void look_at_opens(void)
     demand(wulgach_asks_list_of_locks(&layers) && wulgach_asks_list_of_locks(&whole) && !wulgach_asks_list_of_locks(&own) && !wulgach_asks_list_of_locks(&unlocked) && wulgach_asks_list_of_locks(&untold), "when the list of locks is read");
 }
 
-static bool is_told(const struct wulgach_received *received, uint32_t behind, uint64_t value, size_t offset, size_t size)
+static bool is_told(const struct wulgach_received *received, uint32_t after, uint64_t value, size_t offset, size_t size)
 {
     struct wulgach_field field;
-    return wulgach_next_told(received, behind, &field) && field.value == value && field.offset == offset && field.size == size;
+    return wulgach_next_told(received, after, &field) && field.value == value && field.offset == offset && field.size == size;
 }
 
 static void look_at_messages(void)

@@ -70,7 +70,7 @@ static void compare(void)
 /* What a cancel comes before. */
 static void order(void)
 {
-    demand(wulgach_is_taken_after(3, false, false, 4) && !wulgach_is_taken_after(4, false, false, 3) && !wulgach_is_taken_after(3, true, false, 4) && !wulgach_is_taken_after(3, false, true, 4), "what is taken behind a cancel");
+    demand(wulgach_is_taken_after(3, false, false, 4) && !wulgach_is_taken_after(4, false, false, 3) && !wulgach_is_taken_after(3, true, false, 4) && !wulgach_is_taken_after(3, false, true, 4), "what is taken after a cancel");
     demand(wulgach_comes_late(14, true) && wulgach_comes_late(7, true) && wulgach_comes_late(12, true) && !wulgach_comes_late(14, false) && !wulgach_comes_late(22, true), "what comes late");
     demand(wulgach_is_issued_before(14, 3, true, true, 4) && !wulgach_is_issued_before(14, 3, true, false, 4) && !wulgach_is_issued_before(14, 4, true, true, 3), "what is issued before it");
 }

@@ -73,7 +73,7 @@ static void cancel_a_part(void)
     struct wulgach_course course = started();
     int32_t res;
     demand(wulgach_course_act(&course, &res) == WULGACH_ACT_CARRY_OUT && wulgach_course_note(&course, WULGACH_FACT_WAITS, 5) && course.moved == 5, "a part");
-    demand(wulgach_course_note(&course, WULGACH_FACT_CANCELLED, 0) && wulgach_course_act(&course, &res) == WULGACH_ACT_END && res == 5, "a cancel behind it");
+    demand(wulgach_course_note(&course, WULGACH_FACT_CANCELLED, 0) && wulgach_course_act(&course, &res) == WULGACH_ACT_END && res == 5, "a cancel after it");
     course = started();
     demand(wulgach_course_act(&course, &res) == WULGACH_ACT_CARRY_OUT && wulgach_course_note(&course, WULGACH_FACT_WAITS, 5) && wulgach_course_act(&course, &res) == WULGACH_ACT_CARRY_OUT, "another try");
     demand(wulgach_course_note(&course, WULGACH_FACT_WENT_ON, 0) && wulgach_course_note(&course, WULGACH_FACT_CANCELLED, 0) && wulgach_course_act(&course, &res) == WULGACH_ACT_END && res == -125, "that had a completion of its own");
@@ -139,8 +139,8 @@ static void judge_results(void)
     demand(wulgach_completion_flags(WULGACH_PART_EVENT, 1) == 3 && wulgach_completion_flags(WULGACH_PART_SENT, 0) == 2 && wulgach_completion_flags(WULGACH_PART_NOTICE, 0) == 8, "more follow, or memory is free");
     demand(wulgach_completion_flags(WULGACH_PART_OWN, 1) == 1, "an end");
     demand(wulgach_untold_after(WULGACH_PART_EVENT, 65537) == 0 && wulgach_untold_after(WULGACH_PART_OWN, 65537) == 0 && wulgach_untold_after(WULGACH_PART_SENT, 65537) == 65537, "a buffer that was told");
-    demand(wulgach_after_try(false, true) == 1 << WULGACH_TRIED_WAITS && wulgach_after_try(false, false) == 1 << WULGACH_TRIED_ASKS_GOING_ON, "behind what would wait, and what came to a result");
-    demand(wulgach_after_try(true, true) == (1 << WULGACH_TRIED_LOOKS_AFRESH | 1 << WULGACH_TRIED_WAITS), "behind what makes others ready");
+    demand(wulgach_after_try(false, true) == 1 << WULGACH_TRIED_WAITS && wulgach_after_try(false, false) == 1 << WULGACH_TRIED_ASKS_GOING_ON, "after what would wait, and what came to a result");
+    demand(wulgach_after_try(true, true) == (1 << WULGACH_TRIED_LOOKS_AFRESH | 1 << WULGACH_TRIED_WAITS), "after what makes others ready");
     struct wulgach_ended_early faulty = {.is_faulty = true, .fault = -14}, cancel = {.is_cancel = true, .has_cancelled = true}, late = {.is_cancel = true};
     struct wulgach_ended_early fired = {.is_linked_timeout = true, .has_fired = true}, idle = {.is_linked_timeout = true};
     demand(wulgach_shown_of(&faulty, -22) == -14 && wulgach_shown_of(&faulty, -125) == -125, "an entry with a fault");
@@ -155,7 +155,7 @@ static void look_after_cancels(void)
     demand(wulgach_sought_after(&cancel, -114) == WULGACH_SEEKS_RUNNING && wulgach_sought_after(&other, -114) == WULGACH_SEEKS_NO_MORE, "what runs");
     demand(wulgach_sought_after(&cancel, -2) == WULGACH_SEEKS_NEXT && wulgach_sought_after(&other, -2) == WULGACH_SEEKS_NO_MORE, "what could start");
     cancel.has_looked = true;
-    demand(wulgach_sought_after(&cancel, -114) == WULGACH_SEEKS_NO_MORE && wulgach_sought_after(&cancel, -2) == WULGACH_SEEKS_NEXT, "what comes behind those that run");
+    demand(wulgach_sought_after(&cancel, -114) == WULGACH_SEEKS_NO_MORE && wulgach_sought_after(&cancel, -2) == WULGACH_SEEKS_NEXT, "what comes after those that run");
     cancel.linux_rules = false;
     demand(wulgach_sought_after(&cancel, -2) == WULGACH_SEEKS_NO_MORE, "by the manual pages' rules");
     cancel.linux_rules = cancel.has_cancelled = true;

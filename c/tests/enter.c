@@ -205,10 +205,10 @@ static void take_in_rounds(void)
     int64_t submitted = 99;
     wulgach_rounds_begin(&rounds, 5);
     check(wulgach_round_takes(&rounds) == UINT32_MAX, "a round takes all that is published");
-    check(wulgach_rounds_go_on(&rounds, &any, &submitted) && submitted == 99, "behind a position there is one more round");
-    check(!wulgach_rounds_go_on(&rounds, &none, &submitted) && submitted == 5, "behind none there isn't");
+    check(wulgach_rounds_go_on(&rounds, &any, &submitted) && submitted == 99, "after a position there is one more round");
+    check(!wulgach_rounds_go_on(&rounds, &none, &submitted) && submitted == 5, "after none there isn't");
     submitted = 99;
-    check(!wulgach_rounds_go_on(&rounds, &refused, &submitted) && submitted == 5, "a refusal behind a position");
+    check(!wulgach_rounds_go_on(&rounds, &refused, &submitted) && submitted == 5, "a refusal after a position");
     wulgach_rounds_begin(&rounds, 5);
     check(!wulgach_rounds_go_on(&rounds, &refused, &submitted) && submitted == -11, "a refusal before any");
 }
@@ -238,7 +238,7 @@ static void reach_rings(void)
     check(wulgach_entering_next(1 | 2 | 4 | 8, WULGACH_AT_FIRST, 0) == WULGACH_CHECKS_DESCRIPTOR, "a descriptor");
     check(wulgach_entering_next(16 | 1, WULGACH_AT_FIRST, 0) == WULGACH_CHECKS_NUMBER, "a number");
     check(wulgach_entering_next(16 | 32, WULGACH_AT_FIRST, 0) == -22 && wulgach_entering_next(1u << 31, WULGACH_AT_FIRST, 0) == -22, "an unknown flag");
-    check(wulgach_entering_next(16, WULGACH_CHECKS_NUMBER, 7) == WULGACH_CHECKS_DESCRIPTOR && wulgach_entering_next(0, WULGACH_CHECKS_DESCRIPTOR, 0) == WULGACH_COUNTS_CALL && wulgach_entering_next(0, WULGACH_COUNTS_CALL, 0) == WULGACH_CHECKS_CALLER && wulgach_entering_next(0, WULGACH_CHECKS_CALLER, 0) == PASSES, "one behind the other");
+    check(wulgach_entering_next(16, WULGACH_CHECKS_NUMBER, 7) == WULGACH_CHECKS_DESCRIPTOR && wulgach_entering_next(0, WULGACH_CHECKS_DESCRIPTOR, 0) == WULGACH_COUNTS_CALL && wulgach_entering_next(0, WULGACH_COUNTS_CALL, 0) == WULGACH_CHECKS_CALLER && wulgach_entering_next(0, WULGACH_CHECKS_CALLER, 0) == PASSES, "one after the other");
     check(wulgach_entering_next(8, WULGACH_CHECKS_CALLER, 0) == (PASSES | WULGACH_HAS_STRUCTURE) && wulgach_entering_next(7, WULGACH_CHECKS_CALLER, 0) == PASSES, "a structure");
     check(wulgach_entering_next(0, WULGACH_CHECKS_CALLER, -77) == -77, "the first fault");
     check(wulgach_registering_next(false, WULGACH_AT_FIRST, 0) == WULGACH_CHECKS_DESCRIPTOR && wulgach_registering_next(true, WULGACH_CHECKS_DESCRIPTOR, 0) == WULGACH_COUNTS_CALL && wulgach_registering_next(false, WULGACH_CHECKS_DESCRIPTOR, 0) == WULGACH_CHECKS_CALLER && wulgach_registering_next(true, WULGACH_CHECKS_CALLER, 0) == WULGACH_CHECKS_ARGUMENT && wulgach_registering_next(true, WULGACH_CHECKS_ARGUMENT, 0) == PASSES, "a registration");

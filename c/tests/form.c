@@ -200,7 +200,7 @@ static void be_strict(void)
     demand(wulgach_strict_refusal(&strict, &drain, true, false, true, true) == 0 && wulgach_strict_refusal(&strict, &none, true, false, false, true) == -22, "a drain, an unknown operation");
     demand(wulgach_strict_refusal(&strict, &skip, true, false, true, false) == -22 && wulgach_strict_refusal(&strict, &drain, true, false, true, true) == 0, "a flag that isn't known");
     demand(wulgach_strict_refusal(&strict, &selects, true, false, true, true) == -95 && wulgach_strict_refusal(&strict, &wrong, true, false, true, true) == -22 && wulgach_strict_refusal(&strict, &drain, true, false, true, true) == 0, "faults that go before");
-    demand(wulgach_strict_refusal(&strict, &both, true, false, true, true) == -95 && wulgach_strict_refusal(&strict, &drain, true, false, true, true) == -95 && wulgach_strict_refusal(&strict, &skip, true, false, true, true) == 0, "a drain behind a skip");
+    demand(wulgach_strict_refusal(&strict, &both, true, false, true, true) == -95 && wulgach_strict_refusal(&strict, &drain, true, false, true, true) == -95 && wulgach_strict_refusal(&strict, &skip, true, false, true, true) == 0, "a drain after a skip");
 }
 
 static void have_room(void)

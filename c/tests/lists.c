@@ -20,7 +20,7 @@ static void read_structures(void)
     wulgach_content_of_cancel(&(struct wulgach_cancel_form){.pad = 255}, &content);
     demand(!content.has_reserved, "an operation's code");
     wulgach_content_of_cancel(&(struct wulgach_cancel_form){.pad = 256}, &content);
-    demand(content.has_reserved, "what stands behind it");
+    demand(content.has_reserved, "what stands after it");
     static const uint8_t probe[32] = {[31] = 1};
     wulgach_content_of_probe(probe, 32, &content);
     demand(content.nr == 0 && content.flags == 0 && content.has_reserved && !content.has_data, "a probe");

@@ -25,18 +25,18 @@ static void pass_over(void)
     static const struct wulgach_end_of_one plain = {0}, counted = {.is_count_reached = true}, drained = {.has_drains = true};
     struct wulgach_lookout lookout = waiting(5);
     wulgach_lookout_starts(&lookout, 5);
-    demand(lookout.count == 5, "one behind all others");
+    demand(lookout.count == 5, "one after all others");
     wulgach_lookout_leaves(&lookout, 5);
     wulgach_lookout_ends(&lookout, &plain);
     demand(lookout.count == 5, "an end that lets none go on");
     wulgach_lookout_updates(&lookout, 4, false);
-    demand(lookout.count == 5, "one that waits behind its update");
+    demand(lookout.count == 5, "one that waits after its update");
     wulgach_lookout_updates(&lookout, 4, true);
-    demand(lookout.count == 4, "one that needn't wait behind its update");
+    demand(lookout.count == 4, "one that needn't wait after its update");
     wulgach_lookout_touches(&lookout, 3);
     demand(lookout.count == 3, "one that is cancelled is looked at again");
     wulgach_lookout_leaves(&lookout, 1);
-    demand(lookout.count == 1, "those behind one that has left are looked at again");
+    demand(lookout.count == 1, "those after one that has left are looked at again");
     lookout = waiting(5);
     wulgach_lookout_ends(&lookout, &counted);
     demand(lookout.count == 0, "a count that is reached");
@@ -72,6 +72,22 @@ static void find_waiting(struct wulgach_waiter *waiter, const struct wulgach_loo
 
 #define BIT(duty) (1u << (duty))
 
+/* What a request does as it starts, and whether it lies down. */
+static void look_at_starts(void)
+{
+    static const struct wulgach_standing none = {0};
+    demand(wulgach_lies_down(&stream, &no_needs, &runs, true, false) && !wulgach_lies_down(&none, &no_needs, &runs, true, false) && !wulgach_lies_down(&stream, &no_needs, &is_cancelled, true, false), "one that waits for its descriptor alone");
+    demand(!wulgach_lies_down(&stream, &no_needs, &runs, false, false) && !wulgach_lies_down(&stream, &no_needs, &runs, true, true), "whose descriptor is unready, and which an instance takes");
+    enum { EARLIER = 1 << WULGACH_FINDS_EARLIER, OWN = 1 << WULGACH_FINDS_OWN, TIME = 1 << WULGACH_BEGINS_TIME, UP = 1 << WULGACH_LOOKS_UP, EVENTS = 1 << WULGACH_ASKS_EVENTS, LOOKS = 1 << WULGACH_LOOKS, BUFFER = 1 << WULGACH_SEEKS_BUFFER };
+    struct wulgach_submission receive = {.opcode = 27}, open = {.opcode = 28, .op_flags = 2};
+    demand(wulgach_steps_at_start(&receive, 64, true) == (EARLIER | TIME) && wulgach_steps_at_start(&receive, 64, false) == (EARLIER | OWN | TIME) && EARLIER < OWN && OWN < TIME && TIME < UP && UP < EVENTS && EVENTS < LOOKS && LOOKS < BUFFER, "what is done as one starts");
+    demand(wulgach_lets_start(WULGACH_MAY_START) && wulgach_lets_start(WULGACH_DOOMED) && !wulgach_lets_start(WULGACH_WAITS) && !wulgach_lets_start(WULGACH_RUNS) && !wulgach_lets_start(WULGACH_HAS_ENDED) && !wulgach_lets_start(WULGACH_NEVER_ACCEPTED), "whom the core lets start");
+    demand(wulgach_steps_at_start(&open, 64, true) == (EARLIER | TIME | UP) && wulgach_steps_at_start(&open, 0, true) == (EARLIER | TIME), "a path is looked up");
+    demand(wulgach_steps_after_files(&none, &(struct wulgach_needs){.is_poll = true}, 0) == EVENTS && wulgach_steps_after_files(&stream, &(struct wulgach_needs){.is_poll = true}, -9) == LOOKS && wulgach_steps_after_files(&none, &no_needs, 0) == 0, "a poll that hasn't failed asks for its events");
+    demand(wulgach_steps_after_files(&stream, &(struct wulgach_needs){.selects = true}, 0) == (LOOKS | BUFFER) && wulgach_steps_after_files(&none, &(struct wulgach_needs){.selects = true}, 0) == 0, "and what may wait looks for its buffer");
+    demand(!wulgach_lies_down(&stream, &(struct wulgach_needs){.selects = true}, &runs, true, false) && !wulgach_lies_down(&stream, &(struct wulgach_needs){.is_timeout = true}, &runs, true, false) && !wulgach_lies_down(&stream, &(struct wulgach_needs){.needs_second = true}, &runs, true, false), "and one that doesn't");
+}
+
 static void ask_again(void)
 {
     static const struct wulgach_end_of_one plain = {0}, counted = {.is_count_reached = true};
@@ -94,16 +110,6 @@ static void ask_again(void)
     find_waiting(&waiter, &lookout);
     wulgach_waiter_meets_cancel(&waiter);
     demand(wulgach_can_finish(&waiter, &lookout, &none, &no_needs, &is_cancelled, &unknown) == WULGACH_LOOK_FINISHES, "one that a cancel has found");
-    demand(wulgach_lies_down(&stream, &no_needs, &runs, true, false) && !wulgach_lies_down(&none, &no_needs, &runs, true, false) && !wulgach_lies_down(&stream, &no_needs, &is_cancelled, true, false), "one that waits for its descriptor alone");
-    demand(!wulgach_lies_down(&stream, &no_needs, &runs, false, false) && !wulgach_lies_down(&stream, &no_needs, &runs, true, true), "whose descriptor is unready, and which an instance takes");
-    enum { EARLIER = 1 << WULGACH_FINDS_EARLIER, OWN = 1 << WULGACH_FINDS_OWN, TIME = 1 << WULGACH_BEGINS_TIME, UP = 1 << WULGACH_LOOKS_UP, EVENTS = 1 << WULGACH_ASKS_EVENTS, LOOKS = 1 << WULGACH_LOOKS, BUFFER = 1 << WULGACH_SEEKS_BUFFER };
-    struct wulgach_submission receive = {.opcode = 27}, open = {.opcode = 28, .op_flags = 2};
-    demand(wulgach_steps_at_start(&receive, 64, true) == (EARLIER | TIME) && wulgach_steps_at_start(&receive, 64, false) == (EARLIER | OWN | TIME) && EARLIER < OWN && OWN < TIME && TIME < UP && UP < EVENTS && EVENTS < LOOKS && LOOKS < BUFFER, "what is done as one starts");
-    demand(wulgach_lets_start(WULGACH_MAY_START) && wulgach_lets_start(WULGACH_DOOMED) && !wulgach_lets_start(WULGACH_WAITS) && !wulgach_lets_start(WULGACH_RUNS) && !wulgach_lets_start(WULGACH_HAS_ENDED) && !wulgach_lets_start(WULGACH_NEVER_ACCEPTED), "whom the core lets start");
-    demand(wulgach_steps_at_start(&open, 64, true) == (EARLIER | TIME | UP) && wulgach_steps_at_start(&open, 0, true) == (EARLIER | TIME), "a path is looked up");
-    demand(wulgach_steps_after_files(&none, &(struct wulgach_needs){.is_poll = true}, 0) == EVENTS && wulgach_steps_after_files(&stream, &(struct wulgach_needs){.is_poll = true}, -9) == LOOKS && wulgach_steps_after_files(&none, &no_needs, 0) == 0, "a poll that hasn't failed asks for its events");
-    demand(wulgach_steps_after_files(&stream, &(struct wulgach_needs){.selects = true}, 0) == (LOOKS | BUFFER) && wulgach_steps_after_files(&none, &(struct wulgach_needs){.selects = true}, 0) == 0, "and what may wait looks for its buffer");
-    demand(!wulgach_lies_down(&stream, &(struct wulgach_needs){.selects = true}, &runs, true, false) && !wulgach_lies_down(&stream, &(struct wulgach_needs){.is_timeout = true}, &runs, true, false) && !wulgach_lies_down(&stream, &(struct wulgach_needs){.needs_second = true}, &runs, true, false), "and one that doesn't");
     wulgach_waiter_waits(&other, &lookout);
     demand(ask(&other, &lookout, &ready) == WULGACH_LOOK_WAITS, "one that would have waited");
     wulgach_lookout_moves(&lookout);
@@ -302,15 +308,16 @@ static void miss(void)
 static void follow(void)
 {
     const uint32_t always = BIT(WULGACH_END_KEEPS) | BIT(WULGACH_END_COUNTS) | BIT(WULGACH_END_STOPS_TIMEOUT) | BIT(WULGACH_END_LOOKS_AT_COUNTS) | BIT(WULGACH_END_LOOKS_BEHIND) | BIT(WULGACH_END_LETS_START) | BIT(WULGACH_END_LEAVES) | BIT(WULGACH_END_HAS_ENDS);
-    demand(wulgach_duties_after_end(false, false, false, false) == always, "behind each end");
-    demand(wulgach_duties_after_end(true, false, false, false) == (always | BIT(WULGACH_END_UNWATCHES)) && wulgach_duties_after_end(false, true, false, false) == (always | BIT(WULGACH_END_UNWATCHES)), "behind that of one with a file");
-    demand(wulgach_duties_after_end(false, false, true, false) == (always | BIT(WULGACH_END_FORGETS)) && wulgach_duties_after_end(false, false, false, true) == (always | BIT(WULGACH_END_ENDS_DRAIN)), "behind others");
+    demand(wulgach_duties_after_end(false, false, false, false) == always, "after each end");
+    demand(wulgach_duties_after_end(true, false, false, false) == (always | BIT(WULGACH_END_UNWATCHES)) && wulgach_duties_after_end(false, true, false, false) == (always | BIT(WULGACH_END_UNWATCHES)), "after that of one with a file");
+    demand(wulgach_duties_after_end(false, false, true, false) == (always | BIT(WULGACH_END_FORGETS)) && wulgach_duties_after_end(false, false, false, true) == (always | BIT(WULGACH_END_ENDS_DRAIN)), "after others");
 }
 
 int main(void)
 {
     pass_over();
     ask_again();
+    look_at_starts();
     look_afresh();
     wake();
     tell_of_writes();

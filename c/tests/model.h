@@ -286,8 +286,8 @@ static void check_issuable(struct wulgach_machine *machine, struct wulgach_core 
     const uint64_t past[] = {next, m->accepted, UINT64_MAX};
     for (int i = 0; i < 3; i++) {
         uint64_t number = 99;
-        check(wulgach_core_next_issuable(core, past[i], &number) == -2 && number == 99, "none behind the last of a core");
-        check(wulgach_machine_next_issuable(machine, past[i], &number) == -2 && number == 99, "none behind the last of a machine");
+        check(wulgach_core_next_issuable(core, past[i], &number) == -2 && number == 99, "none after the last of a core");
+        check(wulgach_machine_next_issuable(machine, past[i], &number) == -2 && number == 99, "none after the last of a machine");
     }
     const uint64_t places[] = {count, count + 1, UINT64_MAX};
     for (int i = 0; i < 3; i++) {

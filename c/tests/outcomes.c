@@ -57,6 +57,18 @@ static struct wulgach_outcomes found(size_t total, const struct wulgach_entry *e
     return outcomes;
 }
 
+/* How many of the outcomes are this one, in words. */
+static unsigned times_of(struct wulgach_outcomes *outcomes, uint64_t count, const char *wanted)
+{
+    unsigned times = 0;
+    for (uint64_t at = 0; at < count; at++) {
+        char text[256] = "";
+        tell(outcomes, at, text);
+        times += strcmp(text, wanted) == 0;
+    }
+    return times;
+}
+
 /* Calls, each with its outcomes in words, which are those of PROTOCOL.md; the order among them is free. */
 static void by_hand(void)
 {
@@ -90,12 +102,7 @@ static void by_hand(void)
         bool is_all;
         check(wulgach_outcomes_count(&outcomes, &count, &is_all) == 0, "count");
         for (; wanted < 3 && cases[i].outcomes[wanted] != NULL; wanted++) {
-            unsigned times = 0;
-            for (uint64_t at = 0; at < count; at++) {
-                char text[256] = "";
-                tell(&outcomes, at, text);
-                times += strcmp(text, cases[i].outcomes[wanted]) == 0;
-            }
+            unsigned times = times_of(&outcomes, count, cases[i].outcomes[wanted]);
             if (times != 1)
                 fprintf(stderr, "outcomes: case %zu: '%s' comes %u times\n", i, cases[i].outcomes[wanted], times);
             check(times == 1, "each outcome once");

@@ -118,71 +118,99 @@ static uint64_t random_offset(void)
     }
 }
 
+/* What an entry is to have, whatever its operation. */
+struct drawn {
+    uint64_t user_data, off;
+    uint8_t flags;
+    int32_t fd;
+};
+
+/* The beginning of an entry's line. */
+static void print_drawn(FILE *lines, const char *operation, const struct drawn *drawn)
+{
+    fprintf(lines, "%s %" PRIu64 " ", operation, drawn->user_data);
+    print_flags(lines, drawn->flags);
+}
+
+static void fill_read(FILE *lines, uint64_t *entry, const struct drawn *drawn)
+{
+    uint32_t len = below(68);
+    wulgach_read(entry, drawn->user_data, drawn->flags, drawn->fd, drawn->off, len);
+    print_drawn(lines, "read", drawn);
+    fprintf(lines, " %" PRId32 " %" PRIu64 " %" PRIu32, drawn->fd, drawn->off, len);
+}
+
+static void fill_write(FILE *lines, uint64_t *entry, const struct drawn *drawn)
+{
+    uint32_t len = below(65);
+    uint8_t bytes[64];
+    for (int i = 0; i < 64; i++)
+        bytes[i] = (uint8_t)roll();
+    wulgach_write(entry, drawn->user_data, drawn->flags, drawn->fd, drawn->off, bytes, len);
+    print_drawn(lines, "write", drawn);
+    fprintf(lines, " %" PRId32 " %" PRIu64 " ", drawn->fd, drawn->off);
+    for (uint32_t i = 0; i < len; i++)
+        fprintf(lines, "%02x", bytes[i]);
+    if (len == 0)
+        fputc('-', lines);
+}
+
+static void fill_cancel(FILE *lines, uint64_t *entry, const struct drawn *drawn)
+{
+    uint64_t target = below(8);
+    int is_of_all = is_one_in(2);
+    (is_of_all ? wulgach_cancel_all : wulgach_cancel)(entry, drawn->user_data, drawn->flags, target);
+    print_drawn(lines, is_of_all ? "cancelall" : "cancel", drawn);
+    fprintf(lines, " %" PRIu64, target);
+}
+
+/* Words that may be of no operation. */
+static void fill_raw(FILE *lines, uint64_t *entry, const struct drawn *drawn)
+{
+    wulgach_nop(entry, drawn->user_data, drawn->flags);
+    if (is_one_in(2))
+        entry[below(16)] = roll();
+    else
+        for (int i = 0; i < 16; i++)
+            entry[i] = roll();
+    fputs("raw ", lines);
+    for (int i = 0; i < 128; i++)
+        fprintf(lines, "%02x", (unsigned)(entry[i / 8] >> i % 8 * 8 & 0xff));
+}
+
 static void fill(FILE *lines, struct wulgach_step *step, uint32_t sq, uint32_t files)
 {
+    struct drawn drawn;
     step->kind = WULGACH_FILL;
     step->word = is_one_in(15) ? (uint32_t)roll() : below(sq + 1);
-    uint64_t user_data = is_one_in(20) ? roll() : below(8);
-    uint8_t flags = random_flags();
-    int32_t fd = is_one_in(12) ? (int32_t)(uint32_t)roll() : (int32_t)below(files + 1);
-    uint64_t off = random_offset();
+    drawn.user_data = is_one_in(20) ? roll() : below(8);
+    drawn.flags = random_flags();
+    drawn.fd = is_one_in(12) ? (int32_t)(uint32_t)roll() : (int32_t)below(files + 1);
+    drawn.off = random_offset();
     fprintf(lines, "fill %" PRIu32 " ", step->word);
     switch (below(8)) {
     case 0:
-        wulgach_nop(step->entry, user_data, flags);
-        fprintf(lines, "nop %" PRIu64 " ", user_data);
-        print_flags(lines, flags);
+        wulgach_nop(step->entry, drawn.user_data, drawn.flags);
+        print_drawn(lines, "nop", &drawn);
         break;
     case 1:
-        wulgach_fsync(step->entry, user_data, flags, fd);
-        fprintf(lines, "fsync %" PRIu64 " ", user_data);
-        print_flags(lines, flags);
-        fprintf(lines, " %" PRId32, fd);
+        wulgach_fsync(step->entry, drawn.user_data, drawn.flags, drawn.fd);
+        print_drawn(lines, "fsync", &drawn);
+        fprintf(lines, " %" PRId32, drawn.fd);
         break;
     case 2:
-    case 3: {
-        uint32_t len = below(68);
-        wulgach_read(step->entry, user_data, flags, fd, off, len);
-        fprintf(lines, "read %" PRIu64 " ", user_data);
-        print_flags(lines, flags);
-        fprintf(lines, " %" PRId32 " %" PRIu64 " %" PRIu32, fd, off, len);
+    case 3:
+        fill_read(lines, step->entry, &drawn);
         break;
-    }
     case 4:
-    case 5: {
-        uint32_t len = below(65);
-        uint8_t bytes[64];
-        for (int i = 0; i < 64; i++)
-            bytes[i] = (uint8_t)roll();
-        wulgach_write(step->entry, user_data, flags, fd, off, bytes, len);
-        fprintf(lines, "write %" PRIu64 " ", user_data);
-        print_flags(lines, flags);
-        fprintf(lines, " %" PRId32 " %" PRIu64 " ", fd, off);
-        for (uint32_t i = 0; i < len; i++)
-            fprintf(lines, "%02x", bytes[i]);
-        if (len == 0)
-            fputc('-', lines);
+    case 5:
+        fill_write(lines, step->entry, &drawn);
         break;
-    }
-    case 6: {
-        uint64_t target = below(8);
-        int is_of_all = is_one_in(2);
-        (is_of_all ? wulgach_cancel_all : wulgach_cancel)(step->entry, user_data, flags, target);
-        fprintf(lines, "%s %" PRIu64 " ", is_of_all ? "cancelall" : "cancel", user_data);
-        print_flags(lines, flags);
-        fprintf(lines, " %" PRIu64, target);
+    case 6:
+        fill_cancel(lines, step->entry, &drawn);
         break;
-    }
     default:
-        wulgach_nop(step->entry, user_data, flags);
-        if (is_one_in(2))
-            step->entry[below(16)] = roll();
-        else
-            for (int i = 0; i < 16; i++)
-                step->entry[i] = roll();
-        fputs("raw ", lines);
-        for (int i = 0; i < 128; i++)
-            fprintf(lines, "%02x", (unsigned)(step->entry[i / 8] >> i % 8 * 8 & 0xff));
+        fill_raw(lines, step->entry, &drawn);
     }
     fputc('\n', lines);
 }

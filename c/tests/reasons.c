@@ -144,7 +144,7 @@ static void waits(void)
     struct both both = both_new();
     submit(&both, entries, 3);
     stands(&both, 1, WULGACH_WAITS, WULGACH_OWN_DRAINS, 0, 0, "a request that drains");
-    stands(&both, 2, WULGACH_WAITS, WULGACH_IT_DRAINS, 0, 1, "a request behind one that drains");
+    stands(&both, 2, WULGACH_WAITS, WULGACH_IT_DRAINS, 0, 1, "a request after one that drains");
     both_free(&both);
 }
 

@@ -114,7 +114,7 @@ static void give_slots(void)
     put(0, 0), put(1, 0), put(2, 0), put(3, 0);
     demand(give_out(1, 2, false) == 0 && any() == 1 && any() == 2 && any() == -23, "a range");
     put(3, 5), put(3, 0);
-    demand(any() == -23, "not behind it");
+    demand(any() == -23, "not after it");
     put(1, 0);
     demand(any() == 1, "in it");
     put(0, 5), put(0, 0);

@@ -39,7 +39,7 @@ static void sleep_for_requests(void)
 
 static void sleep_or_not(void)
 {
-    demand(wulgach_fires_after(&(struct wulgach_waited){0}) && wulgach_fires_after(&(struct wulgach_waited){.result = 2}) && !wulgach_fires_after(&(struct wulgach_waited){.result = -4}) && !wulgach_fires_after(&(struct wulgach_waited){.is_never = true}), "behind which sleep a timeout fires");
+    demand(wulgach_fires_after(&(struct wulgach_waited){0}) && wulgach_fires_after(&(struct wulgach_waited){.result = 2}) && !wulgach_fires_after(&(struct wulgach_waited){.result = -4}) && !wulgach_fires_after(&(struct wulgach_waited){.is_never = true}), "after which sleep a timeout fires");
     demand(wulgach_sleep_next(WULGACH_SLEEP_AT_FIRST, true, -14) == WULGACH_LETS_OTHERS_GO && wulgach_sleep_next(WULGACH_LETS_OTHERS_GO, true, -14) == WULGACH_SLEEP_WAKES && wulgach_sleep_next(WULGACH_LETS_OTHERS_GO, false, 0) == WULGACH_READS_MASK && wulgach_sleep_next(WULGACH_READS_MASK, true, -14) == WULGACH_DOES_DUTIES, "what comes before a sleep");
     demand(wulgach_sleep_next(WULGACH_DOES_DUTIES, true, -14) == WULGACH_SLEEP_FAILS && wulgach_sleep_next(WULGACH_DOES_DUTIES, true, 0) == WULGACH_SLEEP_WAKES && wulgach_sleep_next(WULGACH_DOES_DUTIES, false, 0) == WULGACH_SLEEPS, "whether a sleep begins");
     demand(wulgach_sleep_came_to(2, false) == 2 && wulgach_sleep_came_to(-12, false) == -12 && wulgach_sleep_came_to(2, true) == -4, "a child leaves a sleep");

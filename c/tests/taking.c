@@ -1,4 +1,4 @@
-/* Which positions a call takes, what goes on next, what waits behind drains, what an update changes and what is copied of an entry: with
+/* Which positions a call takes, what goes on next, what waits after drains, what an update changes and what is copied of an entry: with
  * what the manual page calls for, written by hand. */
 #include "demand.h"
 #include "wulgach.h"
@@ -18,8 +18,8 @@ static void take_positions(void)
     uint32_t cell = 99;
     demand(wulgach_taking_begin(&taking, &asked, &cell) == 4 && cell == 7, "the first position");
     demand(wulgach_taking_took(&taking, &good, &cell) == WULGACH_TAKES && cell == 0, "the second");
-    demand(wulgach_taking_took(&taking, &linked, &cell) == WULGACH_TAKES && cell == 1, "behind a faulty entry that links");
-    demand(wulgach_taking_took(&taking, &faulty, &cell) == WULGACH_ENDS_CALL && cell == 1, "behind one that doesn't");
+    demand(wulgach_taking_took(&taking, &linked, &cell) == WULGACH_TAKES && cell == 1, "after a faulty entry that links");
+    demand(wulgach_taking_took(&taking, &faulty, &cell) == WULGACH_ENDS_CALL && cell == 1, "after one that doesn't");
     asked.submits_all = true;
     wulgach_taking_begin(&taking, &asked, &cell);
     demand(wulgach_taking_took(&taking, &faulty, &cell) == WULGACH_TAKES && wulgach_taking_took(&taking, &none, &cell) == WULGACH_ENDS_CALL, "a ring that submits all");
@@ -65,12 +65,12 @@ static void post(void)
     wulgach_drains_end(&drains, false);
     demand(!wulgach_drains_may_post(&drains, 0, false, true) && wulgach_drains_may_post(&drains, 0, true, true), "its second member");
     wulgach_drains_end(&drains, true);
-    demand(wulgach_drains_may_post(&drains, 0, false, true), "behind its end");
+    demand(wulgach_drains_may_post(&drains, 0, false, true), "after its end");
     demand(!wulgach_oldest_starts(&drains, true, &waiting) && wulgach_oldest_starts(&drains, false, &waiting) && !wulgach_oldest_starts(&drains, false, &started), "a drain was there");
     demand(wulgach_is_one_choice(WULGACH_IN_ORDER, true) && wulgach_is_one_choice(WULGACH_LAZY, true) && wulgach_is_one_choice(WULGACH_BY_CHOICE, false) && !wulgach_is_one_choice(WULGACH_BY_CHOICE, true), "what is one choice");
     demand(wulgach_end_of_send(true) == WULGACH_PART_NOTICE && wulgach_end_of_send(false) == WULGACH_PART_SENT, "two completions of a send");
     struct wulgach_submission reports = {.opcode = 47, .ioprio = 8}, plain = {.opcode = 47, .ioprio = 4};
-    demand(!wulgach_notice_of(&reports, false, &res) && res == 7, "no notice behind a drain");
+    demand(!wulgach_notice_of(&reports, false, &res) && res == 7, "no notice after a drain");
     demand(wulgach_notice_of(&reports, true, &res) && res == INT32_MIN && wulgach_notice_of(&plain, true, &res) && res == 0, "a notice");
 }
 
@@ -116,7 +116,7 @@ static void search_and_update(void)
     struct wulgach_outstanding limiting = {.user_data = 2, .code = 15, .is_token = true, .runs = true};
     wulgach_search_begin(&search, 2);
     demand(!wulgach_search_sees(&search, &limiting) && wulgach_search_found_by_core(&search, -114, true) == -2 && wulgach_search_found_by_core(&search, -114, false) == -114 && wulgach_search_found_by_core(&search, 0, true) == 0, "a linked timeout isn't found");
-    demand(wulgach_search_sees(&search, &poll) && wulgach_search_found_by_core(&search, -114, true) == -114, "what stands behind it is");
+    demand(wulgach_search_sees(&search, &poll) && wulgach_search_found_by_core(&search, -114, true) == -114, "what stands after it is");
     struct wulgach_outstanding unstarted = {.user_data = 2, .is_token = true, .may_start = true, .is_stream = true};
     wulgach_search_begin(&search, 2);
     demand(!wulgach_search_sees(&search, &unstarted) && wulgach_search_sees(&search, &poll), "what doesn't run is passed over");
@@ -217,19 +217,24 @@ static void copy_pieces(void)
     demand(next(set, 1, &piece) == 1 && piece.what == WULGACH_VALUE && piece.from == 2 && piece.size == 5, "its value");
     demand(next(set, 2, &piece) == 1 && piece.what == WULGACH_PATH && piece.from == 3 && next(set, 3, &piece) == 0, "its file");
     set.len = 0;
-    demand(next(set, 1, &piece) == 1 && piece.what == WULGACH_PATH && piece.from == 3 && next(set, 2, &piece) == 0, "its file behind no value");
+    demand(next(set, 1, &piece) == 1 && piece.what == WULGACH_PATH && piece.from == 3 && next(set, 2, &piece) == 0, "its file after no value");
     set.len = 65537;
     demand(next(set, 1, &piece) == -7 && NEXT(0, .opcode = CONNECT, .off = 129) == -22 && NEXT(0, .opcode = CONNECT, .off = 128) == 1 && NEXT(0, .opcode = BIND, .off = 129) == -22 && NEXT(0, .opcode = BIND, .off = 1ull << 32 | 2) == 1, "too long");
     demand(NEXT(1, .opcode = SEND_ZC, .off = 1, .file_index = 0x10080) == 1 && NEXT(1, .opcode = SEND_ZC) == 0 && NEXT(1, .opcode = SEND, .off = 1, .file_index = 16) == 1, "where a send goes");
     demand(NEXT(0, .opcode = OPENAT2, .addr = 1, .off = 2, .len = 32) == 1 && piece.what == WULGACH_HOW_REST && piece.from == 2 && piece.size == 32, "what is newer in how a file is opened");
     demand(NEXT(1, .opcode = OPENAT2, .addr = 1, .off = 2, .len = 32) == 1 && piece.what == WULGACH_HOW && piece.from == 2 && piece.size == 24, "what is known of that");
-    demand(NEXT(2, .opcode = OPENAT2, .addr = 1, .off = 2, .len = 32) == 1 && piece.what == WULGACH_PATH && piece.from == 1, "its path comes behind that");
+    demand(NEXT(2, .opcode = OPENAT2, .addr = 1, .off = 2, .len = 32) == 1 && piece.what == WULGACH_PATH && piece.from == 1, "its path comes after that");
     demand(NEXT(1, .opcode = OPENAT2, .len = 24, .flags = 1, .buf_index = 1) == 1 && NEXT(2, .opcode = OPENAT2, .len = 24, .flags = 1) == -9 && NEXT(2, .opcode = OPENAT2, .len = 24, .flags = 1, .buf_index = 1) == -22, "a slot and a buffer come after its structure");
     demand(NEXT(0, .opcode = OPENAT2, .len = 4097) == 1 && wulgach_how_fault(false) == -7 && wulgach_how_fault(true) == 0, "a longer structure");
     demand(wulgach_time_fault(0, 0) == 0 && wulgach_time_fault(-1, 5) == -22 && wulgach_time_fault(5, -1) == -22, "a time");
     struct wulgach_submission selects = {.opcode = RECVMSG, .flags = 32};
     demand(wulgach_message_vectors(&selects, 0) == 1 && wulgach_message_vectors(&selects, 2) == 2 && wulgach_message_vectors(&(struct wulgach_submission){.opcode = RECVMSG}, 0) == 0, "its vectors");
     demand(wulgach_wanted_of(&selects, 9) == 9 && wulgach_wanted_of(&(struct wulgach_submission){.opcode = RECVMSG}, 9) == 0, "how much of a buffer");
+}
+
+/* What the core is given for an entry, and its words. */
+static void core_entries(void)
+{
     struct wulgach_core_entry made;
     struct wulgach_submission cancel = {.opcode = 14, .flags = 255, .user_data = 5, .addr = 6};
     wulgach_core_entry_of(&cancel, WULGACH_FORM_CANCEL, &made);
@@ -251,10 +256,21 @@ static void copy_pieces(void)
     wulgach_core_words(&(struct wulgach_core_entry){.code = 22, .len = 65, .user_data = UINT64_MAX}, &words);
     wulgach_read(wanted.words, UINT64_MAX, 0, 0, 0, 65);
     demand(memcmp(&words, &wanted, sizeof words) == 0, "and of one that is refused");
+}
+
+static void no_ends(void)
+{
     uint8_t code = 5;
     demand(wulgach_extra_of(true, &code) == WULGACH_FORM_REFUSED && code == 255 && wulgach_extra_of(false, &code) == WULGACH_FORM_TOKEN && code == 0, "a completion that belongs to no end");
     demand(wulgach_told_of_end(true) == 0 && wulgach_told_of_end(false) == -9, "what it is told of an end");
     demand(wulgach_names_slot(7, 8) && !wulgach_names_slot(8, 8), "a slot");
+}
+
+/* One buffer is told as its piece is, and nothing after it. */
+static void one_buffers(void)
+{
+    enum { READ = 22, SETXATTR = 42 };
+    struct wulgach_piece piece;
     for (int code = 0; code < 256; code++) {
         struct wulgach_submission entry = {.opcode = (uint8_t)code, .flags = 32, .addr = 8, .len = 3};
         bool is_buffer = next(entry, 0, &piece) == 1 && piece.what == WULGACH_BUFFER, ends = next(entry, 1, &piece) == 0;
@@ -262,7 +278,7 @@ static void copy_pieces(void)
         bool has_one = wulgach_one_buffer(&entry, &one);
         demand(has_one ? is_buffer && ends && one.what == WULGACH_BUFFER && one.from == 8 && one.size == 3 : one.from == 1, "one buffer is told, and then nothing");
     }
-    demand(wulgach_one_buffer(&(struct wulgach_submission){.opcode = READ}, &piece) && !wulgach_one_buffer(&set, &piece), "a read has one buffer");
+    demand(wulgach_one_buffer(&(struct wulgach_submission){.opcode = READ}, &piece) && !wulgach_one_buffer(&(struct wulgach_submission){.opcode = SETXATTR, .len = 5}, &piece), "a read has one buffer");
 }
 
 /* As a real ring of Linux 6.18 ends entries with such a path or name. */
@@ -336,9 +352,9 @@ static void end_copies(void)
     demand(last(read, (struct wulgach_copied){.count = 1, .vectors = 2, .fault = -14}) == -14, "what can't be read");
     demand(last(timeout, (struct wulgach_copied){.count = 1, .before = {.links = true}, .has_before = true}) == 0, "a linked timeout");
     demand(last(timeout, (struct wulgach_copied){.count = 1, .before = {.links = true}}) == -22, "first in its call");
-    demand(last(timeout, (struct wulgach_copied){.count = 1, .has_before = true}) == -22, "behind one that doesn't link it");
-    demand(last(timeout, (struct wulgach_copied){.count = 1, .before = {true, true}, .has_before = true}) == -22, "behind another");
-    demand(last(timeout, (struct wulgach_copied){.count = 1, .fault = -14}) == -14, "behind its time's fault");
+    demand(last(timeout, (struct wulgach_copied){.count = 1, .has_before = true}) == -22, "after one that doesn't link it");
+    demand(last(timeout, (struct wulgach_copied){.count = 1, .before = {true, true}, .has_before = true}) == -22, "after another");
+    demand(last(timeout, (struct wulgach_copied){.count = 1, .fault = -14}) == -14, "after its time's fault");
     demand(last((struct wulgach_submission){.opcode = TIMEOUT}, (struct wulgach_copied){.count = 1}) == 0, "a timeout");
 }
 
@@ -352,6 +368,9 @@ int main(void)
     find_in_turn();
     search_and_update();
     copy_pieces();
+    core_entries();
+    no_ends();
+    one_buffers();
     skip_after_faults();
     look_at_names();
     look_at_messages();

@@ -117,8 +117,6 @@ static void check_waits(void)
     struct wulgach_wake_sources none = {0}, stream = {.has_streams = true}, thread = {.has_threads = true}, real = {.is_real = true}, signal = {.has_signal = true};
     struct wulgach_limit never = {0, false}, soon = {5, true};
     struct wulgach_wait wait;
-    struct wulgach_woken woken;
-    uint64_t limited = 0;
     demand(wulgach_asks_signals(true, false) && !wulgach_asks_signals(true, true) && !wulgach_asks_signals(false, false), "whether signals are asked about");
     wulgach_times_begin(&times);
     wulgach_times_wait(&times, rows, ROOM, &none, &never, &wait);
@@ -139,6 +137,14 @@ static void check_waits(void)
     demand(wait.kind == WULGACH_WAIT_MOVE && wait.until.at == 10, "time moves on to a timeout");
     wulgach_times_wait(&times, rows, ROOM, &signal, &never, &wait);
     demand(wait.kind == WULGACH_WAIT_SLEEP && wait.until.is_set && wait.until.at == 0, "but not before a signal that waits");
+}
+
+/* What has come of a wait: of a limit at 5, and of the linked timeout at 10. */
+static void check_woken(void)
+{
+    struct wulgach_limit soon = {5, true};
+    struct wulgach_woken woken;
+    uint64_t limited = 0;
     wulgach_times_woken(&times, rows, ROOM, &soon, &woken);
     demand(woken.kind == WULGACH_WOKEN_OTHER, "nothing has come");
     wulgach_times_move_to(&times, 5);
@@ -152,6 +158,10 @@ static void check_waits(void)
     demand(wulgach_timeout_linked_outcome(true) == -62 && wulgach_timeout_linked_outcome(false) == -125, "how a linked one ends");
     woken.timeout.is_linked = false;
     demand(wulgach_timeout_cancels(&woken.timeout, &limited) == -2 && !wulgach_timeout_fires(&woken.timeout, true, true), "one that isn't linked cancels none");
+}
+
+static void check_sleeps(void)
+{
     struct wulgach_limit until = {.at = 5, .is_set = true}, unset = {.at = 5};
     wulgach_times_deadline(&times, &until);
     wulgach_times_deadline(&times, &unset);
@@ -185,6 +195,8 @@ int main(void)
     check_held();
     check_counts_and_changes();
     check_waits();
+    check_woken();
+    check_sleeps();
     printf("times: as called for\n");
     return 0;
 }

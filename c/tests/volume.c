@@ -208,6 +208,30 @@ static void limits(void)
     check(wulgach_volume_free(&volume) == 0, "free");
 }
 
+/* The call of this number, of eight. */
+static int32_t take_memory(struct wulgach_volume *volume, int call, uint8_t bytes[4], uint64_t *number)
+{
+    uint64_t total, choice = 1, lens[64];
+    switch (call) {
+    case 0:
+        return wulgach_volume_new(volume, 1, (const uint8_t *)"ab", 2);
+    case 1:
+        return wulgach_volume_begin_write(volume, 0, (const uint8_t *)"cd", 2, number);
+    case 2:
+        return wulgach_volume_begin_sync(volume, number);
+    case 3:
+        return wulgach_volume_contents(volume, bytes, 4, number);
+    case 4:
+        return wulgach_volume_crash(volume, &choice, 1, bytes, 4, number);
+    case 5:
+        return wulgach_volume_count_images(volume, number);
+    case 6:
+        return wulgach_volume_images(volume, bytes, 4, lens, 64, number, &total);
+    default:
+        return wulgach_volume_begin_range_sync(volume, 0, 1, number);
+    }
+}
+
 /* Each call that takes memory, with each of its requests refused in turn: -12, and nothing changes. */
 static void refused_memory(void)
 {
@@ -215,35 +239,10 @@ static void refused_memory(void)
     for (int call = 0; call < 8; call++) {
         long refusals = 0;
         for (;; refusals++) {
-            uint64_t number = 99, total = 99, choice = 1, lens[64] = {0};
+            uint64_t number = 99;
             uint8_t bytes[4] = {'.', '.', '.', '.'};
-            int32_t result = 1;
             served = refusals;
-            switch (call) {
-            case 0:
-                result = wulgach_volume_new(&volume, 1, (const uint8_t *)"ab", 2);
-                break;
-            case 1:
-                result = wulgach_volume_begin_write(&volume, 0, (const uint8_t *)"cd", 2, &number);
-                break;
-            case 2:
-                result = wulgach_volume_begin_sync(&volume, &number);
-                break;
-            case 3:
-                result = wulgach_volume_contents(&volume, bytes, 4, &number);
-                break;
-            case 4:
-                result = wulgach_volume_crash(&volume, &choice, 1, bytes, 4, &number);
-                break;
-            case 5:
-                result = wulgach_volume_count_images(&volume, &number);
-                break;
-            case 6:
-                result = wulgach_volume_images(&volume, bytes, 4, lens, 64, &number, &total);
-                break;
-            default:
-                result = wulgach_volume_begin_range_sync(&volume, 0, 1, &number);
-            }
+            int32_t result = take_memory(&volume, call, bytes, &number);
             bool is_served = served >= 0;
             served = -1;
             check(result == (is_served ? 0 : -12), "-12 exactly if memory was refused");

@@ -72,12 +72,12 @@ static void find_files(void)
     struct wulgach_chain chain;
     struct wulgach_member first = {.number = 4, .chain = 4}, second = {.number = 5, .chain = 4, .is_linked = true};
     wulgach_drains_begin(&drains);
-    demand(wulgach_drains_find_file(&drains, &first, false, false, false, false) == WULGACH_FOUND_BY_CALL && wulgach_drains_find_file(&drains, &second, false, true, true, true) == WULGACH_FOUND_AT_START, "behind a link");
-    demand(wulgach_drains_find_file(&drains, &first, false, true, false, false) == WULGACH_FOUND_IN_TURN, "behind a change of slots");
+    demand(wulgach_drains_find_file(&drains, &first, false, false, false, false) == WULGACH_FOUND_BY_CALL && wulgach_drains_find_file(&drains, &second, false, true, true, true) == WULGACH_FOUND_AT_START, "after a link");
+    demand(wulgach_drains_find_file(&drains, &first, false, true, false, false) == WULGACH_FOUND_IN_TURN, "after a change of slots");
     wulgach_chain_first(&chain, 2);
     wulgach_drains_accept(&drains, &chain);
-    demand(wulgach_drains_find_file(&drains, &first, false, false, true, true) == WULGACH_FOUND_AT_START && wulgach_drains_find_file(&drains, &first, true, false, false, true) == WULGACH_ASKS_START, "behind a drain");
-    demand(wulgach_drains_find_file(&drains, &first, true, true, true, true) == WULGACH_FOUND_IN_TURN && wulgach_drains_find_file(&drains, &first, true, true, false, true) == WULGACH_ASKS_START, "behind both");
+    demand(wulgach_drains_find_file(&drains, &first, false, false, true, true) == WULGACH_FOUND_AT_START && wulgach_drains_find_file(&drains, &first, true, false, false, true) == WULGACH_ASKS_START, "after a drain");
+    demand(wulgach_drains_find_file(&drains, &first, true, true, true, true) == WULGACH_FOUND_IN_TURN && wulgach_drains_find_file(&drains, &first, true, true, false, true) == WULGACH_ASKS_START, "after both");
     demand(wulgach_drains_find_file(&drains, &first, true, false, true, true) == WULGACH_FOUND_BY_CALL && wulgach_drains_find_file(&drains, &first, true, false, true, false) == WULGACH_FOUND_AT_START, "as the core lets it start");
     demand(wulgach_polls(&(struct wulgach_standing){.is_stream = true}) && !wulgach_polls(&(struct wulgach_standing){.has_found_buffer = true}), "whom a sleep polls for");
     static const struct wulgach_standing stream = {.is_stream = true}, plain = {0};
@@ -97,10 +97,17 @@ static uint32_t kind(uint8_t code, uint64_t offset, struct wulgach_trial trial, 
     return wulgach_find_kind(&entry, &trial, &known);
 }
 
-static void look_at_descriptors(void)
+/* What operations are told of, and descriptors; and entries. */
+static const struct wulgach_trial plain = {.length = 8}, known = {.length = 8, .was_file = true}, tried = {.length = 8, .was_tried = true, .was_file = true}, asked = {.length = 8, .was_file = true, .is_asked_before = true}, empty = {.was_file = true};
+static const struct wulgach_nature none = {0}, file = {.is_open = true, .is_file = true, .has_offsets = true, .can_read = true}, pipe = {.is_open = true, .can_read = true}, tty = {.is_open = true, .is_device = true, .has_offsets = true, .can_write = true}, socket = {.is_open = true, .is_socket = true, .can_read = true, .can_write = true};
+static const struct wulgach_nature counter = {.is_open = true, .is_counter = true, .can_read = true}, signals = {.is_open = true, .tells_signals = true, .can_read = true};
+static const struct wulgach_submission entry = {.opcode = READ};
+static const struct wulgach_submission writing = {.opcode = WRITE};
+static const struct wulgach_submission selecting = {.opcode = READ, .flags = 32}, receive = {.opcode = RECV, .flags = 32}, fixed = {.opcode = 4};
+
+/* What a descriptor is to an operation. */
+static void look_at_kinds(void)
 {
-    struct wulgach_trial plain = {.length = 8}, known = {.length = 8, .was_file = true}, tried = {.length = 8, .was_tried = true, .was_file = true}, asked = {.length = 8, .was_file = true, .is_asked_before = true}, empty = {.was_file = true};
-    struct wulgach_nature none = {0}, file = {.is_open = true, .is_file = true, .has_offsets = true, .can_read = true}, pipe = {.is_open = true, .can_read = true}, tty = {.is_open = true, .is_device = true, .has_offsets = true, .can_write = true}, socket = {.is_open = true, .is_socket = true, .can_read = true, .can_write = true};
     demand(kind(READ, 0, plain, file) == WULGACH_KIND_TRIED && kind(READ, 0, tried, file) == WULGACH_KIND_NEVER && kind(READ, 0, known, pipe) == WULGACH_KIND_AT_ONCE, "a file");
     demand(kind(READ, UINT64_MAX, known, file) == WULGACH_KIND_NEVER && kind(READ, 0, asked, file) == WULGACH_KIND_NEVER && kind(READ, 0, empty, file) == WULGACH_KIND_NEVER && kind(WRITE, 0, known, file) == WULGACH_KIND_TRIED, "what is asked before");
     struct wulgach_trial memory = {.length = 8, .was_in_memory = true}, alone = {.length = 8, .was_in_memory = true, .has_no_devices = true}, again = {.length = 8, .was_tried = true, .was_in_memory = true, .has_no_devices = true}, unknown = {.length = 8, .has_no_devices = true};
@@ -108,6 +115,13 @@ static void look_at_descriptors(void)
     demand(kind(READ, 0, plain, pipe) == WULGACH_KIND_STREAM && kind(WRITE, 0, plain, pipe) == WULGACH_KIND_WRONG && kind(WRITE, 0, plain, tty) == WULGACH_KIND_STREAM && kind(READ, 0, plain, none) == WULGACH_KIND_NEVER, "streams");
     demand(kind(RECV, 0, plain, socket) == WULGACH_KIND_STREAM && kind(RECV, 0, plain, pipe) == WULGACH_KIND_NEVER && kind(POLL_ADD, 0, plain, none) == WULGACH_KIND_STREAM && kind(FSYNC, 0, plain, pipe) == WULGACH_KIND_NEVER, "others");
     demand(wulgach_remembered_after_call(WULGACH_REMEMBERED_IN_MEMORY, -29) == WULGACH_REMEMBERED_NOTHING && wulgach_remembered_after_call(WULGACH_REMEMBERED_IN_MEMORY, -22) == WULGACH_REMEMBERED_IN_MEMORY && wulgach_remembered_after_call(WULGACH_REMEMBERED_SLOW, 8) == WULGACH_REMEMBERED_SLOW && wulgach_remembered_after_call(WULGACH_REMEMBERED_FILE, -29) == WULGACH_REMEMBERED_NOTHING, "what has no offsets is no file");
+    struct wulgach_known nothing = {0}, status = {.status = true, .nature = pipe}, offsets = {.status = true, .offsets = true, .nature = pipe};
+    demand(wulgach_find_kind(&entry, &plain, &nothing) == WULGACH_ASK_STATUS && wulgach_find_kind(&entry, &plain, &status) == WULGACH_ASK_OFFSETS && wulgach_find_kind(&entry, &plain, &offsets) == WULGACH_ASK_ACCESS, "what is asked");
+}
+
+/* What the kernel tells of a descriptor. */
+static void look_at_statuses(void)
+{
     struct wulgach_nature on_disk = {0}, queue = {0}, in_memory = {0}, gone = {.is_open = true};
     wulgach_note_status(&on_disk, false, true, false, 0100644);
     wulgach_note_status(&queue, false, true, true, 0100600);
@@ -115,13 +129,25 @@ static void look_at_descriptors(void)
     wulgach_note_status(&gone, false, false, false, 0);
     demand(on_disk.is_open && on_disk.is_file && !on_disk.is_device && on_disk.has_type && queue.is_open && !queue.is_file && queue.is_device && queue.has_type && in_memory.is_file && !gone.is_open && !gone.has_type, "what a file is");
     demand(wulgach_asks_polling(0100600, 0) && !wulgach_asks_polling(0100600, 8) && !wulgach_asks_polling(0040755, 0) && !wulgach_asks_polling(0010600, 0), "which is asked whether it can be polled");
-    struct wulgach_submission entry = {.opcode = READ};
-    struct wulgach_known nothing = {0}, status = {.status = true, .nature = pipe}, offsets = {.status = true, .offsets = true, .nature = pipe};
-    struct wulgach_submission selecting = {.opcode = READ, .flags = 32}, receive = {.opcode = RECV, .flags = 32}, fixed = {.opcode = 4};
+    struct wulgach_directions one, other, both, neither;
+    wulgach_directions_of(0100000, &one);
+    wulgach_directions_of(04001, &other);
+    wulgach_directions_of(2, &both);
+    wulgach_directions_of(UINT32_MAX, &neither);
+    demand(one.can_read && !one.can_write && !other.can_read && other.can_write && both.can_read && both.can_write && !neither.can_read && !neither.can_write, "directions");
+}
+
+static void look_at_buffers(void)
+{
     demand(wulgach_no_buffer_fault(&selecting, &none) == -9 && wulgach_no_buffer_fault(&selecting, &pipe) == -105 && wulgach_no_buffer_fault(&receive, &pipe) == -88 && wulgach_no_buffer_fault(&receive, &socket) == -105 && wulgach_no_buffer_fault(&fixed, &none) == -9 && wulgach_no_buffer_fault(&fixed, &file) == -14, "no buffer");
     demand(wulgach_buffer_fault(&fixed, &none, -14) == -9 && wulgach_buffer_fault(&fixed, &file, -14) == -14 && wulgach_buffer_fault(&fixed, &file, -105) == -105 && wulgach_buffer_fault(&receive, &pipe, -14) == -88, "what is wrong with a buffer");
-    struct wulgach_nature counter = {.is_open = true, .is_counter = true, .can_read = true}, signals = {.is_open = true, .tells_signals = true, .can_read = true};
-    struct wulgach_submission writing = {.opcode = WRITE};
+    demand(wulgach_ends_at_start(&selecting, -9, true, &pipe) == -9 && wulgach_ends_at_start(&selecting, -9, false, &pipe) == -105 && wulgach_ends_at_start(&selecting, -9, false, &none) == -9 && wulgach_ends_at_start(&receive, -11, false, &socket) == -11 && wulgach_ends_at_start(&selecting, -29, false, &socket) == -105 && wulgach_ends_at_start(&selecting, -29, true, &socket) == -29 && wulgach_ends_at_start(&entry, -9, false, &pipe) == -9, "a fault as it started");
+    demand(wulgach_fault_asks_buffer(&selecting, -9) && !wulgach_fault_asks_buffer(&selecting, 0) && !wulgach_fault_asks_buffer(&entry, -9), "whether a buffer matters");
+}
+
+/* What ends an operation as it starts. */
+static void look_at_start_faults(void)
+{
     demand(wulgach_start_fault(&writing, false, 0, &counter) == 0 && wulgach_start_fault(&writing, false, 1, &counter) == -22 && wulgach_start_fault(&entry, false, 0, &counter) == -22 && !wulgach_asks_name(&writing, 0, &none), "a write of no bytes to what counts");
     demand(wulgach_start_fault(&entry, false, 7, &counter) == -22 && wulgach_start_fault(&entry, false, 8, &counter) == 0 && wulgach_start_fault(&entry, false, 7, &pipe) == 0 && wulgach_start_fault(&selecting, false, 7, &counter) == 0, "what counts");
     struct wulgach_submission at = {.opcode = READ, .off = 7}, past = {.opcode = READ, .off = (1ull << 63) - 4}, negative = {.opcode = READ, .off = UINT64_MAX - 1}, anywhere = {.opcode = READ, .off = UINT64_MAX}, received = {.opcode = RECV, .off = 7};
@@ -133,18 +159,9 @@ static void look_at_descriptors(void)
     demand(wulgach_start_fault(&flagged, false, 4, &socket) == -95 && wulgach_start_fault(&flagged, false, 4, &file) == 0 && wulgach_start_fault(&appending, false, 4, &pipe) == -22 && wulgach_start_fault(&atomic, false, 4, &pipe) == -95 && wulgach_start_fault(&polling, false, 4, &pipe) == -22, "a flag");
     struct wulgach_submission hasty = {.opcode = RECV, .ioprio = 1, .op_flags = 64, .flags = 32}, slow = {.opcode = RECV, .ioprio = 1};
     demand(wulgach_start_fault(&hasty, false, 4, &socket) == -11 && wulgach_start_fault(&hasty, false, 4, &pipe) == 0 && wulgach_start_fault(&slow, false, 4, &socket) == 0 && !wulgach_fault_asks_buffer(&hasty, -11) && wulgach_fault_asks_buffer(&selecting, -9), "one that is never polled");
-    struct wulgach_directions one, other, both, neither;
-    wulgach_directions_of(0100000, &one);
-    wulgach_directions_of(04001, &other);
-    wulgach_directions_of(2, &both);
-    wulgach_directions_of(UINT32_MAX, &neither);
-    demand(one.can_read && !one.can_write && !other.can_read && other.can_write && both.can_read && both.can_write && !neither.can_read && !neither.can_write, "directions");
-    demand(wulgach_ends_at_start(&selecting, -9, true, &pipe) == -9 && wulgach_ends_at_start(&selecting, -9, false, &pipe) == -105 && wulgach_ends_at_start(&selecting, -9, false, &none) == -9 && wulgach_ends_at_start(&receive, -11, false, &socket) == -11 && wulgach_ends_at_start(&selecting, -29, false, &socket) == -105 && wulgach_ends_at_start(&selecting, -29, true, &socket) == -29 && wulgach_ends_at_start(&entry, -9, false, &pipe) == -9, "a fault as it started");
-    demand(wulgach_fault_asks_buffer(&selecting, -9) && !wulgach_fault_asks_buffer(&selecting, 0) && !wulgach_fault_asks_buffer(&entry, -9), "whether a buffer matters");
     demand(wulgach_asks_name(&entry, 7, &none) && !wulgach_asks_name(&entry, 8, &none) && !wulgach_asks_name(&selecting, 7, &none) && !wulgach_asks_name(&entry, 7, &(struct wulgach_nature){.has_type = true}), "whether a name matters");
     demand(wulgach_asks_name(&entry, 9, &none) && wulgach_asks_name(&entry, 127, &none) && !wulgach_asks_name(&entry, 128, &none) && !wulgach_asks_name(&writing, 9, &none), "whether a name matters for signals");
     demand(wulgach_start_fault(&entry, false, 0, &signals) == -22 && wulgach_start_fault(&entry, false, 127, &signals) == -22 && wulgach_start_fault(&entry, false, 128, &signals) == 0 && wulgach_start_fault(&selecting, false, 127, &signals) == 0 && wulgach_start_fault(&writing, false, 127, &signals) == 0, "what tells of signals");
-    demand(wulgach_find_kind(&entry, &plain, &nothing) == WULGACH_ASK_STATUS && wulgach_find_kind(&entry, &plain, &status) == WULGACH_ASK_OFFSETS && wulgach_find_kind(&entry, &plain, &offsets) == WULGACH_ASK_ACCESS, "what is asked");
 }
 
 /* What is told of a request of which nothing was known, by what is known of the moment; `has_waited`: but that it would have waited. */
@@ -215,7 +232,7 @@ static void transfer(void)
 {
     struct wulgach_transfer once = {.length = 8, .is_at_once = true}, tried = {.length = 8, .is_tried = true}, file = {.length = 8}, stream = {.length = 8, .is_stream = true}, hasty = {.is_stream = true, .is_impatient = true}, failed = {.length = 8, .fault = -9};
     demand(next(once, 0, 0) == 1000 + WULGACH_CALL_AT_ONCE && next(once, WULGACH_CALL_AT_ONCE, 8) == 8 && next(once, WULGACH_CALL_AT_ONCE, 5) == 1000 + WULGACH_TRY_FINDS, "at once");
-    demand(next(stream, WULGACH_TRY_FINDS, 5) == 5 && next(file, WULGACH_TRY_FINDS, 5) == 1000 + WULGACH_CALL_PLAIN && next(stream, WULGACH_TRY_FINDS, 0) == 1000 + WULGACH_CALL_NONBLOCKING && next(failed, WULGACH_TRY_FINDS, -11) == -9, "behind that");
+    demand(next(stream, WULGACH_TRY_FINDS, 5) == 5 && next(file, WULGACH_TRY_FINDS, 5) == 1000 + WULGACH_CALL_PLAIN && next(stream, WULGACH_TRY_FINDS, 0) == 1000 + WULGACH_CALL_NONBLOCKING && next(failed, WULGACH_TRY_FINDS, -11) == -9, "after that");
     demand(next(tried, 0, 0) == 1000 + WULGACH_CALL_TRIED && next(tried, WULGACH_CALL_TRIED, 5) == 5 && next(tried, WULGACH_CALL_TRIED, -29) == 1000 + WULGACH_TRY_FINDS, "one that is tried");
     demand(next(stream, WULGACH_CALL_NONBLOCKING, -11) == 1000 + WULGACH_TRY_WAITS && next(stream, WULGACH_CALL_NONBLOCKING, -95) == 1000 + WULGACH_TRY_POLLS && next(stream, WULGACH_CALL_NONBLOCKING, -5) == -5, "asked not to wait");
     struct wulgach_transfer shut = {.length = 8, .is_stream = true, .is_socket = true, .is_shut = true};
@@ -353,7 +370,10 @@ int main(void)
     see_changes();
     need_as_told();
     find_files();
-    look_at_descriptors();
+    look_at_kinds();
+    look_at_statuses();
+    look_at_buffers();
+    look_at_start_faults();
     finish();
     be_impatient();
     transfer();

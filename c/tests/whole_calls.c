@@ -67,7 +67,7 @@ static void steps_end(void)
     struct wulgach_answer answer;
     const struct wulgach_answer again = {.kind = WULGACH_AGAIN};
     check(wulgach_submitted_step(entries, 2, 0, &again, 6, &told, &answer) && told.kind == WULGACH_BEGIN && told.word == 2 && answer.kind == WULGACH_AGAIN, "a begin that was refused");
-    check(!wulgach_submitted_step(entries, 2, 0, &again, 7, &told, &answer) && told.kind == WULGACH_BEGIN, "nothing behind it");
+    check(!wulgach_submitted_step(entries, 2, 0, &again, 7, &told, &answer) && told.kind == WULGACH_BEGIN, "nothing after it");
     check(wulgach_submitted_step(entries, 4096, 0, &again, 0, &told, &answer) && !wulgach_submitted_step(entries, 4097, 0, &again, 0, &told, &answer), "4,096 entries at most");
 }
 

@@ -3,7 +3,7 @@
 DIFFERENCES = {
     "linked fault stops nothing": "The kernel ends a call after the first faulty entry that has no link flag, also after a drain that it refuses with -95; after one that has, it goes on, also past the end of its chain.",
     "held back isn't found": "The kernel doesn't find a request that it still holds back: the cancel ends with -2, and the request runs later.",
-    "behind a cancel isn't found": "Nor does it find what comes after it in its own call, which is accepted later there: the cancel ends with -2.",
+    "after a cancel isn't found": "Nor does it find what comes after it in its own call, which is accepted later there: the cancel ends with -2.",
     "a read is cancelled twice": "A waiting read that one cancel has chosen is found by another of the same call: both end with 0, and two cancels of all both with 1.",
     "cancel of all leaves held back": "Of requests that the kernel holds back it ends with 0, and they run.",
     "skipped failure leaves members out": "The page and the kernel leave these out.",

@@ -29,7 +29,7 @@ class Ring:
         return [f"flush = moved {moved}"], Ring(self.size, self.tail + moved, self.stored, self.stored, self.overflow - moved)
 
     def posted(self):
-        """The ring behind a post, with the flush that stands before it, as a kernel reads the head as it is."""
+        """The ring after a post, with the flush that stands before it, as a kernel reads the head as it is."""
         if self.overflow:
             return [], Ring(self.size, self.tail, self.loaded, self.stored, self.overflow + 1)
         steps, now = self.flushed()
@@ -75,16 +75,21 @@ class Fill:
         user_data, result = self.completions[posted]
         return f"no history posts cqe {user_data} {result}, completion {posted} from 0 on", posted
 
-    def search(self, at, posted, requests, ring, dropped, path):
-        """The parts of a trace from this event on, behind those of the path, or None."""
-        key = at, posted, requests.key(), ring.key()
+    def is_new(self, key, posted, event, path):
+        """Whether the search is in this state for the first time. It is noted, and so is the path if none reached so far."""
         if key in self.been:
-            return None
+            return False
         self.been.add(key)
         if len(self.been) > MOST_STATES:
             raise GaveUp
-        if (posted, at) > self.furthest:
-            self.furthest, self.reached = (posted, at), path
+        if (posted, event) > self.furthest:
+            self.furthest, self.reached = (posted, event), path
+        return True
+
+    def search(self, at, posted, requests, ring, dropped, path):
+        """The parts of a trace from this event on, after those of the path, or None."""
+        if not self.is_new((at, posted, requests.key(), ring.key()), posted, at, path):
+            return None
         if at == len(self.events):
             rest = self.rest(requests)
             if rest is not None and posted == len(self.completions):
@@ -92,14 +97,14 @@ class Fill:
             return self.hidden(at, posted, requests, ring, dropped, path) if rest is None else None
         gone = self.passed(self.events[at], requests, ring, dropped)
         if gone:
-            steps, behind, now, lost = gone
-            found = self.search(at + 1, posted, behind, now, lost, (path, steps))
+            steps, after, now, lost = gone
+            found = self.search(at + 1, posted, after, now, lost, (path, steps))
             if found is not None:
                 return [steps, *found]
         return self.hidden(at, posted, requests, ring, dropped, path)
 
     def passed(self, event, requests, ring, dropped):
-        """The steps of an event, with what stands behind it, or None if it can't have been so now."""
+        """The steps of an event, with what stands after it, or None if it can't have been so now."""
         if isinstance(event, Staged):
             slot = event.position & self.mask
             if isinstance(event.item, int):
@@ -130,8 +135,8 @@ class Fill:
         return [*steps, f"head = head {event.head}"], requests.accepted(event.entries()), ring, event.dropped
 
     def hidden(self, at, posted, requests, ring, dropped, path):
-        for steps, more, behind, now in self.moves(at, posted, requests, ring):
-            found = self.search(at, posted + more, behind, now, dropped, (path, steps))
+        for steps, more, after, now in self.moves(at, posted, requests, ring):
+            found = self.search(at, posted + more, after, now, dropped, (path, steps))
             if found is not None:
                 return [steps, *found]
         return None
@@ -156,22 +161,22 @@ class Fill:
                 yield [f"issue {number} = run"], 0, requests.stands(number, "runs"), ring
 
     def ends(self, requests, number, result, ring):
-        for steps, given, behind in requests.ends_of(number):
+        for steps, given, after in requests.ends_of(number):
             if not (given == result or given is None and requests.entries[number].may_end_with(result)) or not requests.posts(number, result):
                 continue
             before, now = ring.posted()
             if given is None:
-                steps, behind = [*steps, f"finish {number} = ended {result}"], behind.stands(number, result)
-            yield [*before, *steps], 1, behind, now
+                steps, after = [*steps, f"finish {number} = ended {result}"], after.stands(number, result)
+            yield [*before, *steps], 1, after, now
 
     def silent_ends(self, requests, number, ring):
-        for steps, given, behind in requests.ends_of(number):
+        for steps, given, after in requests.ends_of(number):
             result = requests.entries[number].length if given is None else given
             if requests.posts(number, result):
                 continue
             if given is None:
-                steps, behind = [*steps, f"finish {number} = ended {result}"], behind.stands(number, result)
-            yield steps, 0, behind, ring
+                steps, after = [*steps, f"finish {number} = ended {result}"], after.stands(number, result)
+            yield steps, 0, after, ring
 
     def rest(self, requests):
         """Nothing, if each request has ended; None, if one is outstanding."""

@@ -8,7 +8,7 @@ from conforming.seen import Call, Look, Staged, Stored
 
 
 class Submissions:
-    """A call as it is written: the groups of the positions that it is to consume, and the lines of each, with those of the ring's words before the first and behind the last."""
+    """A call as it is written: the groups of the positions that it is to consume, and the lines of each, with those of the ring's words before the first and after the last."""
 
     def __init__(self, event, groups, lines):
         self.event, self.groups, self.lines = event, groups, lines

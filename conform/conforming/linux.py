@@ -2,14 +2,14 @@
 
 The rules, each as docs/PROTOCOL.md tells it:
 
-- A call takes entries until it has as many as it was asked for, up to a word that names no slot, or up to a faulty entry without a link flag in a ring that stops. Groups are accepted one by one, each behind its last member; requests go on between them.
+- A call takes entries until it has as many as it was asked for, up to a word that names no slot, or up to a faulty entry without a link flag in a ring that stops. Groups are accepted one by one, each after its last member; requests go on between them.
 - A group with a fault ends at once, from its first member on, and nobody waits for it.
 - A drain and a skip count on an entry whose operation and flags are known, whatever else is wrong with it. Such an entry is let in, if it is no drain that is refused.
-- A ring drains from the first entry on that asks for it, and until a group without a fault is accepted that doesn't, while nothing else is outstanding but what is deferred. Each group accepted meanwhile is deferred, in order. The first of those deferred goes on once all that isn't deferred has ended, and with it those behind it up to the next that drains.
+- A ring drains from the first entry on that asks for it, and until a group without a fault is accepted that doesn't, while nothing else is outstanding but what is deferred. Each group accepted meanwhile is deferred, in order. The first of those deferred goes on once all that isn't deferred has ended, and with it those after it up to the next that drains.
 - A group drains if a member does; if that isn't its first one, a drain is owed to the next group whose first entry is let in.
 - A drain fails with -95 once an entry has asked for skipped success, whatever else is wrong with it.
 - A cancel finds what has started and hasn't ended, and ends with -114, or else with -2. One of all ends with 0. Nobody is cancelled.
-- Who is cancelled behind a failure posts nothing if the member that failed has the skip flag, and else posts, whatever its own flags. Of a group with a fault the first member is the one that failed.
+- Who is cancelled after a failure posts nothing if the member that failed has the skip flag, and else posts, whatever its own flags. Of a group with a fault the first member is the one that failed.
 
 Beyond them, the kernel's cancels do what BEYOND names:
 
@@ -89,21 +89,21 @@ class LinuxRequests:
     # accepting
 
     def accepted(self, entries):
-        """Behind the acceptance of a group of these entries."""
+        """After the acceptance of a group of these entries."""
         taken, rules = all_taken(entries, self.rules)
         drains, at, is_workers = taken.drains, len(self.groups), rules.drains or entries[-1].is_linked()
-        behind = self.changed(
+        after = self.changed(
             entries=self.entries + taken.entries,
             groups=self.groups + (Group(len(self.entries), taken.faults, drains, is_workers),),
             standing=self.standing + (WAITS,) * len(entries),
             rules=rules,
         )
-        if not rules.drains or behind.groups[at].has_fault():
-            return behind
-        behind = behind.changed(deferred=self.deferred + (at,)).released()
-        if not drains and not behind.deferred:
-            behind = behind.changed(rules=Rules(False, rules.next_drains, rules.skips))
-        return behind
+        if not rules.drains or after.groups[at].has_fault():
+            return after
+        after = after.changed(deferred=self.deferred + (at,)).released()
+        if not drains and not after.deferred:
+            after = after.changed(rules=Rules(False, rules.next_drains, rules.skips))
+        return after
 
     def released(self):
         """Lets go on what is deferred and need not be any more."""
@@ -195,9 +195,9 @@ class LinuxRequests:
         certain = [it for it in found if it not in self.chosen]
         if self.entries[number].name == "cancelall":
             polled = sum(self.is_polled(it) for it in certain)
-            behind = self.changed(chosen=self.chosen | set(found))
+            after = self.changed(chosen=self.chosen | set(found))
             for count in range(polled, len(found) + finds_itself + 1):
-                yield count, behind.ended(number, count)
+                yield count, after.ended(number, count)
             return
         if finds_itself:
             yield ALREADY, self.ended(number, ALREADY)
@@ -233,7 +233,7 @@ class Taken:
 
 
 def taken(group, rules, entry):
-    """Behind one entry that a call takes: the group that it is amid, the rules, and whether its fault stops a ring that stops."""
+    """After one entry that a call takes: the group that it is amid, the rules, and whether its fault stops a ring that stops."""
     skips = rules.skips or entry.is_skipping() and not entry.is_refused
     asks_to_drain = "D" in entry.flags and not entry.is_refused
     fault = UNSUPPORTED if asks_to_drain and skips else INVALID if entry.is_faulty else None
@@ -246,7 +246,7 @@ def taken(group, rules, entry):
 
 
 def all_taken(entries, rules):
-    """Behind all entries of a group."""
+    """After all entries of a group."""
     group = Taken()
     for entry in entries:
         group, rules, _ = taken(group, rules, entry)
@@ -254,7 +254,7 @@ def all_taken(entries, rules):
 
 
 def groups_of(call, rules, is_stop):
-    """The positions that a call is to consume of those that it was asked for, cut behind each group, and the rules behind it."""
+    """The positions that a call is to consume of those that it was asked for, cut after each group, and the rules after it."""
     groups, group = [[]], Taken()
     for item in call.offered:
         groups[-1].append(item)

@@ -1,6 +1,6 @@
 """The quick search by Linux's rules. By the rules alone its histories are traces that `uring check --results` takes; with what cancels do beyond them, their steps are words of its own."""
 
-from conforming.fill import MOST_STATES, Fill, GaveUp, Ring
+from conforming.fill import Fill, Ring
 from conforming.gaps import Written
 from conforming.linux import CarriedOut, LinuxRequests
 from conforming.requests import RUNS, WAITS
@@ -20,15 +20,9 @@ class LinuxFill(Fill):
         return steps if steps is None else [line for part in steps for line in part]
 
     def search(self, at, posted, requests, ring, dropped, path):
-        key = at, posted, requests.key(), ring.key()
-        if key in self.been:
-            return None
-        self.been.add(key)
-        if len(self.been) > MOST_STATES:
-            raise GaveUp
         event = at[0]
-        if (posted, event) > self.furthest:
-            self.furthest, self.reached = (posted, event), path
+        if not self.is_new((at, posted, requests.key(), ring.key()), posted, event, path):
+            return None
         if event == len(self.events):
             is_over = not any(requests.is_outstanding(it) for it in range(len(requests.entries)))
             if is_over and posted == len(self.completions):
@@ -36,14 +30,14 @@ class LinuxFill(Fill):
             return None if is_over else self.hidden(at, posted, requests, ring, dropped, path)
         gone = self.goes_on(at, requests, ring, dropped)
         if gone:
-            steps, now, behind, moved, lost = gone
-            found = self.search(now, posted, behind, moved, lost, (path, steps))
+            steps, now, after, moved, lost = gone
+            found = self.search(now, posted, after, moved, lost, (path, steps))
             if found is not None:
                 return [steps, *found]
         return self.hidden(at, posted, requests, ring, dropped, path)
 
     def goes_on(self, at, requests, ring, dropped):
-        """The steps of an event, and of a call those of its next group, with what stands behind them; nothing if it can't have been so now."""
+        """The steps of an event, and of a call those of its next group, with what stands after them; nothing if it can't have been so now."""
         event, number = at
         it = self.events[event]
         if not isinstance(it, Call):
@@ -53,16 +47,16 @@ class LinuxFill(Fill):
         if not groups.may_be() or requests.has_cancel_to_carry_out():
             return None
         entries = groups.entries(number)
-        behind = requests.accepted(entries) if entries else requests
+        after = requests.accepted(entries) if entries else requests
         now = (event + 1, 0) if number + 1 >= len(groups.lines) else (event, number + 1)
-        return groups.lines[number], now, behind, ring, it.dropped
+        return groups.lines[number], now, after, ring, it.dropped
 
     def may_post(self, at, ring):
         return super().may_post(at[0], ring)
 
     def hidden(self, at, posted, requests, ring, dropped, path):
-        for steps, more, behind, now in self.moves(at, posted, requests, ring):
-            found = self.search(at, posted + more, behind, now, dropped, (path, steps))
+        for steps, more, after, now in self.moves(at, posted, requests, ring):
+            found = self.search(at, posted + more, after, now, dropped, (path, steps))
             if found is not None:
                 return [steps, *found]
         return None
@@ -86,22 +80,22 @@ class LinuxFill(Fill):
         if entry.user_data in self.named and not (entry.is_cancel and not requests.takes_back()):
             yield [f"issue {number} = run"], 0, requests.stands(number, RUNS), ring
         if requests.takes_back() and entry.is_cancel and (requests.found(number) or not requests.is_workers(number)):
-            for result, behind in requests.cancels(number):
-                yield [f"{number} cancels"], 0, behind.stands(number, CarriedOut((result,))), ring
+            for result, after in requests.cancels(number):
+                yield [f"{number} cancels"], 0, after.stands(number, CarriedOut((result,))), ring
 
     def ends(self, requests, number, result, ring):
         entry = requests.entries[number]
-        for given, behind in requests.ends_of(number):
+        for given, after in requests.ends_of(number):
             if not (given == result or given is None and entry.may_end_with(result)) or not requests.posts(number, result):
                 continue
             before, now = ring.posted()
-            yield [*before, *ended(requests, number, result, given)], 1, behind.ended(number, result) if given is None else behind, now
+            yield [*before, *ended(requests, number, result, given)], 1, after.ended(number, result) if given is None else after, now
 
     def silent_ends(self, requests, number, ring):
-        for given, behind in requests.ends_of(number):
+        for given, after in requests.ends_of(number):
             result = requests.entries[number].length if given is None else given
             if not requests.posts(number, result):
-                yield ended(requests, number, result, given), 0, behind.ended(number, result) if given is None else behind, ring
+                yield ended(requests, number, result, given), 0, after.ended(number, result) if given is None else after, ring
 
 
 def ended(requests, number, result, given):

@@ -8,6 +8,16 @@ import random
 from conforming.requests import FAULTS, OPERATIONS
 
 
+def operation(rng, kind, user_data, flags):
+    """A write, a read, an fsync or a no-op; the first three of a file that there is, or of none."""
+    file = rng.choice([0, 0, 1, 9])
+    if kind == "write":
+        return f"write {user_data} {flags} {file} {rng.randrange(8)} {rng.choice(['61', '6162', '-'])}"
+    if kind == "read":
+        return f"read {user_data} {flags} {file} {rng.randrange(8)} {rng.randrange(5)}"
+    return f"fsync {user_data} {flags} {file}" if kind == "fsync" else f"nop {user_data} {flags}"
+
+
 class Maker:
     def __init__(self, seed):
         self.rng = random.Random(seed)
@@ -43,12 +53,7 @@ class Maker:
             return f"hold {user_data} {flags}"
         if kind == "op":
             return f"op {rng.choice([200, 255])} {user_data} {flags}"
-        file = rng.choice([0, 0, 1, 9])
-        if kind == "write":
-            return f"write {user_data} {flags} {file} {rng.randrange(8)} {rng.choice(['61', '6162', '-'])}"
-        if kind == "read":
-            return f"read {user_data} {flags} {file} {rng.randrange(8)} {rng.randrange(5)}"
-        return f"fsync {user_data} {flags} {file}" if kind == "fsync" else f"nop {user_data} {flags}"
+        return operation(rng, kind, user_data, flags)
 
     def group(self, room):
         """The items of one group."""
@@ -137,12 +142,7 @@ class FreeMaker:
         if kind == "hold":
             self.held.append(user_data)
             return f"hold {user_data} {flags}"
-        file = rng.choice([0, 0, 1, 9])
-        if kind == "write":
-            return f"write {user_data} {flags} {file} {rng.randrange(8)} {rng.choice(['61', '6162', '-'])}"
-        if kind == "read":
-            return f"read {user_data} {flags} {file} {rng.randrange(8)} {rng.randrange(5)}"
-        return f"fsync {user_data} {flags} {file}" if kind == "fsync" else f"nop {user_data} {flags}"
+        return operation(rng, kind, user_data, flags)
 
     def fault(self):
         """What an entry with a fault begins with: an operation that nobody serves, or a fault of one that is served."""

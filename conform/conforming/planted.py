@@ -73,7 +73,7 @@ def returned(lines, at):
 
 
 def added(name, number):
-    """A completion of this name comes behind the first one."""
+    """A completion of this name comes after the first one."""
 
     def change(lines, at):
         if not is_end(lines[at]):
@@ -107,7 +107,7 @@ MISTAKES = [
     ("a broken chain goes on", "links/a short read breaks", result("2", 0)),
     ("a chain breaks without a failure", "links/a pair", result("2", -125)),
     ("a drain is passed", "drains/a drain waits for a hold", swapped("1", "2")),
-    ("one behind a drain passes it", "drains/later ones wait for a drain", swapped("2", "3")),
+    ("one after a drain passes it", "drains/later ones wait for a drain", swapped("2", "3")),
     ("a cancel of nobody found one", "cancel/nobody", result("1", 0)),
     ("a cancel that chose found nobody", "cancel/a hold", result("2", -2)),
     ("a cancel of all counts wrong", "cancel/all of two holds", result("2", 1)),
@@ -121,14 +121,14 @@ MISTAKES = [
 # Mistakes where Linux has rules of its own.
 LINUX_MISTAKES = [
     ("a cancel finds what is held back", "cancel/a held-back member", result("3", 0)),
-    ("a cancel finds what stands behind it", "cancel/one that stands behind it", result("1", 0)),
+    ("a cancel finds what stands after it", "cancel/one that stands after it", result("1", 0)),
     ("a cancel of all counts what is held back", "cancel/all of a held-back member", result("3", 1)),
-    ("a drain is served beside skipped success", "skip/a drain behind it", result("2", 0)),
-    ("a member is posted behind a skipping failure", "skip/a failing head", added("2", -125)),
-    ("a fault is posted behind a skipping head", "skip/a faulty member behind a head", added("2", -22)),
-    ("a call goes on behind a bad word", "words/one at the start", calls((2, 1, 2), (0, 0, 2))),
-    ("a call ends behind a linked fault", "faults/a ring that stops, a linked fault", calls((3, 1, 1), (2, 2, 3))),
-    ("a call goes on behind a fault", "faults/a ring that stops, at the first", calls((3, 3, 3), (0, 0, 3))),
+    ("a drain is served beside skipped success", "skip/a drain after it", result("2", 0)),
+    ("a member is posted after a skipping failure", "skip/a failing head", added("2", -125)),
+    ("a fault is posted after a skipping head", "skip/a faulty member after a head", added("2", -22)),
+    ("a call goes on after a bad word", "words/one at the start", calls((2, 1, 2), (0, 0, 2))),
+    ("a call ends after a linked fault", "faults/a ring that stops, a linked fault", calls((3, 1, 1), (2, 2, 3))),
+    ("a call goes on after a fault", "faults/a ring that stops, at the first", calls((3, 3, 3), (0, 0, 3))),
 ]
 
 

@@ -123,7 +123,7 @@ class Requests:
         return [it for it in range(len(self.entries)) if it != number and self.entries[it].user_data == named and self.is_outstanding(it) and not self.is_doomed(it)]
 
     def cancelled(self, number):
-        """What a cancel ends with, and how the requests stand behind it."""
+        """What a cancel ends with, and how the requests stand after it."""
         targets = self.targets(number)
         if self.entries[number].name == "cancelall":
             chosen = [it for it in targets if not self.runs(it)]
@@ -146,8 +146,8 @@ class Requests:
         elif not self.may_start(number):
             return
         elif entry.is_cancel:
-            result, behind = self.cancelled(number)
-            yield [f"issue {number} = ended {result}"], result, behind
+            result, after = self.cancelled(number)
+            yield [f"issue {number} = ended {result}"], result, after
         else:
             yield [f"issue {number} = run"], None, self.stands(number, RUNS)
 

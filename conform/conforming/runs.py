@@ -7,7 +7,7 @@ from conforming import gaps
 from conforming.fill import Fill, GaveUp
 from conforming.linux import BEYOND
 from conforming.linux_fill import LinuxFill
-from conforming.seen import Look, events_of
+from conforming.seen import events_of
 from conforming.setup import Setup
 
 TOP = os.path.dirname(os.path.dirname(os.path.dirname(os.path.abspath(__file__))))
@@ -59,7 +59,7 @@ def quick(setup, fill, is_linux):
     try:
         steps = fill.trace()
     except GaveUp:
-        return Verdict("gave up", why=f"behind {len(fill.been)} states")
+        return Verdict("gave up", why=f"after {len(fill.been)} states")
     if steps is None:
         why, first = fill.why()
         return Verdict("unexplained", head + "\n".join([*fill.furthest_trace(), f"# {why}"]) + "\n", why, first)

@@ -2,7 +2,7 @@
 
     NAME [OPTIONS]: STATEMENT; STATEMENT; .. ~ DIFFERENCE
 
-The options are those of a set-up, the statements those that the recorder takes, with `call` alone for a call that submits what is staged. Behind ~ stands where Linux is known to differ (conforming/differences.py), so that no history is to be found.
+The options are those of a set-up, the statements those that the recorder takes, with `call` alone for a call that submits what is staged. After ~ stands where Linux is known to differ (conforming/differences.py), so that no history is to be found.
 """
 
 import os

@@ -67,7 +67,7 @@ void store_put(struct store *store, uint32_t key, const char value[STORE_VALUE])
     record->check = check_of(record);
 }
 
-/* A chain: the writes one after the other, and the fsync behind them. A write that succeeds says nothing; one that fails
+/* A chain: the writes one after the other, and the fsync after them. A write that succeeds says nothing; one that fails
  * breaks the chain, so that the fsync is cancelled. */
 static void prepare_commit(struct store *store)
 {

@@ -233,7 +233,7 @@ def look_at(options, run):
 def tell(options, failure):
     """Makes a failure short and tells it: the fewest choices before, then the fewest losses, then the earliest moment. It takes so many seconds at most, and tells what it has by then."""
     how = {"list:": "in order"}.get(failure.policy, failure.policy)
-    print(f"a crash fails: run {how}, behind event {failure.moment}, status {failure.status}", flush=True)
+    print(f"a crash fails: run {how}, after event {failure.moment}, status {failure.status}", flush=True)
     crasher = Crasher(options)
     crasher.deadline = time.monotonic() + options.shorten
     try:
@@ -276,7 +276,7 @@ def search(crasher, run):
             disk.advance(moment)
             numbers = unsettled(disk)
             for at in range(min(tries, max(1, len(numbers))) if kind == "single" else tries):
-                lost = lost_by(disk, kind, at, numbers)
+                lost = lost_by(kind, at, numbers)
                 if crasher.is_over():
                     return None
                 if lost and crasher.verdict(image_of(disk, Chosen("lose", lost)), run.printed(moment))[0] != 0:
@@ -284,7 +284,7 @@ def search(crasher, run):
     return None
 
 
-def lost_by(disk, kind, at, numbers):
+def lost_by(kind, at, numbers):
     if kind == "least":
         return [(it,) for it in numbers]
     if kind == "single":
@@ -343,7 +343,7 @@ def show(options, run, moment, chosen):
             print(f"choice {at}: {what}, way {way} of 0 to {count - 1}")
     for line in told_operations(disk, run, moment):
         print(line)
-    print(f"the power fails behind event {moment}")
+    print(f"the power fails after event {moment}")
     for line in losses(disk, image, whole):
         print(line)
     print(f"\nstatus {status}", flush=True)

@@ -7,7 +7,7 @@ import errno
 import os
 import stat
 
-from crashing.events import COPY, CREATE, IS_OF_DATA, IS_OF_RANGE, LENGTH, LINK, MAKE_FOLDER, MAKE_LINK, MAPPED, OF_NAMES, REMOVE, RENAME, SPACE, SYNC, SYNC_ALL, SYNCS_ITS_RANGE, WRITE
+from crashing.events import COPY, CREATE, IS_OF_DATA, IS_OF_RANGE, LENGTH, LINK, MAKE_FOLDER, MAKE_LINK, MAPPED, OF_NAMES, REMOVE, SPACE, SYNC, SYNC_ALL, SYNCS_ITS_RANGE, WRITE
 from crashing.labels import Bytes, Parts
 
 # Modes of fallocate, and a flag of renameat2.
@@ -118,7 +118,7 @@ class Disk:
                 self.ends.setdefault(operation.end, []).append(operation)
 
     def advance(self, moment):
-        """Goes on to the moment behind so many events."""
+        """Goes on to the moment after so many events."""
         for at in range(self.now, moment):
             self.now = at + 1
             for operation in self.begins.get(at, []):

@@ -20,10 +20,10 @@ def read_events(data):
         size, event.kind, event.flags, event.process, event.thread, event.operation, event.file, event.second, event.offset, event.length, event.result, path, second, count = HEAD.unpack_from(data, at)
         if size < HEAD.size or at + size > len(data) or size != HEAD.size + path + second + count:
             return found, True
-        behind = at + HEAD.size
-        event.path = data[behind : behind + path].decode(errors="surrogateescape")
-        event.second_path = data[behind + path : behind + path + second].decode(errors="surrogateescape")
-        event.bytes = data[behind + path + second : at + size]
+        after = at + HEAD.size
+        event.path = data[after : after + path].decode(errors="surrogateescape")
+        event.second_path = data[after + path : after + path + second].decode(errors="surrogateescape")
+        event.bytes = data[after + path + second : at + size]
         found.append(event)
         at += size
     return found, at != len(data)

@@ -79,7 +79,7 @@ def crash_file(disk, file, syncs, chosen):
 def with_length(disk, file, syncs, left):
     """What may be left of a file's bytes, once it is known which changes its length shows.
 
-    A truncation changes bytes and length as one (our own rule; `apart`: not): if its length isn't left, neither are its zeros, nor what was written behind it once it had ended. Where names are ordered, a file that grew has the bytes with which it grew (ext4's data=ordered). What is there for certain is said to the volume as a sync of its range.
+    A truncation changes bytes and length as one (our own rule; `apart`: not): if its length isn't left, neither are its zeros, nor what was written after it once it had ended. Where names are ordered, a file that grew has the bytes with which it grew (ext4's data=ordered). What is there for certain is said to the volume as a sync of its range.
     """
     kept, lost = list(syncs), [] if disk.is_apart else [it for it in file.changes if it.is_exact and it not in left]
     for change in left:

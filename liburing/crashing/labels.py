@@ -261,7 +261,7 @@ class Bytes(History):
 
 
 def hides(cut, change, last):
-    """Whether nothing of a change is left of units up to a place where a truncation's length isn't: of the truncation's zeros, and of what was written once it had ended, if they have bytes behind its place."""
+    """Whether nothing of a change is left of units up to a place where a truncation's length isn't: of the truncation's zeros, and of what was written once it had ended, if they have bytes after its place."""
     return last > cut.length and (change is cut or (cut.end is not None and cut.end < change.begin))
 
 

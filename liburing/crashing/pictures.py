@@ -20,7 +20,7 @@ OF_FILES = (*OF_BYTES, LENGTH, SPACE)
 def draw(options, run, moment, image, whole, status, said):
     """Writes the page of one crash, and its data."""
     last = printing(said.rstrip(b"\n").rsplit(b"\n", 1)[-1][-200:])
-    told = f"the power fails behind event {moment}; the check ends with status {status}" + (f": {last}" if last else "")
+    told = f"the power fails after event {moment}; the check ends with status {status}" + (f": {last}" if last else "")
     data = {"group": "disk", "name": "the run, until the power fails", "told": told, "setup": {"sq": 0, "cq": 0, "start": 0, "stops": False}, "headings": ["operations"]}
     data.update(of_run(run, moment, image, whole, status))
     write({"form": 2, "title": "A crash", "told": " ".join(options.shown), "runs": [data]}, options.page, options.json)
@@ -38,7 +38,7 @@ def of_run(run, moment, image, whole, status):
             lines.append(line_of(at, f"{NAMES[operation.kind]} of {path_of(disk, operation)} begins", [{"request": operation.number, "is": "accepted"}, {"request": operation.number, "is": "runs", "why": "runs"}]))
         for operation in ends.get(at, []):
             lines.append(line_of(at, f"operation {operation.number} ends", [{"request": operation.number, "is": "ended", "result": operation.result or 0}]))
-            lines[-1].update(answer=str(operation.result or 0), **state_of(disk, operation, moment))
+            lines[-1].update(answer=str(operation.result or 0), **state_of(disk, operation))
             if makes_safe(operation):
                 lines[-1]["changes"] += newly_safe(disk, begun, at, safe)
         if at in printed:
@@ -81,8 +81,8 @@ def request_of(disk, operation):
     return request
 
 
-def state_of(disk, operation, moment):
-    """How the file of an operation stands behind it."""
+def state_of(disk, operation):
+    """How the file of an operation stands after it."""
     if operation.kind not in (*OF_FILES, SYNC) or operation.file not in disk.by_inode:
         return {}
     file = disk.files[disk.by_inode[operation.file]]

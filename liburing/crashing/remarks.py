@@ -13,10 +13,10 @@ class Remarks:
         for remark in run.remarks:
             self.tell(remark)
 
-    def tell(self, remark, behind=""):
+    def tell(self, remark, after=""):
         if remark not in self.told:
             self.told.add(remark)
-            print(f"explore: {remark}{behind}", file=sys.stderr)
+            print(f"explore: {remark}{after}", file=sys.stderr)
 
     def add(self, policy, status, remarks):
         if status != self.status:

@@ -92,7 +92,7 @@ class Run:
         return disk
 
     def moments(self):
-        """Where something has happened: behind so many events."""
+        """Where something has happened: after so many events."""
         marks = {0, self.log.count}
         for operation in self.log.operations:
             marks.add(operation.begin + 1)
@@ -109,7 +109,7 @@ class Run:
         disk.advance(self.log.count)
         remarks = list(disk.remarks)
         if self.log.is_cut or self.is_ended:
-            remarks.append("the log couldn't be written to the run's end: what happened behind it isn't crashed")
+            remarks.append("the log couldn't be written to the run's end: what happened after it isn't crashed")
         names = {folder: dict(inside) for folder, inside in disk.names.items()}
         for naming in sorted(disk.namings, key=ended):
             if naming.end is not None:

@@ -14,7 +14,7 @@ from exploring.side_by_side import MOST_AT_ONCE, Progress, pool_of
 
 
 class Orders:
-    """What was seen so far, and the lists of first choices that are left to run. `is_reduced`: of runs that differ only in the order of what commutes, one is enough; so with each list stand the ways that needn't be tried behind it (`reducing.unfold`)."""
+    """What was seen so far, and the lists of first choices that are left to run. `is_reduced`: of runs that differ only in the order of what commutes, one is enough; so with each list stand the ways that needn't be tried after it (`reducing.unfold`)."""
 
     def __init__(self, is_reduced):
         self.is_reduced = is_reduced

@@ -21,7 +21,7 @@ MOST_SEEDS = 20
 
 
 class Lines:
-    """A trace's steps with what the layer notes of them: choices, and notes on the step that comes, stand before it; how requests end and what they are, behind it."""
+    """A trace's steps with what the layer notes of them: choices, and notes on the step that comes, stand before it; how requests end and what they are, after it."""
 
     def __init__(self, trace):
         head, *rest = trace.splitlines() or ["setup"]

@@ -1,12 +1,11 @@
 """Which things that could go on commute, and so which runs only repeat others.
 
-A way is a letter, a ring and a request's number, as `liburing/layer/choices/outlook.h` tells it: `i` starts a request, `e` ends it unstarted, `f` finishes it, `b` starts and finishes it, and `r` returns to the application. Two ways commute if each can still go on behind the other, does the same there, and the application can't tell in which order they went. What isn't known to commute is taken not to.
+A way is a letter, a ring and a request's number, as `liburing/layer/choices/outlook.h` tells it: `i` starts a request, `e` ends it unstarted, `f` finishes it, `b` starts and finishes it, and `r` returns to the application. Two ways commute if each can still go on after the other, does the same there, and the application can't tell in which order they went. What isn't known to commute is taken not to.
 """
 
 import collections
 
 READS, WRITES, NOTHING = (22, 1), (23, 2), (0, 3)
-SKIP_SUCCESS = 64
 
 Request = collections.namedtuple("Request", "code flags address offset length kind")
 Way = collections.namedtuple("Way", "letter ring number request is_silent")
@@ -84,7 +83,7 @@ def commute_starts(one, other):
 
 
 def commute_return(one, other):
-    """A start beside the return to the application that went on: it may be made before or behind it. A return that would be made elsewhere doesn't commute: nobody knows what the application calls then."""
+    """A start beside the return to the application that went on: it may be made before or after it. A return that would be made elsewhere doesn't commute: nobody knows what the application calls then."""
     return other.letter == "r" and one.letter == "i" and one.request.kind == "plain"
 
 
@@ -98,7 +97,7 @@ def are_plain(one, other):
 
 
 def commute(one, other):
-    """Whether one that is asleep stays so behind the other, which went on."""
+    """Whether one that is asleep stays so after the other, which went on."""
     if "r" in (one.letter, other.letter):
         return commute_return(one, other)
     if (one.ring, one.number) == (other.ring, other.number):

@@ -29,7 +29,7 @@ uint32_t bypassed_vectors __attribute__((visibility("hidden")));
  * to no time; those of 64 would slow the processor down. */
 uint32_t are_vectors_short __attribute__((visibility("hidden")));
 
-/* On the stack, from its top on: 32 vectors of 32 bytes, 8 masks, and how numbers are rounded; and behind the room which way was taken: 0, all is saved; 1, of the first vectors 16
+/* On the stack, from its top on: 32 vectors of 32 bytes, 8 masks, and how numbers are rounded; and after the room which way was taken: 0, all is saved; 1, of the first vectors 16
  * bytes are; 2, 32. What isn't in use isn't written, since a program that has none of it would be slow after that. The state of x87, of which nothing here has an instruction, stays. */
 #define OF_FIRST "0,1,2,3,4,5,6,7,8,9,10,11,12,13,14,15"
 #define OF_FURTHER "16,17,18,19,20,21,22,23,24,25,26,27,28,29,30,31"

@@ -59,8 +59,8 @@ static void want_real(void)
         find_real();
 }
 
-/* Whether the thread looks after a close now. */
-static __thread bool is_behind __attribute__((tls_model("initial-exec")));
+/* Whether the thread looks for closed rings now. */
+static __thread bool is_looking __attribute__((tls_model("initial-exec")));
 
 /* A block of memory that is to be freed, and the next (malloc's smallest has room for that). */
 struct block {
@@ -81,7 +81,7 @@ void __real_free(void *block);
 /* Whatever the layer, its library, and this one free goes here. */
 __attribute__((visibility("hidden"))) void __wrap_free(void *block)
 {
-    if (is_behind) {
+    if (is_looking) {
         if (block)
             keep_block(block);
         return;
@@ -95,13 +95,13 @@ __attribute__((visibility("hidden"))) void __wrap_free(void *block)
     }
 }
 
-static void look_behind(void)
+static void look_for_closed(void)
 {
     int kept = errno;
-    bool was_behind = is_behind;
-    is_behind = true;
+    bool was_looking = is_looking;
+    is_looking = true;
     wulgach_look_for_closed();
-    is_behind = was_behind;
+    is_looking = was_looking;
     errno = kept;
 }
 
@@ -121,7 +121,7 @@ SEEN int close(int fd)
     bool may_be_ring = wulgach_may_name_ring(fd);
     int result = real.close(fd);
     if (may_be_ring)
-        look_behind();
+        look_for_closed();
     return result;
 }
 
@@ -130,7 +130,7 @@ SEEN int close_range(unsigned first, unsigned last, int flags)
 {
     want_real();
     int result = real.close_range ? real.close_range(first, last, flags) : (int)syscall(SYS_close_range, first, last, flags);
-    look_behind();
+    look_for_closed();
     return result;
 }
 
@@ -141,7 +141,7 @@ SEEN void closefrom(int first)
         real.closefrom(first);
     else
         syscall(SYS_close_range, first, ~0u, 0);
-    look_behind();
+    look_for_closed();
 }
 
 SEEN int dup2(int fd, int number)
@@ -150,7 +150,7 @@ SEEN int dup2(int fd, int number)
     bool may_be_ring = wulgach_may_name_ring(number);
     int result = real.dup2(fd, number);
     if (may_be_ring)
-        look_behind();
+        look_for_closed();
     return result;
 }
 
@@ -160,6 +160,6 @@ SEEN int dup3(int fd, int number, int flags)
     bool may_be_ring = wulgach_may_name_ring(number);
     int result = real.dup3(fd, number, flags);
     if (may_be_ring)
-        look_behind();
+        look_for_closed();
     return result;
 }

@@ -6,15 +6,13 @@
  */
 #define _GNU_SOURCE
 #include "files.h"
+#include "filters.h"
 #include "../layer/traces/logging.h"
 #include "../layer/process/passing.h"
 #include "run.h"
 
 #include <errno.h>
 #include <fcntl.h>
-#include <linux/audit.h>
-#include <linux/filter.h>
-#include <linux/seccomp.h>
 #include <stdatomic.h>
 #include <stdlib.h>
 #include <string.h>
@@ -26,8 +24,8 @@
 
 _Static_assert((int)EVENT_WRITE == WULGACH_CALL_WRITE && (int)EVENT_SPACE == WULGACH_CALL_SPACE && (int)EVENT_MAKE_FOLDER == WULGACH_CALL_MAKE_FOLDER && (int)EVENT_REMOVE == WULGACH_CALL_REMOVE, "calls and events have the same numbers");
 
-/* Lines of the filter; system calls have numbers below the other. */
-enum { MOST_LINES = 128, ALL_CALLS = 512 };
+/* System calls have numbers below this. */
+enum { ALL_CALLS = 512 };
 
 long end_operation(long result)
 {
@@ -179,68 +177,34 @@ bool serve_file_call(long number, const long words[6], long *result)
     return true;
 }
 
-/* Lines of the filter: a call is trapped, or only if an argument has one of some bits. Returns how many there are. */
-static size_t put_call(struct sock_filter *lines, uint32_t call)
+/* Our own calls pass; that of mmap has its mark at the descriptor. A mask is trapped that may block SIGSYS, as the C library's where it starts a program or a thread of
+ * its own, which then write files; and an action of another signal, whose mask may. */
+static const struct filter_row before_calls[] = {
+    {ANY_CALL, SECCOMP_RET_ALLOW, {{IS, UPPER(5), PASSES}}},
+    {ANY_CALL, SECCOMP_RET_ALLOW, {{IS, UPPER(4), PASSES}}},
+    {SYS_rt_sigprocmask, SECCOMP_RET_TRAP, {{IS_NOT, ARGUMENT(0), SIG_UNBLOCK}, {IS_NOT_WHOLE, ARGUMENT(1), 0}}},
+    {SYS_rt_sigaction, SECCOMP_RET_TRAP, {{IS_NOT, ARGUMENT(0), SIGSYS}, {IS_NOT_WHOLE, ARGUMENT(1), 0}}},
+};
+
+/* A call that is logged is trapped, or only if an argument has one of some bits. */
+static struct filter_row row_of_call(uint32_t call)
 {
-    const struct sock_filter traps = BPF_STMT(BPF_RET | BPF_K, SECCOMP_RET_TRAP);
+    struct filter_row row = {.call = (int)call, .result = SECCOMP_RET_TRAP};
     struct wulgach_bits bits;
-    if (!wulgach_seen_bits_of_call(call, &bits)) {
-        lines[0] = (struct sock_filter)BPF_JUMP(BPF_JMP | BPF_JEQ | BPF_K, call, 0, 1);
-        lines[1] = traps;
-        return 2;
-    }
-    const size_t low = offsetof(struct seccomp_data, args) + bits.argument * 8;
-    lines[0] = (struct sock_filter)BPF_JUMP(BPF_JMP | BPF_JEQ | BPF_K, call, 0, 4);
-    lines[1] = (struct sock_filter)BPF_STMT(BPF_LD | BPF_W | BPF_ABS, (uint32_t)low);
-    lines[2] = (struct sock_filter)BPF_JUMP(BPF_JMP | BPF_JSET | BPF_K, bits.bits, 0, 1);
-    lines[3] = traps;
-    lines[4] = (struct sock_filter)BPF_STMT(BPF_RET | BPF_K, SECCOMP_RET_ALLOW);
-    return 5;
+    if (wulgach_seen_bits_of_call(call, &bits))
+        row.conditions[0] = (struct condition){HAS, (uint32_t)ARGUMENT(bits.argument), bits.bits};
+    return row;
 }
 
 bool trap_files(void)
 {
-    struct sock_filter lines[MOST_LINES] = {
-        BPF_STMT(BPF_LD | BPF_W | BPF_ABS, offsetof(struct seccomp_data, arch)),
-        BPF_JUMP(BPF_JMP | BPF_JEQ | BPF_K, AUDIT_ARCH_X86_64, 1, 0),
-        BPF_STMT(BPF_RET | BPF_K, SECCOMP_RET_ALLOW),
-        /* Our own calls; that of mmap has its mark at the descriptor. */
-        BPF_STMT(BPF_LD | BPF_W | BPF_ABS, offsetof(struct seccomp_data, args[5]) + 4),
-        BPF_JUMP(BPF_JMP | BPF_JEQ | BPF_K, (uint32_t)PASSES, 2, 0),
-        BPF_STMT(BPF_LD | BPF_W | BPF_ABS, offsetof(struct seccomp_data, args[4]) + 4),
-        BPF_JUMP(BPF_JMP | BPF_JEQ | BPF_K, (uint32_t)PASSES, 0, 1),
-        BPF_STMT(BPF_RET | BPF_K, SECCOMP_RET_ALLOW),
-        BPF_STMT(BPF_LD | BPF_W | BPF_ABS, offsetof(struct seccomp_data, nr)),
-        /* A mask that may block SIGSYS, as the C library's where it starts a program or a thread of its own, which then write files. */
-        BPF_JUMP(BPF_JMP | BPF_JEQ | BPF_K, SYS_rt_sigprocmask, 0, 8),
-        BPF_STMT(BPF_LD | BPF_W | BPF_ABS, offsetof(struct seccomp_data, args[0])),
-        BPF_JUMP(BPF_JMP | BPF_JEQ | BPF_K, SIG_UNBLOCK, 5, 0),
-        BPF_STMT(BPF_LD | BPF_W | BPF_ABS, offsetof(struct seccomp_data, args[1])),
-        BPF_JUMP(BPF_JMP | BPF_JEQ | BPF_K, 0, 0, 2),
-        BPF_STMT(BPF_LD | BPF_W | BPF_ABS, offsetof(struct seccomp_data, args[1]) + 4),
-        BPF_JUMP(BPF_JMP | BPF_JEQ | BPF_K, 0, 1, 0),
-        BPF_STMT(BPF_RET | BPF_K, SECCOMP_RET_TRAP),
-        BPF_STMT(BPF_RET | BPF_K, SECCOMP_RET_ALLOW),
-        /* And an action of another signal, whose mask may. */
-        BPF_JUMP(BPF_JMP | BPF_JEQ | BPF_K, SYS_rt_sigaction, 0, 8),
-        BPF_STMT(BPF_LD | BPF_W | BPF_ABS, offsetof(struct seccomp_data, args[0])),
-        BPF_JUMP(BPF_JMP | BPF_JEQ | BPF_K, SIGSYS, 5, 0),
-        BPF_STMT(BPF_LD | BPF_W | BPF_ABS, offsetof(struct seccomp_data, args[1])),
-        BPF_JUMP(BPF_JMP | BPF_JEQ | BPF_K, 0, 0, 2),
-        BPF_STMT(BPF_LD | BPF_W | BPF_ABS, offsetof(struct seccomp_data, args[1]) + 4),
-        BPF_JUMP(BPF_JMP | BPF_JEQ | BPF_K, 0, 1, 0),
-        BPF_STMT(BPF_RET | BPF_K, SECCOMP_RET_TRAP),
-        BPF_STMT(BPF_RET | BPF_K, SECCOMP_RET_ALLOW),
-    };
-    size_t count = 27;
+    struct filter filter;
+    begin_filter(&filter);
+    put_rows(&filter, before_calls, COUNT(before_calls));
     for (uint32_t call = 0; call < ALL_CALLS; call++) {
-        if (wulgach_seen_logged_call(call) == WULGACH_CALL_NOTHING)
-            continue;
-        if (count + 6 > MOST_LINES)
-            return false;
-        count += put_call(lines + count, call);
+        struct filter_row row = row_of_call(call);
+        if (wulgach_seen_logged_call(call) != WULGACH_CALL_NOTHING)
+            put_rows(&filter, &row, 1);
     }
-    lines[count++] = (struct sock_filter)BPF_STMT(BPF_RET | BPF_K, SECCOMP_RET_ALLOW);
-    struct sock_fprog program = {.len = (unsigned short)count, .filter = lines};
-    return add_filter(&program);
+    return add_filter(&filter);
 }

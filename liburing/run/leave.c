@@ -31,8 +31,8 @@ static bool is_plain(const ucontext_t *at)
     if (!(at->uc_flags & HAS_EXTENDED_STATE) || !at->uc_mcontext.fpregs)
         return false;
     memcpy(&mark, (const char *)at->uc_mcontext.fpregs + AT_MARK, sizeof mark);
-    bool is_behind_call = registers[REG_RCX] == registers[REG_RIP];
-    return mark == EXTENDED_STATE && is_behind_call && !(registers[REG_EFL] & STEPS) && !((uint32_t)at->uc_stack.ss_flags & AUTODISARM) && !has_shadow_stack();
+    bool is_after_call = registers[REG_RCX] == registers[REG_RIP];
+    return mark == EXTENDED_STATE && is_after_call && !(registers[REG_EFL] & STEPS) && !((uint32_t)at->uc_stack.ss_flags & AUTODISARM) && !has_shadow_stack();
 }
 
 /* Of the vectors those parts are restored that the frame has room for: a processor may read all that it is asked for, and the frame may be the last that the

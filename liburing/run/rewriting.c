@@ -144,12 +144,12 @@ static struct site *site_of(const uint8_t *call)
 void note_site(const ucontext_t *at)
 {
     static int is_on = -1;
-    const uint8_t *behind = (const uint8_t *)at->uc_mcontext.gregs[REG_RIP];
+    const uint8_t *after = (const uint8_t *)at->uc_mcontext.gregs[REG_RIP];
     if (is_on == 0 || atomic_flag_test_and_set(&is_looked_at))
         return;
     if (is_on < 0)
         is_on = is_wanted();
-    struct site *site = is_on ? site_of(behind - 2) : NULL;
+    struct site *site = is_on ? site_of(after - 2) : NULL;
     if (site && site->traps < OFTEN && ++site->traps == OFTEN)
         site->is_rewritten = rewrite_whole(site->call);
     if (site && site->is_rewritten)

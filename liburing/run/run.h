@@ -51,11 +51,6 @@ bool catch_for_good(void (*handler)(int, siginfo_t *, void *));
 /* Does with a SIGSYS that isn't the trap's what the program asked for, as its own filter raises one, or another process. It came here. */
 void give_signal(int number, siginfo_t *info, ucontext_t *at, bool is_of_filter);
 
-struct sock_fprog;
-
-/* Adds a filter of our own for system calls. The kernel was told before that the process takes no new privileges. */
-bool add_filter(const struct sock_fprog *program);
-
 /* Whether a call was trapped on a stack that may be small, as any other than the one that the thread was made with, or that has little room left; what the
  * program says of where its signals come; and calling a function on one that is large. False: there is no memory for one. */
 bool wants_own_stack(const ucontext_t *at);

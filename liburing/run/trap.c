@@ -9,14 +9,13 @@
  */
 #define _GNU_SOURCE
 #include "files.h"
+#include "filters.h"
 #include "../layer/traces/logging.h"
 #include "../layer/process/passing.h"
 #include "rewriting.h"
 #include "run.h"
 
 #include <errno.h>
-#include <linux/audit.h>
-#include <linux/filter.h>
 #include <linux/io_uring.h>
 #include <linux/seccomp.h>
 #include <signal.h>
@@ -214,66 +213,36 @@ static bool catch_trap(void)
     return catch_for_good(answer);
 }
 
-/* A filter that stands already traps the setting of another, but ours. */
-bool add_filter(const struct sock_fprog *program)
-{
-    return syscall(SYS_prctl, PR_SET_SECCOMP, SECCOMP_MODE_FILTER, program, 0, 0, ASKS_KERNEL) == 0;
-}
-
 /* The three calls are trapped, and those that set a filter; and what would take SIGSYS away succeeds and does nothing: it can't be trapped, since a child
  * that the C library spawns does it with all signals blocked. A call with the 6th argument that none of them uses is our own,
  * to the kernel: SIGSYS is caught so, a strict layer asks the kernel for set-ups and its probe, and the program's filter is set. */
-static bool set_trap(void)
-{
-    const uint32_t x86_64 = 0xc000003e;
-    struct sock_filter lines[] = {
-        /* 0 */ BPF_STMT(BPF_LD | BPF_W | BPF_ABS, offsetof(struct seccomp_data, arch)),
-        /* 1 */ BPF_JUMP(BPF_JMP | BPF_JEQ | BPF_K, x86_64, 0, 21),
-        /* 2 */ BPF_STMT(BPF_LD | BPF_W | BPF_ABS, offsetof(struct seccomp_data, nr)),
-        /* 3 */ BPF_JUMP(BPF_JMP | BPF_JEQ | BPF_K, SYS_io_uring_enter, 17, 0),
-        /* 4 */ BPF_JUMP(BPF_JMP | BPF_JEQ | BPF_K, SYS_io_uring_setup, 12, 0),
-        /* 5 */ BPF_JUMP(BPF_JMP | BPF_JEQ | BPF_K, SYS_io_uring_register, 11, 0),
-        /* 6 */ BPF_JUMP(BPF_JMP | BPF_JEQ | BPF_K, SYS_seccomp, 10, 0),
-        /* 7 */ BPF_JUMP(BPF_JMP | BPF_JEQ | BPF_K, SYS_prctl, 7, 0),
-        /* 8 */ BPF_JUMP(BPF_JMP | BPF_JEQ | BPF_K, SYS_rt_sigaction, 0, 14),
-        /* 9 */ BPF_STMT(BPF_LD | BPF_W | BPF_ABS, offsetof(struct seccomp_data, args[0])),
-        /* 10 */ BPF_JUMP(BPF_JMP | BPF_JEQ | BPF_K, SIGSYS, 0, 12),
-        /* 11 */ BPF_STMT(BPF_LD | BPF_W | BPF_ABS, offsetof(struct seccomp_data, args[5])),
-        /* 12 */ BPF_JUMP(BPF_JMP | BPF_JEQ | BPF_K, (uint32_t)ASKS_KERNEL, 0, 9),
-        /* 13 */ BPF_STMT(BPF_LD | BPF_W | BPF_ABS, offsetof(struct seccomp_data, args[5]) + 4),
-        /* 14 */ BPF_JUMP(BPF_JMP | BPF_JEQ | BPF_K, (uint32_t)(ASKS_KERNEL >> 32), 8, 7),
-        /* 15 */ BPF_STMT(BPF_LD | BPF_W | BPF_ABS, offsetof(struct seccomp_data, args[0])),
-        /* 16 */ BPF_JUMP(BPF_JMP | BPF_JEQ | BPF_K, PR_SET_SECCOMP, 0, 6),
-        /* 17 */ BPF_STMT(BPF_LD | BPF_W | BPF_ABS, offsetof(struct seccomp_data, args[5])),
-        /* 18 */ BPF_JUMP(BPF_JMP | BPF_JEQ | BPF_K, (uint32_t)ASKS_KERNEL, 0, 2),
-        /* 19 */ BPF_STMT(BPF_LD | BPF_W | BPF_ABS, offsetof(struct seccomp_data, args[5]) + 4),
-        /* 20 */ BPF_JUMP(BPF_JMP | BPF_JEQ | BPF_K, (uint32_t)(ASKS_KERNEL >> 32), 2, 0),
-        /* 21 */ BPF_STMT(BPF_RET | BPF_K, SECCOMP_RET_TRAP),
-        /* 22 */ BPF_STMT(BPF_RET | BPF_K, SECCOMP_RET_ERRNO),
-        /* 23 */ BPF_STMT(BPF_RET | BPF_K, SECCOMP_RET_ALLOW),
-    };
-    struct sock_fprog program = {.len = sizeof lines / sizeof *lines, .filter = lines};
-    return prctl(PR_SET_NO_NEW_PRIVS, 1, 0, 0, 0) == 0 && add_filter(&program);
-}
+#define NOT_OURS {IS_NOT_WHOLE, ARGUMENT(5), ASKS_KERNEL}
+
+static const struct filter_row of_rings[] = {
+    {SYS_io_uring_enter, SECCOMP_RET_TRAP, {{NOTHING, 0, 0}}},
+    {SYS_io_uring_setup, SECCOMP_RET_TRAP, {NOT_OURS}},
+    {SYS_io_uring_register, SECCOMP_RET_TRAP, {NOT_OURS}},
+    {SYS_seccomp, SECCOMP_RET_TRAP, {NOT_OURS}},
+    {SYS_prctl, SECCOMP_RET_TRAP, {{IS, ARGUMENT(0), PR_SET_SECCOMP}, NOT_OURS}},
+    {SYS_rt_sigaction, SECCOMP_RET_ERRNO, {{IS, ARGUMENT(0), SIGSYS}, NOT_OURS}},
+};
 
 /* Memory that is shared with a file: a mapping by our own call has its mark at the descriptor. */
-static bool set_map_trap(void)
+static const struct filter_row of_maps[] = {
+    {SYS_mmap, SECCOMP_RET_TRAP, {{LACKS, ARGUMENT(3), MAP_ANONYMOUS}, {HAS, ARGUMENT(3), MAP_SHARED}, {IS_NOT, UPPER(4), PASSES}}},
+};
+
+static bool add_rows(const struct filter_row *rows, size_t count)
 {
-    struct sock_filter lines[] = {
-        /* 0 */ BPF_STMT(BPF_LD | BPF_W | BPF_ABS, offsetof(struct seccomp_data, arch)),
-        /* 1 */ BPF_JUMP(BPF_JMP | BPF_JEQ | BPF_K, AUDIT_ARCH_X86_64, 0, 8),
-        /* 2 */ BPF_STMT(BPF_LD | BPF_W | BPF_ABS, offsetof(struct seccomp_data, nr)),
-        /* 3 */ BPF_JUMP(BPF_JMP | BPF_JEQ | BPF_K, SYS_mmap, 0, 6),
-        /* 4 */ BPF_STMT(BPF_LD | BPF_W | BPF_ABS, offsetof(struct seccomp_data, args[3])),
-        /* 5 */ BPF_JUMP(BPF_JMP | BPF_JSET | BPF_K, MAP_ANONYMOUS, 4, 0),
-        /* 6 */ BPF_JUMP(BPF_JMP | BPF_JSET | BPF_K, MAP_SHARED, 0, 3),
-        /* 7 */ BPF_STMT(BPF_LD | BPF_W | BPF_ABS, offsetof(struct seccomp_data, args[4]) + 4),
-        /* 8 */ BPF_JUMP(BPF_JMP | BPF_JEQ | BPF_K, (uint32_t)PASSES, 1, 0),
-        /* 9 */ BPF_STMT(BPF_RET | BPF_K, SECCOMP_RET_TRAP),
-        /* 10 */ BPF_STMT(BPF_RET | BPF_K, SECCOMP_RET_ALLOW),
-    };
-    struct sock_fprog program = {.len = sizeof lines / sizeof *lines, .filter = lines};
-    return add_filter(&program);
+    struct filter filter;
+    begin_filter(&filter);
+    put_rows(&filter, rows, count);
+    return add_filter(&filter);
+}
+
+static bool set_trap(void)
+{
+    return prctl(PR_SET_NO_NEW_PRIVS, 1, 0, 0, 0) == 0 && add_rows(of_rings, COUNT(of_rings)) && add_rows(of_maps, COUNT(of_maps));
 }
 
 void unblock_trap(void)
@@ -310,7 +279,7 @@ static void __attribute__((constructor)) begin(void)
     /* (a parent that wasn't reached may have blocked it) */
     unblock_trap();
     bool is_set = is_trapped(), has_log = is_logging();
-    if (!catch_trap() || !(is_set || (set_trap() && set_map_trap() && (!has_log || trap_files())))) {
+    if (!catch_trap() || !(is_set || (set_trap() && (!has_log || trap_files())))) {
         say("the calls can't be trapped here: the kernel refuses the filter", "");
         _exit(125);
     }

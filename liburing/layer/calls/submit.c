@@ -33,7 +33,7 @@ static struct request *read_entry(struct ring *ring, uint32_t slot)
     wulgach_link_of(submission_of(&request->entry), &request->link);
     request->mapping = form_of(&request->entry, strict_fault(ring, &request->entry), allows_entry(ring, &request->entry), &request->fault);
     const struct request *before = ring->staged.count > 0 ? ring->staged.rows[ring->staged.count - 1] : NULL;
-    if (wulgach_copies_pieces(request->mapping) && copy_behind(request, before) < 0) {
+    if (wulgach_copies_pieces(request->mapping) && copy_after(request, before) < 0) {
         free_request(request);
         return NULL;
     }
@@ -116,12 +116,12 @@ static void mark_draining(struct ring *ring, size_t first, size_t end)
         rows[i]->is_draining = is_draining;
 }
 
-/* A request that was accepted just now finds its files at once, if that is said, or in its turn; `behind` tells that one before it may change slots. */
-static void find_for(struct ring *ring, struct request *request, bool behind)
+/* A request that was accepted just now finds its files at once, if that is said, or in its turn; `after` tells that one before it may change slots. */
+static void find_for(struct ring *ring, struct request *request, bool after)
 {
-    uint32_t found = wulgach_drains_find_file(&ring->drains, &request->member, ring->is_linux, behind, false, false);
+    uint32_t found = wulgach_drains_find_file(&ring->drains, &request->member, ring->is_linux, after, false, false);
     if (found == WULGACH_ASKS_START)
-        found = wulgach_drains_find_file(&ring->drains, &request->member, ring->is_linux, behind, true, can_issue(ring, request->number));
+        found = wulgach_drains_find_file(&ring->drains, &request->member, ring->is_linux, after, true, can_issue(ring, request->number));
     request->is_late = found == WULGACH_FOUND_AT_START;
     if (found == WULGACH_FOUND_BY_CALL)
         assign(ring, request);

@@ -32,7 +32,7 @@ static const char *const names[RULE_COUNT] = {
     [COMPLETION_OVERFLOWS] = "completion: one overflows the ring",
     [OVERFLOW_MOVES] = "completion: one that overflowed moves into the ring",
     [WORD_IS_DROPPED] = "call: an index word names no slot",
-    [CALL_STOPS] = "call: ends behind an entry with a fault",
+    [CALL_STOPS] = "call: ends after an entry with a fault",
     [ENTRY_HAS_FAULT] = "call: takes an entry with a fault",
 };
 

@@ -1,6 +1,6 @@
 /* The ways of a choice: which there are, and which one the policy takes. Only what can really go on is a way: running requests that
  * needn't wait, and those that the core says can be issued. Only those that may have to wait are looked at: so a choice takes no longer for
- * the others, nor for those that wait behind links.
+ * the others, nor for those that wait after links.
  */
 #include "choices/ways.h"
 #include "choices/issuable.h"

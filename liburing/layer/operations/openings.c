@@ -115,9 +115,9 @@ static bool has_writer(int fd)
 static void let_wait(int32_t fd)
 {
     int flags = fd >= 0 ? fcntl(fd, F_GETFL) : -1;
-    uint32_t behind;
-    if (wulgach_flags_after(fd >= 0, flags >= 0, (uint32_t)flags, &behind))
-        fcntl(fd, F_SETFL, (int)behind);
+    uint32_t after;
+    if (wulgach_flags_after(fd >= 0, flags >= 0, (uint32_t)flags, &after))
+        fcntl(fd, F_SETFL, (int)after);
 }
 
 /* Opens a path by this call, which is asked not to wait. Returns its descriptor, or the negative of an error number. */

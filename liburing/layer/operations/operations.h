@@ -13,7 +13,7 @@ enum { WOULD_WAIT = -512 };
 
 /* Copies what the entry points to; `before` is the request before it in its call, or NULL. An entry that points to what can't
  * be read is refused. Returns 0 or -ENOMEM. */
-int copy_behind(struct request *request, const struct request *before);
+int copy_after(struct request *request, const struct request *before);
 
 /* Copies vectors, and finds how much they hold. Returns their fault, or 0, or -ENOMEM. */
 int copy_vectors(struct request *request, const struct wulgach_piece *piece);

@@ -104,9 +104,9 @@ static struct asked ask_not_to_wait(int fd)
 static void take_back(struct asked asked)
 {
     int flags = asked.is_changed ? fcntl(asked.fd, F_GETFL) : -1;
-    uint32_t behind;
-    if (wulgach_flags_after(asked.is_changed, flags >= 0, (uint32_t)flags, &behind))
-        fcntl(asked.fd, F_SETFL, (int)behind);
+    uint32_t after;
+    if (wulgach_flags_after(asked.is_changed, flags >= 0, (uint32_t)flags, &after))
+        fcntl(asked.fd, F_SETFL, (int)after);
     if (asked.is_locked)
         set_lock(asked.fd, F_UNLCK);
 }

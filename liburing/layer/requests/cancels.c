@@ -1,7 +1,7 @@
 /* The core knows one cancel, by user data, which fails if it finds its request running. All others are no-ops to it, and so
  * is one on whose success a link or a skipped completion stands. Those are looked for here: a request that runs, or that the
  * core would let start, is marked, and ends with -125 when it is next gone on with. Which are found is the library's decision: as
- * in the kernel, one that waits behind a link or a drain isn't.
+ * in the kernel, one that waits after a link or a drain isn't.
  */
 #define _GNU_SOURCE
 #include "requests/cancels.h"
@@ -105,8 +105,8 @@ static bool look_for(struct ring *ring, struct wulgach_cancel *cancel, const str
     struct wulgach_outstanding seen = seen_by(ring, seeker, request);
     if (wulgach_asks_file(&cancel->sought, &seen))
         compare(&seen, request, on);
-    bool is_behind = seeker && wulgach_is_taken_after(seeker->number, seeker->member.is_linked, seeker->is_draining, request->number);
-    seen.may_start = wulgach_cancel_asks(cancel, &seen) && !is_behind && can_issue(ring, request->number);
+    bool is_taken_after = seeker && wulgach_is_taken_after(seeker->number, seeker->member.is_linked, seeker->is_draining, request->number);
+    seen.may_start = wulgach_cancel_asks(cancel, &seen) && !is_taken_after && can_issue(ring, request->number);
     return wulgach_cancel_sees(cancel, &seen);
 }
 

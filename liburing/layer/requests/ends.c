@@ -20,7 +20,7 @@ void note_wait(struct ring *ring, struct request *request)
 }
 
 /* A request ends that had started or not: which others are looked at again. */
-static void look_behind(struct ring *ring, const struct request *ended)
+static void look_after_end(struct ring *ring, const struct request *ended)
 {
     struct wulgach_end_of_one end = {.is_count_reached = ring->is_count_reached, .has_drains = ring->drains.outstanding > 0};
     wulgach_lookout_ends(&ring->lookout, &end);
@@ -123,7 +123,7 @@ static void do_duty(struct ring *ring, struct end_of_request *end, enum wulgach_
         forget_descriptor(ring, request);
         return;
     case WULGACH_END_LOOKS_BEHIND:
-        look_behind(ring, request);
+        look_after_end(ring, request);
         return;
     case WULGACH_END_LETS_START:
         note_issuable_after(ring, request, end->told);

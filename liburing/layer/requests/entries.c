@@ -140,7 +140,7 @@ static int32_t copy_pieces(struct request *request, const struct request *before
     return next;
 }
 
-int copy_behind(struct request *request, const struct request *before)
+int copy_after(struct request *request, const struct request *before)
 {
     const struct wulgach_submission *entry = submission_of(&request->entry);
     struct wulgach_piece buffer;

@@ -193,13 +193,13 @@ static bool free_parts(const struct request *request)
 /* The rows on the side that has fewer are moved: after a few that wait, a long chain ends from its beginning on. */
 __attribute__((noinline)) static size_t take_from_between(struct requests *requests, const struct request *request)
 {
-    size_t at = place_of(requests, request->number), behind = requests->count - at - 1;
-    if (at <= behind) {
+    size_t at = place_of(requests, request->number), after = requests->count - at - 1;
+    if (at <= after) {
         if (at > 0)
             memmove(requests->rows + 1, requests->rows, at * sizeof *requests->rows);
         drop_requests(requests, 1);
     } else {
-        memmove(requests->rows + at, requests->rows + at + 1, behind * sizeof *requests->rows);
+        memmove(requests->rows + at, requests->rows + at + 1, after * sizeof *requests->rows);
         requests->count--;
     }
     return at;

@@ -110,11 +110,11 @@ struct request *timeout_after(const struct ring *ring, const struct request *req
 /* What happens to a request matters to itself, if it is a timeout, and to the linked one after it. */
 void note_started(struct ring *ring, const struct request *request)
 {
-    const struct request *behind = timeout_after(ring, request);
+    const struct request *after = timeout_after(ring, request);
     if (is_timed(request))
         clock_timeout(ring, request, wulgach_timing_after_start(&request->member, &request->member, request->course.is_cancelled));
-    if (behind)
-        clock_timeout(ring, behind, wulgach_timing_after_start(&behind->member, &request->member, behind->course.is_cancelled));
+    if (after)
+        clock_timeout(ring, after, wulgach_timing_after_start(&after->member, &request->member, after->course.is_cancelled));
 }
 
 void note_found(struct ring *ring, const struct request *request)
@@ -125,11 +125,11 @@ void note_found(struct ring *ring, const struct request *request)
 
 void note_ended(struct ring *ring, const struct request *request)
 {
-    const struct request *behind = timeout_after(ring, request);
+    const struct request *after = timeout_after(ring, request);
     if (is_timed(request))
         clock_timeout(ring, request, wulgach_timing_after_end(&request->member, &request->member));
-    if (behind)
-        clock_timeout(ring, behind, wulgach_timing_after_end(&behind->member, &request->member));
+    if (after)
+        clock_timeout(ring, after, wulgach_timing_after_end(&after->member, &request->member));
 }
 
 /* The running request of a number, dormant or not; or NULL. */

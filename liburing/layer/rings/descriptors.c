@@ -336,7 +336,7 @@ static uint64_t coarse_time(void)
 }
 
 /* Looks whether rings are closed, as the library says that a call does which ends. */
-static void look_behind_call(void)
+static void look_after_call(void)
 {
     bool may_be_left = __atomic_load_n(&is_left_in_call, __ATOMIC_SEQ_CST);
     uint32_t rings = __atomic_load_n(&ring_count, __ATOMIC_RELAXED);
@@ -355,7 +355,7 @@ static void look_behind_call(void)
 void release_ring(struct ring *ring)
 {
     __atomic_sub_fetch(&ring->calls, 1, __ATOMIC_SEQ_CST);
-    look_behind_call();
+    look_after_call();
 }
 
 bool find_index(int fd, uint32_t *index)

@@ -19,7 +19,7 @@
 #include <unistd.h>
 
 /* Where the array and the completions stand in their mappings: after the words, on a cache line of their own. */
-enum { BEHIND_WORDS = 64 };
+enum { AFTER_WORDS = 64 };
 
 static void *map(int fd, size_t size, uint64_t offset)
 {
@@ -54,8 +54,8 @@ static int map_all(struct memory *memory, int fd)
     if (!memory->sq || !memory->cq || !memory->entries) {
         return -errno;
     }
-    memory->array = (uint32_t *)((char *)memory->sq + BEHIND_WORDS);
-    memory->completions = (struct io_uring_cqe *)((char *)memory->cq + BEHIND_WORDS);
+    memory->array = (uint32_t *)((char *)memory->sq + AFTER_WORDS);
+    memory->completions = (struct io_uring_cqe *)((char *)memory->cq + AFTER_WORDS);
     return 0;
 }
 
@@ -71,7 +71,7 @@ static void tell_offsets(struct io_uring_params *params, const struct memory *me
         .ring_entries = offsetof(struct sq_words, entries),
         .flags = offsetof(struct sq_words, flags),
         .dropped = offsetof(struct sq_words, dropped),
-        .array = BEHIND_WORDS,
+        .array = AFTER_WORDS,
     };
     params->cq_off = (struct io_cqring_offsets){
         .head = cq + offsetof(struct cq_words, head),
@@ -80,14 +80,14 @@ static void tell_offsets(struct io_uring_params *params, const struct memory *me
         .ring_entries = cq + offsetof(struct cq_words, entries),
         .overflow = cq + offsetof(struct cq_words, overflow),
         .flags = cq + offsetof(struct cq_words, flags),
-        .cqes = cq + BEHIND_WORDS,
+        .cqes = cq + AFTER_WORDS,
     };
 }
 
 /* The completion ring begins on a cache line. */
 static size_t round_to_line(size_t size)
 {
-    return (size + BEHIND_WORDS - 1) / BEHIND_WORDS * BEHIND_WORDS;
+    return (size + AFTER_WORDS - 1) / AFTER_WORDS * AFTER_WORDS;
 }
 
 void plan_memory(struct memory *memory, bool is_single, uint32_t sq_entries, uint32_t cq_entries, struct io_uring_params *params)
@@ -95,10 +95,10 @@ void plan_memory(struct memory *memory, bool is_single, uint32_t sq_entries, uin
     memory->sq_entries = sq_entries;
     memory->cq_entries = cq_entries;
     memory->is_single = is_single;
-    memory->sq_size = BEHIND_WORDS + round_to_line(sq_entries * sizeof(uint32_t));
+    memory->sq_size = AFTER_WORDS + round_to_line(sq_entries * sizeof(uint32_t));
     memory->entry_cells = wulgach_entry_cells(params->flags);
     memory->completion_cells = wulgach_completion_cells(params->flags);
-    memory->cq_size = BEHIND_WORDS + cq_entries * memory->completion_cells * sizeof(struct io_uring_cqe);
+    memory->cq_size = AFTER_WORDS + cq_entries * memory->completion_cells * sizeof(struct io_uring_cqe);
     memory->entries_size = sq_entries * memory->entry_cells * sizeof(struct io_uring_sqe);
     tell_offsets(params, memory);
 }

@@ -20,9 +20,9 @@ bool wulgach_is_logged_mode(mode_t mode)
     return wulgach_is_logged_kind(&kind);
 }
 
-bool wulgach_is_path_below(bool begins_with_disk, char behind)
+bool wulgach_is_path_below(bool begins_with_disk, char after)
 {
-    return wulgach_is_on_disk(begins_with_disk, (uint8_t)behind);
+    return wulgach_is_on_disk(begins_with_disk, (uint8_t)after);
 }
 
 uint32_t wulgach_logged_open(uint64_t flags, bool is_there, mode_t mode)

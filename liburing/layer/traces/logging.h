@@ -24,8 +24,8 @@ SEEN bool wulgach_is_open_number(int fd);
 /* Puts into the event of a write where it begins, and whether a sync of its range follows it. `offset`: 2^64 - 1 if it has none; `flags`: RWF_... */
 SEEN void wulgach_place_write(struct event *event, int fd, uint64_t offset, int flags);
 
-/* Whether a path that begins with the disk's, or doesn't, is on it. `behind`: its letter after that. */
-SEEN bool wulgach_is_path_below(bool begins_with_disk, char behind);
+/* Whether a path that begins with the disk's, or doesn't, is on it. `after`: its letter after that. */
+SEEN bool wulgach_is_path_below(bool begins_with_disk, char after);
 
 /* What an open does: enum wulgach_logged_open. */
 SEEN uint32_t wulgach_logged_open(uint64_t flags, bool is_there, mode_t mode);

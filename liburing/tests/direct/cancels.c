@@ -34,8 +34,7 @@ static void test_linked_timeout(void)
     }
     put_transfer(&ring, IORING_OP_LINK_TIMEOUT, 0, 0, -1, &second, 1, 0);
     check(result_of_one(&ring, 1) == -EINVAL);
-    close(ends[0]);
-    close(ends[1]);
+    close_pair(ends);
     close_ring(&ring);
 }
 
@@ -82,10 +81,8 @@ static void test_linked_update(void)
         results[found.user_data] = found.res;
     }
     check(results[6] == 0 && results[5] == -ECANCELED && results[1] == -ETIME && results[0] == -ECANCELED);
-    for (int i = 0; i < 2; i++) {
-        close(ends[i]);
-        close(others[i]);
-    }
+    close_pair(ends);
+    close_pair(others);
     close_ring(&ring);
 }
 
@@ -197,8 +194,7 @@ static void test_cancels(void)
     struct io_uring_sync_cancel_reg now = {.flags = IORING_ASYNC_CANCEL_ANY, .timeout = {-1, -1}};
     check(register_at(ring.fd, IORING_REGISTER_SYNC_CANCEL, &now, 1) == 1);
     check(count_ready(&ring) == 1 && reap(&ring).res == -ECANCELED);
-    close(ends[0]);
-    close(ends[1]);
+    close_pair(ends);
     close_ring(&ring);
 }
 
@@ -223,8 +219,7 @@ static void test_cancel_by_unused_descriptor(void)
     check(enter(&ring, 1, 0, 0) == 1);
     reap_all(&ring, 2, results);
     check(results[0] == -ECANCELED && results[2] == 0);
-    close(ends[0]);
-    close(ends[1]);
+    close_pair(ends);
     close_ring(&ring);
 }
 
@@ -246,8 +241,7 @@ static void test_cancels_of_any(void)
     reap_all(&ring, 4, results);
     check(results[0] == -ECANCELED && results[1] == -ECANCELED);
     check(results[2] >= 0 && results[3] >= 0 && results[2] + results[3] == 2);
-    close(ends[0]);
-    close(ends[1]);
+    close_pair(ends);
     close_ring(&ring);
 }
 
@@ -271,8 +265,7 @@ static void test_cancelled_middle(void)
     reap_all(&ring, 4, results);
     check(results[0] == 1 && results[2] == 0);
     check(is_by_manual() ? results[1] == -ECANCELED && results[3] == 0 : results[1] == 0 && results[3] == -ENOENT);
-    close(ends[0]);
-    close(ends[1]);
+    close_pair(ends);
     close_ring(&ring);
 }
 
@@ -341,8 +334,7 @@ static void test_awaited(void)
             check(reap(&ring).res == -ECANCELED);
         close_ring(&ring);
     }
-    close(ends[0]);
-    close(ends[1]);
+    close_pair(ends);
 }
 
 static bool is_in_turn(void)
@@ -408,10 +400,8 @@ static void test_cancel_by_file(void)
     put_plain(&ring, IORING_OP_ASYNC_CANCEL, 1, ends[0])->cancel_flags = IORING_ASYNC_CANCEL_FD;
     check(enter(&ring, 1, 1, IORING_ENTER_GETEVENTS) == 1 && reap(&ring).res == -ENOENT);
     close_ring(&ring);
-    for (int i = 0; i < 2; i++) {
-        close(ends[i]);
-        close(others[i]);
-    }
+    close_pair(ends);
+    close_pair(others);
     close(copy);
 }
 
@@ -424,7 +414,7 @@ int main(int count, char **words)
         {"timeouts", test_timeouts},
         {"cancels", test_cancels},
         {"cancels of any", test_cancels_of_any},
-        {"behind a cancel", test_after_a_cancel},
+        {"after a cancel", test_after_a_cancel},
         {"cancel by an unused descriptor", test_cancel_by_unused_descriptor},
         {"cancel by a file", test_cancel_by_file},
         {"cancelled middle", test_cancelled_middle},

@@ -77,8 +77,7 @@ static void call_of(const struct kind *kind, unsigned length)
         has_ended[ended.user_data] = true;
     }
     close_ring(&ring);
-    close(ends[0]);
-    close(ends[1]);
+    close_pair(ends);
 }
 
 /* A call of its own for a no-op, for a poll that ends once its pipe is written to, and for the update of one that waits. */

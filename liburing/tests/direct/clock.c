@@ -75,8 +75,7 @@ static void test_linked(void)
     check(enter(&ring, 2, 0, 0) == 2);
     reap_all(&ring, 2, results);
     check(results[0] == -ECANCELED && results[1] == -ETIME && has_lasted(start, 50 * MILLISECOND));
-    close(ends[0]);
-    close(ends[1]);
+    close_pair(ends);
     close_ring(&ring);
 }
 

@@ -292,8 +292,7 @@ static void test_locks_after_a_splice(void)
     entry->len = 4;
     check(enter(&ring, 1, 0, 0) == 1 && write(ends[1], "abcd", 4) == 4);
     check(wait_for_one(&ring) == 4 && is_locked_for_others(fd));
-    close(ends[0]);
-    close(ends[1]);
+    close_pair(ends);
     close(fd);
     close_ring(&ring);
 }
@@ -304,11 +303,11 @@ int main(int count, char **words)
         {"last end", test_last_end},
         {"kept by a poll", test_kept_by_a_poll},
         {"closed in a sleep", test_closed_in_a_sleep},
-        {"closed behind a submission", test_closed_after_a_submission},
+        {"closed after a submission", test_closed_after_a_submission},
         {"closed by an entry", test_closed_by_an_entry},
         {"closed ring", test_closed_ring},
         {"locks", test_locks},
-        {"locks behind a splice", test_locks_after_a_splice},
+        {"locks after a splice", test_locks_after_a_splice},
     };
     alarm((unsigned)(PATIENCE * patience()));
     return run_tests(tests, sizeof tests / sizeof *tests, count > 1 ? words[1] : NULL);

@@ -205,8 +205,7 @@ static void test_stop(void)
     check(waitpid(child, NULL, WUNTRACED) == child);
     check(kill(child, SIGCONT) == 0);
     end_child(child);
-    close(waited_for[0]);
-    close(waited_for[1]);
+    close_pair(waited_for);
 }
 
 /* A signal that waits and is ignored ends a call that lets it come. */

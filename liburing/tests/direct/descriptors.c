@@ -50,8 +50,7 @@ static void test_more_than_descriptors(void)
         has_ended[found.user_data] = true;
     }
     check(setrlimit(RLIMIT_NOFILE, &limit) == 0);
-    close(ends[0]);
-    close(ends[1]);
+    close_pair(ends);
     close_ring(&ring);
 }
 
@@ -75,8 +74,7 @@ static void test_closed_twice(void)
         check(read(ends[0], &byte, 1) == 1);
         settle(&ring);
     }
-    close(ends[0]);
-    close(ends[1]);
+    close_pair(ends);
     close_ring(&ring);
 }
 

@@ -271,8 +271,7 @@ static void test_beside_one_that_waits(void)
         check(results[0] == 0 && results[1] == 0 && results[2] == 0 && results[3] == 0);
         close_ring(&ring);
     }
-    close(ends[0]);
-    close(ends[1]);
+    close_pair(ends);
 }
 
 int main(int count, char **words)

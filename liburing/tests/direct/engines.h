@@ -34,6 +34,21 @@ static inline int32_t result_of_one(struct ring *ring, uint32_t count)
     return results[count - 1];
 }
 
+/* The entry that is staged, whose user data is 0, ends with this fault as it is taken, so that a call stops after it; or it has NO_FAULT. */
+enum { NO_FAULT = 1 };
+
+static inline void expect_entry_fault(struct ring *ring, int32_t fault)
+{
+    int32_t results[2];
+    put(ring, IORING_OP_NOP, 1, 0);
+    long taken = enter(ring, 2, 0, 0);
+    check(taken == (fault == NO_FAULT ? 2 : 1));
+    check(taken == 2 || enter(ring, 1, 0, 0) == 1);
+    reap_all(ring, 2, results);
+    check(fault == NO_FAULT || results[0] == fault);
+    check(results[1] == 0);
+}
+
 static inline void submit_nop(struct ring *ring, uint64_t user_data)
 {
     put(ring, IORING_OP_NOP, user_data, 0);

@@ -79,8 +79,7 @@ static void test_shut_down(void)
     put_plain(&ring, IORING_OP_POLL_ADD, 1, pair[0])->poll32_events = POLLIN;
     submit(1);
     EXPECT({1, POLLIN | POLLRDHUP});
-    close(pair[0]);
-    close(pair[1]);
+    close_pair(pair);
     stop();
 }
 
@@ -143,8 +142,7 @@ static void test_unbuffered(void)
     expect_unbuffered(IORING_OP_RECV, IOSQE_BUFFER_SELECT, -1, -EBADF);
     expect_unbuffered(IORING_OP_RECV, IOSQE_BUFFER_SELECT, ends[0], -ENOTSOCK);
     expect_unbuffered(IORING_OP_RECV, IOSQE_BUFFER_SELECT, pair[0], -ENOBUFS);
-    close(pair[0]);
-    close(pair[1]);
+    close_pair(pair);
     stop();
 }
 
@@ -197,8 +195,7 @@ static void test_offsets_of_streams(void)
         expect_at(IORING_OP_WRITE, 0, pair[1], none[i], 4);
         expect_at(IORING_OP_READ, 0, pair[0], none[i], 4);
     }
-    close(pair[0]);
-    close(pair[1]);
+    close_pair(pair);
     stop();
 }
 
@@ -252,8 +249,7 @@ static void test_flags_of_streams(void)
             expect_flagged(IORING_OP_READ, ends[0], offset, bad[i].flags, bad[i].res);
             expect_flagged(IORING_OP_WRITE, ends[1], offset, bad[i].flags, bad[i].res);
         }
-    close(pair[0]);
-    close(pair[1]);
+    close_pair(pair);
     stop();
 }
 
@@ -283,8 +279,7 @@ static void test_unpolled_messages(void)
     entry->buf_group = 9;
     submit(1);
     EXPECT({0, -EAGAIN});
-    close(pair[0]);
-    close(pair[1]);
+    close_pair(pair);
     stop();
 }
 
@@ -388,8 +383,7 @@ static void test_splices_that_wait(void)
             } else {
                 EXPECT({0, -EAGAIN});
             }
-            close(pair[0]);
-            close(pair[1]);
+            close_pair(pair);
             stop();
         }
 }
@@ -412,8 +406,7 @@ static void test_splice_to_full_socket(void)
         ;
     check(taken < 0);
     EXPECT({0, 1});
-    close(pair[0]);
-    close(pair[1]);
+    close_pair(pair);
     stop();
 }
 

@@ -376,8 +376,8 @@ int main(int count, char **words)
         {"other stack", test_other_stack},
         {"stack is gone", test_stack_is_gone},
         {"thread ends", test_thread_ends},
-        {"cancelled behind", test_cancelled_after},
-        {"allowed behind", test_allowed_after},
+        {"cancelled after", test_cancelled_after},
+        {"allowed after", test_allowed_after},
         {"child jumps", test_child_jumps},
     };
     alarm((unsigned)(PATIENCE * patience()));

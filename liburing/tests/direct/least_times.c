@@ -57,8 +57,7 @@ static void begin(void)
 static void stop(void)
 {
     close_ring(&ring);
-    close(ends[0]);
-    close(ends[1]);
+    close_pair(ends);
 }
 
 /* Waits for so many, or for one after the least time, until the limit. Both are in nanoseconds. */

@@ -267,8 +267,7 @@ static void test_mask_is_read_once(void)
     check(waiter.result == 99 && write(ends[1], "x", 1) == 1);
     check(pthread_join(thread, NULL) == 0 && waiter.result == 0);
     check(next_of(&ring).res == POLLIN);
-    close(ends[0]);
-    close(ends[1]);
+    close_pair(ends);
     close_ring(&ring);
 }
 

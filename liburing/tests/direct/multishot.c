@@ -88,8 +88,7 @@ static void make_pipe(int *ends, const char *bytes)
 
 static void close_pipe(int *ends)
 {
-    close(ends[0]);
-    close(ends[1]);
+    close_pair(ends);
 }
 
 /* What comes is read, as much as each buffer has room for, until the writer closes. That end takes no buffer. */

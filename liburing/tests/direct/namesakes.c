@@ -66,8 +66,7 @@ static void find_poll(uint8_t code)
     settle_to(1);
     reap_one(SHARED, POLLIN);
     end_timeout();
-    close(others[0]);
-    close(others[1]);
+    close_pair(others);
 }
 
 /* (to the core of the manual pages' rules the running request that is the oldest is the timeout) */
@@ -129,8 +128,7 @@ static void test_among_many(void)
     settle_to(1);
     reap_one(SHARED, POLLIN);
     close_ring(&ring);
-    close(ends[0]);
-    close(ends[1]);
+    close_pair(ends);
     for (int i = 0; i < 3; i++) {
         close(pipes[i][0]);
         close(pipes[i][1]);

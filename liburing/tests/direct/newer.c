@@ -17,10 +17,10 @@
 enum { FIXED_FD_INSTALL = 54, FTRUNCATE, BIND, LISTEN, NO_CLOEXEC = 1 };
 
 /* What a failure leaves of the member after it: it is carried out, or ends with -125. By the manual pages' rules each failure breaks a link. */
-enum behind { GOES_ON, IS_CANCELLED };
+enum after { GOES_ON, IS_CANCELLED };
 
 /* Submits the one entry, links a no-op after it, and wants this result. */
-static void want(struct ring *ring, struct io_uring_sqe *entry, int32_t res, enum behind behind)
+static void want(struct ring *ring, struct io_uring_sqe *entry, int32_t res, enum after after)
 {
     int32_t results[2];
     entry->flags |= IOSQE_IO_LINK;
@@ -30,7 +30,7 @@ static void want(struct ring *ring, struct io_uring_sqe *entry, int32_t res, enu
     reap_all(ring, 2, results);
     check(results[0] == res);
     if (taken == 2)
-        check(results[1] == (res < 0 && (behind == IS_CANCELLED || is_by_manual()) ? -ECANCELED : 0));
+        check(results[1] == (res < 0 && (after == IS_CANCELLED || is_by_manual()) ? -ECANCELED : 0));
 }
 
 static struct io_uring_sqe *put_length(struct ring *ring, uint8_t flags, int fd, int64_t length)
@@ -67,8 +67,7 @@ static void test_lengths(void)
     want(&ring, put_length(&ring, 0, for_path, 3), -EBADF, IS_CANCELLED);
     want(&ring, put_length(&ring, IOSQE_FIXED_FILE, 1, 3), -EBADF, IS_CANCELLED);
     check(length_of(file) == 7);
-    for (int i = 0; i < 2; i++)
-        close(ends[i]);
+    close_pair(ends);
     close(file);
     close(for_reading);
     close(for_path);
@@ -186,8 +185,7 @@ static void test_names_are_copied(void)
     reap_all(&ring, 4, results);
     check(results[0] == 1 && results[1] == 0 && results[2] == 0 && results[3] >= 0);
     close(results[3]);
-    for (int i = 0; i < 2; i++)
-        close(ends[i]);
+    close_pair(ends);
     close(fd);
     close(caller);
     close_ring(&ring);

@@ -240,8 +240,7 @@ static pid_t lock_in_child(int file, struct flock lock)
         pause();
     }
     check(read(ready[0], &byte, 1) == 1);
-    close(ready[0]);
-    close(ready[1]);
+    close_pair(ready);
     return child;
 }
 

@@ -191,8 +191,7 @@ static void test_cancel_in_a_reaped_ring(void)
     fill_and_reap(&ring);
     check(register_at(ring.fd, IORING_REGISTER_SYNC_CANCEL, &any, 1) == 1);
     check_in_ring(&ring, 6, -ECANCELED);
-    close(ends[0]);
-    close(ends[1]);
+    close_pair(ends);
     close_ring(&ring);
 }
 

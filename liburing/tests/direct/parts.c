@@ -21,8 +21,7 @@ static void make_streams(int *ends)
 
 static void close_all(struct ring *ring, const int *ends)
 {
-    close(ends[0]);
-    close(ends[1]);
+    close_pair(ends);
     close_ring(ring);
 }
 
@@ -72,8 +71,7 @@ static void test_parts_in_a_buffer(void)
         check(send(ends[1], "world", 5, 0) == 5);
         struct seen first = next_of(&ring);
         check(first.user_data == 1 && first.res == ALL && first.flags == IORING_CQE_F_BUFFER && memcmp(memory, "helloworldother", 15) == 0);
-        close(others[0]);
-        close(others[1]);
+        close_pair(others);
         close_all(&ring, ends);
     }
 }
@@ -262,8 +260,8 @@ int main(int count, char **words)
 {
     static const struct named tests[] = {
         {"parts in a buffer", test_parts_in_a_buffer},
-        {"end behind a part", test_end_after_a_part},
-        {"cancel behind a part", test_cancel_after_a_part},
+        {"end after a part", test_end_after_a_part},
+        {"cancel after a part", test_cancel_after_a_part},
         {"cancelled sends", test_cancelled_sends},
         {"cancelled zero copy", test_cancelled_zero_copy},
         {"descriptor passed once", test_descriptor_passed_once},

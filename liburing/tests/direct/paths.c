@@ -172,8 +172,7 @@ static void test_ring_is_no_instance(void)
         close_ring(&ring);
         close_ring(&other);
     }
-    close(ends[0]);
-    close(ends[1]);
+    close_pair(ends);
     close(file);
 }
 
@@ -197,8 +196,7 @@ static void test_epoll(void)
     }
     put_transfer(&ring, IORING_OP_EPOLL_CTL, 0, 0, all, NULL, EPOLL_CTL_ADD, (uint64_t)ends[0]);
     check(result_of_one(&ring, 1) == -EFAULT);
-    close(ends[0]);
-    close(ends[1]);
+    close_pair(ends);
     close(all);
     close_ring(&ring);
 }
@@ -301,7 +299,6 @@ static void test_open_into_slot(void)
 /* What is wrong with a path or a name is a fault of its entry, and the call ends after that; seen at a ring of Linux 6.18. */
 static void test_refused_names(void)
 {
-    enum { NO_FAULT = 1 };
     static char of_4096[4097], of_256[257], of_255[256];
     static const struct {
         uint8_t opcode;
@@ -320,7 +317,6 @@ static void test_refused_names(void)
         {IORING_OP_SETXATTR, 0, of_256, "v", "", -ERANGE}, {IORING_OP_SETXATTR, 0, "user.a", "v", "", -ENOENT}, {IORING_OP_SETXATTR, 0, "user.a", NULL, "", -EFAULT},
     };
     struct ring ring;
-    int32_t results[2];
     struct statx told;
     memset(of_4096, 'l', 4096);
     memset(of_256, 'l', 256);
@@ -332,13 +328,7 @@ static void test_refused_names(void)
         entry->addr3 = (uintptr_t)rows[i].third;
         entry->len = rows[i].opcode == IORING_OP_LINKAT || rows[i].opcode == IORING_OP_RENAMEAT ? (uint32_t)root : rows[i].opcode == IORING_OP_SETXATTR || rows[i].opcode == IORING_OP_FSETXATTR;
         entry->statx_flags = rows[i].flags;
-        put(&ring, IORING_OP_NOP, 1, 0);
-        uint32_t taken = (uint32_t)enter(&ring, 2, 0, 0);
-        check(taken == (rows[i].res == NO_FAULT ? 2 : 1));
-        check(taken == 2 || enter(&ring, 1, 0, 0) == 1);
-        reap_all(&ring, 2, results);
-        check(rows[i].res == NO_FAULT || results[0] == rows[i].res);
-        check(results[1] == 0);
+        expect_entry_fault(&ring, rows[i].res);
     }
     close_ring(&ring);
 }

@@ -107,8 +107,7 @@ static void test_pipe(void)
             check(is_readable(&ring, 0));
         check(!is_readable(&ring, 0));
     }
-    close(ends[0]);
-    close(ends[1]);
+    close_pair(ends);
     close_ring(&ring);
 }
 
@@ -125,8 +124,7 @@ static void test_cancelled_at_once(void)
     check(enter(&ring, 1, 0, 0) == 1 && reap_by_peeks(&ring) == 0 && !is_readable(&ring, 20));
     check(register_at(ring.fd, IORING_REGISTER_SYNC_CANCEL, &any, 1) == 1 && is_readable(&ring, 0));
     check(reap_by_peeks(&ring) == 1 && !is_readable(&ring, 0));
-    close(ends[0]);
-    close(ends[1]);
+    close_pair(ends);
     close_ring(&ring);
 }
 
@@ -207,8 +205,7 @@ static void test_changed(void)
     check(enter(&ring, 1, 1, IORING_ENTER_GETEVENTS) == 1 && reap_by_peeks(&ring) == 1 && !is_readable(&ring, 20));
     check(write(ends[1], "x", 1) == 1 && is_readable(&ring, 1000));
     check(next_of(&ring).user_data == 1);
-    close(ends[0]);
-    close(ends[1]);
+    close_pair(ends);
     close_ring(&ring);
 }
 
@@ -234,8 +231,7 @@ static void end_splice(bool is_fixed)
     check(enter(&ring, 0, 0, IORING_ENTER_GETEVENTS) == 0 && !is_readable(&ring, 20));
     close(in[1]);
     close(kept);
-    close(out[0]);
-    close(out[1]);
+    close_pair(out);
     close_ring(&ring);
 }
 

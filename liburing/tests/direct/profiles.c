@@ -116,6 +116,22 @@ static void test_cancels(void)
     stop();
 }
 
+/* A drain is owed, so that by Linux's rules the second of two requests waits for the first. */
+static void expect_owed_drain(void)
+{
+    put_waiting(2, 0);
+    submit(1);
+    put(&ring, IORING_OP_NOP, 3, 0);
+    submit(1);
+    if (is_by_manual())
+        EXPECT({3, 0});
+    feed();
+    if (is_by_manual())
+        EXPECT({2, 1});
+    else
+        EXPECT({2, 1}, {3, 0});
+}
+
 /* By Linux's rules a later request waits for what was accepted beside a drain, and after a drain that isn't the first of its chain. */
 static void test_drains(void)
 {
@@ -137,17 +153,7 @@ static void test_drains(void)
     put(&ring, IORING_OP_NOP, 1, IOSQE_IO_DRAIN);
     submit(2);
     EXPECT({0, 0}, {1, 0});
-    put_waiting(2, 0);
-    submit(1);
-    put(&ring, IORING_OP_NOP, 3, 0);
-    submit(1);
-    if (is_by_manual())
-        EXPECT({3, 0});
-    feed();
-    if (is_by_manual())
-        EXPECT({2, 1});
-    else
-        EXPECT({2, 1}, {3, 0});
+    expect_owed_drain();
     stop();
 }
 
@@ -183,17 +189,7 @@ static void test_messages_beside_drains(void)
     EXPECT({0, 0}, {1, 0});
     send_to_ring(&other);
     EXPECT({5, 7});
-    put_waiting(2, 0);
-    submit(1);
-    put(&ring, IORING_OP_NOP, 3, 0);
-    submit(1);
-    if (is_by_manual())
-        EXPECT({3, 0});
-    feed();
-    if (is_by_manual())
-        EXPECT({2, 1});
-    else
-        EXPECT({2, 1}, {3, 0});
+    expect_owed_drain();
     close_ring(&other);
     stop();
 }

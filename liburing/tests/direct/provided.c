@@ -6,6 +6,22 @@
 #define _GNU_SOURCE
 #include "engines.h"
 
+/* The group 2, a ring, has no buffer left, and without one nothing is waited for; there is no group 3. The ring goes. */
+static void expect_no_buffers(struct ring *ring, struct io_uring_buf_reg *asked)
+{
+    int ends[2];
+    check(pipe(ends) == 0);
+    put_transfer(ring, IORING_OP_READ, 0, IOSQE_BUFFER_SELECT, ends[0], NULL, 4, 0)->buf_group = 2;
+    check(result_of_one(ring, 1) == -ENOBUFS);
+    close_pair(ends);
+    put_plain(ring, IORING_OP_REMOVE_BUFFERS, 0, 1)->buf_group = 3;
+    check(result_of_one(ring, 1) == -ENOENT);
+    check(register_at(ring->fd, IORING_UNREGISTER_PBUF_RING, asked, 1) == 0);
+    check(register_at(ring->fd, IORING_UNREGISTER_PBUF_RING, asked, 1) == -ENOENT);
+    put(ring, IORING_OP_NOP, 0, IOSQE_BUFFER_SELECT);
+    check(result_of_one(ring, 1) == -EOPNOTSUPP);
+}
+
 /* Buffers of a list and of a ring in memory: each is taken once, and its number is told. */
 static void test_provided(void)
 {
@@ -39,19 +55,7 @@ static void test_provided(void)
         check(found.flags == (found.res < 0 ? 0 : IORING_CQE_F_BUFFER | (uint32_t)rows[i].id << IORING_CQE_BUFFER_SHIFT));
     }
     check(memcmp(memory[3], "01234567", 8) == 0);
-    /* Without a buffer nothing is waited for. */
-    int ends[2];
-    check(pipe(ends) == 0);
-    put_transfer(&ring, IORING_OP_READ, 0, IOSQE_BUFFER_SELECT, ends[0], NULL, 4, 0)->buf_group = 2;
-    check(result_of_one(&ring, 1) == -ENOBUFS);
-    close(ends[0]);
-    close(ends[1]);
-    put_plain(&ring, IORING_OP_REMOVE_BUFFERS, 0, 1)->buf_group = 3;
-    check(result_of_one(&ring, 1) == -ENOENT);
-    check(register_at(ring.fd, IORING_UNREGISTER_PBUF_RING, &asked, 1) == 0);
-    check(register_at(ring.fd, IORING_UNREGISTER_PBUF_RING, &asked, 1) == -ENOENT);
-    put(&ring, IORING_OP_NOP, 0, IOSQE_BUFFER_SELECT);
-    check(result_of_one(&ring, 1) == -EOPNOTSUPP);
+    expect_no_buffers(&ring, &asked);
     munmap(cells, 4096);
     close(fd);
     close_ring(&ring);

@@ -149,8 +149,7 @@ static void test_wait(void)
     }
     raised_at = NOWHERE;
     check(write(ends[1], "x", 1) == 1 && wait_for_one(&ring) == 1);
-    close(ends[0]);
-    close(ends[1]);
+    close_pair(ends);
     end(&ring, file);
 }
 
@@ -169,8 +168,7 @@ static void test_look(void)
         check(raised_at == NOWHERE && !came_at_once && comings == i + 1);
         check(write(ends[1], "x", 1) == 1 && wait_for_one(&ring) == 1);
     }
-    close(ends[0]);
-    close(ends[1]);
+    close_pair(ends);
     end(&ring, file);
 }
 

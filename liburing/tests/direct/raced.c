@@ -53,8 +53,7 @@ static void test_come_and_gone(void)
             check(pthread_join(thread, NULL) == 0);
         check(enter(&ring, 0, 0, IORING_ENTER_GETEVENTS) == 0 && !is_readable(&ring, 0));
     }
-    close(ends[0]);
-    close(ends[1]);
+    close_pair(ends);
     close_ring(&ring);
 }
 
@@ -136,10 +135,8 @@ static void gone_after_a_look(unsigned others)
         }
         check(reap(&ring).res == POLLIN && count_ready(&ring) == 0);
     }
-    for (int i = 0; i < 2; i++) {
-        close(ends[i]);
-        close(quiet[i]);
-    }
+    close_pair(ends);
+    close_pair(quiet);
     close_ring(&ring);
 }
 
@@ -189,8 +186,7 @@ static void test_heard_by_another(void)
         check(pthread_join(thread, NULL) == 0);
         check(reap(&ring).res == POLLIN);
     }
-    close(ends[0]);
-    close(ends[1]);
+    close_pair(ends);
     close_ring(&ring);
 }
 
@@ -230,8 +226,7 @@ static void test_two_descriptors(void)
         check(is_readable(&ring, 0) && reap_by_peeks(&ring) == 1);
         check(write(ends[1], "x", 1) == 1 && !is_readable(&ring, 20));
         close(other.fd);
-        close(ends[0]);
-        close(ends[1]);
+        close_pair(ends);
         close_ring(&ring);
     }
 }
@@ -276,8 +271,7 @@ static void tell_by_edges(void)
     }
     told_by_edges = -1;
     close(loop);
-    close(ends[0]);
-    close(ends[1]);
+    close_pair(ends);
     close_ring(&ring);
 }
 
@@ -325,8 +319,7 @@ static void reopened(unsigned others)
     check(enter_for(&ring, 1, 1000) == -ETIME && !is_readable(&ring, 0));
     check(write(quiet[1], "x", 1) == 1 && is_readable(&ring, 1000));
     close(first);
-    close(quiet[0]);
-    close(quiet[1]);
+    close_pair(quiet);
     close_ring(&ring);
 }
 

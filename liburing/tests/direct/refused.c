@@ -226,8 +226,7 @@ static long run_child(long number, bool is_polled, bool is_crowded)
         exit(1);
     }
     check(read(results[0], &told, sizeof told) == sizeof told);
-    close(results[0]);
-    close(results[1]);
+    close_pair(results);
     return told.asked;
 }
 

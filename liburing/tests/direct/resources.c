@@ -89,8 +89,7 @@ static void test_tags_of_buffers(void)
     check(register_at(ring.fd, IORING_REGISTER_BUFFERS2, &asked, sizeof asked) == 0);
     check(register_at(ring.fd, IORING_UNREGISTER_BUFFERS, NULL, 0) == 0);
     check(next_of(&ring).user_data == 12 && next_of(&ring).user_data == 11);
-    close(ends[0]);
-    close(ends[1]);
+    close_pair(ends);
     close_ring(&ring);
 }
 
@@ -162,8 +161,7 @@ static void test_async_eventfd(void)
     check(register_at(ring.fd, IORING_REGISTER_SYNC_CANCEL, &now, 1) == 1);
     check(read(fd, &count, sizeof count) == sizeof count);
     check(next_of(&ring).res == -ECANCELED);
-    close(ends[0]);
-    close(ends[1]);
+    close_pair(ends);
     close(fd);
     close_ring(&ring);
 }

@@ -128,6 +128,13 @@ static inline void close_ring(struct ring *ring)
     close(ring->fd);
 }
 
+/* Both ends of a pipe or of a pair of sockets. */
+static inline void close_pair(const int ends[2])
+{
+    close(ends[0]);
+    close(ends[1]);
+}
+
 /* Publishes an index word, and returns the entry of its slot. */
 static inline struct io_uring_sqe *publish(struct ring *ring, unsigned word)
 {

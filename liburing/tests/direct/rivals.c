@@ -33,8 +33,7 @@ static void begin(enum kind kind)
 static void stop(void)
 {
     close_ring(&ring);
-    close(ends[0]);
-    close(ends[1]);
+    close_pair(ends);
 }
 
 static void put_operation(enum kind kind, bool receives)
@@ -197,8 +196,7 @@ static void test_room(void)
         expect_two(put_write, to, polled, POLLOUT, way, 4096);
         if (way & 4)
             close(polled);
-        close(to[0]);
-        close(to[1]);
+        close_pair(to);
     }
 }
 
@@ -225,10 +223,8 @@ static void test_splice(void)
         expect_two(put_splice, to, polled, is_of_room ? POLLOUT : POLLIN, way, 8);
         if (way & 4)
             close(polled);
-        close(ends[0]);
-        close(ends[1]);
-        close(to[0]);
-        close(to[1]);
+        close_pair(ends);
+        close_pair(to);
     }
 }
 
@@ -252,8 +248,7 @@ static void test_others_wait(void)
         found = next_of(&ring);
         check(found.user_data == OPERATION && found.res == 8 && enter_for(&ring, 1, 1000) == -ETIME);
         stop();
-        close(other[0]);
-        close(other[1]);
+        close_pair(other);
     }
 }
 

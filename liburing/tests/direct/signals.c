@@ -48,8 +48,7 @@ static void test_jump(void)
     }
     check(write(ends[1], "x", 1) == 1);
     check(wait_for_one(&ring) == 1);
-    close(ends[0]);
-    close(ends[1]);
+    close_pair(ends);
     close_ring(&ring);
 }
 
@@ -117,8 +116,7 @@ static void test_stack_in_a_stack(void)
     check(has_signalled(child));
     check(write(ends[1], "x", 1) == 1 && wait_for_one(&ring) == 1);
     check(sigaltstack(&none, NULL) == 0);
-    close(ends[0]);
-    close(ends[1]);
+    close_pair(ends);
     close_ring(&other);
     close_ring(&ring);
 }
@@ -150,8 +148,7 @@ static void test_fork_from_signal(void)
     check(result == -EINTR && waitpid(child, &status, 0) == child && status == 0);
     check(has_signalled(signaller));
     check(write(ends[1], "x", 1) == 1 && wait_for_one(&ring) == 1);
-    close(ends[0]);
-    close(ends[1]);
+    close_pair(ends);
     close_ring(&ring);
 }
 

@@ -152,8 +152,7 @@ static void test_tags_of_files(void)
     check(enter_for(&ring, 1, 1000) == -ETIME);
     check(write(ends[1], "four", 4) == 4);
     check(next_of(&ring).res == 4 && next_of(&ring).user_data == 11);
-    close(ends[0]);
-    close(ends[1]);
+    close_pair(ends);
     close_ring(&ring);
 }
 

@@ -49,8 +49,7 @@ static void test_multishot_messages(void)
         check(told.payloadlen == (i == 0 ? 3 : 6) && !(told.flags & MSG_TRUNC) == (i == 0));
         check(memcmp(at + IN_FRONT, "longer", i == 0 ? 3 : 4) == 0);
     }
-    close(ends[0]);
-    close(ends[1]);
+    close_pair(ends);
     close_ring(&ring);
 }
 
@@ -78,8 +77,7 @@ static void test_untold_sender(bool has_room)
     memcpy(&told, memory, sizeof told);
     check(found.res == (int32_t)in_front + 3 && memcmp(memory + in_front, "one", 3) == 0);
     check(told.namelen == (has_room ? OWN_NAME : 0) && (told.controllen > 0) == has_room);
-    close(ends[0]);
-    close(ends[1]);
+    close_pair(ends);
     close_ring(&ring);
 }
 
@@ -95,7 +93,7 @@ static void test_untold_senders(void)
  * has read, then its vectors, then what stands in front of the bytes of one that goes on. Seen at a ring of Linux 6.18. */
 static void test_refused_messages(void)
 {
-    enum { NO_FAULT = 1, SELECTS = IOSQE_BUFFER_SELECT, GOES_ON = IORING_RECV_MULTISHOT };
+    enum { SELECTS = IOSQE_BUFFER_SELECT, GOES_ON = IORING_RECV_MULTISHOT };
     static char bytes[8], name[128];
     void *nowhere = (void *)8;
     struct iovec one[] = {{bytes, 4}, {bytes, 4}}, negative = {bytes, SIZE_MAX};
@@ -113,7 +111,6 @@ static void test_refused_messages(void)
         {IORING_OP_RECVMSG, SELECTS, GOES_ON, MESSAGE(NULL, UINT32_MAX, one, 1, 0), -EOVERFLOW}, {IORING_OP_RECVMSG, SELECTS, GOES_ON, MESSAGE(name, UINT32_MAX, one, 1, 0), -EINVAL}, {IORING_OP_RECVMSG, SELECTS, GOES_ON, MESSAGE(NULL, UINT32_MAX, one, 2, 0), -EINVAL}, {IORING_OP_RECVMSG, SELECTS, GOES_ON, MESSAGE(name, 1, one, 1, INT32_MAX - 16), -EOVERFLOW},
     };
     struct ring ring;
-    int32_t results[2];
     int ends[2];
     if (is_under_valgrind())
         return;
@@ -126,16 +123,9 @@ static void test_refused_messages(void)
         entry->ioprio = rows[i].ioprio;
         entry->msg_flags = rows[i].ioprio ? 0 : MSG_DONTWAIT;
         entry->buf_group = 7;
-        put(&ring, IORING_OP_NOP, 1, 0);
-        uint32_t taken = (uint32_t)enter(&ring, 2, 0, 0);
-        check(taken == (rows[i].res == NO_FAULT ? 2 : 1));
-        check(taken == 2 || enter(&ring, 1, 0, 0) == 1);
-        reap_all(&ring, 2, results);
-        check(rows[i].res == NO_FAULT || results[0] == rows[i].res);
-        check(results[1] == 0);
+        expect_entry_fault(&ring, rows[i].res);
     }
-    close(ends[0]);
-    close(ends[1]);
+    close_pair(ends);
     close_ring(&ring);
 }
 
@@ -162,8 +152,7 @@ static void test_addresses_are_copied(void)
     int32_t results[2];
     reap_all(&ring, 2, results);
     check(results[0] == 1 && results[1] == 7 && recv(to, text, 8, MSG_DONTWAIT) == 7 && memcmp(text, "message", 7) == 0);
-    for (int i = 0; i < 2; i++)
-        close(ends[i]);
+    close_pair(ends);
     close(to);
     close(from);
     close_ring(&ring);
@@ -254,8 +243,7 @@ static void test_refused_addresses(void)
     }
     close(to);
     close(from);
-    close(ends[0]);
-    close(ends[1]);
+    close_pair(ends);
     close_ring(&ring);
 }
 
@@ -307,8 +295,7 @@ static void test_told_in_order(void)
     put_transfer(&ring, IORING_OP_RECVMSG, 0, 0, ends[0], beginning, 1, 0);
     check(result_of_one(&ring, 1) == 3 && beginning->msg_namelen == 7 && beginning->msg_controllen == 0 && beginning->msg_flags == 0);
     check(munmap(memory, 3 * page) == 0);
-    close(ends[0]);
-    close(ends[1]);
+    close_pair(ends);
     close_ring(&ring);
 }
 

@@ -44,10 +44,8 @@ static void test_of_no_use(void)
     check(result_of_one(&ring, 1) == -ENOTCONN);
     put_plain(&ring, IORING_OP_ACCEPT, 0, listener);
     check(enter(&ring, 1, 0, 0) == 1 && enter_for(&ring, 1, 1000) == -ETIME);
-    for (int i = 0; i < 2; i++) {
-        close(stream[i]);
-        close(datagrams[i]);
-    }
+    close_pair(stream);
+    close_pair(datagrams);
     close(listener);
     close_ring(&ring);
 }
@@ -70,15 +68,13 @@ static void test_shut_datagrams(void)
     check(results[0] == 0 && results[1] == 0);
     put_transfer(&ring, IORING_OP_RECV, 0, 0, ends[0], text, 8, 0)->msg_flags = MSG_DONTWAIT;
     check(result_of_one(&ring, 1) == -EAGAIN);
-    close(ends[0]);
-    close(ends[1]);
+    close_pair(ends);
     check(socketpair(AF_UNIX, SOCK_DGRAM, 0, ends) == 0 && send(ends[1], "last", 4, 0) == 4 && shutdown(ends[0], SHUT_RD) == 0);
     put_transfer(&ring, IORING_OP_RECV, 0, 0, ends[0], text, 8, 0);
     check(result_of_one(&ring, 1) == 4 && memcmp(text, "last", 4) == 0);
     put_transfer(&ring, IORING_OP_READ, 0, 0, ends[0], text, 8, 0);
     check(result_of_one(&ring, 1) == 0);
-    close(ends[0]);
-    close(ends[1]);
+    close_pair(ends);
     close_ring(&ring);
 }
 
@@ -129,8 +125,7 @@ static void test_shut_unwilling(void)
     check(results[0] == -EAGAIN && results[1] == -EAGAIN && results[2] == 0);
     put_transfer(&ring, IORING_OP_READV, 0, 0, ends[0], &vector, 1, 0);
     check(result_of_one(&ring, 1) == -EAGAIN);
-    close(ends[0]);
-    close(ends[1]);
+    close_pair(ends);
     close_ring(&ring);
 }
 
@@ -162,8 +157,7 @@ static void *read_shut(void *nothing)
     put_transfer(&ring, IORING_OP_READ, 0, 0, ends[0], text, 8, 0);
     check(enter(&ring, 1, 0, 0) == 1 && enter_for(&ring, 1, 100000000) == 0);
     check(wait_for_one(&ring) == 0);
-    close(ends[0]);
-    close(ends[1]);
+    close_pair(ends);
     close_ring(&ring);
     return nothing;
 }
@@ -203,8 +197,7 @@ static void test_some_room(void)
         while (recv(ends[1], page, sizeof page, MSG_DONTWAIT) > 0)
             ;
         check(wait_for_one(&ring) == sizeof page);
-        close(ends[0]);
-        close(ends[1]);
+        close_pair(ends);
     }
     close_ring(&ring);
 }
@@ -243,8 +236,7 @@ static void test_low_mark(void)
     check(enter(&ring, 1, 0, 0) == 1 && enter_for(&ring, 1, 1000) == -ETIME);
     check(send(ends[1], "four", 4, 0) == 4 && enter_for(&ring, 1, 1000) == -ETIME);
     check(send(ends[1], "more", 4, 0) == 4 && wait_for_one(&ring) == 8);
-    close(ends[0]);
-    close(ends[1]);
+    close_pair(ends);
     close_ring(&ring);
 }
 
@@ -270,8 +262,7 @@ static void test_empty_writes(void)
     while (recv(ends[1], text, 8, MSG_DONTWAIT) == 4)
         ;
     check(wait_for_one(&ring) == 0);
-    close(ends[0]);
-    close(ends[1]);
+    close_pair(ends);
     check(socketpair(AF_UNIX, SOCK_STREAM, 0, ends) == 0);
     put_transfer(&ring, IORING_OP_WRITE, 0, 0, ends[0], text, 0, 0);
     check(result_of_one(&ring, 1) == 0 && recv(ends[1], text, 8, MSG_DONTWAIT) == -1);
@@ -311,8 +302,7 @@ static void test_shut_writing(void)
         check(shutdown(ends[is_peer], is_peer ? SHUT_RD : SHUT_WR) == 0);
         reap_all(&ring, 2, results);
         check(results[0] == -EPIPE && results[1] == -EPIPE);
-        close(ends[0]);
-        close(ends[1]);
+        close_pair(ends);
     }
     signal(SIGPIPE, SIG_DFL);
     close_ring(&ring);
@@ -341,8 +331,7 @@ static void test_shut_asleep(void)
     check(pthread_create(&other, NULL, shut_later, &ends[0]) == 0);
     check(enter(&ring, 1, 1, IORING_ENTER_GETEVENTS) == 1 && reap(&ring).res == -EPIPE);
     check(pthread_join(other, NULL) == 0);
-    close(ends[0]);
-    close(ends[1]);
+    close_pair(ends);
     close_ring(&ring);
 }
 
@@ -374,8 +363,7 @@ static void test_no_room_unwilling(void)
             while (recv(ends[1], page, sizeof page, 0) > 0)
                 ;
             check(wait_for_one(&ring) == sizeof page);
-            close(ends[0]);
-            close(ends[1]);
+            close_pair(ends);
         }
     }
     close_ring(&ring);
@@ -459,8 +447,7 @@ static void test_no_errors_of_local(void)
     check(result_of_one(&ring, 1) == 0);
     put_transfer(&ring, IORING_OP_RECVMSG, 0, 0, ends[0], &message, 1, 0)->msg_flags = MSG_ERRQUEUE;
     check(result_of_one(&ring, 1) == -EAGAIN);
-    close(ends[0]);
-    close(ends[1]);
+    close_pair(ends);
     close_ring(&ring);
 }
 

@@ -75,10 +75,8 @@ static void test_no_waiting(void)
     check(result_of_one(&ring, 1) == -ENOTSOCK);
     put_plain(&ring, IORING_OP_ACCEPT, 0, pipes[0]);
     check(result_of_one(&ring, 1) == -ENOTSOCK);
-    for (int i = 0; i < 2; i++) {
-        close(ends[i]);
-        close(pipes[i]);
-    }
+    close_pair(ends);
+    close_pair(pipes);
     close_ring(&ring);
 }
 
@@ -102,8 +100,7 @@ static void test_all_by_looks(void)
     check(count_ready(&ring) == 1);
     struct completion found = reap(&ring);
     check(found.user_data == 7 && found.res == 10 && memcmp(text, "tenletters", 10) == 0);
-    close(ends[0]);
-    close(ends[1]);
+    close_pair(ends);
     close_ring(&ring);
 }
 
@@ -151,8 +148,7 @@ static void test_multishot_receive(void)
     struct seen last = next_of(&ring);
     check(last.res == -ENOBUFS && last.flags == 0);
     want_cancelled(&ring, ends, memory);
-    close(ends[0]);
-    close(ends[1]);
+    close_pair(ends);
     close_ring(&ring);
 }
 
@@ -175,8 +171,7 @@ static void test_multishot_length(void)
     check(enter(&ring, 1, 0, 0) == 1);
     for (int i = 0; i < 3; i++)
         check(next_of(&ring).res == (i < 2 ? 4 : 2));
-    close(ends[0]);
-    close(ends[1]);
+    close_pair(ends);
     close_ring(&ring);
 }
 
@@ -233,8 +228,7 @@ static void test_buffers_that_go(void)
         check(result_of_one(&ring, 1) == 1);
         check(send(ends[1], "piece", 5, 0) == 5);
         check(wait_for_one(&ring) == -ENOBUFS);
-        close(ends[0]);
-        close(ends[1]);
+        close_pair(ends);
         close_ring(&ring);
     }
 }
@@ -265,8 +259,7 @@ static void test_polled_first(void)
         check(enter_for(&ring, 1, 1000) == -ETIME);
         check(send(ends[1], "piece", 5, 0) == 5);
         check(wait_for_one(&ring) == -ENOBUFS);
-        close(ends[0]);
-        close(ends[1]);
+        close_pair(ends);
         make_pair(ends);
         struct io_uring_sqe *entry = put_transfer(&ring, IORING_OP_RECV, 0, 0, ends[0], text, 8, 0);
         entry->ioprio = IORING_RECVSEND_POLL_FIRST;
@@ -276,8 +269,7 @@ static void test_polled_first(void)
         check(send(ends[1], "piece", 5, 0) == 5);
         int32_t res = wait_for_one(&ring);
         check(res == -EINVAL || res == -EOPNOTSUPP);
-        close(ends[0]);
-        close(ends[1]);
+        close_pair(ends);
         close_ring(&ring);
     }
 }
@@ -322,10 +314,8 @@ static void test_no_room_in_front(void)
         entry->ioprio = IORING_RECV_MULTISHOT;
         check(result_of_one(&ring, 1) == (i == 0 ? -ENOTSOCK : -EFAULT));
     }
-    for (int i = 0; i < 2; i++) {
-        close(ends[i]);
-        close(pipes[i]);
-    }
+    close_pair(ends);
+    close_pair(pipes);
     close_ring(&ring);
 }
 
@@ -350,8 +340,7 @@ static void test_cut_receives(void)
         reap_all(&ring, 2, results);
         check(results[0] == (is_short ? 2 : 4) && results[1] == (is_whole ? -ECANCELED : 0));
     }
-    close(ends[0]);
-    close(ends[1]);
+    close_pair(ends);
     close_ring(&ring);
 }
 
@@ -431,8 +420,7 @@ static void test_zero_copy(void)
     check(sent.user_data == 0 && sent.res == 4 && sent.flags == (is_by_manual() ? 0 : IORING_CQE_F_MORE));
     check(is_by_manual() || next_of(&ring).flags == IORING_CQE_F_NOTIF);
     check(next_of(&ring).user_data == 1);
-    close(ends[0]);
-    close(ends[1]);
+    close_pair(ends);
     close_ring(&ring);
 }
 

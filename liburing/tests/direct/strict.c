@@ -236,8 +236,7 @@ static void ask_who_calls(void)
         told((int32_t)register_at(ring.fd, codes[i], NULL, 0));
     told((int32_t)register_at(ring.fd, IORING_REGISTER_ENABLE_RINGS, &row, 0));
     told((int32_t)register_at(ring.fd, IORING_REGISTER_ENABLE_RINGS, NULL, 0));
-    close(ends[0]);
-    close(ends[1]);
+    close_pair(ends);
     close_ring(&ring);
 }
 
@@ -285,8 +284,7 @@ static void ask_eventfds(void)
     told((int32_t)register_at(ring.fd, IORING_UNREGISTER_EVENTFD, NULL, 0));
     told((int32_t)register_at(ring.fd, IORING_UNREGISTER_EVENTFD, NULL, 0));
     close(event);
-    close(ends[0]);
-    close(ends[1]);
+    close_pair(ends);
     close_ring(&ring);
 }
 
@@ -320,8 +318,7 @@ static void ask_numbers(void)
     }
     for (unsigned number = 0; number < 16; number++)
         enrol(&ring, IORING_UNREGISTER_RING_FDS, number, 0, 0);
-    close(ends[0]);
-    close(ends[1]);
+    close_pair(ends);
     close_ring(&ring);
 }
 

@@ -27,10 +27,8 @@ static void test_come_and_gone(void)
         check(register_at(ring.fd, IORING_REGISTER_SYNC_CANCEL, &nobody, 1) == -ENOENT);
         check(enter_for(&ring, 1, 1000000000) == 0 && reap(&ring).res == POLLIN);
     }
-    for (int i = 0; i < 2; i++) {
-        close(ends[i]);
-        close(others[i]);
-    }
+    close_pair(ends);
+    close_pair(others);
     close_ring(&ring);
 }
 
@@ -58,8 +56,7 @@ static void test_cancelled_among_many(void)
         struct completion found = reap(&ring);
         check(found.user_data % 13 != 0 && found.res == POLLIN);
     }
-    close(ends[0]);
-    close(ends[1]);
+    close_pair(ends);
     close_ring(&ring);
 }
 
@@ -78,8 +75,7 @@ static void test_code(void)
     check(register_at(ring.fd, IORING_REGISTER_SYNC_CANCEL, &by_data, 1) == -ENOENT);
     by_data.pad[0] = 256;
     check(register_at(ring.fd, IORING_REGISTER_SYNC_CANCEL, &by_data, 1) == -EINVAL);
-    close(ends[0]);
-    close(ends[1]);
+    close_pair(ends);
     close_ring(&ring);
 }
 
@@ -106,8 +102,7 @@ static void test_any_beside_file(void)
     any.fd = ends[1];
     check(register_at(ring.fd, IORING_REGISTER_SYNC_CANCEL, &any, 1) == 2 && count_ready(&ring) == 2);
     check(reap(&ring).res == -ECANCELED && reap(&ring).res == -ECANCELED);
-    close(ends[0]);
-    close(ends[1]);
+    close_pair(ends);
     close_ring(&ring);
 }
 

@@ -117,8 +117,7 @@ static void test_closed_while_reading(void)
     check(write(ends[1], "four", 4) == 4);
     check(pthread_join(thread, NULL) == 0);
     check(sleep.result == 0 && reap(&ring).res == 4);
-    close(ends[0]);
-    close(ends[1]);
+    close_pair(ends);
 }
 
 static void ignore_signal(int number)

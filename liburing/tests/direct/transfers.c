@@ -80,8 +80,7 @@ static void test_waiting(void)
     check(enter(&ring, 2, 0, 0) == 2);
     reap_all(&ring, 3, results);
     check(results[0] == -ECANCELED && results[1] == 0 && results[2] == 0);
-    close(ends[0]);
-    close(ends[1]);
+    close_pair(ends);
     close_ring(&ring);
 }
 
@@ -99,8 +98,7 @@ static void test_not_waiting(void)
     check(enter(&ring, 2, 0, 0) == 2);
     reap_all(&ring, 2, results);
     check(results[0] == -EAGAIN && results[1] == 0);
-    close(ends[0]);
-    close(ends[1]);
+    close_pair(ends);
     close_ring(&ring);
 }
 
@@ -233,8 +231,7 @@ static void test_used_again(void)
     check(read_at(&ring, number, text, 4, 0) == -EBADF);
     close(number);
     check(read_at(&ring, number, text, 4, 0) == -EBADF);
-    for (int i = 0; i < 2; i++)
-        close(ends[i]);
+    close_pair(ends);
     close(counter);
     close(file);
     close(other);
@@ -262,8 +259,7 @@ static void test_in_turn(void)
             check(results[i] == (turns[i] == gone && round == 0 ? 4 : wanted[i]));
         close(gone);
     }
-    for (int i = 0; i < 2; i++)
-        close(ends[i]);
+    close_pair(ends);
     close(file);
     close(other);
     close_ring(&ring);
@@ -367,8 +363,7 @@ static void test_broken_pipe(void)
     put_transfer(&ring, IORING_OP_WRITE, 0, 0, to[1], "four", 4, 0);
     check(result_of_one(&ring, 1) == -EPIPE && broken == 1);
     check(sigaction(SIGPIPE, &own, NULL) == 0);
-    close(from[0]);
-    close(from[1]);
+    close_pair(from);
     close(to[1]);
     close_ring(&ring);
 }

@@ -37,8 +37,7 @@ static void test_polls(void)
     check(enter(&ring, 2, 0, 0) == 2);
     reap_all(&ring, 3, results);
     check(results[1] == -ECANCELED && results[2] == -ENOENT && results[3] == 0);
-    close(ends[0]);
-    close(ends[1]);
+    close_pair(ends);
     close_ring(&ring);
 }
 
@@ -53,6 +52,27 @@ static void write_and_read(const int ends[2])
 {
     char byte;
     check(write(ends[1], "b", 1) == 1 && read(ends[0], &byte, 1) == 1);
+}
+
+/* The poll of user data 1, whose descriptor is ready, gets another one, and is told by that at once. It is removed. */
+static void rename_poll(struct ring *ring)
+{
+    struct io_uring_sqe *change = put(ring, IORING_OP_POLL_REMOVE, 2, 0);
+    change->addr = 1;
+    change->off = 3;
+    change->len = IORING_POLL_UPDATE_USER_DATA;
+    check(enter(ring, 1, 0, 0) == 1);
+    bool is_told = false, is_done = false;
+    for (int i = 0; i < 2; i++) {
+        struct seen found = next_of(ring);
+        is_told |= found.user_data == 3 && found.res == POLLIN && found.flags == IORING_CQE_F_MORE;
+        is_done |= found.user_data == 2 && found.res == 0;
+    }
+    check(is_told && is_done);
+    put(ring, IORING_OP_POLL_REMOVE, 4, 0)->addr = 3;
+    check(enter(ring, 1, 0, 0) == 1);
+    next_of(ring);
+    next_of(ring);
 }
 
 /* An update changes what a poll waits for, and neither whether it goes on nor how: what is there is told at once, and again. */
@@ -80,26 +100,9 @@ static void test_updated_polls(void)
             check(found.user_data == 1 && found.res == POLLIN && found.flags == (goes_on ? IORING_CQE_F_MORE : 0));
             check(round == 1 || read(ends[0], &byte, 1) == 1);
         }
-        if (goes_on) {
-            change = put(&ring, IORING_OP_POLL_REMOVE, 2, 0);
-            change->addr = 1;
-            change->off = 3;
-            change->len = IORING_POLL_UPDATE_USER_DATA;
-            check(enter(&ring, 1, 0, 0) == 1);
-            bool is_told = false, is_done = false;
-            for (int i = 0; i < 2; i++) {
-                struct seen found = next_of(&ring);
-                is_told |= found.user_data == 3 && found.res == POLLIN && found.flags == IORING_CQE_F_MORE;
-                is_done |= found.user_data == 2 && found.res == 0;
-            }
-            check(is_told && is_done);
-            put(&ring, IORING_OP_POLL_REMOVE, 4, 0)->addr = 3;
-            check(enter(&ring, 1, 0, 0) == 1);
-            next_of(&ring);
-            next_of(&ring);
-        }
-        close(ends[0]);
-        close(ends[1]);
+        if (goes_on)
+            rename_poll(&ring);
+        close_pair(ends);
     }
     close_ring(&ring);
 }
@@ -128,8 +131,7 @@ static void test_poll_of_what_is_there(void)
         is_told |= found.user_data == 1 && found.res == POLLOUT;
     }
     check(is_told && enter_for(&ring, 1, 1000) == -ETIME);
-    close(ends[0]);
-    close(ends[1]);
+    close_pair(ends);
     close_ring(&ring);
 }
 
@@ -173,10 +175,8 @@ static void test_come_and_gone(void)
         char byte;
         check(read(ends[0], &byte, 1) == 1);
     }
-    for (int i = 0; i < 2; i++) {
-        close(ends[i]);
-        close(others[i]);
-    }
+    close_pair(ends);
+    close_pair(others);
     close_ring(&ring);
 }
 
@@ -207,8 +207,7 @@ static void test_gone_before(void)
     check(write(ends[1], "b", 1) == 1);
     while (!is_seen[0] || !is_seen[3])
         is_seen[next_of(&ring).user_data] = true;
-    close(ends[0]);
-    close(ends[1]);
+    close_pair(ends);
     close_ring(&ring);
 }
 
@@ -235,8 +234,7 @@ static void test_events_in_choices(void)
             check(next_of(&ring).res >= 0);
         close_ring(&ring);
     }
-    close(ends[0]);
-    close(ends[1]);
+    close_pair(ends);
 }
 
 /* A read of a pipe's end for writing, and the other way round, end at once, where a pipe may be a registered file too. */
@@ -259,8 +257,7 @@ static void test_wrong_end(void)
     put_plain(&ring, IORING_OP_POLL_ADD, 0, ends[1])->poll_events = POLLIN;
     check(enter(&ring, 1, 0, 0) == 1 && write(ends[1], text, 4) == 4);
     check(enter_for(&ring, 1, 1000) == -ETIME);
-    close(ends[0]);
-    close(ends[1]);
+    close_pair(ends);
     close_ring(&ring);
 }
 
@@ -289,10 +286,8 @@ static void test_splice(void)
     bad->splice_fd_in = first[0];
     bad->len = 5;
     check(result_of_one(&ring, 1) == -ESPIPE);
-    for (int i = 0; i < 2; i++) {
-        close(first[i]);
-        close(second[i]);
-    }
+    close_pair(first);
+    close_pair(second);
     close_ring(&ring);
 }
 
@@ -314,8 +309,7 @@ static void test_last_page(void)
     check(enter(&ring, 1, 0, 0) == 1 && enter_for(&ring, 1, 1000) == -ETIME);
     check(read(ends[0], bytes, sizeof bytes) == 1100);
     check(wait_for_one(&ring) == 4000);
-    close(ends[0]);
-    close(ends[1]);
+    close_pair(ends);
     close_ring(&ring);
 }
 

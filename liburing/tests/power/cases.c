@@ -18,15 +18,12 @@
 /* Memory that nobody sees written, since the process is killed: the comparison at the end tells of it. */
 static void run_killed(void)
 {
-    int file = make("data", 0);
-    demand(ftruncate(file, SIZE) == 0, "ftruncate");
-    char *memory = mmap(NULL, SIZE, PROT_READ | PROT_WRITE, MAP_SHARED, file, 0);
-    demand(memory != MAP_FAILED, "mmap");
-    memcpy(memory, bytes, SIZE);
+    write_memory(make("data", 0));
     kill(getpid(), SIGKILL);
 }
-/* A sector is written over, and is to be the old or the new one. */
-static void run_unit(void)
+
+/* A file with a sector is safe, and what is to be written is another one. */
+static int begin_with_sector(void)
 {
     int file = make("data", 0);
     put(file, bytes, SECTOR, 0);
@@ -35,6 +32,13 @@ static void run_unit(void)
     puts("begun");
     fflush(stdout);
     memset(bytes, 'y', SECTOR);
+    return file;
+}
+
+/* A sector is written over, and is to be the old or the new one. */
+static void run_unit(void)
+{
+    int file = begin_with_sector();
     put(file, bytes, SECTOR, 0);
     sync_file(file);
 }
@@ -42,13 +46,7 @@ static void run_unit(void)
 /* A file is replaced by a rename, without a sync of the new one: the old or the new is to be there, and never an empty one. */
 static void run_replace(void)
 {
-    int file = make("data", 0);
-    put(file, bytes, SECTOR, 0);
-    sync_file(file);
-    sync_folder();
-    puts("begun");
-    fflush(stdout);
-    memset(bytes, 'y', SECTOR);
+    begin_with_sector();
     put(make("new", 0), bytes, SECTOR, 0);
     demand(rename("new", "data") == 0, "rename");
 }

@@ -39,7 +39,7 @@ def read(name):
 
 
 def torn():
-    """All of it is written, and the first 64 bytes once more and safely: what is behind them may be torn."""
+    """All of it is written, and the first 64 bytes once more and safely: what is after them may be torn."""
     os.pwrite(opened("data"), NEW, 0)
     os.pwritev(opened("data"), [NEW[:64]], 0, os.RWF_DSYNC)
     print("safe")

@@ -164,13 +164,19 @@ static void by_sendfile(void)
     sync_file(file);
 }
 
-static void by_memory(void)
+char *write_memory(int file)
 {
-    int file = make("data", 0);
     demand(ftruncate(file, SIZE) == 0, "ftruncate");
     char *memory = mmap(NULL, SIZE, PROT_READ | PROT_WRITE, MAP_SHARED, file, 0);
     demand(memory != MAP_FAILED, "mmap");
     memcpy(memory, bytes, SIZE);
+    return memory;
+}
+
+static void by_memory(void)
+{
+    int file = make("data", 0);
+    char *memory = write_memory(file);
     if (is_synced)
         demand(msync(memory, SIZE, MS_SYNC) == 0, "msync");
     sync_file(file);
@@ -179,11 +185,7 @@ static void by_memory(void)
 /* No other sync: the bytes and the length are those of memory that was synced. */
 static void by_synced_memory(void)
 {
-    int file = make("data", 0);
-    demand(ftruncate(file, SIZE) == 0, "ftruncate");
-    char *memory = mmap(NULL, SIZE, PROT_READ | PROT_WRITE, MAP_SHARED, file, 0);
-    demand(memory != MAP_FAILED, "mmap");
-    memcpy(memory, bytes, SIZE);
+    char *memory = write_memory(make("data", 0));
     demand(msync(memory, is_synced ? SIZE : SIZE / 2, MS_SYNC) == 0, "msync");
 }
 
@@ -331,10 +333,7 @@ static void by_memory_and_ring(void)
 {
     struct ring syncs = set_up(0);
     int file = make("data", 0);
-    demand(ftruncate(file, SIZE) == 0, "ftruncate");
-    char *memory = mmap(NULL, SIZE, PROT_READ | PROT_WRITE, MAP_SHARED, file, 0);
-    demand(memory != MAP_FAILED, "mmap");
-    memcpy(memory, bytes, SIZE);
+    write_memory(file);
     do_by_ring(&syncs, (struct io_uring_sqe){.opcode = IORING_OP_FSYNC, .fd = file, .len = is_synced ? SIZE : SIZE / 2}, 0);
 }
 

@@ -20,6 +20,9 @@ void sync_folder(void);
 void sync_file(int file);
 void put(int file, const char *from, size_t size, off_t offset);
 
+/* The file's memory, shared, of a length to which it's brought, with what is written. */
+char *write_memory(int file);
+
 /* Each way to write `data`, up to one without a name. */
 extern const struct way {
     const char *name;

@@ -52,7 +52,7 @@ void fire(struct model *model, const struct request *timeout)
     if (!model->is_late && call->min_complete == 0 && has_pipe_reads(model, true))
         wrong(model, "timeout %u ends in a peek, though a pipe is waited for", timeout->index);
     if (!model->is_late && call->deadline >= 0 && is_before(model, call->deadline, end))
-        wrong(model, "timeout %u ends behind the call's limit", timeout->index);
+        wrong(model, "timeout %u ends after the call's limit", timeout->index);
 }
 
 /* ---- what a call returned ---- */

@@ -80,7 +80,7 @@ void doom_group(struct model *model, uint16_t group)
     }
 }
 
-void doom_behind(struct model *model, const struct request *failed)
+void doom_after(struct model *model, const struct request *failed)
 {
     for (struct request *later = model->requests + (failed - model->requests) + 1; later < model->requests + model->count; later++) {
         if (later->group != failed->group || later->is_doomed)

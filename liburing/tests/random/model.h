@@ -201,7 +201,7 @@ void let_deferred_go_on(struct model *model);
 
 /* Doom the members of a group with a fault, or those after one that failed. */
 void doom_group(struct model *model, uint16_t group);
-void doom_behind(struct model *model, const struct request *failed);
+void doom_after(struct model *model, const struct request *failed);
 
 /* Whether the failure of a request is told to the core after a hard link: a linked timeout ends its chain after it. */
 bool is_before_last_timeout(const struct model *model, const struct request *request);

@@ -22,9 +22,9 @@ void wrong(const struct model *model, const char *format, ...)
 /* ---- acceptance ---- */
 
 /* A linked timeout wants a request before it that it limits, which isn't one itself. */
-static bool is_faulty(const struct model *model, const struct action *action, bool is_behind)
+static bool is_faulty(const struct model *model, const struct action *action, bool has_before)
 {
-    const struct action *before = is_behind ? model->requests[model->count - 1].action : NULL;
+    const struct action *before = has_before ? model->requests[model->count - 1].action : NULL;
     bool has_place = before && (before->code != IORING_OP_LINK_TIMEOUT || before->flaw == BAD_CODE);
     return (action->flaw != NO_FLAW && action->flaw != BAD_DATA) || (action->code == IORING_OP_LINK_TIMEOUT && !has_place);
 }
@@ -40,18 +40,18 @@ static int32_t failure_of(const struct model *model, const struct action *action
     return is_in_registered_memory(action) && action->buffer != buffer_of(index) ? -EFAULT : 0;
 }
 
-static void accept_one(struct model *model, unsigned index, bool is_behind)
+static void accept_one(struct model *model, unsigned index, bool has_before)
 {
     const struct action *action = &model->program->actions[index];
-    if (!is_behind)
+    if (!has_before)
         model->group_count++;
     uint16_t group = (uint16_t)(model->group_count - 1);
-    bool is_fault = is_faulty(model, action, is_behind);
+    bool is_fault = is_faulty(model, action, has_before);
     struct request *request = &model->requests[model->count++];
     *request = (struct request){.action = action, .index = (uint16_t)index, .group = group, .since = -1, .is_faulty = is_fault, .was_open = !model->things->is_closed, .failure = failure_of(model, action, index), .call = model->call_number, .tally_least = model->tally};
     model->has_drain[group] |= (action->flags & IOSQE_IO_DRAIN) != 0;
     if (model->is_linux)
-        note_flags(model, request, !is_behind);
+        note_flags(model, request, !has_before);
     model->has_fault[group] |= request->is_faulty;
 }
 
@@ -101,7 +101,7 @@ static void note_loose(struct model *model, uint32_t first)
 void take(struct model *model, uint32_t to_submit)
 {
     uint32_t first = model->count;
-    bool is_behind = false, is_all = model->program->rings[model->ring].flags & IORING_SETUP_SUBMIT_ALL;
+    bool has_before = false, is_all = model->program->rings[model->ring].flags & IORING_SETUP_SUBMIT_ALL;
     while (to_submit-- > 0 && model->taken < model->published_count) {
         int32_t index = model->published[model->taken++];
         if (index < 0) {
@@ -109,14 +109,14 @@ void take(struct model *model, uint32_t to_submit)
             break;
         }
         const struct action *action = &model->program->actions[index];
-        accept_one(model, (unsigned)index, is_behind);
-        is_behind = action->flags & LINKS;
-        if (!is_behind)
+        accept_one(model, (unsigned)index, has_before);
+        has_before = action->flags & LINKS;
+        if (!has_before)
             end_group(model);
-        if (model->requests[model->count - 1].is_faulty && !is_all && !is_behind)
+        if (model->requests[model->count - 1].is_faulty && !is_all && !has_before)
             break;
     }
-    if (is_behind)
+    if (has_before)
         end_group(model);
     if (!model->is_linux)
         doom_faulty(model, first);
@@ -190,8 +190,8 @@ bool has_linked_timeouts(const struct model *model)
 static struct request *timeout_after(struct model *model, const struct request *request)
 {
     struct request *next = &model->requests[request - model->requests + 1];
-    bool is_behind = next < model->requests + model->count && next->group == request->group && next->action->code == IORING_OP_LINK_TIMEOUT;
-    return is_behind && !next->is_ended && !next->is_doomed ? next : NULL;
+    bool is_timeout = next < model->requests + model->count && next->group == request->group && next->action->code == IORING_OP_LINK_TIMEOUT;
+    return is_timeout && !next->is_ended && !next->is_doomed ? next : NULL;
 }
 
 /* A linked timeout runs while the request before it does. */
@@ -213,7 +213,7 @@ static void end(struct model *model, struct request *request, bool is_success)
     request->is_ended = true;
     bool is_soft = (request->action->flags & LINKS) == IOSQE_IO_LINK;
     if (is_soft && !is_success && model->is_linux && !is_before_last_timeout(model, request))
-        doom_behind(model, request);
+        doom_after(model, request);
     for (struct request *later = request + 1; is_soft && !is_success && !model->is_linux && later < model->requests + model->count; later++)
         later->is_doomed |= later->group == request->group;
     if (model->is_linux)
@@ -393,7 +393,7 @@ static void see_end(struct model *model, uint64_t user_data, int32_t res)
         return;
     }
     if (request->is_cancelled)
-        wrong(model, "entry %u ends with %" PRId32 " behind a cancel", request->index, res);
+        wrong(model, "entry %u ends with %" PRId32 " after a cancel", request->index, res);
     if (request->action->code == IORING_OP_TIMEOUT && res == -ETIME)
         fire(model, request);
     bool is_success = has_acted(model, request, res);

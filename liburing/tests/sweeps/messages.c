@@ -128,8 +128,7 @@ static void try_receive(struct ring *ring, unsigned length, unsigned bytes, unsi
     if (comes(ring, &seen))
         tell(&seen);
     printf(", told %u, control %zu, flags %x\n", message.msg_namelen, message.msg_controllen, (unsigned)message.msg_flags);
-    close(ends[0]);
-    close(ends[1]);
+    close_pair(ends);
 }
 
 int main(void)

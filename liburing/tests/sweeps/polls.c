@@ -78,8 +78,7 @@ static void try_update(struct ring *ring, uint32_t from, uint32_t flags, uint32_
     tell_all(ring, "written");
     put(ring, IORING_OP_POLL_REMOVE, subject + 3, 0)->addr = subject + 2;
     remove_poll(ring);
-    close(ends[0]);
-    close(ends[1]);
+    close_pair(ends);
 }
 
 static void sweep_updates(struct ring *ring)

@@ -114,8 +114,7 @@ static void sweep_of(struct ring *ring, unsigned kind, unsigned state)
             put_operation(ring, operations[i].code, way, ends[0]);
             printf("%s, %s, %s, %s %x:", kinds[kind], states[state], operations[i].name, i < 5 ? "flags" : "way", i < 5 ? flags_of_messages[way] : way);
             tell_of(ring, operations[i].code);
-            close(ends[0]);
-            close(ends[1]);
+            close_pair(ends);
         }
 }
 

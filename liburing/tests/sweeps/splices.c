@@ -100,7 +100,7 @@ static void try(struct ring *ring, enum kind from, enum kind to, unsigned way)
     entry->splice_flags = ways[way].flags;
     printf("%s, %s -> %s:", ways[way].name, kinds[from], kinds[to]);
     tell_end(ring);
-    printf("positions behind %s, %s -> %s: %ld %ld\n", ways[way].name, kinds[from], kinds[to], position(from, in), position(to, out));
+    printf("positions after %s, %s -> %s: %ld %ld\n", ways[way].name, kinds[from], kinds[to], position(from, in), position(to, out));
     close(in);
     close(out);
     while (count_kept > 0)

@@ -39,8 +39,7 @@ static void over(struct ring *ring, int *ends)
     printf(" cancelled:");
     tell_cancelled(ring);
     printf("\n");
-    close(ends[0]);
-    close(ends[1]);
+    close_pair(ends);
 }
 
 /* One that waits, since there is no room or there are no bytes, until either end is shut down. */

@@ -109,20 +109,20 @@ static inline void tell_sorted(struct seen *found, size_t count)
 }
 
 /* Submits what was put, and prints the completions of this case that come in time. */
-static inline void tell_all(struct ring *ring, const char *behind)
+static inline void tell_all(struct ring *ring, const char *after)
 {
     struct seen found[32];
     size_t count = 0;
     enter(ring, 16, 0, 0);
     while (count < count_of(found) && comes(ring, &found[count]))
         count++;
-    printf(" %s:", behind);
+    printf(" %s:", after);
     tell_sorted(found, count);
     printf(";");
 }
 
 /* The same of what is there at once. */
-static inline void tell_now(struct ring *ring, const char *behind)
+static inline void tell_now(struct ring *ring, const char *after)
 {
     struct seen found[32];
     size_t count = 0;
@@ -130,7 +130,7 @@ static inline void tell_now(struct ring *ring, const char *behind)
     enter(ring, 0, 0, IORING_ENTER_GETEVENTS);
     while (count < count_of(found) && count_ready(ring) > 0)
         found[count++] = next_of(ring);
-    printf(" %s:", behind);
+    printf(" %s:", after);
     tell_sorted(found, count);
     printf(";");
 }

@@ -154,7 +154,7 @@ static void __attribute__((noinline)) want_registers(const struct ring *ring, ui
     fill_vectors(is_whole, salt);
     publish(ring, (struct io_uring_sqe){.opcode = IORING_OP_NOP, .user_data = salt});
     call_with_registers(is_whole);
-    WANT(memcmp(seen.behind, arguments, sizeof arguments) == 0 && seen.behind[6] == seen.frame && memcmp(seen.behind + 7, others, sizeof others) == 0);
+    WANT(memcmp(seen.after, arguments, sizeof arguments) == 0 && seen.after[6] == seen.frame && memcmp(seen.after + 7, others, sizeof others) == 0);
     WANT(memcmp(seen.vectors, seen.vectors_after, sizeof seen.vectors) == 0);
     WANT(reap(ring) == salt);
 }
@@ -163,14 +163,14 @@ static void __attribute__((noinline)) want_registers(const struct ring *ring, ui
 static void want_words(const struct ring *ring)
 {
     static uint32_t rounding = 0x9f80, later;
-    uint64_t behind, flags, wanted;
+    uint64_t after, flags, wanted;
     publish(ring, (struct io_uring_sqe){.opcode = IORING_OP_NOP, .user_data = 1});
     register long r10 __asm__("r10") = IORING_ENTER_GETEVENTS, r8 __asm__("r8") = 0, r9 __asm__("r9") = 8;
-    __asm__ volatile("sub $128, %%rsp\n\tldmxcsr %[rounding]\n\tstd\n\tmov $426, %%eax\n\tsyscall\n1:\tpushfq\n\tpop %[wanted]\n\tcld\n\tadd $128, %%rsp\n\tstmxcsr %[later]\n\tmov %%r11, %[flags]\n\tlea 1b(%%rip), %%rax\n\tsub %%rax, %%rcx\n\tmov %%rcx, %[behind]"
-                     : [behind] "=&b"(behind), [flags] "=&r"(flags), [wanted] "=&r"(wanted), [later] "=m"(later)
+    __asm__ volatile("sub $128, %%rsp\n\tldmxcsr %[rounding]\n\tstd\n\tmov $426, %%eax\n\tsyscall\n1:\tpushfq\n\tpop %[wanted]\n\tcld\n\tadd $128, %%rsp\n\tstmxcsr %[later]\n\tmov %%r11, %[flags]\n\tlea 1b(%%rip), %%rax\n\tsub %%rax, %%rcx\n\tmov %%rcx, %[after]"
+                     : [after] "=&b"(after), [flags] "=&r"(flags), [wanted] "=&r"(wanted), [later] "=m"(later)
                      : [rounding] "m"(rounding), "D"((long)ring->fd), "S"(1L), "d"(1L), "r"(r10), "r"(r8), "r"(r9)
                      : "rax", "rcx", "r11", "memory", "cc");
-    WANT(behind == 0 && (flags & 0x400) && (wanted & 0x400) && later == rounding && reap(ring) == 1);
+    WANT(after == 0 && (flags & 0x400) && (wanted & 0x400) && later == rounding && reap(ring) == 1);
 }
 
 static void registers(void)

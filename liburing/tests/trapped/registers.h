@@ -10,7 +10,7 @@
 static struct {
     uint64_t vectors[16][4], vectors_after[16][4];
     uint64_t arguments[6];
-    uint64_t behind[15];        /* those of the arguments, rbp and r12 to r15, two words past the stack, the carry, the result */
+    uint64_t after[15];        /* those of the arguments, rbp and r12 to r15, two words past the stack, the carry, the result */
     uint64_t frame;             /* rbp before it: whoever walks the stack may need it, so it has no value of the test's */
 } seen;
 

@@ -173,7 +173,7 @@ static void registers(void)
         seen.vectors[i / 4][i % 4] = is_whole || i % 4 < 2 ? 0x9e3779b97f4a7c15u * (i + 1) : 0;
     publish(&ring, (struct io_uring_sqe){.opcode = IORING_OP_NOP, .user_data = 77});
     call_with_registers(is_whole);
-    WANT(memcmp(seen.behind, arguments, sizeof arguments) == 0 && seen.behind[6] == seen.frame && memcmp(seen.behind + 7, others, sizeof others) == 0);
+    WANT(memcmp(seen.after, arguments, sizeof arguments) == 0 && seen.after[6] == seen.frame && memcmp(seen.after + 7, others, sizeof others) == 0);
     WANT(memcmp(seen.vectors, seen.vectors_after, sizeof seen.vectors) == 0);
 }
 
@@ -388,6 +388,44 @@ static void answered(void)
         no_op();
 }
 
+/* Starts the program anew in some way; it isn't one of these: false. */
+static bool is_started(const char *name, char *self)
+{
+    if (strcmp(name, "vfork") == 0)
+        vforked(self, no_surrounding);
+    else if (strcmp(name, "exec") == 0)
+        execve(self, nop_words, no_surrounding);
+    else if (strcmp(name, "list") == 0)
+        execle(self, "trapped", "nop", NULL, no_surrounding);
+    else if (strcmp(name, "spawn") == 0)
+        spawned(self, no_surrounding);
+    else if (strcmp(name, "shell") == 0) {
+        clearenv();
+        shell(self);
+    } else if (strcmp(name, "preload") == 0)
+        preloaded(self);
+    else
+        return false;
+    return true;
+}
+
+static bool is_run(const char *name)
+{
+    static const struct {
+        const char *name;
+        void (*run)(void);
+    } parts[] = {
+        {"nop", no_op}, {"shared", shared}, {"blocked", blocked}, {"signals", signals}, {"registers", registers}, {"issuers", issuers}, {"threads", threads},
+        {"fork", forked}, {"fifo", started_fifo}, {"sqpoll", sqpoll}, {"filter", filtered}, {"answered", answered},
+    };
+    for (size_t i = 0; i < sizeof parts / sizeof *parts; i++)
+        if (strcmp(name, parts[i].name) == 0) {
+            parts[i].run();
+            return true;
+        }
+    return false;
+}
+
 int main(int argc, char **argv)
 {
     int error = errno;
@@ -396,46 +434,9 @@ int main(int argc, char **argv)
     WANT(readlink("/proc/self/exe", self, sizeof self - 1) > 0);
     if (strcmp(name, "begins") == 0)
         begins(error);
-    else if (strcmp(name, "nop") == 0)
-        no_op();
-    else if (strcmp(name, "shared") == 0)
-        shared();
-    else if (strcmp(name, "blocked") == 0)
-        blocked();
-    else if (strcmp(name, "signals") == 0)
-        signals();
-    else if (strcmp(name, "registers") == 0)
-        registers();
-    else if (strcmp(name, "issuers") == 0)
-        issuers();
-    else if (strcmp(name, "threads") == 0)
-        threads();
-    else if (strcmp(name, "fork") == 0)
-        forked();
-    else if (strcmp(name, "vfork") == 0)
-        vforked(self, no_surrounding);
-    else if (strcmp(name, "exec") == 0)
-        execve(self, nop_words, no_surrounding);
-    else if (strcmp(name, "list") == 0)
-        execle(self, "trapped", "nop", NULL, no_surrounding);
-    else if (strcmp(name, "fifo") == 0)
-        started_fifo();
-    else if (strcmp(name, "spawn") == 0)
-        spawned(self, no_surrounding);
-    else if (strcmp(name, "shell") == 0) {
-        clearenv();
-        shell(self);
-    } else if (strcmp(name, "preload") == 0)
-        preloaded(self);
-    else if (strcmp(name, "sqpoll") == 0)
-        sqpoll();
-    else if (strcmp(name, "filter") == 0)
-        filtered();
-    else if (strcmp(name, "answered") == 0)
-        answered();
     else if (strcmp(name, "static") == 0 && argc > 2)
         execl(argv[2], argv[2], "nop", NULL);
-    else
+    else if (!is_run(name) && !is_started(name, self))
         return 2;
     return 0;
 }

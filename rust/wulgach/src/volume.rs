@@ -289,8 +289,8 @@ pub(crate) fn read_all(
     Ok(lens
         .iter()
         .map(|len| {
-            let (image, behind) = rest.split_at(*len as usize);
-            rest = behind;
+            let (image, after) = rest.split_at(*len as usize);
+            rest = after;
             image.to_vec()
         })
         .collect())

@@ -178,7 +178,7 @@ fn ring_is_the_one_asked_for() {
     }
 }
 
-/// A call of a ring that stops ends behind an entry with a fault, whether the completion ring is asked for or not.
+/// A call of a ring that stops ends after an entry with a fault, whether the completion ring is asked for or not.
 #[test]
 fn calls_stop_if_that_is_asked_for() {
     for stops in [false, true] {

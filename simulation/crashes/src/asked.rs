@@ -1,4 +1,4 @@
-//! Asks the program of all images behind random traces, and compares its answers with the model's: how many there are, which, and whether each has some bytes.
+//! Asks the program of all images after random traces, and compares its answers with the model's: how many there are, which, and whether each has some bytes.
 
 use crate::model::{End, File};
 use crate::{Rng, IMAGES};

@@ -13,7 +13,7 @@ const ACCEPTED: [u32; 5] = [1024, 4096, 16_384, 65_536, 1_000_000];
 const OUTSTANDING: [u32; 3] = [16, 256, 4096];
 const WAITING: [u32; 2] = [16, 4096];
 
-/// The flags of a request by its number and how many there are, and whether it is started: one chain whose first member runs, chains of 8 whose first members run, and a request that runs, one that drains, and others behind it.
+/// The flags of a request by its number and how many there are, and whether it is started: one chain whose first member runs, chains of 8 whose first members run, and a request that runs, one that drains, and others after it.
 type Shape = (&'static str, fn(u32, u32) -> u8, fn(u32) -> bool);
 
 const SHAPES: [Shape; 3] = [

@@ -1,4 +1,4 @@
-/// The sizes of a pair of rings, the number of its files, the word at which both rings begin, and whether a call stops behind an entry with a fault.
+/// The sizes of a pair of rings, the number of its files, the word at which both rings begin, and whether a call stops after an entry with a fault.
 #[derive(Clone, Copy)]
 pub struct Setup {
     pub sq: u32,
