@@ -8,7 +8,7 @@ import os
 import stat
 
 from crashing.events import COPY, CREATE, IS_OF_DATA, IS_OF_RANGE, LENGTH, LINK, MAKE_FOLDER, MAKE_LINK, MAPPED, OF_NAMES, REMOVE, RENAME, SPACE, SYNC, SYNC_ALL, SYNCS_ITS_RANGE, WRITE
-from crashing.labels import Bytes, Parts
+from crashing.labels import Bytes, Parts, settled
 
 # Modes of fallocate, and a flag of renameat2.
 KEEP_SIZE, PUNCH_HOLE, COLLAPSE_RANGE, ZERO_RANGE, INSERT_RANGE = 1, 2, 8, 16, 32
@@ -20,12 +20,11 @@ MAY_HAVE_WRITTEN = {errno.EIO, errno.ENOSPC, errno.EDQUOT, errno.EFBIG}
 class Change:
     """What an operation does to one file: bytes from `first` on up to `last` (data, or zeros), and its length: at least, or exactly."""
 
-    __slots__ = ("operation", "begin", "end", "first", "last", "data", "length", "is_exact", "is_folded")
+    __slots__ = ("operation", "begin", "end", "first", "last", "data", "length", "is_exact")
 
     def __init__(self, operation, first, last, data, length, is_exact=False, ends=True):
         self.operation, self.begin, self.end = operation, operation.begin, operation.end if ends else None
         self.first, self.last, self.data, self.length, self.is_exact = first, last, data, length, is_exact
-        self.is_folded = False
 
     def paint(self, contents):
         if self.last > self.first:
@@ -216,34 +215,39 @@ class Disk:
         if not file.changes:
             file.syncs = [it for it in file.syncs if it.end is None or it.end >= self.now]
             return
-        lengths, contents = Parts(file, self.now), Bytes(file, self.now, self.unit)
-        one, other = lengths.folded(), contents.folded()
-        for change in list(file.changes):
-            if change in one and (change in other or change.last == change.first):
+        found = settled(file.changes, lambda some: self.foldable(some, file.syncs))
+        for change in file.changes:
+            if change in found:
                 change.paint(file.contents)
                 file.length = change.lengthen(file.length)
-                change.is_folded = True
-        file.changes = [it for it in file.changes if not it.is_folded]
+        file.changes = [it for it in file.changes if it not in found]
         last = max((it.end for it in file.changes if it.end is not None and it.end < self.now), default=None)
         first = min((it.end for it in file.changes if it.end is not None and it.end < self.now), default=None)
         file.syncs = [it for it in file.syncs if is_open(it, self.now) or (last is not None and it.begin > first)]
+
+    def foldable(self, changes, syncs):
+        """Those of some changes of a file that can be folded, their length and their bytes."""
+        found = Parts(changes, syncs, self.now).folded()
+        return found and found & (Bytes(changes, syncs, self.now, self.unit).folded() | {it for it in found if it.last == it.first})
 
     def name_groups(self):
         """The operations on names that a crash leaves together, in one order: all, or those that a chain of names joins."""
         if self.is_ordered:
             return [self.namings] if self.namings else []
-        groups = []
-        for naming in self.namings:
-            keys = {(folder, name) for folder, name, _ in naming.effects}
-            joined = [it for it in groups if it[0] & keys]
-            groups = [it for it in groups if not it[0] & keys]
-            members = sorted([naming, *(one for it in joined for one in it[1])], key=lambda it: it.begin)
-            groups.append((keys.union(*(it[0] for it in joined)), members))
-        return [members for _, members in groups]
+        group_of, groups = {}, {}
+        for at, naming in enumerate(self.namings):
+            keys, members = {(folder, name) for folder, name, _ in naming.effects}, [naming]
+            for number in {group_of[it] for it in keys if it in group_of}:
+                others = groups.pop(number)
+                keys |= others[0]
+                members += others[1]
+            groups[at] = keys, members
+            group_of.update(dict.fromkeys(keys, at))
+        return [sorted(members, key=lambda it: it.begin) for _, members in groups.values()]
 
     def fold_names(self):
         for group in self.name_groups():
-            found = Parts.of_names(group, self.name_syncs, self.now).folded()
+            found = settled(group, lambda some: Parts(some, self.name_syncs, self.now).folded())
             for naming in group:
                 if naming in found:
                     naming.apply(self.names)
