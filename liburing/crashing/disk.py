@@ -81,7 +81,7 @@ class File:
 class Disk:
     def __init__(self, folder, is_ordered, unit, is_apart=False):
         self.folder, self.is_ordered, self.unit, self.is_apart = folder, is_ordered, unit, is_apart
-        self.files, self.by_inode, self.names = [], {}, {}
+        self.files, self.by_inode, self.names, self.seen = [], {}, {}, {}
         self.namings, self.name_syncs, self.remarks, self.now = [], [], [], 0
         self.root = self.scan(folder)
 
@@ -299,17 +299,14 @@ class Disk:
 
     def current(self, folder, name):
         """The file that has a name, as the program sees it."""
-        for naming in reversed(self.namings):
-            for one, other, file in naming.effects:
-                if (one, other) == (folder, name):
-                    return file
-        return self.names.get(folder, {}).get(name)
+        return self.seen[folder, name] if (folder, name) in self.seen else self.names.get(folder, {}).get(name)
 
     def name(self, operation, effects, moved=None, replaced=None):
         effects = [it for it in effects if it[0] is not None]
         if effects:
             files = {file for _, _, file in effects if file is not None} | ({moved} if moved is not None else set())
             self.namings.append(Naming(operation, effects, files, replaced))
+            self.seen.update(((folder, name), file) for folder, name, file in effects)
 
     def short(self, file):
         return os.path.relpath(file.path, self.folder) if file.path.startswith(self.folder) else file.path or "a file without a name"

@@ -53,9 +53,9 @@ class Chosen:
         return number in self.lost or any(one < last and first < other for one, other in self.torn.get(number, []))
 
     def some(self, changes):
-        """Some of these, as many as the dice say, now and then in another order."""
+        """Some of these, as many as the dice say, now and then those that ran at once in another order."""
         if self.dice.random() < 0.3:
-            changes = self.dice.sample(changes, len(changes))
+            changes = [it for own in at_once(changes) for it in self.dice.sample(own, len(own))]
         return [it for it in changes if self.dice.random() < self.chance]
 
 
@@ -63,8 +63,9 @@ class History:
     """A volume with the changes and syncs up to now, made when it is first asked. Where a change is, and what of it a sync covers, says who inherits."""
 
     def __init__(self, changes, syncs, now):
-        self.changes, self.syncs, self.now = changes, syncs, now
-        self.last_sync = max((it.begin for it in syncs if it.is_done and it.end is not None and it.end < now), default=-1)
+        self.changes, self.now = changes, now
+        self.syncs = list(telling(changes, (it for it in syncs if it.end is not None and it.end < now)))
+        self.last_sync = max((it.begin for it in self.syncs if it.is_done), default=-1)
 
     def marks(self):
         """What begins and what ends, in its order."""
@@ -73,10 +74,8 @@ class History:
             if change.end is not None and change.end < self.now:
                 yield change.end, 2, change
         for sync in self.syncs:
-            if sync.begin < self.now:
-                yield sync.begin, 0, sync
-            if sync.end is not None and sync.end < self.now:
-                yield sync.end, 3, sync
+            yield sync.begin, 0, sync
+            yield sync.end, 3, sync
 
     @functools.cached_property
     def volume(self):
@@ -89,7 +88,7 @@ class History:
             elif rank == 0:
                 begun[it] = [volume.begin_sync() if range is None else volume.begin_range_sync(*range) for range in self.synced(it)]
             else:
-                for number in begun.get(it, []):
+                for number in begun[it]:
                     volume.end_sync(number, it.is_done)
         return volume
 
@@ -98,8 +97,8 @@ class History:
         return change.end is not None and change.end < self.last_sync
 
     def safe(self):
-        """The changes that are safe."""
-        return {it for it in self.changes if self.may_be_safe(it) and self.is_safe(it)}
+        """The changes that are safe. Each is asked about by itself, since no other one decides it."""
+        return {it for it in self.changes if self.may_be_safe(it) and self.of([it]).is_safe(it)}
 
     def is_safe(self, change):
         volume = self.volume
@@ -111,7 +110,7 @@ class History:
         if not before:
             return before
         self.volume.fold()
-        return before - self.safe()
+        return {it for it in before if not self.is_safe(it)}
 
 
 class Parts(History):
@@ -119,7 +118,12 @@ class Parts(History):
 
     def __init__(self, changes, syncs, now):
         super().__init__(changes, syncs, now)
-        self.places = {change: at for at, change in enumerate(changes)}
+        # (what a range covers lies side by side)
+        beside = sorted(changes, key=lambda it: (getattr(it, "first", 0), getattr(it, "last", 0)))
+        self.places = {change: at for at, change in enumerate(beside)}
+
+    def of(self, changes):
+        return Parts(changes, self.syncs, self.now)
 
     def empty(self):
         return Volume(WHOLE, bytes(len(self.changes)))
@@ -130,7 +134,8 @@ class Parts(History):
     def synced(self, sync):
         if sync.covers is None and sync.range is None:
             return [None]
-        return [(at, 1) for change, at in self.places.items() if change.begin < sync.begin and self.is_met(sync, change)]
+        met = merged((at, at + 1) for change, at in self.places.items() if self.is_met(sync, change))
+        return [(first, last - first) for first, last in met]
 
     @staticmethod
     def is_met(sync, change):
@@ -150,12 +155,12 @@ class Parts(History):
         kept = {it for it in named if it.begin <= first}
         others = [it for it in self.changes if it not in kept]
         if any(map(self.may_be_safe, others)):
-            asked = Parts(others, self.syncs, self.now)
+            asked = self.of(others)
             kept.update(asked.read(asked.volume.crash(array.array("Q"))))
         return [it for it in self.changes if it in kept]
 
     def read(self, image):
-        return [change for change, at in self.places.items() if image[at]]
+        return [it for it in self.changes if image[self.places[it]]]
 
     def images(self, most):
         found = self.volume.images(most)
@@ -171,6 +176,9 @@ class Bytes(History):
         self.lay_out(unit, [*tears, *(place for cut in self.cuts for place in (cut.length, cut.length + unit - 1))])
         self.width = 2 if len(self.changes) < 1 << 16 else 4
         self.labels = {change: at + 1 for at, change in enumerate(self.changes)}
+
+    def of(self, changes):
+        return Bytes(changes, self.syncs, self.now, self.unit)
 
     def empty(self):
         return Volume(self.slots * self.width, bytes(len(self.cells) * self.slots * self.width))
@@ -273,7 +281,7 @@ class Bytes(History):
 
     def asked(self, cell, own, named):
         """What the volume leaves of a cell, by these names."""
-        file = Bytes(own, self.syncs, self.now, self.unit)
+        file = self.of(own)
         at = bisect.bisect_right(file.starts, cell[0]) - 1
         volume = file.volume
         image = volume.crash(array.array("Q", [*[0] * (at + 1), *(file.numbers[it] for it in named), 0]))
@@ -301,6 +309,30 @@ def hides(cut, change, last):
     return last > cut.length and (change is cut or (cut.end is not None and cut.end < change.begin))
 
 
+def at_once(changes):
+    """Changes in runs, of which each ends where nothing runs."""
+    found, last = [], -1
+    for it in changes:
+        if it.begin > last:
+            found.append([])
+        found[-1].append(it)
+        last = max(last, math.inf if it.end is None else it.end)
+    return found
+
+
+def telling(changes, syncs):
+    """Those of some syncs that have ended without which another change may be safe. One of the same range isn't needed again before another change has ended."""
+    ends, known = sorted(it.end for it in changes if it.end is not None), {}
+    for sync in sorted(syncs, key=lambda it: it.begin):
+        before, own = bisect.bisect_left(ends, sync.begin), (sync.range, sync.covers)
+        count, end = known.get(own, (0, -1))
+        if before and not sync.is_done:
+            yield sync
+        elif before > count or (before and sync.end < end):
+            known[own] = before, sync.end
+            yield sync
+
+
 def first_end(changes):
     """Where the first of these changes ends: what begins after that waits for it."""
     return min((it.end for it in changes if it.end is not None), default=math.inf)
@@ -310,12 +342,11 @@ def settled(changes, folded):
     """The changes that can be folded, by a call that says it of some. It's asked about a few at a time, with those that run beside them; what began once one had ended that can't be folded can't be either."""
     found, left = set(), []
     for at in range(0, len(changes), FEW):
-        few = changes[at : at + FEW]
-        if few[0].begin > first_end(left):
+        if changes[at].begin > first_end(left):
             break
-        last = max((it.end for it in few if it.end is not None), default=-1)
+        own = [*left, *changes[at : at + FEW]]
+        last = max((it.end for it in own if it.end is not None), default=-1)
         beside = itertools.takewhile(lambda it: it.begin <= last, itertools.islice(changes, at + FEW, None))
-        own = [*left, *few]
         found |= folded([*own, *beside]).intersection(own)
         left = [it for it in own if it not in found]
     return found
