@@ -11,7 +11,7 @@ import time
 
 from crashing.images import all_images, image_of, losses, pieces, unsettled
 from crashing.labels import Chosen
-from crashing.pictures import NAMES, draw
+from crashing.pictures import NAMES, draw, printing
 from crashing.remarks import Remarks
 from crashing.rooms import Room
 from crashing.runs import PRELOADED, Run
@@ -344,8 +344,11 @@ def show(options, run, moment, chosen):
             print(f"choice {at}: {what}, way {way} of 0 to {count - 1}")
     for line in told_operations(disk, run, moment):
         print(line)
+    for at, data in [it for it in run.log.printed if it[0] < moment][-1:]:
+        last = printing(data.rstrip(b"\n")[-200:])
+        print(f"the last that was printed, in event {at + 1}: {last}")
     print(f"the power fails behind event {moment}")
-    for line in losses(disk, image, whole):
+    for line in losses(disk, image, whole) or ["nothing is lost of what was written by then"]:
         print(line)
     print(f"\nstatus {status}", flush=True)
     sys.stdout.buffer.write(said)

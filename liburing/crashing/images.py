@@ -72,11 +72,11 @@ def crash_file(disk, file, syncs, chosen):
 def with_length(disk, file, syncs, left, tears=()):
     """A file's bytes, once it is known which changes its length shows.
 
-    A truncation changes bytes and length as one (our own rule; `apart`: not): if its length isn't left, neither are its zeros, nor what was written behind it once it had ended. Where names are ordered, a file that grew has the bytes with which it grew (ext4's data=ordered). What is there for certain is said to the volume as a sync of its range.
+    A truncation changes bytes and length as one (our own rule; `apart`: not): if its length isn't left, neither are its zeros, nor what was written behind it once it had ended. Where names are ordered, a file that grew beyond its last block has the bytes with which it grew (ext4's data=ordered). What is there for certain is said to the volume as a sync of its range.
     """
     kept, lost = list(syncs), [] if disk.is_apart else [it for it in file.changes if it.is_exact and it not in left]
     for change in left:
-        grows = disk.is_ordered and not change.is_exact and change.length is not None and change.length > file.length
+        grows = disk.is_ordered and not change.is_exact and change.length is not None and change.length > file.length and not change.is_within
         if (grows or (change.is_exact and not disk.is_apart)) and change.last > change.first and not is_open(change, disk.now):
             kept.append(Sync(change.operation, change.end + 0.25, change.end + 0.5, True, (change.first, change.last)))
     changes = [it for it in file.changes if not any(hides(cut, it, it.first - it.first % disk.unit + disk.unit) for cut in lost)]
@@ -186,10 +186,17 @@ def losses(disk, image, whole):
         file, (cells, length, _), (shown, shorter, _) = disk.files[number], whole.shown[number], image.shown[number]
         name, lost = disk.short(file), lost_ranges(cells, shown)
         for change, ranges in lost.items():
-            found.append(f"{told_ranges(ranges)} of {name} are lost: {why_lost(disk, change, file.all_syncs, name)}")
+            zeros = ", and read as zeros" if are_zeros(ranges, shown, file.length, shorter) else ""
+            found.append(f"{told_ranges(ranges)} of {name} are lost{zeros}: {why_lost(disk, change, file.all_syncs, name)}")
         if length != shorter and not are_lost(lost, shorter, length):
             found.append(f"the length of {name} is {shorter} and not {length}")
     return found
+
+
+def are_zeros(ranges, shown, first, last):
+    """Whether nothing shows in these ranges, which lie behind the bytes that are settled and before a file's end."""
+    is_grown = all(first <= low and high <= last for low, high in ranges)
+    return is_grown and not any(change and one < high and low < other for one, other, change in shown for low, high in ranges)
 
 
 def are_lost(lost, first, last):
