@@ -8,7 +8,8 @@ import os
 import stat
 
 from crashing.events import COPY, CREATE, IS_OF_DATA, IS_OF_RANGE, LENGTH, LINK, MAKE_FOLDER, MAKE_LINK, MAPPED, OF_NAMES, REMOVE, RENAME, SPACE, SYNC, SYNC_ALL, SYNCS_ITS_RANGE, WRITE
-from crashing.labels import Bytes, Parts, settled
+from crashing.labels import Bytes, Parts
+from crashing.order import settled
 
 # Modes of fallocate, and a flag of renameat2.
 KEEP_SIZE, PUNCH_HOLE, COLLAPSE_RANGE, ZERO_RANGE, INSERT_RANGE = 1, 2, 8, 16, 32
