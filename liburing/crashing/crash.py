@@ -11,7 +11,7 @@ import time
 
 from crashing.images import all_images, image_of, losses, pieces, unsettled
 from crashing.labels import Chosen
-from crashing.pictures import NAMES, draw
+from crashing.pictures import NAMES, draw, printing
 from crashing.remarks import Remarks
 from crashing.rooms import Room
 from crashing.runs import PRELOADED, Run
@@ -39,6 +39,7 @@ class Crasher:
     def __init__(self, options):
         self.options, self.room = options, Room(options.check, options.seconds, options.place)
         self.known, self.crashes, self.deadline = {}, 0, float("inf")
+        self.run = self.disk = None
 
     def is_over(self):
         return time.monotonic() > self.deadline
@@ -81,9 +82,10 @@ class Crasher:
         return found, passed
 
     def fails(self, run, moment, chosen):
-        disk = run.begin()
-        disk.advance(moment)
-        return self.verdict(image_of(disk, chosen), run.printed(moment))[0] != 0
+        if run is not self.run or moment < self.disk.now:
+            self.run, self.disk = run, run.begin()
+        self.disk.advance(moment)
+        return self.verdict(image_of(self.disk, chosen), run.printed(moment))[0] != 0
 
 
 def choose(disk, kind, seed):
@@ -258,12 +260,11 @@ def shorten(crasher, run, moment, lost):
     if crasher.fails(run, moment, Chosen("lose", whole)):
         lost = whole
     lost = fewest(lambda some: not crasher.is_over() and crasher.fails(run, moment, Chosen("lose", some)), lost)
-    disk = run.begin()
+    first = min((run.log.operations[it[0]].begin for it in lost), default=-1)
     for at in run.moments():
-        disk.advance(at)
         if at >= moment or crasher.is_over():
             break
-        if crasher.verdict(image_of(disk, Chosen("lose", lost)), run.printed(at))[0] != 0:
+        if at > first and crasher.fails(run, at, Chosen("lose", lost)):
             return at, lost
     return moment, lost
 
@@ -343,8 +344,11 @@ def show(options, run, moment, chosen):
             print(f"choice {at}: {what}, way {way} of 0 to {count - 1}")
     for line in told_operations(disk, run, moment):
         print(line)
+    for at, data in [it for it in run.log.printed if it[0] < moment][-1:]:
+        last = printing(data.rstrip(b"\n")[-200:])
+        print(f"the last that was printed, in event {at + 1}: {last}")
     print(f"the power fails after event {moment}")
-    for line in losses(disk, image, whole):
+    for line in losses(disk, image, whole) or ["nothing is lost of what was written by then"]:
         print(line)
     print(f"\nstatus {status}", flush=True)
     sys.stdout.buffer.write(said)

@@ -9,23 +9,24 @@ import stat
 
 from crashing.events import COPY, CREATE, IS_OF_DATA, IS_OF_RANGE, LENGTH, LINK, MAKE_FOLDER, MAKE_LINK, MAPPED, OF_NAMES, REMOVE, SPACE, SYNC, SYNC_ALL, SYNCS_ITS_RANGE, WRITE
 from crashing.labels import Bytes, Parts
+from crashing.order import settled
 
 # Modes of fallocate, and a flag of renameat2.
 KEEP_SIZE, PUNCH_HOLE, COLLAPSE_RANGE, ZERO_RANGE, INSERT_RANGE = 1, 2, 8, 16, 32
 EXCHANGE = 2
+BLOCK = 4096        # of ext4
 # What a write that fails so may have written in part.
 MAY_HAVE_WRITTEN = {errno.EIO, errno.ENOSPC, errno.EDQUOT, errno.EFBIG}
 
 
 class Change:
-    """What an operation does to one file: bytes from `first` on up to `last` (data, or zeros), and its length: at least, or exactly."""
+    """What an operation does to one file: bytes from `first` on up to `last` (data, or zeros), and its length: at least, or exactly. `is_within`: it ends in the block in which the file ended when it began."""
 
-    __slots__ = ("operation", "begin", "end", "first", "last", "data", "length", "is_exact", "is_folded")
+    __slots__ = ("operation", "begin", "end", "first", "last", "data", "length", "is_exact", "is_within")
 
     def __init__(self, operation, first, last, data, length, is_exact=False, ends=True):
         self.operation, self.begin, self.end = operation, operation.begin, operation.end if ends else None
-        self.first, self.last, self.data, self.length, self.is_exact = first, last, data, length, is_exact
-        self.is_folded = False
+        self.first, self.last, self.data, self.length, self.is_exact, self.is_within = first, last, data, length, is_exact, False
 
     def paint(self, contents):
         if self.last > self.first:
@@ -74,6 +75,7 @@ class File:
         self.kind, self.path, self.mode = kind, path, mode
         self.contents, self.length = bytearray(contents), len(contents)
         self.changes, self.syncs, self.all_syncs, self.writes = [], [], [], 0
+        self.size = self.length     # with all changes
 
     def extent(self):
         return max([self.length, *(change.length or 0 for change in self.changes), *(change.last for change in self.changes)])
@@ -82,7 +84,7 @@ class File:
 class Disk:
     def __init__(self, folder, is_ordered, unit, is_apart=False):
         self.folder, self.is_ordered, self.unit, self.is_apart = folder, is_ordered, unit, is_apart
-        self.files, self.by_inode, self.names = [], {}, {}
+        self.files, self.by_inode, self.names, self.seen = [], {}, {}, {}
         self.namings, self.name_syncs, self.remarks, self.now = [], [], [], 0
         self.root = self.scan(folder)
 
@@ -197,6 +199,8 @@ class Disk:
 
     def put(self, file, change):
         file.changes.append(change)
+        change.is_within = change.last <= -(-file.size // BLOCK) * BLOCK
+        file.size = change.lengthen(file.size)
         operation = change.operation
         if operation.flags & SYNCS_ITS_RANGE and operation.kind in (WRITE, COPY) and change.end is not None:
             # (a sync of its range, begun once it has ended: RWF_DSYNC, O_DSYNC)
@@ -216,34 +220,39 @@ class Disk:
         if not file.changes:
             file.syncs = [it for it in file.syncs if it.end is None or it.end >= self.now]
             return
-        lengths, contents = Parts(file, self.now), Bytes(file, self.now, self.unit)
-        one, other = lengths.folded(), contents.folded()
-        for change in list(file.changes):
-            if change in one and (change in other or change.last == change.first):
+        found = settled(file.changes, lambda some: self.foldable(some, file.syncs))
+        for change in file.changes:
+            if change in found:
                 change.paint(file.contents)
                 file.length = change.lengthen(file.length)
-                change.is_folded = True
-        file.changes = [it for it in file.changes if not it.is_folded]
+        file.changes = [it for it in file.changes if it not in found]
         last = max((it.end for it in file.changes if it.end is not None and it.end < self.now), default=None)
         first = min((it.end for it in file.changes if it.end is not None and it.end < self.now), default=None)
         file.syncs = [it for it in file.syncs if is_open(it, self.now) or (last is not None and it.begin > first)]
+
+    def foldable(self, changes, syncs):
+        """Those of some changes of a file that can be folded, their length and their bytes."""
+        found = Parts(changes, syncs, self.now).folded()
+        return found and found & (Bytes(changes, syncs, self.now, self.unit).folded() | {it for it in found if it.last == it.first})
 
     def name_groups(self):
         """The operations on names that a crash leaves together, in one order: all, or those that a chain of names joins."""
         if self.is_ordered:
             return [self.namings] if self.namings else []
-        groups = []
-        for naming in self.namings:
-            keys = {(folder, name) for folder, name, _ in naming.effects}
-            joined = [it for it in groups if it[0] & keys]
-            groups = [it for it in groups if not it[0] & keys]
-            members = sorted([naming, *(one for it in joined for one in it[1])], key=lambda it: it.begin)
-            groups.append((keys.union(*(it[0] for it in joined)), members))
-        return [members for _, members in groups]
+        group_of, groups = {}, {}
+        for at, naming in enumerate(self.namings):
+            keys, members = {(folder, name) for folder, name, _ in naming.effects}, [naming]
+            for number in {group_of[it] for it in keys if it in group_of}:
+                others = groups.pop(number)
+                keys |= others[0]
+                members += others[1]
+            groups[at] = keys, members
+            group_of.update(dict.fromkeys(keys, at))
+        return [sorted(members, key=lambda it: it.begin) for _, members in groups.values()]
 
     def fold_names(self):
         for group in self.name_groups():
-            found = Parts.of_names(group, self.name_syncs, self.now).folded()
+            found = settled(group, lambda some: Parts(some, self.name_syncs, self.now).folded())
             for naming in group:
                 if naming in found:
                     naming.apply(self.names)
@@ -295,17 +304,14 @@ class Disk:
 
     def current(self, folder, name):
         """The file that has a name, as the program sees it."""
-        for naming in reversed(self.namings):
-            for one, other, file in naming.effects:
-                if (one, other) == (folder, name):
-                    return file
-        return self.names.get(folder, {}).get(name)
+        return self.seen[folder, name] if (folder, name) in self.seen else self.names.get(folder, {}).get(name)
 
     def name(self, operation, effects, moved=None, replaced=None):
         effects = [it for it in effects if it[0] is not None]
         if effects:
             files = {file for _, _, file in effects if file is not None} | ({moved} if moved is not None else set())
             self.namings.append(Naming(operation, effects, files, replaced))
+            self.seen.update(((folder, name), file) for folder, name, file in effects)
 
     def short(self, file):
         return os.path.relpath(file.path, self.folder) if file.path.startswith(self.folder) else file.path or "a file without a name"

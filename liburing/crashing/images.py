@@ -17,7 +17,7 @@ class Image:
 
 
 def image_of(disk, chosen):
-    return assemble(disk, [Parts.of_names(group, disk.name_syncs, disk.now).crash(chosen) for group in disk.name_groups()], lambda file, syncs: crash_file(disk, file, syncs, chosen))
+    return assemble(disk, [Parts(group, disk.name_syncs, disk.now).crash(chosen) for group in disk.name_groups()], lambda file, syncs: crash_file(disk, file, syncs, chosen))
 
 
 def assemble(disk, groups, contents_of):
@@ -61,33 +61,26 @@ def flushed(disk, left):
     return found
 
 
-class Synced:
-    """A file as the volumes read it, with other syncs, without some changes, and without the length of these truncations."""
-
-    def __init__(self, changes, syncs, cuts=()):
-        self.changes, self.syncs, self.cuts = changes, syncs, cuts
-
-
 def crash_file(disk, file, syncs, chosen):
     if not file.changes:
         return bytes(file.contents[: file.length]).ljust(file.length, b"\0"), ([], file.length, [])
-    left = Parts(Synced(file.changes, syncs), disk.now).crash(chosen)
-    cells = Bytes(with_length(disk, file, syncs, left), disk.now, disk.unit, tears_of(file, disk.unit, chosen)).crash(chosen)
+    left = Parts(file.changes, syncs, disk.now).crash(chosen)
+    cells = with_length(disk, file, syncs, left, tears_of(file, disk.unit, chosen)).crash(chosen)
     return paint(file, left, cells)
 
 
-def with_length(disk, file, syncs, left):
-    """What may be left of a file's bytes, once it is known which changes its length shows.
+def with_length(disk, file, syncs, left, tears=()):
+    """A file's bytes, once it is known which changes its length shows.
 
-    A truncation changes bytes and length as one (our own rule; `apart`: not): if its length isn't left, neither are its zeros, nor what was written after it once it had ended. Where names are ordered, a file that grew has the bytes with which it grew (ext4's data=ordered). What is there for certain is said to the volume as a sync of its range.
+    A truncation changes bytes and length as one (our own rule; `apart`: not): if its length isn't left, neither are its zeros, nor what was written after it once it had ended. Where names are ordered, a file that grew beyond its last block has the bytes with which it grew (ext4's data=ordered). What is there for certain is said to the volume as a sync of its range.
     """
     kept, lost = list(syncs), [] if disk.is_apart else [it for it in file.changes if it.is_exact and it not in left]
     for change in left:
-        grows = disk.is_ordered and not change.is_exact and change.length is not None and change.length > file.length
+        grows = disk.is_ordered and not change.is_exact and change.length is not None and change.length > file.length and not change.is_within
         if (grows or (change.is_exact and not disk.is_apart)) and change.last > change.first and not is_open(change, disk.now):
             kept.append(Sync(change.operation, change.end + 0.25, change.end + 0.5, True, (change.first, change.last)))
     changes = [it for it in file.changes if not any(hides(cut, it, it.first - it.first % disk.unit + disk.unit) for cut in lost)]
-    return Synced(changes, kept, lost)
+    return Bytes(changes, kept, disk.now, disk.unit, tears, lost)
 
 
 def tears_of(file, unit, chosen):
@@ -120,17 +113,18 @@ def unsettled(disk):
     found = set()
     for file in disk.files:
         if file.changes:
-            safe = Parts(file, disk.now).safe() & (Bytes(file, disk.now, disk.unit).safe() | {it for it in file.changes if it.last == it.first})
+            safe = Parts(file.changes, file.syncs, disk.now).safe()
+            safe &= Bytes(file.changes, file.syncs, disk.now, disk.unit).safe() | {it for it in safe if it.last == it.first}
             found |= {it.operation.number for it in file.changes if it not in safe}
     for group in disk.name_groups():
-        safe = Parts.of_names(group, disk.name_syncs, disk.now).safe()
+        safe = Parts(group, disk.name_syncs, disk.now).safe()
         found |= {it.operation.number for it in group if it not in safe}
     return sorted(found)
 
 
 def all_images(disk, most):
     """All images there are; None if these are more than so many."""
-    groups = [Parts.of_names(group, disk.name_syncs, disk.now).images(most) for group in disk.name_groups()]
+    groups = [Parts(group, disk.name_syncs, disk.now).images(most) for group in disk.name_groups()]
     if None in groups:
         return None
     found, kept = [], {}
@@ -156,8 +150,8 @@ def all_images(disk, most):
 def ways_of(disk, file, syncs, most):
     """Each way in which a file may be left."""
     kept = {}
-    for left in Parts(Synced(file.changes, syncs), disk.now).images(most) or [None]:
-        cells = left is not None and every_cell(with_length(disk, file, syncs, left), disk, most)
+    for left in Parts(file.changes, syncs, disk.now).images(most) or [None]:
+        cells = left is not None and every_cell(disk, most, lambda tears: with_length(disk, file, syncs, left, tears))
         if not cells:
             return None
         for shown in cells:
@@ -168,16 +162,16 @@ def ways_of(disk, file, syncs, most):
     return list(kept.values())
 
 
-def every_cell(synced, disk, most):
-    """All that may be left of a file's bytes; None if that is more than so many. A run of units that the same changes touch is cut into these, if it may be left in several ways: each doubles the images at least."""
-    runs, units = Bytes(synced, disk.now, disk.unit).images(most), []
+def every_cell(disk, most, bytes_of):
+    """All that may be left of a file's bytes, which are given by where they are cut; None if that is more than so many. A run of units that the same changes touch is cut into these, if it may be left in several ways: each doubles the images at least."""
+    runs, units = bytes_of(()).images(most), []
     for ways in zip(*runs or []):
         first, last, _ = ways[0]
         if len(set(ways)) > 1 and last - first > disk.unit:
             units += range(first, last, disk.unit)
     if runs is None or len(units) >= most.bit_length():
         return None
-    return Bytes(synced, disk.now, disk.unit, units).images(most)
+    return bytes_of(units).images(most)
 
 
 def losses(disk, image, whole):
@@ -192,10 +186,17 @@ def losses(disk, image, whole):
         file, (cells, length, _), (shown, shorter, _) = disk.files[number], whole.shown[number], image.shown[number]
         name, lost = disk.short(file), lost_ranges(cells, shown)
         for change, ranges in lost.items():
-            found.append(f"{told_ranges(ranges)} of {name} are lost: {why_lost(disk, change, file.all_syncs, name)}")
+            zeros = ", and read as zeros" if are_zeros(ranges, shown, file.length, shorter) else ""
+            found.append(f"{told_ranges(ranges)} of {name} are lost{zeros}: {why_lost(disk, change, file.all_syncs, name)}")
         if length != shorter and not are_lost(lost, shorter, length):
             found.append(f"the length of {name} is {shorter} and not {length}")
     return found
+
+
+def are_zeros(ranges, shown, first, last):
+    """Whether nothing shows in these ranges, which lie behind the bytes that are settled and before a file's end."""
+    is_grown = all(first <= low and high <= last for low, high in ranges)
+    return is_grown and not any(change and one < high and low < other for one, other, change in shown for low, high in ranges)
 
 
 def are_lost(lost, first, last):
@@ -215,21 +216,21 @@ def pieces(image, whole):
 
 
 def lost_ranges(cells, shown):
-    """Of each change that shows in the one and not in the other: where."""
-    found = {}
-    after = [(first, last, change) for first, last, change in shown]
+    """Of each change that shows in the one and not in the other: where. Both are in the order of their places."""
+    found, at = {}, 0
     for first, last, change in cells:
-        if change is None:
-            continue
-        for one, other, now in after:
-            low, high = max(first, one), min(last, other)
-            if low < high and now is not change:
-                ranges = found.setdefault(change, [])
-                if ranges and ranges[-1][1] == low:
-                    ranges[-1] = (ranges[-1][0], high)
-                else:
-                    ranges.append((low, high))
+        while at < len(shown) and shown[at][1] <= first:
+            at += 1
+        for one, other, now in itertools.takewhile(lambda it: it[0] < last, itertools.islice(shown, at, None)):
+            if change is not None and now is not change:
+                put_range(found.setdefault(change, []), max(first, one), min(last, other))
     return found
+
+
+def put_range(ranges, low, high):
+    if ranges and ranges[-1][1] == low:
+        low = ranges.pop()[0]
+    ranges.append((low, high))
 
 
 def told_ranges(ranges):

@@ -7,7 +7,10 @@ of places stays. So a crash costs as much as there are changes, however long the
 
 import array
 import bisect
+import functools
+import itertools
 
+from crashing.order import at_once, first_end, telling
 from crashing.volumes import Volume
 
 WHOLE = 1 << 40     # a unit that is larger than any volume here
@@ -29,71 +32,76 @@ class Chosen:
         self.is_torn = dice is not None and dice.random() < 0.5
         self.chance = dice.choice([0.1, 0.3, 0.5, 0.7, 0.9]) if dice is not None else None
 
-    def part(self, numbers):
-        """The numbers of one unit. They are given as pairs: of a write, and its change."""
+    def named(self, changes):
+        """The changes of one list that aren't lost, in the order of their begins."""
         if self.kind == "seed":
-            return self.some(numbers)
-        return [number for number, change in numbers if change.operation.number not in self.short]
+            return sorted(self.some(changes), key=lambda it: it.begin)
+        return [] if self.kind == "least" else [it for it in changes if it.operation.number not in self.short]
 
-    def parts(self, cells, numbers, is_hidden):
-        """Those of a file's cells, each of the changes that touch it and aren't hidden there. A seed leaves the same of each, or, torn, of each something else."""
-        choice, same = array.array("Q"), self.some(numbers) if self.kind == "seed" else []
-        places = {number: at for at, number in enumerate(same)}
-        for first, last, _ in cells:
-            own = [(number, change) for number, change in numbers if change.first < last and first < change.last and not is_hidden(change, last)]
-            if self.kind != "seed":
-                part = [number for number, change in own if not self.loses(change.operation.number, first, last)]
-            elif self.is_torn:
-                part = self.some(own)
-            else:
-                part = sorted((number for number, _ in own if number in places), key=places.get)
-            choice.extend(part)
-            choice.append(0)
-        return choice
+    def everywhere(self, changes):
+        """What a seed leaves of a file where writes aren't torn: each with its place in the order."""
+        return {it: at for at, it in enumerate(self.some(changes))} if self.kind == "seed" and not self.is_torn else {}
+
+    def named_in(self, first, last, changes, same):
+        """Those of the changes of a cell that aren't lost there."""
+        if self.kind != "seed":
+            return [] if self.kind == "least" else [it for it in changes if not self.loses(it.operation.number, first, last)]
+        return self.some(changes) if self.is_torn else sorted((it for it in changes if it in same), key=same.get)
 
     def loses(self, number, first, last):
         return number in self.lost or any(one < last and first < other for one, other in self.torn.get(number, []))
 
-    def some(self, numbers):
-        """Some of these, as many as the dice say, now and then in another order."""
+    def some(self, changes):
+        """Some of these, as many as the dice say, now and then those that ran at once in another order."""
         if self.dice.random() < 0.3:
-            numbers = self.dice.sample(numbers, len(numbers))
-        return [number for number, _ in numbers if self.dice.random() < self.chance]
+            changes = [it for own in at_once(changes) for it in self.dice.sample(own, len(own))]
+        return [it for it in changes if self.dice.random() < self.chance]
 
 
 class History:
-    """A volume with the changes and syncs up to now. Where a change is, and what of it a sync covers, says who inherits."""
+    """A volume with the changes and syncs up to now, made when it is first asked. Where a change is, and what of it a sync covers, says who inherits."""
 
-    def play(self, volume, changes, syncs, now):
-        marks = []
-        for change in changes:
-            marks.append((change.begin, 1, change))
-            if change.end is not None and change.end < now:
-                marks.append((change.end, 2, change))
-        for sync in syncs:
-            if sync.begin < now:
-                marks.append((sync.begin, 0, sync))
-            if sync.end is not None and sync.end < now:
-                marks.append((sync.end, 3, sync))
-        marks.sort(key=lambda it: it[:2])
-        self.volume, self.numbers, begun = volume, [], {}
-        for _, rank, it in marks:
+    def __init__(self, changes, syncs, now):
+        self.changes, self.now = changes, now
+        self.syncs = list(telling(changes, (it for it in syncs if it.end is not None and it.end < now)))
+        self.last_sync = max((it.begin for it in self.syncs if it.is_done), default=-1)
+
+    def marks(self):
+        """What begins and what ends, in its order."""
+        for change in self.changes:
+            yield change.begin, 1, change
+            if change.end is not None and change.end < self.now:
+                yield change.end, 2, change
+        for sync in self.syncs:
+            yield sync.begin, 0, sync
+            yield sync.end, 3, sync
+
+    @functools.cached_property
+    def volume(self):
+        volume, self.numbers, begun = self.empty(), {}, {}
+        for _, rank, it in sorted(self.marks(), key=lambda mark: mark[:2]):
             if rank == 1:
-                for offset, data in self.writes(it):
-                    begun.setdefault(it, []).append(volume.begin_write(offset, data))
-                    self.numbers.append((begun[it][-1], it))
+                self.numbers[it] = volume.begin_write(*self.written(it))
             elif rank == 2:
-                for number in begun.get(it, []):
-                    volume.end_write(number)
+                volume.end_write(self.numbers[it])
             elif rank == 0:
-                begun[it] = self.begin_syncs(it)
+                begun[it] = [volume.begin_sync() if range is None else volume.begin_range_sync(*range) for range in self.synced(it)]
             else:
-                for number in begun.get(it, []):
+                for number in begun[it]:
                     volume.end_sync(number, it.is_done)
+        return volume
+
+    def may_be_safe(self, change):
+        """Whether a sync has ended with success that began after a change: without one it isn't safe."""
+        return change.end is not None and change.end < self.last_sync
 
     def safe(self):
-        """The changes that are safe."""
-        return {change for number, change in self.numbers if self.volume.is_safe(number)}
+        """The changes that are safe. Each is asked about by itself, since no other one decides it."""
+        return {it for it in self.changes if self.may_be_safe(it) and self.of([it]).is_safe(it)}
+
+    def is_safe(self, change):
+        volume = self.volume
+        return volume.is_safe(self.numbers[change])
 
     def folded(self):
         """The changes that the volume folds: it forgets them, and they were safe before."""
@@ -101,33 +109,32 @@ class History:
         if not before:
             return before
         self.volume.fold()
-        return before - self.safe()
+        return {it for it in before if not self.is_safe(it)}
 
 
 class Parts(History):
     """Changes of which each is left or not, in one order: a file's length, or names. Each has one byte of its own, and all one unit."""
 
-    def __init__(self, file, now):
-        self.fill([it for it in file.changes], file.syncs, now)
+    def __init__(self, changes, syncs, now):
+        super().__init__(changes, syncs, now)
+        # (what a range covers lies side by side)
+        beside = sorted(changes, key=lambda it: (getattr(it, "first", 0), getattr(it, "last", 0)))
+        self.places = {change: at for at, change in enumerate(beside)}
 
-    @staticmethod
-    def of_names(namings, syncs, now):
-        made = Parts.__new__(Parts)
-        made.fill(namings, syncs, now)
-        return made
+    def of(self, changes):
+        return Parts(changes, self.syncs, self.now)
 
-    def fill(self, changes, syncs, now):
-        self.places = {change: at for at, change in enumerate(changes)}
-        self.play(Volume(WHOLE, bytes(len(changes))), changes, syncs, now)
+    def empty(self):
+        return Volume(WHOLE, bytes(len(self.changes)))
 
-    def writes(self, change):
-        return [(self.places[change], b"\1")]
+    def written(self, change):
+        return self.places[change], b"\1"
 
-    def begin_syncs(self, sync):
+    def synced(self, sync):
         if sync.covers is None and sync.range is None:
-            return [self.volume.begin_sync()]
-        found = [at for change, at in self.places.items() if change.begin < sync.begin and self.is_met(sync, change)]
-        return [self.volume.begin_range_sync(at, 1) for at in found]
+            return [None]
+        met = merged((at, at + 1) for change, at in self.places.items() if self.is_met(sync, change))
+        return [(first, last - first) for first, last in met]
 
     @staticmethod
     def is_met(sync, change):
@@ -141,16 +148,18 @@ class Parts(History):
         return change.first < last and first < change.last
 
     def crash(self, chosen):
-        """Which are left."""
-        return self.read(self.volume.crash(self.choice(chosen)))
-
-    def choice(self, chosen):
-        if chosen.kind == "least":
-            return array.array("Q")
-        return array.array("Q", [0, *chosen.part(self.numbers), 0])
+        """Which are left. The volume is asked about those that wait for a lost one, of which the safe ones are left, and what is before these."""
+        named = set(chosen.named(self.changes))
+        first = first_end(it for it in self.changes if it not in named)
+        kept = {it for it in named if it.begin <= first}
+        others = [it for it in self.changes if it not in kept]
+        if any(map(self.may_be_safe, others)):
+            asked = self.of(others)
+            kept.update(asked.read(asked.volume.crash(array.array("Q"))))
+        return [it for it in self.changes if it in kept]
 
     def read(self, image):
-        return [change for change, at in self.places.items() if image[at]]
+        return [it for it in self.changes if image[self.places[it]]]
 
     def images(self, most):
         found = self.volume.images(most)
@@ -160,12 +169,18 @@ class Parts(History):
 class Bytes(History):
     """A file's bytes. `tears` are places at which a run of units is cut, so that what is on both sides is chosen apart."""
 
-    def __init__(self, file, now, unit, tears=()):
-        self.changes, self.cuts = [it for it in file.changes if it.last > it.first], getattr(file, "cuts", ())
+    def __init__(self, changes, syncs, now, unit, tears=(), cuts=()):
+        super().__init__([it for it in changes if it.last > it.first], syncs, now)
+        self.unit, self.cuts = unit, cuts
         self.lay_out(unit, [*tears, *(place for cut in self.cuts for place in (cut.length, cut.length + unit - 1))])
         self.width = 2 if len(self.changes) < 1 << 16 else 4
         self.labels = {change: at + 1 for at, change in enumerate(self.changes)}
-        self.play(Volume(self.slots * self.width, bytes(len(self.cells) * self.slots * self.width)), self.changes, file.syncs, now)
+
+    def of(self, changes):
+        return Bytes(changes, self.syncs, self.now, self.unit)
+
+    def empty(self):
+        return Volume(self.slots * self.width, bytes(len(self.cells) * self.slots * self.width))
 
     def lay_out(self, unit, tears):
         """Cells: runs of whole units that the same changes touch, or one unit with the cuts in it."""
@@ -210,46 +225,74 @@ class Bytes(History):
         at = bisect.bisect_right(self.starts, place) - 1
         return at * self.slots + bisect.bisect_right(self.cells[at][2], place)
 
-    def writes(self, change):
+    def written(self, change):
         first, last = self.slot(change.first, False), self.slot(change.last, True)
-        return [(first * self.width, self.labels[change].to_bytes(self.width, "little") * (last - first))]
+        return first * self.width, self.labels[change].to_bytes(self.width, "little") * (last - first)
 
-    def begin_syncs(self, sync):
+    def synced(self, sync):
         if sync.range is None:
-            return [self.volume.begin_sync()]
+            return [None]
         first, last = sync.range
         if not sync.is_done:
             # (a failed one reaches what lies in it in part)
             met = [it for it in self.changes if it.first < last and first < it.last]
-            return [self.volume.begin_range_sync(self.slot_at(max(first, it.first)) * self.width, 1) for it in met]
+            return [(self.slot_at(max(first, it.first)) * self.width, 1) for it in met]
         met = [it for it in self.changes if first <= it.first and it.last <= last]
         if not met:
             return []
         begin, end = min(self.slot(it.first, False) for it in met), max(self.slot(it.last, True) for it in met)
-        return [self.volume.begin_range_sync(begin * self.width, (end - begin) * self.width)]
-
-    def choice(self, chosen):
-        if chosen.kind == "least":
-            return array.array("Q")
-        return array.array("Q", [0]) + chosen.parts(self.cells, self.numbers, self.is_hidden)
+        return [(begin * self.width, (end - begin) * self.width)]
 
     def is_hidden(self, change, last):
         """Whether nothing of a change is left of units up to a place, since a truncation isn't."""
         return any(hides(cut, change, last) for cut in self.cuts)
 
     def crash(self, chosen):
-        """Which change shows where: ranges, each with its change or None."""
-        return self.read(self.volume.crash(self.choice(chosen)))
+        """Which change shows where: ranges, each with its change or None. Each cell goes by itself, with the changes that touch it."""
+        same, found = chosen.everywhere(self.changes), []
+        for (first, last, inner), own in zip(self.cells, self.touching()):
+            named = chosen.named_in(first, last, [it for it in own if not self.is_hidden(it, last)], same)
+            found += self.shown((first, last, inner), own, named)
+        return found
+
+    def touching(self):
+        """Of each cell the changes that touch it, in the order of their begins."""
+        found = [[] for _ in self.cells]
+        for change in self.changes:
+            first = bisect.bisect_right(self.starts, change.first) - 1
+            for own in found[first : bisect.bisect_left(self.starts, change.last)]:
+                own.append(change)
+        return found
+
+    def shown(self, cell, own, named):
+        """What a cell shows, if these of its changes are named. What is named before a lost one has ended is left: the volume is asked about the others, if one of them may be safe, and where the names are in another order."""
+        others = set(own).difference(named)
+        first = first_end(others)
+        if any(one.begin > other.begin for one, other in itertools.pairwise(named)):
+            return self.asked(cell, own, named)
+        kept = [it for it in named if it.begin <= first]
+        others.update(it for it in named if it.begin > first)
+        found = painted(cell, kept)
+        if any(map(self.may_be_safe, others)):
+            above = self.asked(cell, [it for it in own if it in others], [])
+            found = [one if one[2] else other for one, other in zip(above, found)]
+        return found
+
+    def asked(self, cell, own, named):
+        """What the volume leaves of a cell, by these names."""
+        file = self.of(own)
+        at = bisect.bisect_right(file.starts, cell[0]) - 1
+        volume = file.volume
+        image = volume.crash(array.array("Q", [*[0] * (at + 1), *(file.numbers[it] for it in named), 0]))
+        return [(one, other, file.label(image, file.slot_at(one))) for one, other in pairs(cell)]
+
+    def label(self, image, slot):
+        """Whose label an image has in a slot."""
+        label = int.from_bytes(image[slot * self.width : (slot + 1) * self.width], "little")
+        return self.changes[label - 1] if label else None
 
     def read(self, image):
-        found, width = [], self.width
-        for at, (first, last, inner) in enumerate(self.cells):
-            points = [first, *inner, last]
-            for index, (one, other) in enumerate(zip(points, points[1:])):
-                place = (at * self.slots + index) * width
-                label = int.from_bytes(image[place : place + width], "little")
-                found.append((one, other, self.changes[label - 1] if label else None))
-        return found
+        return [(one, other, self.label(image, at * self.slots + slot)) for at, cell in enumerate(self.cells) for slot, (one, other) in enumerate(pairs(cell))]
 
     def images(self, most):
         found = self.volume.images(most)
@@ -263,6 +306,23 @@ class Bytes(History):
 def hides(cut, change, last):
     """Whether nothing of a change is left of units up to a place where a truncation's length isn't: of the truncation's zeros, and of what was written once it had ended, if they have bytes after its place."""
     return last > cut.length and (change is cut or (cut.end is not None and cut.end < change.begin))
+
+
+def pairs(cell):
+    """The parts of a cell, between the cuts in it."""
+    first, last, inner = cell
+    return itertools.pairwise([first, *inner, last])
+
+
+def painted(cell, changes):
+    """A cell with these changes over it, one after the other."""
+    first, last, inner = cell
+    points = [first, *inner, last]
+    found = [None] * (len(points) - 1)
+    for it in changes:
+        for slot in range(bisect.bisect_left(points, max(it.first, first)), bisect.bisect_left(points, min(it.last, last))):
+            found[slot] = it
+    return [(one, other, it) for (one, other), it in zip(itertools.pairwise(points), found)]
 
 
 def merged(ranges):

@@ -19,8 +19,9 @@ OLD, NEW = b"a" * SIZE, b"b" * SIZE
 def begin(case):
     for name in "data", "other", "long", "log", "log2":
         with open(name, "wb") as file:
-            file.write(OLD)
-            file.truncate(6000000 if name == "long" and case == "memory" else SIZE)
+            file.write(OLD if case != "block" else b"a" * 4096)
+            if name == "long" and case == "memory":
+                file.truncate(6000000)
     if case == "datasync":
         os.remove("data")
     elif case == "nested":
@@ -103,6 +104,19 @@ def longer():
     os.pwrite(opened("new"), NEW, 0)
 
 
+def appended(size):
+    """A file gets longer by a write after its end."""
+    os.write(os.open("data", os.O_WRONLY | os.O_APPEND), b"b" * size)
+    print("ended")
+
+
+def hasty():
+    """It is acknowledged before it is written."""
+    print("safe", flush=True)
+    os.pwrite(opened("data"), NEW, 0)
+    os.fsync(opened("data"))
+
+
 def nested():
     """A folder goes into one that was in it: with each name by itself, it may be in itself."""
     os.rename("one/two", "three")
@@ -136,7 +150,7 @@ def memory():
         os.pwrite(opened("data"), b"%d" % number, 0)
 
 
-RUNS = {"torn": torn, "cut": cut, "early": lambda: mapped(True), "late": lambda: mapped(False), "first": first, "fsync": lambda: renamed(os.fsync), "datasync": lambda: renamed(os.fdatasync), "grown": grown, "lengths": lengths, "longer": longer, "nested": nested, "linked": linked, "exchanged": exchanged, "named": named, "memory": memory, "leaves": memory}
+RUNS = {"torn": torn, "cut": cut, "early": lambda: mapped(True), "late": lambda: mapped(False), "first": first, "fsync": lambda: renamed(os.fsync), "datasync": lambda: renamed(os.fdatasync), "grown": grown, "lengths": lengths, "longer": longer, "appended": lambda: appended(SIZE), "block": lambda: appended(SIZE), "across": lambda: appended(5000), "hasty": hasty, "nested": nested, "linked": linked, "exchanged": exchanged, "named": named, "memory": memory, "leaves": memory}
 
 
 def check_memory():
@@ -151,7 +165,8 @@ def check_leaves():
 
 
 def check(case):
-    is_safe = "safe" in sys.stdin.read()
+    printed = sys.stdin.read()
+    is_safe, is_ended = "safe" in printed, "ended" in printed
     if case == "torn" and is_safe:
         assert len(set(read("data")[64:])) == 1, "the end is torn"
     elif case == "cut":
@@ -162,6 +177,10 @@ def check(case):
         assert os.path.exists("data") and read("data")[:SIZE] == NEW, "it hasn't its name"
     elif case == "lengths" and is_safe:
         assert os.path.exists("log") and os.path.getsize("log") == 100 or os.path.getsize("log2") == 100, "neither is as long"
+    elif case in ("appended", "block", "across") and is_ended:
+        assert b"\0" not in read("data"), "it is longer, and has zeros"
+    elif case == "hasty" and is_safe:
+        assert read("data") == NEW, "it isn't there"
     elif case == "linked":
         assert os.path.samefile("data", "second"), "the second name isn't the file's"
     elif case == "exchanged":
