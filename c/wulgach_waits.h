@@ -44,7 +44,7 @@ struct wulgach_needs {
 enum wulgach_need {
     WULGACH_NEEDS_FILE = 0,     /* the file that it is carried out on */
     WULGACH_NEEDS_SECOND = 1,   /* the one that it reads from */
-    WULGACH_NEEDS_OPEN = 2,     /* that the first is open */
+    WULGACH_NEEDS_OPEN = 2,     /* that these are open */
     WULGACH_NEEDS_BUFFER = 3,   /* its registered buffer, which has its bytes */
     WULGACH_NEEDS_POLLING = 4,  /* that the first can be polled */
     WULGACH_NEEDS_KIND = 5      /* what its descriptor is, and so whether it may have to wait for that */
@@ -200,6 +200,10 @@ int32_t wulgach_no_buffer_fault(const struct wulgach_submission *entry, const st
  * that is, as -9 of a descriptor that is open in the wrong direction. And whether it matters. */
 int32_t wulgach_ends_at_start(const struct wulgach_submission *entry, int32_t fault, bool has_buffer, const struct wulgach_nature *nature);
 bool wulgach_fault_asks_buffer(const struct wulgach_submission *entry, int32_t fault);
+
+/* Whether what ends with such a fault, as it started or later, has had a provided buffer, where its group has one, and so may have taken it
+ * (wulgach_takes_for_nothing): it hasn't where its descriptor isn't open. */
+bool wulgach_has_had_buffer(const struct wulgach_submission *entry, int32_t fault, bool has_buffer, const struct wulgach_nature *nature);
 
 /* Whether a descriptor with this name in /proc is an eventfd, whether it counts: an eventfd, or a timerfd, and whether it tells of signals: a signalfd.
  * The name has `length` bytes. */

@@ -140,6 +140,7 @@ static void look_at_descriptors(void)
     wulgach_directions_of(UINT32_MAX, &neither);
     demand(one.can_read && !one.can_write && !other.can_read && other.can_write && both.can_read && both.can_write && !neither.can_read && !neither.can_write, "directions");
     demand(wulgach_ends_at_start(&selecting, -9, true, &pipe) == -9 && wulgach_ends_at_start(&selecting, -9, false, &pipe) == -105 && wulgach_ends_at_start(&selecting, -9, false, &none) == -9 && wulgach_ends_at_start(&receive, -11, false, &socket) == -11 && wulgach_ends_at_start(&selecting, -29, false, &socket) == -105 && wulgach_ends_at_start(&selecting, -29, true, &socket) == -29 && wulgach_ends_at_start(&entry, -9, false, &pipe) == -9, "a fault as it started");
+    demand(wulgach_has_had_buffer(&selecting, -9, true, &pipe) && !wulgach_has_had_buffer(&selecting, -9, false, &pipe) && !wulgach_has_had_buffer(&selecting, -9, true, &(struct wulgach_nature){0}) && !wulgach_has_had_buffer(&entry, -9, true, &pipe), "what has had one");
     demand(wulgach_fault_asks_buffer(&selecting, -9) && !wulgach_fault_asks_buffer(&selecting, 0) && !wulgach_fault_asks_buffer(&entry, -9), "whether a buffer matters");
     demand(wulgach_asks_name(&entry, 7, &none) && !wulgach_asks_name(&entry, 8, &none) && !wulgach_asks_name(&selecting, 7, &none) && !wulgach_asks_name(&entry, 7, &(struct wulgach_nature){.has_type = true}), "whether a name matters");
     demand(wulgach_asks_name(&entry, 9, &none) && wulgach_asks_name(&entry, 127, &none) && !wulgach_asks_name(&entry, 128, &none) && !wulgach_asks_name(&writing, 9, &none), "whether a name matters for signals");
@@ -282,7 +283,7 @@ static void seek(void)
     const uint32_t file = 1u << WULGACH_NEEDS_FILE, second = 1u << WULGACH_NEEDS_SECOND, is_open = 1u << WULGACH_NEEDS_OPEN, buffer = 1u << WULGACH_NEEDS_BUFFER, polling = 1u << WULGACH_NEEDS_POLLING, kind = 1u << WULGACH_NEEDS_KIND;
     demand(NEEDS(.opcode = NOP).sought == 0 && NEEDS(.opcode = 11).sought == 0 && NEEDS(.opcode = READ).sought == (file | kind) && NEEDS(.opcode = FSYNC).sought == (file | kind), "a file");
     demand(NEEDS(.opcode = 55, .off = 1ull << 63).sought == (file | is_open | kind) && NEEDS(.opcode = 55, .off = (1ull << 63) - 1).sought == (file | kind), "a cut to a negative length");
-    demand(NEEDS(.opcode = SPLICE).sought == (file | second | kind) && NEEDS(.opcode = 4).sought == (file | buffer | kind) && NEEDS(.opcode = 6).sought == (file | is_open | kind) && NEEDS(.opcode = 49).sought == (file | is_open | polling | kind), "what else is looked for");
+    demand(NEEDS(.opcode = SPLICE, .len = 1).sought == (file | second | kind) && NEEDS(.opcode = SPLICE).sought == (file | second | is_open | kind) && NEEDS(.opcode = 4).sought == (file | buffer | kind) && NEEDS(.opcode = 6).sought == (file | is_open | kind) && NEEDS(.opcode = 49).sought == (file | is_open | polling | kind), "what else is looked for");
     demand(file < second && second < is_open && is_open < buffer && buffer < polling && polling < kind, "its order");
 }
 

@@ -259,6 +259,7 @@ pub use files::start_fault::asks_name;
 pub use files::start_fault::buffer_fault;
 pub use files::start_fault::ends_at_start;
 pub use files::start_fault::fault_asks_buffer;
+pub use files::start_fault::has_had_buffer;
 pub use files::start_fault::no_buffer_fault;
 pub use files::start_fault::start_fault;
 pub use files::syncing::SyncedKind;

@@ -12,7 +12,7 @@ ghost use Rattle.uring_c.specs.Enter.Call.UnknownForm.{known_of};
 use uring_operations::{
     Directions, Nature, Openness, SpliceEnds, SplicePoll, Submission, SyncedKind, asks_name,
     asks_openness, asks_polling, counts_as_open, counts_as_synced, directions_of, ends_at_start,
-    fault_asks_buffer, is_counter_name, is_eventfd_name, is_missing, is_signal_of_call,
+    fault_asks_buffer, has_had_buffer, is_counter_name, is_eventfd_name, is_missing, is_signal_of_call,
     is_signals_name, is_taken_back, isnt_to_wait, signal_after, splice_poll, with_status,
 };
 
@@ -51,6 +51,19 @@ pub extern "C" fn wulgach_fault_asks_buffer(entry: &Submission, fault: i32) -> b
     ensures { result ≡ starting.fault_asks_buffer entry.now fault }
 {
     fault_asks_buffer(entry, fault)
+}
+
+/// Whether the request of an entry that ends with this fault has had a provided buffer.
+#[unsafe(no_mangle)]
+pub extern "C" fn wulgach_has_had_buffer(
+    entry: &Submission,
+    fault: i32,
+    has_buffer: bool,
+    nature: &Nature,
+) -> bool
+    ensures { result ≡ starting.has_had_buffer entry.now fault has_buffer nature.now }
+{
+    has_had_buffer(entry, fault, has_buffer, nature)
 }
 
 /// With what the request of an entry ends that had this fault as it started.
