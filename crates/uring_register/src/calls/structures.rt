@@ -166,7 +166,11 @@ fn are_set(bytes: &[u8]) -> bool
 pub fn ring_has_reserved(form: &RingForm, goes: bool) -> bool
     ensures { result ≡ spec.ring_has_reserved form.now goes }
 {
-    let resv = if goes { form.resv / 0x1_0000_0000 } else { form.resv };
+    let resv = if goes {
+        form.resv / 0x1_0000_0000
+    } else {
+        form.resv
+    };
     form.pad != 0 || resv != 0 || form.second_resv != 0 || form.third_resv != 0
 }
 

@@ -12,8 +12,9 @@ ghost use Rattle.uring_c.specs.Enter.Call.UnknownForm.{known_of};
 use uring_operations::{
     Directions, Nature, Openness, SpliceEnds, SplicePoll, Submission, SyncedKind, asks_name,
     asks_openness, asks_polling, counts_as_open, counts_as_synced, directions_of, ends_at_start,
-    fault_asks_buffer, has_had_buffer, is_counter_name, is_eventfd_name, is_missing, is_signal_of_call,
-    is_signals_name, is_taken_back, isnt_to_wait, signal_after, splice_poll, with_status,
+    fault_asks_buffer, has_had_buffer, is_counter_name, is_eventfd_name, is_missing,
+    is_signal_of_call, is_signals_name, is_taken_back, isnt_to_wait, signal_after, splice_poll,
+    with_status,
 };
 
 /// Whether a descriptor counts as open that is this, and is named by its number, or by the slot that holds its file.
