@@ -296,6 +296,11 @@ struct wulgach_splice_ends {
  * pipe, or a local stream from which it reads, also by SPLICE_F_NONBLOCK, or by O_NONBLOCK of the other end if that is a pipe. */
 bool wulgach_splice_isnt_to_wait(const struct wulgach_submission *entry, const struct wulgach_splice_ends *ends);
 
+/* What a splice comes to whose call came to this, and which reads from and writes to what is open for these directions: -9 (EBADF), where they aren't open
+ * for that, in the place of -29 (ESPIPE) of a pipe's offset. And whether that matters. */
+int32_t wulgach_splice_result(int32_t came_to, const struct wulgach_directions *from, const struct wulgach_directions *to);
+bool wulgach_splice_asks_directions(int32_t came_to);
+
 /* How far a request has come. */
 struct wulgach_patience {
     uint64_t length;            /* the bytes of its vectors */

@@ -278,6 +278,14 @@ static void splice_ends(void)
     demand(!is_hasty(true, (struct wulgach_splice_ends){TCP, .waits_to_read = true, .other_is_pipe = true, .other_is_unwilling = true}) && is_hasty(false, (struct wulgach_splice_ends){TCP, .waits_to_read = true, .is_unwilling = true}) && !is_hasty(true, (struct wulgach_splice_ends){.domain = 1, .kind = 5, .waits_to_read = true}), "another socket");
 }
 
+static void refuse_offset(void)
+{
+    const struct wulgach_directions read = {.can_read = true}, write = {.can_write = true}, both = {true, true};
+    demand(wulgach_splice_result(-29, &read, &write) == -29 && wulgach_splice_result(-29, &both, &both) == -29, "an offset of a pipe");
+    demand(wulgach_splice_result(-29, &write, &write) == -9 && wulgach_splice_result(-29, &read, &read) == -9 && wulgach_splice_result(-22, &write, &read) == -22, "what isn't open for it");
+    demand(wulgach_splice_asks_directions(-29) && !wulgach_splice_asks_directions(-9) && !wulgach_splice_asks_directions(5), "whether that matters");
+}
+
 static void seek(void)
 {
     const uint32_t file = 1u << WULGACH_NEEDS_FILE, second = 1u << WULGACH_NEEDS_SECOND, is_open = 1u << WULGACH_NEEDS_OPEN, buffer = 1u << WULGACH_NEEDS_BUFFER, polling = 1u << WULGACH_NEEDS_POLLING, kind = 1u << WULGACH_NEEDS_KIND;
@@ -361,6 +369,7 @@ int main(void)
     call();
     splice_ends();
     poll_one();
+    refuse_offset();
     seek();
     miss();
     copy();

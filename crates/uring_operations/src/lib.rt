@@ -45,6 +45,8 @@ pub use calls::signal::is_taken_back;
 pub use calls::signal::signal_after;
 pub use calls::splicing::SpliceEnds;
 pub use calls::splicing::isnt_to_wait;
+pub use calls::splicing::splice_asks_directions;
+pub use calls::splicing::splice_result;
 pub use calls::system_call::SystemCall;
 pub use calls::transfer::How;
 pub use calls::transfer::Step;
