@@ -92,9 +92,12 @@ void wulgach_group_unregister(struct wulgach_group *group);
 uint32_t wulgach_buffer_part(uint64_t wanted, uint32_t length);
 
 /* The flags of the completion of an operation that had a provided buffer (IORING_CQE_F_BUFFER and its number), or 0 if it hasn't taken it: it has if it
- * came to bytes, and one that takes it for nothing (wulgach_takes_for_nothing) also at the end of its file. One that would have to wait has taken it if
+ * came to bytes, or takes it for nothing (wulgach_takes_for_nothing). One that would have to wait has taken it if
  * it has put any bytes there so far, whatever it came to. */
 uint32_t wulgach_buffer_flags(bool would_wait, uint32_t moved, int32_t res, bool takes_for_nothing, uint16_t id);
+
+/* Whether a provided buffer is none, which stands at address 0: an operation ends as without a buffer, and may take it out of its group all the same. */
+bool wulgach_buffer_is_none(const struct wulgach_buffer *buffer);
 
 /* Whether it has taken its buffer, by these flags: then that is taken out of its group (wulgach_group_take). */
 bool wulgach_buffer_is_taken(uint32_t flags);

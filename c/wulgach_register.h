@@ -132,8 +132,8 @@ void wulgach_content_of_files(const struct wulgach_files_form *form, uint32_t co
 void wulgach_content_of_cancel(const struct wulgach_cancel_form *form, struct wulgach_content *content);
 void wulgach_content_of_probe(const uint8_t *bytes, size_t count, struct wulgach_content *content);
 
-/* Whether a reserved field of such a one isn't 0. */
-bool wulgach_ring_has_reserved(const struct wulgach_ring_form *form);
+/* Whether a reserved field of such a one isn't 0. Of a ring that goes, and isn't registered, the lower half of the first `resv` counts for nothing. */
+bool wulgach_ring_has_reserved(const struct wulgach_ring_form *form, bool goes);
 bool wulgach_parameters_have_reserved(const struct wulgach_parameters_form *form);
 
 /* The fault of that, or 0: -14 if it couldn't be read, -22 of none, of a reserved field, of a flag that isn't served, of a sparse table

@@ -92,8 +92,9 @@ enum wulgach_shutting {
  * (EINVAL), but to -11 where its descriptor isn't to wait, unless it is a RECV. A stream's call comes to 0 by itself. */
 uint32_t wulgach_shutting_next(const struct wulgach_submission *entry, uint32_t last, int32_t res, int32_t *end);
 
-/* Whether an operation has taken its provided buffer though it moved nothing: a transfer at the end of its file, but a READ_MULTISHOT hasn't. */
-bool wulgach_takes_for_nothing(uint8_t code);
+/* Whether an operation has taken its provided buffer though it came to this, and moved nothing: a transfer has, at the end of its file and as it fails, but
+ * a READ_MULTISHOT hasn't; nor has one that fails whose buffer is of a ring, and whose descriptor can be polled. */
+bool wulgach_takes_for_nothing(uint8_t code, int32_t came_to, bool is_of_ring, bool can_be_polled);
 
 /* The offset at which a READ_MULTISHOT reads next, after a call that came to this: after the bytes that it read, if it has one. Of another
  * entry its own. */

@@ -44,7 +44,7 @@ struct wulgach_needs {
 enum wulgach_need {
     WULGACH_NEEDS_FILE = 0,     /* the file that it is carried out on */
     WULGACH_NEEDS_SECOND = 1,   /* the one that it reads from */
-    WULGACH_NEEDS_OPEN = 2,     /* that the first is open */
+    WULGACH_NEEDS_OPEN = 2,     /* that these are open */
     WULGACH_NEEDS_BUFFER = 3,   /* its registered buffer, which has its bytes */
     WULGACH_NEEDS_POLLING = 4,  /* that the first can be polled */
     WULGACH_NEEDS_KIND = 5      /* what its descriptor is, and so whether it may have to wait for that */
@@ -201,6 +201,10 @@ int32_t wulgach_no_buffer_fault(const struct wulgach_submission *entry, const st
 int32_t wulgach_ends_at_start(const struct wulgach_submission *entry, int32_t fault, bool has_buffer, const struct wulgach_nature *nature);
 bool wulgach_fault_asks_buffer(const struct wulgach_submission *entry, int32_t fault);
 
+/* Whether what ends with such a fault, as it started or later, has had a provided buffer, where its group has one, and so may have taken it
+ * (wulgach_takes_for_nothing): it hasn't where its descriptor isn't open. */
+bool wulgach_has_had_buffer(const struct wulgach_submission *entry, int32_t fault, bool has_buffer, const struct wulgach_nature *nature);
+
 /* Whether a descriptor with this name in /proc is an eventfd, whether it counts: an eventfd, or a timerfd, and whether it tells of signals: a signalfd.
  * The name has `length` bytes. */
 bool wulgach_is_eventfd_name(const uint8_t *name, size_t length);
@@ -291,6 +295,11 @@ struct wulgach_splice_ends {
 /* Whether a splice or a tee that would have to wait isn't to, and ends with -11 (EAGAIN): by O_NONBLOCK of what it waits for; and, if that is a
  * pipe, or a local stream from which it reads, also by SPLICE_F_NONBLOCK, or by O_NONBLOCK of the other end if that is a pipe. */
 bool wulgach_splice_isnt_to_wait(const struct wulgach_submission *entry, const struct wulgach_splice_ends *ends);
+
+/* What a splice comes to whose call came to this, and which reads from and writes to what is open for these directions: -9 (EBADF), where they aren't open
+ * for that, in the place of -29 (ESPIPE) of a pipe's offset. And whether that matters. */
+int32_t wulgach_splice_result(int32_t came_to, const struct wulgach_directions *from, const struct wulgach_directions *to);
+bool wulgach_splice_asks_directions(int32_t came_to);
 
 /* How far a request has come. */
 struct wulgach_patience {

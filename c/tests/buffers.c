@@ -132,7 +132,8 @@ static void end_operations(void)
 {
     demand(wulgach_buffer_part(0, 9) == 9 && wulgach_buffer_part(8, 9) == 8 && wulgach_buffer_part(UINT64_MAX, 9) == 9, "how much is asked for");
     demand(wulgach_buffer_flags(false, 0, 1, false, 3) == 0x30001 && wulgach_buffer_flags(false, 0, 0, true, 0) == 1 && wulgach_buffer_flags(false, 0, 5, true, 65535) == 0xffff0001, "one that was taken");
-    demand(wulgach_buffer_flags(false, 5, 0, false, 3) == 0 && wulgach_buffer_flags(false, 5, -11, true, 3) == 0, "one that wasn't");
+    demand(wulgach_buffer_flags(false, 5, 0, false, 3) == 0 && wulgach_buffer_flags(false, 5, -11, false, 3) == 0 && wulgach_buffer_flags(false, 5, -11, true, 3) == 0x30001, "one that wasn't, but for one that is taken for nothing");
+    demand(wulgach_buffer_is_none(&(struct wulgach_buffer){.length = 8}) && !wulgach_buffer_is_none(&(struct wulgach_buffer){.address = 8}), "none");
     struct wulgach_buffer had = {4096, 10, 3}, further = {1, 2, 3};
     demand(wulgach_buffer_is_taken(0x30001) && wulgach_buffer_is_taken(1) && !wulgach_buffer_is_taken(0), "which is taken out of its group");
     demand(wulgach_buffer_flags(true, 5, -512, true, 3) == 0x30001 && wulgach_buffer_flags(true, 0, 5, true, 3) == 0, "one of which a part is filled");

@@ -350,7 +350,8 @@ static void look_at_results(void)
     demand(wulgach_is_shut(1, POLLRDHUP | POLLIN) && !wulgach_is_shut(1, POLLIN) && !wulgach_is_shut(0, POLLRDHUP) && !wulgach_is_shut(-22, POLLRDHUP), "whether it is shut");
     struct wulgach_submission reads_on = {.opcode = 49, .off = 4096}, without_offset = {.opcode = 49, .off = UINT64_MAX};
     demand(wulgach_offset_after(&reads_on, 16) == 4112 && wulgach_offset_after(&reads_on, -11) == 4096 && wulgach_offset_after(&without_offset, 16) == UINT64_MAX && wulgach_offset_after(&read, 16) == 0, "where a read that goes on reads next");
-    demand(wulgach_takes_for_nothing(22) && !wulgach_takes_for_nothing(49) && !wulgach_takes_for_nothing(27), "what takes a buffer at the end of its file");
+    demand(wulgach_takes_for_nothing(22, 0, true, true) && !wulgach_takes_for_nothing(49, 0, true, true) && !wulgach_takes_for_nothing(27, 0, true, true), "what takes a buffer at the end of its file");
+    demand(wulgach_takes_for_nothing(22, -14, false, true) && wulgach_takes_for_nothing(22, -14, true, false) && !wulgach_takes_for_nothing(22, -14, true, true) && !wulgach_takes_for_nothing(49, -14, false, true) && !wulgach_takes_for_nothing(27, -14, false, true), "what takes one as it fails");
     demand(wulgach_placed_result(UINT32_MAX, 7) == 7 && wulgach_placed_result(8, 7) == 0, "a file for any slot, and for one");
     struct wulgach_submission sends = {.opcode = 9}, receives = {.opcode = 10}, splice = {.opcode = 30};
     demand(wulgach_control_of(&sends, 24, 0) == 24 && wulgach_control_of(&sends, 24, 5) == 0 && wulgach_control_of(&receives, 24, 5) == 24, "control data");

@@ -26,7 +26,8 @@ static void read_structures(void)
     demand(content.nr == 0 && content.flags == 0 && content.has_reserved && !content.has_data, "a probe");
     wulgach_content_of_probe(probe, 31, &content);
     demand(!content.has_reserved, "a probe of zeros");
-    demand(wulgach_ring_has_reserved(&(struct wulgach_ring_form){.pad = 1}) && !wulgach_ring_has_reserved(&(struct wulgach_ring_form){.bgid = 1}), "a ring of buffers");
+    demand(wulgach_ring_has_reserved(&(struct wulgach_ring_form){.pad = 1}, false) && !wulgach_ring_has_reserved(&(struct wulgach_ring_form){.bgid = 1}, false), "a ring of buffers");
+    demand(wulgach_ring_has_reserved(&(struct wulgach_ring_form){.resv = 5}, false) && !wulgach_ring_has_reserved(&(struct wulgach_ring_form){.resv = 5}, true) && wulgach_ring_has_reserved(&(struct wulgach_ring_form){.resv = 1ull << 32}, true), "one that goes");
     demand(wulgach_parameters_have_reserved(&(struct wulgach_parameters_form){.third_resv = 1}) && !wulgach_parameters_have_reserved(&(struct wulgach_parameters_form){.wq_fd = 1}), "parameters");
 }
 

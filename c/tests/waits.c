@@ -142,6 +142,7 @@ static void look_at_buffers(void)
     demand(wulgach_no_buffer_fault(&selecting, &none) == -9 && wulgach_no_buffer_fault(&selecting, &pipe) == -105 && wulgach_no_buffer_fault(&receive, &pipe) == -88 && wulgach_no_buffer_fault(&receive, &socket) == -105 && wulgach_no_buffer_fault(&fixed, &none) == -9 && wulgach_no_buffer_fault(&fixed, &file) == -14, "no buffer");
     demand(wulgach_buffer_fault(&fixed, &none, -14) == -9 && wulgach_buffer_fault(&fixed, &file, -14) == -14 && wulgach_buffer_fault(&fixed, &file, -105) == -105 && wulgach_buffer_fault(&receive, &pipe, -14) == -88, "what is wrong with a buffer");
     demand(wulgach_ends_at_start(&selecting, -9, true, &pipe) == -9 && wulgach_ends_at_start(&selecting, -9, false, &pipe) == -105 && wulgach_ends_at_start(&selecting, -9, false, &none) == -9 && wulgach_ends_at_start(&receive, -11, false, &socket) == -11 && wulgach_ends_at_start(&selecting, -29, false, &socket) == -105 && wulgach_ends_at_start(&selecting, -29, true, &socket) == -29 && wulgach_ends_at_start(&entry, -9, false, &pipe) == -9, "a fault as it started");
+    demand(wulgach_has_had_buffer(&selecting, -9, true, &pipe) && !wulgach_has_had_buffer(&selecting, -9, false, &pipe) && !wulgach_has_had_buffer(&selecting, -9, true, &(struct wulgach_nature){0}) && !wulgach_has_had_buffer(&entry, -9, true, &pipe), "what has had one");
     demand(wulgach_fault_asks_buffer(&selecting, -9) && !wulgach_fault_asks_buffer(&selecting, 0) && !wulgach_fault_asks_buffer(&entry, -9), "whether a buffer matters");
 }
 
@@ -294,12 +295,20 @@ static void splice_ends(void)
     demand(!is_hasty(true, (struct wulgach_splice_ends){TCP, .waits_to_read = true, .other_is_pipe = true, .other_is_unwilling = true}) && is_hasty(false, (struct wulgach_splice_ends){TCP, .waits_to_read = true, .is_unwilling = true}) && !is_hasty(true, (struct wulgach_splice_ends){.domain = 1, .kind = 5, .waits_to_read = true}), "another socket");
 }
 
+static void refuse_offset(void)
+{
+    const struct wulgach_directions read = {.can_read = true}, write = {.can_write = true}, both = {true, true};
+    demand(wulgach_splice_result(-29, &read, &write) == -29 && wulgach_splice_result(-29, &both, &both) == -29, "an offset of a pipe");
+    demand(wulgach_splice_result(-29, &write, &write) == -9 && wulgach_splice_result(-29, &read, &read) == -9 && wulgach_splice_result(-22, &write, &read) == -22, "what isn't open for it");
+    demand(wulgach_splice_asks_directions(-29) && !wulgach_splice_asks_directions(-9) && !wulgach_splice_asks_directions(5), "whether that matters");
+}
+
 static void seek(void)
 {
     const uint32_t file = 1u << WULGACH_NEEDS_FILE, second = 1u << WULGACH_NEEDS_SECOND, is_open = 1u << WULGACH_NEEDS_OPEN, buffer = 1u << WULGACH_NEEDS_BUFFER, polling = 1u << WULGACH_NEEDS_POLLING, kind = 1u << WULGACH_NEEDS_KIND;
     demand(NEEDS(.opcode = NOP).sought == 0 && NEEDS(.opcode = 11).sought == 0 && NEEDS(.opcode = READ).sought == (file | kind) && NEEDS(.opcode = FSYNC).sought == (file | kind), "a file");
     demand(NEEDS(.opcode = 55, .off = 1ull << 63).sought == (file | is_open | kind) && NEEDS(.opcode = 55, .off = (1ull << 63) - 1).sought == (file | kind), "a cut to a negative length");
-    demand(NEEDS(.opcode = SPLICE).sought == (file | second | kind) && NEEDS(.opcode = 4).sought == (file | buffer | kind) && NEEDS(.opcode = 6).sought == (file | is_open | kind) && NEEDS(.opcode = 49).sought == (file | is_open | polling | kind), "what else is looked for");
+    demand(NEEDS(.opcode = SPLICE, .len = 1).sought == (file | second | kind) && NEEDS(.opcode = SPLICE).sought == (file | second | is_open | kind) && NEEDS(.opcode = 4).sought == (file | buffer | kind) && NEEDS(.opcode = 6).sought == (file | is_open | kind) && NEEDS(.opcode = 49).sought == (file | is_open | polling | kind), "what else is looked for");
     demand(file < second && second < is_open && is_open < buffer && buffer < polling && polling < kind, "its order");
 }
 
@@ -380,6 +389,7 @@ int main(void)
     call();
     splice_ends();
     poll_one();
+    refuse_offset();
     seek();
     miss();
     copy();

@@ -10,6 +10,7 @@ mod tables;
 pub use buffers::bytes::bytes_fault;
 pub use buffers::bytes::flags_after;
 pub use buffers::bytes::further_in;
+pub use buffers::bytes::is_none;
 pub use buffers::bytes::is_taken;
 pub use buffers::bytes::part_of;
 pub use buffers::bytes::takes_what_it_tells;

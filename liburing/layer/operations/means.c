@@ -4,6 +4,7 @@
 #include "calls/extras.h"
 #include "operations/openings.h"
 #include "operations/sockets.h"
+#include "operations/splices.h"
 #include "operations/syncing.h"
 #include "operations/unwilling.h"
 #include "process/fault.h"
@@ -153,7 +154,7 @@ static int32_t carry_out_by(struct ring *ring, struct request *request, const st
     case WULGACH_BY_CALL:
         return make_call_on(ring, request, &means->call);
     case WULGACH_BY_SPLICE:
-        return make_call_of(request, &means->call);
+        return result_of_splice(request, make_call_of(request, &means->call));
     case WULGACH_BY_OPENING:
         return open_file(ring, request, means);
     case WULGACH_BY_SYNC:

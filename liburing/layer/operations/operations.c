@@ -31,7 +31,7 @@ bool has_offsets(const struct request *request)
 bool finds_buffer(struct ring *ring, struct request *request)
 {
     struct wulgach_buffer buffer;
-    bool is_found = find_provided(ring, request->entry.buf_group, &buffer);
+    bool is_found = find_provided(ring, request->entry.buf_group, &buffer) && !wulgach_buffer_is_none(&buffer);
     request->standing.has_found_buffer |= wulgach_waits_after_search(submission_of(&request->entry), is_found);
     return is_found;
 }
@@ -234,16 +234,45 @@ int32_t fault_of_buffer(const struct request *request, int32_t why)
     return wulgach_buffer_fault(submission_of(&request->entry), &nature, why);
 }
 
+/* Whether one has had the provided buffer that was found for it. Its descriptor is asked only of one that failed. */
+static bool has_had_buffer(const struct request *request, int32_t res)
+{
+    if (res >= 0)
+        return true;
+    struct wulgach_nature nature = nature_without_buffer(request);
+    return wulgach_has_had_buffer(submission_of(&request->entry), res, true, &nature);
+}
+
+/* Whether one takes its provided buffer though nothing was moved. Whether its descriptor can be polled is asked only where that matters. */
+static bool takes_for_nothing(struct ring *ring, struct request *request, int32_t res)
+{
+    bool is_of_ring = has_buffer_ring(ring, request->entry.buf_group);
+    return has_had_buffer(request, res) && wulgach_takes_for_nothing(request->entry.opcode, res, is_of_ring, is_of_ring && res < 0 && can_be_polled(request));
+}
+
+/* Tells of the buffer that a request had by its result, and takes it out of its group, if it has taken it. */
+static void leave_buffer(struct ring *ring, struct request *request, int32_t res, uint16_t id)
+{
+    bool would_wait = res == WOULD_WAIT;
+    request->flags = wulgach_buffer_flags(would_wait, (uint32_t)moved_so_far(request), res, !would_wait && takes_for_nothing(ring, request, res), id);
+    if (wulgach_buffer_is_taken(request->flags))
+        take_provided(ring, request->entry.buf_group);
+}
+
 /* What a request ends with that something failed of when it started. */
-static int32_t fault_at_start(struct ring *ring, const struct request *request)
+static int32_t fault_at_start(struct ring *ring, struct request *request)
 {
     const struct wulgach_submission *entry = submission_of(&request->entry);
     struct wulgach_buffer buffer;
     struct wulgach_nature nature = {0};
-    bool has_buffer = !wulgach_fault_asks_buffer(entry, request->started) || find_provided(ring, request->entry.buf_group, &buffer);
+    bool is_asked = wulgach_fault_asks_buffer(entry, request->started), is_found = is_asked && find_provided(ring, request->entry.buf_group, &buffer);
+    bool has_buffer = !is_asked || (is_found && !wulgach_buffer_is_none(&buffer));
     if (!has_buffer)
         nature = nature_without_buffer(request);
-    return wulgach_ends_at_start(entry, request->started, has_buffer, &nature);
+    int32_t res = wulgach_ends_at_start(entry, request->started, has_buffer, &nature);
+    if (is_found)
+        leave_buffer(ring, request, res, buffer.id);
+    return res;
 }
 
 /* Begins with the next buffer of its group, if there is one. */
@@ -277,11 +306,9 @@ static int32_t call_with_buffer(struct ring *ring, struct request *request, bool
         return call_into(ring, request, further, is_half);
     if (!begin_buffer(ring, request))
         return fault_without_buffer(request);
-    uint16_t id = request->provided.id;
-    int32_t res = call_into(ring, request, request->provided, is_half);
-    request->flags = wulgach_buffer_flags(res == WOULD_WAIT, (uint32_t)moved_so_far(request), res, wulgach_takes_for_nothing(request->entry.opcode), id);
-    if (wulgach_buffer_is_taken(request->flags))
-        take_provided(ring, request->entry.buf_group);
+    struct wulgach_buffer had = request->provided;
+    int32_t res = wulgach_buffer_is_none(&had) ? fault_without_buffer(request) : call_into(ring, request, had, is_half);
+    leave_buffer(ring, request, res, had.id);
     return res;
 }
 

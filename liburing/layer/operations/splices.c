@@ -6,6 +6,7 @@
 #include "operations/unwilling.h"
 #include "wulgach_waits.h"
 
+#include <fcntl.h>
 #include <sys/socket.h>
 
 /* What is polled where what it reads from was found ready, or wasn't. */
@@ -20,6 +21,21 @@ struct pollfd poll_of_splice(const struct request *request)
 {
     struct pollfd source = poll_after(request, false);
     return shows_ready(source) ? poll_after(request, true) : source;
+}
+
+static struct wulgach_directions directions_of(int fd)
+{
+    struct wulgach_directions directions;
+    wulgach_directions_of((uint32_t)fcntl(fd, F_GETFL), &directions);
+    return directions;
+}
+
+int32_t result_of_splice(const struct request *request, int32_t came_to)
+{
+    if (!wulgach_splice_asks_directions(came_to))
+        return came_to;
+    struct wulgach_directions from = directions_of(request->second_fd), to = directions_of(request->fd);
+    return wulgach_splice_result(came_to, &from, &to);
 }
 
 bool is_unwilling_splice(const struct request *request)

@@ -101,12 +101,12 @@ int32_t remove_buffers(struct ring *ring, const struct io_uring_sqe *entry)
     return fault < 0 ? fault : (int32_t)wulgach_group_remove(&group->kept, wulgach_removed_of(submission_of(entry)));
 }
 
-/* Reads the argument of a call for rings: 0, or its fault. */
-static int read_ring(struct io_uring_buf_reg *asked, uint64_t at, uint32_t count)
+/* Reads the argument of a call for a ring that is to be registered, or goes: 0, or its fault. */
+static int read_ring(struct io_uring_buf_reg *asked, uint64_t at, uint32_t count, bool goes)
 {
     bool is_read = at && count == 1 && copy_in(asked, at, sizeof *asked) == 0;
     _Static_assert(sizeof *asked == sizeof(struct wulgach_ring_form), "the library's structure");
-    bool has_reserved = is_read && wulgach_ring_has_reserved((const void *)asked);
+    bool has_reserved = is_read && wulgach_ring_has_reserved((const void *)asked, goes);
     return wulgach_group_argument_fault(count, at != 0, is_read, has_reserved);
 }
 
@@ -150,7 +150,7 @@ static void make_way(struct ring *ring, const struct io_uring_buf_reg *asked)
 int register_buffer_ring(struct ring *ring, uint64_t at, uint32_t count)
 {
     struct io_uring_buf_reg asked;
-    int result = read_ring(&asked, at, count);
+    int result = read_ring(&asked, at, count, false);
     if (result < 0)
         return result;
     make_way(ring, &asked);
@@ -167,7 +167,7 @@ int register_buffer_ring(struct ring *ring, uint64_t at, uint32_t count)
 int unregister_buffer_ring(struct ring *ring, uint64_t at, uint32_t count)
 {
     struct io_uring_buf_reg asked;
-    int result = read_ring(&asked, at, count);
+    int result = read_ring(&asked, at, count, true);
     if (result < 0)
         return result;
     struct group *group = find_group(ring, asked.bgid);
@@ -198,6 +198,12 @@ bool find_provided(struct ring *ring, uint16_t id, struct wulgach_buffer *found)
     if (!group)
         return false;
     return wulgach_group_is_ring(&group->kept) ? find_in_ring(group, found) : wulgach_group_next(&group->kept, group->rows, group->room, found);
+}
+
+bool has_buffer_ring(struct ring *ring, uint16_t id)
+{
+    const struct group *group = find_group(ring, id);
+    return group && wulgach_group_is_ring(&group->kept);
 }
 
 void take_provided(struct ring *ring, uint16_t id)

@@ -22,6 +22,9 @@ int unregister_buffer_ring(struct ring *ring, uint64_t at, uint32_t count);
 /* The next buffer of a group, which stays there; false if there is none. */
 bool find_provided(struct ring *ring, uint16_t id, struct wulgach_buffer *found);
 
+/* Whether a group is a ring. */
+bool has_buffer_ring(struct ring *ring, uint16_t id);
+
 /* Takes the next buffer out. There is one. */
 void take_provided(struct ring *ring, uint16_t id);
 

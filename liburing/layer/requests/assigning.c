@@ -134,6 +134,13 @@ static int find_buffer(struct ring *ring, struct request *request)
     return why < 0 ? fault_of_buffer(request, why) : 0;
 }
 
+/* Whether what is needed is open: the file, and of a splice the one that it reads from. */
+static bool are_open(const struct request *request)
+{
+    const struct wulgach_needs *needs = &request->needs;
+    return counts_as_open(request->fd, needs->is_registered) && (!needs->needs_second || counts_as_open(request->second_fd, needs->is_second_registered));
+}
+
 /* Looks for what is needed. Returns its fault, or 0. */
 static int look_for(struct ring *ring, struct request *request, enum wulgach_need need)
 {
@@ -144,7 +151,7 @@ static int look_for(struct ring *ring, struct request *request, enum wulgach_nee
     case WULGACH_NEEDS_SECOND:
         return find_fd(ring, &request->second_fd, needs->second_fd, needs->is_second_registered, &request->second_file);
     case WULGACH_NEEDS_OPEN:
-        return counts_as_open(request->fd, needs->is_registered) ? 0 : wulgach_missing_fault(WULGACH_NO_FILE);
+        return are_open(request) ? 0 : wulgach_missing_fault(WULGACH_NO_FILE);
     case WULGACH_NEEDS_BUFFER:
         return find_buffer(ring, request);
     case WULGACH_NEEDS_POLLING:

@@ -6,6 +6,12 @@
 #define _GNU_SOURCE
 #include "engines.h"
 
+#include <sys/socket.h>
+#include <sys/uio.h>
+
+/* (not in most headers) */
+enum { READ_MULTISHOT = 49 };
+
 /* The group 2, a ring, has no buffer left, and without one nothing is waited for; there is no group 3. The ring goes. */
 static void expect_no_buffers(struct ring *ring, struct io_uring_buf_reg *asked)
 {
@@ -106,7 +112,9 @@ static void test_groups(void)
     check(register_group(&ring, cells, 8, 1) == 0);
     check(register_group(&ring, cells, 3, 1) == -EINVAL && register_group(&ring, NULL, 8, 1) == -EEXIST && register_group(&ring, cells + 8, 8, 1) == -EEXIST);
     check(provide(&ring, at, 1, 1, 0, 1) == -EINVAL && remove_buffers(&ring, 1, 1) == -EINVAL);
-    check(register_at(ring.fd, IORING_UNREGISTER_PBUF_RING, NULL, 1) == -EINVAL && unregister_group(&ring, 1) == 0 && unregister_group(&ring, 1) == -ENOENT);
+    struct io_uring_buf_reg with_rest = {.bgid = 1, .resv = {1ull << 32}}, with_least = {.bgid = 1, .resv = {5}};
+    check(register_at(ring.fd, IORING_UNREGISTER_PBUF_RING, NULL, 1) == -EINVAL && register_at(ring.fd, IORING_UNREGISTER_PBUF_RING, &with_rest, 1) == -EINVAL);
+    check(register_at(ring.fd, IORING_UNREGISTER_PBUF_RING, &with_least, 1) == 0 && unregister_group(&ring, 1) == -ENOENT);
     check(provide(&ring, at, 1, 3, 0, 2) == 0 && register_group(&ring, cells, 8, 2) == -EEXIST && unregister_group(&ring, 2) == -EINVAL);
     check(remove_buffers(&ring, 2, 2) == 2 && remove_buffers(&ring, 2, 2) == 1 && remove_buffers(&ring, 2, 2) == 0);
     check(register_group(&ring, cells, 8, 2) == 0 && unregister_group(&ring, 2) == 0);
@@ -135,12 +143,105 @@ static void test_empty_lists(void)
     close_ring(&ring);
 }
 
+enum { BY_LIST = 1, BY_RING = 2 };
+
+/* A list and a ring of eight buffers of 8 bytes each, of which the first stands elsewhere. */
+static void make_both(struct ring *ring, uint64_t first)
+{
+    static char memory[8][8];
+    static _Alignas(4096) struct io_uring_buf_ring cells[8];
+    make_ring(ring, 8, 0, 0);
+    check(provide(ring, first, 8, 1, 0, BY_LIST) == 0 && provide(ring, (uintptr_t)memory[1], 8, 7, 1, BY_LIST) == 0 && register_group(ring, cells, 8, BY_RING) == 0);
+    for (uint16_t i = 0; i < 8; i++)
+        cells->bufs[i] = (struct io_uring_buf){.addr = i == 0 ? first : (uintptr_t)memory[i], .len = 8, .bid = i};
+    __atomic_store_n(&cells->tail, 8, __ATOMIC_RELEASE);
+}
+
+/* What takes a buffer, and with which result. */
+struct taking {
+    uint8_t code;
+    int fd;
+    uint64_t offset;
+    uint32_t flags;
+    int32_t res;
+    int takers;         /* of which kinds it takes its buffer */
+};
+
+static void check_taking(struct ring *ring, const struct taking *of, uint16_t group, uint32_t id)
+{
+    struct iovec vector = {NULL, 8};
+    bool is_vector = of->code == IORING_OP_READV;
+    struct io_uring_sqe *entry = put_transfer(ring, of->code, 0, IOSQE_BUFFER_SELECT, of->fd, is_vector ? &vector : NULL, is_vector ? 1 : of->code == READ_MULTISHOT ? 0 : 8, of->offset);
+    entry->rw_flags = (int)of->flags;
+    entry->buf_group = group;
+    check(enter(ring, 1, 0, 0) == 1);
+    struct seen found = next_of(ring);
+    check(found.res == of->res && found.flags == (of->takers & group ? IORING_CQE_F_BUFFER | id << IORING_CQE_BUFFER_SHIFT : 0));
+}
+
+/* A read that fails takes its buffer: of a list, and of a ring where its descriptor can't be polled. */
+static void test_failing(void)
+{
+    int ends[2], folder = open("/", O_RDONLY | O_DIRECTORY), to_write = open("/dev/null", O_WRONLY), alone = socket(AF_UNIX, SOCK_STREAM, 0);
+    check(pipe(ends) == 0);
+    const struct taking takings[] = {
+        {IORING_OP_READ, to_write, 0, 0, -EBADF, BY_LIST | BY_RING}, {IORING_OP_READ, ends[1], 0, 0, -EBADF, BY_LIST}, {IORING_OP_READV, ends[1], 0, 0, -EBADF, BY_LIST},
+        {IORING_OP_READ, folder, 0, 0, -EISDIR, BY_LIST | BY_RING}, {IORING_OP_READ, ends[0], 0, RWF_NOWAIT, -EAGAIN, BY_LIST}, {IORING_OP_READ, ends[0], (uint64_t)-2, 0, -EINVAL, BY_LIST},
+        {IORING_OP_READ, 999, 0, 0, -EBADF, 0}, {READ_MULTISHOT, ends[1], 0, 0, -EBADF, 0}, {IORING_OP_RECV, alone, 0, 0, -EINVAL, 0}, {IORING_OP_READ, alone, 0, 0, -EINVAL, BY_LIST},
+    };
+    for (uint16_t group = BY_LIST; group <= BY_RING; group++) {
+        struct ring ring;
+        static char first[8];
+        uint32_t taken = 0;
+        make_both(&ring, (uintptr_t)first);
+        for (size_t i = 0; i < sizeof takings / sizeof *takings; i++) {
+            check_taking(&ring, &takings[i], group, taken);
+            taken += (takings[i].takers & group) != 0;
+        }
+        close_ring(&ring);
+    }
+    close(ends[0]);
+    close(ends[1]);
+    close(folder);
+    close(to_write);
+    close(alone);
+}
+
+/* So it is of a buffer that can't be written, and of one at address 0, which is none: a receive takes neither. */
+static void test_unusable(void)
+{
+    char *pages[] = {mmap(NULL, 4096, PROT_READ, MAP_PRIVATE | MAP_ANONYMOUS, -1, 0), NULL};
+    for (int i = 0; i < 2; i++)
+        for (uint16_t group = BY_LIST; group <= BY_RING; group++) {
+            int ends[2], pair[2], file = make_file();
+            int32_t res = pages[i] ? -EFAULT : -ENOBUFS;
+            check(pipe(ends) == 0 && socketpair(AF_UNIX, SOCK_STREAM, 0, pair) == 0 && write(file, "12345678", 8) == 8 && write(pair[1], "12345678", 8) == 8 && (!pages[i] || write(ends[1], "12345678", 8) == 8));
+            const struct taking takings[] = {{IORING_OP_RECV, pair[0], 0, 0, res, 0}, {IORING_OP_READ, ends[0], 0, 0, res, BY_LIST}, {IORING_OP_READ, file, 0, 0, res, BY_RING}, {IORING_OP_READ, file, 0, 0, 8, BY_LIST | BY_RING}};
+            struct ring ring;
+            make_both(&ring, (uintptr_t)pages[i]);
+            check_taking(&ring, &takings[0], group, 0);
+            check_taking(&ring, &takings[1], group, 0);
+            if (group == BY_RING)
+                check_taking(&ring, &takings[2], group, 0);
+            check_taking(&ring, &takings[3], group, 1);
+            close_ring(&ring);
+            close(ends[0]);
+            close(ends[1]);
+            close(pair[0]);
+            close(pair[1]);
+            close(file);
+        }
+    munmap(pages[0], 4096);
+}
+
 int main(int count, char **words)
 {
     static const struct named tests[] = {
         {"provided", test_provided},
         {"groups", test_groups},
         {"empty lists", test_empty_lists},
+        {"failing", test_failing},
+        {"unusable", test_unusable},
     };
     return !are_rings_there() ? 0 : run_tests(tests, sizeof tests / sizeof *tests, count > 1 ? words[1] : NULL);
 }

@@ -291,6 +291,47 @@ static void test_splice(void)
     close_ring(&ring);
 }
 
+/* One of no bytes, too, fails where either of its files isn't open. */
+static void test_splice_of_nothing(void)
+{
+    struct ring ring;
+    int ends[2], closed = 999;
+    check(pipe(ends) == 0);
+    make_ring(&ring, 8, 0, 0);
+    for (int i = 0; i < 6; i++) {
+        int of[][2] = {{ends[0], ends[1]}, {closed, ends[1]}, {ends[0], closed}};
+        struct io_uring_sqe *entry = put_plain(&ring, i < 3 ? IORING_OP_TEE : IORING_OP_SPLICE, 0, of[i % 3][1]);
+        entry->splice_fd_in = of[i % 3][0];
+        entry->off = entry->splice_off_in = i < 3 ? 0 : UINT64_MAX;
+        check(result_of_one(&ring, 1) == (i % 3 == 0 ? 0 : -EBADF));
+    }
+    close(ends[0]);
+    close(ends[1]);
+    close_ring(&ring);
+}
+
+/* An offset of a pipe is refused after what isn't open to be read, or written. */
+static void test_splice_at_an_offset(void)
+{
+    struct ring ring;
+    int ends[2], others[2];
+    check(pipe(ends) == 0 && pipe(others) == 0);
+    make_ring(&ring, 8, 0, 0);
+    for (int i = 0; i < 8; i++) {
+        struct io_uring_sqe *entry = put_plain(&ring, IORING_OP_SPLICE, 0, others[i & 1]);
+        entry->splice_fd_in = ends[i >> 1 & 1];
+        entry->off = i & 4 ? UINT64_MAX : 1;
+        entry->splice_off_in = i & 4 ? 1 : UINT64_MAX;
+        entry->len = 1;
+        check(result_of_one(&ring, 1) == ((i & 3) == 1 ? -ESPIPE : -EBADF));
+    }
+    for (int i = 0; i < 2; i++) {
+        close(ends[i]);
+        close(others[i]);
+    }
+    close_ring(&ring);
+}
+
 /* A write to a pipe that shows no room ends, though, if the last page has room for it; one for which that has none waits until it was read. */
 static void test_last_page(void)
 {
@@ -324,6 +365,8 @@ int main(int count, char **words)
         {"events in choices", test_events_in_choices},
         {"wrong end", test_wrong_end},
         {"splice", test_splice},
+        {"splice of nothing", test_splice_of_nothing},
+        {"splice at an offset", test_splice_at_an_offset},
         {"last page", test_last_page},
     };
     return run_tests(tests, sizeof tests / sizeof *tests, count > 1 ? words[1] : NULL);

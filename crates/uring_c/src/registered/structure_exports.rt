@@ -48,12 +48,12 @@ pub extern "C" fn wulgach_content_of_probe(bytes: &[u8], content: &mut Content)
     *content = content_of_probe(bytes);
 }
 
-/// Whether a reserved field of a ring of provided buffers isn't 0.
+/// Whether a reserved field of a ring of provided buffers isn't 0, which is to be registered, or `goes`.
 #[unsafe(no_mangle)]
-pub extern "C" fn wulgach_ring_has_reserved(form: &RingForm) -> bool
-    ensures { result ≡ spec.ring_has_reserved form.now }
+pub extern "C" fn wulgach_ring_has_reserved(form: &RingForm, goes: bool) -> bool
+    ensures { result ≡ spec.ring_has_reserved form.now goes }
 {
-    ring_has_reserved(form)
+    ring_has_reserved(form, goes)
 }
 
 /// Whether a reserved field of a set-up's parameters isn't 0.

@@ -5,7 +5,7 @@ ghost use Rattle.uring_register.specs.Buffers.Bytes as spec;
 ghost use Rattle.uring_c.specs.Registered.UsesForm.{word_of_ending};
 
 use uring_register::{
-    Buffer, Ending, Uses, bytes_fault, flags_after, further_in, is_taken, part_of,
+    Buffer, Ending, Uses, bytes_fault, flags_after, further_in, is_none, is_taken, part_of,
 };
 
 /// One has a file or buffer, with a tag or without: a slot that is to get it, or a request.
@@ -73,18 +73,26 @@ pub extern "C" fn wulgach_buffer_part(wanted: u64, length: u32) -> u32
     part_of(wanted, length)
 }
 
-/// The flags of the completion of an operation that had the provided buffer of this number, and came to `res`, or would have to wait and has put so many bytes into it: 0 if it hasn't taken it.
+/// The flags of the completion of an operation that had the provided buffer of this number, and came to `res`, or would have to wait and has put so many bytes into it: 0 if it hasn't taken it. `for_nothing`: it takes it whatever it came to.
 #[unsafe(no_mangle)]
 pub extern "C" fn wulgach_buffer_flags(
     would_wait: bool,
     moved: u32,
     res: i32,
-    is_transfer: bool,
+    for_nothing: bool,
     id: u16,
 ) -> u32
-    ensures { result ≡ spec.flags_after would_wait moved res is_transfer id }
+    ensures { result ≡ spec.flags_after would_wait moved res for_nothing id }
 {
-    flags_after(would_wait, moved, res, is_transfer, id)
+    flags_after(would_wait, moved, res, for_nothing, id)
+}
+
+/// Whether a provided buffer is none: an operation that takes it has no buffer.
+#[unsafe(no_mangle)]
+pub extern "C" fn wulgach_buffer_is_none(buffer: &Buffer) -> bool
+    ensures { result ≡ spec.is_none buffer.now }
+{
+    is_none(buffer)
 }
 
 /// Whether an operation has taken the provided buffer that it had, by the flags of its completion: then that is taken out of its group.

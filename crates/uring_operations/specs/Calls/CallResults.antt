@@ -52,9 +52,10 @@ abbrev pub ShuttingLosesNothing : Type 0
 ShuttingLosesNothing = (e : Submission) (res : ℤ) → int_eq res (error 11) ≡ false
     → shutting_next e (Some CallsAgain) res ≡ Ends res
 
--- whether an operation has taken its provided buffer though it moved nothing: a transfer has, at the end of its file, but not a READ_MULTISHOT, which ends there. What Linux 6.18 was seen to do
-abbrev pub takes_for_nothing : ℕ → Bool
-takes_for_nothing code = is_transfer code && not (is_read_multishot code)
+-- whether an operation has taken its provided buffer though it moved nothing: a transfer has, at the end of its file and as it fails, but not a READ_MULTISHOT, which ends there. One that fails puts a buffer of a ring back where its descriptor can be polled, since it takes that for good only once it has ended. What Linux 6.18 was seen to do
+abbrev pub takes_for_nothing : ℕ → ℤ → (is_of_ring can_be_polled : Bool) → Bool
+takes_for_nothing code came_to is_of_ring can_be_polled =
+    is_transfer code && not (is_read_multishot code) && not (is_below came_to && is_of_ring && can_be_polled)
 
 -- where a READ_MULTISHOT reads next, after so many bytes: from there on, unless it has no offset, which is 2^64 - 1. What has none, as a pipe, passes over it. What Linux 6.18 was seen to do
 abbrev pub offset_after : Submission → ℤ → ℕ

@@ -78,9 +78,14 @@ uses_buffer e =
 abbrev pub has_negative_length : Submission → Bool
 has_negative_length e = e.opcode == 55 && nat_le (2 ^ 63) e.off
 
--- a poll, a no-op and such an FTRUNCATE ask whether their file is open: no call of theirs would say that it isn't. A READ_MULTISHOT does so before it asks whether that can be polled
+-- a splice or a tee of no bytes: splice(2) and tee(2) look for no file then, and a kernel's ring does. What Linux 6.18 was seen to do
+abbrev pub is_splice_of_nothing : Submission → Bool
+is_splice_of_nothing e = is_splice e.opcode && e.len == 0
+
+-- a poll, a no-op, such an FTRUNCATE and such a splice ask whether their files are open: no call of theirs would say that they aren't. A READ_MULTISHOT does so before it asks whether that can be polled
 abbrev pub asks_file : Submission → Bool
-asks_file e = is_poll e.opcode || is_read_multishot e.opcode || wants_file e || has_negative_length e
+asks_file e =
+    is_poll e.opcode || is_read_multishot e.opcode || is_splice_of_nothing e || wants_file e || has_negative_length e
 
 -- it has more than one completion: IORING_POLL_ADD_MULTI is 1, IORING_ACCEPT_MULTISHOT 1 and IORING_RECV_MULTISHOT 2; a READ_MULTISHOT always has. A poll hasn't that has EPOLLONESHOT (2^30) among its events: what Linux 6.18 was seen to do
 abbrev pub goes_on : Submission → Bool

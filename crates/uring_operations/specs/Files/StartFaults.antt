@@ -28,6 +28,10 @@ abbrev pub ends_at_start : Submission → ℤ → (has_buffer : Bool) → Nature
 ends_at_start e fault has_buffer d =
     if fault_asks_buffer e fault && not has_buffer then no_buffer_fault e d else fault
 
+-- what ends with such a fault, as it started or later, has had the buffer that its group has, and may have taken it (`takes_for_nothing`), unless its descriptor isn't open. What Linux 6.18 was seen to do
+abbrev pub has_had_buffer : Submission → ℤ → (has_buffer : Bool) → Nature → Bool
+has_had_buffer e fault has_buffer d = fault_asks_buffer e fault && has_buffer && d.is_open
+
 -- a transfer that moves fewer than 8 bytes; but a write of none is carried out, and writes none. What Linux 6.18 was seen to do
 abbrev pub is_too_short : Submission → ℕ → Bool
 is_too_short e length = nat_lt length 8 && not (length == 0 && is_write e.opcode) && not (has_some e.flags 32)

@@ -129,11 +129,12 @@ pub fn shutting_loses_nothing()
     ensures { ShuttingLosesNothing }
 {}
 
-/// Whether an operation has taken its provided buffer though it moved nothing: a transfer at the end of its file, but for one that goes on.
-pub fn takes_for_nothing(code: u8) -> bool
-    ensures { result ≡ spec.takes_for_nothing code }
+/// Whether an operation has taken its provided buffer though it came to this, and moved nothing: a transfer, but for one that goes on. It hasn't where it fails, its buffer is one of a ring, and its descriptor can be polled.
+pub fn takes_for_nothing(code: u8, came_to: i32, is_of_ring: bool, can_be_polled: bool) -> bool
+    ensures { result ≡ spec.takes_for_nothing code came_to is_of_ring can_be_polled }
 {
-    is_transfer(code) && !is_read_multishot(code)
+    let leaves_it = came_to < 0 && is_of_ring && can_be_polled;
+    is_transfer(code) && !is_read_multishot(code) && !leaves_it
 }
 
 /// The offset at which the read of an entry that goes on reads next, after a call that came to this; of another its own.

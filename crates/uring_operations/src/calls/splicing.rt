@@ -1,9 +1,10 @@
-//! Which splices and tees aren't to wait that would have to. splice(2), SPLICE_F_NONBLOCK.
+//! Which splices and tees aren't to wait that would have to, and what one comes to whose offset is refused. splice(2), SPLICE_F_NONBLOCK.
 
 ghost use Rattle.std.specs.Prelude.{◌≡◌};
 ghost use Rattle.uring_operations.specs.Calls.Splices as spec;
 
 use crate::entries::submission::Submission;
+use crate::files::descriptor::Directions;
 
 /// The ends of a splice or a tee that would have to wait for one of them.
 #[repr(C)]
@@ -51,4 +52,23 @@ fn has_flag(entry: &Submission, ends: &SpliceEnds) -> bool
     ensures { result ≡ spec.has_flag entry.now ends.now }
 {
     entry.op_flags & 2 != 0 || ends.other_is_pipe && ends.other_is_unwilling
+}
+
+/// Whether it matters to a splice whose call came to this for which directions its descriptors are open.
+pub fn splice_asks_directions(came_to: i32) -> bool
+    ensures { result ≡ spec.splice_asks_directions came_to }
+{
+    came_to == -29
+}
+
+/// What a splice comes to whose call came to this, and which reads from and writes to what is open for these directions.
+pub fn splice_result(came_to: i32, from: &Directions, to: &Directions) -> i32
+    ensures { result ≡ spec.splice_result came_to from.now to.now }
+{
+    let is_open = from.can_read && to.can_write;
+    if splice_asks_directions(came_to) && !is_open {
+        -9
+    } else {
+        came_to
+    }
 }

@@ -71,7 +71,7 @@ pub struct Needs {
     /// The slot of its registered buffer.
     pub buffer: u16,
 
-    /// What is looked for before it is carried out, the bit of each: its file (1), the second one (2), whether the first is open (4), its registered buffer (8), whether the first can be polled (16), and whether it may have to wait for its descriptor (32). These are looked for by rising bits, and the first that isn't there ends its request.
+    /// What is looked for before it is carried out, the bit of each: its file (1), the second one (2), whether these are open (4), its registered buffer (8), whether the first can be polled (16), and whether it may have to wait for its descriptor (32). These are looked for by rising bits, and the first that isn't there ends its request.
     pub sought: u32,
 }
 
@@ -351,7 +351,15 @@ fn uses_buffer(entry: &Submission) -> bool
 fn asks_file(entry: &Submission) -> bool
     ensures { result ≡ spec.asks_file entry.now }
 {
-    matches!(entry.opcode, 6 | 49) || wants_file(entry) || has_negative_length(entry)
+    let is_asked = matches!(entry.opcode, 6 | 49) || is_splice_of_nothing(entry);
+    is_asked || wants_file(entry) || has_negative_length(entry)
+}
+
+/// A splice or a tee of no bytes, whose call looks for no file.
+fn is_splice_of_nothing(entry: &Submission) -> bool
+    ensures { result ≡ spec.is_splice_of_nothing entry.now }
+{
+    is_splice(entry.opcode) && entry.len == 0
 }
 
 /// An FTRUNCATE to one, which ftruncate(2) refuses before it looks for its file.

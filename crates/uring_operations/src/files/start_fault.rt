@@ -50,6 +50,13 @@ pub fn ends_at_start(entry: &Submission, fault: i32, has_buffer: bool, nature: &
     }
 }
 
+/// Whether the request of an entry that ends with this fault has had a provided buffer, where its group has one, and its descriptor is this: a file that isn't open is missed before.
+pub fn has_had_buffer(entry: &Submission, fault: i32, has_buffer: bool, nature: &Nature) -> bool
+    ensures { result ≡ spec.has_had_buffer entry.now fault has_buffer nature.now }
+{
+    fault_asks_buffer(entry, fault) && has_buffer && nature.is_open
+}
+
 /// With what the operation of an entry, of so many bytes, fails as it starts, where its descriptor is this, and is open for it, or is of the wrong kind; or 0.
 pub fn start_fault(entry: &Submission, is_wrong: bool, length: u64, nature: &Nature) -> i32
     ensures { result ≡ spec.start_fault entry.now is_wrong length nature.now }

@@ -16,13 +16,13 @@ bytes_fault start size from count = if is_of_buffer start size from count then p
 abbrev pub part_of : ℕ → ℕ → ℕ
 part_of wanted length = if wanted == 0 then length else min wanted length
 
--- an operation has taken its buffer if it moved bytes, and a transfer also at the end of its file
-abbrev pub has_taken : ℤ → Bool → Bool
-has_taken res is_transfer = int_lt (pos 0) res || int_eq res (pos 0) && is_transfer
+-- an operation has taken its buffer if it moved bytes, and also if it takes it for nothing (`takes_for_nothing` of uring_operations)
+abbrev pub has_taken : ℤ → (for_nothing : Bool) → Bool
+has_taken res for_nothing = int_lt (pos 0) res || for_nothing
 
 -- its completion names the buffer then: IORING_CQE_F_BUFFER is 1, and the buffer's number stands above 16 bits
 abbrev pub flags_of : ℤ → Bool → ℕ → ℕ
-flags_of res is_transfer id = if has_taken res is_transfer then 1 + id * 2 ^ 16 else 0
+flags_of res for_nothing id = if has_taken res for_nothing then 1 + id * 2 ^ 16 else 0
 
 -- one that would have to wait has taken its buffer if it moved bytes, and keeps it: what it moves next goes after them. recv(2), MSG_WAITALL; what Linux 6.18 was seen to do
 abbrev pub flags_so_far : ℕ → ℕ → ℕ
@@ -30,8 +30,8 @@ flags_so_far moved id = flags_of (pos moved) false id
 
 -- which of these two a call's result makes of it
 abbrev pub flags_after : (would_wait : Bool) → (moved : ℕ) → ℤ → Bool → ℕ → ℕ
-flags_after would_wait moved res is_transfer id =
-    if would_wait then flags_so_far moved id else flags_of res is_transfer id
+flags_after would_wait moved res for_nothing id =
+    if would_wait then flags_so_far moved id else flags_of res for_nothing id
 
 -- where it goes on: after so many bytes of the buffer that it has. None: it has none, and takes the next
 abbrev pub further_in : Buffer → (moved : ℕ) → Option Buffer
@@ -39,11 +39,15 @@ further_in had moved =
     if moved == 0 then None else
     Some (record { address = had.address + moved; length = had.length - moved; id = had.id })
 
+-- a buffer at address 0 is none to an operation, which ends with -105 (ENOBUFS); it stands in its group all the same. What Linux 6.18 was seen to do
+abbrev pub is_none : Buffer → Bool
+is_none b = b.address == 0
+
 -- whether the flags name a buffer, so that it is taken out of its group
 abbrev pub is_taken : ℕ → Bool
 is_taken flags = not (flags == 0)
 
 -- it is exactly if the operation has taken it, by its result
 abbrev pub TakesWhatItTells : Type 0
-TakesWhatItTells = (res : ℤ) (is_transfer : Bool) (id : ℕ)
-    → is_taken (flags_of res is_transfer id) ≡ has_taken res is_transfer
+TakesWhatItTells = (res : ℤ) (for_nothing : Bool) (id : ℕ)
+    → is_taken (flags_of res for_nothing id) ≡ has_taken res for_nothing

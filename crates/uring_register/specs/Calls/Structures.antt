@@ -1,5 +1,5 @@
 -- Which fields are reserved of the structures that calls of io_uring_register(2) and io_uring_setup(2) read, and which are judged: all that is told of their fields here are those of <linux/io_uring.h>. io_uring_register(2), DESCRIPTION.
-use Rattle.std.specs.Prelude.{ℕ, Bool, false, not, ◌||◌, ◌==◌, nat_lt, List}
+use Rattle.std.specs.Prelude.{ℕ, ◌/◌, ◌^◌, Bool, false, not, ◌||◌, ◌==◌, nat_lt, List, if◌then◌else◌}
 use Rattle.std.specs.List.{list_any}
 use Rattle.uring_register.specs.declared.calls.call.Content.{Content}
 use Rattle.uring_register.specs.declared.calls.structures.TableForm.{TableForm}
@@ -38,9 +38,10 @@ content_of_cancel f = record {
 abbrev pub content_of_probe : List ℕ → Content
 content_of_probe bytes = record { nr = 0; flags = 0; has_reserved = list_any is_set bytes; has_data = false }
 
--- `pad` and the three words of `resv` of a ring of provided buffers
-abbrev pub ring_has_reserved : RingForm → Bool
-ring_has_reserved f = is_set f.pad || is_set f.resv || is_set f.second_resv || is_set f.third_resv
+-- `pad` and the three words of `resv` of a ring of provided buffers; but the lower half of the first, which is `min_left` in a newer header, counts for nothing where the ring goes. What Linux 6.18 was seen to do
+abbrev pub ring_has_reserved : RingForm → (goes : Bool) → Bool
+ring_has_reserved f goes =
+    is_set f.pad || is_set (if goes then f.resv / 2 ^ 32 else f.resv) || is_set f.second_resv || is_set f.third_resv
 
 -- `resv` of a range of slots
 abbrev pub range_has_reserved : RangeForm → Bool

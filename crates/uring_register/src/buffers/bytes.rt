@@ -33,10 +33,10 @@ pub fn part_of(wanted: u64, length: u32) -> u32
 }
 
 /// The flags of the completion of an operation that had the provided buffer of this number, by its result: 0 if it hasn't taken it.
-fn flags_of(res: i32, is_transfer: bool, id: u16) -> u32
-    ensures { result ≡ spec.flags_of res is_transfer id }
+fn flags_of(res: i32, for_nothing: bool, id: u16) -> u32
+    ensures { result ≡ spec.flags_of res for_nothing id }
 {
-    if res > 0 || (res == 0 && is_transfer) {
+    if res > 0 || for_nothing {
         1 + id as u32 * 0x1_0000
     } else {
         0
@@ -69,15 +69,22 @@ fn flags_so_far(moved: u32, id: u16) -> u32
     }
 }
 
-/// The flags of the completion of an operation that had the provided buffer of this number, whose calls came to `res`, or would have to wait and have put `moved` bytes into it: 0 if it hasn't taken it.
-pub fn flags_after(would_wait: bool, moved: u32, res: i32, is_transfer: bool, id: u16) -> u32
-    ensures { result ≡ spec.flags_after would_wait moved res is_transfer id }
+/// The flags of the completion of an operation that had the provided buffer of this number, whose calls came to `res`, or would have to wait and have put `moved` bytes into it: 0 if it hasn't taken it. `for_nothing`: it takes it whatever it came to.
+pub fn flags_after(would_wait: bool, moved: u32, res: i32, for_nothing: bool, id: u16) -> u32
+    ensures { result ≡ spec.flags_after would_wait moved res for_nothing id }
 {
     if would_wait {
         flags_so_far(moved, id)
     } else {
-        flags_of(res, is_transfer, id)
+        flags_of(res, for_nothing, id)
     }
+}
+
+/// Whether a provided buffer is none: an operation that takes it has no buffer.
+pub fn is_none(buffer: &Buffer) -> bool
+    ensures { result ≡ spec.is_none buffer.now }
+{
+    buffer.address == 0
 }
 
 /// Whether an operation has taken the provided buffer that it had, by the flags of its completion: then that is taken out of its group.

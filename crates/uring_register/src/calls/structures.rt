@@ -162,11 +162,16 @@ fn are_set(bytes: &[u8]) -> bool
     bytes.iter().any(|byte| *byte != 0)
 }
 
-/// Whether a reserved field of a ring of provided buffers isn't 0.
-pub fn ring_has_reserved(form: &RingForm) -> bool
-    ensures { result ≡ spec.ring_has_reserved form.now }
+/// Whether a reserved field of a ring of provided buffers isn't 0, which is to be registered, or `goes`.
+pub fn ring_has_reserved(form: &RingForm, goes: bool) -> bool
+    ensures { result ≡ spec.ring_has_reserved form.now goes }
 {
-    form.pad != 0 || form.resv != 0 || form.second_resv != 0 || form.third_resv != 0
+    let resv = if goes {
+        form.resv / 0x1_0000_0000
+    } else {
+        form.resv
+    };
+    form.pad != 0 || resv != 0 || form.second_resv != 0 || form.third_resv != 0
 }
 
 /// Whether a reserved field of a range isn't 0.

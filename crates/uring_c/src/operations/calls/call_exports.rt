@@ -283,12 +283,17 @@ pub extern "C" fn wulgach_shutting_next(
     shutting_word(step)
 }
 
-/// Whether an operation has taken its provided buffer though it moved nothing.
+/// Whether an operation has taken its provided buffer though it came to this, and moved nothing.
 #[unsafe(no_mangle)]
-pub extern "C" fn wulgach_takes_for_nothing(code: u8) -> bool
-    ensures { result ≡ results.takes_for_nothing code }
+pub extern "C" fn wulgach_takes_for_nothing(
+    code: u8,
+    came_to: i32,
+    is_of_ring: bool,
+    can_be_polled: bool,
+) -> bool
+    ensures { result ≡ results.takes_for_nothing code came_to is_of_ring can_be_polled }
 {
-    takes_for_nothing(code)
+    takes_for_nothing(code, came_to, is_of_ring, can_be_polled)
 }
 
 /// The offset at which the read of an entry that goes on reads next, after a call that came to this.

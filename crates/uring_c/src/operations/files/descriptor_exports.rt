@@ -12,8 +12,9 @@ ghost use Rattle.uring_c.specs.Enter.Call.UnknownForm.{known_of};
 use uring_operations::{
     Directions, Nature, Openness, SpliceEnds, SplicePoll, Submission, SyncedKind, asks_name,
     asks_openness, asks_polling, counts_as_open, counts_as_synced, directions_of, ends_at_start,
-    fault_asks_buffer, is_counter_name, is_eventfd_name, is_missing, is_signal_of_call,
-    is_signals_name, is_taken_back, isnt_to_wait, signal_after, splice_poll, with_status,
+    fault_asks_buffer, has_had_buffer, is_counter_name, is_eventfd_name, is_missing,
+    is_signal_of_call, is_signals_name, is_taken_back, isnt_to_wait, signal_after,
+    splice_asks_directions, splice_poll, splice_result, with_status,
 };
 
 /// Whether a descriptor counts as open that is this, and is named by its number, or by the slot that holds its file.
@@ -51,6 +52,19 @@ pub extern "C" fn wulgach_fault_asks_buffer(entry: &Submission, fault: i32) -> b
     ensures { result ≡ starting.fault_asks_buffer entry.now fault }
 {
     fault_asks_buffer(entry, fault)
+}
+
+/// Whether the request of an entry that ends with this fault has had a provided buffer.
+#[unsafe(no_mangle)]
+pub extern "C" fn wulgach_has_had_buffer(
+    entry: &Submission,
+    fault: i32,
+    has_buffer: bool,
+    nature: &Nature,
+) -> bool
+    ensures { result ≡ starting.has_had_buffer entry.now fault has_buffer nature.now }
+{
+    has_had_buffer(entry, fault, has_buffer, nature)
 }
 
 /// With what the request of an entry ends that had this fault as it started.
@@ -152,6 +166,22 @@ pub extern "C" fn wulgach_splice_isnt_to_wait(entry: &Submission, ends: &SpliceE
     ensures { result ≡ splices.isnt_to_wait entry.now ends.now }
 {
     isnt_to_wait(entry, ends)
+}
+
+/// Whether it matters to a splice whose call came to this for which directions its descriptors are open.
+#[unsafe(no_mangle)]
+pub extern "C" fn wulgach_splice_asks_directions(came_to: i32) -> bool
+    ensures { result ≡ splices.splice_asks_directions came_to }
+{
+    splice_asks_directions(came_to)
+}
+
+/// What a splice comes to whose call came to this, and whose descriptors are open for these directions.
+#[unsafe(no_mangle)]
+pub extern "C" fn wulgach_splice_result(came_to: i32, from: &Directions, to: &Directions) -> i32
+    ensures { result ≡ splices.splice_result came_to from.now to.now }
+{
+    splice_result(came_to, from, to)
 }
 
 /// Whether a descriptor with this mode and so many blocks is asked whether it can be polled.
