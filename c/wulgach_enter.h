@@ -232,6 +232,10 @@ bool wulgach_blocks_before(uint32_t doing, bool is_read, bool is_stream);
 /* Whether a call that came to this, where they were open, is made once more, with signals blocked: one has ended it (-4). */
 bool wulgach_is_made_again(bool was_open, int32_t res);
 
+/* Whether the process drops a signal of this number as it comes to a thread that has it open, which is caught, ignored or neither: one that is ignored, or isn't caught
+ * and does nothing by itself, as SIGCHLD (signal(7)). One that waits since it is blocked here is taken before the call sleeps, so that it doesn't end it. */
+bool wulgach_is_dropped(uint32_t signal, bool is_caught, bool is_ignored);
+
 /* Whether a SIGSYS ends the process, which a filter for system calls has raised (seccomp(2), SECCOMP_RET_TRAP) or hasn't, and which is caught, ignored or
  * neither: one that isn't caught does, unless it is ignored and no filter's. */
 bool wulgach_ends_process(bool is_of_filter, bool is_caught, bool is_ignored);

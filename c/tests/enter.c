@@ -340,6 +340,8 @@ static void block_signals(void)
     check(wulgach_blocks_before(WULGACH_DOES_LOOK, true, false) && wulgach_blocks_before(WULGACH_DOES_LOOK_UP, true, false) && wulgach_blocks_before(WULGACH_DOES_ASK_NOT_TO_WAIT, true, false), "before looks");
     check(!wulgach_blocks_before(WULGACH_DOES_OPERATION, true, false) && wulgach_blocks_before(WULGACH_DOES_OPERATION, true, true) && wulgach_blocks_before(WULGACH_DOES_OPERATION, false, false) && wulgach_blocks_before(WULGACH_DOES_OPERATION, false, true), "before operations");
     check(wulgach_is_made_again(true, -4) && !wulgach_is_made_again(false, -4) && !wulgach_is_made_again(true, -11), "what is made once more");
+    check(wulgach_is_dropped(17, false, false) && wulgach_is_dropped(18, false, false) && wulgach_is_dropped(23, false, false) && wulgach_is_dropped(28, false, false) && wulgach_is_dropped(10, false, true), "what is dropped");
+    check(!wulgach_is_dropped(17, true, false) && !wulgach_is_dropped(10, false, false) && !wulgach_is_dropped(10, true, false), "what isn't");
 }
 
 /* A SIGSYS that isn't caught ends the process, but one that is ignored and no filter's. */

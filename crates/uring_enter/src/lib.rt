@@ -49,6 +49,7 @@ pub use call::signals::Doing;
 pub use call::signals::blocks_at_begin;
 pub use call::signals::blocks_before;
 pub use call::signals::ends_process;
+pub use call::signals::is_dropped;
 pub use call::signals::is_made_again;
 pub use call::signals::reads_files_open;
 pub use call::signals::sleeps_blocked;

@@ -1,5 +1,5 @@
 -- From where on a thread's signals are blocked in a call. Our own rule: a handler that calls io_uring, or leaves the call by a jump, is to find it as it was before or after it. Where handlers are quiet, which is that none does so, it is to be seen by no result that one came; but by those of calls that sleep, as io_uring_enter(2), EINTR, has it.
-use Rattle.std.specs.Prelude.{◌≡◌, ℕ, ℤ, Bool, true, false, not, ◌&&◌, ◌||◌, nat_lt, List}
+use Rattle.std.specs.Prelude.{◌≡◌, ℕ, ℤ, Bool, true, false, not, ◌&&◌, ◌||◌, nat_lt, ◌==◌, List}
 use Rattle.std.specs.Ordering.{int_eq}
 use Rattle.uring_entry.specs.Errors.{error}
 use Rattle.uring_enter.specs.declared.call.asked.Asked.{Asked}
@@ -48,6 +48,14 @@ is_made_again was_open res = was_open && int_eq res (error 4)
 -- a signal that isn't caught ends the process by what it does by itself, as SIGSYS does, unless it is ignored. One that a filter for system calls has raised is ignored by nobody: seccomp(2), SECCOMP_RET_TRAP; signal(7)
 abbrev pub ends_process : (is_of_filter : Bool) → (is_caught : Bool) → (is_ignored : Bool) → Bool
 ends_process is_of_filter is_caught is_ignored = not is_caught && (is_of_filter || not is_ignored)
+
+-- a signal that isn't caught does nothing by itself: SIGCHLD (17), SIGCONT (18), once the process goes on, SIGURG (23) and SIGWINCH (28). signal(7)
+abbrev pub does_nothing : (signal : ℕ) → Bool
+does_nothing signal = signal == 17 || signal == 18 || signal == 23 || signal == 28
+
+-- a signal that is ignored, or isn't caught and does nothing, is dropped as it comes to a thread that has it open, and ends no wait. One that waits, since a call has it blocked, is to end none either: so it is taken before the call sleeps
+abbrev pub is_dropped : (signal : ℕ) → (is_caught : Bool) → (is_ignored : Bool) → Bool
+is_dropped signal is_caught is_ignored = is_ignored || not is_caught && does_nothing signal
 
 -- a call sleeps only where signals are blocked as it begins
 abbrev pub SleepsBlocked : Type 0

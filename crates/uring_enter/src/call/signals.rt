@@ -51,6 +51,14 @@ pub fn ends_process(is_of_filter: bool, is_caught: bool, is_ignored: bool) -> bo
     !is_caught && (is_of_filter || !is_ignored)
 }
 
+/// Whether the process drops a signal of this number as it comes to a thread that has it open: one that is caught, or else ignored, or neither.
+pub fn is_dropped(signal: u32, is_caught: bool, is_ignored: bool) -> bool
+    ensures { result ≡ spec.is_dropped signal is_caught is_ignored }
+{
+    let does_nothing = signal == 17 || signal == 18 || signal == 23 || signal == 28;
+    is_ignored || (!is_caught && does_nothing)
+}
+
 /// A call sleeps only with signals blocked.
 pub fn sleeps_blocked()
     ensures { SleepsBlocked }

@@ -3,7 +3,7 @@ ghost use Rattle.std.specs.Prelude.{◌≡◌};
 ghost use Rattle.uring_enter.specs.Call.Signals as spec;
 ghost use Rattle.uring_c.specs.Enter.Call.SignalForm.{doing_of};
 
-use uring_enter::{Doing, blocks_at_begin, blocks_before, ends_process, is_made_again};
+use uring_enter::{Doing, blocks_at_begin, blocks_before, ends_process, is_dropped, is_made_again};
 
 /// Whether signals are blocked as a call begins.
 #[unsafe(no_mangle)]
@@ -38,6 +38,14 @@ pub extern "C" fn wulgach_is_made_again(was_open: bool, res: i32) -> bool
     ensures { result ≡ spec.is_made_again was_open res }
 {
     is_made_again(was_open, res)
+}
+
+/// Whether the process drops a signal of this number as it comes to a thread that has it open.
+#[unsafe(no_mangle)]
+pub extern "C" fn wulgach_is_dropped(signal: u32, is_caught: bool, is_ignored: bool) -> bool
+    ensures { result ≡ spec.is_dropped signal is_caught is_ignored }
+{
+    is_dropped(signal, is_caught, is_ignored)
 }
 
 /// Whether a SIGSYS ends the process.
