@@ -35,7 +35,7 @@ struct waiting {
     struct wulgach_limit limit;     /* how long it waits at most, in nanoseconds; after the submission, until when in the ring's time */
     struct wulgach_limit least;     /* the same of the time after which one completion is enough; none once it is over */
     bool is_trapped;
-    const sigset_t *signals;        /* the thread's mask, while the call sleeps, */
+    struct sleep_masks masks;       /* the thread's; it sleeps with its own, */
     uint64_t mask;                  /* unless the call gives one, at this address */
     size_t mask_size;
     sigset_t *given;                /* room for that */
@@ -72,7 +72,7 @@ static int read_extended(struct waiting *waiting)
 static int read_mask(struct waiting *waiting)
 {
     sigemptyset(waiting->given);
-    waiting->signals = waiting->given;
+    waiting->masks.asleep = waiting->given;
     uint64_t mask = 0;
     bool is_readable = waiting->mask_size == sizeof mask && copy_in(&mask, waiting->mask, sizeof mask) == 0;
     mask = wulgach_slept_with(mask, waiting->is_trapped);
@@ -186,7 +186,7 @@ static enum wulgach_reply_kind wait_for_time(struct ring *ring, struct waiting *
 {
     struct wulgach_limit until;
     wulgach_sleeps_to(&waiting->least, &waiting->limit, &until);
-    enum wulgach_reply_kind kind = wait_for_any(ring, &until, waiting->least.is_set, waiting->signals, error);
+    enum wulgach_reply_kind kind = wait_for_any(ring, &until, waiting->least.is_set, &waiting->masks, error);
     if (kind == WULGACH_LEAST_OVER)
         waiting->least.is_set = false;
     return kind;
@@ -328,11 +328,12 @@ int64_t enter(int fd, uint32_t to_submit, uint32_t min_complete, uint32_t flags,
 {
     sigset_t given;
     struct call_signals own;
+    const sigset_t *mask = signals ? signals : &own.own;
     struct waiting waiting = {
         .to_submit = to_submit,
         .min_complete = min_complete,
         .is_trapped = signals != NULL,
-        .signals = signals ? signals : &own.own,
+        .masks = {.own = mask, .asleep = mask},
         .mask = (uintptr_t)argument,
         .mask_size = size,
         .given = &given,

@@ -101,6 +101,49 @@ void take_back_signal(uint32_t signal)
         take_back((int)signal);
 }
 
+static bool drops(int signal)
+{
+    struct sigaction action;
+    if (sigaction(signal, NULL, &action) != 0)
+        return false;
+    bool is_ignored = action.sa_handler == SIG_IGN;
+    return wulgach_is_dropped((uint32_t)signal, !is_ignored && action.sa_handler != SIG_DFL, is_ignored);
+}
+
+/* Those of these that the process drops as they come to a thread with its own mask. */
+static sigset_t dropped_of(const sigset_t *these, const sigset_t *own)
+{
+    sigset_t dropped;
+    sigemptyset(&dropped);
+    for (int signal = 1; signal < _NSIG; signal++)
+        if (sigismember(these, signal) == 1 && sigismember(own, signal) == 0 && drops(signal))
+            sigaddset(&dropped, signal);
+    return dropped;
+}
+
+void take_dropped(const sigset_t *own)
+{
+    static const struct timespec no_time = {0, 0};
+    sigset_t waiting;
+    if (sigpending(&waiting) != 0 || sigisemptyset(&waiting))
+        return;
+    sigset_t dropped = dropped_of(&waiting, own);
+    while (!sigisemptyset(&dropped) && sigtimedwait(&dropped, NULL, &no_time) > 0)
+        continue;
+}
+
+void let_dropped(const sigset_t *own, sigset_t *dropped)
+{
+    sigset_t these;
+    if (sigpending(&these) != 0)
+        sigemptyset(&these);
+    for (int signal = 1; signal < _NSIG; signal++)
+        if (wulgach_is_dropped((uint32_t)signal, false, false))
+            sigaddset(&these, signal);
+    *dropped = dropped_of(&these, own);
+    pthread_sigmask(SIG_UNBLOCK, dropped, NULL);
+}
+
 void hold_long_files(sigset_t *own)
 {
     sigset_t signals;

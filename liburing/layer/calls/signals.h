@@ -30,6 +30,12 @@ void block_signals_before(uint32_t doing, bool is_read, bool is_stream);
 /* Whether a signal has ended what came to this, so that it is to be done once more: none may come then. */
 bool was_interrupted(int32_t res);
 
+/* Takes the signals that wait, since they are blocked in the call, and that the process would have dropped as they came to a thread with its own mask. */
+void take_dropped(const sigset_t *own);
+
+/* Lets them come instead, those too that will, and says which, which are blocked anew after a sleep. A handler that another thread sets for one by then is called. */
+void let_dropped(const sigset_t *own, sigset_t *dropped);
+
 /* Takes back the signal of this number that a call has brought, which in a kernel goes to a worker of its own: SIGXFSZ or SIGPIPE, or none (0). It is
  * blocked. One that the program was sent stays pending. */
 void take_back_signal(uint32_t signal);

@@ -4,6 +4,7 @@
  */
 #define _GNU_SOURCE
 #include "waiting/sleep.h"
+#include "calls/signals.h"
 #include "operations/operations.h"
 #include "operations/sockets.h"
 #include "process/process.h"
@@ -111,13 +112,16 @@ static int sleep_on(struct sleeper *self, nfds_t count, const struct wulgach_lim
 }
 
 /* Polls without the ring's lock. Handlers of signals run meanwhile. */
-static int poll_unlocked(struct ring *ring, struct sleeper *self, nfds_t count, const struct wulgach_limit *limit, const sigset_t *signals)
+static int poll_unlocked(struct ring *ring, struct sleeper *self, nfds_t count, const struct wulgach_limit *limit, const struct sleep_masks *masks)
 {
     int fd = ring->called_fd;
     pthread_mutex_unlock(&ring->lock);
     /* A message that came before that is posted, and wakes this thread. */
     visit_ring(ring, fd);
-    int came = sleep_on(self, count, limit, signals);
+    sigset_t dropped;
+    let_dropped(masks->own, &dropped);
+    int came = sleep_on(self, count, limit, masks->asleep);
+    pthread_sigmask(SIG_BLOCK, &dropped, NULL);
     leave_inner_sleeps(self);
     uint32_t left = what_is_left(ring);
     /* (something is left in a child alone, which has one thread; elsewhere others have the lock) */
@@ -131,7 +135,7 @@ static int poll_unlocked(struct ring *ring, struct sleeper *self, nfds_t count, 
 }
 
 /* (it has a frame of its own, below that of the call: by this a sleep that was left is known) */
-__attribute__((noinline)) int sleep_until(struct ring *ring, const struct wulgach_limit *until, const sigset_t *signals)
+__attribute__((noinline)) int sleep_until(struct ring *ring, const struct wulgach_limit *until, const struct sleep_masks *masks)
 {
     volatile uint64_t place;
     wake_sleepers(ring);
@@ -148,7 +152,7 @@ __attribute__((noinline)) int sleep_until(struct ring *ring, const struct wulgac
     wulgach_times_sleeps_for(&ring->times, until, can_be_woken, &limit);
     wulgach_times_comes_to(&ring->times, until, can_be_woken, &end);
     uint64_t start = real_time();
-    int result = poll_unlocked(ring, self, join_polled(self->polled, count), &limit, signals);
+    int result = poll_unlocked(ring, self, join_polled(self->polled, count), &limit, masks);
     end_sleep(self);
     place = 0;
     add_slept(ring, start);

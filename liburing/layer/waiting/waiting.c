@@ -3,6 +3,7 @@
 #define _GNU_SOURCE
 #include "waiting/waiting.h"
 #include "calls/extras.h"
+#include "calls/signals.h"
 #include "requests/progress.h"
 #include "requests/timeouts.h"
 #include "waiting/clock.h"
@@ -66,12 +67,12 @@ static struct wulgach_wake_sources wake_sources(const struct ring *ring, const s
 }
 
 /* Waits as the library says, and notes what is known then. */
-static struct wulgach_waited wait_as(struct ring *ring, const struct wulgach_wait *wait, const sigset_t *signals)
+static struct wulgach_waited wait_as(struct ring *ring, const struct wulgach_wait *wait, const struct sleep_masks *masks)
 {
     struct wulgach_waited waited = {.is_never = wait->kind == WULGACH_WAIT_NEVER};
     switch (wait->kind) {
     case WULGACH_WAIT_SLEEP:
-        waited.result = sleep_until(ring, &wait->until, signals);
+        waited.result = sleep_until(ring, &wait->until, masks);
         break;
     case WULGACH_WAIT_MOVE:
         wulgach_times_move_to(&ring->times, wait->until.at);
@@ -84,12 +85,13 @@ static struct wulgach_waited wait_as(struct ring *ring, const struct wulgach_wai
     return waited;
 }
 
-enum wulgach_reply_kind wait_for_any(struct ring *ring, const struct wulgach_limit *deadline, bool is_least, const sigset_t *signals, int *error)
+enum wulgach_reply_kind wait_for_any(struct ring *ring, const struct wulgach_limit *deadline, bool is_least, const struct sleep_masks *masks, int *error)
 {
-    struct wulgach_wake_sources sources = wake_sources(ring, signals);
+    take_dropped(masks->own);
+    struct wulgach_wake_sources sources = wake_sources(ring, masks->asleep);
     struct wulgach_wait wait;
     wulgach_times_wait(&ring->times, ring->timeouts, ring->timeouts_room, &sources, deadline, &wait);
-    struct wulgach_waited waited = wait_as(ring, &wait, signals);
+    struct wulgach_waited waited = wait_as(ring, &wait, masks);
     if (wulgach_fires_after(&waited)) {
         struct wulgach_woken woken;
         wulgach_times_woken(&ring->times, ring->timeouts, ring->timeouts_room, deadline, &woken);

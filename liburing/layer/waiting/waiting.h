@@ -3,13 +3,13 @@
 #define WAITING_H
 
 #include "rings/ring.h"
+#include "waiting/sleep.h"
 
-#include <signal.h>
 
 /* Waits until something may go on: a stream is ready, a timeout has ended, or another thread's call has changed
  * something. Time is virtual, but where a stream or a thread is waited for. `deadline` is in the ring's time,
- * and the least time or the limit; `signals` the mask to sleep with. Returns what came of it, as the library says, and writes the error number of a sleep that failed, or 0. */
-enum wulgach_reply_kind wait_for_any(struct ring *ring, const struct wulgach_limit *deadline, bool is_least, const sigset_t *signals, int *error);
+ * and the least time or the limit; `masks` the thread's. Returns what came of it, as the library says, and writes the error number of a sleep that failed, or 0. */
+enum wulgach_reply_kind wait_for_any(struct ring *ring, const struct wulgach_limit *deadline, bool is_least, const struct sleep_masks *masks, int *error);
 
 /* Whether the time of a timeout is over that hasn't ended yet. */
 bool has_expired(const struct ring *ring);

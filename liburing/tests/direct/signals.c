@@ -7,6 +7,7 @@
 #include "engines.h"
 
 #include <setjmp.h>
+#include <sys/mman.h>
 #include <time.h>
 
 static sigjmp_buf outside;
@@ -192,6 +193,43 @@ static void test_waiting_signal(void)
     close_ring(&ring);
 }
 
+static void *write_once_asleep(void *pipe)
+{
+    const int *ends = pipe;
+    pid_t main_thread = getpid();
+    await_sleep(&main_thread);
+    check(write(ends[1], "x", 1) == 1);
+    return NULL;
+}
+
+/* A signal that nobody hears ends no wait, also where it comes amid the call, as this does while it writes. */
+static void test_dropped_signal(void)
+{
+    enum { SIZE = 1 << 26 };
+    struct sigevent event = {.sigev_notify = SIGEV_THREAD_ID, .sigev_signo = SIGURG};
+    const struct itimerspec soon = {.it_value.tv_nsec = 1000000};
+    struct ring ring;
+    struct iovec vector = {calloc(1, SIZE), SIZE};
+    int ends[2], file = memfd_create("written", MFD_CLOEXEC);
+    char byte;
+    timer_t timer;
+    pthread_t thread;
+    make_ring(&ring, 4, 0, 0);
+    check(vector.iov_base && file >= 0 && pipe(ends) == 0);
+    event._sigev_un._tid = gettid();
+    check(timer_create(CLOCK_MONOTONIC, &event, &timer) == 0);
+    put_transfer(&ring, IORING_OP_READ, 0, 0, ends[0], &byte, 1, 0);
+    check(enter(&ring, 1, 0, 0) == 1 && pthread_create(&thread, NULL, write_once_asleep, ends) == 0);
+    put_transfer(&ring, IORING_OP_WRITEV, 1, 0, file, &vector, 1, 0);
+    check(timer_settime(timer, 0, &soon, NULL) == 0);
+    check(enter(&ring, 1, 2, IORING_ENTER_GETEVENTS) == 1 && count_ready(&ring) == 2);
+    check(pthread_join(thread, NULL) == 0 && timer_delete(timer) == 0);
+    close(file);
+    close_pair(ends);
+    close_ring(&ring);
+    free(vector.iov_base);
+}
+
 int main(int count, char **words)
 {
     static const struct named tests[] = {
@@ -200,6 +238,7 @@ int main(int count, char **words)
         {"stack in a stack", test_stack_in_a_stack},
         {"fork from a signal", test_fork_from_signal},
         {"waiting signal", test_waiting_signal},
+        {"dropped signal", test_dropped_signal},
     };
     alarm((unsigned)(PATIENCE * patience()));
     return run_tests(tests, sizeof tests / sizeof *tests, count > 1 ? words[1] : NULL);
