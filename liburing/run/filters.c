@@ -4,12 +4,11 @@
 #include "run.h"
 
 #include <linux/audit.h>
-#include <sys/prctl.h>
 #include <sys/syscall.h>
 #include <unistd.h>
 
 /* (one line too many is counted: the filter isn't set) */
-static void put_line(struct filter *filter, struct sock_filter line)
+void put_line(struct filter *filter, struct sock_filter line)
 {
     if (filter->count < MOST_LINES)
         filter->lines[filter->count] = line;
@@ -88,9 +87,24 @@ void put_rows(struct filter *filter, const struct filter_row *rows, size_t count
 }
 
 /* (a filter that stands already traps the setting of another, but ours) */
-bool add_filter(struct filter *filter)
+static bool set_filter(struct filter *filter, unsigned flags)
 {
     put_result(filter, SECCOMP_RET_ALLOW);
     struct sock_fprog program = {.len = (unsigned short)filter->count, .filter = filter->lines};
-    return filter->count <= MOST_LINES && syscall(SYS_prctl, PR_SET_SECCOMP, SECCOMP_MODE_FILTER, &program, 0, 0, ASKS_KERNEL) == 0;
+    return has_room(filter) && syscall(SYS_seccomp, SECCOMP_SET_MODE_FILTER, flags, &program, 0, 0, ASKS_KERNEL) == 0;
+}
+
+bool has_room(const struct filter *filter)
+{
+    return filter->count <= MOST_LINES;
+}
+
+bool add_filter(struct filter *filter)
+{
+    return set_filter(filter, 0);
+}
+
+bool add_filter_for_all(struct filter *filter)
+{
+    return set_filter(filter, SECCOMP_FILTER_FLAG_TSYNC);
 }

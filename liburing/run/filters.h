@@ -23,7 +23,7 @@ struct condition {
     uint64_t value;
 };
 
-enum { ANY_CALL = -1, MOST_CONDITIONS = 3, MOST_LINES = 256 };
+enum { ANY_CALL = -1, MOST_CONDITIONS = 3, MOST_LINES = BPF_MAXINSNS };
 
 /* What becomes of a call, as SECCOMP_RET_TRAP, where all conditions hold. */
 struct filter_row {
@@ -39,8 +39,12 @@ struct filter {
 
 void begin_filter(struct filter *filter);
 void put_rows(struct filter *filter, const struct filter_row *rows, size_t count);
+void put_line(struct filter *filter, struct sock_filter line);
+bool has_room(const struct filter *filter);
 
-/* Adds it to the filters that stand. False: the kernel refuses it, or it has too many lines. The kernel was told before that the process takes no new privileges. */
+/* Adds it to the filters that stand, of this thread or of all. False: the kernel refuses it, as where another thread has others; or it has too many lines. The kernel
+ * was told before that the process takes no new privileges. */
 bool add_filter(struct filter *filter);
+bool add_filter_for_all(struct filter *filter);
 
 #endif
