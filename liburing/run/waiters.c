@@ -35,13 +35,14 @@ static void find_real(void)
     *(void **)&real.dlopen = dlsym(RTLD_NEXT, "dlopen");
 }
 
-/* (where who runs the program says that nobody waits, nothing needs to be heard) */
+/* Whether what is heard is told: not where who runs the program says that nobody waits. */
+static bool is_told;
+
 __attribute__((constructor)) static void begin(void)
 {
     const char *word = getenv("WULGACH_EDGES");
     find_real();
-    if (!word || strcmp(word, "no") != 0)
-        wulgach_share_waiters();
+    is_told = (!word || strcmp(word, "no") != 0) && wulgach_share_waiters();
 }
 
 /* Another library's constructor may be first. */
@@ -55,13 +56,14 @@ static void want_real(void)
 static pid_t hearer;
 static bool is_begun;
 
+/* (signals are blocked: a handler that came amid this, and made a ring, would wait for its own thread) */
 void hear_waiters(void)
 {
     pid_t none = 0, own = getpid();
     if (__atomic_load_n(&is_begun, __ATOMIC_SEQ_CST))
         return;
     if (__atomic_compare_exchange_n(&hearer, &none, own, false, __ATOMIC_SEQ_CST, __ATOMIC_SEQ_CST)) {
-        if (trap_own_calls())
+        if (is_told && trap_own_calls())
             wulgach_hear_waiters();
         __atomic_store_n(&is_begun, true, __ATOMIC_SEQ_CST);
         return;
