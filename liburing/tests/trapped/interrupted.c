@@ -1,6 +1,6 @@
-/* A program that is linked with nothing of ours, whose signals' handlers call on its ring or leave a wait by a jump. It is run by uring-run.
+/* A program that is linked with nothing of ours, whose signals' handlers call on its ring or leave a wait by a jump, or whose thread is cancelled. It is run by uring-run.
  *
- *   interrupted handlers | first | jumps
+ *   interrupted handlers | first | cancels | jumps
  *
  * Status 0: all was as it is to be. Else a line says what wasn't.
  */
@@ -8,6 +8,7 @@
 #include "trapped.h"
 
 #include <fcntl.h>
+#include <pthread.h>
 #include <setjmp.h>
 #include <signal.h>
 #include <stdlib.h>
@@ -84,6 +85,37 @@ static void first(void)
     }
 }
 
+static void *set_up_until_cancelled(void *is_begun)
+{
+    pthread_setcanceltype(PTHREAD_CANCEL_ASYNCHRONOUS, NULL);
+    __atomic_store_n((bool *)is_begun, true, __ATOMIC_SEQ_CST);
+    set_up(0);
+    pause();
+    return NULL;
+}
+
+/* A thread may be cancelled at any place of the program's first set-up, and others make rings then. */
+static void cancels(void)
+{
+    const struct rlimit limit = {5, 5};
+    for (int after = 0; after <= 1000; after += 50) {
+        int status;
+        pid_t child = fork();
+        if (child == 0) {
+            bool is_begun = false;
+            pthread_t thread;
+            WANT(setrlimit(RLIMIT_CPU, &limit) == 0 && pthread_create(&thread, NULL, set_up_until_cancelled, &is_begun) == 0);
+            while (!__atomic_load_n(&is_begun, __ATOMIC_SEQ_CST))
+                continue;
+            usleep((unsigned)after);
+            WANT(pthread_cancel(thread) == 0 && pthread_join(thread, NULL) == 0);
+            set_up(0);
+            _exit(0);
+        }
+        WANT(waitpid(child, &status, 0) == child && status == 0);
+    }
+}
+
 static sigjmp_buf back;
 
 static void jump(int number)
@@ -120,6 +152,8 @@ int main(int argc, char **argv)
         handlers();
     else if (strcmp(name, "first") == 0)
         first();
+    else if (strcmp(name, "cancels") == 0)
+        cancels();
     else if (strcmp(name, "jumps") == 0)
         jumps();
     else
