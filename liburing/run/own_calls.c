@@ -9,7 +9,7 @@
 
 #include <emmintrin.h>
 #include <errno.h>
-#include <limits.h>
+#include <fcntl.h>
 #include <link.h>
 #include <stddef.h>
 #include <stdlib.h>
@@ -110,12 +110,23 @@ static int look_at_object(struct dl_phdr_info *object, size_t size, void *argume
     return !*are_all_read;
 }
 
+/* Whether the kernel draws places at all; where that can't be read it may not. */
+static bool does_kernel_draw(void)
+{
+    char word = '0';
+    long file = pass(SYS_openat, AT_FDCWD, (long)"/proc/sys/kernel/randomize_va_space", O_RDONLY | O_CLOEXEC, 0, 0, 0);
+    if (file < 0)
+        return false;
+    pass(SYS_read, file, (long)&word, 1, 0, 0, 0);
+    pass(SYS_close, file, 0, 0, 0, 0, 0);
+    return word != '0';
+}
+
 /* (other libraries are loaded besides where there are auditors) */
 static bool are_places_drawn(void)
 {
-    int kept = errno, how = personality(0xffffffff);
-    errno = kept;
-    return how >= 0 && !(how & ADDR_NO_RANDOMIZE) && !getenv("LD_AUDIT");
+    int how = personality(0xffffffff);
+    return how >= 0 && !(how & ADDR_NO_RANDOMIZE) && does_kernel_draw() && !getenv("LD_AUDIT");
 }
 
 bool trap_own_calls(void)

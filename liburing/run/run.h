@@ -65,7 +65,7 @@ void hear_waiters(void);
 bool trap_own_calls(void);
 
 /* What is heard of that, for the layer (layer/rings/waiters.c). */
-void wulgach_share_waiters(void);
+bool wulgach_share_waiters(void);
 void wulgach_hear_waiters(void);
 bool wulgach_listens_for_waiters(void);
 void wulgach_note_waiter(uint32_t change, int fd);

@@ -116,12 +116,12 @@ static long serve(long call, ucontext_t *at)
         note_site(at);
         return result;
     }
+    if (call == SYS_io_uring_setup)
+        hear_waiters();
     /* (with the C library's two signals: a thread of its own waits for one, and has it blocked) */
     put_mask_back(&mask);
     switch (call) {
     case SYS_io_uring_setup:
-        hear_waiters();
-        return call_layer(call, words);
     case SYS_io_uring_register:
         return call_layer(call, words);
     case SYS_epoll_ctl:

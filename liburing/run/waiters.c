@@ -9,6 +9,7 @@
 #include <dlfcn.h>
 #include <errno.h>
 #include <limits.h>
+#include <pthread.h>
 #include <sched.h>
 #include <spawn.h>
 #include <stdlib.h>
@@ -35,13 +36,14 @@ static void find_real(void)
     *(void **)&real.dlopen = dlsym(RTLD_NEXT, "dlopen");
 }
 
-/* (where who runs the program says that nobody waits, nothing needs to be heard) */
+/* Whether what is heard is told: not where who runs the program says that nobody waits. */
+static bool is_told;
+
 __attribute__((constructor)) static void begin(void)
 {
     const char *word = getenv("WULGACH_EDGES");
     find_real();
-    if (!word || strcmp(word, "no") != 0)
-        wulgach_share_waiters();
+    is_told = (!word || strcmp(word, "no") != 0) && wulgach_share_waiters();
 }
 
 /* Another library's constructor may be first. */
@@ -55,13 +57,12 @@ static void want_real(void)
 static pid_t hearer;
 static bool is_begun;
 
-void hear_waiters(void)
+/* Hears, or waits for the thread that begins to. */
+static void begin_to_hear(void)
 {
     pid_t none = 0, own = getpid();
-    if (__atomic_load_n(&is_begun, __ATOMIC_SEQ_CST))
-        return;
     if (__atomic_compare_exchange_n(&hearer, &none, own, false, __ATOMIC_SEQ_CST, __ATOMIC_SEQ_CST)) {
-        if (trap_own_calls())
+        if (is_told && trap_own_calls())
             wulgach_hear_waiters();
         __atomic_store_n(&is_begun, true, __ATOMIC_SEQ_CST);
         return;
@@ -69,6 +70,17 @@ void hear_waiters(void)
     /* (a child that was forked amid that doesn't hear) */
     while (none == own && !__atomic_load_n(&is_begun, __ATOMIC_SEQ_CST))
         sched_yield();
+}
+
+/* (signals are blocked: a handler that came amid this, and made a ring, would wait for its own thread; and the thread isn't cancelled, for which others would wait) */
+void hear_waiters(void)
+{
+    int before;
+    if (__atomic_load_n(&is_begun, __ATOMIC_SEQ_CST))
+        return;
+    pthread_setcancelstate(PTHREAD_CANCEL_DISABLE, &before);
+    begin_to_hear();
+    pthread_setcancelstate(before, NULL);
 }
 
 /* Calls of the layer, and of this library, go here: those of the program below. */

@@ -20,7 +20,7 @@
 #include <sys/mman.h>
 
 #define SEEN __attribute__((visibility("default"), externally_visible))
-SEEN void wulgach_share_waiters(void);
+SEEN bool wulgach_share_waiters(void);
 SEEN void wulgach_hear_waiters(void);
 SEEN bool wulgach_listens_for_waiters(void);
 SEEN void wulgach_note_waiter(uint32_t change, int fd);
@@ -35,7 +35,7 @@ struct shared {
     bool was_heard;     /* somebody began to wait, or may have */
 };
 
-static struct shared *shared;   /* NULL: nothing is heard */
+static struct shared *shared;   /* NULL: nothing is told */
 static bool are_heard;          /* all calls are, in this process */
 
 static bool is_so(const bool *word)
@@ -78,10 +78,10 @@ bool may_wait_for_edges(void)
     return wulgach_may_wait_for_edges(is_denied, is_heard, is_heard && is_so(&shared->was_heard));
 }
 
-/* Whether it is of use to hear more: there is a ring, and nobody was heard yet. */
+/* Whether it is of use to hear more: all is heard here, there is a ring, and nobody was heard yet. */
 static bool listens(void)
 {
-    return shared && is_so(&shared->has_ring) && !is_so(&shared->was_heard);
+    return is_so(&are_heard) && is_so(&shared->has_ring) && !is_so(&shared->was_heard);
 }
 
 bool may_be_instance(int fd)
@@ -105,18 +105,18 @@ void note_message(uint64_t control)
 /* ---- what `uring-run` tells ---- */
 
 /* As the process begins: its children are to share the page. */
-void wulgach_share_waiters(void)
+bool wulgach_share_waiters(void)
 {
     void *page = map_passing(NULL, sizeof *shared, PROT_READ | PROT_WRITE, MAP_SHARED | MAP_ANONYMOUS, -1, 0);
     if (page != MAP_FAILED)
         shared = page;
+    return shared;
 }
 
 /* From here on each call is heard, in this process and in those that it forks. */
 void wulgach_hear_waiters(void)
 {
-    if (shared)
-        make_so(&are_heard);
+    make_so(&are_heard);
 }
 
 bool wulgach_listens_for_waiters(void)

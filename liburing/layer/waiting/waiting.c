@@ -7,7 +7,6 @@
 #include "requests/progress.h"
 #include "requests/timeouts.h"
 #include "waiting/clock.h"
-#include "waiting/sleep.h"
 #include "wulgach_sleeps.h"
 
 #include <string.h>

@@ -5,7 +5,6 @@
 #include "rings/ring.h"
 #include "waiting/sleep.h"
 
-
 /* Waits until something may go on: a stream is ready, a timeout has ended, or another thread's call has changed
  * something. Time is virtual, but where a stream or a thread is waited for. `deadline` is in the ring's time,
  * and the least time or the limit; `masks` the thread's. Returns what came of it, as the library says, and writes the error number of a sleep that failed, or 0. */

@@ -32,7 +32,7 @@ static inline void await_sleep(const pid_t *thread)
         usleep(1000);
 }
 
-/* A child that sends this thread a signal once that sleeps. If the thread is to be cancelled by then, the child isn't. */
+/* A child that sends this thread a signal once that sleeps, and doesn't outlive this process long. If the thread is to be cancelled by then, the child isn't. */
 static inline pid_t signal_asleep(int number)
 {
     int before;
@@ -40,8 +40,9 @@ static inline pid_t signal_asleep(int number)
     pthread_setcancelstate(PTHREAD_CANCEL_DISABLE, &before);
     pid_t child = fork();
     if (child == 0) {
-        await_sleep(&thread);
-        _exit(tgkill(parent, thread, number) != 0);
+        while (getppid() == parent && !is_asleep(&thread))
+            usleep(1000);
+        _exit(getppid() != parent || tgkill(parent, thread, number) != 0);
     }
     pthread_setcancelstate(before, NULL);
     return child;

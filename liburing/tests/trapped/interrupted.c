@@ -1,6 +1,6 @@
-/* A program that is linked with nothing of ours, whose signals' handlers call on its ring or leave a wait by a jump. It is run by uring-run.
+/* A program that is linked with nothing of ours, whose signals' handlers call on its ring or leave a wait by a jump, or whose thread is cancelled. It is run by uring-run.
  *
- *   interrupted handlers | jumps
+ *   interrupted handlers | first | cancels | jumps
  *
  * Status 0: all was as it is to be. Else a line says what wasn't.
  */
@@ -8,10 +8,13 @@
 #include "trapped.h"
 
 #include <fcntl.h>
+#include <pthread.h>
 #include <setjmp.h>
 #include <signal.h>
 #include <stdlib.h>
+#include <sys/resource.h>
 #include <sys/time.h>
+#include <sys/wait.h>
 
 static void raise_often(long microseconds, long again)
 {
@@ -54,6 +57,65 @@ static void handlers(void)
     WANT(calls > 0);
 }
 
+static void set_up_in_handler(int number)
+{
+    struct io_uring_params params = {0};
+    (void)number;
+    WANT(close((int)call(SYS_io_uring_setup, 4, (long)&params, 0, 0, 0, 0)) == 0);
+    calls++;
+}
+
+/* A handler may make a ring while the program makes its first one. (a child that hangs takes the processor's time, and is ended for that) */
+static void first(void)
+{
+    const struct rlimit limit = {5, 5};
+    catch(set_up_in_handler);
+    for (long after = 50; after <= 1000; after += 50) {
+        int status;
+        pid_t child = fork();
+        if (child == 0) {
+            WANT(setrlimit(RLIMIT_CPU, &limit) == 0);
+            raise_often(after, 0);
+            set_up(0);
+            while (calls == 0)
+                continue;
+            _exit(0);
+        }
+        WANT(waitpid(child, &status, 0) == child && status == 0);
+    }
+}
+
+static void *set_up_until_cancelled(void *is_begun)
+{
+    pthread_setcanceltype(PTHREAD_CANCEL_ASYNCHRONOUS, NULL);
+    __atomic_store_n((bool *)is_begun, true, __ATOMIC_SEQ_CST);
+    set_up(0);
+    pause();
+    return NULL;
+}
+
+/* A thread may be cancelled at any place of the program's first set-up, and others make rings then. */
+static void cancels(void)
+{
+    const struct rlimit limit = {5, 5};
+    for (int after = 0; after <= 1000; after += 50) {
+        int status;
+        pid_t child = fork();
+        if (child == 0) {
+            bool is_begun = false;
+            pthread_t thread;
+            WANT(setrlimit(RLIMIT_CPU, &limit) == 0 && pthread_create(&thread, NULL, set_up_until_cancelled, &is_begun) == 0);
+            while (!__atomic_load_n(&is_begun, __ATOMIC_SEQ_CST))
+                continue;
+            usleep((unsigned)after);
+            WANT(pthread_cancel(thread) == 0 && pthread_join(thread, NULL) == 0);
+            set_up(0);
+            _exit(0);
+        }
+        WANT(waitpid(child, &status, 0) == child && status == 0);
+    }
+}
+
 static sigjmp_buf back;
 
 static void jump(int number)
@@ -88,6 +150,10 @@ int main(int argc, char **argv)
     const char *name = argc > 1 ? argv[1] : "";
     if (strcmp(name, "handlers") == 0)
         handlers();
+    else if (strcmp(name, "first") == 0)
+        first();
+    else if (strcmp(name, "cancels") == 0)
+        cancels();
     else if (strcmp(name, "jumps") == 0)
         jumps();
     else

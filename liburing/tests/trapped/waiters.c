@@ -94,10 +94,14 @@ static int wait_on(int fd, uint32_t edges, change_of *change)
 
 /* ---- in this process ---- */
 
+/* Where who runs it says that nobody does, nothing is trapped for that. */
 static void nobody(void)
 {
+    const char *word = getenv("WULGACH_EDGES");
+    long before = count_filters();
     struct ring ring = used_ring();
     want_writes(&ring, false);
+    WANT(!word || strcmp(word, "no") != 0 || count_filters() == before);
 }
 
 /* An instance has descriptors, and the ring's isn't among them. */
@@ -190,8 +194,7 @@ static void loaded(void)
 
 static void *set_one_up(void *at)
 {
-    struct ring *ring = at;
-    *ring = used_ring();
+    *(struct ring *)at = used_ring();
     return NULL;
 }
 
