@@ -54,7 +54,7 @@ def assemble(disk, groups, contents_of):
 
 
 def flushed(disk, left):
-    """Where names are ordered, a rename that replaces a file isn't left without the bytes of the one that takes its place: as if these had been synced before it (ext4's auto_da_alloc)."""
+    """Where names are ordered, a rename that replaces a file isn't left without the length of the one that takes its place: as if that had been synced before it (ext4's auto_da_alloc). With the length come the bytes by which it grew."""
     found = {}
     for naming in left if disk.is_ordered else []:
         if naming.replaced is not None:
@@ -67,16 +67,16 @@ def crash_file(disk, file, syncs, chosen):
     if not file.changes:
         return bytes(file.contents[: file.length]).ljust(file.length, b"\0"), ([], file.length, [])
     left = Parts(file.changes, syncs, disk.now).crash(chosen)
-    cells = with_length(disk, file, syncs, left, tears_of(file, disk.unit, chosen)).crash(chosen)
+    cells = with_length(disk, file, left, tears_of(file, disk.unit, chosen)).crash(chosen)
     return paint(file, left, cells)
 
 
-def with_length(disk, file, syncs, left, tears=()):
+def with_length(disk, file, left, tears=()):
     """A file's bytes, once it is known which changes its length shows.
 
     A truncation changes bytes and length as one (our own rule; `apart`: not): if its length isn't left, neither are its zeros, nor what was written after it once it had ended. Where names are ordered, a file that grew beyond its last block has the bytes with which it grew (ext4's data=ordered). What is there for certain is said to the volume as a sync of its range.
     """
-    kept, lost = list(syncs), [] if disk.is_apart else [it for it in file.changes if it.is_exact and it not in left]
+    kept, lost = list(file.syncs), [] if disk.is_apart else [it for it in file.changes if it.is_exact and it not in left]
     there = [*(grown(file, left) if disk.is_ordered else []), *(it for it in left if it.is_exact and not disk.is_apart)]
     for change in there:
         if change.last > change.first and not is_open(change, disk.now):
@@ -162,7 +162,7 @@ def ways_of(disk, file, syncs, most):
     """Each way in which a file may be left."""
     kept = {}
     for left in Parts(file.changes, syncs, disk.now).images(most) or [None]:
-        cells = left is not None and every_cell(disk, most, lambda tears: with_length(disk, file, syncs, left, tears))
+        cells = left is not None and every_cell(disk, most, lambda tears: with_length(disk, file, left, tears))
         if not cells:
             return None
         for shown in cells:
