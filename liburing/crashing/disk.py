@@ -14,19 +14,18 @@ from crashing.order import settled
 # Modes of fallocate, and a flag of renameat2.
 KEEP_SIZE, PUNCH_HOLE, COLLAPSE_RANGE, ZERO_RANGE, INSERT_RANGE = 1, 2, 8, 16, 32
 EXCHANGE = 2
-BLOCK = 4096        # of ext4
 # What a write that fails so may have written in part.
 MAY_HAVE_WRITTEN = {errno.EIO, errno.ENOSPC, errno.EDQUOT, errno.EFBIG}
 
 
 class Change:
-    """What an operation does to one file: bytes from `first` on up to `last` (data, or zeros), and its length: at least, or exactly. `is_within`: it ends in the block in which the file ended when it began."""
+    """What an operation does to one file: bytes from `first` on up to `last` (data, or zeros), and its length: at least, or exactly."""
 
-    __slots__ = ("operation", "begin", "end", "first", "last", "data", "length", "is_exact", "is_within")
+    __slots__ = ("operation", "begin", "end", "first", "last", "data", "length", "is_exact")
 
     def __init__(self, operation, first, last, data, length, is_exact=False, ends=True):
         self.operation, self.begin, self.end = operation, operation.begin, operation.end if ends else None
-        self.first, self.last, self.data, self.length, self.is_exact, self.is_within = first, last, data, length, is_exact, False
+        self.first, self.last, self.data, self.length, self.is_exact = first, last, data, length, is_exact
 
     def paint(self, contents):
         if self.last > self.first:
@@ -75,7 +74,6 @@ class File:
         self.kind, self.path, self.mode = kind, path, mode
         self.contents, self.length = bytearray(contents), len(contents)
         self.changes, self.syncs, self.all_syncs, self.writes = [], [], [], 0
-        self.size = self.length     # with all changes
 
     def extent(self):
         return max([self.length, *(change.length or 0 for change in self.changes), *(change.last for change in self.changes)])
@@ -199,8 +197,6 @@ class Disk:
 
     def put(self, file, change):
         file.changes.append(change)
-        change.is_within = change.last <= -(-file.size // BLOCK) * BLOCK
-        file.size = change.lengthen(file.size)
         operation = change.operation
         if operation.flags & SYNCS_ITS_RANGE and operation.kind in (WRITE, COPY) and change.end is not None:
             # (a sync of its range, begun once it has ended: RWF_DSYNC, O_DSYNC)

@@ -5,6 +5,8 @@ import itertools
 from crashing.disk import Sync, is_open
 from crashing.labels import Bytes, Chosen, Parts, hides, merged
 
+BLOCK = 4096        # of ext4
+
 
 class Image:
     """The tree, by paths below the disk: each a folder (None), a file (its bytes and mode), or a link (its target); and what is read for words."""
@@ -52,7 +54,7 @@ def assemble(disk, groups, contents_of):
 
 
 def flushed(disk, left):
-    """Where names are ordered, a rename that replaces a file isn't left without the bytes of the one that takes its place: as if these had been synced before it (ext4's auto_da_alloc)."""
+    """Where names are ordered, a rename that replaces a file isn't left without the length of the one that takes its place: as if that had been synced before it (ext4's auto_da_alloc). With the length come the bytes by which it grew."""
     found = {}
     for naming in left if disk.is_ordered else []:
         if naming.replaced is not None:
@@ -65,22 +67,32 @@ def crash_file(disk, file, syncs, chosen):
     if not file.changes:
         return bytes(file.contents[: file.length]).ljust(file.length, b"\0"), ([], file.length, [])
     left = Parts(file.changes, syncs, disk.now).crash(chosen)
-    cells = with_length(disk, file, syncs, left, tears_of(file, disk.unit, chosen)).crash(chosen)
+    cells = with_length(disk, file, left, tears_of(file, disk.unit, chosen)).crash(chosen)
     return paint(file, left, cells)
 
 
-def with_length(disk, file, syncs, left, tears=()):
+def with_length(disk, file, left, tears=()):
     """A file's bytes, once it is known which changes its length shows.
 
     A truncation changes bytes and length as one (our own rule; `apart`: not): if its length isn't left, neither are its zeros, nor what was written after it once it had ended. Where names are ordered, a file that grew beyond its last block has the bytes with which it grew (ext4's data=ordered). What is there for certain is said to the volume as a sync of its range.
     """
-    kept, lost = list(syncs), [] if disk.is_apart else [it for it in file.changes if it.is_exact and it not in left]
-    for change in left:
-        grows = disk.is_ordered and not change.is_exact and change.length is not None and change.length > file.length and not change.is_within
-        if (grows or (change.is_exact and not disk.is_apart)) and change.last > change.first and not is_open(change, disk.now):
+    kept, lost = list(file.syncs), [] if disk.is_apart else [it for it in file.changes if it.is_exact and it not in left]
+    there = [*(grown(file, left) if disk.is_ordered else []), *(it for it in left if it.is_exact and not disk.is_apart)]
+    for change in there:
+        if change.last > change.first and not is_open(change, disk.now):
             kept.append(Sync(change.operation, change.end + 0.25, change.end + 0.5, True, (change.first, change.last)))
     changes = [it for it in file.changes if not any(hides(cut, it, it.first - it.first % disk.unit + disk.unit) for cut in lost)]
     return Bytes(changes, kept, disk.now, disk.unit, tears, lost)
+
+
+def grown(file, left):
+    """The changes by which a file ends beyond the block in which it ended before, of those that its length shows."""
+    found, length = [], file.length
+    for change in left:
+        if not change.is_exact and change.length is not None and change.last > -(-length // BLOCK) * BLOCK:
+            found.append(change)
+        length = change.lengthen(length)
+    return found
 
 
 def tears_of(file, unit, chosen):
@@ -127,7 +139,7 @@ def all_images(disk, most):
     groups = [Parts(group, disk.name_syncs, disk.now).images(most) for group in disk.name_groups()]
     if None in groups:
         return None
-    found, kept = [], {}
+    kept = {}
     for left in itertools.product(*groups):
         synced = flushed(disk, [naming for it in left for naming in it])
         kinds = {}
@@ -143,15 +155,14 @@ def all_images(disk, most):
             kept.setdefault(image.key(), image)
             if len(kept) > most:
                 return None
-    found = list(kept.values())
-    return found
+    return list(kept.values())
 
 
 def ways_of(disk, file, syncs, most):
     """Each way in which a file may be left."""
     kept = {}
     for left in Parts(file.changes, syncs, disk.now).images(most) or [None]:
-        cells = left is not None and every_cell(disk, most, lambda tears: with_length(disk, file, syncs, left, tears))
+        cells = left is not None and every_cell(disk, most, lambda tears: with_length(disk, file, left, tears))
         if not cells:
             return None
         for shown in cells:

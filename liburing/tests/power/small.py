@@ -110,6 +110,24 @@ def appended(size):
     print("ended")
 
 
+def rewritten():
+    """A file is cut to nothing, and written anew."""
+    file = opened("data")
+    os.ftruncate(file, 0)
+    os.pwrite(file, NEW, 0)
+    print("ended")
+
+
+def patched():
+    """A new file is safe, gets longer within its block, and takes another's place: the rename doesn't wait for these bytes."""
+    file = opened("new")
+    os.write(file, OLD)
+    os.fsync(file)
+    os.write(file, NEW)
+    os.rename("new", "data")
+    print("ended")
+
+
 def hasty():
     """It is acknowledged before it is written."""
     print("safe", flush=True)
@@ -150,7 +168,7 @@ def memory():
         os.pwrite(opened("data"), b"%d" % number, 0)
 
 
-RUNS = {"torn": torn, "cut": cut, "early": lambda: mapped(True), "late": lambda: mapped(False), "first": first, "fsync": lambda: renamed(os.fsync), "datasync": lambda: renamed(os.fdatasync), "grown": grown, "lengths": lengths, "longer": longer, "appended": lambda: appended(SIZE), "block": lambda: appended(SIZE), "across": lambda: appended(5000), "hasty": hasty, "nested": nested, "linked": linked, "exchanged": exchanged, "named": named, "memory": memory, "leaves": memory}
+RUNS = {"torn": torn, "cut": cut, "early": lambda: mapped(True), "late": lambda: mapped(False), "first": first, "fsync": lambda: renamed(os.fsync), "datasync": lambda: renamed(os.fdatasync), "grown": grown, "lengths": lengths, "longer": longer, "appended": lambda: appended(SIZE), "block": lambda: appended(SIZE), "across": lambda: appended(5000), "rewritten": rewritten, "patched": patched, "hasty": hasty, "nested": nested, "linked": linked, "exchanged": exchanged, "named": named, "memory": memory, "leaves": memory}
 
 
 def check_memory():
@@ -177,7 +195,7 @@ def check(case):
         assert os.path.exists("data") and read("data")[:SIZE] == NEW, "it hasn't its name"
     elif case == "lengths" and is_safe:
         assert os.path.exists("log") and os.path.getsize("log") == 100 or os.path.getsize("log2") == 100, "neither is as long"
-    elif case in ("appended", "block", "across") and is_ended:
+    elif case in ("appended", "block", "across", "rewritten", "patched") and is_ended:
         assert b"\0" not in read("data"), "it is longer, and has zeros"
     elif case == "hasty" and is_safe:
         assert read("data") == NEW, "it isn't there"
