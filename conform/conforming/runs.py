@@ -13,6 +13,7 @@ from conforming.setup import Setup
 TOP = os.path.dirname(os.path.dirname(os.path.dirname(os.path.abspath(__file__))))
 RECORDER = f"{TOP}/conform/out/record"
 NO_RING = 77
+LIMIT = 600         # seconds of a recorder, which takes one or two where it doesn't hang
 MOST_HISTORIES = 500_000
 KINDS = {0: "lawful", 1: "unexplained", 3: "gave up"}
 
@@ -28,9 +29,9 @@ class NoTrace(Exception):
 def record(scenario):
     """What the recorder saw of a scenario."""
     try:
-        ran = subprocess.run([RECORDER], input=scenario, capture_output=True, text=True, timeout=600)
+        ran = subprocess.run([RECORDER], input=scenario, capture_output=True, text=True, timeout=LIMIT)
     except subprocess.TimeoutExpired as late:
-        raise NoTrace("it took more than a minute") from late
+        raise NoTrace(f"it took more than {LIMIT} s") from late
     if ran.returncode == NO_RING:
         raise NoRing(ran.stderr.strip())
     if ran.returncode:
@@ -40,7 +41,7 @@ def record(scenario):
 
 def features():
     """The bits of what the ring says that it can do."""
-    ran = subprocess.run([RECORDER, "features"], capture_output=True, text=True, timeout=600)
+    ran = subprocess.run([RECORDER, "features"], capture_output=True, text=True, timeout=LIMIT)
     if ran.returncode == NO_RING:
         raise NoRing(ran.stderr.strip())
     return int(ran.stdout, 0)

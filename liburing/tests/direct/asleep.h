@@ -11,7 +11,7 @@
 #include <sys/wait.h>
 #include <unistd.h>
 
-/* (a thread that hasn't begun yet has the number 0; its state stands behind its name) */
+/* (a thread that hasn't begun yet has the number 0; its state stands after its name) */
 static inline bool is_asleep(const pid_t *thread)
 {
     char path[64], told[256];

@@ -4,6 +4,7 @@
  *   descriptors [NAME]       with a name: that test alone
  */
 #define _GNU_SOURCE
+#include "asleep.h"
 #include "engines.h"
 
 #include <poll.h>
@@ -78,8 +79,11 @@ static void test_closed_twice(void)
     close_ring(&ring);
 }
 
+static pid_t sleeper;
+
 static void *wait_for_nop(void *ring)
 {
+    __atomic_store_n(&sleeper, gettid(), __ATOMIC_RELEASE);
     check(enter(ring, 0, 1, IORING_ENTER_GETEVENTS) == 0);
     return NULL;
 }
@@ -92,8 +96,9 @@ static void test_closed_twice_asleep(void)
     make_ring(&ring, 8, 0, 0);
     for (int round = 0; round < 3; round++) {
         int low = lowest_free();
+        sleeper = 0;
         check(pthread_create(&thread, NULL, wait_for_nop, &ring) == 0);
-        usleep(20000);
+        await_sleep(&sleeper);
         check(close(low) == -1 && errno == EBADF);
         submit_nop(&ring, 1);
         check(pthread_join(thread, NULL) == 0 && next_of(&ring).user_data == 1);

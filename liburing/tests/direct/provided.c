@@ -200,11 +200,56 @@ static void test_failing(void)
         }
         close_ring(&ring);
     }
-    close(ends[0]);
-    close(ends[1]);
+    close_pair(ends);
     close(folder);
     close(to_write);
     close(alone);
+}
+
+/* A read of 8 bytes from a slot of the ring's, of which the first alone has a file, or from a file. */
+static void put_into_buffer(struct ring *ring, uint16_t group, uint8_t flags, int fd)
+{
+    put_transfer(ring, IORING_OP_READ, 0, IOSQE_BUFFER_SELECT | flags, fd, NULL, 8, 0)->buf_group = group;
+}
+
+static void check_next(struct ring *ring, int32_t res, uint32_t flags)
+{
+    struct seen found = next_of(ring);
+    check(found.res == res && found.flags == flags);
+}
+
+/* So does a read from a slot that has a file, also within a chain and after others, and none that is cancelled, or whose slot is empty. */
+static void test_failing_in_chains(void)
+{
+    enum { HAD = IORING_CQE_F_BUFFER, NEXT = 1 << IORING_CQE_BUFFER_SHIFT };
+    int slots[] = {open("/dev/null", O_WRONLY), -1}, file = open("/dev/zero", O_RDONLY);
+    for (uint16_t group = BY_LIST; group <= BY_RING; group++) {
+        struct ring ring;
+        static char first[8];
+        make_both(&ring, (uintptr_t)first);
+        check(register_at(ring.fd, IORING_REGISTER_FILES, slots, 2) == 0);
+        put_into_buffer(&ring, group, IOSQE_FIXED_FILE | IOSQE_IO_HARDLINK, 0);
+        put_into_buffer(&ring, group, 0, file);
+        check(enter(&ring, 2, 0, 0) == 2);
+        check_next(&ring, -EBADF, HAD);
+        check_next(&ring, 8, HAD | NEXT);
+        put_into_buffer(&ring, group, IOSQE_FIXED_FILE | IOSQE_IO_LINK, 0);
+        put_into_buffer(&ring, group, 0, file);
+        check(enter(&ring, 2, 0, 0) == 2);
+        check_next(&ring, -EBADF, HAD | 2 * NEXT);
+        check_next(&ring, -ECANCELED, 0);
+        put_into_buffer(&ring, group, IOSQE_FIXED_FILE, 1);
+        check(enter(&ring, 1, 0, 0) == 1);
+        check_next(&ring, -EBADF, 0);
+        put_into_buffer(&ring, group, IOSQE_FIXED_FILE | IOSQE_IO_DRAIN, 0);
+        put_into_buffer(&ring, group, IOSQE_IO_DRAIN, file);
+        check(enter(&ring, 2, 0, 0) == 2);
+        check_next(&ring, -EBADF, HAD | 3 * NEXT);
+        check_next(&ring, 8, HAD | 4 * NEXT);
+        close_ring(&ring);
+    }
+    close(slots[0]);
+    close(file);
 }
 
 /* So it is of a buffer that can't be written, and of one at address 0, which is none: a receive takes neither. */
@@ -225,10 +270,8 @@ static void test_unusable(void)
                 check_taking(&ring, &takings[2], group, 0);
             check_taking(&ring, &takings[3], group, 1);
             close_ring(&ring);
-            close(ends[0]);
-            close(ends[1]);
-            close(pair[0]);
-            close(pair[1]);
+            close_pair(ends);
+            close_pair(pair);
             close(file);
         }
     munmap(pages[0], 4096);
@@ -241,6 +284,7 @@ int main(int count, char **words)
         {"groups", test_groups},
         {"empty lists", test_empty_lists},
         {"failing", test_failing},
+        {"failing in chains", test_failing_in_chains},
         {"unusable", test_unusable},
     };
     return !are_rings_there() ? 0 : run_tests(tests, sizeof tests / sizeof *tests, count > 1 ? words[1] : NULL);

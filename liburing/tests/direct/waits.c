@@ -305,8 +305,7 @@ static void test_splice_of_nothing(void)
         entry->off = entry->splice_off_in = i < 3 ? 0 : UINT64_MAX;
         check(result_of_one(&ring, 1) == (i % 3 == 0 ? 0 : -EBADF));
     }
-    close(ends[0]);
-    close(ends[1]);
+    close_pair(ends);
     close_ring(&ring);
 }
 
@@ -325,10 +324,8 @@ static void test_splice_at_an_offset(void)
         entry->len = 1;
         check(result_of_one(&ring, 1) == ((i & 3) == 1 ? -ESPIPE : -EBADF));
     }
-    for (int i = 0; i < 2; i++) {
-        close(ends[i]);
-        close(others[i]);
-    }
+    close_pair(ends);
+    close_pair(others);
     close_ring(&ring);
 }
 

@@ -316,7 +316,7 @@ static void started_fifo(void)
     pid_t child;
     int made = mkstemp(name);
     WANT(made >= 0 && close(made) == 0 && unlink(name) == 0 && mkfifo(name, 0700) == 0);
-    alarm(20);
+    end_after(20);
     WANT(execve(name, words, no_surrounding) < 0 && errno == EACCES);
     WANT(posix_spawn(&child, name, NULL, NULL, words, no_surrounding) == EACCES);
     WANT(unlink(name) == 0);

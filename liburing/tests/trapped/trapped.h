@@ -8,6 +8,7 @@
 #include <stddef.h>
 #include <stdint.h>
 #include <stdio.h>
+#include <stdlib.h>
 #include <string.h>
 #include <sys/epoll.h>
 #include <sys/mman.h>
@@ -21,6 +22,14 @@
             _exit(1 + __LINE__ % 120);                                                                                 \
         }                                                                                                              \
     } while (0)
+
+/* Ends the program if it hangs: after so many seconds, or as many times that as PATIENCE says. */
+static inline void end_after(unsigned seconds)
+{
+    const char *said = getenv("PATIENCE");
+    int times = said ? atoi(said) : 0;
+    alarm(times > 0 ? seconds * (unsigned)times : seconds);
+}
 
 static inline long call(long number, long a, long b, long c, long d, long e, long f)
 {

@@ -384,7 +384,7 @@ int main(int count, char **words)
     own_path = words[0];
     if (count == 4 && strcmp(words[1], "hears") == 0)
         hear_for(atoi(words[3]), atoi(words[2]), by_library);
-    alarm(30);
+    end_after(30);
     if (count == 3 && strcmp(words[1], "receives") == 0)
         receives(atoi(words[2]));
     if (count == 3 && strcmp(words[1], "starts") == 0) {
