@@ -185,7 +185,8 @@ static void test_waiting_signal(void)
     put_transfer(&ring, IORING_OP_TIMEOUT, 5, 0, -1, &long_time, 1, 0);
     check(raise(SIGUSR2) == 0 && enter(&ring, 1, 0, 0) == 1);
     check(enter_with(&ring, 1, &none) == -EINTR && heard == 2 && count_ready(&ring) == 0);
-    check(raise(SIGWINCH) == 0 && enter_with(&ring, 1, &none) == -EINTR && heard == 2 && count_ready(&ring) == 0);
+    /* (valgrind drops it) */
+    check(is_under_valgrind() || (raise(SIGWINCH) == 0 && enter_with(&ring, 1, &none) == -EINTR && heard == 2 && count_ready(&ring) == 0));
     check(enter_with(&ring, 1, &none) == 0);
     struct completion found = reap(&ring);
     check(found.user_data == 5 && found.res == -ETIME);

@@ -58,7 +58,7 @@ static void test_untold_sender(bool has_room)
 {
     enum { NAME = 16, CONTROL = 64, ROOM = 8, OWN_NAME = 8 };
     struct ring ring;
-    char memory[sizeof(struct io_uring_recvmsg_out) + NAME + CONTROL + ROOM];
+    char memory[sizeof(struct io_uring_recvmsg_out) + NAME + CONTROL + ROOM] = {0};
     struct msghdr message = {.msg_namelen = has_room ? NAME : 0, .msg_controllen = has_room ? CONTROL : 0};
     struct io_uring_recvmsg_out told;
     size_t in_front = sizeof told + message.msg_namelen + message.msg_controllen;
