@@ -49,27 +49,12 @@ static void put_cancel(struct ring *ring, uint64_t user_data, uint64_t target)
     put_plain(ring, IORING_OP_ASYNC_CANCEL, user_data, -1)->addr = target;
 }
 
-static void open_beside_child(struct ring *ring)
-{
-    struct open_how how = {.flags = O_RDONLY};
-    int status;
-    struct io_uring_sqe *entry = put_plain(ring, IORING_OP_OPENAT2, 0, AT_FDCWD);
-    entry->addr = (uintptr_t)"fifo";
-    entry->off = (uintptr_t)&how;
-    entry->len = sizeof how;
-    entry->flags |= IOSQE_ASYNC;
-    check(enter(ring, 1, 0, 0) == 1 && is_waiting(ring));
-    pid_t child = fork();
-    if (child == 0)
-        _exit(open("fifo", O_WRONLY) < 0);
-    check(next_of(ring).res >= 0 && waitpid(child, &status, 0) == child && status == 0);
-}
-
 /* Both ends of a named pipe are opened by who waits, whichever comes first, and each waits for the other, also for another process'. One that was opened is as it
  * was asked for. */
 static void test_opened(void)
 {
     struct ring ring;
+    struct open_how how = {.flags = O_RDONLY};
     char name[] = "/tmp/unwilling-XXXXXX";
     int32_t fds[2];
     check(mkdtemp(name) && chdir(name) == 0 && mkfifo("fifo", 0600) == 0);
@@ -88,8 +73,16 @@ static void test_opened(void)
         reap_all(&ring, 2, fds);
         check(fds[0] == -ECANCELED && open("fifo", O_WRONLY | O_NONBLOCK) < 0 && errno == ENXIO);
     }
-    if (!is_under_valgrind())       /* (which lacks openat2) */
-        open_beside_child(&ring);
+    struct io_uring_sqe *entry = put_plain(&ring, IORING_OP_OPENAT2, 0, AT_FDCWD);
+    entry->addr = (uintptr_t)"fifo";
+    entry->off = (uintptr_t)&how;
+    entry->len = sizeof how;
+    entry->flags |= IOSQE_ASYNC;
+    check(enter(&ring, 1, 0, 0) == 1 && is_waiting(&ring));
+    pid_t child = fork();
+    if (child == 0)
+        _exit(open("fifo", O_WRONLY) < 0);
+    check(next_of(&ring).res >= 0 && waitpid(child, fds, 0) == child && fds[0] == 0);
     check(unlink("fifo") == 0 && rmdir(name) == 0);
     close_ring(&ring);
 }
