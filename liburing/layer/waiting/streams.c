@@ -82,7 +82,7 @@ static void look_at_all(struct ring *ring)
 bool is_found_ready(struct ring *ring, struct request *request)
 {
     uint32_t sighting;
-    /* (one that doesn't run yet, and is asked about by a cancel, isn't among them) */
+    /* (a dormant one, of which a cancel asks, isn't among them) */
     bool are_many = ring->running.count > 1;
     while ((sighting = wulgach_waiter_sighting(&request->waiter, &ring->lookout)) == WULGACH_SIGHTING_UNSEEN) {
         if (are_many)
