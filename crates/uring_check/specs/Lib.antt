@@ -1,3 +1,4 @@
+-- What a reader must believe:
 pub mod Rules
 pub mod SetupLines
 pub mod Records
@@ -6,4 +7,5 @@ pub mod Cancels
 pub mod Posters
 pub mod Reports
 pub mod Checks
+-- Glue, which joins code to these:
 pub mod Checking

@@ -1,12 +1,16 @@
+-- In the order in which they are best read.
+-- Boxes whose parts C keeps:
 pub mod CoreBox
 pub mod MachineBox
 pub mod VolumeBox
 pub mod CrashMachineBox
 pub mod OutcomesBox
-pub mod Refusals
 pub mod Holding
-pub mod Cutting
+-- Words that ask for a machine, and words that tell of a refusal:
 pub mod Starts
+pub mod Refusals
+pub mod Cutting
+-- What a call is told to have done, as steps and as text:
 pub mod SameSteps
 mod TracedSteps
 mod TracedPlaces

@@ -1,24 +1,31 @@
 //! The dispatcher of an io_uring pair of rings: it numbers the requests that are accepted, and says of each whether it may start, waits, is cancelled or has ended.
 #![tactic(auto)]
 
-mod answers;
+// what is outstanding
 mod by_user_data;
+mod group;
+mod grouped;
+mod groups;
+mod outstanding;
+mod request;
+mod waiting;
+mod window;
+
+// how one stands, and why
+mod found;
+mod issuable;
+mod standing;
+mod why;
+
+// what happens to them
+mod answers;
 mod cancels;
 mod dispatch;
 mod errors;
 mod events;
-mod found;
-mod group;
-mod grouped;
-mod groups;
-mod issuable;
+
+// laws of the definitions alone
 pub mod laws;
-mod outstanding;
-mod request;
-mod standing;
-mod waiting;
-mod why;
-mod window;
 
 pub use answers::{Finished, Found, Issued, Posts};
 pub use dispatch::Dispatch;

@@ -1,3 +1,4 @@
+-- The laws of joining: of each descriptor one row is left, in their order, which asks all that was asked of it.
 use Rattle.std.proofs.Common.{refl, Bool, true, false, ◌&&◌, ◌||◌, ◌==◌, max, ◌≡◌, ◌≢◌, ◌<◌, ◌≤◌, ◌+◌, ◌-◌, length, take, get_or, set, ℕ, ⊎_elim, arith, List, get_or-set_other, get_or-set_same}
 use Rattle.std.proofs.lemmas.List.{get_or-take, length-take-le, length-set, take_more_set}
 use Rattle.std.proofs.lemmas.List.Quantifiers.{all_pairs_push}

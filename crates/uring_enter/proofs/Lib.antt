@@ -1,27 +1,33 @@
+-- In the order in which they are best read.
+-- A call of io_uring_enter(2): what it takes, what comes next, what it returns:
 mod Next
 mod Commands
 mod Running
 mod Ending
 mod Returning
+mod PassageRuns
+mod TakingRuns
+mod StepRuns
+mod DutyRuns
+mod RingingRuns
+mod SignalRuns
+-- Time:
 mod TimeoutOrder
 mod TimeoutRows
 mod TimeoutRuns
 mod TimesKept
-mod ShowingRuns
-mod CancelRuns
+-- Completions, as they are posted and shown:
 mod PostingRuns
+mod ShowingRuns
+mod PuttingOffRuns
+-- Cancels, and what comes after one:
+mod CancelRuns
+mod AwaitingRuns
+mod DueRuns
+-- Who waits for what:
 mod Counts
 mod LookoutRuns
 mod WaiterRuns
-mod DutyRuns
-mod AwaitingRuns
-mod LeavingRuns
-mod PuttingOffRuns
-mod PassageRuns
-mod StepRuns
-mod TakingRuns
-mod RingingRuns
 mod JoiningRuns
-mod DueRuns
-mod SignalRuns
 mod RivalRuns
+mod LeavingRuns

@@ -1,11 +1,15 @@
+-- In the order in which they are best read.
+-- Words and bytes of entries and completions, and set-ups:
 pub mod Payloads
 pub mod CompletionWords
 pub mod Powers
 pub mod SetupLemmas
-pub mod BelowLemmas
 pub mod Preparations
+-- What the definitions on requests mean:
+pub mod BelowLemmas
 pub mod RequestLemmas
-pub mod EventLemmas
 pub mod GroupLemmas
-pub mod GroupEvents
 pub mod WhyLemmas
+-- What an event changes in that:
+pub mod EventLemmas
+pub mod GroupEvents

@@ -1,3 +1,4 @@
+-- What a reader must believe:
 pub mod Setup
 pub mod Flags
 pub mod Errors
@@ -12,4 +13,5 @@ pub mod Requests
 pub mod Groups
 pub mod Why
 pub mod Completions
+-- Glue, which joins code to these:
 pub mod Texts

@@ -1,19 +1,26 @@
 //! Entries and completions of an io_uring pair of rings, the set-up of such a pair, and how an entry is prepared. Its `specs/` define the protocol: what the crates above prove is said in these words.
 #![tactic(auto)]
 
-mod bad_setup;
-mod cqe;
-pub mod errno;
+// an entry, and what it asks for
 mod fault;
 mod flags;
-pub mod laws;
 mod operation;
 mod payload;
 mod preparation;
-mod setup;
 mod sqe;
+
+// a completion, and what an end is
+mod cqe;
+pub mod errno;
 mod success;
 mod why;
+
+// the set-up of a pair of rings
+mod bad_setup;
+mod setup;
+
+// laws of the definitions alone
+pub mod laws;
 
 pub use bad_setup::BadSetup;
 pub use cqe::Cqe;

@@ -1,22 +1,29 @@
 //! The requests of an io_uring pair of rings as Linux 6.18 keeps them: where the kernel differs from the manual pages in groups, drains, cancels and who posts.
 #![tactic(auto)]
 
-mod answer;
-mod answers;
+// what is kept of requests and groups
 mod deferred;
-mod dispatch;
 mod drains;
 mod entries;
-mod found;
 mod group;
 mod groups;
-mod issuable;
-pub mod laws;
 mod members;
-mod posting;
 mod request;
-mod why;
 mod window;
+
+// how one stands, and why
+mod found;
+mod issuable;
+mod posting;
+mod why;
+
+// what happens to them
+mod answer;
+mod answers;
+mod dispatch;
+
+// laws of the definitions alone
+pub mod laws;
 
 pub use answers::Issued;
 pub use dispatch::LinuxDispatch;

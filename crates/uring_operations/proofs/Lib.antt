@@ -1,12 +1,16 @@
+-- In the order in which they are best read.
+-- The course of an operation, and which call comes next:
 mod CourseRuns
-mod ReadinessRuns
 mod ChainRuns
 mod WayRuns
-mod DescriptorRuns
 mod CallTryRuns
-mod CancellingRuns
-mod AfreshRuns
 mod AdvanceRuns
+mod ReadingRuns
+-- Descriptors and open files:
+mod ReadinessRuns
+mod DescriptorRuns
 mod AskingRuns
 mod TrappingRuns
-mod ReadingRuns
+-- Cancels and updates:
+mod CancellingRuns
+mod AfreshRuns

@@ -1,18 +1,24 @@
+-- In the order in which they are best read.
+-- Bytes, and steps that may give nothing:
 pub mod Options
-pub mod Numbers
 pub mod Bytes
 pub mod Trimming
+-- A token that is read and the token that is written are one: numbers, flags, digits:
+pub mod Numbers
 pub mod NumberLaws
 pub mod FlagLaws
 pub mod HexLaws
 pub mod Hexadecimal
+-- So are an entry and its tokens:
 pub mod FormLaws
 pub mod PartLaws
 pub mod EntryLaws
 pub mod Spellings
+-- Lines of a stream, and their tokens:
 pub mod KeptLines
 pub mod LineLaws
 pub mod Splits
 pub mod Cutting
+-- What is written:
 pub mod Writing
 pub mod VisibleLaws

@@ -1,24 +1,33 @@
 //! The text that traces, checks and plays share: lines as they are read, the tokens that entries and numbers are written as, and the text of a completion.
 #![tactic(auto)]
 
-mod completion_text;
-mod data_tokens;
-mod entry_tokens;
-mod flag_tokens;
-mod flaw;
-mod forms;
-mod growth;
-mod hex_tokens;
+// lines, as they are read
 mod kept_line;
-pub mod laws;
-mod number_tokens;
-mod parts;
-mod place;
-mod reach;
 mod streams;
 mod tokens;
 mod trace_fault;
+
+// tokens, and the entry that they spell
+mod data_tokens;
+mod entry_tokens;
+mod flag_tokens;
+mod forms;
+mod hex_tokens;
+mod number_tokens;
+mod parts;
+
+// how far a line fits the language, and what is wrong with it
+mod flaw;
+mod place;
+mod reach;
+
+// what is written
+mod completion_text;
+mod growth;
 mod visible;
+
+// laws of the definitions alone
+pub mod laws;
 
 pub use completion_text::{push_completion, push_completion_in};
 pub use entry_tokens::spelled_entry;

@@ -1,31 +1,36 @@
+-- In the order in which they are best read.
+-- What steps of the trace make, one by one and so many times:
 pub mod TraceSteps
+pub mod Recording
+mod Repeating
 pub mod ItemSteps
 pub mod CallSteps
 mod CallsMade
 mod BegunRows
 pub mod IssueSteps
+-- A turn of the dispatcher: what it pulls, issues and posts:
 pub mod Tying
-pub mod Dealing
+mod Granting
+mod Closing
+mod FullLanes
+mod Issuing
+pub mod Posting
+mod Delivering
+mod FewResults
+pub mod Turning
+-- Jobs and results, by workers:
 mod Times
+pub mod Dealing
 mod Sent
 mod LeftAt
-pub mod Settling
+pub mod Carrying
+mod SameLanes
+pub mod SameEnds
+-- Settling: what waits is taken in, worker after worker, and reported:
 mod Collecting
 mod Draining
+pub mod Settling
 mod SettledWork
 mod SettledWorkers
-pub mod Carrying
-mod FewResults
-pub mod Posting
 mod WorkerFiles
-pub mod Turning
-mod Issuing
-mod Delivering
-mod Granting
-mod FullLanes
-mod Closing
-pub mod SameEnds
-pub mod Recording
-mod Repeating
-mod SameLanes
 pub mod Reporting

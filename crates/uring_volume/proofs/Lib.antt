@@ -1,23 +1,29 @@
+-- In the order in which they are best read.
+-- Lists of events, of references and of numbers:
+pub mod Steps
+pub mod Seeking
+pub mod Puts
+pub mod Counting
+pub mod Parts
+pub mod Flat
+pub mod Taking
+pub mod Results
+-- The laws of what a crash may leave:
 pub mod Narrower
 pub mod ReadBack
 pub mod Units
 pub mod Rest
-pub mod Steps
+-- A choice gives an image, and each image has a choice:
 pub mod Fitting
 pub mod Chosen
-pub mod Flat
-pub mod Taking
-pub mod Parts
 pub mod Painting
 pub mod Leaving
-pub mod Numbers
-pub mod Results
 pub mod Crashing
-pub mod Puts
+-- All images, one after the other:
 pub mod Walking
 pub mod Lengths
 pub mod Files
-pub mod Seeking
+-- What a volume keeps, and what it folds:
+pub mod Numbers
 pub mod Folding
 pub mod Folded
-pub mod Counting
