@@ -1,13 +1,13 @@
 -- What is doomed, drains and is ready, from what is known of its group: no more is needed of the members that have ended.
 use Rattle.std.proofs.Common.{◌≡◌, ℕ, zero, suc, ◌<◌, ◌≤◌, min, max, length, Bool, true, false, not, ◌&&◌, ◌||◌, leb, ltb, Option, Some, None, is_some, refl, sym, ◌∙◌, ap, arith, inl, inr}
-use Rattle.std.proofs.lemmas.Bool.{cases_lt, cases_Bool, and_left, and_right, and_from, and_parts, or_from, or_left, or_right, both_ways, le-leb, lt-leb, lt-ltb, le-ltb, leb-true, or_cases, not-true, not-false}
+use Rattle.std.proofs.lemmas.Bool.{cases_lt, cases_Bool, and_left, and_right, and_from, and_parts, or_from, or_left, or_right, both_ways, le-leb, lt-leb, lt-ltb, le-ltb, leb-true}
 use Rattle.std.proofs.Math.Bool.{and-true, and_assoc}
 use Rattle.uring_entry.specs.Layout.{Sqe}
 use Rattle.uring_entry.specs.Below.{some_below, least_below}
 use Rattle.uring_entry.specs.Requests.{Requests, entry_of, has_ended, has_failed, is_soft, is_drain, is_joined, is_in_group, some_member, is_in_faulty_group, is_draining, is_after_failure, is_cancelled, is_doomed, is_ready, holds_back}
 use Rattle.uring_entry.specs.Preparation.{is_faulty}
 use Rattle.uring_entry.specs.Groups.{IsGroup, first_member, is_before, first_fault, first_drain, first_broken}
-use Rattle.uring_entry.proofs.BelowLemmas.{some_below_none, some_below_some, some_below_same, some_below_between, least_below_out, least_below_tells, is_some_least_below, some_below_in}
+use Rattle.uring_entry.proofs.BelowLemmas.{some_below_none, some_below_some, some_below_same, some_below_between, least_below_out, least_below_tells, is_some_least_below}
 use Rattle.uring_entry.proofs.RequestLemmas.{is_joined_yes, is_joined_no, is_ready_yes, is_ready_no}
 
 -- Who is a member.
@@ -161,30 +161,6 @@ pub ready_not_after : (r : Requests) (n m : ℕ) → m < n → has_ended r m ≡
     → is_draining r m ≡ true → is_ready r n ≡ false
 ready_not_after r n m low going drains =
     is_ready_no r n m low (and_from _ _ (ap not going) (or_left _ _ (or_right _ _ drains)))
-
--- If the least member of a group that hasn't ended isn't ready, no later request is: what holds it back drains, or the group does, and either holds back all that is later.
-pub ready_not_later : (r : Requests) (from end n k : ℕ) → IsGroup r from end → from ≤ n → n < end
-    → ((m : ℕ) → from ≤ m → m < n → has_ended r m ≡ true) → has_ended r n ≡ false
-    → is_ready r n ≡ false → n < k → is_ready r k ≡ false
-unfolding is_ready
-ready_not_later r from end n k g high lt members going waits after =
-    let found = some_below_in (holds_back r n) n (not-false _ waits) in
-    let m : ℕ = found.0 in
-    let parts = and_parts (not (has_ended r m)) _ found.2 in
-    let open_yet : has_ended r m ≡ false = not-true _ parts.0 in
-    let low : m < n = found.1 in
-    let before : m < k = omega (arith, low, after) in
-    let at_most : m ≤ n = omega (arith, low) in
-    elim (or_cases (is_joined r m n || is_draining r m) (is_draining r n) parts.1) [
-      | inr draining ↦ ready_not_after r k n after going draining
-      | inl rest ↦
-          elim (or_cases (is_joined r m n) (is_draining r m) rest) [
-            | inr draining ↦ ready_not_after r k m before open_yet draining
-            | inl joined ↦
-                let inside = leb-true from m (sym (joined_member r from end m n g high lt at_most) ∙ joined) in
-                absurd (both_ways _ open_yet (members m inside low))
-          ]
-    ]
 
 -- Two groups of which one begins before the other ends are one: a member of an earlier group lies before the later group.
 pub groups_apart : (r : Requests) (from end first last m : ℕ) → IsGroup r from end

@@ -4,7 +4,7 @@ use Rattle.std.specs.Prelude.{if◌then◌else◌, nat_lt}
 use Rattle.std.proofs.lemmas.Bool.{cases_lt, cases_Bool, both_ways, and_from, and_parts, or_left, or_cases, or_parts, ltb-true, ltb-false, ne_eqb, lt-ltb, le-leb}
 use Rattle.uring_entry.specs.Layout.{Sqe}
 use Rattle.uring_entry.specs.Requests as manual
-use Rattle.uring_entry.specs.Requests.{Requests, entry_of, is_linked, is_last, is_outstanding, is_running, has_started, has_ended}
+use Rattle.uring_entry.specs.Requests.{Requests, entry_of, is_linked, is_last, is_outstanding, is_running}
 use Rattle.uring_entry.proofs.RequestLemmas.{added_other, has_ended_other, entry_of_accepted_at}
 use Rattle.uring_entry.proofs.GroupEvents.{is_last_cut_last}
 use Rattle.uring_linux.specs.declared.deferred.Deferred.{Deferred}

@@ -168,16 +168,9 @@ running_by : (running : Bool) (op told : Op) → Some told ≡ (if running then 
 running_by true op told is = (refl, cc)
 running_by false op told is = absurd cc
 
-idle_by : (running : Bool) (op : Op) → None ≡ (if running then Some op else None) → running ≡ false
-idle_by true op is = absurd cc
-idle_by false op is = refl
-
 pub runs_told : (r : Requests) (n : ℕ) (told : Op) → Some told ≡ operation_running r n
     → (is_running r n ≡ true) × (told ≡ operation_of (entry_of r n))
 runs_told r n told is = running_by (is_running r n) (operation_of (entry_of r n)) told is
-
-pub idle_told : (r : Requests) (n : ℕ) → None ≡ operation_running r n → is_running r n ≡ false
-idle_told r n is = idle_by (is_running r n) (operation_of (entry_of r n)) is
 
 -- what runs was accepted
 pub running_accepted : (r : Requests) (n : ℕ) → IsSoundMoment r → is_running r n ≡ true
@@ -199,15 +192,6 @@ pub finish_moves : (m : Moment) (n : ℕ) → IsSoundMoment m.requests → is_ru
     → moved m (move.Finish n) ≡ Some (finished m n)
 finish_moves m n i running =
     can_then (is_finishable m.requests n) (finished m n) (finished m n) (both_so (nat_lt n (length m.requests.accepted)) (is_running m.requests n) (lt-ltb n (length m.requests.accepted) (running_accepted m.requests n i running)) running) refl
-
-and_idle : (a b : Bool) → b ≡ false → (a && b) ≡ false
-and_idle true b e = e
-and_idle false b e = refl
-
-pub finish_stays : (m : Moment) (n : ℕ) → is_running m.requests n ≡ false
-    → moved m (move.Finish n) ≡ None
-finish_stays m n idle =
-    ap (λ b. if b then Some (finished m n) else None) (and_idle (nat_lt n (length m.requests.accepted)) (is_running m.requests n) idle)
 
 -- What can be made next.
 

@@ -1,7 +1,7 @@
 -- All bytes tell something.
 use Rattle.std.proofs.Common.{◌≡◌, ℕ, zero, suc, ◌+◌, ◌*◌, ◌-◌, ◌<◌, ◌≤◌, ◌^◌, ltb, eqb, List, [], ◌∷◌, ◌++◌, length, take, drop, get_or, Option, Some, None, Ok, Err, refl, sym, ap, subst, ◌∙◌, append_assoc, arith, length-append, length-drop, reverse, ◌⊎◌, inl, inr}
 use mathlib.Core.List.{head-eq_of_cons-eq}
-use Rattle.std.specs.Prelude.{codes, replicate, pos, MatchOption}
+use Rattle.std.specs.Prelude.{codes, replicate, MatchOption}
 use Rattle.std.specs.List.{AllByRecursion}
 use Rattle.std.specs.Str.{bytes_eq}
 use Rattle.std.specs.Int.{w64, to_le_bytes, from_le_bytes}

@@ -3,7 +3,7 @@ use Rattle.std.specs.Prelude.{ℕ, ℤ, Bool, not, ◌&&◌, nat_le, List, lengt
 use Rattle.uring_entry.specs.Layout.{Sqe}
 use Rattle.uring_entry.specs.Below.{least_below, all_below}
 use Rattle.uring_entry.specs.Requests as manual
-use Rattle.uring_entry.specs.Requests.{Requests, entry_of, is_outstanding, is_running, no_bytes, with_ended}
+use Rattle.uring_entry.specs.Requests.{Requests, entry_of, no_bytes, with_ended}
 use Rattle.uring_entry.specs.Success.{posts_completion}
 use Rattle.uring_entry.specs.Why as manual_why
 use Rattle.uring_entry.specs.declared.why.Why.{Why}

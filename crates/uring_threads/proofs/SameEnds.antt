@@ -73,16 +73,6 @@ opened_together files app kernel workers ports sizes same of =
 
 -- Who does something goes on to be of the same ends.
 
-pub app_stays : (old new : AppEnd) (kernel : Kernel) (workers : List Worker)
-    → new.pairing ≡ old.pairing → new.sizes ≡ old.sizes → AreTogether old kernel workers
-    → AreTogether new kernel workers
-app_stays old new kernel workers pairing sizes t = record {
-  ports = t.ports ∙ sym pairing;
-  sizes = t.sizes ∙ sym sizes;
-  lanes = t.lanes;
-  files = t.files;
-}
-
 pub kernel_stays : (app : AppEnd) (old new : Kernel) (workers : List Worker)
     → new.pairing ≡ old.pairing → new.sizes ≡ old.sizes
     → numbers_of_lanes new.lanes ≡ numbers_of_lanes old.lanes → new.kept.setup ≡ old.kept.setup

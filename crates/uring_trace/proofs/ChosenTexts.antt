@@ -9,7 +9,7 @@ use Rattle.uring_entry.specs.Why.{why_of, waiting_for, holder_of, doom_of}
 use Rattle.uring_linux.specs.LinuxRequests.{LinuxRequests}
 use Rattle.uring_rules.specs.Rules as rules
 use Rattle.uring_entry.specs.declared.why.Why.{Why}
-use Rattle.uring_entry.specs.declared.why.Why.TheVariants.{NeverAccepted, HasEnded, Runs, IsDoomed, Waits, MayStart}
+use Rattle.uring_entry.specs.declared.why.Why.TheVariants.{NeverAccepted, HasEnded, Runs, IsDoomed, MayStart}
 use Rattle.uring_entry.specs.declared.why.Doom.{Doom}
 use Rattle.uring_trace.specs.Chosen.{chose_text, is_open, spaced}
 

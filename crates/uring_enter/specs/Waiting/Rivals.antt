@@ -1,5 +1,5 @@
 -- Which polls have their events before an operation may take what they wait for. What Linux 6.18 was seen to do: in the moment in which something comes, whoever waits for it is told, polls too, and they keep that event though another takes what came.
-use Rattle.std.specs.Prelude.{◌≡◌, ℕ, Bool, true, false, not, ◌&&◌}
+use Rattle.std.specs.Prelude.{◌≡◌, Bool, true, false, not, ◌&&◌}
 use Rattle.uring_operations.specs.declared.entries.needs.Needs.{Needs}
 use Rattle.uring_operations.specs.declared.requests.ready.Standing.{Standing}
 use Rattle.uring_operations.specs.Entries.Clocks.{has_some}

@@ -1,6 +1,5 @@
 -- What an operation has of a registered buffer or of one that was provided, and what its completion says of it. io_uring_enter(2), IORING_OP_READ_FIXED, IOSQE_BUFFER_SELECT and IORING_CQE_F_BUFFER.
 use Rattle.std.specs.Prelude.{◌≡◌, ℕ, ℤ, pos, false, not, Option, Some, None, ◌+◌, ◌-◌, ◌*◌, ◌^◌, Bool, ◌&&◌, ◌||◌, ◌==◌, nat_le, int_lt, min, if◌then◌else◌}
-use Rattle.std.specs.Ordering.{int_eq}
 use Rattle.uring_entry.specs.Errors.{error}
 use Rattle.uring_register.specs.declared.buffers.group.Buffer.{Buffer}
 
