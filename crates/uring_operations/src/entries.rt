@@ -3,6 +3,7 @@
 pub mod buffer;
 pub mod fields;
 pub mod form;
+pub mod kind;
 pub mod name;
 pub mod named;
 pub mod needs;

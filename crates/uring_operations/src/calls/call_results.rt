@@ -6,9 +6,8 @@ ghost use Rattle.uring_operations.specs.Calls.CallResults.{ShuttingLosesNothing}
 
 use crate::calls::advance::moved_by;
 use crate::calls::waiting_call::is_asked;
-use crate::entries::needs::{
-    goes_on, is_read, is_read_multishot, is_receive, is_transfer, takes_errors,
-};
+use crate::entries::kind::{is_read, is_read_multishot, is_receive, is_transfer, takes_errors};
+use crate::entries::needs::goes_on;
 use crate::entries::no_op::signed;
 use crate::entries::submission::Submission;
 

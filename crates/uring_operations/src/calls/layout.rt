@@ -3,7 +3,7 @@
 ghost use Rattle.std.specs.Prelude.{◌≡◌};
 ghost use Rattle.uring_operations.specs.Calls.Layouts as spec;
 
-use crate::entries::needs::is_send;
+use crate::entries::kind::is_send;
 use crate::entries::submission::Submission;
 
 /// Where the parts of a message stand, in bytes from the beginning of its buffer.

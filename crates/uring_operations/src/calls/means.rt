@@ -12,7 +12,8 @@ use crate::calls::system_call::{
     SYNC_FILE_RANGE, SystemCall, TEE, UNLINKAT, word_of,
 };
 use crate::copies::piece::address_size;
-use crate::entries::needs::{advised_length, is_transfer};
+use crate::entries::kind::is_transfer;
+use crate::entries::needs::advised_length;
 use crate::entries::submission::Submission;
 
 /// A list of descriptors, whose files are put into slots.

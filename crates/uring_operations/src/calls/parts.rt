@@ -3,7 +3,7 @@
 ghost use Rattle.std.specs.Prelude.{◌≡◌};
 ghost use Rattle.uring_operations.specs.Calls.Parts as spec;
 
-use crate::entries::needs::is_send;
+use crate::entries::kind::is_send;
 use crate::entries::submission::Submission;
 use crate::requests::ready::has_message_flags;
 

@@ -3,7 +3,7 @@
 ghost use Rattle.std.specs.Prelude.{◌≡◌};
 ghost use Rattle.uring_operations.specs.Calls.Signals as spec;
 
-use crate::entries::needs::{is_splice, is_write};
+use crate::entries::kind::{is_splice, is_write};
 use crate::entries::submission::Submission;
 
 /// The number of the signal that is taken back after an operation which ended with this, SIGXFSZ (25) or SIGPIPE (13), or 0.

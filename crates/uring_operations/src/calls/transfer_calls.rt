@@ -5,7 +5,7 @@ ghost use Rattle.uring_operations.specs.Calls.TransferCalls as spec;
 
 use crate::calls::system_call::{PREAD64, PREADV2, PWRITEV2, SENDTO, SystemCall, word_of};
 use crate::calls::transfer::{How, Task, Transfer, offset_of};
-use crate::entries::needs::{is_read, is_write};
+use crate::entries::kind::{is_read, is_write};
 use crate::entries::submission::Submission;
 
 /// The vectors of a transfer, and the descriptor that they are moved from or to.

@@ -5,7 +5,8 @@ ghost use Rattle.uring_operations.specs.Calls.CallTries as spec;
 ghost use Rattle.uring_operations.specs.Calls.CallTries.{AcceptsWhatCame, EndsWithWhatCame, LosesNoBytes};
 
 use crate::calls::parts::is_alone;
-use crate::entries::needs::{goes_on, takes_errors};
+use crate::entries::kind::takes_errors;
+use crate::entries::needs::goes_on;
 use crate::entries::submission::Submission;
 use crate::requests::ready::has_message_flags;
 

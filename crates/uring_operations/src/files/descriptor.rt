@@ -4,7 +4,7 @@ ghost use Rattle.std.specs.Prelude.{◌≡◌};
 ghost use Rattle.uring_operations.specs.Files.Descriptors as spec;
 ghost use Rattle.uring_operations.specs.Files.Descriptors.{AsksOnce, AsksUnlessSaid, FindsTheKind};
 
-use crate::entries::needs::{is_of_sockets, is_read, is_splice, is_transfer};
+use crate::entries::kind::{is_of_sockets, is_read, is_splice, is_transfer};
 use crate::entries::submission::Submission;
 
 /// What a descriptor is.

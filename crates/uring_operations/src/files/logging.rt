@@ -4,7 +4,7 @@ ghost use Rattle.std.specs.Prelude.{◌≡◌};
 ghost use Rattle.uring_operations.specs.Files.Logging as spec;
 
 use crate::entries::form::Form;
-use crate::entries::needs::is_write;
+use crate::entries::kind::is_write;
 use crate::entries::submission::Submission;
 use crate::files::syncing::SyncedKind;
 

@@ -3,7 +3,7 @@
 ghost use Rattle.std.specs.Prelude.{◌≡◌};
 ghost use Rattle.uring_operations.specs.Files.Openness as spec;
 
-use crate::entries::needs::needs_file;
+use crate::entries::kind::needs_file;
 use crate::entries::no_op::{is_of_slot, wants_file};
 use crate::entries::submission::Submission;
 

@@ -3,7 +3,7 @@
 ghost use Rattle.std.specs.Prelude.{◌≡◌};
 ghost use Rattle.uring_operations.specs.Files.StartFaults as spec;
 
-use crate::entries::needs::{is_of_sockets, is_read, is_transfer, is_write, needs_file};
+use crate::entries::kind::{is_of_sockets, is_read, is_transfer, is_write, needs_file};
 use crate::entries::submission::Submission;
 use crate::files::descriptor::{Nature, has_no_place};
 use crate::requests::ready::polls_first;

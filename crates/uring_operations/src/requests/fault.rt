@@ -3,7 +3,7 @@
 ghost use Rattle.std.specs.Prelude.{◌≡◌};
 ghost use Rattle.uring_operations.specs.Requests.Faults as spec;
 
-use crate::entries::needs::{is_transfer, is_write};
+use crate::entries::kind::{is_transfer, is_write};
 
 /// A fault of a disk.
 #[derive(Clone, Copy, Drop)]

@@ -4,7 +4,7 @@ ghost use Rattle.std.specs.Prelude.{◌≡◌};
 ghost use Rattle.uring_operations.specs.Requests.Glances as spec;
 ghost use Rattle.uring_operations.specs.Requests.Glances.{AsksBreakingWhereItMatters};
 
-use crate::entries::needs::{is_send, is_write};
+use crate::entries::kind::{is_send, is_write};
 use crate::entries::submission::Submission;
 use crate::requests::ready::counts_as_ready;
 

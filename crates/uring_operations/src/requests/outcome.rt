@@ -4,7 +4,7 @@ ghost use Rattle.std.specs.Prelude.{◌≡◌};
 ghost use Rattle.uring_operations.specs.Requests.Outcomes.{cuts, forgives, is_forgiven, is_forgiving, is_success, is_whole, success_of_entry, wants_whole, looks_ahead, looks_for_running, looks_for_next, may_have_found, shown_of, sought_after, CancelsOne, LooksInTime};
 
 use crate::calls::parts::is_alone;
-use crate::entries::needs::{is_of_sockets, is_read_multishot, is_splice, is_transfer};
+use crate::entries::kind::{is_of_sockets, is_read_multishot, is_splice, is_transfer};
 use crate::entries::submission::Submission;
 use crate::entries::timeout::linked_outcome;
 

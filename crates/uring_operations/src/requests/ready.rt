@@ -7,10 +7,11 @@ ghost use Rattle.uring_operations.specs.Requests.Readiness as spec;
 ghost use Rattle.uring_operations.specs.Requests.Readiness.{FinishesWhatCan, LooksOnce, NeedsNoLook, PollsWhatMatters};
 
 use crate::calls::system_call::{SENDTO, SystemCall, word_of};
-use crate::entries::needs::{
-    Needs, is_of_sockets, is_read, is_receive, is_send, is_splice, is_transfer, is_write,
-    takes_errors, takes_urgent,
+use crate::entries::kind::{
+    is_of_sockets, is_read, is_receive, is_send, is_splice, is_transfer, is_write, takes_errors,
+    takes_urgent,
 };
+use crate::entries::needs::Needs;
 use crate::entries::submission::Submission;
 use crate::requests::course::Course;
 
