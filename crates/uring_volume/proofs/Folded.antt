@@ -3,7 +3,7 @@ use Rattle.std.proofs.Common.{◌≡◌, ◌==◌, ◌+◌, ◌<◌, ◌≤◌, 
 use Rattle.std.specs.Prelude.{Result, Ok, Err, Option, None, Some, IfSome, IfNone}
 use Rattle.std.specs.declared.alloc.AllocError.{AllocError}
 use Rattle.std.specs.List.{list_any, filter}
-use Rattle.std.proofs.lemmas.Bool.{cases_Bool, both_ways, false_from_ne_true, cond-true, cond-false, cond_both, or_cases, or_from, or_left, or_right, and_from, and_parts, eqb-true, eqb-false, eq-eqb, ne_eqb, not-true, not_from_false, lt-ltb, ltb-true, leb-true, le-leb}
+use Rattle.std.proofs.lemmas.Bool.{cases_Bool, both_ways, false_from_ne_true, cond-true, cond-false, cond_both, or_cases, or_parts, or_from, or_left, or_right, and_from, and_parts, eqb-true, eqb-false, eq-eqb, ne_eqb, not-true, not_from_false, lt-ltb, ltb-true, leb-true, le-leb}
 use Rattle.std.proofs.lemmas.List.{reverse-append, append-nil, append_assoc}
 use Rattle.std.proofs.lemmas.List.Elements.{filter-append}
 use Rattle.std.proofs.lemmas.List.Folds.{list_any-append}
@@ -84,82 +84,32 @@ can_fold_it h w f =
 
 filter_twice : (p : ℕ → Bool) (ns : List ℕ) → filter p (filter p ns) ≡ filter p ns
 filter_twice p [] = refl
-filter_twice p (n ∷ ns) = elim (cases_Bool (p n)) [
-  | inl is ↦
-      ap (filter p) (cond-true (p n) (n ∷ filter p ns) (filter p ns) is)
-      ∙ cond-true (p n) (n ∷ filter p (filter p ns)) (filter p (filter p ns)) is
-      ∙ ap (λ ms. n ∷ ms) (filter_twice p ns)
-      ∙ sym (cond-true (p n) (n ∷ filter p ns) (filter p ns) is)
-  | inr out ↦
-      ap (filter p) (cond-false (p n) (n ∷ filter p ns) (filter p ns) out)
-      ∙ filter_twice p ns
-      ∙ sym (cond-false (p n) (n ∷ filter p ns) (filter p ns) out)
-]
+filter_twice p (n ∷ ns) = elim (cases_Bool (p n)) [ inl is ↦ simp (is, filter_twice p ns) | inr out ↦ simp (out, filter_twice p ns) ]
 
 filter_swap : (p q : ℕ → Bool) (ns : List ℕ) → filter p (filter q ns) ≡ filter q (filter p ns)
 filter_swap p q [] = refl
 filter_swap p q (n ∷ ns) = elim (cases_Bool (p n)) [
-  | inl is ↦ elim (cases_Bool (q n)) [
-    | inl also ↦
-        ap (filter p) (cond-true (q n) (n ∷ filter q ns) (filter q ns) also)
-        ∙ cond-true (p n) (n ∷ filter p (filter q ns)) (filter p (filter q ns)) is
-        ∙ ap (λ ms. n ∷ ms) (filter_swap p q ns)
-        ∙ sym (cond-true (q n) (n ∷ filter q (filter p ns)) (filter q (filter p ns)) also)
-        ∙ sym (ap (filter q) (cond-true (p n) (n ∷ filter p ns) (filter p ns) is))
-    | inr other ↦
-        ap (filter p) (cond-false (q n) (n ∷ filter q ns) (filter q ns) other)
-        ∙ filter_swap p q ns
-        ∙ sym (cond-false (q n) (n ∷ filter q (filter p ns)) (filter q (filter p ns)) other)
-        ∙ sym (ap (filter q) (cond-true (p n) (n ∷ filter p ns) (filter p ns) is))
-  ]
-  | inr out ↦ elim (cases_Bool (q n)) [
-    | inl also ↦
-        ap (filter p) (cond-true (q n) (n ∷ filter q ns) (filter q ns) also)
-        ∙ cond-false (p n) (n ∷ filter p (filter q ns)) (filter p (filter q ns)) out
-        ∙ filter_swap p q ns
-        ∙ sym (ap (filter q) (cond-false (p n) (n ∷ filter p ns) (filter p ns) out))
-    | inr other ↦
-        ap (filter p) (cond-false (q n) (n ∷ filter q ns) (filter q ns) other)
-        ∙ filter_swap p q ns
-        ∙ sym (ap (filter q) (cond-false (p n) (n ∷ filter p ns) (filter p ns) out))
-  ]
+  | inl is ↦ elim (cases_Bool (q n)) [ inl also ↦ simp (is, also, filter_swap p q ns) | inr other ↦ simp (is, other, filter_swap p q ns) ]
+  | inr out ↦ elim (cases_Bool (q n)) [ inl also ↦ simp (out, also, filter_swap p q ns) | inr other ↦ simp (out, other, filter_swap p q ns) ]
 ]
 
 but_none : (n : ℕ) (ns : List ℕ) → is_one_of n ns ≡ false → but n ns ≡ ns
 but_none n [] none = refl
-but_none n (m ∷ ns) none = elim (cases_Bool (m == n)) [
-  | inl is ↦ absurd (both_ways (is_one_of n (m ∷ ns)) none (or_left (m == n) (is_one_of n ns) is))
-  | inr out ↦
-      cond-true (not (m == n)) (m ∷ but n ns) (but n ns) (ap not out)
-      ∙ ap (λ ms. m ∷ ms) (but_none n ns (false_from_ne_true (is_one_of n ns) (λ is. both_ways (is_one_of n (m ∷ ns)) none (or_right (m == n) (is_one_of n ns) is))))
-]
+but_none n (m ∷ ns) none =
+    let parts = or_parts (m == n) (is_one_of n ns) none in
+    simp (parts.0, but_none n ns parts.1)
 
 -- What runs.
 
 running_without : (n : ℕ) (h : History) → running_writes (without_write n h) ≡ but n (running_writes h)
 running_without n [] = refl
 running_without n (WriteIssued w ∷ earlier) = elim (cases_Bool (w.number == n)) [
-  | inl is ↦
-      ap running_writes (cond-false (not (w.number == n)) (WriteIssued w ∷ without_write n earlier) (without_write n earlier) (ap not is))
-      ∙ running_without n earlier
-      ∙ sym (filter-append (λ m. not (m == n)) (running_writes earlier) (w.number ∷ [])
-      ∙ ap (λ ms. but n (running_writes earlier) ++ ms) (cond-false (not (w.number == n)) (w.number ∷ []) [] (ap not is))
-      ∙ append-nil (but n (running_writes earlier)))
-  | inr out ↦
-      ap running_writes (cond-true (not (w.number == n)) (WriteIssued w ∷ without_write n earlier) (without_write n earlier) (ap not out))
-      ∙ ap (λ ms. ms ++ w.number ∷ []) (running_without n earlier)
-      ∙ sym (filter-append (λ m. not (m == n)) (running_writes earlier) (w.number ∷ [])
-      ∙ ap (λ ms. but n (running_writes earlier) ++ ms) (cond-true (not (w.number == n)) (w.number ∷ []) [] (ap not out)))
+  | inl is ↦ simp (is, filter-append, append-nil, running_without n earlier)
+  | inr out ↦ simp (out, filter-append, running_without n earlier)
 ]
 running_without n (WriteEnded k ∷ earlier) = elim (cases_Bool (k == n)) [
-  | inl is ↦
-      ap running_writes (cond-false (not (k == n)) (WriteEnded k ∷ without_write n earlier) (without_write n earlier) (ap not is))
-      ∙ running_without n earlier
-      ∙ sym (ap (λ m. but n (but m (running_writes earlier))) (eqb-true k n is) ∙ filter_twice (λ m. not (m == n)) (running_writes earlier))
-  | inr out ↦
-      ap running_writes (cond-true (not (k == n)) (WriteEnded k ∷ without_write n earlier) (without_write n earlier) (ap not out))
-      ∙ ap (but k) (running_without n earlier)
-      ∙ filter_swap (λ m. not (m == k)) (λ m. not (m == n)) (running_writes earlier)
+  | inl is ↦ simp (is, running_without n earlier) (sym (ap (λ m. but n (but m (running_writes earlier))) (eqb-true k n is) ∙ filter_twice (λ m. not (m == n)) (running_writes earlier)))
+  | inr out ↦ simp (out, running_without n earlier) (filter_swap (λ m. not (m == k)) (λ m. not (m == n)) (running_writes earlier))
 ]
 running_without n (SyncIssued s range ∷ earlier) = running_without n earlier
 running_without n (SyncEnded s ∷ earlier) = running_without n earlier
@@ -177,10 +127,7 @@ syncs_without n (SyncFailed s ∷ earlier) = ap (but s) (syncs_without n earlier
 
 out_of_but : (n : ℕ) (ns : List ℕ) → is_one_of n (but n ns) ≡ false
 out_of_but n [] = refl
-out_of_but n (m ∷ ns) = elim (cases_Bool (m == n)) [
-  | inl is ↦ ap (is_one_of n) (cond-false (not (m == n)) (m ∷ but n ns) (but n ns) (ap not is)) ∙ out_of_but n ns
-  | inr out ↦ ap (is_one_of n) (cond-true (not (m == n)) (m ∷ but n ns) (but n ns) (ap not out)) ∙ ap (λ b. b || is_one_of n (but n ns)) out ∙ out_of_but n ns
-]
+out_of_but n (m ∷ ns) = elim (cases_Bool (m == n)) [ inl is ↦ simp (is, out_of_but n ns) | inr out ↦ simp (out, out_of_but n ns) ]
 
 -- what runs hasn't ended
 runs_still : (h : History) (n : ℕ) → IsLawful h → is_one_of n (running_writes h) ≡ true
@@ -368,20 +315,8 @@ folded_more old mid new l a b = record {
 pub reverse_filter : (p : Event → Bool) (es : List Event) → reverse (filter p es) ≡ filter p (reverse es)
 reverse_filter p [] = refl
 reverse_filter p (e ∷ es) = elim (cases_Bool (p e)) [
-  | inl is ↦
-      ap reverse (cond-true (p e) (e ∷ filter p es) (filter p es) is)
-      ∙ reverse-append (e ∷ []) (filter p es)
-      ∙ ap (λ gs. gs ++ e ∷ []) (reverse_filter p es)
-      ∙ sym (ap (filter p) (reverse-append (e ∷ []) es)
-      ∙ filter-append p (reverse es) (e ∷ [])
-      ∙ ap (λ gs. filter p (reverse es) ++ gs) (cond-true (p e) (e ∷ []) [] is))
-  | inr out ↦
-      ap reverse (cond-false (p e) (e ∷ filter p es) (filter p es) out)
-      ∙ reverse_filter p es
-      ∙ sym (ap (filter p) (reverse-append (e ∷ []) es)
-      ∙ filter-append p (reverse es) (e ∷ [])
-      ∙ ap (λ gs. filter p (reverse es) ++ gs) (cond-false (p e) (e ∷ []) [] out)
-      ∙ append-nil (filter p (reverse es)))
+  | inl is ↦ simp (is, reverse-append (e ∷ []), filter-append, reverse_filter p es)
+  | inr out ↦ simp (out, reverse-append (e ∷ []), filter-append, append-nil, reverse_filter p es)
 ]
 
 issued_after : (xs ys : History) → issued (xs ++ ys) ≡ issued ys ++ issued xs

@@ -127,16 +127,7 @@ same_later n (e ∷ later) h = same_cons n e (later ++ h) (later ++ without_writ
 pub writes_without : (n : ℕ) (h : History) → writes (without_write n h) ≡ filter (lacks n) (writes h)
 writes_without n [] = refl
 writes_without n (WriteIssued w ∷ earlier) =
-    elim (cases_Bool (w.number == n)) [
-      | inl is ↦
-          ap writes (cond-false (not (w.number == n)) (WriteIssued w ∷ without_write n earlier) (without_write n earlier) (ap not is))
-          ∙ writes_without n earlier
-          ∙ sym (cond-false (not (w.number == n)) (w ∷ filter (lacks n) (writes earlier)) (filter (lacks n) (writes earlier)) (ap not is))
-      | inr out ↦
-          ap writes (cond-true (not (w.number == n)) (WriteIssued w ∷ without_write n earlier) (without_write n earlier) (ap not out))
-          ∙ ap (λ ws. w ∷ ws) (writes_without n earlier)
-          ∙ sym (cond-true (not (w.number == n)) (w ∷ filter (lacks n) (writes earlier)) (filter (lacks n) (writes earlier)) (ap not out))
-    ]
+    elim (cases_Bool (w.number == n)) [ inl is ↦ simp (is, writes_without n earlier) | inr out ↦ simp (out, writes_without n earlier) ]
 writes_without n (WriteEnded k ∷ earlier) =
     cond_both (not (k == n)) (WriteEnded k ∷ without_write n earlier) (without_write n earlier) (λ g. writes g ≡ filter (lacks n) (writes earlier)) (λ _. writes_without n earlier) (λ _. writes_without n earlier)
 writes_without n (SyncIssued s range ∷ earlier) = writes_without n earlier
