@@ -1,5 +1,5 @@
 -- A write that is folded into the first bytes changes no image: it lies under all others in each list that may be left.
-use Rattle.std.proofs.Common.{◌≡◌, ◌==◌, ◌-◌, ◌≤◌, ◌<◌, ℕ, max, Bool, true, false, not, ◌&&◌, ◌||◌, List, [], ◌∷◌, ◌++◌, length, refl, sym, subst, ap, ◌∙◌, inl, inr, arith}
+use Rattle.std.proofs.Common.{◌≡◌, ◌==◌, ◌-◌, ◌≤◌, ◌<◌, ℕ, max, Bool, true, false, not, ◌&&◌, ◌||◌, List, [], ◌∷◌, ◌++◌, length, refl, sym, subst, ap, ◌∙◌, inl, inr, arith, rules}
 use Rattle.std.specs.Prelude.{slice_index}
 use Rattle.std.specs.List.{filter}
 use Rattle.std.proofs.lemmas.Bool.{cases_Bool, both_ways, false_from_ne_true, cond-true, cond-false, cond_both, or_cases, or_left, or_right, and_from, and_parts, eqb-true, eqb-false, eq-eqb, ne_eqb, not-true, not_from_false}
@@ -26,94 +26,48 @@ pub record SameBut (n : ℕ) (g h : History) : Type 0 where
   pub safe : (x : Write) → (x.number ≡ n → ⊥) → is_safe h x ≡ is_safe g x
 
 same_cons : (n : ℕ) (e : Event) (g h : History) → SameBut n g h → SameBut n (e ∷ g) (e ∷ h)
-same_cons n (WriteIssued w) g h same = record {
-  ended = same.ended;
-  before = λ a b na nb. ap (λ x. w.number == b && x || is_before h a b) (same.ended a na) ∙ ap (λ x. w.number == b && has_ended g a || x) (same.before a b na nb);
-  covered = same.covered;
-  reached = same.reached;
-  given_up = same.given_up;
-  safe = same.safe;
-}
-same_cons n (WriteEnded k) g h same = record {
-  ended = λ m nm. ap (λ x. k == m || x) (same.ended m nm);
-  before = same.before;
-  covered = same.covered;
-  reached = same.reached;
-  given_up = same.given_up;
-  safe = same.safe;
-}
-same_cons n (SyncIssued t range) g h same = record {
-  ended = same.ended;
-  before = same.before;
-  covered = λ s x nx. ap (λ b. t == s && b && lies_in range x || is_covered h s x) (same.ended x.number nx) ∙ ap (λ b. t == s && has_ended g x.number && lies_in range x || b) (same.covered s x nx);
-  reached = λ s x nx. ap (λ b. t == s && b && meets range x || is_reached h s x) (same.ended x.number nx) ∙ ap (λ b. t == s && has_ended g x.number && meets range x || b) (same.reached s x nx);
-  given_up = same.given_up;
-  safe = same.safe;
-}
-same_cons n (SyncEnded s) g h same = record {
-  ended = same.ended;
-  before = same.before;
-  covered = same.covered;
-  reached = same.reached;
-  given_up = same.given_up;
-  safe = λ x nx.
-      ap (λ b. b && not (is_given_up h x) || is_safe h x) (same.covered s x nx)
-      ∙ ap (λ b. is_covered g s x && not b || is_safe h x) (same.given_up x nx)
-      ∙ ap (λ b. is_covered g s x && not (is_given_up g x) || b) (same.safe x nx);
-}
-same_cons n (SyncFailed s) g h same = record {
-  ended = same.ended;
-  before = same.before;
-  covered = same.covered;
-  reached = same.reached;
-  given_up = λ x nx. ap (λ b. b || is_given_up h x) (same.reached s x nx) ∙ ap (λ b. is_reached g s x || b) (same.given_up x nx);
-  safe = same.safe;
-}
+same_cons n (WriteIssued w) g h same =
+    let before : (a b : ℕ) → (a ≡ n → ⊥) → (b ≡ n → ⊥) → is_before (WriteIssued w ∷ h) a b ≡ is_before (WriteIssued w ∷ g) a b = λ a b na nb. cc (same.ended a na, same.before a b na nb) in
+    assumption
+same_cons n (WriteEnded k) g h same =
+    let ended : (m : ℕ) → (m ≡ n → ⊥) → has_ended (WriteEnded k ∷ h) m ≡ has_ended (WriteEnded k ∷ g) m = λ m nm. cc (same.ended m nm) in
+    assumption
+same_cons n (SyncIssued t range) g h same =
+    let covered : (s : ℕ) (x : Write) → (x.number ≡ n → ⊥) → is_covered (SyncIssued t range ∷ h) s x ≡ is_covered (SyncIssued t range ∷ g) s x = λ s x nx. cc (same.ended x.number nx, same.covered s x nx) in
+    let reached : (s : ℕ) (x : Write) → (x.number ≡ n → ⊥) → is_reached (SyncIssued t range ∷ h) s x ≡ is_reached (SyncIssued t range ∷ g) s x = λ s x nx. cc (same.ended x.number nx, same.reached s x nx) in
+    assumption
+same_cons n (SyncEnded s) g h same =
+    let safe : (x : Write) → (x.number ≡ n → ⊥) → is_safe (SyncEnded s ∷ h) x ≡ is_safe (SyncEnded s ∷ g) x = λ x nx. cc (same.covered s x nx, same.given_up x nx, same.safe x nx) in
+    assumption
+same_cons n (SyncFailed s) g h same =
+    let given_up : (x : Write) → (x.number ≡ n → ⊥) → is_given_up (SyncFailed s ∷ h) x ≡ is_given_up (SyncFailed s ∷ g) x = λ x nx. cc (same.reached s x nx, same.given_up x nx) in
+    assumption
 
 -- the write's own events say nothing of others
 skip_issue : (n : ℕ) (w : Write) (g h : History) → (w.number ≡ n) → SameBut n g h
     → SameBut n (WriteIssued w ∷ g) h
-skip_issue n w g h is same = record {
-  ended = same.ended;
-  before = λ a b na nb. same.before a b na nb ∙ sym (ap (λ x. x && has_ended g a || is_before g a b) (ne_eqb w.number b (λ e. nb (sym e ∙ is))));
-  covered = same.covered;
-  reached = same.reached;
-  given_up = same.given_up;
-  safe = same.safe;
-}
+skip_issue n w g h is same =
+    let before : (a b : ℕ) → (a ≡ n → ⊥) → (b ≡ n → ⊥) → is_before h a b ≡ is_before (WriteIssued w ∷ g) a b = λ a b na nb. same.before a b na nb ∙ sym (ap (λ x. x && has_ended g a || is_before g a b) (ne_eqb w.number b (λ e. nb (sym e ∙ is)))) in
+    assumption
 
 skip_end : (n k : ℕ) (g h : History) → k ≡ n → SameBut n g h → SameBut n (WriteEnded k ∷ g) h
-skip_end n k g h is same = record {
-  ended = λ m nm. same.ended m nm ∙ sym (ap (λ x. x || has_ended g m) (ne_eqb k m (λ e. nm (sym e ∙ is))));
-  before = same.before;
-  covered = same.covered;
-  reached = same.reached;
-  given_up = same.given_up;
-  safe = same.safe;
-}
+skip_end n k g h is same =
+    let ended : (m : ℕ) → (m ≡ n → ⊥) → has_ended h m ≡ has_ended (WriteEnded k ∷ g) m = λ m nm. same.ended m nm ∙ sym (ap (λ x. x || has_ended g m) (ne_eqb k m (λ e. nm (sym e ∙ is)))) in
+    assumption
 
 same_nil : (n : ℕ) → SameBut n [] []
-same_nil n = record {
-  ended = λ m nm. refl;
-  before = λ a b na nb. refl;
-  covered = λ s x nx. refl;
-  reached = λ s x nx. refl;
-  given_up = λ x nx. refl;
-  safe = λ x nx. refl;
-}
+same_nil n = search rules
 
 same_without : (n : ℕ) (h : History) → SameBut n h (without_write n h)
 same_without n [] = same_nil n
-same_without n (WriteIssued w ∷ earlier) =
-    elim (cases_Bool (w.number == n)) [
-      | inl is ↦ subst (λ g. SameBut n (WriteIssued w ∷ earlier) g) (sym (cond-false (not (w.number == n)) (WriteIssued w ∷ without_write n earlier) (without_write n earlier) (ap not is))) (skip_issue n w earlier (without_write n earlier) (eqb-true w.number n is) (same_without n earlier))
-      | inr out ↦ subst (λ g. SameBut n (WriteIssued w ∷ earlier) g) (sym (cond-true (not (w.number == n)) (WriteIssued w ∷ without_write n earlier) (without_write n earlier) (ap not out))) (same_cons n (WriteIssued w) earlier (without_write n earlier) (same_without n earlier))
-    ]
-same_without n (WriteEnded k ∷ earlier) =
-    elim (cases_Bool (k == n)) [
-      | inl is ↦ subst (λ g. SameBut n (WriteEnded k ∷ earlier) g) (sym (cond-false (not (k == n)) (WriteEnded k ∷ without_write n earlier) (without_write n earlier) (ap not is))) (skip_end n k earlier (without_write n earlier) (eqb-true k n is) (same_without n earlier))
-      | inr out ↦ subst (λ g. SameBut n (WriteEnded k ∷ earlier) g) (sym (cond-true (not (k == n)) (WriteEnded k ∷ without_write n earlier) (without_write n earlier) (ap not out))) (same_cons n (WriteEnded k) earlier (without_write n earlier) (same_without n earlier))
-    ]
+same_without n (WriteIssued w ∷ earlier) = elim (cases_Bool (w.number == n)) [
+  | inl is ↦ simp is (skip_issue n w earlier (without_write n earlier) (eqb-true w.number n is) (same_without n earlier))
+  | inr out ↦ simp out (same_cons n (WriteIssued w) earlier (without_write n earlier) (same_without n earlier))
+]
+same_without n (WriteEnded k ∷ earlier) = elim (cases_Bool (k == n)) [
+  | inl is ↦ simp is (skip_end n k earlier (without_write n earlier) (eqb-true k n is) (same_without n earlier))
+  | inr out ↦ simp out (same_cons n (WriteEnded k) earlier (without_write n earlier) (same_without n earlier))
+]
 same_without n (SyncIssued s range ∷ earlier) = same_cons n (SyncIssued s range) earlier (without_write n earlier) (same_without n earlier)
 same_without n (SyncEnded s ∷ earlier) = same_cons n (SyncEnded s) earlier (without_write n earlier) (same_without n earlier)
 same_without n (SyncFailed s ∷ earlier) = same_cons n (SyncFailed s) earlier (without_write n earlier) (same_without n earlier)
@@ -171,10 +125,10 @@ but_later (WriteIssued v ∷ later) h w l among =
         | inr rest ↦ inr (more.into x rest other)
       ];
     }
-but_later (WriteEnded k ∷ later) h w l among = let more = but_later later h w l among in record { of = more.of; into = more.into }
-but_later (SyncIssued k range ∷ later) h w l among = let more = but_later later h w l among in record { of = more.of; into = more.into }
-but_later (SyncEnded k ∷ later) h w l among = let more = but_later later h w l among in record { of = more.of; into = more.into }
-but_later (SyncFailed k ∷ later) h w l among = let more = but_later later h w l among in record { of = more.of; into = more.into }
+but_later (WriteEnded k ∷ later) h w l among = assumption (but_later later h w l among)
+but_later (SyncIssued k range ∷ later) h w l among = assumption (but_later later h w l among)
+but_later (SyncEnded k ∷ later) h w l among = assumption (but_later later h w l among)
+but_later (SyncFailed k ∷ later) h w l among = assumption (but_later later h w l among)
 
 -- It can still be folded later.
 
@@ -224,15 +178,15 @@ pub still_foldable : (later h : History) (w : Write) → IsLawful (later ++ h) �
     → IsFoldable (later ++ h) w
 still_foldable [] h w l f = f
 still_foldable (WriteIssued v ∷ later) h w l f = still_issue v (later ++ h) w l (still_foldable later h w l.2 f)
-still_foldable (WriteEnded k ∷ later) h w l f = let g = still_foldable later h w l f in record { issued = g.issued; safe = g.safe; oldest = g.oldest; lowest = g.lowest }
-still_foldable (SyncIssued k range ∷ later) h w l f = let g = still_foldable later h w l f in record { issued = g.issued; safe = g.safe; oldest = g.oldest; lowest = g.lowest }
+still_foldable (WriteEnded k ∷ later) h w l f = assumption (still_foldable later h w l f)
+still_foldable (SyncIssued k range ∷ later) h w l f = assumption (still_foldable later h w l f)
 still_foldable (SyncEnded k ∷ later) h w l f = let g = still_foldable later h w l f in record {
   issued = g.issued;
   safe = or_right (is_covered (later ++ h) k w && not (is_given_up (later ++ h) w)) (is_safe (later ++ h) w) g.safe;
   oldest = g.oldest;
   lowest = g.lowest;
 }
-still_foldable (SyncFailed k ∷ later) h w l f = let g = still_foldable later h w l f in record { issued = g.issued; safe = g.safe; oldest = g.oldest; lowest = g.lowest }
+still_foldable (SyncFailed k ∷ later) h w l f = assumption (still_foldable later h w l f)
 
 -- A history without a write that can be folded.
 record IsWithout (g h : History) (w : Write) : Type 0 where
