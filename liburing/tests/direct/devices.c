@@ -21,13 +21,6 @@ static bool are_none(void)
     return word && strcmp(word, "no") == 0;
 }
 
-static int32_t read_at(struct ring *ring, int fd, void *bytes, unsigned length, uint64_t offset)
-{
-    put_transfer(ring, IORING_OP_READ, 0, 0, fd, bytes, length, offset);
-    check(enter(ring, 1, 0, 0) == 1);
-    return wait_for_one(ring);
-}
-
 /* A ring, and the number of a file in memory of a page, which was read by it often enough that it is known as one. */
 static int begin(struct ring *ring)
 {
