@@ -9,17 +9,33 @@
 
 #include <sys/uio.h>
 
+static void provide(struct ring *ring, void *at, int count, uint64_t id)
+{
+    struct io_uring_sqe *provide = put_plain(ring, IORING_OP_PROVIDE_BUFFERS, 0, count);
+    provide->addr = (uintptr_t)at;
+    provide->len = 16;
+    provide->off = id;
+    check(result_of_one(ring, 1) == 0);
+}
+
+static void submit_receive_as(struct ring *ring, int fd, uint16_t how)
+{
+    struct io_uring_sqe *entry = put(ring, IORING_OP_RECV, 1, IOSQE_BUFFER_SELECT);
+    entry->fd = fd;
+    entry->ioprio = how;
+    check(enter(ring, 1, 0, 0) == 1);
+}
+
+static void submit_receive(struct ring *ring, int fd, bool is_multishot)
+{
+    submit_receive_as(ring, fd, is_multishot ? IORING_RECV_MULTISHOT : 0);
+}
+
 /* The last completion of one that is cancelled has no buffer. */
 static void want_cancelled(struct ring *ring, const int *ends, void *memory)
 {
-    struct io_uring_sqe *provide = put_plain(ring, IORING_OP_PROVIDE_BUFFERS, 0, 1);
-    provide->addr = (uintptr_t)memory;
-    provide->len = 16;
-    check(result_of_one(ring, 1) == 0);
-    struct io_uring_sqe *entry = put(ring, IORING_OP_RECV, 1, IOSQE_BUFFER_SELECT);
-    entry->fd = ends[0];
-    entry->ioprio = IORING_RECV_MULTISHOT;
-    check(enter(ring, 1, 0, 0) == 1);
+    provide(ring, memory, 1, 0);
+    submit_receive(ring, ends[0], true);
     check(next_of(ring).flags == (IORING_CQE_F_MORE | IORING_CQE_F_BUFFER));
     put(ring, IORING_OP_ASYNC_CANCEL, 2, IOSQE_CQE_SKIP_SUCCESS)->addr = 1;
     check(enter(ring, 1, 0, 0) == 1);
@@ -35,14 +51,8 @@ static void test_multishot_receive(void)
     int ends[2];
     make_pair(ends);
     make_ring(&ring, 8, 0, 0);
-    struct io_uring_sqe *provide = put_plain(&ring, IORING_OP_PROVIDE_BUFFERS, 0, 2);
-    provide->addr = (uintptr_t)memory;
-    provide->len = 16;
-    check(result_of_one(&ring, 1) == 0);
-    struct io_uring_sqe *entry = put(&ring, IORING_OP_RECV, 1, IOSQE_BUFFER_SELECT);
-    entry->fd = ends[0];
-    entry->ioprio = IORING_RECV_MULTISHOT;
-    check(enter(&ring, 1, 0, 0) == 1);
+    provide(&ring, memory, 2, 0);
+    submit_receive(&ring, ends[0], true);
     for (uint32_t i = 0; i < 2; i++) {
         check(enter_for(&ring, 1, 1000) == -ETIME);
         check(send(ends[1], "piece", 5, 0) == 5);
@@ -65,10 +75,8 @@ static void test_multishot_length(void)
     int ends[2];
     make_pair(ends);
     make_ring(&ring, 8, 0, 0);
-    struct io_uring_sqe *provide = put_plain(&ring, IORING_OP_PROVIDE_BUFFERS, 0, 3);
-    provide->addr = (uintptr_t)memory;
-    provide->len = 16;
-    check(result_of_one(&ring, 1) == 0 && send(ends[1], "two pieces", 10, 0) == 10);
+    provide(&ring, memory, 3, 0);
+    check(send(ends[1], "two pieces", 10, 0) == 10);
     struct io_uring_sqe *entry = put(&ring, IORING_OP_RECV, 1, IOSQE_BUFFER_SELECT);
     entry->fd = ends[0];
     entry->len = 4;
@@ -78,28 +86,6 @@ static void test_multishot_length(void)
         check(next_of(&ring).res == (i < 2 ? 4 : 2));
     close_pair(ends);
     close_ring(&ring);
-}
-
-static void provide_one(struct ring *ring, char *at, uint64_t id)
-{
-    struct io_uring_sqe *provide = put_plain(ring, IORING_OP_PROVIDE_BUFFERS, 0, 1);
-    provide->addr = (uintptr_t)at;
-    provide->len = 16;
-    provide->off = id;
-    check(result_of_one(ring, 1) == 0);
-}
-
-static void submit_receive_as(struct ring *ring, int fd, uint16_t how)
-{
-    struct io_uring_sqe *entry = put(ring, IORING_OP_RECV, 1, IOSQE_BUFFER_SELECT);
-    entry->fd = fd;
-    entry->ioprio = how;
-    check(enter(ring, 1, 0, 0) == 1);
-}
-
-static void submit_receive(struct ring *ring, int fd, bool is_multishot)
-{
-    submit_receive_as(ring, fd, is_multishot ? IORING_RECV_MULTISHOT : 0);
 }
 
 /* A receive that finds no buffer when it starts ends so. One that has found one waits for its socket, and takes what its group has then: as
@@ -114,18 +100,18 @@ static void test_buffers_that_go(void)
         make_ring(&ring, 8, 0, 0);
         submit_receive(&ring, ends[0], is_multishot);
         check(wait_for_one(&ring) == -ENOBUFS);
-        provide_one(&ring, memory[0], 0);
+        provide(&ring, memory[0], 1, 0);
         submit_receive(&ring, ends[0], is_multishot);
         check(enter_for(&ring, 1, 1000) == -ETIME);
         put_plain(&ring, IORING_OP_REMOVE_BUFFERS, 0, 1);
         check(result_of_one(&ring, 1) == 1);
         check(enter_for(&ring, 1, 1000) == -ETIME);
-        provide_one(&ring, memory[1], 3);
+        provide(&ring, memory[1], 1, 3);
         check(send(ends[1], "piece", 5, 0) == 5);
         struct seen found = next_of(&ring);
         check(found.res == 5 && (found.flags & ~(uint32_t)IORING_CQE_F_MORE) == (IORING_CQE_F_BUFFER | 3 << IORING_CQE_BUFFER_SHIFT));
         check(memcmp(memory[1], "piece", 5) == 0);
-        provide_one(&ring, memory[0], 0);
+        provide(&ring, memory[0], 1, 0);
         if (!is_multishot)
             submit_receive(&ring, ends[0], false);
         check(enter_for(&ring, 1, 1000) == -ETIME);
@@ -150,7 +136,7 @@ static void test_polled_first(void)
         make_ring(&ring, 8, 0, 0);
         submit_receive_as(&ring, ends[0], IORING_RECVSEND_POLL_FIRST | (is_multishot ? IORING_RECV_MULTISHOT : 0));
         check(enter_for(&ring, 1, 1000) == -ETIME);
-        provide_one(&ring, memory, 3);
+        provide(&ring, memory, 1, 3);
         check(enter_for(&ring, 1, 1000) == -ETIME);
         check(send(ends[1], "piece", 5, 0) == 5);
         struct seen found = next_of(&ring);
@@ -213,7 +199,7 @@ static void test_no_room_in_front(void)
     make_pair(ends);
     check(pipe(pipes) == 0 && send(ends[1], "piece", 5, 0) == 5);
     make_ring(&ring, 8, 0, 0);
-    provide_one(&ring, memory, 0);
+    provide(&ring, memory, 1, 0);
     for (int i = 0; i < 2; i++) {
         struct io_uring_sqe *entry = put_transfer(&ring, IORING_OP_RECVMSG, 0, IOSQE_BUFFER_SELECT, i == 0 ? pipes[0] : ends[0], &message, 1, 0);
         entry->ioprio = IORING_RECV_MULTISHOT;
