@@ -71,7 +71,7 @@ static void test_pipe(void)
 static void test_socket(void)
 {
     int ends[2];
-    check(socketpair(AF_UNIX, SOCK_STREAM, 0, ends) == 0);
+    make_pair(ends);
     wait_for_stream(ends, 0, 1);
 }
 
@@ -107,7 +107,7 @@ static void test_offset(void)
     struct ring ring;
     char byte;
     int ends[2], number = begin(&ring);
-    check(socketpair(AF_UNIX, SOCK_STREAM, 0, ends) == 0);
+    make_pair(ends);
     become(number, ends[0]);
     check(read_at(&ring, number, &byte, 1, 7) == -ESPIPE);
     check(write(ends[1], "x", 1) == 1 && read_at(&ring, number, &byte, 1, 0) == 1 && byte == 'x');

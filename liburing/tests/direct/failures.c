@@ -66,7 +66,7 @@ static void test_shut_down(void)
 {
     int pair[2];
     begin(0);
-    check(socketpair(AF_UNIX, SOCK_STREAM, 0, pair) == 0);
+    make_pair(pair);
     put_plain(&ring, IORING_OP_POLL_ADD, 0, pair[0])->poll32_events = POLLPRI;
     submit(1);
     expect(0, NULL);
@@ -125,7 +125,7 @@ static void test_unbuffered(void)
 {
     int pair[2];
     begin(0);
-    check(socketpair(AF_UNIX, SOCK_STREAM, 0, pair) == 0);
+    make_pair(pair);
     for (int is_fixed = 0; is_fixed < 2; is_fixed++) {
         uint8_t code = is_fixed ? IORING_OP_READ_FIXED : IORING_OP_READ, flags = is_fixed ? 0 : IOSQE_BUFFER_SELECT;
         int32_t missing = is_fixed ? -EFAULT : -ENOBUFS;

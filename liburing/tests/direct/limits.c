@@ -1,5 +1,5 @@
-/* Tests by direct calls of what a process may not exceed: a write past the longest file, a pipe that nobody reads, a trace past its limit, the smallest stack. Neither the
- * layer's own writes nor a request's bring a signal that the kernel's don't. All hold under every policy.
+/* Tests by direct calls of what would end a process by a signal, or leaves it little room: a write past the longest file, a pipe that nobody reads, a trace past its limit, the
+ * smallest stack. All hold under every policy.
  *
  *   limits [NAME]            with a name: that test alone
  */

@@ -1,5 +1,5 @@
-/* The rules of timeouts in which Linux differs from the manual pages, under each profile, which WULGACH_PROFILE says: what a linked one posts, who finds it, and what
- * one with a count counts. All hold under every policy; and Linux's on a real ring, if the kernel gives one and it is built for that.
+/* The rules of timeouts in which Linux differs from the manual pages, under each profile, which WULGACH_PROFILE says: what a linked one posts and who finds it, and what one
+ * with a count counts. All hold under every policy; and Linux's on a real ring, if the kernel gives one and it is built for that.
  */
 #define _GNU_SOURCE
 #include "profile.h"

@@ -127,7 +127,7 @@ static void test_shut_writing(void)
     make_ring(&ring, 8, 0, 0);
     signal(SIGPIPE, SIG_IGN);
     for (int is_peer = 0; is_peer < 2; is_peer++) {
-        check(socketpair(AF_UNIX, SOCK_STREAM, 0, ends) == 0);
+        make_pair(ends);
         while (send(ends[0], "full", 4, MSG_DONTWAIT) == 4)
             ;
         put_transfer(&ring, IORING_OP_SEND, 0, 0, ends[0], "four", 4, 0);
@@ -158,7 +158,7 @@ static void test_shut_asleep(void)
     pthread_t other;
     int ends[2];
     make_ring(&ring, 8, 0, 0);
-    check(socketpair(AF_UNIX, SOCK_STREAM, 0, ends) == 0);
+    make_pair(ends);
     while (send(ends[0], "full", 4, MSG_DONTWAIT) == 4)
         ;
     put_transfer(&ring, IORING_OP_SEND, 0, 0, ends[0], "four", 4, 0)->msg_flags = MSG_NOSIGNAL;

@@ -142,7 +142,7 @@ static void test_empty_writes(void)
         ;
     check(wait_for_one(&ring) == 0);
     close_pair(ends);
-    check(socketpair(AF_UNIX, SOCK_STREAM, 0, ends) == 0);
+    make_pair(ends);
     put_transfer(&ring, IORING_OP_WRITE, 0, 0, ends[0], text, 0, 0);
     check(result_of_one(&ring, 1) == 0 && recv(ends[1], text, 8, MSG_DONTWAIT) == -1);
     close(ends[1]);

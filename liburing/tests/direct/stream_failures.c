@@ -1,5 +1,5 @@
-/* How reads and writes end by Linux's rules that fail before anything is waited for, or wait though they needn't elsewhere: by an offset, flags or a length that their file doesn't take, and
- * of what tells of signals and messages. All hold under each profile, which WULGACH_PROFILE says, and under every policy; and on a real ring, if the kernel gives one and it is built for that.
+/* How reads and writes end by Linux's rules whose offset, flags or length their file doesn't take, and reads of signals and of a queue of messages, under each profile, which
+ * WULGACH_PROFILE says. All hold under every policy; and Linux's on a real ring, if the kernel gives one and it is built for that.
  */
 #define _GNU_SOURCE
 #include "profile.h"
@@ -43,7 +43,7 @@ static void test_offsets_of_streams(void)
     static const uint64_t bad[] = {(uint64_t)-2, (uint64_t)1 << 63, ((uint64_t)1 << 63) - 4}, odd[] = {1, ((uint64_t)1 << 63) - 5}, none[] = {0, (uint64_t)-1};
     int pair[2];
     begin(0);
-    check(socketpair(AF_UNIX, SOCK_STREAM, 0, pair) == 0);
+    make_pair(pair);
     for (int i = 0; i < 3; i++) {
         expect_at(IORING_OP_READ, 0, ends[0], bad[i], -EINVAL);
         expect_at(IORING_OP_WRITE, 0, ends[1], bad[i], -EINVAL);
@@ -105,7 +105,7 @@ static void test_flags_of_streams(void)
     } bad[] = {{0x1000, -EOPNOTSUPP}, {0x40, -EOPNOTSUPP}, {0x30, -EINVAL}, {0x70, -EINVAL}, {RWF_HIPRI, -EINVAL}};
     int pair[2];
     begin(0);
-    check(socketpair(AF_UNIX, SOCK_STREAM, 0, pair) == 0);
+    make_pair(pair);
     for (int i = 0; i < 5; i++)
         for (int at = 0; at < 2; at++) {
             uint64_t offset = at ? 5 : (uint64_t)-1;
