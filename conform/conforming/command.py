@@ -1,5 +1,6 @@
 """The command: runs, says what became of each, and what differs by which rule."""
 
+import glob
 import os
 import platform
 import subprocess
@@ -21,11 +22,11 @@ MOST_TRIES = 10
 
 def build():
     """Builds the recorder. Where it is installed there is no source."""
-    source = f"{TOP}/conform/record.c"
-    if not os.path.exists(source) or os.path.exists(RECORDER) and os.path.getmtime(RECORDER) >= os.path.getmtime(source):
+    sources = glob.glob(f"{TOP}/conform/recording/*.[ch]")
+    if not sources or os.path.exists(RECORDER) and os.path.getmtime(RECORDER) >= max(map(os.path.getmtime, sources)):
         return
     os.makedirs(os.path.dirname(RECORDER), exist_ok=True)
-    subprocess.run(["cc", "-O2", "-Wall", "-Wextra", "-Wno-unused-result", "-o", RECORDER, source], check=True)
+    subprocess.run(["cc", "-O2", "-Wall", "-Wextra", "-Wno-unused-result", "-o", RECORDER, *(it for it in sources if it.endswith(".c"))], check=True)
 
 
 def program():

@@ -4,43 +4,23 @@
  */
 #define _GNU_SOURCE
 #include "asleep.h"
+#include "clocks.h"
 #include "engines.h"
 
-#include <time.h>
-
 enum { MILLISECOND = 1000000 };
-
-static int64_t now(void)
-{
-    struct timespec time;
-    clock_gettime(CLOCK_MONOTONIC, &time);
-    return (int64_t)time.tv_sec * 1000000000 + time.tv_nsec;
-}
-
-static bool is_real(void)
-{
-    const char *word = getenv("WULGACH_TIME");
-    return word && strcmp(word, "real") == 0;
-}
-
-/* Whether as long has passed as is said, where time is real. */
-static bool has_lasted(int64_t start, int64_t time)
-{
-    return is_real() ? now() - start >= time : true;
-}
 
 static void test_timeout(void)
 {
     struct ring ring;
     struct __kernel_timespec time = {.tv_nsec = 50 * MILLISECOND};
     make_ring(&ring, 8, 0, 0);
-    int64_t start = now();
+    int64_t start = real_time();
     put_transfer(&ring, IORING_OP_TIMEOUT, 0, 0, -1, &time, 1, 0);
     check(enter(&ring, 1, 1, IORING_ENTER_GETEVENTS) == 1);
     check(reap(&ring).res == -ETIME && has_lasted(start, 50 * MILLISECOND));
     /* A peek ends none that isn't over. */
     put_transfer(&ring, IORING_OP_TIMEOUT, 0, 0, -1, &time, 1, 0);
-    start = now();
+    start = real_time();
     check(enter(&ring, 1, 0, IORING_ENTER_GETEVENTS) == 1);
     for (int i = 0; count_ready(&ring) == 0; i++) {
         usleep(1000);
@@ -55,7 +35,7 @@ static void test_limit(void)
 {
     struct ring ring;
     make_ring(&ring, 8, 0, 0);
-    int64_t start = now();
+    int64_t start = real_time();
     check(enter_for(&ring, 1, 50 * MILLISECOND) == -ETIME && has_lasted(start, 50 * MILLISECOND));
     close_ring(&ring);
 }
@@ -69,7 +49,7 @@ static void test_linked(void)
     struct __kernel_timespec time = {.tv_nsec = 50 * MILLISECOND};
     check(pipe(ends) == 0);
     make_ring(&ring, 8, 0, 0);
-    int64_t start = now();
+    int64_t start = real_time();
     put_transfer(&ring, IORING_OP_READ, 0, IOSQE_IO_LINK, ends[0], text, 4, 0);
     put_transfer(&ring, IORING_OP_LINK_TIMEOUT, 1, 0, -1, &time, 1, 0);
     check(enter(&ring, 2, 0, 0) == 2);
@@ -90,7 +70,7 @@ static void test_cancelled_late(void)
     check(enter(&ring, 1, 0, IORING_ENTER_GETEVENTS) == 1);
     usleep(40000);
     long found = register_at(ring.fd, IORING_REGISTER_SYNC_CANCEL, &cancel, 1);
-    check(found == -ENOENT || (found == 0 && !is_real()));
+    check(found == -ENOENT || (found == 0 && !is_time_real()));
     check(wait_for_one(&ring) == (found == 0 ? -ECANCELED : -ETIME));
     close_ring(&ring);
 }
@@ -110,9 +90,9 @@ static void test_signal(void)
     struct ring ring;
     make_ring(&ring, 8, 0, 0);
     check(sigaction(SIGALRM, &action, NULL) == 0);
-    pid_t child = is_real() ? signal_asleep(SIGALRM) : 0;
-    check(enter(&ring, 0, 1, IORING_ENTER_GETEVENTS) == (is_real() ? -EINTR : -EDEADLK));
-    check(heard == is_real() && (!is_real() || has_signalled(child)));
+    pid_t child = is_time_real() ? signal_asleep(SIGALRM) : 0;
+    check(enter(&ring, 0, 1, IORING_ENTER_GETEVENTS) == (is_time_real() ? -EINTR : -EDEADLK));
+    check(heard == is_time_real() && (!is_time_real() || has_signalled(child)));
     close_ring(&ring);
 }
 

@@ -12,13 +12,6 @@
 #include <sys/socket.h>
 #include <sys/wait.h>
 
-static void put_poll(struct ring *ring, uint64_t user_data, int fd, uint32_t events, uint32_t how)
-{
-    struct io_uring_sqe *entry = put_plain(ring, IORING_OP_POLL_ADD, user_data, fd);
-    entry->poll32_events = events;
-    entry->len = how;
-}
-
 /* How the last descriptor of a pipe's end for writing goes. */
 enum last { REGISTERED, KEPT, IN_THE_RING, LINKED, LASTS };
 

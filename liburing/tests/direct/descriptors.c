@@ -13,13 +13,6 @@
 #include <sys/resource.h>
 #include <sys/timerfd.h>
 
-static void put_poll(struct ring *ring, uint64_t user_data, int fd, uint32_t events, uint32_t how)
-{
-    struct io_uring_sqe *entry = put_plain(ring, IORING_OP_POLL_ADD, user_data, fd);
-    entry->poll32_events = events;
-    entry->len = how;
-}
-
 static int lowest_free(void)
 {
     int fd = dup(0);

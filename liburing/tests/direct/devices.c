@@ -21,13 +21,6 @@ static bool are_none(void)
     return word && strcmp(word, "no") == 0;
 }
 
-static int32_t read_at(struct ring *ring, int fd, void *bytes, unsigned length, uint64_t offset)
-{
-    put_transfer(ring, IORING_OP_READ, 0, 0, fd, bytes, length, offset);
-    check(enter(ring, 1, 0, 0) == 1);
-    return wait_for_one(ring);
-}
-
 /* A ring, and the number of a file in memory of a page, which was read by it often enough that it is known as one. */
 static int begin(struct ring *ring)
 {
@@ -78,7 +71,7 @@ static void test_pipe(void)
 static void test_socket(void)
 {
     int ends[2];
-    check(socketpair(AF_UNIX, SOCK_STREAM, 0, ends) == 0);
+    make_pair(ends);
     wait_for_stream(ends, 0, 1);
 }
 
@@ -114,7 +107,7 @@ static void test_offset(void)
     struct ring ring;
     char byte;
     int ends[2], number = begin(&ring);
-    check(socketpair(AF_UNIX, SOCK_STREAM, 0, ends) == 0);
+    make_pair(ends);
     become(number, ends[0]);
     check(read_at(&ring, number, &byte, 1, 7) == -ESPIPE);
     check(write(ends[1], "x", 1) == 1 && read_at(&ring, number, &byte, 1, 0) == 1 && byte == 'x');

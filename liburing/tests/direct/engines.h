@@ -13,6 +13,23 @@ static inline struct io_uring_sqe *put_plain(struct ring *ring, uint8_t code, ui
     return entry;
 }
 
+static inline void put_poll(struct ring *ring, uint64_t user_data, int fd, uint32_t events, uint32_t how)
+{
+    struct io_uring_sqe *entry = put_plain(ring, IORING_OP_POLL_ADD, user_data, fd);
+    entry->poll32_events = events;
+    entry->len = how;
+}
+
+/* A splice or a tee of at most so many bytes, at the places where its files are. */
+static inline struct io_uring_sqe *put_splice(struct ring *ring, uint8_t code, uint64_t user_data, int from, int to, uint32_t length)
+{
+    struct io_uring_sqe *entry = put_plain(ring, code, user_data, to);
+    entry->splice_fd_in = from;
+    entry->len = length;
+    entry->off = entry->splice_off_in = code == IORING_OP_SPLICE ? (uint64_t)-1 : 0;
+    return entry;
+}
+
 /* Whether rings go by the manual pages' rules, where Linux's are others. */
 static inline bool is_by_manual(void)
 {
@@ -74,6 +91,13 @@ static inline void settle(struct ring *ring)
     check(enter_for(ring, 1, 1000) == -ETIME);
 }
 
+/* Nothing comes of the request that was put. */
+static inline void expect_waiting(struct ring *ring)
+{
+    check(enter(ring, 1, 0, 0) == 1);
+    settle(ring);
+}
+
 /* How many names /proc has for the process's descriptors, to be compared with what it was before. */
 static inline size_t count_descriptors(void)
 {
@@ -90,6 +114,13 @@ static inline int32_t wait_for_one(struct ring *ring)
 {
     check(enter(ring, 0, 1, IORING_ENTER_GETEVENTS) == 0);
     return reap(ring).res;
+}
+
+static inline int32_t read_at(struct ring *ring, int fd, void *bytes, unsigned length, uint64_t offset)
+{
+    put_transfer(ring, IORING_OP_READ, 0, 0, fd, bytes, length, offset);
+    check(enter(ring, 1, 0, 0) == 1);
+    return wait_for_one(ring);
 }
 
 /* The next completion, with its flags. */

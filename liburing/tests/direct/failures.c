@@ -3,16 +3,12 @@
  */
 #define _GNU_SOURCE
 #include "profile.h"
+#include "sockets.h"
 
 #include <fcntl.h>
-#include <netinet/in.h>
 #include <poll.h>
-#include <signal.h>
 #include <sys/epoll.h>
 #include <sys/eventfd.h>
-#include <sys/signalfd.h>
-#include <sys/socket.h>
-#include <sys/timerfd.h>
 
 /* By Linux's rules a failure that the kernel doesn't mark breaks no link, and is skipped as a success is. */
 static void expect_unmarked(uint8_t code, int fd, int32_t res)
@@ -70,7 +66,7 @@ static void test_shut_down(void)
 {
     int pair[2];
     begin(0);
-    check(socketpair(AF_UNIX, SOCK_STREAM, 0, pair) == 0);
+    make_pair(pair);
     put_plain(&ring, IORING_OP_POLL_ADD, 0, pair[0])->poll32_events = POLLPRI;
     submit(1);
     expect(0, NULL);
@@ -129,7 +125,7 @@ static void test_unbuffered(void)
 {
     int pair[2];
     begin(0);
-    check(socketpair(AF_UNIX, SOCK_STREAM, 0, pair) == 0);
+    make_pair(pair);
     for (int is_fixed = 0; is_fixed < 2; is_fixed++) {
         uint8_t code = is_fixed ? IORING_OP_READ_FIXED : IORING_OP_READ, flags = is_fixed ? 0 : IOSQE_BUFFER_SELECT;
         int32_t missing = is_fixed ? -EFAULT : -ENOBUFS;
@@ -142,113 +138,6 @@ static void test_unbuffered(void)
     expect_unbuffered(IORING_OP_RECV, IOSQE_BUFFER_SELECT, -1, -EBADF);
     expect_unbuffered(IORING_OP_RECV, IOSQE_BUFFER_SELECT, ends[0], -ENOTSOCK);
     expect_unbuffered(IORING_OP_RECV, IOSQE_BUFFER_SELECT, pair[0], -ENOBUFS);
-    close_pair(pair);
-    stop();
-}
-
-/* What counts gives 8 bytes at once: a shorter read fails at once, and doesn't wait. */
-static void test_short_reads(void)
-{
-    char bytes[8];
-    int counts[] = {eventfd(0, 0), timerfd_create(CLOCK_MONOTONIC, 0)};
-    begin(0);
-    for (int i = 0; i < 2; i++) {
-        check(counts[i] >= 0);
-        for (unsigned length = 0; length < sizeof bytes; length += 7) {
-            put_transfer(&ring, IORING_OP_READ, 0, 0, counts[i], bytes, length, 0);
-            submit(1);
-            EXPECT({0, -EINVAL});
-        }
-        close(counts[i]);
-    }
-    stop();
-}
-
-static void expect_at(uint8_t code, uint8_t flags, int fd, uint64_t offset, int32_t res)
-{
-    static char bytes[4];
-    put_transfer(&ring, code, 0, flags, fd, bytes, sizeof bytes, offset)->buf_group = 9;
-    submit(1);
-    EXPECT({0, res});
-}
-
-/* What has no offsets passes one over, but one from which the bytes would go past the last, and a socket any but 0: what is at such a one doesn't wait. */
-static void test_offsets_of_streams(void)
-{
-    static const uint64_t bad[] = {(uint64_t)-2, (uint64_t)1 << 63, ((uint64_t)1 << 63) - 4}, odd[] = {1, ((uint64_t)1 << 63) - 5}, none[] = {0, (uint64_t)-1};
-    int pair[2];
-    begin(0);
-    check(socketpair(AF_UNIX, SOCK_STREAM, 0, pair) == 0);
-    for (int i = 0; i < 3; i++) {
-        expect_at(IORING_OP_READ, 0, ends[0], bad[i], -EINVAL);
-        expect_at(IORING_OP_WRITE, 0, ends[1], bad[i], -EINVAL);
-        expect_at(IORING_OP_READ, 0, pair[0], bad[i], -EINVAL);
-        expect_at(IORING_OP_WRITE, 0, pair[0], bad[i], -EINVAL);
-        expect_at(IORING_OP_READ, IOSQE_BUFFER_SELECT, pair[0], bad[i], -ENOBUFS);
-    }
-    for (int i = 0; i < 2; i++) {
-        expect_at(IORING_OP_READ, 0, pair[0], odd[i], -ESPIPE);
-        expect_at(IORING_OP_WRITE, 0, pair[0], odd[i], -ESPIPE);
-        expect_at(IORING_OP_READ, IOSQE_BUFFER_SELECT, pair[0], odd[i], -ENOBUFS);
-        expect_at(IORING_OP_WRITE, 0, ends[1], odd[i], 4);
-        expect_at(IORING_OP_READ, 0, ends[0], odd[i], 4);
-        expect_at(IORING_OP_WRITE, 0, pair[1], none[i], 4);
-        expect_at(IORING_OP_READ, 0, pair[0], none[i], 4);
-    }
-    close_pair(pair);
-    stop();
-}
-
-/* At an offset that no file has it counts first whether the file is open for it. */
-static void test_offsets_of_no_file(void)
-{
-    static const uint64_t bad[] = {(uint64_t)-2, (uint64_t)1 << 63};
-    begin(0);
-    int path = open("/proc/self/exe", O_PATH), to_read = open("/proc/self/exe", O_RDONLY), to_write = open("/tmp", O_TMPFILE | O_WRONLY, 0600), folder = open("/", O_RDONLY);
-    check(path >= 0 && to_read >= 0 && to_write >= 0 && folder >= 0);
-    for (int i = 0; i < 2; i++) {
-        expect_at(IORING_OP_READ, 0, 999, bad[i], -EBADF);
-        expect_at(IORING_OP_WRITE, 0, 999, bad[i], -EBADF);
-        expect_at(IORING_OP_READ, 0, path, bad[i], -EBADF);
-        expect_at(IORING_OP_WRITE, 0, path, bad[i], -EBADF);
-        expect_at(IORING_OP_READ, 0, to_write, bad[i], -EBADF);
-        expect_at(IORING_OP_WRITE, 0, to_write, bad[i], -EINVAL);
-        expect_at(IORING_OP_READ, 0, to_read, bad[i], -EINVAL);
-        expect_at(IORING_OP_WRITE, 0, to_read, bad[i], -EBADF);
-        expect_at(IORING_OP_WRITE, 0, folder, bad[i], -EBADF);
-    }
-    close(path);
-    close(to_read);
-    close(to_write);
-    close(folder);
-    stop();
-}
-
-static void expect_flagged(uint8_t code, int fd, uint64_t offset, uint32_t flags, int32_t res)
-{
-    put_transfer(&ring, code, 0, 0, fd, &byte, 1, offset)->rw_flags = (int)flags;
-    submit(1);
-    EXPECT({0, res});
-}
-
-/* A flag that what has no offsets doesn't take counts before an offset, and before it is ready. */
-static void test_flags_of_streams(void)
-{
-    static const struct {
-        uint32_t flags;
-        int32_t res;
-    } bad[] = {{0x1000, -EOPNOTSUPP}, {0x40, -EOPNOTSUPP}, {0x30, -EINVAL}, {0x70, -EINVAL}, {RWF_HIPRI, -EINVAL}};
-    int pair[2];
-    begin(0);
-    check(socketpair(AF_UNIX, SOCK_STREAM, 0, pair) == 0);
-    for (int i = 0; i < 5; i++)
-        for (int at = 0; at < 2; at++) {
-            uint64_t offset = at ? 5 : (uint64_t)-1;
-            expect_flagged(IORING_OP_READ, pair[0], offset, bad[i].flags, bad[i].res);
-            expect_flagged(IORING_OP_WRITE, pair[0], offset, bad[i].flags, bad[i].res);
-            expect_flagged(IORING_OP_READ, ends[0], offset, bad[i].flags, bad[i].res);
-            expect_flagged(IORING_OP_WRITE, ends[1], offset, bad[i].flags, bad[i].res);
-        }
     close_pair(pair);
     stop();
 }
@@ -322,11 +211,10 @@ static int32_t connect_to(int fd, const struct sockaddr_in *address)
 /* A connect after one that was refused, on the same socket, is a new one: it is refused too, or succeeds if somebody listens by then. */
 static void test_refused_connects(void)
 {
-    struct sockaddr_in address = {.sin_family = AF_INET, .sin_addr.s_addr = htonl(INADDR_LOOPBACK)};
-    socklen_t size = sizeof address;
+    struct sockaddr_in address;
     begin(0);
-    int listener = socket(AF_INET, SOCK_STREAM, 0), fd = socket(AF_INET, SOCK_STREAM, 0);
-    check(listener >= 0 && fd >= 0 && bind(listener, (struct sockaddr *)&address, size) == 0 && getsockname(listener, (struct sockaddr *)&address, &size) == 0);
+    int listener = bind_here(SOCK_STREAM, &address), fd = socket(AF_INET, SOCK_STREAM, 0);
+    check(fd >= 0);
     for (int i = 0; i < 3; i++)
         check(connect_to(fd, &address) == -ECONNREFUSED);
     check(listen(listener, 1) == 0);
@@ -336,30 +224,13 @@ static void test_refused_connects(void)
     stop();
 }
 
-static void put_splice(int in, int out, uint32_t flags)
-{
-    struct io_uring_sqe *entry = put_plain(&ring, IORING_OP_SPLICE, 0, out);
-    entry->splice_fd_in = in;
-    entry->off = entry->splice_off_in = (uint64_t)-1;
-    entry->len = 8;
-    entry->splice_flags = flags;
-}
-
 /* Two sockets that are connected: local ones of this type, or, with 0, of the Internet. */
 static void connect_pair(int type, int pair[2])
 {
-    struct sockaddr_in address = {.sin_family = AF_INET, .sin_addr.s_addr = htonl(INADDR_LOOPBACK)};
-    socklen_t size = sizeof address;
-    if (type) {
+    if (type)
         check(socketpair(AF_UNIX, type, 0, pair) == 0);
-        return;
-    }
-    int listener = socket(AF_INET, SOCK_STREAM, 0);
-    check(bind(listener, (struct sockaddr *)&address, size) == 0 && listen(listener, 1) == 0 && getsockname(listener, (struct sockaddr *)&address, &size) == 0);
-    pair[0] = socket(AF_INET, SOCK_STREAM, 0);
-    check(connect(pair[0], (struct sockaddr *)&address, size) == 0);
-    pair[1] = accept(listener, NULL, NULL);
-    close(listener);
+    else
+        make_tcp_pair(pair);
 }
 
 /* A splice from a socket that has nothing isn't to wait if the socket isn't; from a local stream also by its flag, and by its pipe. */
@@ -374,7 +245,7 @@ static void test_splices_that_wait(void)
             begin(0);
             connect_pair(types[i], pair);
             check(fcntl(pair[0], F_SETFL, way == BY_SOCKET ? O_NONBLOCK : 0) == 0 && fcntl(ends[1], F_SETFL, way == BY_PIPE ? O_NONBLOCK : 0) == 0);
-            put_splice(pair[0], ends[1], way == BY_FLAG ? SPLICE_F_NONBLOCK : 0);
+            put_splice(&ring, IORING_OP_SPLICE, 0, pair[0], ends[1], 8)->splice_flags = way == BY_FLAG ? SPLICE_F_NONBLOCK : 0;
             submit(1);
             if (waits) {
                 expect(0, NULL);
@@ -399,7 +270,7 @@ static void test_splice_to_full_socket(void)
     while (send(pair[0], bytes, sizeof bytes, MSG_DONTWAIT) > 0)
         ;
     feed();
-    put_splice(ends[0], pair[0], SPLICE_F_NONBLOCK);
+    put_splice(&ring, IORING_OP_SPLICE, 0, ends[0], pair[0], 8)->splice_flags = SPLICE_F_NONBLOCK;
     submit(1);
     expect(0, NULL);
     while ((taken = recv(pair[1], bytes, sizeof bytes, MSG_DONTWAIT)) > 0)
@@ -429,61 +300,6 @@ static void test_own_eventfd(void)
     stop();
 }
 
-/* A read of a signalfd that has no room for a signal fails, whether there is one or not. */
-static void test_reads_of_signals(void)
-{
-    static const unsigned lengths[] = {0, 7, 127};
-    static char told[sizeof(struct signalfd_siginfo)];
-    sigset_t signals;
-    sigemptyset(&signals);
-    sigaddset(&signals, SIGUSR1);
-    begin(0);
-    check(sigprocmask(SIG_BLOCK, &signals, NULL) == 0);
-    int fd = signalfd(-1, &signals, 0);
-    for (int is_there = 0; is_there < 2; is_there++) {
-        for (size_t i = 0; i < sizeof lengths / sizeof *lengths; i++) {
-            put_transfer(&ring, IORING_OP_READ, 0, 0, fd, told, lengths[i], UINT64_MAX);
-            submit(1);
-            EXPECT({0, -EINVAL});
-        }
-        put_transfer(&ring, IORING_OP_READ, 1, 0, fd, told, sizeof told, UINT64_MAX);
-        submit(1);
-        check(kill(getpid(), SIGUSR1) == 0);
-        EXPECT({1, sizeof told});
-        check(kill(getpid(), SIGUSR1) == 0);
-    }
-    close(fd);
-    signal(SIGUSR1, SIG_IGN);
-    check(sigprocmask(SIG_UNBLOCK, &signals, NULL) == 0);
-    stop();
-}
-
-/* A queue of messages is a regular file, and a read of it waits until there is one. */
-static void test_reads_of_a_queue(void)
-{
-    static const char name[] = "wulgach-failures";
-    char told[7] = "";
-    begin(0);
-    int fd = (int)syscall(SYS_mq_open, name, O_RDWR | O_CREAT, 0600, NULL);
-    check(fd >= 0 && syscall(SYS_mq_unlink, name) == 0);
-    for (int i = 0; i < 2; i++) {
-        put_transfer(&ring, IORING_OP_READ, 0, i ? IOSQE_ASYNC : 0, fd, told, 6, 0);
-        submit(1);
-        check(enter_for(&ring, 1, 1000) == -ETIME);
-        check(syscall(SYS_mq_timedsend, fd, "x", (size_t)1, 0, NULL) == 0);
-        EXPECT({0, 6});
-        check(strcmp(told, "QSIZE:") == 0);
-        put_transfer(&ring, IORING_OP_READ, 1, 0, fd, told, 6, 2);
-        submit(1);
-        EXPECT({1, 6});
-        check(strcmp(told, "IZE:1 ") == 0);
-        static char message[8192];
-        check(syscall(SYS_mq_timedreceive, fd, message, sizeof message, NULL, NULL) == 1);
-    }
-    close(fd);
-    stop();
-}
-
 int main(int count, char **words)
 {
     static const struct named tests[] = {
@@ -491,18 +307,12 @@ int main(int count, char **words)
         {"shut down", test_shut_down},
         {"unpolled", test_unpolled},
         {"unbuffered", test_unbuffered},
-        {"short reads", test_short_reads},
-        {"offsets of streams", test_offsets_of_streams},
-        {"offsets of no file", test_offsets_of_no_file},
-        {"flags of streams", test_flags_of_streams},
         {"unpolled messages", test_unpolled_messages},
         {"one-shot polls", test_one_shot_polls},
         {"refused connects", test_refused_connects},
         {"own eventfd", test_own_eventfd},
         {"splices that wait", test_splices_that_wait},
         {"splice to a full socket", test_splice_to_full_socket},
-        {"reads of signals", test_reads_of_signals},
-        {"reads of a queue", test_reads_of_a_queue},
     };
     return are_rings_there() ? run_tests(tests, sizeof tests / sizeof *tests, count > 1 ? words[1] : NULL) : 0;
 }

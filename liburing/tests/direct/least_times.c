@@ -4,10 +4,10 @@
  *   least_times [NAME]       with a name: that test alone
  */
 #define _GNU_SOURCE
+#include "clocks.h"
 #include "engines.h"
 
 #include <pthread.h>
-#include <time.h>
 
 enum { MICROSECOND = 1000, MILLISECOND = 1000000, MANY = 4, FEATURE = 1 << 15 };
 
@@ -24,29 +24,6 @@ static struct ring ring;
 static int ends[2];     /* of a pipe */
 static int64_t start;   /* of the last wait */
 static unsigned found;  /* how many completions were there as it returned */
-
-static int64_t now(void)
-{
-    struct timespec time;
-    clock_gettime(CLOCK_MONOTONIC, &time);
-    return (int64_t)time.tv_sec * 1000000000 + time.tv_nsec;
-}
-
-static bool is_real(void)
-{
-#ifdef IS_ALSO_REAL
-    return true;
-#else
-    const char *word = getenv("WULGACH_TIME");
-    return word && strcmp(word, "real") == 0;
-#endif
-}
-
-/* Whether the last wait has lasted so long, where time is real. */
-static bool has_lasted(int64_t time)
-{
-    return !is_real() || now() - start >= time;
-}
 
 static void begin(void)
 {
@@ -65,7 +42,7 @@ static long wait_for(unsigned to_submit, unsigned count, int64_t least, int64_t 
 {
     struct __kernel_timespec time = {limit / 1000000000, limit % 1000000000};
     struct argument argument = {.min_wait_usec = (uint32_t)(least / MICROSECOND), .ts = limit == never ? 0 : (uintptr_t)&time};
-    start = now();
+    start = real_time();
     long result = wulgach_syscall(SYS_io_uring_enter, ring.fd, to_submit, count, IORING_ENTER_GETEVENTS | IORING_ENTER_EXT_ARG, &argument, sizeof argument);
     int error = errno;
     found = count_ready(&ring);
@@ -123,11 +100,11 @@ static void test_nothing_comes(void)
 {
     begin();
     check(ring.params.features & FEATURE);
-    check(wait_for(0, MANY, 20 * MILLISECOND, never) == -ETIME && has_lasted(20 * MILLISECOND));
-    check(wait_for(0, 1, 20 * MILLISECOND, never) == -ETIME && has_lasted(20 * MILLISECOND));
-    check(wait_for(0, MANY, 20 * MILLISECOND, 60 * MILLISECOND) == -ETIME && has_lasted(60 * MILLISECOND));
-    check(wait_for(0, MANY, 60 * MILLISECOND, 20 * MILLISECOND) == -ETIME && has_lasted(60 * MILLISECOND));
-    check(wait_for(0, MANY, 20 * MILLISECOND, 0) == -ETIME && has_lasted(20 * MILLISECOND));
+    check(wait_for(0, MANY, 20 * MILLISECOND, never) == -ETIME && has_lasted(start, 20 * MILLISECOND));
+    check(wait_for(0, 1, 20 * MILLISECOND, never) == -ETIME && has_lasted(start, 20 * MILLISECOND));
+    check(wait_for(0, MANY, 20 * MILLISECOND, 60 * MILLISECOND) == -ETIME && has_lasted(start, 60 * MILLISECOND));
+    check(wait_for(0, MANY, 60 * MILLISECOND, 20 * MILLISECOND) == -ETIME && has_lasted(start, 60 * MILLISECOND));
+    check(wait_for(0, MANY, 20 * MILLISECOND, 0) == -ETIME && has_lasted(start, 20 * MILLISECOND));
     check(wait_for(0, 0, 20 * MILLISECOND, never) == 0);
     stop();
 }
@@ -142,7 +119,7 @@ static void test_one_is_there(void)
             put(&ring, IORING_OP_NOP, 5, 0);
             check(!is_there || enter(&ring, 1, 1, IORING_ENTER_GETEVENTS) == 1);
             check(wait_for(!is_there, MANY, 20 * MILLISECOND, limits[i]) == !is_there);
-            check(has_lasted(20 * MILLISECOND) && found == 1 && reap(&ring).user_data == 5);
+            check(has_lasted(start, 20 * MILLISECOND) && found == 1 && reap(&ring).user_data == 5);
         }
     stop();
 }
@@ -185,7 +162,7 @@ static void test_timeouts(void)
     for (int ends_later = 0; ends_later < 2; ends_later++) {
         struct __kernel_timespec time = {.tv_nsec = 20 * MILLISECOND};
         put_transfer(&ring, IORING_OP_TIMEOUT, 1, 0, -1, &time, 1, 0);
-        check(wait_for(1, MANY, (ends_later ? 5 : 3600 * 1000) * (int64_t)MILLISECOND, 3600ll * 1000 * MILLISECOND) == 1 && has_lasted(20 * MILLISECOND));
+        check(wait_for(1, MANY, (ends_later ? 5 : 3600 * 1000) * (int64_t)MILLISECOND, 3600ll * 1000 * MILLISECOND) == 1 && has_lasted(start, 20 * MILLISECOND));
         check(found == 1 && reap(&ring).res == -ETIME);
     }
     stop();

@@ -24,11 +24,6 @@ static void reap_one(uint64_t user_data, int32_t res)
     check(found.user_data == user_data && found.res == res);
 }
 
-static void put_poll(int fd)
-{
-    put_plain(&ring, IORING_OP_POLL_ADD, SHARED, fd)->poll32_events = POLLIN;
-}
-
 static void put_timeout(unsigned count)
 {
     put_transfer(&ring, IORING_OP_TIMEOUT, SHARED, 0, -1, &hour, 1, count);
@@ -57,8 +52,8 @@ static void find_poll(uint8_t code)
     begin(0);
     check(pipe(others) == 0);
     put_timeout(0);
-    put_poll(ends[0]);
-    put_poll(others[0]);
+    put_poll(&ring, SHARED, ends[0], POLLIN, 0);
+    put_poll(&ring, SHARED, others[0], POLLIN, 0);
     submit(3);
     settle_to(0);
     seek(code);
@@ -118,7 +113,7 @@ static void test_among_many(void)
     }
     for (int i = 0; i < 3; i++) {
         check(pipe(pipes[i]) == 0);
-        put_poll(pipes[i][0]);
+        put_poll(&ring, SHARED, pipes[i][0], POLLIN, 0);
         submit(1);
     }
     settle_to(0);

@@ -1,4 +1,4 @@
-/* Tests of operations on names, attributes and tables, by direct calls: each does what the system call of its name does, and
+/* Tests of operations on names, attributes and an epoll instance, by direct calls: each does what the system call of its name does, and
  * a chain of them goes on in order; and of what is copied of an entry. All hold under every policy, which the environment says. They work in a
  * folder of their own.
  *
@@ -201,30 +201,6 @@ static void test_epoll(void)
     close_ring(&ring);
 }
 
-/* Descriptors go into the table by an entry: into slots, or where there is room. */
-static void test_table(void)
-{
-    struct ring ring;
-    struct io_uring_rsrc_register sparse = {.nr = 2, .flags = IORING_RSRC_REGISTER_SPARSE};
-    int file = make_file(), list[2] = {file, file};
-    char text[4];
-    check(pwrite(file, "here", 4, 0) == 4);
-    make_ring(&ring, 8, 0, 0);
-    put_transfer(&ring, IORING_OP_FILES_UPDATE, 0, 0, -1, list, 1, 0);
-    check(result_of_one(&ring, 1) == -ENXIO);
-    check(register_at(ring.fd, IORING_REGISTER_FILES2, &sparse, sizeof sparse) == 0);
-    put_transfer(&ring, IORING_OP_FILES_UPDATE, 0, 0, -1, list, 1, 1);
-    check(result_of_one(&ring, 1) == 1);
-    put_transfer(&ring, IORING_OP_READ, 0, IOSQE_FIXED_FILE, 1, text, 4, 0);
-    check(result_of_one(&ring, 1) == 4 && memcmp(text, "here", 4) == 0);
-    put_transfer(&ring, IORING_OP_FILES_UPDATE, 0, 0, -1, list, 2, IORING_FILE_INDEX_ALLOC);
-    check(result_of_one(&ring, 1) == 1 && list[0] == 0);
-    put_transfer(&ring, IORING_OP_FILES_UPDATE, 0, 0, -1, list, 0, 0);
-    check(result_of_one(&ring, 1) == -EINVAL);
-    close(file);
-    close_ring(&ring);
-}
-
 /* What a structure of an open may be, and an open into a slot: the kernel's faults, in its order. */
 static void test_how(void)
 {
@@ -394,7 +370,7 @@ static void test_copies(void)
 int main(int count, char **words)
 {
     static const struct named tests[] = {
-        {"names", test_names}, {"refused names", test_refused_names}, {"how", test_how}, {"how at an edge", test_how_at_an_edge}, {"open into slot", test_open_into_slot}, {"chain", test_chain}, {"attributes", test_attributes}, {"epoll", test_epoll}, {"ring is no instance", test_ring_is_no_instance}, {"table", test_table}, {"copies", test_copies},
+        {"names", test_names}, {"refused names", test_refused_names}, {"how", test_how}, {"how at an edge", test_how_at_an_edge}, {"open into slot", test_open_into_slot}, {"chain", test_chain}, {"attributes", test_attributes}, {"epoll", test_epoll}, {"ring is no instance", test_ring_is_no_instance}, {"copies", test_copies},
     };
     check(mkdtemp(folder) && (root = open(folder, O_PATH | O_DIRECTORY)) >= 0);
     int status = run_tests(tests, sizeof tests / sizeof *tests, count > 1 ? words[1] : NULL);

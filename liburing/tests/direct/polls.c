@@ -128,16 +128,6 @@ static void test_cancelled_at_once(void)
     close_ring(&ring);
 }
 
-static struct io_uring_sqe *put_splice(struct ring *ring, uint64_t user_data, int from, int to)
-{
-    struct io_uring_sqe *entry = put(ring, IORING_OP_SPLICE, user_data, 0);
-    entry->fd = to;
-    entry->splice_fd_in = from;
-    entry->off = entry->splice_off_in = UINT64_MAX;
-    entry->len = 1;
-    return entry;
-}
-
 /* Requests 2 and 3 wait for a number. When 5, whose number is their sum, waits for it in their place, that is another pipe's: it makes the
  * descriptor readable too. */
 static void test_renewed(void)
@@ -151,12 +141,12 @@ static void test_renewed(void)
     submit_nop(&ring, 0);
     while (reaped < 2)
         reaped += reap_by_peeks(&ring);
-    put_splice(&ring, 2, first[0], out[1]);
-    put_splice(&ring, 3, first[0], out[1]);
+    put_splice(&ring, IORING_OP_SPLICE, 2, first[0], out[1], 1);
+    put_splice(&ring, IORING_OP_SPLICE, 3, first[0], out[1], 1);
     struct io_uring_sqe *entry = put(&ring, IORING_OP_POLL_ADD, 4, IOSQE_IO_LINK);
     entry->fd = other[0];
     entry->poll32_events = POLLIN;
-    put_splice(&ring, 5, first[0], out[1]);
+    put_splice(&ring, IORING_OP_SPLICE, 5, first[0], out[1], 1);
     check(enter(&ring, 4, 0, 0) == 4);
     check(enter_for(&ring, 1, 1000) == -ETIME && !is_readable(&ring, 0));
     check(dup2(second[0], first[0]) == first[0] && write(other[1], "x", 1) == 1);
@@ -220,7 +210,7 @@ static void end_splice(bool is_fixed)
     int kept = dup(in[0]);
     make_ring(&ring, 4, 0, 0);
     check(register_at(ring.fd, IORING_REGISTER_FILES, &in[0], 1) == 0);
-    put_splice(&ring, 1, is_fixed ? 0 : in[0], out[1])->splice_flags = is_fixed ? SPLICE_F_FD_IN_FIXED : 0;
+    put_splice(&ring, IORING_OP_SPLICE, 1, is_fixed ? 0 : in[0], out[1], 1)->splice_flags = is_fixed ? SPLICE_F_FD_IN_FIXED : 0;
     enter_and_wait(&ring);
     struct io_uring_files_update update = {.fds = (uintptr_t)&none};
     check(register_at(ring.fd, IORING_REGISTER_FILES_UPDATE, &update, 1) == 1);

@@ -5,6 +5,8 @@
 
 #include "engines.h"
 
+enum { NO_OPERATION = 99 };
+
 static struct ring ring;
 static int ends[2];     /* of a pipe */
 static char byte;

@@ -5,6 +5,7 @@
 #include <errno.h>
 #include <fcntl.h>
 #include <linux/io_uring.h>
+#include <pthread.h>
 #include <stdbool.h>
 #include <stdint.h>
 #include <stdio.h>
@@ -12,6 +13,8 @@
 #include <string.h>
 #include <sys/mman.h>
 #include <sys/syscall.h>
+#include <sys/uio.h>
+#include <sys/wait.h>
 #include <unistd.h>
 
 long wulgach_syscall(long call, ...);
@@ -177,19 +180,6 @@ static inline unsigned flags_of(const struct ring *ring)
 {
     return *sq_word(ring, ring->params.sq_off.flags);
 }
-
-/* Tests of the layer by direct calls of setup, enter and register: they need no sources of liburing. All hold under
- * every policy, which the environment says. Memory is refused by the wrapped malloc, calloc and realloc of this program.
- *
- *   direct [injection]       with the word: only the test of faults, for which WULGACH_FAULTS is
- *                            0=ENOSPC,2=SHORT,5=EIO,6=SHORT
- */
-#define _GNU_SOURCE
-#include "ring.h"
-
-#include <pthread.h>
-#include <sys/uio.h>
-#include <sys/wait.h>
 
 /* Whether nothing is outstanding, and nothing has overflowed. A descriptor that polls is readable until the next call. */
 static inline bool is_at_rest(const struct ring *ring)

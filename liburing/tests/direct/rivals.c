@@ -41,11 +41,9 @@ static void put_operation(enum kind kind, bool receives)
     put_transfer(&ring, receives && kind != PIPE && kind != COUNTER ? IORING_OP_RECV : IORING_OP_READ, OPERATION, 0, ends[0], bytes, 8, 0);
 }
 
-static void put_poll(int fd, bool goes_on)
+static void put_poll_of(int fd, bool goes_on)
 {
-    struct io_uring_sqe *poll = put_plain(&ring, IORING_OP_POLL_ADD, POLL, fd);
-    poll->poll32_events = POLLIN;
-    poll->len = goes_on ? IORING_POLL_ADD_MULTI : 0;
+    put_poll(&ring, POLL, fd, POLLIN, goes_on ? IORING_POLL_ADD_MULTI : 0);
 }
 
 static void feed(void)
@@ -79,7 +77,7 @@ static void test_both_end(void)
             if (i == is_poll_first)
                 put_operation(kind, way & 16);
             else
-                put_poll(polled, goes_on);
+                put_poll_of(polled, goes_on);
             check(!in_two || enter(&ring, 1, 0, 0) == 1);
         }
         check(in_two || enter(&ring, 2, 0, 0) == 2);
@@ -105,7 +103,7 @@ static void test_accept(void)
         check(getsockname(listener, (struct sockaddr *)&address, &size) == 0);
         make_ring(&ring, 16, 0, 0);
         put_plain(&ring, IORING_OP_ACCEPT, OPERATION, listener);
-        put_poll(listener, goes_on);
+        put_poll_of(listener, goes_on);
         check(enter(&ring, 2, 0, 0) == 2 && enter_for(&ring, 1, 1000) == -ETIME);
         check(connect(client, (struct sockaddr *)&address, size) == 0);
         for (int i = 0; i < 2; i++) {
@@ -128,7 +126,7 @@ static void test_own_write(void)
         int32_t results[4] = {0};
         begin(kind);
         put_operation(kind, true);
-        put_poll(ends[0], false);
+        put_poll_of(ends[0], false);
         check(enter(&ring, 2, 0, 0) == 2 && enter_for(&ring, 1, 1000) == -ETIME);
         put_transfer(&ring, IORING_OP_WRITE, OTHER, 0, ends[1], one, 8, 0);
         check(enter(&ring, 1, 0, 0) == 1);
@@ -200,12 +198,9 @@ static void test_room(void)
     }
 }
 
-static void put_splice(const int to[2])
+static void put_splice_to(const int to[2])
 {
-    struct io_uring_sqe *splice = put_plain(&ring, IORING_OP_SPLICE, OPERATION, to[1]);
-    splice->splice_fd_in = ends[0];
-    splice->splice_off_in = splice->off = (uint64_t)-1;
-    splice->len = 8;
+    put_splice(&ring, IORING_OP_SPLICE, OPERATION, ends[0], to[1], 8);
 }
 
 /* What a splice takes, and the room that it fills. */
@@ -220,7 +215,7 @@ static void test_splice(void)
             fill(to[1]);
         }
         int end = is_of_room ? to[1] : ends[0], polled = way & 4 ? dup(end) : end;
-        expect_two(put_splice, to, polled, is_of_room ? POLLOUT : POLLIN, way, 8);
+        expect_two(put_splice_to, to, polled, is_of_room ? POLLOUT : POLLIN, way, 8);
         if (way & 4)
             close(polled);
         close_pair(ends);
@@ -236,7 +231,7 @@ static void test_others_wait(void)
         begin(kind);
         check(pipe(other) == 0);
         put_operation(kind, false);
-        put_poll(other[0], false);
+        put_poll_of(other[0], false);
         check(enter(&ring, 2, 0, 0) == 2 && enter_for(&ring, 1, 1000) == -ETIME);
         feed();
         struct seen found = next_of(&ring);

@@ -309,6 +309,30 @@ static void test_paths(void)
     close_ring(&ring);
 }
 
+/* Descriptors go into the table by an entry: into slots, or where there is room. */
+static void test_updates(void)
+{
+    struct ring ring;
+    struct io_uring_rsrc_register sparse = {.nr = 2, .flags = IORING_RSRC_REGISTER_SPARSE};
+    int file = make_file(), list[2] = {file, file};
+    char text[4];
+    check(pwrite(file, "here", 4, 0) == 4);
+    make_ring(&ring, 8, 0, 0);
+    put_transfer(&ring, IORING_OP_FILES_UPDATE, 0, 0, -1, list, 1, 0);
+    check(result_of_one(&ring, 1) == -ENXIO);
+    check(register_at(ring.fd, IORING_REGISTER_FILES2, &sparse, sizeof sparse) == 0);
+    put_transfer(&ring, IORING_OP_FILES_UPDATE, 0, 0, -1, list, 1, 1);
+    check(result_of_one(&ring, 1) == 1);
+    put_transfer(&ring, IORING_OP_READ, 0, IOSQE_FIXED_FILE, 1, text, 4, 0);
+    check(result_of_one(&ring, 1) == 4 && memcmp(text, "here", 4) == 0);
+    put_transfer(&ring, IORING_OP_FILES_UPDATE, 0, 0, -1, list, 2, IORING_FILE_INDEX_ALLOC);
+    check(result_of_one(&ring, 1) == 1 && list[0] == 0);
+    put_transfer(&ring, IORING_OP_FILES_UPDATE, 0, 0, -1, list, 0, 0);
+    check(result_of_one(&ring, 1) == -EINVAL);
+    close(file);
+    close_ring(&ring);
+}
+
 int main(int count, char **words)
 {
     static const struct named tests[] = {
@@ -321,6 +345,7 @@ int main(int count, char **words)
         {"turns", test_turns},
         {"turn at a return", test_turn_at_return},
         {"paths", test_paths},
+        {"updates", test_updates},
     };
     return run_tests(tests, sizeof tests / sizeof *tests, count > 1 ? words[1] : NULL);
 }

@@ -187,15 +187,6 @@ static void test_herd(void)
         check(write(questions[i][1], "q", 1) == 1 && waitpid(children[i], NULL, 0) == children[i]);
 }
 
-static void put_splice(struct ring *ring, uint8_t code, int from, int to, unsigned length)
-{
-    struct io_uring_sqe *entry = put_plain(ring, code, 0, to);
-    entry->splice_fd_in = from;
-    entry->len = length;
-    entry->off = code == IORING_OP_SPLICE ? (uint64_t)-1 : 0;
-    entry->splice_off_in = entry->off;
-}
-
 static void fill(int fd)
 {
     static const char bytes[4096];
@@ -215,11 +206,11 @@ static void test_splices(void)
     check(pipe(pipes) == 0);
     make_tcp_pair(ends);
     make_ring(&ring, 8, 0, 0);
-    put_splice(&ring, IORING_OP_SPLICE, ends[1], pipes[1], 100);
+    put_splice(&ring, IORING_OP_SPLICE, 0, ends[1], pipes[1], 100);
     check(enter(&ring, 1, 0, 0) == 1 && is_waiting(&ring));
     check(send(ends[0], "hello", 5, 0) == 5 && next_of(&ring).res == 5);
     fill(ends[1]);
-    put_splice(&ring, IORING_OP_SPLICE, pipes[0], ends[1], 5);
+    put_splice(&ring, IORING_OP_SPLICE, 0, pipes[0], ends[1], 5);
     check(enter(&ring, 1, 0, 0) == 1 && is_waiting(&ring));
     while (recv(ends[0], bytes, sizeof bytes, MSG_DONTWAIT) > 0)
         continue;
@@ -238,13 +229,13 @@ static void test_wills(void)
     make_ring(&ring, 8, 0, 0);
     for (int i = 0; i < 2; i++) {
         check(fcntl(i ? two[1] : one[0], F_SETFL, O_NONBLOCK | (i ? O_WRONLY : 0)) == 0);
-        put_splice(&ring, IORING_OP_SPLICE, one[0], two[1], 5);
+        put_splice(&ring, IORING_OP_SPLICE, 0, one[0], two[1], 5);
         check(enter(&ring, 1, 0, 0) == 1 && ends_with(&ring, -EAGAIN));
-        put_splice(&ring, IORING_OP_TEE, one[0], two[1], 5);
+        put_splice(&ring, IORING_OP_TEE, 0, one[0], two[1], 5);
         check(enter(&ring, 1, 0, 0) == 1 && ends_with(&ring, -EAGAIN));
         check(fcntl(one[0], F_SETFL, 0) == 0);
     }
-    put_splice(&ring, IORING_OP_SPLICE, ends[1], two[1], 5);
+    put_splice(&ring, IORING_OP_SPLICE, 0, ends[1], two[1], 5);
     check(enter(&ring, 1, 0, 0) == 1 && is_waiting(&ring));
     check(send(ends[0], "hello", 5, 0) == 5 && next_of(&ring).res == 5);
     close_ring(&ring);

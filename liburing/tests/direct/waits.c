@@ -41,13 +41,6 @@ static void test_polls(void)
     close_ring(&ring);
 }
 
-static void put_poll(struct ring *ring, uint64_t user_data, int fd, uint32_t how)
-{
-    struct io_uring_sqe *entry = put_plain(ring, IORING_OP_POLL_ADD, user_data, fd);
-    entry->poll32_events = POLLIN;
-    entry->len = how;
-}
-
 static void write_and_read(const int ends[2])
 {
     char byte;
@@ -85,7 +78,7 @@ static void test_updated_polls(void)
         bool goes_on = row & 1;
         int ends[2];
         check(pipe(ends) == 0);
-        put_poll(&ring, 1, ends[0], goes_on ? IORING_POLL_ADD_MULTI : 0);
+        put_poll(&ring, 1, ends[0], POLLIN, goes_on ? IORING_POLL_ADD_MULTI : 0);
         check(enter(&ring, 1, 0, 0) == 1);
         check(enter_for(&ring, 1, 1000) == -ETIME);
         struct io_uring_sqe *change = put(&ring, IORING_OP_POLL_REMOVE, 2, 0);
@@ -116,8 +109,8 @@ static void test_poll_of_what_is_there(void)
     bool is_in_order = !policy || strcmp(policy, "order") == 0, is_told = false;
     check(pipe(ends) == 0);
     make_ring(&ring, 8, 0, 0);
-    put_poll(&ring, 1, ends[1], 0);
-    put_poll(&ring, 2, ends[0], 0);
+    put_poll(&ring, 1, ends[1], POLLIN, 0);
+    put_poll(&ring, 2, ends[0], POLLIN, 0);
     check(enter(&ring, 2, 0, 0) == 2);
     check(enter_for(&ring, 1, 1000) == -ETIME);
     struct io_uring_sqe *change = put(&ring, IORING_OP_POLL_REMOVE, 3, 0);
@@ -143,9 +136,9 @@ static void test_come_and_gone(void)
     check(pipe(ends) == 0 && pipe(others) == 0);
     make_ring(&ring, 8, 0, 0);
     for (int round = 0; round < 3; round++) {
-        put_poll(&ring, 0, others[0], 0);
-        put_poll(&ring, 1, ends[0], 0);
-        put_poll(&ring, 2, ends[0], IORING_POLL_ADD_MULTI);
+        put_poll(&ring, 0, others[0], POLLIN, 0);
+        put_poll(&ring, 1, ends[0], POLLIN, 0);
+        put_poll(&ring, 2, ends[0], POLLIN, IORING_POLL_ADD_MULTI);
         check(enter(&ring, 3, 0, 0) == 3);
         check(enter_for(&ring, 1, 1000) == -ETIME);
         write_and_read(ends);
@@ -164,7 +157,7 @@ static void test_come_and_gone(void)
         for (int i = 0; i < 2; i++)
             next_of(&ring);
         write_and_read(ends);
-        put_poll(&ring, 4, ends[0], 0);
+        put_poll(&ring, 4, ends[0], POLLIN, 0);
         check(enter(&ring, 1, 0, 0) == 1);
         check(enter_for(&ring, 1, 1000) == -ETIME);
         write_and_read(others);
@@ -189,12 +182,12 @@ static void test_gone_before(void)
     bool is_seen[4] = {false};
     check(pipe(ends) == 0);
     make_ring(&ring, 8, 0, 0);
-    put_poll(&ring, 0, ends[0], 0);
+    put_poll(&ring, 0, ends[0], POLLIN, 0);
     check(enter(&ring, 1, 0, 0) == 1);
     check(enter_for(&ring, 1, 1000) == -ETIME);
     put_transfer(&ring, IORING_OP_WRITE, 1, IOSQE_IO_LINK, ends[1], &byte, 1, 0);
     put_transfer(&ring, IORING_OP_READ, 2, IOSQE_IO_LINK, ends[0], &byte, 1, 0);
-    put_poll(&ring, 3, ends[0], 0);
+    put_poll(&ring, 3, ends[0], POLLIN, 0);
     check(enter(&ring, 3, 0, 0) == 3);
     while (!is_seen[1] || !is_seen[2])
         is_seen[next_of(&ring).user_data] = true;

@@ -3,40 +3,12 @@
 #define WATCHED_H
 
 #include "engines.h"
+#include "sockets.h"
 
-#include <arpa/inet.h>
 #include <fcntl.h>
 #include <signal.h>
-#include <sys/socket.h>
 #include <sys/stat.h>
 #include <sys/wait.h>
-
-/* A listener on a port of its own, and the address. */
-static inline int make_listener(struct sockaddr_in *address)
-{
-    socklen_t size = sizeof *address;
-    int listener = socket(AF_INET, SOCK_STREAM, 0);
-    *address = (struct sockaddr_in){.sin_family = AF_INET, .sin_addr.s_addr = htonl(INADDR_LOOPBACK)};
-    check(bind(listener, (void *)address, size) == 0 && listen(listener, 8) == 0);
-    check(getsockname(listener, (void *)address, &size) == 0);
-    return listener;
-}
-
-static inline int call_at(const struct sockaddr_in *address)
-{
-    int caller = socket(AF_INET, SOCK_STREAM, 0);
-    check(connect(caller, (const void *)address, sizeof *address) == 0);
-    return caller;
-}
-
-static inline void make_tcp_pair(int *ends)
-{
-    struct sockaddr_in address;
-    int listener = make_listener(&address);
-    ends[0] = call_at(&address);
-    ends[1] = accept(listener, NULL, NULL);
-    check(ends[1] >= 0 && close(listener) == 0);
-}
 
 /* Whether a request that is alone ends with this. */
 static inline bool ends_with(struct ring *ring, int32_t res)

@@ -116,13 +116,15 @@ struct message {
 
 enum { MESSAGE = 0x4000000 };           /* in the user data of one */
 
+/* ---- acceptance.c ---- */
+
+/* Takes at most this many positions, as a call does. */
+void take(struct model *model, uint32_t to_submit);
+
 /* ---- requests.c ---- */
 
 /* Ends the process: what is seen can't be. */
 _Noreturn void wrong(const struct model *model, const char *format, ...) __attribute__((format(printf, 2, 3)));
-
-/* Takes at most this many positions, as a call does. */
-void take(struct model *model, uint32_t to_submit);
 
 /* The next completion of the ring, in order. */
 void see(struct model *model, uint64_t user_data, int32_t res, uint32_t flags);
@@ -149,6 +151,9 @@ bool is_blocked(const struct model *model, const struct request *request);
 bool may_be_blocked(const struct model *model, const struct request *request);
 bool is_stream(const struct model *model, const struct request *request);
 bool can_start(const struct model *model, const struct request *request);
+
+/* Requests that can start now, since something was accepted or has ended. */
+void note_starts(struct model *model);
 
 static inline uint64_t user_data_of(unsigned index)
 {

@@ -1,5 +1,6 @@
 /* Carries the actions of a program out, and tells the model what was done and what is seen. */
 #define _GNU_SOURCE
+#include "../direct/clocks.h"
 #include "run.h"
 #include "world.h"
 
@@ -7,18 +8,10 @@
 #include <signal.h>
 #include <string.h>
 #include <sys/wait.h>
-#include <time.h>
 #include <unistd.h>
 
 /* How long a call waits where time is real, and how often the end of a program is waited for. */
 enum { SHORT_WAIT = 1000000, KERNEL_WAIT = 500000000, MOST_ROUNDS = 300 };
-
-static int64_t real_time(void)
-{
-    struct timespec now;
-    clock_gettime(CLOCK_MONOTONIC, &now);
-    return (int64_t)now.tv_sec * 1000000000 + now.tv_nsec;
-}
 
 /* ---- publishing ---- */
 

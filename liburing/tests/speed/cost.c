@@ -5,10 +5,10 @@
  *   cost                     NANOSECONDS of a call that does nothing, of one with a no-op, and of a no-op in batches of 32
  */
 #define _GNU_SOURCE
+#include "../direct/clocks.h"
 #include "../direct/ring.h"
 
 #include <stdarg.h>
-#include <time.h>
 
 #ifdef RAW
 long wulgach_syscall(long call, ...)
@@ -44,19 +44,12 @@ long wulgach_polled_syscall(long call, ...)
 
 enum { ROUNDS = 200, CALLS = 200 };
 
-static int64_t now(void)
-{
-    struct timespec time;
-    clock_gettime(CLOCK_MONOTONIC, &time);
-    return (int64_t)time.tv_sec * 1000000000 + time.tv_nsec;
-}
-
 /* The least that a call took in a round of many, each with so many no-ops. */
 static double least(struct ring *ring, unsigned batch)
 {
     double found = 1e18;
     for (int round = 0; round < ROUNDS; round++) {
-        int64_t start = now();
+        int64_t start = real_time();
         for (int i = 0; i < CALLS; i++) {
             for (unsigned j = 0; j < batch; j++)
                 put(ring, IORING_OP_NOP, j, 0);
@@ -64,7 +57,7 @@ static double least(struct ring *ring, unsigned batch)
             for (unsigned j = 0; j < batch; j++)
                 reap(ring);
         }
-        double took = (double)(now() - start) / CALLS;
+        double took = (double)(real_time() - start) / CALLS;
         found = took < found ? took : found;
     }
     return found;

@@ -21,12 +21,12 @@ static const char *const kinds[KINDS] = {"local stream", "local datagrams", "TCP
 static void make_ends(unsigned kind, int *ends)
 {
     if (kind == TCP)
-        connect_two(ends);
+        make_tcp_pair(ends);
     else
         check((kind == PIPE ? pipe(ends) : socketpair(AF_UNIX, kind == DATAGRAMS ? SOCK_DGRAM : SOCK_STREAM, 0, ends)) == 0);
 }
 
-static void put_poll(struct ring *ring, int fd, uint32_t events, uint32_t flags)
+static void begin_poll(struct ring *ring, int fd, uint32_t events, uint32_t flags)
 {
     begin(ring, IORING_OP_POLL_ADD, fd, NULL, flags, 0)->poll32_events = events;
 }
@@ -44,7 +44,7 @@ static void try(struct ring *ring, unsigned kind, unsigned events, unsigned way)
     int ends[2];
     make_ends(kind, ends);
     printf("%s, %s, %s:", kinds[kind], wanted[events].name, ways[way].name);
-    put_poll(ring, ends[0], wanted[events].events, ways[way].flags);
+    begin_poll(ring, ends[0], wanted[events].events, ways[way].flags);
     tell_all(ring, "waits");
     check(write(ends[1], "x", 1) == 1);
     tell_all(ring, "written");
@@ -64,7 +64,7 @@ static void try_update(struct ring *ring, uint32_t from, uint32_t flags, uint32_
     int ends[2];
     make_ends(STREAM, ends);
     printf("poll for %x, flags %x, updated to %x, flags %x:", from, flags, to, update);
-    put_poll(ring, ends[0], from, flags);
+    begin_poll(ring, ends[0], from, flags);
     tell_all(ring, "waits");
     struct io_uring_sqe *entry = put(ring, IORING_OP_POLL_REMOVE, subject + 1, 0);
     entry->addr = subject;
@@ -103,7 +103,7 @@ static void try_ring(const char *name, bool is_own, bool has_eventfd, uint32_t e
     if (has_eventfd)
         check(register_at(it->fd, IORING_REGISTER_EVENTFD, &told, 1) == 0);
     printf("%s, for %x, flags %x:", name, events, flags);
-    put_poll(&own, has_eventfd ? told : it->fd, events, flags);
+    begin_poll(&own, has_eventfd ? told : it->fd, events, flags);
     tell_all(&own, "waits");
     for (int i = 0; i < 3; i++) {
         put(it, IORING_OP_NOP, subject + 5, 0);

@@ -36,7 +36,7 @@ static void make_socket(unsigned kind, int *ends)
     if (kind <= PACKETS)
         check(socketpair(AF_UNIX, local[kind], 0, ends) == 0);
     else if (kind == TCP)
-        connect_two(ends);
+        make_tcp_pair(ends);
     else if (kind == UDP)
         udp_of(ends);
     else

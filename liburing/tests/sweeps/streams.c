@@ -22,7 +22,7 @@ static void make_ends(unsigned kind, int *ends)
 {
     static const int types[] = {SOCK_STREAM, SOCK_DGRAM, SOCK_SEQPACKET};
     if (kind == TCP)
-        connect_two(ends);
+        make_tcp_pair(ends);
     else
         check(socketpair(AF_UNIX, types[kind], 0, ends) == 0);
 }

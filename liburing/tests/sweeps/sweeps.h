@@ -4,12 +4,11 @@
 
 #define _GNU_SOURCE
 #include "../direct/engines.h"
+#include "../direct/sockets.h"
 
-#include <arpa/inet.h>
 #include <netinet/in.h>
 #include <signal.h>
 #include <sys/eventfd.h>
-#include <sys/socket.h>
 #include <sys/uio.h>
 
 #define count_of(list) (sizeof(list) / sizeof *(list))
@@ -143,20 +142,6 @@ static inline int make_digits(int flags)
     check(fd >= 0);
     check(unlink(path) == 0 && write(fd, "0123456789", 10) == 10);
     return fd;
-}
-
-/* Two ends of a connection over loopback. */
-static inline void connect_two(int *ends)
-{
-    struct sockaddr_in at = {.sin_family = AF_INET, .sin_addr.s_addr = htonl(INADDR_LOOPBACK)};
-    socklen_t size = sizeof at;
-    int listener = socket(AF_INET, SOCK_STREAM, 0);
-    check(bind(listener, (void *)&at, size) == 0 && listen(listener, 2) == 0 && getsockname(listener, (void *)&at, &size) == 0);
-    ends[0] = socket(AF_INET, SOCK_STREAM, 0);
-    check(connect(ends[0], (void *)&at, size) == 0);
-    ends[1] = accept(listener, NULL, NULL);
-    check(ends[1] >= 0);
-    close(listener);
 }
 
 /* Fills what is written to by pieces of so many bytes. */

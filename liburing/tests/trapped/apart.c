@@ -7,6 +7,7 @@
 #define _GNU_SOURCE
 #include "../direct/asleep.h"
 #include "held.h"
+#include "modes.h"
 
 #include <dlfcn.h>
 #include <netinet/in.h>
@@ -266,14 +267,6 @@ static void handlers(void)
 
 int main(int argc, char **argv)
 {
-    const char *name = argc > 1 ? argv[1] : "";
-    if (strcmp(name, "closes") == 0)
-        closes();
-    else if (strcmp(name, "handlers") == 0)
-        handlers();
-    else if (strcmp(name, "numbers") == 0)
-        numbers();
-    else
-        return 2;
-    return 0;
+    static const struct mode modes[] = {{"closes", closes}, {"handlers", handlers}, {"numbers", numbers}};
+    return run_mode(modes, sizeof modes / sizeof *modes, argc, argv);
 }

@@ -5,6 +5,7 @@
  * Status 0: all was as it is to be. Else a line says what wasn't.
  */
 #define _GNU_SOURCE
+#include "modes.h"
 #include "trapped.h"
 
 #include <fcntl.h>
@@ -147,16 +148,6 @@ static void jumps(void)
 
 int main(int argc, char **argv)
 {
-    const char *name = argc > 1 ? argv[1] : "";
-    if (strcmp(name, "handlers") == 0)
-        handlers();
-    else if (strcmp(name, "first") == 0)
-        first();
-    else if (strcmp(name, "cancels") == 0)
-        cancels();
-    else if (strcmp(name, "jumps") == 0)
-        jumps();
-    else
-        return 2;
-    return 0;
+    static const struct mode modes[] = {{"handlers", handlers}, {"first", first}, {"cancels", cancels}, {"jumps", jumps}};
+    return run_mode(modes, sizeof modes / sizeof *modes, argc, argv);
 }

@@ -5,6 +5,7 @@
 #define LOGGED_H
 
 #include "../../layer/traces/log.h"
+#include "modes.h"
 #include "trapped.h"
 
 #include <errno.h>
@@ -62,22 +63,6 @@ static inline struct found_event find_event(uint16_t kind, bool is_of_ring)
 static inline struct event last_event(uint16_t kind, bool is_of_ring)
 {
     return find_event(kind, is_of_ring).event;
-}
-
-/* Runs the mode of the program's word. */
-struct mode {
-    const char *name;
-    void (*run)(void);
-};
-
-static inline int run_mode(const struct mode *modes, size_t count, int argc, char **argv)
-{
-    for (size_t i = 0; argc > 1 && i < count; i++)
-        if (strcmp(argv[1], modes[i].name) == 0) {
-            modes[i].run();
-            return 0;
-        }
-    return 2;
 }
 
 #endif

@@ -44,4 +44,11 @@ static void call_with_registers(bool has_upper_halves)
         CALL(LOAD_HALF, STORE_HALF);
 }
 
+/* Vectors that are all different, by this number. */
+static inline void fill_vectors(bool is_whole, uint64_t salt)
+{
+    for (unsigned i = 0; i < 64; i++)
+        seen.vectors[i / 4][i % 4] = is_whole || i % 4 < 2 ? 0x9e3779b97f4a7c15u * (i + salt) : 0;
+}
+
 #endif

@@ -1,50 +1,23 @@
 /* A program that is linked with nothing of ours and calls io_uring by the processor's own instruction. Run by uring-run
  * its rings are the layer's, which it sees by their descriptors: those are epoll instances.
  *
- *   trapped begins | nop | shared | blocked | signals | registers | issuers | threads | fork | vfork | exec | list | spawn | shell | preload | fifo | sqpoll | filter | answered | static PROGRAM
+ *   trapped begins | nop | shared | blocked | signals | registers | issuers | threads | fork | vfork | exec | list | spawn | shell | preload | fifo | sqpoll | static PROGRAM
  *
  * Status 0: all was as it is to be. Else a line says what wasn't.
  */
 #define _GNU_SOURCE
+#include "modes.h"
 #include "registers.h"
 #include "trapped.h"
 
-#include <errno.h>
 #include <fcntl.h>
-#include <linux/filter.h>
-#include <linux/io_uring.h>
-#include <linux/seccomp.h>
-#include <poll.h>
 #include <pthread.h>
 #include <signal.h>
 #include <spawn.h>
-#include <stdbool.h>
-#include <stdint.h>
-#include <stdio.h>
-#include <stdlib.h>
-#include <string.h>
-#include <sys/epoll.h>
-#include <sys/mman.h>
-#include <sys/prctl.h>
 #include <sys/stat.h>
-#include <sys/syscall.h>
 #include <sys/time.h>
 #include <sys/wait.h>
-#include <unistd.h>
 #include <wordexp.h>
-
-static void no_op_on(const struct ring *ring)
-{
-    publish(ring, (struct io_uring_sqe){.opcode = IORING_OP_NOP, .user_data = 77});
-    errno = 5;
-    WANT(enter(ring, 1, 1, NULL) == 1);
-    WANT(errno == 5);
-    WANT(__atomic_load_n((uint32_t *)(ring->cq + ring->params.cq_off.tail), __ATOMIC_ACQUIRE) == 1);
-    struct io_uring_cqe *completion = (struct io_uring_cqe *)(ring->cq + ring->params.cq_off.cqes);
-    WANT(completion->user_data == 77 && completion->res == 0);
-    WANT(memcmp(ring->sq + ring->params.cq_off.cqes, completion, sizeof *completion) == 0);
-    want_readable(ring->fd, true);
-}
 
 /* A program begins as it does by itself: with no error, with the signals that Python ignores, and without what Python sets. */
 static void begins(int error)
@@ -52,15 +25,6 @@ static void begins(int error)
     WANT(error == 0);
     WANT(signal(SIGPIPE, SIG_DFL) == SIG_DFL && signal(SIGXFSZ, SIG_DFL) == SIG_DFL);
     WANT(!getenv("LC_CTYPE"));
-}
-
-/* A no-op through a ring of its own. */
-static void no_op(void)
-{
-    struct ring ring = set_up(0);
-    no_op_on(&ring);
-    WANT(call(SYS_io_uring_enter, -1, 0, 0, 0, 0, 0) == -EBADF);
-    WANT(close(ring.fd) == 0);
 }
 
 /* Memory of a ring is mapped to be read alone, or refused. */
@@ -169,8 +133,7 @@ static void registers(void)
     const uint64_t arguments[6] = {(uint64_t)ring.fd, 1, 1, IORING_ENTER_GETEVENTS, 0, 8};
     static const uint64_t others[] = {112, 113, 114, 115, 116, 117, 1, 1};
     memcpy(seen.arguments, arguments, sizeof arguments);
-    for (unsigned i = 0; i < 64; i++)
-        seen.vectors[i / 4][i % 4] = is_whole || i % 4 < 2 ? 0x9e3779b97f4a7c15u * (i + 1) : 0;
+    fill_vectors(is_whole, 1);
     publish(&ring, (struct io_uring_sqe){.opcode = IORING_OP_NOP, .user_data = 77});
     call_with_registers(is_whole);
     WANT(memcmp(seen.after, arguments, sizeof arguments) == 0 && seen.after[6] == seen.frame && memcmp(seen.after + 7, others, sizeof others) == 0);
@@ -328,66 +291,6 @@ static void sqpoll(void)
     WANT(call(SYS_io_uring_setup, 4, (long)&params, 0, 0, 0, 0) >= 0);
 }
 
-/* A filter of its own, by either call, which allows everything. */
-static void filtered(void)
-{
-    struct sock_filter allow = BPF_STMT(BPF_RET | BPF_K, SECCOMP_RET_ALLOW);
-    struct sock_fprog program = {.len = 1, .filter = &allow};
-    WANT(prctl(PR_SET_NO_NEW_PRIVS, 1, 0, 0, 0) == 0);
-    WANT(prctl(PR_SET_SECCOMP, SECCOMP_MODE_FILTER, &program) == 0);
-    WANT(syscall(SYS_seccomp, SECCOMP_SET_MODE_FILTER, 0, &program) == 0);
-    WANT(syscall(SYS_seccomp, SECCOMP_SET_MODE_FILTER, 99, &program) == -1 && errno == EINVAL);
-    no_op();
-}
-
-static volatile sig_atomic_t trapped_call, answers;
-
-/* Answers a call in the kernel's place. */
-static void answer(int number, siginfo_t *info, void *context)
-{
-    (void)number;
-    trapped_call = info->si_syscall;
-    answers++;
-    if (info->si_code == 1)
-        ((ucontext_t *)context)->uc_mcontext.gregs[REG_RAX] = 4321;
-}
-
-/* A child ends by SIGSYS, which isn't caught there: by a call that the program's filter traps, or else by a signal. */
-static void ends_child(bool is_by_filter, sighandler_t handler, bool is_ended)
-{
-    int status = 0;
-    pid_t child = fork();
-    if (child == 0) {
-        signal(SIGSYS, handler);
-        is_by_filter ? (void)syscall(SYS_getpgid, 0) : (void)raise(SIGSYS);
-        _exit(0);
-    }
-    WANT(waitpid(child, &status, 0) == child && (is_ended ? WIFSIGNALED(status) && WTERMSIG(status) == SIGSYS : WIFEXITED(status)));
-}
-
-/* A SIGSYS that isn't the trap's comes to the program's handler, or does what it does by itself: by a filter of the program's own that traps a call, or by a
- * signal. */
-static void answered(void)
-{
-    struct sigaction action = {.sa_sigaction = answer, .sa_flags = SA_SIGINFO};
-    struct sock_filter lines[] = {
-        BPF_STMT(BPF_LD | BPF_W | BPF_ABS, offsetof(struct seccomp_data, nr)),
-        BPF_JUMP(BPF_JMP | BPF_JEQ | BPF_K, SYS_getpgid, 0, 1),
-        BPF_STMT(BPF_RET | BPF_K, SECCOMP_RET_TRAP),
-        BPF_STMT(BPF_RET | BPF_K, SECCOMP_RET_ALLOW),
-    };
-    struct sock_fprog program = {.len = 4, .filter = lines};
-    WANT(sigaction(SIGSYS, &action, NULL) == 0 && prctl(PR_SET_NO_NEW_PRIVS, 1, 0, 0, 0) == 0 && prctl(PR_SET_SECCOMP, SECCOMP_MODE_FILTER, &program) == 0);
-    WANT(syscall(SYS_getpgid, 0) == 4321 && trapped_call == SYS_getpgid && answers == 1);
-    WANT(raise(SIGSYS) == 0 && answers == 2);
-    ends_child(true, SIG_DFL, true);
-    ends_child(true, SIG_IGN, true);
-    ends_child(false, SIG_DFL, true);
-    ends_child(false, SIG_IGN, false);
-    if (!getenv("WULGACH_TEST_KERNEL"))
-        no_op();
-}
-
 /* Starts the program anew in some way; it isn't one of these: false. */
 static bool is_started(const char *name, char *self)
 {
@@ -409,26 +312,13 @@ static bool is_started(const char *name, char *self)
     return true;
 }
 
-static bool is_run(const char *name)
-{
-    static const struct {
-        const char *name;
-        void (*run)(void);
-    } parts[] = {
-        {"nop", no_op}, {"shared", shared}, {"blocked", blocked}, {"signals", signals}, {"registers", registers}, {"issuers", issuers}, {"threads", threads},
-        {"fork", forked}, {"fifo", started_fifo}, {"sqpoll", sqpoll}, {"filter", filtered}, {"answered", answered},
-    };
-    for (size_t i = 0; i < sizeof parts / sizeof *parts; i++)
-        if (strcmp(name, parts[i].name) == 0) {
-            parts[i].run();
-            return true;
-        }
-    return false;
-}
-
 int main(int argc, char **argv)
 {
     int error = errno;
+    static const struct mode modes[] = {
+        {"nop", no_op}, {"shared", shared}, {"blocked", blocked}, {"signals", signals}, {"registers", registers}, {"issuers", issuers}, {"threads", threads},
+        {"fork", forked}, {"fifo", started_fifo}, {"sqpoll", sqpoll},
+    };
     static char self[4096];
     const char *name = argc > 1 ? argv[1] : "";
     WANT(readlink("/proc/self/exe", self, sizeof self - 1) > 0);
@@ -436,7 +326,7 @@ int main(int argc, char **argv)
         begins(error);
     else if (strcmp(name, "static") == 0 && argc > 2)
         execl(argv[2], argv[2], "nop", NULL);
-    else if (!is_run(name) && !is_started(name, self))
+    else if (run_mode(modes, sizeof modes / sizeof *modes, argc, argv) != 0 && !is_started(name, self))
         return 2;
     return 0;
 }

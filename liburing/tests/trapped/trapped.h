@@ -2,6 +2,7 @@
 #ifndef TRAPPED_H
 #define TRAPPED_H
 
+#include <errno.h>
 #include <linux/io_uring.h>
 #include <poll.h>
 #include <stdbool.h>
@@ -104,6 +105,28 @@ static inline void publish(const struct ring *ring, struct io_uring_sqe entry)
 static inline long enter(const struct ring *ring, unsigned to_submit, unsigned min_complete, const uint64_t *signals)
 {
     return call(SYS_io_uring_enter, ring->fd, to_submit, min_complete, IORING_ENTER_GETEVENTS, (long)signals, signals ? sizeof *signals : 0);
+}
+
+static inline void no_op_on(const struct ring *ring)
+{
+    publish(ring, (struct io_uring_sqe){.opcode = IORING_OP_NOP, .user_data = 77});
+    errno = 5;
+    WANT(enter(ring, 1, 1, NULL) == 1);
+    WANT(errno == 5);
+    WANT(__atomic_load_n((uint32_t *)(ring->cq + ring->params.cq_off.tail), __ATOMIC_ACQUIRE) == 1);
+    struct io_uring_cqe *completion = (struct io_uring_cqe *)(ring->cq + ring->params.cq_off.cqes);
+    WANT(completion->user_data == 77 && completion->res == 0);
+    WANT(memcmp(ring->sq + ring->params.cq_off.cqes, completion, sizeof *completion) == 0);
+    want_readable(ring->fd, true);
+}
+
+/* A no-op through a ring of its own. */
+static inline void no_op(void)
+{
+    struct ring ring = set_up(0);
+    no_op_on(&ring);
+    WANT(call(SYS_io_uring_enter, -1, 0, 0, 0, 0, 0) == -EBADF);
+    WANT(close(ring.fd) == 0);
 }
 
 #endif
