@@ -1,84 +1,26 @@
 -- What a volume keeps when a write is folded.
-use Rattle.std.proofs.Common.{◌≡◌, ◌==◌, ◌+◌, ◌<◌, ◌≤◌, ◌-◌, ℕ, zero, suc, min, max, Bool, true, false, not, ◌&&◌, ◌||◌, List, [], ◌∷◌, ◌++◌, length, get_or, take, reverse, refl, sym, subst, ap, ◌∙◌, inl, inr, arith}
-use Rattle.std.specs.Prelude.{Result, Ok, Err, Option, None, Some, IfSome, IfNone}
+use Rattle.std.proofs.Common.{◌≡◌, ◌==◌, ◌+◌, ◌<◌, ◌≤◌, ◌-◌, ℕ, zero, suc, Bool, true, false, not, ◌||◌, List, [], ◌∷◌, ◌++◌, length, get_or, reverse, refl, sym, subst, ap, ◌∙◌, inl, inr, arith}
+use Rattle.std.specs.Prelude.{Result, Ok, Err}
 use Rattle.std.specs.declared.alloc.AllocError.{AllocError}
 use Rattle.std.specs.List.{list_any, filter}
-use Rattle.std.proofs.lemmas.Bool.{cases_Bool, both_ways, false_from_ne_true, cond-true, cond-false, cond_both, or_cases, or_parts, or_from, or_left, or_right, and_from, and_parts, eqb-true, eqb-false, eq-eqb, ne_eqb, not-true, not_from_false, lt-ltb, ltb-true, leb-true, le-leb}
+use Rattle.std.proofs.lemmas.Bool.{cases_Bool, both_ways, false_from_ne_true, cond-false, cond_both, or_cases, or_parts, or_left, or_right, eqb-true, eqb-false, eq-eqb}
 use Rattle.std.proofs.lemmas.List.{reverse-append, append-nil, append_assoc}
 use Rattle.std.proofs.lemmas.List.Elements.{filter-append}
-use Rattle.std.proofs.lemmas.List.Folds.{list_any-append}
-use Rattle.uring_volume.proofs.Steps.{newest}
 use Rattle.uring_volume.specs.Writes.{Write}
 use Rattle.uring_volume.specs.declared.event.Event.{Event}
 use Rattle.uring_volume.specs.declared.event.Event.TheVariants.{WriteIssued, WriteEnded, SyncIssued, SyncEnded, SyncFailed}
-use Rattle.uring_volume.specs.Events.{History, writes, has_ended, is_before, is_safe}
-use Rattle.uring_volume.specs.Images.{IsIn, is_under}
+use Rattle.uring_volume.specs.Events.{History, writes, has_ended, is_safe}
+use Rattle.uring_volume.specs.Images.{IsIn}
 use Rattle.uring_volume.specs.Choices.{IsLawful, issued}
 use Rattle.uring_volume.specs.Volume.{Volume, but, is_one_of, running_writes, running_syncs, IsSound, IsHeld}
-use Rattle.uring_volume.specs.Folds.{IsFoldable, IsOver, is_of_write, without_write, overlap, is_in_way, can_fold, IsOneFolded, IsFoldedFrom}
+use Rattle.uring_volume.specs.Folds.{IsFoldable, IsOver, is_of_write, without_write, can_fold, IsOneFolded, IsFoldedFrom}
 use Rattle.uring_volume.proofs.Fitting.{in_left, in_right}
 use Rattle.uring_volume.proofs.Chosen.{in_issued, of_issued, one_number}
 use Rattle.uring_volume.proofs.Numbers.{is_in_but, one_more}
-use Rattle.uring_volume.proofs.Puts.{any_is, is_any}
-use Rattle.uring_volume.proofs.Folding.{same_later, but_later, safe_ended, fold_changes_none}
-
--- The test tells what can be folded.
-
-both_under : (m w : Write) (k : ℕ) → is_under m k ≡ true → is_under w k ≡ true
-    → overlap m w ≡ true
-both_under m w k under_m under_w =
-    let a = and_parts _ _ under_m in
-    let b = and_parts _ _ under_w in
-    let m_from : m.off ≤ k = leb-true m.off k a.0 in
-    let m_to : k < m.off + length m.bytes = ltb-true k (m.off + length m.bytes) a.1 in
-    let w_from : w.off ≤ k = leb-true w.off k b.0 in
-    let w_to : k < w.off + length w.bytes = ltb-true k (w.off + length w.bytes) b.1 in
-    lt-ltb (max m.off w.off) (min (m.off + length m.bytes) (w.off + length w.bytes)) (omega arith)
-
-out_of_way : (h : History) (w m : Write) → not (list_any (λ x. is_in_way h w x) (issued h)) ≡ true
-    → IsIn m (writes h) → is_in_way h w m ≡ false
-out_of_way h w m none among =
-    false_from_ne_true (is_in_way h w m) (λ is. both_ways (list_any (λ x. is_in_way h w x) (issued h)) (not-true (list_any (λ x. is_in_way h w x) (issued h)) none) (is_any (λ x. is_in_way h w x) m (issued h) (in_issued h m among) is))
-
-pub foldable_by : (h : History) (w : Write) → IsLawful h → IsIn w (issued h)
-    → can_fold h w ≡ true → IsFoldable h w
-foldable_by h w l among can =
-    let parts = and_parts (is_safe h w) (not (list_any (λ m. is_in_way h w m) (issued h))) can in
-    record {
-      issued = of_issued h w among;
-      safe = parts.0;
-      oldest = λ m is_in. false_from_ne_true (is_before h m.number w.number) (λ before. both_ways (is_in_way h w m) (out_of_way h w m parts.1 is_in) (or_left (is_before h m.number w.number) (not (m.number == w.number) && (overlap m w && not (is_before h w.number m.number))) before));
-      lowest = λ m k is_in other under_m under_w. elim (cases_Bool (is_before h w.number m.number)) [
-        | inl before ↦ before
-        | inr not_before ↦
-            let differs : not (m.number == w.number) ≡ true = not_from_false (m.number == w.number) (ne_eqb m.number w.number (λ named. other (one_number h m w l is_in (of_issued h w among) named))) in
-            absurd (both_ways (is_in_way h w m) (out_of_way h w m parts.1 is_in) (or_right (is_before h m.number w.number) (not (m.number == w.number) && (overlap m w && not (is_before h w.number m.number))) (and_from _ _ differs (and_from _ _ (both_under m w k under_m under_w) (not_from_false (is_before h w.number m.number) not_before)))))
-      ];
-    }
-
--- a byte of both writes
-common : (m w : Write) → overlap m w ≡ true
-    → (is_under m (max m.off w.off) ≡ true) × (is_under w (max m.off w.off) ≡ true)
-common m w is =
-    let meets = ltb-true (max m.off w.off) (min (m.off + length m.bytes) (w.off + length w.bytes)) is in (
-      and_from _ _ (le-leb m.off (max m.off w.off) (omega arith)) (lt-ltb (max m.off w.off) (m.off + length m.bytes) (omega arith)),
-      and_from _ _ (le-leb w.off (max m.off w.off) (omega arith)) (lt-ltb (max m.off w.off) (w.off + length w.bytes) (omega arith)),
-    )
-
-pub can_fold_it : (h : History) (w : Write) → IsFoldable h w → can_fold h w ≡ true
-can_fold_it h w f =
-    and_from _ _ f.safe (not_from_false (list_any (λ m. is_in_way h w m) (issued h)) (false_from_ne_true (list_any (λ m. is_in_way h w m) (issued h)) (λ is.
-    let found = any_is (λ m. is_in_way h w m) (issued h) is in
-    let among : IsIn found.0 (writes h) = of_issued h found.0 found.1 in
-    elim (or_cases (is_before h found.0.number w.number) (not (found.0.number == w.number) && (overlap found.0 w && not (is_before h w.number found.0.number))) found.2) [
-      | inl before ↦ both_ways (is_before h found.0.number w.number) (f.oldest found.0 among) before
-      | inr rest ↦
-          let one = and_parts (not (found.0.number == w.number)) (overlap found.0 w && not (is_before h w.number found.0.number)) rest in
-          let two = and_parts (overlap found.0 w) (not (is_before h w.number found.0.number)) one.1 in
-          let k = common found.0 w two.0 in
-          both_ways (is_before h w.number found.0.number) (not-true (is_before h w.number found.0.number) two.1)
-          (f.lowest found.0 (max found.0.off w.off) among (λ same. eqb-false found.0.number w.number (not-true (found.0.number == w.number) one.0) (ap (λ x. x.number) same)) k.0 k.1)
-    ])))
+use Rattle.uring_volume.proofs.Puts.{is_any}
+use Rattle.uring_volume.proofs.Folding.{safe_ended, fold_changes_none}
+use Rattle.uring_volume.proofs.Without.{same_later, but_later}
+use Rattle.uring_volume.proofs.Foldable.{foldable_by, can_fold_it}
 
 -- Lists of numbers.
 
@@ -319,7 +261,7 @@ reverse_filter p (e ∷ es) = elim (cases_Bool (p e)) [
   | inr out ↦ simp (out, reverse-append (e ∷ []), filter-append, append-nil, reverse_filter p es)
 ]
 
-issued_after : (xs ys : History) → issued (xs ++ ys) ≡ issued ys ++ issued xs
+pub issued_after : (xs ys : History) → issued (xs ++ ys) ≡ issued ys ++ issued xs
 issued_after [] ys = sym (append-nil (issued ys))
 issued_after (WriteIssued w ∷ xs) ys =
     ap (λ ws. ws ++ w ∷ []) (issued_after xs ys) ∙ append_assoc (issued ys) (issued xs) (w ∷ [])
@@ -328,7 +270,7 @@ issued_after (SyncIssued s range ∷ xs) ys = issued_after xs ys
 issued_after (SyncEnded s ∷ xs) ys = issued_after xs ys
 issued_after (SyncFailed s ∷ xs) ys = issued_after xs ys
 
-issued_first : (e : Event) (es : List Event)
+pub issued_first : (e : Event) (es : List Event)
     → issued (reverse (e ∷ es)) ≡ issued (e ∷ []) ++ issued (reverse es)
 issued_first e es = ap issued (reverse-append (e ∷ []) es) ∙ issued_after (reverse es) (e ∷ [])
 
@@ -425,48 +367,3 @@ none_result v r first h is none w foldable =
     let k = is.kept (λ e. both_ways false refl (ap is_true (sym none ∙ e))) in
     let f : IsFoldable v.history w = subst (λ g. IsFoldable g w) k.1 foldable in
     both_ways (list_any (λ x. can_fold v.history x) (issued v.history)) (is.none none) (is_any (λ x. can_fold v.history x) w (issued v.history) (in_issued v.history w f.issued) (can_fold_it v.history w f))
-
--- A search through events.
-
-pub only_one : (p : Write → Bool) (x : Write) → list_any p (x ∷ []) ≡ true → p x ≡ true
-only_one p x is = elim (or_cases (p x) false is) [
-  | inl here ↦ here
-  | inr none ↦ absurd (both_ways false refl none)
-]
-
-pub none_later : (p : Write → Bool) (es : List Event) (i : ℕ) (e : Event) → i < length es
-    → e ≡ get_or es i e → list_any p (issued (e ∷ [])) ≡ false
-    → list_any p (issued (reverse (take i es))) ≡ false
-    → list_any p (issued (reverse (take (i + 1) es))) ≡ false
-none_later p es i e within at out none =
-    ap (λ h. list_any p (issued h)) (newest es i e within ∙ ap (λ d. d ∷ reverse (take i es)) (sym at))
-    ∙ ap (list_any p) (issued_after (e ∷ []) (reverse (take i es)))
-    ∙ list_any-append p (issued (reverse (take i es))) (issued (e ∷ []))
-    ∙ or_from (list_any p (issued (reverse (take i es)))) (list_any p (issued (e ∷ []))) none out
-
-pub some_event : (p : Write → Bool) (es : List Event) (i : ℕ) (e : Event) → i < length es
-    → e ≡ get_or es i e → list_any p (issued (e ∷ [])) ≡ true
-    → list_any p (issued (reverse es)) ≡ true
-some_event p [] i e within at is = absurd (omega arith)
-some_event p (d ∷ es) zero e within at is =
-    ap (list_any p) (issued_first d es)
-    ∙ list_any-append p (issued (d ∷ [])) (issued (reverse es))
-    ∙ or_left (list_any p (issued (d ∷ []))) (list_any p (issued (reverse es))) (subst (λ x. list_any p (issued (x ∷ [])) ≡ true) at is)
-some_event p (d ∷ es) (suc i) e within at is =
-    ap (list_any p) (issued_first d es)
-    ∙ list_any-append p (issued (d ∷ [])) (issued (reverse es))
-    ∙ or_right (list_any p (issued (d ∷ []))) (list_any p (issued (reverse es))) (some_event p es i e (omega arith) at is)
-
-pub some_so : {T : Type 0} (o : Option T) (P Q : T → Type 0) → ((x : T) → P x → Q x) → IfSome o P
-    → IfSome o Q
-some_so None P Q follows holds = tt
-some_so (Some x) P Q follows holds = follows x holds
-
-pub none_so : {T : Type 0} (o : Option T) (P Q : Type 0) → (P → Q) → IfNone o P → IfNone o Q
-none_so None P Q follows holds = follows holds
-none_so (Some x) P Q follows holds = tt
-
--- no write of no events can be folded
-pub none_in_nothing : (h : History) (w : Write) → length h ≡ 0 → IsFoldable h w → ⊥
-none_in_nothing [] w none f = f.issued
-none_in_nothing (e ∷ earlier) w none f = let some : suc (length earlier) ≡ 0 = none in omega arith

@@ -1,12 +1,11 @@
 -- A write that is folded into the first bytes changes no image: it lies under all others in each list that may be left.
-use Rattle.std.proofs.Common.{◌≡◌, ◌==◌, ◌-◌, ◌≤◌, ◌<◌, ℕ, max, Bool, true, false, not, ◌&&◌, ◌||◌, List, [], ◌∷◌, ◌++◌, length, refl, sym, subst, ap, ◌∙◌, inl, inr, arith, rules}
+use Rattle.std.proofs.Common.{◌≡◌, ◌==◌, ◌-◌, ◌≤◌, ◌<◌, ℕ, max, Bool, true, false, not, ◌&&◌, List, [], ◌∷◌, ◌++◌, length, refl, sym, subst, ap, ◌∙◌, inl, inr, arith}
 use Rattle.std.specs.Prelude.{slice_index}
 use Rattle.std.specs.List.{filter}
-use Rattle.std.proofs.lemmas.Bool.{cases_Bool, both_ways, false_from_ne_true, cond-true, cond-false, cond_both, or_cases, or_left, or_right, and_from, and_parts, eqb-true, eqb-false, eq-eqb, ne_eqb, not-true, not_from_false}
+use Rattle.std.proofs.lemmas.Bool.{cases_Bool, both_ways, false_from_ne_true, cond-true, cond-false, or_cases, or_left, or_right, and_from, and_parts, eqb-true, eqb-false, eq-eqb, ne_eqb, not-true, not_from_false}
 use Rattle.uring_volume.specs.Writes.{Write}
-use Rattle.uring_volume.specs.declared.event.Event.{Event}
 use Rattle.uring_volume.specs.declared.event.Event.TheVariants.{WriteIssued, WriteEnded, SyncIssued, SyncEnded, SyncFailed}
-use Rattle.uring_volume.specs.Events.{History, writes, has_ended, lies_in, meets, is_before, is_covered, is_reached, is_given_up, is_safe}
+use Rattle.uring_volume.specs.Events.{History, writes, has_ended, lies_in, is_before, is_covered, is_given_up, is_safe}
 use Rattle.uring_volume.specs.Images.{IsIn, IsInOrder, is_under, is_on, end_of, byte_over, length_over, MayBeLeft, UnitIsLeft, IsImage}
 use Rattle.uring_volume.specs.Choices.{IsLawful}
 use Rattle.uring_volume.specs.Folds.{IsFoldable, IsOver, without_write, FoldChangesNone}
@@ -15,120 +14,7 @@ use Rattle.uring_volume.proofs.ReadBack.{over, on_from, len_grows, end_within}
 use Rattle.uring_volume.proofs.Rest.{length_below}
 use Rattle.uring_volume.proofs.Fitting.{lacks}
 use Rattle.uring_volume.proofs.Chosen.{issue_apart, not_before, one_number}
-
--- h tells the same as g of all writes but n.
-pub record SameBut (n : ℕ) (g h : History) : Type 0 where
-  pub ended : (m : ℕ) → (m ≡ n → ⊥) → has_ended h m ≡ has_ended g m
-  pub before : (a b : ℕ) → (a ≡ n → ⊥) → (b ≡ n → ⊥) → is_before h a b ≡ is_before g a b
-  pub covered : (s : ℕ) (x : Write) → (x.number ≡ n → ⊥) → is_covered h s x ≡ is_covered g s x
-  pub reached : (s : ℕ) (x : Write) → (x.number ≡ n → ⊥) → is_reached h s x ≡ is_reached g s x
-  pub given_up : (x : Write) → (x.number ≡ n → ⊥) → is_given_up h x ≡ is_given_up g x
-  pub safe : (x : Write) → (x.number ≡ n → ⊥) → is_safe h x ≡ is_safe g x
-
-same_cons : (n : ℕ) (e : Event) (g h : History) → SameBut n g h → SameBut n (e ∷ g) (e ∷ h)
-same_cons n (WriteIssued w) g h same =
-    let before : (a b : ℕ) → (a ≡ n → ⊥) → (b ≡ n → ⊥) → is_before (WriteIssued w ∷ h) a b ≡ is_before (WriteIssued w ∷ g) a b = λ a b na nb. cc (same.ended a na, same.before a b na nb) in
-    assumption
-same_cons n (WriteEnded k) g h same =
-    let ended : (m : ℕ) → (m ≡ n → ⊥) → has_ended (WriteEnded k ∷ h) m ≡ has_ended (WriteEnded k ∷ g) m = λ m nm. cc (same.ended m nm) in
-    assumption
-same_cons n (SyncIssued t range) g h same =
-    let covered : (s : ℕ) (x : Write) → (x.number ≡ n → ⊥) → is_covered (SyncIssued t range ∷ h) s x ≡ is_covered (SyncIssued t range ∷ g) s x = λ s x nx. cc (same.ended x.number nx, same.covered s x nx) in
-    let reached : (s : ℕ) (x : Write) → (x.number ≡ n → ⊥) → is_reached (SyncIssued t range ∷ h) s x ≡ is_reached (SyncIssued t range ∷ g) s x = λ s x nx. cc (same.ended x.number nx, same.reached s x nx) in
-    assumption
-same_cons n (SyncEnded s) g h same =
-    let safe : (x : Write) → (x.number ≡ n → ⊥) → is_safe (SyncEnded s ∷ h) x ≡ is_safe (SyncEnded s ∷ g) x = λ x nx. cc (same.covered s x nx, same.given_up x nx, same.safe x nx) in
-    assumption
-same_cons n (SyncFailed s) g h same =
-    let given_up : (x : Write) → (x.number ≡ n → ⊥) → is_given_up (SyncFailed s ∷ h) x ≡ is_given_up (SyncFailed s ∷ g) x = λ x nx. cc (same.reached s x nx, same.given_up x nx) in
-    assumption
-
--- the write's own events say nothing of others
-skip_issue : (n : ℕ) (w : Write) (g h : History) → (w.number ≡ n) → SameBut n g h
-    → SameBut n (WriteIssued w ∷ g) h
-skip_issue n w g h is same =
-    let before : (a b : ℕ) → (a ≡ n → ⊥) → (b ≡ n → ⊥) → is_before h a b ≡ is_before (WriteIssued w ∷ g) a b = λ a b na nb. same.before a b na nb ∙ sym (ap (λ x. x && has_ended g a || is_before g a b) (ne_eqb w.number b (λ e. nb (sym e ∙ is)))) in
-    assumption
-
-skip_end : (n k : ℕ) (g h : History) → k ≡ n → SameBut n g h → SameBut n (WriteEnded k ∷ g) h
-skip_end n k g h is same =
-    let ended : (m : ℕ) → (m ≡ n → ⊥) → has_ended h m ≡ has_ended (WriteEnded k ∷ g) m = λ m nm. same.ended m nm ∙ sym (ap (λ x. x || has_ended g m) (ne_eqb k m (λ e. nm (sym e ∙ is)))) in
-    assumption
-
-same_nil : (n : ℕ) → SameBut n [] []
-same_nil n = search rules
-
-same_without : (n : ℕ) (h : History) → SameBut n h (without_write n h)
-same_without n [] = same_nil n
-same_without n (WriteIssued w ∷ earlier) = elim (cases_Bool (w.number == n)) [
-  | inl is ↦ simp is (skip_issue n w earlier (without_write n earlier) (eqb-true w.number n is) (same_without n earlier))
-  | inr out ↦ simp out (same_cons n (WriteIssued w) earlier (without_write n earlier) (same_without n earlier))
-]
-same_without n (WriteEnded k ∷ earlier) = elim (cases_Bool (k == n)) [
-  | inl is ↦ simp is (skip_end n k earlier (without_write n earlier) (eqb-true k n is) (same_without n earlier))
-  | inr out ↦ simp out (same_cons n (WriteEnded k) earlier (without_write n earlier) (same_without n earlier))
-]
-same_without n (SyncIssued s range ∷ earlier) = same_cons n (SyncIssued s range) earlier (without_write n earlier) (same_without n earlier)
-same_without n (SyncEnded s ∷ earlier) = same_cons n (SyncEnded s) earlier (without_write n earlier) (same_without n earlier)
-same_without n (SyncFailed s ∷ earlier) = same_cons n (SyncFailed s) earlier (without_write n earlier) (same_without n earlier)
-
-pub same_later : (n : ℕ) (later h : History) → SameBut n (later ++ h) (later ++ without_write n h)
-same_later n [] h = same_without n h
-same_later n (e ∷ later) h = same_cons n e (later ++ h) (later ++ without_write n h) (same_later n later h)
-
--- Its writes are the others.
-
-pub writes_without : (n : ℕ) (h : History) → writes (without_write n h) ≡ filter (lacks n) (writes h)
-writes_without n [] = refl
-writes_without n (WriteIssued w ∷ earlier) =
-    elim (cases_Bool (w.number == n)) [ inl is ↦ simp (is, writes_without n earlier) | inr out ↦ simp (out, writes_without n earlier) ]
-writes_without n (WriteEnded k ∷ earlier) =
-    cond_both (not (k == n)) (WriteEnded k ∷ without_write n earlier) (without_write n earlier) (λ g. writes g ≡ filter (lacks n) (writes earlier)) (λ _. writes_without n earlier) (λ _. writes_without n earlier)
-writes_without n (SyncIssued s range ∷ earlier) = writes_without n earlier
-writes_without n (SyncEnded s ∷ earlier) = writes_without n earlier
-writes_without n (SyncFailed s ∷ earlier) = writes_without n earlier
-
--- the writes of one history are those of another but n
-pub record WritesBut (n : ℕ) (g h : History) : Type 0 where
-  pub of : (x : Write) → IsIn x (writes h) → IsIn x (writes g) × (x.number ≡ n → ⊥)
-  pub into : (x : Write) → IsIn x (writes g) → (x.number ≡ n → ⊥) → IsIn x (writes h)
-
--- a write of an earlier history is one of the later
-pub in_later : (later h : History) (w : Write) → IsIn w (writes h) → IsIn w (writes (later ++ h))
-in_later [] h w among = among
-in_later (WriteIssued v ∷ later) h w among = inr (in_later later h w among)
-in_later (WriteEnded k ∷ later) h w among = in_later later h w among
-in_later (SyncIssued k range ∷ later) h w among = in_later later h w among
-in_later (SyncEnded k ∷ later) h w among = in_later later h w among
-in_later (SyncFailed k ∷ later) h w among = in_later later h w among
-
-but_without : (n : ℕ) (h : History) → WritesBut n h (without_write n h)
-but_without n h = record {
-  of = λ x among.
-      let parts = of_filter (lacks n) x (writes h) (subst (λ ws. IsIn x ws) (writes_without n h) among) in
-      (parts.0, eqb-false x.number n (not-true (x.number == n) parts.1));
-  into = λ x among other. subst (λ ws. IsIn x ws) (sym (writes_without n h)) (in_filter (lacks n) x (writes h) among (not_from_false (x.number == n) (ne_eqb x.number n other)));
-}
-
-pub but_later : (later h : History) (w : Write) → IsLawful (later ++ h) → IsIn w (writes h)
-    → WritesBut w.number (later ++ h) (later ++ without_write w.number h)
-but_later [] h w l among = but_without w.number h
-but_later (WriteIssued v ∷ later) h w l among =
-    let more = but_later later h w l.2 among in
-    record {
-      of = λ x is. elim is [
-        | inl same ↦ (inl same, λ e. l.0 w (in_later later h w among) (sym e ∙ ap (λ y. y.number) same))
-        | inr rest ↦ (inr (more.of x rest).0, (more.of x rest).1)
-      ];
-      into = λ x is other. elim is [
-        | inl same ↦ inl same
-        | inr rest ↦ inr (more.into x rest other)
-      ];
-    }
-but_later (WriteEnded k ∷ later) h w l among = assumption (but_later later h w l among)
-but_later (SyncIssued k range ∷ later) h w l among = assumption (but_later later h w l among)
-but_later (SyncEnded k ∷ later) h w l among = assumption (but_later later h w l among)
-but_later (SyncFailed k ∷ later) h w l among = assumption (but_later later h w l among)
+use Rattle.uring_volume.proofs.Without.{SameBut, same_later, WritesBut, but_later}
 
 -- It can still be folded later.
 

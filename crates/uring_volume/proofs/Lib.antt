@@ -25,5 +25,8 @@ pub mod Lengths
 pub mod Files
 -- What a volume keeps, and what it folds:
 pub mod Numbers
+pub mod Without
 pub mod Folding
+pub mod Foldable
 pub mod Folded
+pub mod FoldSearch

@@ -3,7 +3,8 @@ use Rattle.std.specs.List.{list_any}
 use Rattle.std.proofs.lemmas.Bool.{both_ways}
 use Rattle.uring_volume.specs.Choices.{issued}
 use Rattle.uring_volume.specs.Folds.{can_fold}
-use Rattle.uring_volume.proofs.Folded.{none_later, issued_at, only_one, some_so, none_so}
+use Rattle.uring_volume.proofs.Folded.{issued_at}
+use Rattle.uring_volume.proofs.FoldSearch.{none_later, only_one, some_so, none_so}
 use Rattle.uring_volume.proofs.fold.first_foldable.Goals as goal
 
 pub returns-then-is_foldable-clause-issued : goal.returns-then-is_foldable-clause-issued

@@ -1,6 +1,6 @@
 use Rattle.std.proofs.Common.{reverse, sym, ◌∙◌}
 use Rattle.uring_volume.specs.Folds.{is_in_way}
-use Rattle.uring_volume.proofs.Folded.{none_later, some_event}
+use Rattle.uring_volume.proofs.FoldSearch.{none_later, some_event}
 use Rattle.uring_volume.proofs.fold.has_one_in_way.Goals as goal
 
 pub returns-then-is_issued_in_way : goal.returns-then-is_issued_in_way

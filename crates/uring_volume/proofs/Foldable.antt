@@ -1,0 +1,69 @@
+-- The test tells which write can be folded.
+use Rattle.std.proofs.Common.{◌≡◌, ◌==◌, ◌+◌, ◌<◌, ◌≤◌, ◌-◌, ℕ, min, max, true, false, not, ◌&&◌, length, ap, inl, inr, arith}
+use Rattle.std.specs.List.{list_any}
+use Rattle.std.proofs.lemmas.Bool.{cases_Bool, both_ways, false_from_ne_true, or_cases, or_left, or_right, and_from, and_parts, eqb-false, ne_eqb, not-true, not_from_false, lt-ltb, ltb-true, leb-true, le-leb}
+use Rattle.uring_volume.specs.Writes.{Write}
+use Rattle.uring_volume.specs.Events.{History, writes, is_before, is_safe}
+use Rattle.uring_volume.specs.Images.{IsIn, is_under}
+use Rattle.uring_volume.specs.Choices.{IsLawful, issued}
+use Rattle.uring_volume.specs.Folds.{IsFoldable, overlap, is_in_way, can_fold}
+use Rattle.uring_volume.proofs.Chosen.{in_issued, of_issued, one_number}
+use Rattle.uring_volume.proofs.Puts.{any_is, is_any}
+
+-- The test tells what can be folded.
+
+both_under : (m w : Write) (k : ℕ) → is_under m k ≡ true → is_under w k ≡ true
+    → overlap m w ≡ true
+both_under m w k under_m under_w =
+    let a = and_parts _ _ under_m in
+    let b = and_parts _ _ under_w in
+    let m_from : m.off ≤ k = leb-true m.off k a.0 in
+    let m_to : k < m.off + length m.bytes = ltb-true k (m.off + length m.bytes) a.1 in
+    let w_from : w.off ≤ k = leb-true w.off k b.0 in
+    let w_to : k < w.off + length w.bytes = ltb-true k (w.off + length w.bytes) b.1 in
+    lt-ltb (max m.off w.off) (min (m.off + length m.bytes) (w.off + length w.bytes)) (omega arith)
+
+out_of_way : (h : History) (w m : Write) → not (list_any (λ x. is_in_way h w x) (issued h)) ≡ true
+    → IsIn m (writes h) → is_in_way h w m ≡ false
+out_of_way h w m none among =
+    false_from_ne_true (is_in_way h w m) (λ is. both_ways (list_any (λ x. is_in_way h w x) (issued h)) (not-true (list_any (λ x. is_in_way h w x) (issued h)) none) (is_any (λ x. is_in_way h w x) m (issued h) (in_issued h m among) is))
+
+pub foldable_by : (h : History) (w : Write) → IsLawful h → IsIn w (issued h)
+    → can_fold h w ≡ true → IsFoldable h w
+foldable_by h w l among can =
+    let parts = and_parts (is_safe h w) (not (list_any (λ m. is_in_way h w m) (issued h))) can in
+    record {
+      issued = of_issued h w among;
+      safe = parts.0;
+      oldest = λ m is_in. false_from_ne_true (is_before h m.number w.number) (λ before. both_ways (is_in_way h w m) (out_of_way h w m parts.1 is_in) (or_left (is_before h m.number w.number) (not (m.number == w.number) && (overlap m w && not (is_before h w.number m.number))) before));
+      lowest = λ m k is_in other under_m under_w. elim (cases_Bool (is_before h w.number m.number)) [
+        | inl before ↦ before
+        | inr not_before ↦
+            let differs : not (m.number == w.number) ≡ true = not_from_false (m.number == w.number) (ne_eqb m.number w.number (λ named. other (one_number h m w l is_in (of_issued h w among) named))) in
+            absurd (both_ways (is_in_way h w m) (out_of_way h w m parts.1 is_in) (or_right (is_before h m.number w.number) (not (m.number == w.number) && (overlap m w && not (is_before h w.number m.number))) (and_from _ _ differs (and_from _ _ (both_under m w k under_m under_w) (not_from_false (is_before h w.number m.number) not_before)))))
+      ];
+    }
+
+-- a byte of both writes
+common : (m w : Write) → overlap m w ≡ true
+    → (is_under m (max m.off w.off) ≡ true) × (is_under w (max m.off w.off) ≡ true)
+common m w is =
+    let meets = ltb-true (max m.off w.off) (min (m.off + length m.bytes) (w.off + length w.bytes)) is in (
+      and_from _ _ (le-leb m.off (max m.off w.off) (omega arith)) (lt-ltb (max m.off w.off) (m.off + length m.bytes) (omega arith)),
+      and_from _ _ (le-leb w.off (max m.off w.off) (omega arith)) (lt-ltb (max m.off w.off) (w.off + length w.bytes) (omega arith)),
+    )
+
+pub can_fold_it : (h : History) (w : Write) → IsFoldable h w → can_fold h w ≡ true
+can_fold_it h w f =
+    and_from _ _ f.safe (not_from_false (list_any (λ m. is_in_way h w m) (issued h)) (false_from_ne_true (list_any (λ m. is_in_way h w m) (issued h)) (λ is.
+    let found = any_is (λ m. is_in_way h w m) (issued h) is in
+    let among : IsIn found.0 (writes h) = of_issued h found.0 found.1 in
+    elim (or_cases (is_before h found.0.number w.number) (not (found.0.number == w.number) && (overlap found.0 w && not (is_before h w.number found.0.number))) found.2) [
+      | inl before ↦ both_ways (is_before h found.0.number w.number) (f.oldest found.0 among) before
+      | inr rest ↦
+          let one = and_parts (not (found.0.number == w.number)) (overlap found.0 w && not (is_before h w.number found.0.number)) rest in
+          let two = and_parts (overlap found.0 w) (not (is_before h w.number found.0.number)) one.1 in
+          let k = common found.0 w two.0 in
+          both_ways (is_before h w.number found.0.number) (not-true (is_before h w.number found.0.number) two.1)
+          (f.lowest found.0 (max found.0.off w.off) among (λ same. eqb-false found.0.number w.number (not-true (found.0.number == w.number) one.0) (ap (λ x. x.number) same)) k.0 k.1)
+    ])))
