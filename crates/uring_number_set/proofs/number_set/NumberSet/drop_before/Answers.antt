@@ -1,6 +1,6 @@
 use Rattle.std.proofs.Common.{ℕ, ◌/◌, subst, arith}
 use Rattle.uring_number_set.specs.NumberSet.{HasLetGo}
-use Rattle.uring_number_set.proofs.BlockLemmas.{same_filled, let_go}
+use Rattle.uring_number_set.proofs.FilledBlocks.{same_filled, let_go}
 use Rattle.uring_number_set.proofs.number_set.NumberSet.drop_before.Goals as goal
 
 pub invariant_of-self : goal.invariant_of-self

@@ -1,6 +1,6 @@
 use Rattle.std.proofs.Common.{arith}
 use Rattle.uring_number_set.specs.NumberSet.{stop_of}
-use Rattle.uring_number_set.proofs.BlockLemmas.{same_filled, filled_few}
+use Rattle.uring_number_set.proofs.FilledBlocks.{same_filled, filled_few}
 use Rattle.uring_number_set.proofs.number_set.NumberSet.extend.Goals as goal
 
 pub invariant_of-self : goal.invariant_of-self

@@ -1,5 +1,5 @@
 use Rattle.std.proofs.Common.{◌*◌, min, ap, ◌∙◌}
-use Rattle.uring_number_set.proofs.BlockLemmas.{insert_filled, limit_puts}
+use Rattle.uring_number_set.proofs.FilledBlocks.{insert_filled, limit_puts}
 use Rattle.uring_number_set.proofs.number_set.NumberSet.insert.Goals as goal
 
 pub invariant_of-self : goal.invariant_of-self

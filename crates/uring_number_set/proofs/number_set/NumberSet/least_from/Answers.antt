@@ -1,6 +1,7 @@
 use Rattle.std.proofs.Common.{◌≡◌, ◌≤◌, ℕ, ◌+◌, ◌/◌, Option, Some, None, MatchOption, false, ◌∙◌, sym, refl, pos_of_ne-zero}
 use Rattle.uring_number_set.specs.NumberSet.{NumberSet, block_at, holds, IsFilled, IsLeastFrom, HasNoneFrom}
-use Rattle.uring_number_set.proofs.BlockLemmas.{none_from, least_within, least_after, filled_none, filled_some, limit_least}
+use Rattle.uring_number_set.proofs.BlockLemmas.{none_from, least_within, least_after}
+use Rattle.uring_number_set.proofs.FilledBlocks.{filled_none, filled_some, limit_least}
 use Rattle.uring_number_set.proofs.number_set.NumberSet.least_from.Goals as goal
 
 pub returns-in-Some : goal.returns-in-Some

@@ -1,5 +1,5 @@
 use Rattle.std.proofs.Common.{◌*◌, min, ap, ◌∙◌, sym}
-use Rattle.uring_number_set.proofs.BlockLemmas.{remove_filled_zero, remove_filled_some, limit_puts, zero_puts}
+use Rattle.uring_number_set.proofs.FilledBlocks.{remove_filled_zero, remove_filled_some, limit_puts, zero_puts}
 use Rattle.uring_number_set.proofs.number_set.NumberSet.remove.Goals as goal
 
 pub returns-then-block-eq0 : goal.returns-then-block-eq0

@@ -1,5 +1,5 @@
 use Rattle.std.proofs.Common.{arith}
-use Rattle.uring_number_set.proofs.BlockLemmas.{same_filled, same_set}
+use Rattle.uring_number_set.proofs.FilledBlocks.{same_filled, same_set}
 use Rattle.uring_number_set.proofs.number_set.NumberSet.reserve_in.Goals as goal
 
 pub invariant_of-self : goal.invariant_of-self
