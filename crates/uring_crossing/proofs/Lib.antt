@@ -7,7 +7,6 @@ pub mod Refusals
 pub mod Holding
 pub mod Cutting
 pub mod Starts
-pub mod SameSteps
 mod TracedSteps
 mod TracedPlaces
 pub mod SetupTokens
