@@ -19,7 +19,7 @@ use Rattle.uring_core.specs.declared.step.Step.TheVariants as step
 use Rattle.uring_core.specs.declared.wanted.Refusal.TheVariants as refusal
 use Rattle.uring_core.specs.declared.wanted.Wanted.{Wanted}
 use Rattle.uring_core.specs.declared.wanted.Wanted.TheVariants.{Only, CallOrAgain, AnyEnd, EndOrNoMemory}
-use Rattle.uring_core.proofs.CompletionMoves.{CompletionMove, stays, ends, flushes, sees_tail, reaps, stores_head, completion_move}
+use Rattle.uring_core.proofs.CompletionMoves.{CompletionMove, stays, ends, completion_move}
 use Rattle.uring_check.specs.Checking.{FitsBy, noted_poster, number_in, rules_of}
 use Rattle.uring_check.specs.Posters.{poster_of, posters}
 use Rattle.uring_check.specs.declared.follower.Follower.{Follower}
@@ -74,10 +74,7 @@ noted_by g w s a v (stays _ _ l r is_closed off none left) =
 noted_by g w s a v (ends _ _ n res bytes r off is same one) =
     end_noted s g.cq n w.completions (completion_for (entry_of w.requests n) res bytes) (posts g.linux w.requests n res) (number_told s a (record { number = n; res = res; bytes = bytes }) is)
     ∙ sym (ap (poster_of g.linux w.requests) is)
-noted_by g w s a v (flushes moved) = none_noted step.Flush (length w.completions.posted)
-noted_by g w s a v (sees_tail tail) = none_noted step.LoadCqTail (length w.completions.posted)
-noted_by g w s a v (reaps completion next) = none_noted step.Reap (length w.completions.posted)
-noted_by g w s a v (stores_head head) = none_noted step.StoreCqHead (length w.completions.posted)
+noted_by g w s a v _ = none_noted s (length w.completions.posted)
 
 -- ---- what is known after a step
 

@@ -9,8 +9,8 @@ use Rattle.uring_core.specs.Histories.{History, world, IsLawfulApart}
 use Rattle.uring_core.specs.declared.step.Step.{Step}
 use Rattle.uring_core.specs.declared.answer.Answer.{Answer}
 use Rattle.uring_core.proofs.Moves.{Move, stays, accepts, starts, ends_doomed, ends_cancel, ends_run, move_of}
-use Rattle.uring_core.proofs.SubmissionMoves.{SubmissionMove, stays as stays_off_submission, fills, stages, stores, loads, begins, takes, drops, closes, submission_move}
-use Rattle.uring_core.proofs.CompletionMoves.{CompletionMove, stays as stays_off_completions, ends, flushes, sees_tail, reaps, stores_head, completion_move}
+use Rattle.uring_core.proofs.SubmissionMoves.{SubmissionMove, stays as stays_off_submission, fills, stages, stores, takes, drops, closes, submission_move}
+use Rattle.uring_core.proofs.CompletionMoves.{CompletionMove, stays as stays_off_completions, ends, reaps, completion_move}
 use Rattle.uring_core.proofs.SoundRings.{IsSoundCompletions, IsSoundSubmission, end_sound, reap_sound, stage_sound, store_sound, take_sound, stop_sound, close_sound}
 use Rattle.uring_core.proofs.SoundRequests.{IsSoundRequests, IsSoundManual, first_requests, first_manual, start_sound, start_manual, outstanding_tells}
 use Rattle.uring_core.proofs.ByRules.{starts_right}
@@ -56,14 +56,13 @@ submission_kept g w s a v (stays_off_submission _ _ r c is_closed off left) i = 
 submission_kept g w s a v (fills slot entry) i = assumption i
 submission_kept g w s a v (stages word room) i = stage_sound g.sq w.submission word room i
 submission_kept g w s a v (stores tail) i = store_sound g.sq w.submission i
-submission_kept g w s a v (loads head) i = grind arith
-submission_kept g w s a v (begins count is_open no_call unspent) i = grind arith
 submission_kept g w s a v (takes entry call place opened left at valid) i =
     stop_sound g.sq (with_taken w.submission call) (record call { taken = call.taken + 1 }) (stops_there g w.submission entry) refl (take_sound g.sq w.submission call opened left i)
 submission_kept g w s a v (drops call place opened left at invalid) i =
     stop_sound g.sq (with_taken w.submission call) (record call { taken = call.taken + 1 }) (stops_at_word g) refl (take_sound g.sq w.submission call opened left i)
 submission_kept g w s a v (closes accepted missed head call opened all counted) i =
     close_sound g.sq w.submission call opened i
+submission_kept g w s a v _ i = grind arith
 
 -- a change keeps the completion ring sound
 completions_kept : (g : Setup) (w : World) (s : Step) (a : Answer) (v : World)
@@ -72,11 +71,9 @@ completions_kept : (g : Setup) (w : World) (s : Step) (a : Answer) (v : World)
 completions_kept g w s a v (stays_off_completions _ _ l r is_closed off no_end left) i = i
 completions_kept g w s a v (ends _ _ n res bytes r off told same_accepted one_more) i =
     end_sound g.cq w.completions _ _ i
-completions_kept g w s a v (flushes moved) i = grind arith
-completions_kept g w s a v (sees_tail tail) i = grind arith
 completions_kept g w s a v (reaps completion next) i =
     reap_sound g.cq w.completions completion next i
-completions_kept g w s a v (stores_head head) i = grind arith
+completions_kept g w s a v _ i = grind arith
 
 -- a change keeps the requests sound
 requests_kept : (linux : Bool) (l : LinuxRequests) (s : Step) (a : Answer) (later : Requests)

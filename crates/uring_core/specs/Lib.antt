@@ -2,6 +2,7 @@
 pub mod Stops
 pub mod World
 pub mod StepAnswers
+pub mod StepForm
 pub mod Histories
 pub mod Events
 pub mod CalledFor

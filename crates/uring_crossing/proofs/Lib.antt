@@ -11,7 +11,6 @@ pub mod Starts
 pub mod Refusals
 pub mod Cutting
 -- What a call is told to have done, as steps and as text:
-pub mod SameSteps
 mod TracedSteps
 mod TracedPlaces
 pub mod SetupTokens

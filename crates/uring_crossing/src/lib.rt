@@ -13,7 +13,7 @@ mod volumes;
 pub use boxes::{box_memory, parts, slot};
 pub use core_words::{
     answer_words, completion_words, count_words, cuts, operation_words, set_up_words, state_words,
-    step_words, taken_words, why_words,
+    taken_words, why_words,
 };
 pub use cores::{core_calls, core_memory, core_place, whole_call_memory, whole_calls};
 pub use layer_words::{course_words, enter_words, time_words, wait_words};

@@ -1,5 +1,6 @@
 -- What is kept stays in its place, so that events that were recorded stay as they are.
-use Rattle.std.proofs.Common.{◌≡◌, ℕ, zero, suc, ◌+◌, ◌<◌, ◌≤◌, List, [], ◌∷◌, ◌++◌, length, get_or, refl, sym, ap, subst, arith, ◌∙◌, length-append}
+use Rattle.std.proofs.Common.{◌≡◌, ℕ, zero, suc, ◌+◌, ◌<◌, ◌≤◌, List, [], ◌∷◌, ◌++◌, length, get_or, refl, sym, ap, subst, arith, ◌∙◌, length-append, inl, inr}
+use Rattle.std.proofs.lemmas.Bool.{cases_eq, eq-eqb, ne_eqb}
 use Rattle.std.proofs.lemmas.List.{map-append, length-map}
 use Rattle.std.specs.Prelude.{vec_capacity}
 use Rattle.std.specs.List.{AllByRecursion}
@@ -9,7 +10,6 @@ use Rattle.uring_core.specs.declared.step.Step.TheVariants as step
 use Rattle.uring_core.specs.declared.answer.Answer.TheVariants as answer
 use Rattle.uring_events.specs.declared.brief.Brief.{Brief}
 use Rattle.uring_events.specs.declared.brief.BriefStep.{BriefStep}
-use Rattle.uring_events.specs.declared.brief.BriefStep.TheVariants as brief
 use Rattle.uring_events.specs.declared.brief.BriefAnswer.{BriefAnswer}
 use Rattle.uring_events.specs.declared.brief.BriefAnswer.TheVariants as told
 use Rattle.uring_events.specs.declared.store.Store.{Store}
@@ -23,11 +23,13 @@ use Rattle.uring_events.specs.Store.{entry_at, bytes_of, step_of, answer_of, eve
 -- a step that was kept is the same
 pub step_stays : (s t : Store) (b : BriefStep) → Stays s t → IsStepWithin s b
     → (step_of t b ≡ step_of s b) × IsStepWithin t b
-step_stays s t (brief.Fill slot entry) stays within =
-    let there = stays.filled entry within in (ap (step.Fill slot) there.0, there.1)
-step_stays s t brief.StoreTail stays within = (refl, tt)
-step_stays s t (brief.Index word) stays within = (refl, tt)
-step_stays s t _ stays within = (refl, tt)
+step_stays s t b stays within =
+    elim (cases_eq b.kind 0) [
+      | inl fill ↦
+          let there = stays.filled b.number (within fill) in
+          (rw (eq-eqb b.kind 0 fill) (ap (step.Fill b.word) there.0), λ is. there.1)
+      | inr other ↦ (rw (ne_eqb b.kind 0 other) refl, λ is. absurd (other is))
+    ]
 
 -- an answer that was kept is the same
 pub answer_stays : (s t : Store) (b : BriefAnswer) → Stays s t → IsAnswerWithin s b

@@ -1,16 +1,18 @@
 -- Glue. How events are kept: what is long in one is found by its place.
-use Rattle.std.specs.Prelude.{◌≡◌, ℕ, zero, suc, ◌+◌, ◌<◌, ◌≤◌, List, map, length, vec_capacity, slice_index_or}
+use Rattle.std.specs.Prelude.{◌≡◌, ℕ, zero, suc, ◌+◌, ◌<◌, ◌≤◌, List, map, length, vec_capacity, slice_index_or, ◌==◌, if◌then◌else◌, replicate, unwrap_or}
 use Rattle.std.specs.List.{AllByRecursion}
 use Rattle.uring_entry.specs.Layout.{Sqe, zero_entry}
 use Rattle.uring_entry.specs.Requests.{no_bytes}
 use Rattle.uring_core.specs.Histories.{Event}
 use Rattle.uring_core.specs.declared.step.Step.{Step}
 use Rattle.uring_core.specs.declared.step.Step.TheVariants as step
+use Rattle.uring_core.specs.declared.step.StepWords.{StepWords}
+use Rattle.uring_core.specs.StepForm as form
+use Rattle.uring_core.specs.StepForm.{of_kind}
 use Rattle.uring_core.specs.declared.answer.Answer.{Answer}
 use Rattle.uring_core.specs.declared.answer.Answer.TheVariants as answer
 use Rattle.uring_events.specs.declared.brief.Brief.{Brief}
 use Rattle.uring_events.specs.declared.brief.BriefStep.{BriefStep}
-use Rattle.uring_events.specs.declared.brief.BriefStep.TheVariants as brief
 use Rattle.uring_events.specs.declared.brief.BriefAnswer.{BriefAnswer}
 use Rattle.uring_events.specs.declared.brief.BriefAnswer.TheVariants as told
 use Rattle.uring_events.specs.declared.store.Store.{Store}
@@ -24,23 +26,15 @@ abbrev pub bytes_of : List (List ℕ) → ℕ → List ℕ
 bytes_of bytes zero = no_bytes
 bytes_of bytes (suc place) = slice_index_or bytes place no_bytes
 
+-- the words of the step that is kept so, if it is no fill
+abbrev pub words_at : BriefStep → StepWords
+words_at b = of_kind b.kind b.word b.number (replicate 16 0)
+
 -- the step that is kept so
 abbrev pub step_of : Store → BriefStep → Step
-step_of s (brief.Fill slot entry) = step.Fill slot (entry_at s.filled.items entry)
-step_of s (brief.Index word) = step.Index word
-step_of s brief.StoreTail = step.StoreTail
-step_of s brief.LoadHead = step.LoadHead
-step_of s (brief.Begin count) = step.Begin count
-step_of s brief.Take = step.Take
-step_of s brief.End = step.End
-step_of s (brief.Issue number) = step.Issue number
-step_of s (brief.Finish number) = step.Finish number
-step_of s brief.Flush = step.Flush
-step_of s brief.LoadCqTail = step.LoadCqTail
-step_of s brief.Reap = step.Reap
-step_of s brief.StoreCqHead = step.StoreCqHead
-step_of s brief.Close = step.Close
-step_of s brief.Next = step.Next
+step_of s b =
+    if b.kind == 0 then step.Fill b.word (entry_at s.filled.items b.number) else
+    unwrap_or (form.step_of (words_at b)) step.Next
 
 -- the answer that is kept so
 abbrev pub answer_of : Store → BriefAnswer → Answer
@@ -86,8 +80,7 @@ events_of s briefs = map (event_of s) briefs
 
 -- what is long in the step is kept
 abbrev pub IsStepWithin : Store → BriefStep → Type 0
-IsStepWithin s (brief.Fill slot entry) = entry < length s.filled.items
-IsStepWithin s _ = Unit {0}
+IsStepWithin s b = b.kind ≡ 0 → b.number < length s.filled.items
 
 -- what is long in the answer is kept
 abbrev pub IsAnswerWithin : Store → BriefAnswer → Type 0

@@ -7,24 +7,14 @@ pub(crate) struct Brief {
     pub(crate) answer: BriefAnswer,
 }
 
-/// A `Step`, with the place of its entry instead of the entry.
+/// A `Step` by its words, with the place of its entry instead of the entry.
 #[derive(Clone, Copy)]
-pub(crate) enum BriefStep {
-    Fill { slot: u32, entry: usize },
-    Index { word: u32 },
-    StoreTail,
-    LoadHead,
-    Begin { count: u32 },
-    Take,
-    End,
-    Issue { number: u64 },
-    Finish { number: u64 },
-    Flush,
-    LoadCqTail,
-    Reap,
-    StoreCqHead,
-    Close,
-    Next,
+pub(crate) struct BriefStep {
+    pub(crate) kind: u32,
+    pub(crate) word: u32,
+
+    /// The number of the request, or of a fill the place of its entry.
+    pub(crate) number: u64,
 }
 
 /// An `Answer`, with the place of its entry or of its bytes instead of these.

@@ -7,11 +7,14 @@ ghost use Rattle.uring_events.specs.Store.{entry_at, bytes_of, step_of, answer_o
 
 use crate::brief::{BriefAnswer, BriefStep};
 use std::alloc::{AllocError, Global};
-use uring_core::{Answer, Cqe, Sqe, Step};
+use uring_core::{Answer, Cqe, Sqe, Step, StepWords};
 use uring_memory::Memory;
 
 /// The bytes of an end that gives none.
 const ZEROS: [u8; 64] = [0; 64];
+
+/// The kind of a fill.
+const FILL: u32 = 0;
 
 /// Entries and bytes, each by its place. The place 0 of bytes stands for zeros, and a place above it for those of the list before.
 #[derive(Drop)]
@@ -65,26 +68,19 @@ impl Store {
         ensures goes { Goes self.old self.new }
         ensures same { self.new ≡ record self.old { filled = self.new.filled } }
     {
+        let StepWords {
+            kind,
+            word,
+            number,
+            ..
+        } = StepWords::of(&step);
         match step {
-            Step::Fill { slot, entry } => {
-                let place = self.filled.len();
+            Step::Fill { entry, .. } => {
+                let number = self.filled.len() as u64;
                 self.filled.push_reserved(entry);
-                BriefStep::Fill { slot, entry: place }
+                BriefStep { kind, word, number }
             }
-            Step::Index { word } => BriefStep::Index { word },
-            Step::StoreTail => BriefStep::StoreTail,
-            Step::LoadHead => BriefStep::LoadHead,
-            Step::Begin { count } => BriefStep::Begin { count },
-            Step::Take => BriefStep::Take,
-            Step::End => BriefStep::End,
-            Step::Issue { number } => BriefStep::Issue { number },
-            Step::Finish { number } => BriefStep::Finish { number },
-            Step::Flush => BriefStep::Flush,
-            Step::LoadCqTail => BriefStep::LoadCqTail,
-            Step::Reap => BriefStep::Reap,
-            Step::StoreCqHead => BriefStep::StoreCqHead,
-            Step::Close => BriefStep::Close,
-            Step::Next => BriefStep::Next,
+            _ => BriefStep { kind, word, number },
         }
     }
 
@@ -93,26 +89,21 @@ impl Store {
         requires { IsStepWithin self.now brief.now }
         ensures { result ≡ step_of self.now brief.now }
     {
-        match *brief {
-            BriefStep::Fill { slot, entry } => Step::Fill {
-                slot,
-                entry: self.filled[entry],
-            },
-            BriefStep::Index { word } => Step::Index { word },
-            BriefStep::StoreTail => Step::StoreTail,
-            BriefStep::LoadHead => Step::LoadHead,
-            BriefStep::Begin { count } => Step::Begin { count },
-            BriefStep::Take => Step::Take,
-            BriefStep::End => Step::End,
-            BriefStep::Issue { number } => Step::Issue { number },
-            BriefStep::Finish { number } => Step::Finish { number },
-            BriefStep::Flush => Step::Flush,
-            BriefStep::LoadCqTail => Step::LoadCqTail,
-            BriefStep::Reap => Step::Reap,
-            BriefStep::StoreCqHead => Step::StoreCqHead,
-            BriefStep::Close => Step::Close,
-            BriefStep::Next => Step::Next,
+        let BriefStep { kind, word, number } = *brief;
+        if kind == FILL {
+            return Step::Fill {
+                slot: word,
+                entry: self.filled[number as usize],
+            };
         }
+        let entry = [0; 16];
+        let words = StepWords {
+            kind,
+            word,
+            number,
+            entry,
+        };
+        words.step().unwrap_or(Step::Next)
     }
 
     /// Keeps what is long in an answer.

@@ -31,7 +31,7 @@ use Rattle.uring_core.specs.declared.step.Step.TheVariants as step
 use Rattle.uring_core.specs.declared.answer.Answer.{Answer}
 use Rattle.uring_core.specs.declared.answer.Answer.TheVariants as answer
 use Rattle.uring_core.proofs.Changes.{Change, refuses, runs, dooms, cancels, finishes, change_of, not_some}
-use Rattle.uring_core.proofs.CompletionMoves.{CompletionMove, stays, ends, flushes, sees_tail, reaps, stores_head, completion_move}
+use Rattle.uring_core.proofs.CompletionMoves.{CompletionMove, stays, ends, flushes, stores_head, completion_move}
 use Rattle.uring_core.proofs.RequestEnds.{doomed_fails}
 use Rattle.uring_core.proofs.Sound.{sound_of}
 use Rattle.uring_core.proofs.SoundRings.{IsSoundCompletions}
@@ -335,14 +335,12 @@ end_heads false size l c = (refl, refl)
 
 heads_by : (g : Setup) (w : World) (s : Step) (a : Answer) (v : World) → CompletionMove g w s a v
     → is_flush (s, a) ≡ false → is_store_cq_head (s, a) ≡ false → HeadsKept w v
-heads_by g w s a v (stays _ _ l r is_closed off none leaves) f k = record { head = refl; seen_head = refl }
 heads_by g w s a v (ends _ _ n res bytes r off tells accepted ended) f k =
     let e = end_heads (posts g.linux w.requests n res) g.cq w.completions (completion_for (entry_of w.requests n) res bytes) in
     record { head = e.0; seen_head = e.1 }
 heads_by g w s a v (flushes moved) f k = absurd cc
-heads_by g w s a v (sees_tail tail) f k = record { head = refl; seen_head = refl }
-heads_by g w s a v (reaps completion next) f k = record { head = refl; seen_head = refl }
 heads_by g w s a v (stores_head head) f k = absurd cc
+heads_by g w s a v _ f k = record { head = refl; seen_head = refl }
 
 settled_then : (g : Setup) (s : Step) (a : Answer) (h : History) → IsLawfulApart g ((s, a) ∷ h)
     → (world g h).completions.seen_head ≡ (world g h).completions.head

@@ -16,10 +16,7 @@ use uring_core::{Answer, Step, same_answer};
 use uring_entry::{Setup, errno};
 use uring_machine::Machine;
 use uring_text::{push_number, push_text};
-use uring_trace::{push_answer, read_step};
-
-/// Most bytes of a line that is a step.
-const LONGEST: usize = 300;
+use uring_trace::{push_answer, spells_in};
 
 /// Steps that were made on a new machine, and what is written of them.
 #[derive(Drop)]
@@ -51,7 +48,7 @@ impl Recording {
         ensures { (g : Setup) (h : History) → IsRecorded g self.old h
             → OnOk result (HasMade g self.new h (step.now ∷ [])) }
     {
-        let is_spelt = spells(alloc, line, step)?;
+        let is_spelt = spells_in(&alloc, alloc, line.as_bytes(), step)?;
         if !is_spelt {
             return Err(RecordingFault::Astray);
         }
@@ -81,27 +78,6 @@ impl Recording {
         drop(line);
         made
     }
-}
-
-/// Whether a line is this step.
-fn spells(alloc: Global, line: &str, step: &Step) -> Result<bool, AllocError>
-    ensures { IfOk result (λ is. is ≡ true → IsStep line.now step.now) }
-{
-    if line.len() > LONGEST {
-        return Ok(false);
-    }
-    let found = read_step(alloc, line.as_bytes())?;
-    match found {
-        Some(read) => Ok(same_step(&read, step)),
-        None => Ok(false),
-    }
-}
-
-/// Whether two steps are the same.
-fn same_step(a: &Step, b: &Step) -> bool
-    ensures { result ≡ true → a.now ≡ b.now }
-{
-    *a == *b
 }
 
 /// Whether an answer says that memory was refused, or that the numbers are spent.

@@ -49,15 +49,10 @@ accepted_issued false r n res = refl
 
 called_side : (g : Setup) (s : Step) (a : Answer) (w v : World) → is_submitting s ≡ true → SameSide w v
     → CalledForApart g w s a → CalledForApart g v s a
-called_side g (step.Fill slot entry) a w v of e called = rw (sym e.submission) called
-called_side g (step.Index word) a w v of e called = rw (sym e.submission) called
-called_side g step.StoreTail a w v of e called = rw (sym e.submission) called
-called_side g step.LoadHead a w v of e called = rw (sym e.submission) called
 called_side g (step.Begin count) a w v of e called = rw (sym e.submission, sym e.accepted, sym e.closed) called
 called_side g step.Take a w v of e called = rw (sym e.submission) called
 called_side g step.End a w v of e called = rw (sym e.submission) called
-called_side g step.Close a w v of e called = rw (sym e.submission) called
-called_side g _ a w v of e called = absurd (let f : false ≡ true = of in cc)
+called_side g _ a w v of e called = cc
 
 -- ---- the moves
 
@@ -73,8 +68,6 @@ moved g (step.Index word) a l closed r q c d of e = go a where
   go : (a : Answer) → SameSide (staging (world_with l r c closed) word a) (staging (world_with l q d closed) word a)
   go answer.Staged = record { submission = refl; accepted = e; closed = refl }
   go _ = record { submission = refl; accepted = e; closed = refl }
-moved g step.StoreTail a l closed r q c d of e = record { submission = refl; accepted = e; closed = refl }
-moved g step.LoadHead a l closed r q c d of e = record { submission = refl; accepted = e; closed = refl }
 moved g (step.Begin count) a l closed r q c d of e = go a where
   go : (a : Answer) → SameSide (beginning (world_with l r c closed) count a) (beginning (world_with l q d closed) count a)
   go (answer.Call n) = record { submission = refl; accepted = e; closed = refl }
@@ -104,7 +97,7 @@ moved g step.Close a l closed r q c d of e = go a where
   go : (a : Answer) → SameSide (closing (world_with l r c closed) a) (closing (world_with l q d closed) a)
   go answer.Shut = record { submission = refl; accepted = e; closed = refl }
   go _ = record { submission = refl; accepted = e; closed = refl }
-moved g _ a l closed r q c d of e = absurd (let f : false ≡ true = of in cc)
+moved g _ a l closed r q c d of e = record { submission = cc; accepted = cc; closed = cc }
 
 moved_side : (g : Setup) (s : Step) (a : Answer) (w v : World) → is_submitting s ≡ true → SameSide w v
     → SameSide (happens g w s a) (happens g v s a)
@@ -125,15 +118,11 @@ other_side g (step.Finish n) a w of = go a where
   go : (a : Answer) → SameSide (finishing g w n a) w
   go (answer.Ended res bytes) = record { submission = refl; accepted = refl; closed = refl }
   go _ = same_side w
-other_side g step.Flush a w of = record { submission = refl; accepted = refl; closed = refl }
-other_side g step.LoadCqTail a w of = record { submission = refl; accepted = refl; closed = refl }
 other_side g step.Reap a w of = go a where
   go : (a : Answer) → SameSide (reaping w a) w
   go (answer.Reaped completion) = record { submission = refl; accepted = refl; closed = refl }
   go _ = same_side w
-other_side g step.StoreCqHead a w of = record { submission = refl; accepted = refl; closed = refl }
-other_side g step.Next a w of = same_side w
-other_side g _ a w of = absurd (let f : true ≡ false = of in cc)
+other_side g _ a w of = record { submission = cc; accepted = cc; closed = cc }
 
 -- ---- histories
 

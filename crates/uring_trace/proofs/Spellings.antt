@@ -1,6 +1,6 @@
 -- What is read of a line's tokens is what they spell.
 use Rattle.std.proofs.Common.{◌≡◌, ℕ, ◌^◌, ◌<◌, ◌≤◌, Bool, true, false, cond, eqb, List, [], ◌∷◌, length, Option, Some, None, refl, sym, ap, subst, ◌∙◌, arith, inl, inr}
-use Rattle.std.specs.Prelude.{codes, MatchOption}
+use Rattle.std.specs.Prelude.{codes, find, Decides, MatchOption}
 use Rattle.std.specs.Option.{option_map}
 use Rattle.std.specs.Bool.{MatchBool}
 use Rattle.std.specs.Str.{bytes_eq}
@@ -14,55 +14,68 @@ use Rattle.uring_core.specs.declared.step.Step.{Step}
 use Rattle.uring_core.specs.declared.step.Step.TheVariants as step
 use Rattle.uring_text.specs.Tokens.{tokens_of}
 use Rattle.uring_text.specs.Forms.{Form, SpellsForm, IsEntryOf}
-use Rattle.uring_trace.specs.Spelling.{Spells, IsStep, IsBad}
+use Rattle.uring_trace.specs.Spelling.{name_of, steps, Spells, IsStep, IsBad}
 use Rattle.uring_text.specs.Reading.{number_of, form_of}
-use Rattle.uring_trace.specs.Reading.{ReadsStep, ReadsFill, step_of_one, step_of_two}
-use Rattle.uring_text.proofs.Options.{chosen, mapped}
+use Rattle.uring_trace.specs.Reading.{ReadsStep, ReadsFill, step_named, alone, numbered, step_of_one, step_of_two}
+use Rattle.uring_text.proofs.Options.{bind_some, chosen, mapped}
 use Rattle.uring_text.proofs.NumberLaws.{number_found, number_again}
-use Rattle.uring_text.proofs.FormLaws.{named, form_found, form_again}
+use Rattle.uring_text.proofs.FormLaws.{form_found, form_again}
 use Rattle.uring_text.proofs.EntryLaws.{entry_once}
 
--- one token
-abbrev SpellsOne : Step → List ℕ → Type 0
-SpellsOne s name = Spells (name ∷ []) s
+-- the name
+name_among : (name : List ℕ) (among : List Step) (t : Step)
+    → find (λ s. bytes_eq name (name_of s)) among ≡ Some t → name ≡ name_of t
+name_among name [] t e = absurd cc
+name_among name (first ∷ later) t e =
+    elim (chosen (bytes_eq name (name_of first)) (Some first) (find (λ s. bytes_eq name (name_of s)) later) (Some t) e) [
+      | inl p ↦ (bytes_eq-Decides name (name_of first)).0 p.0 ∙ ap name_of (same_Some first t p.1)
+      | inr p ↦ name_among name later t p.1
+    ]
 
-one_is : (text : List ℕ) (t s : Step) → Spells (text ∷ []) t → Some t ≡ Some s → SpellsOne s text
-one_is text t s h e = subst (Spells (text ∷ [])) (same_Some t s e) h
+name_found : (name : List ℕ) (t : Step) → step_named name ≡ Some t → name ≡ name_of t
+unfolding step_named
+name_found name t e = name_among name steps t e
+
+-- one token
+alone_found : (t s : Step) → alone t ≡ Some s → Spells (name_of t ∷ []) s
+alone_found (step.Fill slot entry) s e = absurd cc
+alone_found (step.Index n) s e = absurd cc
+alone_found (step.Begin n) s e = absurd cc
+alone_found (step.Issue n) s e = absurd cc
+alone_found (step.Finish n) s e = absurd cc
+alone_found t s e = subst (Spells (name_of t ∷ [])) (same_Some t s e) refl
 
 one_found : (name : List ℕ) (s : Step) → step_of_one name ≡ Some s → Spells (name ∷ []) s
-unfolding step_of_one
 one_found name s e =
-    named name (codes "tail") (SpellsOne s) (Some step.StoreTail) _ s e (one_is (codes "tail") step.StoreTail s refl) (λ e.
-    named name (codes "head") (SpellsOne s) (Some step.LoadHead) _ s e (one_is (codes "head") step.LoadHead s refl) (λ e.
-    named name (codes "take") (SpellsOne s) (Some step.Take) _ s e (one_is (codes "take") step.Take s refl) (λ e.
-    named name (codes "end") (SpellsOne s) (Some step.End) _ s e (one_is (codes "end") step.End s refl) (λ e.
-    named name (codes "flush") (SpellsOne s) (Some step.Flush) _ s e (one_is (codes "flush") step.Flush s refl) (λ e.
-    named name (codes "cqtail") (SpellsOne s) (Some step.LoadCqTail) _ s e (one_is (codes "cqtail") step.LoadCqTail s refl) (λ e.
-    named name (codes "reap") (SpellsOne s) (Some step.Reap) _ s e (one_is (codes "reap") step.Reap s refl) (λ e.
-    named name (codes "cqhead") (SpellsOne s) (Some step.StoreCqHead) _ s e (one_is (codes "cqhead") step.StoreCqHead s refl) (λ e.
-    named name (codes "close") (SpellsOne s) (Some step.Close) _ s e (one_is (codes "close") step.Close s refl) (λ e.
-    named name (codes "next") (SpellsOne s) (Some step.Next) None s e (one_is (codes "next") step.Next s refl) (λ e. absurd (let no : None ≡ Some s = e in cc)))))))))))
+    let t = bind_some (step_named name) alone s e in
+    subst (λ (n : List ℕ). Spells (n ∷ []) s) (sym (name_found name t.0 t.1)) (alone_found t.0 s t.2)
 
 -- a name and a number
-abbrev SpellsTwo : List ℕ → Step → List ℕ → Type 0
-SpellsTwo token s name = Spells (name ∷ token ∷ []) s
-
-two_is : (text token : List ℕ) (limit : ℕ) (made : ℕ → Step) (s : Step) → limit ≤ 2 ^ 64
-    → ((n : ℕ) → n < limit → Spells (text ∷ decimal n ∷ []) (made n))
-    → option_map made (number_of limit token) ≡ Some s → SpellsTwo token s text
-two_is text token limit made s le h e =
+number_said : (name token : List ℕ) (limit : ℕ) (made : ℕ → Step) (s : Step) → limit ≤ 2 ^ 64
+    → ((n : ℕ) → n < limit → Spells (name ∷ decimal n ∷ []) (made n))
+    → option_map made (number_of limit token) ≡ Some s → Spells (name ∷ token ∷ []) s
+number_said name token limit made s le h e =
     let m = mapped made (number_of limit token) s e in
     let n = number_found limit token m.0 le m.1 in
-    subst (λ (w : List ℕ). Spells (text ∷ w ∷ []) s) (sym n.0) (subst (Spells (text ∷ decimal m.0 ∷ [])) m.2 (h m.0 n.1))
+    subst (λ (w : List ℕ). Spells (name ∷ w ∷ []) s) (sym n.0) (subst (Spells (name ∷ decimal m.0 ∷ [])) m.2 (h m.0 n.1))
+
+numbered_found : (token : List ℕ) (t s : Step) → numbered token t ≡ Some s
+    → Spells (name_of t ∷ token ∷ []) s
+numbered_found token (step.Index n) s e =
+    number_said (codes "index") token (2 ^ 32) (λ n. step.Index n) s (omega arith) (λ n lt. (refl, lt)) e
+numbered_found token (step.Begin n) s e =
+    number_said (codes "begin") token (2 ^ 32) (λ n. step.Begin n) s (omega arith) (λ n lt. (refl, lt)) e
+numbered_found token (step.Issue n) s e =
+    number_said (codes "issue") token (2 ^ 64) (λ n. step.Issue n) s (omega arith) (λ n lt. (refl, lt)) e
+numbered_found token (step.Finish n) s e =
+    number_said (codes "finish") token (2 ^ 64) (λ n. step.Finish n) s (omega arith) (λ n lt. (refl, lt)) e
+numbered_found token _ s e = absurd cc
 
 two_found : (name token : List ℕ) (s : Step) → step_of_two name token ≡ Some s
     → Spells (name ∷ token ∷ []) s
-unfolding step_of_two
 two_found name token s e =
-    named name (codes "index") (SpellsTwo token s) (option_map (λ n. step.Index n) (number_of (2 ^ 32) token)) _ s e (two_is (codes "index") token (2 ^ 32) (λ n. step.Index n) s (omega arith) (λ n lt. (refl, lt))) (λ e.
-    named name (codes "begin") (SpellsTwo token s) (option_map (λ n. step.Begin n) (number_of (2 ^ 32) token)) _ s e (two_is (codes "begin") token (2 ^ 32) (λ n. step.Begin n) s (omega arith) (λ n lt. (refl, lt))) (λ e.
-    named name (codes "issue") (SpellsTwo token s) (option_map (λ n. step.Issue n) (number_of (2 ^ 64) token)) _ s e (two_is (codes "issue") token (2 ^ 64) (λ n. step.Issue n) s (omega arith) (λ n lt. (refl, lt))) (λ e.
-    named name (codes "finish") (SpellsTwo token s) (option_map (λ n. step.Finish n) (number_of (2 ^ 64) token)) None s e (two_is (codes "finish") token (2 ^ 64) (λ n. step.Finish n) s (omega arith) (λ n lt. (refl, lt))) (λ e. absurd (let no : None ≡ Some s = e in cc)))))
+    let t = bind_some (step_named name) (numbered token) s e in
+    subst (λ (n : List ℕ). Spells (n ∷ token ∷ []) s) (sym (name_found name t.0 t.1)) (numbered_found token t.0 s t.2)
 
 -- a fill
 fill_found : (token : List ℕ) (rest : List (List ℕ)) (s : Step) (o : Option ℕ) (f : Option Form)
@@ -118,7 +131,7 @@ fill_again slot entry rest f lt h is_entry tokens is =
     subst (ReadsStep (Some (step.Fill slot entry))) (sym is) filled
 
 step_again : (tokens : List (List ℕ)) (s : Step) → Spells tokens s → ReadsStep (Some s) tokens
-unfolding step_of_one step_of_two
+unfolding step_named
 step_again tokens (step.Fill slot entry) h =
     fill_again slot entry h.0 h.3.form h.2 h.3.spells h.3.is_entry tokens h.1
 step_again tokens (step.Index n) h =
@@ -128,16 +141,7 @@ step_again tokens (step.Begin n) h =
 step_again tokens (step.Issue n) h =
     two_again (codes "issue") n (2 ^ 64) (λ n. step.Issue n) (omega arith) h.1 refl refl tokens h.0
 step_again tokens (step.Finish n) h = two_again (codes "finish") n (2 ^ 64) (λ n. step.Finish n) (omega arith) h.1 refl refl tokens h.0
-step_again tokens step.StoreTail h = one_again (codes "tail") step.StoreTail refl tokens h
-step_again tokens step.LoadHead h = one_again (codes "head") step.LoadHead refl tokens h
-step_again tokens step.Take h = one_again (codes "take") step.Take refl tokens h
-step_again tokens step.End h = one_again (codes "end") step.End refl tokens h
-step_again tokens step.Flush h = one_again (codes "flush") step.Flush refl tokens h
-step_again tokens step.LoadCqTail h = one_again (codes "cqtail") step.LoadCqTail refl tokens h
-step_again tokens step.Reap h = one_again (codes "reap") step.Reap refl tokens h
-step_again tokens step.StoreCqHead h = one_again (codes "cqhead") step.StoreCqHead refl tokens h
-step_again tokens step.Close h = one_again (codes "close") step.Close refl tokens h
-step_again tokens step.Next h = one_again (codes "next") step.Next refl tokens h
+step_again tokens s h = one_again (name_of s) s refl tokens h
 
 -- ---- tokens are read in one way
 
@@ -195,3 +199,10 @@ pub read_line : (line : List ℕ) (read : Option Step) → length line ≤ 300
 read_line line None le e =
     λ s h. none_and_step (tokens_of line) s e (step_again (tokens_of line) s h.spells)
 read_line line (Some s) le e = record { short = le; spells = step_found (tokens_of line) s e }
+
+-- ---- whether a line is a step
+
+pub spells_read : (line : List ℕ) (read s : Step) (same : Bool) → IsStep line read
+    → Decides same (read ≡ s) → Decides same (IsStep line s)
+spells_read line read s same is decides =
+    (λ so. subst (IsStep line) (decides.0 so) is, λ h. decides.1 (step_once line read s is h))

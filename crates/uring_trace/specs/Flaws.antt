@@ -1,6 +1,7 @@
 -- What is wrong with a line that isn't one of a language of steps. The languages and the words are our own rule.
 use Rattle.std.specs.Prelude.{ℕ, Bool, ◌==◌, ◌||◌, nat_lt, List, [], ◌∷◌, length, Option, Some, None, if◌then◌else◌, codes}
 use Rattle.std.specs.Str.{bytes_eq}
+use Rattle.std.specs.Option.{option_map}
 use Rattle.uring_text.specs.Tokens.{tokens_of}
 use Rattle.uring_text.specs.Places.{is_of_kind}
 use Rattle.uring_text.specs.Reaches.{reach_at, further, named_reach, entry_reach}
@@ -10,24 +11,10 @@ use Rattle.uring_text.specs.declared.place.Kind.TheVariants as kind
 use Rattle.uring_text.specs.declared.place.Place.{Place}
 use Rattle.uring_text.specs.declared.place.Place.TheVariants as place
 use Rattle.uring_text.specs.declared.reach.Reach.{Reach}
+use Rattle.uring_trace.specs.Spelling.{kinds_of}
+use Rattle.uring_trace.specs.Reading.{step_named}
 use Rattle.uring_trace.specs.declared.flaws.Language.{Language}
 use Rattle.uring_trace.specs.declared.flaws.Language.TheVariants as language
-
--- whether a name is that of a step of one token
-abbrev pub is_alone : List ℕ → Bool
-is_alone name =
-    bytes_eq name (codes "tail") || bytes_eq name (codes "head") || bytes_eq name (codes "take")
-    || bytes_eq name (codes "end") || bytes_eq name (codes "flush") || bytes_eq name (codes "cqtail")
-    || bytes_eq name (codes "reap") || bytes_eq name (codes "cqhead") || bytes_eq name (codes "close")
-    || bytes_eq name (codes "next")
-
--- the kinds of the tokens after the name of a step, other than `fill`
-abbrev pub step_kinds : List ℕ → Option (List Kind)
-step_kinds name =
-    if bytes_eq name (codes "index") then Some (kind.Word ∷ []) else
-    if bytes_eq name (codes "begin") then Some (kind.Count ∷ []) else
-    if bytes_eq name (codes "issue") || bytes_eq name (codes "finish") then Some (kind.Number ∷ []) else
-    if is_alone name then Some [] else None
 
 -- how far the tokens after `fill` fit
 abbrev pub fill_reach : List (List ℕ) → Reach
@@ -40,7 +27,7 @@ abbrev pub step_reach : List (List ℕ) → Reach
 step_reach [] = reach_at place.Step
 step_reach (name ∷ tokens) =
     if bytes_eq name (codes "fill") then further (fill_reach tokens) else
-    named_reach place.Step (step_kinds name) tokens
+    named_reach place.Step (option_map kinds_of (step_named name)) tokens
 
 -- the kinds of the tokens after the name of what is to be shown
 abbrev pub shown_kinds : List ℕ → Option (List Kind)

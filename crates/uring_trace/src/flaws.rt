@@ -2,8 +2,9 @@
 
 ghost use Rattle.std.specs.Prelude.{◌≡◌, ◌≤◌, ◌++◌, ℕ, List, OnOk, IsOk, length, map, option_map, string_bytes};
 ghost use Rattle.uring_text.specs.KeptLine.{kept_of};
-ghost use Rattle.uring_trace.specs.Flaws.{is_alone, step_kinds, fill_reach, step_reach, shown_kinds, shown_reach, asked_reach, with_answer, line_reach, line_flaw};
+ghost use Rattle.uring_trace.specs.Flaws.{fill_reach, step_reach, shown_kinds, shown_reach, asked_reach, with_answer, line_reach, line_flaw};
 
+use crate::step_lines::{kinds_of, step_named};
 use std::alloc::{AllocError, Global};
 use uring_text::{
     KeptLine, Kind, Place, Reach, TextMemory, entry_reach, is_name, is_of_kind, kinds_reach,
@@ -115,39 +116,10 @@ fn step_reach(tokens: &[&[u8]]) -> Reach
     if is_name(name, "fill") {
         return fill_reach(tokens).further();
     }
-    match step_kinds(name) {
-        Some(kinds) => kinds_reach(kinds, tokens).further(),
+    match step_named(name) {
+        Some(step) => kinds_reach(kinds_of(&step), tokens).further(),
         None => Reach::at(Place::Step),
     }
-}
-
-/// The kinds of the tokens after the name of a step, other than `fill`.
-fn step_kinds(name: &[u8]) -> Option<&'static [Kind]>
-    ensures { option_map (λ kinds. kinds.now) result ≡ step_kinds name.now }
-{
-    match name {
-        _ if is_name(name, "index") => Some(&[Kind::Word]),
-        _ if is_name(name, "begin") => Some(&[Kind::Count]),
-        _ if is_name(name, "issue") || is_name(name, "finish") => Some(&[Kind::Number]),
-        _ if is_alone(name) => Some(&[]),
-        _ => None,
-    }
-}
-
-/// Whether a name is that of a step of one token.
-fn is_alone(name: &[u8]) -> bool
-    ensures { result ≡ is_alone name.now }
-{
-    is_name(name, "tail")
-        || is_name(name, "head")
-        || is_name(name, "take")
-        || is_name(name, "end")
-        || is_name(name, "flush")
-        || is_name(name, "cqtail")
-        || is_name(name, "reap")
-        || is_name(name, "cqhead")
-        || is_name(name, "close")
-        || is_name(name, "next")
 }
 
 /// How far the tokens after `fill` fit.

@@ -23,6 +23,6 @@ pub use flaws::{Language, push_line_flaw, push_line_flaw_in};
 pub use reason_text::{
     push_found, push_found_in, push_since, push_since_in, push_why, push_why_in,
 };
-pub use step_lines::{read_step, read_step_in};
+pub use step_lines::{read_step, read_step_in, spells_in, step_name};
 pub use trace_loop::{trace, trace_in};
 pub use uring_text::TraceFault;

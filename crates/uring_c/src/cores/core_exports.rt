@@ -13,11 +13,12 @@ ghost use Rattle.uring_crossing.specs.CoreWords.OperationForm.{words_of_operatio
 ghost use Rattle.uring_crossing.specs.Boxes.Places.{core_in};
 ghost use Rattle.uring_crossing.specs.CoreWords.ReadingForms.{words_of_completion, counts_told};
 ghost use Rattle.uring_crossing.specs.CoreWords.SetUps.{IsAskedFor, IsRefused, without_files};
-ghost use Rattle.uring_crossing.specs.CoreWords.StepForm.{core_step_of};
+ghost use Rattle.uring_core.specs.StepForm.{core_step_of};
 ghost use Rattle.uring_crossing.specs.CoreWords.WhyForm.{words_of_why};
 ghost use Rattle.uring_crossing.specs.Cores.Stepping.{TellsStepApart, TellsFinish};
 
 use std::alloc::Global;
+use uring_core::StepWords;
 use uring_crossing::answer_words::{AnswerWords, answer_words};
 use uring_crossing::completion_words::{CompletionWords, OutcomeBytes, completion_words};
 use uring_crossing::core_memory::{core_new_in, core_step_in};
@@ -25,7 +26,6 @@ use uring_crossing::core_place::CorePlace;
 use uring_crossing::count_words::{CountWords, count_words};
 use uring_crossing::operation_words::{OperationWords, operation_words};
 use uring_crossing::set_up_words::SetupWords;
-use uring_crossing::step_words::StepWords;
 use uring_crossing::why_words::{WhyWords, why_words};
 use uring_entry::errno;
 use uring_machine::Outcome;

@@ -17,10 +17,11 @@ ghost use Rattle.uring_crossing.specs.CoreWords.Cuts as spec;
 ghost use Rattle.uring_crossing.specs.CoreWords.OperationForm.{words_of_operation};
 ghost use Rattle.uring_crossing.specs.Boxes.Places.{crash_machine_in};
 ghost use Rattle.uring_crossing.specs.CoreWords.ReadingForms.{words_of_completion, counts_told, words_of_state};
-ghost use Rattle.uring_crossing.specs.CoreWords.StepForm.{step_of};
+ghost use Rattle.uring_core.specs.StepForm.{step_of};
 ghost use Rattle.uring_crossing.specs.declared.machines.crash_machine_memory.TheConstants.{ENOTRECOVERABLE};
 
 use std::alloc::Global;
+use uring_core::StepWords;
 use uring_crossing::answer_words::AnswerWords;
 use uring_crossing::completion_words::{CompletionWords, completion_words};
 use uring_crossing::count_words::{CountWords, count_words};
@@ -31,7 +32,6 @@ use uring_crossing::crash_machine_place::CrashMachinePlace;
 use uring_crossing::operation_words::{OperationWords, operation_words};
 use uring_crossing::set_up_words::SetupWords;
 use uring_crossing::state_words::{StateWords, state_words};
-use uring_crossing::step_words::StepWords;
 use uring_entry::errno;
 
 /// Puts a new machine into a place, its files empty; what was there is freed. A crash leaves each unit of so many bytes by itself. -22 (EINVAL) exactly if the set-up is refused or a unit has no byte; -12 (ENOMEM) if memory is refused. Then the place keeps what it had.

@@ -16,11 +16,12 @@ ghost use Rattle.uring_crossing.specs.CoreWords.OperationForm.{words_of_operatio
 ghost use Rattle.uring_crossing.specs.Boxes.Places.{machine_in};
 ghost use Rattle.uring_crossing.specs.CoreWords.ReadingForms.{words_of_completion, counts_told, words_of_state};
 ghost use Rattle.uring_crossing.specs.CoreWords.SetUps.{IsAskedFor, IsRefused};
-ghost use Rattle.uring_crossing.specs.CoreWords.StepForm.{step_of};
+ghost use Rattle.uring_core.specs.StepForm.{step_of};
 ghost use Rattle.uring_crossing.specs.CoreWords.WhyForm.{words_of_why};
 ghost use Rattle.uring_crossing.specs.Cores.Stepping.{TellsStep};
 
 use std::alloc::Global;
+use uring_core::StepWords;
 use uring_crossing::answer_words::AnswerWords;
 use uring_crossing::completion_words::{CompletionWords, completion_words};
 use uring_crossing::count_words::{CountWords, count_words};
@@ -29,7 +30,6 @@ use uring_crossing::machine_place::MachinePlace;
 use uring_crossing::operation_words::{OperationWords, operation_words};
 use uring_crossing::set_up_words::SetupWords;
 use uring_crossing::state_words::{StateWords, state_words};
-use uring_crossing::step_words::StepWords;
 use uring_crossing::why_words::{WhyWords, why_words};
 use uring_entry::errno;
 

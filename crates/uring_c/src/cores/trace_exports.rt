@@ -10,12 +10,12 @@ ghost use Rattle.uring_crossing.specs.Volumes.VolumeForms.{IsGiven};
 ghost use Rattle.uring_crossing.specs.Traces.Traced.{TellsEvent, submitted_for, reaped_event};
 
 use std::alloc::Global;
+use uring_core::StepWords;
 use uring_crossing::answer_words::AnswerWords;
 use uring_crossing::completion_words::CompletionWords;
 use uring_crossing::flag_letters::trace_flags_in;
 use uring_crossing::set_up_words::SetupWords;
 use uring_crossing::setup_lines::trace_setup_in;
-use uring_crossing::step_words::StepWords;
 use uring_crossing::trace_lines::trace_line_in;
 use uring_crossing::traced::{reaped_step, submitted_step};
 use uring_crossing::whole_call_memory::EntryWords;

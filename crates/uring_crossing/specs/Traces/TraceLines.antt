@@ -3,10 +3,10 @@ use Rattle.std.specs.Prelude.{◌≡◌, ℕ, List, true, Some, IsSomeAnd}
 use Rattle.uring_core.specs.declared.answer.Answer.{Answer}
 use Rattle.uring_core.specs.declared.step.Step.{Step}
 use Rattle.uring_crossing.specs.CoreWords.AnswerForm.{answer_of}
-use Rattle.uring_crossing.specs.CoreWords.StepForm.{step_of}
+use Rattle.uring_core.specs.StepForm.{step_of}
 use Rattle.uring_crossing.specs.Volumes.VolumeForms.{IsGiven}
 use Rattle.uring_crossing.specs.declared.core_words.answer_words.AnswerWords.{AnswerWords}
-use Rattle.uring_crossing.specs.declared.core_words.step_words.StepWords.{StepWords}
+use Rattle.uring_core.specs.declared.step.StepWords.{StepWords}
 use Rattle.uring_trace.specs.Exchanges.{answer_text}
 use Rattle.uring_trace.specs.Spelling.{IsStep}
 

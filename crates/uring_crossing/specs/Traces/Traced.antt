@@ -8,10 +8,10 @@ use Rattle.uring_core.specs.declared.answer.Answer.TheVariants as answer
 use Rattle.uring_core.specs.declared.step.Step.{Step}
 use Rattle.uring_core.specs.declared.step.Step.TheVariants as step
 use Rattle.uring_crossing.specs.CoreWords.AnswerForm.{words_of}
-use Rattle.uring_crossing.specs.CoreWords.StepForm.{step_of, words_of_step}
+use Rattle.uring_core.specs.StepForm.{step_of, words_of_step}
 use Rattle.uring_crossing.specs.declared.core_words.answer_words.AnswerWords.{AnswerWords}
 use Rattle.uring_crossing.specs.declared.core_words.completion_words.CompletionWords.{CompletionWords}
-use Rattle.uring_crossing.specs.declared.core_words.step_words.StepWords.{StepWords}
+use Rattle.uring_core.specs.declared.step.StepWords.{StepWords}
 use Rattle.uring_crossing.specs.declared.cores.whole_call_memory.EntryWords.{EntryWords}
 
 -- A submission call of entries, of a ring with this head.

@@ -6,16 +6,16 @@ ghost use Rattle.uring_core.specs.Histories.{History, world};
 ghost use Rattle.uring_crossing.specs.CoreWords.AnswerForm.{IsAgain};
 ghost use Rattle.uring_crossing.specs.Boxes.Places.{core_in};
 ghost use Rattle.uring_crossing.specs.CoreWords.SetUps.{IsAskedFor, IsRefused, without_files, SufficesFor};
-ghost use Rattle.uring_crossing.specs.CoreWords.StepForm.{core_step_of};
+ghost use Rattle.uring_core.specs.StepForm.{core_step_of};
 ghost use Rattle.uring_crossing.specs.Cores.Stepping.{TellsStepApart};
 
 use crate::boxes::box_memory::BoxMemory;
 use crate::core_words::answer_words::{AnswerWords, answer_words};
 use crate::core_words::set_up_words::SetupWords;
-use crate::core_words::step_words::StepWords;
 use crate::cores::core_calls::new_core;
 use crate::cores::core_place::CorePlace;
 use std::alloc::Global;
+use uring_core::StepWords;
 use uring_entry::errno;
 use uring_memory::Memory;
 

@@ -7,7 +7,7 @@ ghost use Rattle.uring_crossing.specs.Machines.Crashing.{IsNoStart, AreShort, Be
 ghost use Rattle.uring_crossing.specs.CoreWords.Cuts as spec;
 ghost use Rattle.uring_crossing.specs.Boxes.Places.{crash_machine_in};
 ghost use Rattle.uring_crossing.specs.CoreWords.SetUps.{IsAskedFor};
-ghost use Rattle.uring_crossing.specs.CoreWords.StepForm.{step_of};
+ghost use Rattle.uring_core.specs.StepForm.{step_of};
 ghost use Rattle.uring_crossing.specs.Volumes.VolumeForms.{TellsCrash, TellsCount, TellsImages, HasMore};
 ghost use Rattle.uring_crossing.specs.declared.machines.crash_machine_memory.TheConstants.{ENOTRECOVERABLE};
 
@@ -15,11 +15,11 @@ use crate::boxes::box_memory::BoxMemory;
 use crate::core_words::answer_words::{AnswerWords, answer_words};
 use crate::core_words::cuts::cut;
 use crate::core_words::set_up_words::SetupWords;
-use crate::core_words::step_words::StepWords;
 use crate::machines::crash_machine_calls::new_crash_machine;
 use crate::machines::crash_machine_place::CrashMachinePlace;
 use crate::volumes::volume_memory::{MOST_IMAGES, give, give_images};
 use std::alloc::{AllocError, Global};
+use uring_core::StepWords;
 use uring_entry::errno;
 use uring_machine::Setup;
 use uring_memory::Memory;

@@ -5,16 +5,16 @@ ghost use Rattle.uring_core.specs.Histories.{History, world};
 ghost use Rattle.uring_machine.specs.Machine.{Fits, elements_for_step};
 ghost use Rattle.uring_crossing.specs.Boxes.Places.{machine_in};
 ghost use Rattle.uring_crossing.specs.CoreWords.SetUps.{IsAskedFor, IsRefused, SufficesFor};
-ghost use Rattle.uring_crossing.specs.CoreWords.StepForm.{step_of};
+ghost use Rattle.uring_core.specs.StepForm.{step_of};
 ghost use Rattle.uring_crossing.specs.Cores.Stepping.{TellsStep, TellUnrefused};
 
 use crate::boxes::box_memory::BoxMemory;
 use crate::core_words::answer_words::{AnswerWords, answer_words};
 use crate::core_words::set_up_words::SetupWords;
-use crate::core_words::step_words::StepWords;
 use crate::machines::machine_calls::new_machine;
 use crate::machines::machine_place::MachinePlace;
 use std::alloc::Global;
+use uring_core::StepWords;
 use uring_entry::errno;
 use uring_memory::Memory;
 

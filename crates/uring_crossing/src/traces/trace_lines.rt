@@ -1,22 +1,17 @@
 //! A step with its answer as a line of a trace, which is read back before it is given.
 ghost use Rattle.std.specs.Prelude.{◌≡◌, ℕ, [], IfOk, IsOk, string_bytes, true, pos, neg_ℤ};
 ghost use Rattle.uring_entry.specs.declared.errno.TheConstants.{EINVAL, ENOMEM};
-ghost use Rattle.uring_trace.specs.Spelling.{IsStep};
 ghost use Rattle.uring_crossing.specs.Traces.TraceLines.{IsLineOf, TellsLine};
 
 use crate::core_words::answer_words::AnswerWords;
-use crate::core_words::step_words::StepWords;
 use crate::traces::flag_letters::push_flags;
 use crate::volumes::volume_memory::give;
 use std::alloc::{AllocError, Global};
+use uring_core::StepWords;
 use uring_entry::{Sqe, errno};
 use uring_machine::{Answer, Step};
-use uring_memory::Memory;
 use uring_text::{Name, TextMemory, push_named, push_operation, push_signed, push_text};
-use uring_trace::{push_answer_in, read_step_in};
-
-/// Most bytes of a line that is a step.
-const LONGEST: usize = 300;
+use uring_trace::{push_answer_in, spells_in, step_name};
 
 /// What `wulgach_trace_line` does, by this memory. If it grants whatever is asked for, -12 isn't returned.
 pub fn trace_line_in<M: TextMemory>(
@@ -63,40 +58,13 @@ fn write_line<M: TextMemory>(
     ensures granted { ((n : ℕ) → M.grants memory.now n) → IsOk result }
 {
     push_step(memory, text, step)?;
-    let is_read = is_read_as(memory, alloc, text.as_bytes(), step)?;
+    let is_read = spells_in(memory, alloc, text.as_bytes(), step)?;
     if !is_read {
         return Ok(false);
     }
     push_text(memory, text, " = ")?;
     push_answer_in(memory, text, answer)?;
     Ok(true)
-}
-
-/// Whether a line is read as this step.
-fn is_read_as<M: Memory>(
-    memory: &M,
-    alloc: Global,
-    line: &[u8],
-    step: &Step,
-) -> Result<bool, AllocError>
-    ensures step { IfOk result (λ is. is ≡ true → IsStep line.now step.now) }
-    ensures granted { ((n : ℕ) → M.grants memory.now n) → IsOk result }
-{
-    if line.len() > LONGEST {
-        return Ok(false);
-    }
-    let found = read_step_in(memory, alloc, line)?;
-    match found {
-        Some(read) => Ok(same_step(&read, step)),
-        None => Ok(false),
-    }
-}
-
-/// Whether two steps are the same.
-fn same_step(a: &Step, b: &Step) -> bool
-    ensures { result ≡ true → a.now ≡ b.now }
-{
-    *a == *b
 }
 
 /// Appends a step as its line has it.
@@ -106,19 +74,10 @@ fn push_step<M: TextMemory>(memory: &M, text: &mut String, step: &Step) -> Resul
     match step {
         Step::Fill { slot, entry } => push_fill(memory, text, *slot, entry),
         Step::Index { word } => push_named(memory, text, "index ", u64::from(*word)),
-        Step::StoreTail => push_text(memory, text, "tail"),
-        Step::LoadHead => push_text(memory, text, "head"),
         Step::Begin { count } => push_named(memory, text, "begin ", u64::from(*count)),
-        Step::Take => push_text(memory, text, "take"),
-        Step::End => push_text(memory, text, "end"),
         Step::Issue { number } => push_named(memory, text, "issue ", *number),
         Step::Finish { number } => push_named(memory, text, "finish ", *number),
-        Step::Flush => push_text(memory, text, "flush"),
-        Step::LoadCqTail => push_text(memory, text, "cqtail"),
-        Step::Reap => push_text(memory, text, "reap"),
-        Step::StoreCqHead => push_text(memory, text, "cqhead"),
-        Step::Close => push_text(memory, text, "close"),
-        Step::Next => push_text(memory, text, "next"),
+        _ => push_text(memory, text, step_name(step)),
     }
 }
 

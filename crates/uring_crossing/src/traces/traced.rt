@@ -6,8 +6,8 @@ ghost use Rattle.uring_crossing.specs.Traces.Traced.{NamesTheSteps, TellsEachSte
 
 use crate::core_words::answer_words::{AnswerWords, answer_words};
 use crate::core_words::completion_words::CompletionWords;
-use crate::core_words::step_words::StepWords;
 use crate::cores::whole_call_memory::EntryWords;
+use uring_core::StepWords;
 use uring_entry::{Cqe, Sqe};
 use uring_machine::{Answer, Step};
 

@@ -2,7 +2,7 @@
 use Rattle.std.specs.Prelude.{ℕ, Bool, ◌==◌, nat_lt, ◌||◌, ◌&&◌, List, Option, Some, None, if◌then◌else◌, replicate}
 use Rattle.uring_core.specs.declared.step.Step.{Step}
 use Rattle.uring_core.specs.declared.step.Step.TheVariants as step
-use Rattle.uring_crossing.specs.declared.core_words.step_words.StepWords.{StepWords}
+use Rattle.uring_core.specs.declared.step.StepWords.{StepWords}
 
 -- the steps of the application
 abbrev pub app_step_of : StepWords → Option Step

@@ -1,5 +1,0 @@
-use Rattle.uring_histories.proofs.SameSteps.{told_same}
-use Rattle.uring_histories.proofs.recording.same_step.Goals as goal
-
-pub returns : goal.returns
-returns c = told_same c.args.a.now c.args.b.now c.eq.result c.eq.ensures
