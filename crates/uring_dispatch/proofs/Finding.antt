@@ -17,7 +17,7 @@ use Rattle.uring_dispatch.proofs.HeldLemmas.{outstanding_none, outstanding_some}
 pub operation_held : (w : Window) (g : Groups) (r : Requests) (n : ℕ) (request : Request)
     → IsSound w g → AreHeld w g r → at w n ≡ Some request → operation_outstanding r n ≡ request.op
 operation_held w g r n request s h e =
-    ap (λ b. if b && not (is_faulty (entry_of r n)) then Some (operation_of (entry_of r n)) else None) (outstanding_some w g r n request s h e)
+    ap (λ b. if b && not (is_faulty (entry_of r n)) then Some (operation_of (entry_of r n)) else None) (outstanding_some s h _ e)
     ∙ go (is_faulty (entry_of r n))
     ∙ sym (h.shown n request e).op
   where
@@ -28,7 +28,7 @@ operation_held w g r n request s h e =
 pub finds_gone : (w : Window) (g : Groups) (r : Requests) (n : ℕ) → AreHeld w g r → at w n ≡ None
     → None ≡ found_by r n
 finds_gone w g r n h e =
-    sym (ap (λ b. found_for r n (if b && not (is_faulty (entry_of r n)) then Some (operation_of (entry_of r n)) else None)) (outstanding_none w g r n h e))
+    sym (ap (λ b. found_for r n (if b && not (is_faulty (entry_of r n)) then Some (operation_of (entry_of r n)) else None)) (outstanding_none h _ e))
 
 -- by what it is to do
 pub finds_by : (w : Window) (g : Groups) (r : Requests) (n : ℕ) (request : Request) (op : Option Op)

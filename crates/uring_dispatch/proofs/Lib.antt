@@ -10,14 +10,12 @@ pub mod HeldLemmas
 pub mod WhyHeld
 pub mod Finding
 pub mod EndLemmas
-pub mod EndsHeld
 pub mod Issues
 pub mod Touches
 pub mod Changes
 pub mod ByData
 pub mod Choosing
 pub mod Accepts
-pub mod AcceptsHeld
 pub mod AcceptsListed
 pub mod Alike
 pub mod Views

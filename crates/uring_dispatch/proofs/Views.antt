@@ -49,23 +49,23 @@ held_from d w g room between r e s =
 
 pub least_held : (w : Window) (g : Groups) (r : Requests) (o : Option ℕ) → IsSound w g
     → AreHeld w g r → MatchOption o ((n : ℕ) → at w n ≡ None) (IsFirst w) → o ≡ least_of r
-least_held w g r None s h m = sym (least_below_none (is_outstanding r) (length r.accepted) (λ k lt. outstanding_none w g r k h (m k)))
+least_held w g r None s h m = sym (least_below_none (is_outstanding r) (length r.accepted) (λ k lt. outstanding_none h _ (m k)))
 least_held w g r (Some n) s h m =
     let q = is_some_value (at w n) m.here in
     sym
-    (least_below_some (is_outstanding r) (length r.accepted) n (shown_within w g r n q.0 s h q.1) (outstanding_some w g r n q.0 s h q.1)
-    (λ k lt. outstanding_none w g r k h (m.before k lt)))
+    (least_below_some (is_outstanding r) (length r.accepted) n (shown_within s h q.1) (outstanding_some s h _ q.1)
+    (λ k lt. outstanding_none h _ (m.before k lt)))
 
 pub entry_none : (w : Window) (g : Groups) (r : Requests) (n : ℕ) → AreHeld w g r → at w n ≡ None
     → None ≡ entry_outstanding r n
 entry_none w g r n h e =
-    sym (ap (λ b. if b then Some (entry_of r n) else None) (outstanding_none w g r n h e))
+    sym (ap (λ b. if b then Some (entry_of r n) else None) (outstanding_none h _ e))
 
 pub entry_some : (w : Window) (g : Groups) (r : Requests) (n : ℕ) (q : Request) → IsSound w g
     → AreHeld w g r → at w n ≡ Some q → Some q.entry ≡ entry_outstanding r n
 entry_some w g r n q s h e =
     ap Some (h.shown n q e).entry
-    ∙ sym (ap (λ b. if b then Some (entry_of r n) else None) (outstanding_some w g r n q s h e))
+    ∙ sym (ap (λ b. if b then Some (entry_of r n) else None) (outstanding_some s h _ e))
 
 pub operation_none : (r : Requests) (n : ℕ) → is_running r n ≡ false → None ≡ operation_running r n
 operation_none r n e = sym (ap (λ b. if b then Some (operation_of (entry_of r n)) else None) e)
@@ -75,7 +75,7 @@ pub operation_some : (w : Window) (g : Groups) (r : Requests) (n : ℕ) (q : Req
 operation_some w g r n q h e runs =
     let shown = h.shown n q e in
     shown.op ∙ ap (λ b. if b then None else Some (operation_of (entry_of r n))) (shown.sound runs)
-    ∙ sym (ap (λ b. if b then Some (operation_of (entry_of r n)) else None) (running_some w g r n q h e ∙ runs))
+    ∙ sym (ap (λ b. if b then Some (operation_of (entry_of r n)) else None) (running_some h _ e ∙ runs))
 
 -- nothing is held at first
 pub empty_held : (w : Window) (g : Groups) → ((n : ℕ) → at w n ≡ None) → end_of w ≡ 0
@@ -86,8 +86,8 @@ empty_held w g none end outstanding running groups = record {
   outstanding = outstanding;
   running = running;
   ended = λ n e lt. absurd (omega arith);
-  shown = λ n q e. some_none q _ (none n) e;
-  groups = λ key q e. some_none q _ (groups key) e;
+  shown = λ n q e. some_none (none n) e;
+  groups = λ key q e. some_none (groups key) e;
   last = λ k e. absurd (omega arith);
   untouched = λ n le. record { started = refl; ended = refl; cancelled = refl; cut = refl };
 }
@@ -95,11 +95,11 @@ empty_held w g none end outstanding running groups = record {
 pub empty_sound : (w : Window) (g : Groups) → ((n : ℕ) → at w n ≡ None) → end_of w ≡ 0
     → ((key : ℕ) → group_at g key ≡ None) → IsBeyond g.barriers 0 → IsSound w g
 empty_sound w g none end groups beyond = record {
-  linked = λ n q e. some_none q _ (none n) e;
-  members = λ key q n request found from to e. some_none request _ (none n) e;
-  kept = λ key q e. some_none q _ (groups key) e;
+  linked = λ n q e. some_none (none n) e;
+  members = λ key q n request found from to e. some_none (none n) e;
+  kept = λ key q e. some_none (groups key) e;
   beyond = let P : ℕ → Type 0 = λ x. IsBeyond g.barriers x in subst P (sym end) beyond;
-  last = λ key q e found. some_none q _ (groups key) found;
+  last = λ key q e found. some_none (groups key) found;
 }
 
 -- Room.
@@ -120,22 +120,10 @@ unchanged_end None old new c = ap (λ (d : Dispatch). d.accepted) c
 
 pub room_stays : (old new : Outstanding) (room : ℕ) → Stays old new
     → end_of new.grouped.window ≡ end_of old.grouped.window → HasRoom old room → HasRoom new room
-room_stays old new room s end r = record {
-  window = omega (arith, s.window, r.window);
-  groups = omega (arith, s.groups, r.groups);
-  heads = omega (arith, end, s.memory.heads, r.heads);
-  doomed = omega (arith, end, s.memory.doomed, r.doomed);
-  places = omega (arith, end, r.places, s.places);
-}
+room_stays old new room s end r = omega arith
 
 pub room_fewer : (d : Outstanding) (room fewer : ℕ) → fewer ≤ room → HasRoom d room → HasRoom d fewer
-room_fewer d room fewer le r = record {
-  window = omega (arith, r.window);
-  groups = omega (arith, r.groups);
-  heads = omega (arith, r.heads);
-  doomed = omega (arith, r.doomed);
-  places = omega (arith, r.places);
-}
+room_fewer d room fewer le r = omega arith
 
 -- room was asked for, and not refused
 pub reserved_room : {E : Type 0} (d : Outstanding) (x : Result (Unit {0}) E) (w : Window) (s : Waiting) (count : ℕ)
@@ -144,8 +132,7 @@ pub reserved_room : {E : Type 0} (d : Outstanding) (x : Result (Unit {0}) E) (w 
     → stop_of s.heads + count ≤ d.waiting.heads.limit
     → stop_of s.doomed + count ≤ d.waiting.doomed.limit
     → OnOk x (HasPlaces d.by_user_data (end_of d.grouped.window + count)) → OnOk x (HasRoom d count)
-reserved_room d (Ok u) w s count window groups end a b heads doomed places =
-    record { window = omega (arith, window); groups = omega (arith, groups); heads = omega (arith, end, a, heads); doomed = omega (arith, end, b, doomed); places = places }
+reserved_room d (Ok u) w s count window groups end a b heads doomed places = omega arith
 reserved_room d (Err u) w s count window groups end a b heads doomed places = places
 
 -- the dispatcher shows no more than before, if only the room of its parts differs

@@ -18,172 +18,143 @@ found_other : (was now : List (Option Request)) (key : ℕ) (o : Option ℕ)
 found_other was now key None h ne = refl
 found_other was now key (Some k) h ne = h k (ne k refl)
 
--- what a request of a new key leaves as it was
-unused : (w : Window) (key n k : ℕ) → IsWindow w → get_or w.requests key None ≡ None
-    → key_at w.first w.keys n ≡ Some k → k ≢ key
-unused w key n k i vacant e same =
-    both_ways _ (ap is_some (ap (λ j. get_or w.requests j None) same ∙ vacant)) (i.present n k e)
+-- A request of a new key is pushed.
 
-pub push_changes : (w : Window) (requests : List (Option Request)) (key outstanding room : ℕ) (q : Request)
-    → IsWindow w → get_or w.requests key None ≡ None → get_or requests key None ≡ Some q
-    → ((k : ℕ) → k ≢ key → get_or requests k None ≡ get_or w.requests k None)
-    → Changes w (record { first = w.first; keys = w.keys ++ Some key ∷ []; requests = requests; outstanding = outstanding; running = w.running; room = room }) (end_of w) (Some q)
-push_changes w requests key outstanding room q i vacant here others =
-    let v : Window = record { first = w.first; keys = w.keys ++ Some key ∷ []; requests = requests; outstanding = outstanding; running = w.running; room = room } in
-    record {
-      here = at_keyed v (end_of w) (Some key) (key_at_push_here w.first w.keys (Some key)) ∙ here;
-      others = λ k ne.
-          at_keyed v k (key_at w.first w.keys k) (key_at_push_other w.first w.keys (Some key) k ne)
-          ∙ found_other w.requests requests key (key_at w.first w.keys k) others (λ j e. unused w key k j i vacant e)
-          ∙ sym (at_key w k);
-    }
+module _ (w : Window) (requests : List (Option Request)) (key outstanding room : ℕ) (q : Request) (i : IsWindow w) (vacant : get_or w.requests key None ≡ None) (here : get_or requests key None ≡ Some q) (others : (k : ℕ) → k ≢ key → get_or requests k None ≡ get_or w.requests k None) where
+  abbrev pushed : Window
+  pushed = record { first = w.first; keys = w.keys ++ Some key ∷ []; requests = requests; outstanding = outstanding; running = w.running; room = room }
 
-push_cases : (w : Window) (key n k : ℕ) → key_at w.first (w.keys ++ Some key ∷ []) n ≡ Some k
-    → ((n ≡ end_of w) × (k ≡ key)) ⊎ (key_at w.first w.keys n ≡ Some k)
-push_cases w key n k e =
-    elim (cases_eq n (end_of w)) [
-      | inl same ↦
-          inl (same, same_Some k key (sym e ∙ ap (key_at w.first (w.keys ++ Some key ∷ [])) same ∙ key_at_push_here w.first w.keys (Some key)))
-      | inr other ↦ inr (sym (key_at_push_other w.first w.keys (Some key) n other) ∙ e)
-    ]
+  -- no number had the key
+  unused : (n k : ℕ) → key_at w.first w.keys n ≡ Some k → k ≢ key
+  unused n k e same = both_ways _ (ap is_some (ap (λ j. get_or w.requests j None) same ∙ vacant)) (i.present n k e)
 
-pub push_window : (w : Window) (requests : List (Option Request)) (key outstanding room : ℕ) (q : Request)
-    → IsWindow w → get_or w.requests key None ≡ None → get_or requests key None ≡ Some q
-    → ((k : ℕ) → k ≢ key → get_or requests k None ≡ get_or w.requests k None) → q.is_running ≡ false
-    → room + 1 ≡ w.room
-    → IsWindow (record { first = w.first; keys = w.keys ++ Some key ∷ []; requests = requests; outstanding = outstanding; running = w.running; room = room })
-push_window w requests key outstanding room q i vacant here others waits less =
-    let v : Window = record { first = w.first; keys = w.keys ++ Some key ∷ []; requests = requests; outstanding = outstanding; running = w.running; room = room } in
-    let changes = push_changes w requests key outstanding room q i vacant here others in
-    let longer : length (w.keys ++ Some key ∷ []) ≡ length w.keys + 1 = length-append w.keys (Some key ∷ []) in
-    let end : end_of v ≡ suc (end_of w) = omega arith in
-    record {
-      present = λ n k e.
-          elim (push_cases w key n k e) [
-            | inl new ↦ ap (λ j. is_some (get_or requests j None)) new.1 ∙ ap is_some here
-            | inr old ↦ ap is_some (others k (unused w key n k i vacant old)) ∙ i.present n k old
-          ];
-      distinct = λ m n k a b.
-          elim (push_cases w key m k a) [
-            | inl new ↦
-                elim (push_cases w key n k b) [
-                  | inl again ↦ new.0 ∙ sym again.0
-                  | inr old ↦ absurd (unused w key n k i vacant old new.1)
-                ]
-            | inr was ↦
-                elim (push_cases w key n k b) [
-                  | inl new ↦ absurd (unused w key m k i vacant was new.1)
-                  | inr old ↦ i.distinct m n k was old
-                ]
-          ];
-      counted =
-          let before : count_below (λ n. runs (at v n)) (end_of w) ≡ count_below (λ n. runs (at w n)) (end_of w) =
-          count_below_same (λ n. runs (at v n)) (λ n. runs (at w n)) (end_of w) (λ k lt. ap runs (changes.others k (λ e. absurd (omega (arith, e)))))
-          in
-          let last : one_if (runs (at v (end_of w))) ≡ 0 = ap (λ o. one_if (runs o)) changes.here ∙ ap one_if waits in
-          let whole : count_below (λ n. runs (at v n)) (end_of v) ≡ count_below (λ n. runs (at v n)) (suc (end_of w)) = ap (count_below (λ n. runs (at v n))) end in
-          let was = i.counted in
-          omega arith;
-      fits = omega (arith, i.fits);
-    }
+  pub push_changes : Changes w pushed (end_of w) (Some q)
+  push_changes = record {
+    here = at_keyed pushed (end_of w) (Some key) (key_at_push_here w.first w.keys (Some key)) ∙ here;
+    others = λ k ne.
+        at_keyed pushed k (key_at w.first w.keys k) (key_at_push_other w.first w.keys (Some key) k ne)
+        ∙ found_other w.requests requests key (key_at w.first w.keys k) others (λ j e. unused k j e) ∙ sym (at_key w k);
+  }
 
--- a request is written under the key of its number
+  push_cases : (n k : ℕ) → key_at w.first (w.keys ++ Some key ∷ []) n ≡ Some k
+      → ((n ≡ end_of w) × (k ≡ key)) ⊎ (key_at w.first w.keys n ≡ Some k)
+  push_cases n k e =
+      elim (cases_eq n (end_of w)) [
+        | inl same ↦
+            inl (same, same_Some k key (sym e ∙ ap (key_at w.first (w.keys ++ Some key ∷ [])) same ∙ key_at_push_here w.first w.keys (Some key)))
+        | inr other ↦ inr (sym (key_at_push_other w.first w.keys (Some key) n other) ∙ e)
+      ]
+
+  pub push_window : q.is_running ≡ false → room + 1 ≡ w.room → IsWindow pushed
+  push_window waits less =
+      let longer : length (w.keys ++ Some key ∷ []) ≡ length w.keys + 1 = length-append w.keys (Some key ∷ []) in
+      let end : end_of pushed ≡ suc (end_of w) = omega arith in
+      record {
+        present = λ n k e.
+            elim (push_cases n k e) [
+              | inl new ↦ ap (λ j. is_some (get_or requests j None)) new.1 ∙ ap is_some here
+              | inr old ↦ ap is_some (others k (unused n k old)) ∙ i.present n k old
+            ];
+        distinct = λ m n k a b.
+            elim (push_cases m k a) [
+              | inl new ↦ elim (push_cases n k b) [ inl again ↦ new.0 ∙ sym again.0 | inr old ↦ absurd (unused n k old new.1) ]
+              | inr was ↦ elim (push_cases n k b) [ inl new ↦ absurd (unused m k was new.1) | inr old ↦ i.distinct m n k was old ]
+            ];
+        counted =
+            let before : count_below (λ n. runs (at pushed n)) (end_of w) ≡ count_below (λ n. runs (at w n)) (end_of w) =
+            count_below_same (λ n. runs (at pushed n)) (λ n. runs (at w n)) (end_of w) (λ k lt. ap runs (push_changes.others k (λ e. absurd (omega (arith, e)))))
+            in
+            let last : one_if (runs (at pushed (end_of w))) ≡ 0 = ap (λ o. one_if (runs o)) push_changes.here ∙ ap one_if waits in
+            let whole : count_below (λ n. runs (at pushed n)) (end_of pushed) ≡ count_below (λ n. runs (at pushed n)) (suc (end_of w)) = ap (count_below (λ n. runs (at pushed n))) end in
+            let was = i.counted in
+            omega arith;
+        fits = omega (arith, i.fits);
+      }
+
+-- another number has another key
 other_key : (w : Window) (n k key : ℕ) → IsWindow w → key_at w.first w.keys n ≡ Some key → k ≢ n
     → (j : ℕ) → key_at w.first w.keys k ≡ Some j → j ≢ key
 other_key w n k key i e ne j is same = ne (i.distinct k n key (is ∙ ap Some same) e)
 
-pub write_changes : (w : Window) (requests : List (Option Request)) (n key outstanding running : ℕ) (q : Request)
-    → IsWindow w → key_at w.first w.keys n ≡ Some key → get_or requests key None ≡ Some q
-    → ((k : ℕ) → k ≢ key → get_or requests k None ≡ get_or w.requests k None)
-    → Changes w (record w { requests = requests; outstanding = outstanding; running = running }) n (Some q)
-write_changes w requests n key outstanding running q i e here others =
-    let v : Window = record w { requests = requests; outstanding = outstanding; running = running } in
-    record {
-      here = at_keyed v n (Some key) e ∙ here;
-      others = λ k ne.
-          at_key v k ∙ found_other w.requests requests key (key_at w.first w.keys k) others (other_key w n k key i e ne) ∙ sym (at_key w k);
-    }
+-- A request is written under the key of its number.
 
-pub write_window : (w : Window) (requests : List (Option Request)) (n key outstanding running : ℕ) (q : Request)
-    → IsWindow w → key_at w.first w.keys n ≡ Some key → get_or requests key None ≡ Some q
-    → ((k : ℕ) → k ≢ key → get_or requests k None ≡ get_or w.requests k None)
-    → running + one_if (runs (at w n)) ≡ w.running + one_if q.is_running
-    → IsWindow (record w { requests = requests; outstanding = outstanding; running = running })
-write_window w requests n key outstanding running q i e here others count =
-    let v : Window = record w { requests = requests; outstanding = outstanding; running = running } in
-    let changes = write_changes w requests n key outstanding running q i e here others in
-    record {
-      present = λ m k is.
-          elim (cases_eq k key) [
-            | inl same ↦ ap (λ j. is_some (get_or requests j None)) same ∙ ap is_some here
-            | inr other ↦ ap is_some (others k other) ∙ i.present m k is
-          ];
-      distinct = i.distinct;
-      counted =
-          let inside = key_at_within w.first w.keys n key e in
-          let change : count_below (λ m. runs (at v m)) (end_of w) + one_if (runs (at w n)) ≡ count_below (λ m. runs (at w m)) (end_of w) + one_if (runs (at v n)) =
-          count_below_changed (λ m. runs (at w m)) (λ m. runs (at v m)) (end_of w) n inside.1 (λ k ne. ap runs (changes.others k ne))
-          in
-          let now : one_if (runs (at v n)) ≡ one_if q.is_running = ap (λ o. one_if (runs o)) changes.here in
-          let was = i.counted in
-          omega arith;
-      fits = i.fits;
-    }
+module _ (w : Window) (requests : List (Option Request)) (n key outstanding running : ℕ) (q : Request) (i : IsWindow w) (e : key_at w.first w.keys n ≡ Some key) (here : get_or requests key None ≡ Some q) (others : (k : ℕ) → k ≢ key → get_or requests k None ≡ get_or w.requests k None) where
+  abbrev rewritten : Window
+  rewritten = record w { requests = requests; outstanding = outstanding; running = running }
 
--- the request of a number ends
-pub end_changes : (w : Window) (requests : List (Option Request)) (n key outstanding running : ℕ)
-    → IsWindow w → key_at w.first w.keys n ≡ Some key
-    → ((k : ℕ) → k ≢ key → get_or requests k None ≡ get_or w.requests k None)
-    → Changes w (record w { keys = set w.keys (n - w.first) None; requests = requests; outstanding = outstanding; running = running }) n None
-end_changes w requests n key outstanding running i e others =
-    let v : Window = record w { keys = set w.keys (n - w.first) None; requests = requests; outstanding = outstanding; running = running } in
-    let inside = key_at_within w.first w.keys n key e in
-    record {
-      here = at_keyed v n None (key_at_set_here w.first w.keys None n inside.0 inside.1);
-      others = λ k ne.
-          at_keyed v k (key_at w.first w.keys k) (key_at_set_other w.first w.keys None n k inside.0 ne)
-          ∙ found_other w.requests requests key (key_at w.first w.keys k) others (other_key w n k key i e ne)
-          ∙ sym (at_key w k);
-    }
+  pub write_changes : Changes w rewritten n (Some q)
+  write_changes = record {
+    here = at_keyed rewritten n (Some key) e ∙ here;
+    others = λ k ne.
+        at_key rewritten k ∙ found_other w.requests requests key (key_at w.first w.keys k) others (other_key w n k key i e ne) ∙ sym (at_key w k);
+  }
 
-end_cases : (w : Window) (n k key : ℕ) → w.first ≤ n → n < end_of w
-    → key_at w.first (set w.keys (n - w.first) None) k ≡ Some key
-    → (k ≢ n) × (key_at w.first w.keys k ≡ Some key)
-end_cases w n k key le lt e =
-    elim (cases_eq k n) [
-      | inl same ↦
-          some_none key _ (ap (key_at w.first (set w.keys (n - w.first) None)) same ∙ key_at_set_here w.first w.keys None n le lt) e
-      | inr other ↦ (other, sym (key_at_set_other w.first w.keys None n k le other) ∙ e)
-    ]
+  pub write_window : running + one_if (runs (at w n)) ≡ w.running + one_if q.is_running
+      → IsWindow rewritten
+  write_window count = record {
+    present = λ m k is.
+        elim (cases_eq k key) [
+          | inl same ↦ ap (λ j. is_some (get_or requests j None)) same ∙ ap is_some here
+          | inr other ↦ ap is_some (others k other) ∙ i.present m k is
+        ];
+    distinct = i.distinct;
+    counted =
+        let inside = key_at_within w.first w.keys n key e in
+        let change : count_below (λ m. runs (at rewritten m)) (end_of w) + one_if (runs (at w n)) ≡ count_below (λ m. runs (at w m)) (end_of w) + one_if (runs (at rewritten n)) =
+        count_below_changed (λ m. runs (at w m)) (λ m. runs (at rewritten m)) (end_of w) n inside.1 (λ k ne. ap runs (write_changes.others k ne))
+        in
+        let now : one_if (runs (at rewritten n)) ≡ one_if q.is_running = ap (λ o. one_if (runs o)) write_changes.here in
+        let was = i.counted in
+        omega arith;
+    fits = i.fits;
+  }
 
-pub end_window : (w : Window) (requests : List (Option Request)) (n key outstanding running : ℕ)
-    → IsWindow w → key_at w.first w.keys n ≡ Some key
-    → ((k : ℕ) → k ≢ key → get_or requests k None ≡ get_or w.requests k None) → (q : Request)
-    → get_or w.requests key None ≡ Some q → running + one_if q.is_running ≡ w.running
-    → IsWindow (record w { keys = set w.keys (n - w.first) None; requests = requests; outstanding = outstanding; running = running })
-end_window w requests n key outstanding running i e others q is count =
-    let v : Window = record w { keys = set w.keys (n - w.first) None; requests = requests; outstanding = outstanding; running = running } in
-    let changes = end_changes w requests n key outstanding running i e others in
-    let inside = key_at_within w.first w.keys n key e in
-    let long : length (set w.keys (n - w.first) None) ≡ length w.keys = length-set w.keys (n - w.first) None in
-    let end : end_of v ≡ end_of w = omega arith in
-    record {
-      present = λ m k is.
-          let old = end_cases w n m k inside.0 inside.1 is in
-          ap is_some (others k (other_key w n m key i e old.0 k old.1)) ∙ i.present m k old.1;
-      distinct = λ a b k x y.
-          i.distinct a b k (end_cases w n a k inside.0 inside.1 x).1 (end_cases w n b k inside.0 inside.1 y).1;
-      counted =
-          let change : count_below (λ m. runs (at v m)) (end_of w) + one_if (runs (at w n)) ≡ count_below (λ m. runs (at w m)) (end_of w) + one_if (runs (at v n)) =
-          count_below_changed (λ m. runs (at w m)) (λ m. runs (at v m)) (end_of w) n inside.1 (λ k ne. ap runs (changes.others k ne))
-          in
-          let ran : one_if (runs (at w n)) ≡ one_if q.is_running = ap (λ o. one_if (runs o)) (at_keyed w n (Some key) e ∙ is) in
-          let now : one_if (runs (at v n)) ≡ 0 = ap (λ o. one_if (runs o)) changes.here in
-          let whole : count_below (λ m. runs (at v m)) (end_of v) ≡ count_below (λ m. runs (at v m)) (end_of w) = ap (count_below (λ m. runs (at v m))) end in
-          let was = i.counted in
-          omega arith;
-      fits = omega (arith, i.fits);
-    }
+-- The request of a number ends.
+
+module _ (w : Window) (requests : List (Option Request)) (n key outstanding running : ℕ) (i : IsWindow w) (e : key_at w.first w.keys n ≡ Some key) (others : (k : ℕ) → k ≢ key → get_or requests k None ≡ get_or w.requests k None) where
+  abbrev without : Window
+  without = record w { keys = set w.keys (n - w.first) None; requests = requests; outstanding = outstanding; running = running }
+
+  pub end_changes : Changes w without n None
+  end_changes =
+      let inside = key_at_within w.first w.keys n key e in
+      record {
+        here = at_keyed without n None (key_at_set_here w.first w.keys None n inside.0 inside.1);
+        others = λ k ne.
+            at_keyed without k (key_at w.first w.keys k) (key_at_set_other w.first w.keys None n k inside.0 ne)
+            ∙ found_other w.requests requests key (key_at w.first w.keys k) others (other_key w n k key i e ne) ∙ sym (at_key w k);
+      }
+
+  end_cases : (k j : ℕ) → key_at w.first (set w.keys (n - w.first) None) k ≡ Some j
+      → (k ≢ n) × (key_at w.first w.keys k ≡ Some j)
+  end_cases k j is =
+      let inside = key_at_within w.first w.keys n key e in
+      elim (cases_eq k n) [
+        | inl same ↦ some_none (ap (key_at w.first (set w.keys (n - w.first) None)) same ∙ key_at_set_here w.first w.keys None n inside.0 inside.1) is
+        | inr other ↦ (other, sym (key_at_set_other w.first w.keys None n k inside.0 other) ∙ is)
+      ]
+
+  pub end_window : (q : Request) → get_or w.requests key None ≡ Some q
+      → running + one_if q.is_running ≡ w.running → IsWindow without
+  end_window q is count =
+      let inside = key_at_within w.first w.keys n key e in
+      let long : length (set w.keys (n - w.first) None) ≡ length w.keys = length-set w.keys (n - w.first) None in
+      let end : end_of without ≡ end_of w = omega arith in
+      record {
+        present = λ m k at_m.
+            let old = end_cases m k at_m in ap is_some (others k (other_key w n m key i e old.0 k old.1)) ∙ i.present m k old.1;
+        distinct = λ a b k x y. i.distinct a b k (end_cases a k x).1 (end_cases b k y).1;
+        counted =
+            let change : count_below (λ m. runs (at without m)) (end_of w) + one_if (runs (at w n)) ≡ count_below (λ m. runs (at w m)) (end_of w) + one_if (runs (at without n)) =
+            count_below_changed (λ m. runs (at w m)) (λ m. runs (at without m)) (end_of w) n inside.1 (λ k ne. ap runs (end_changes.others k ne))
+            in
+            let ran : one_if (runs (at w n)) ≡ one_if q.is_running = ap (λ o. one_if (runs o)) (at_keyed w n (Some key) e ∙ is) in
+            let now : one_if (runs (at without n)) ≡ 0 = ap (λ o. one_if (runs o)) end_changes.here in
+            let whole : count_below (λ m. runs (at without m)) (end_of without) ≡ count_below (λ m. runs (at without m)) (end_of w) = ap (count_below (λ m. runs (at without m))) end in
+            let was = i.counted in
+            omega arith;
+        fits = omega (arith, i.fits);
+      }
 
 -- the front is trimmed
 pub trim_window : (w : Window) (first : ℕ) (keys : List (Option ℕ))

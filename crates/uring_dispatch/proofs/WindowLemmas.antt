@@ -30,11 +30,11 @@ pub key_at_within : (first : ℕ) (keys : List (Option ℕ)) (n key : ℕ)
     → key_at first keys n ≡ Some key → (first ≤ n) × (n < first + length keys)
 key_at_within first keys n key e =
     elim (cases_lt n first) [
-      | inl low ↦ some_none key _ (key_at_low first keys n low) e
+      | inl low ↦ some_none (key_at_low first keys n low) e
       | inr high ↦
           elim (cases_lt n (first + length keys)) [
             | inl inside ↦ (high, inside)
-            | inr past ↦ some_none key _ (key_at_past first keys n past) e
+            | inr past ↦ some_none (key_at_past first keys n past) e
           ]
     ]
 

@@ -17,13 +17,7 @@ returns-clause-room c = λ k r.
     let window = ap (λ (w : Window). w.room) c.close.ensures.window in
     let end = ap (λ (w : Window). end_of w) c.close.ensures.window in
     let groups = ap (λ (g : Groups). g.room) c.close.ensures.groups in
-    record {
-      window = omega (arith, r.window);
-      groups = omega (arith, r.groups);
-      heads = omega (arith, r.heads);
-      doomed = omega (arith, r.doomed);
-      places = omega (arith, r.places, end);
-    }
+    omega (arith, r, window, end, groups)
 
 pub returns-clause-last : goal.returns-clause-last
 returns-clause-last c = ap (λ (g : Groups). g.last) c.close.ensures.groups

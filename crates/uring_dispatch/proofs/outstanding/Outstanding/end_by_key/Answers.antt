@@ -36,5 +36,5 @@ invariant_of-self-2 c =
       found =
           let e = c.drop_before-2.ensures in
           let end = c.take_out-others.ensures.counts.end in
-          found_dropped _ _ _ c.first-first.result (found_on _ _ _ c.args.self.now.found (goes_ended _ _ c.args.n gone end) (omega (arith, end, c.args.self.now.found.places))) c.first-first.ensures.within c.first-first.ensures.before e.up e.no_more e.ends;
+          found_dropped _ _ _ c.first-first.result (found_on _ _ _ c.args.self.now.found (goes_ended gone end) (omega (arith, end, c.args.self.now.found.places))) c.first-first.ensures.within c.first-first.ensures.before e.up e.no_more e.ends;
     }

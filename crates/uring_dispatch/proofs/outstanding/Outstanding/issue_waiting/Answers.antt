@@ -17,7 +17,7 @@ use Rattle.uring_dispatch.proofs.outstanding.Outstanding.issue_waiting.Goals as 
 pub returns-in_default-clause-answer : goal.returns-in_default-clause-answer
 returns-in_default-clause-answer c = λ r h.
     let shown = h.shown c.args.n c.args.request c.requires.there in
-    issued_faulty r c.args.n (shown_within _ _ r c.args.n c.args.request c.args.self.now.grouped.sound h c.requires.there) (op_none (entry_of r c.args.n) (sym c.in_default.is ∙ shown.op))
+    issued_faulty r c.args.n (shown_within c.args.self.now.grouped.sound h c.requires.there) (op_none (entry_of r c.args.n) (sym c.in_default.is ∙ shown.op))
 
 pub returns-in_default-clause-shows : goal.returns-in_default-clause-shows
 returns-in_default-clause-shows c = λ r h.
@@ -76,7 +76,7 @@ invariant_of-self c =
       listed =
           restarted_listed _ _ _ _ _ _ c.args.n (started c.args.request) c.args.self.now.listed (ap is_some c.requires.there) changes c.start.ensures.same.end c.start.ensures.groups
           (forgotten_keeps _ _ _ _ c.args.n own c.forget.ensures.heads c.forget.ensures.doomed) own;
-      found = let end = c.start.ensures.same.end in found_on _ _ _ c.args.self.now.found (goes_changed _ _ c.args.n c.args.request (started c.args.request) c.requires.there changes end refl) (omega (arith, end, c.args.self.now.found.places));
+      found = let end = c.start.ensures.same.end in found_on _ _ _ c.args.self.now.found (goes_changed c.requires.there changes end refl) (omega (arith, end, c.args.self.now.found.places));
     }
 
 pub returns : goal.returns
@@ -87,7 +87,7 @@ returns c =
         last = ap (λ (g : Groups). g.last) c.start.ensures.groups ∙ c.requires.last;
         window = same.room;
         groups = ap (λ (g : Groups). g.room) c.start.ensures.groups;
-        memory = let heads = c.forget.ensures.heads.limit in let doomed = c.forget.ensures.doomed.limit in record { heads = omega arith; doomed = omega arith };
+        memory = omega (arith, c.forget.ensures.heads.limit, c.forget.ensures.doomed.limit);
         places = omega arith;
       };
       answer = λ r h.
