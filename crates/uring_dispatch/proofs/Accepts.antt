@@ -13,7 +13,7 @@ use Rattle.uring_dispatch.specs.declared.request.Request.{Request}
 use Rattle.uring_dispatch.specs.declared.group.Group.{Group}
 use Rattle.uring_dispatch.specs.Window.{Window, at, end_of, Changes, one_if}
 use Rattle.uring_dispatch.specs.Groups.{Groups, group_at, last_group, with_member, IsBeyond, Exchanges}
-use Rattle.uring_dispatch.specs.Held.{IsKept, IsSound, AreHeld, IsShown, IsShownGroup, op_of}
+use Rattle.uring_dispatch.specs.Held.{IsKept, IsSound, AreHeld, IsShownGroup, op_of}
 use Rattle.uring_dispatch.specs.Accepts.{Accepts, new_request}
 use Rattle.uring_dispatch.proofs.GroupsKept.{only_key}
 use Rattle.uring_dispatch.proofs.HeldLemmas.{some_none, linked, member, kept_on}
@@ -25,7 +25,7 @@ use Rattle.uring_entry.specs.Below.{count_below, found_or}
 use Rattle.uring_entry.specs.declared.fault.Fault.{Fault}
 use Rattle.uring_entry.specs.declared.operation.Op.{Op}
 use Rattle.uring_entry.specs.Groups.{IsGroup, first_fault, first_drain, first_broken}
-use Rattle.uring_dispatch.proofs.Touches.{before_write, shown_written}
+use Rattle.uring_dispatch.proofs.Changes.{before_write, shown_written}
 use Rattle.uring_dispatch.proofs.Counting.{count_below_same}
 
 member_from : (o : Option Group) (n : ℕ) (d f : Bool) (k : ℕ) → (with_member o n d f).from ≤ k

@@ -16,7 +16,7 @@ use Rattle.uring_dispatch.specs.Window.{Window, at, end_of}
 use Rattle.uring_dispatch.specs.Groups.{Groups, group_at, with_member}
 use Rattle.uring_dispatch.specs.Held.{IsSound}
 use Rattle.uring_dispatch.specs.Waiting.{waits_at_head, waits_doomed, IsListedAt, Reaches, IsListed, GrowsTo, Starts, CanGrow, StandsAsBefore}
-use Rattle.uring_dispatch.proofs.HeldLemmas.{some_none, vacant, linked, least_before}
+use Rattle.uring_dispatch.proofs.HeldLemmas.{some_none, linked, least_before}
 use Rattle.uring_dispatch.specs.Accepts.{Accepts}
 use Rattle.uring_dispatch.proofs.WaitingLemmas.{told_before, stands_apart, stands_in}
 
@@ -49,9 +49,6 @@ reaches_accepted : (w v : Window) (s t : NumberSet) (n : ℕ) → Reaches w s
     → GrowsTo s t n → n ≡ end_of w → end_of v ≡ end_of w + 1
     → ((k : ℕ) → k ≢ end_of w → at v k ≡ at w k) → Reaches v t
 reaches_accepted w v s t n r grows is end others =
-    let a = r.start in
-    let b = grows.start in
-    let c = grows.covered in
     record {
       start = omega arith;
       stop = omega arith;

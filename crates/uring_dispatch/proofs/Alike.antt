@@ -1,17 +1,16 @@
 -- The window and the groups where only how much more there is memory for differs, or nothing of what they say.
-use Rattle.std.proofs.Common.{◌≡◌, ℕ, ◌≤◌, List, Result, Ok, Err, true, not, is_some, refl, sym, ◌∙◌, ap, subst, arith}
+use Rattle.std.proofs.Common.{◌≡◌, ℕ, ◌≤◌, Result, Ok, Err, true, not, is_some, refl, sym, ◌∙◌, ap, arith}
 use Rattle.std.specs.Prelude.{OnOk, OnErr}
 use Rattle.uring_entry.specs.Requests.{Requests}
-use Rattle.uring_dispatch.specs.declared.group.Barrier.{Barrier}
 use Rattle.uring_dispatch.specs.declared.grouped.Grouped.{Grouped}
 use Rattle.uring_dispatch.specs.declared.waiting.Waiting.{Waiting}
 use Rattle.uring_dispatch.specs.Window.{Window, at, end_of}
-use Rattle.uring_dispatch.specs.Groups.{Groups, group_at, IsBeyond}
+use Rattle.uring_dispatch.specs.Groups.{Groups, group_at}
 use Rattle.uring_dispatch.specs.Held.{has_member, IsSound, AreHeld}
 use Rattle.uring_dispatch.specs.Waiting.{IsListed}
 use Rattle.uring_dispatch.specs.Grouped.{HasSameRecords}
 use Rattle.uring_dispatch.proofs.WindowFront.{at_room}
-use Rattle.uring_dispatch.proofs.WaitingLemmas.{told_before, stands_apart, reaches_fewer, same_reach}
+use Rattle.uring_dispatch.proofs.WaitingLemmas.{told_before, stands_apart, reaches_fewer}
 use Rattle.uring_dispatch.proofs.HeldLemmas.{kept_on}
 
 -- each number has its request, and each key its group
@@ -78,8 +77,8 @@ listed_alike w v g h s a l =
     let fewer : (k : ℕ) → is_some (at v k) ≡ true → is_some (at w k) ≡ true = λ k some. ap is_some (sym (a.rows k)) ∙ some in
     record {
       told = λ n. told_before w v g h s n (l.told n) (stands_apart w v g h n (a.rows n) (λ x e. a.groups x.group));
-      heads = reaches_fewer w v s.heads s.heads l.heads a.end fewer (same_reach s.heads);
-      doomed = reaches_fewer w v s.doomed s.doomed l.doomed a.end fewer (same_reach s.doomed);
+      heads = reaches_fewer w v s.heads s.heads l.heads a.end fewer (omega arith);
+      doomed = reaches_fewer w v s.doomed s.doomed l.doomed a.end fewer (omega arith);
     }
 
 -- what asking for memory leaves, whatever it answers

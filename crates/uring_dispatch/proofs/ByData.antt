@@ -1,6 +1,6 @@
 -- Between which numbers the requests with the same user data are: what each event keeps of it, and what a search makes of it.
-use Rattle.std.proofs.Common.{◌≡◌, ◌⊎◌, ℕ, ◌+◌, ◌^◌, ◌<◌, ◌≤◌, Option, Some, None, is_some, true, false, refl, sym, ◌∙◌, ap, subst, arith, inl, inr}
-use Rattle.std.proofs.lemmas.Bool.{cases_lt, cases_eq, false≢true}
+use Rattle.std.proofs.Common.{◌≡◌, ◌⊎◌, ℕ, ◌+◌, ◌^◌, ◌<◌, ◌≤◌, Option, Some, None, is_some, false, refl, sym, ◌∙◌, ap, subst, arith, inl, inr}
+use Rattle.std.proofs.lemmas.Bool.{cases_lt, cases_eq}
 use Rattle.std.proofs.lemmas.Option.{same_Some}
 use Rattle.std.specs.Prelude.{nat_eq}
 use Rattle.std.specs.HashMap.{get, spare}
@@ -17,7 +17,7 @@ use Rattle.uring_dispatch.specs.ByUserData.{HasPlaces, KeepsFrom, AreFound, Span
 use Rattle.uring_dispatch.proofs.WindowFront.{within_end}
 use Rattle.uring_dispatch.proofs.HeldLemmas.{some_none, candidate_none, candidate_other_data}
 use Rattle.uring_dispatch.proofs.Alike.{IsAlike}
-use Rattle.uring_dispatch.proofs.Touches.{before_end, before_write}
+use Rattle.uring_dispatch.proofs.Changes.{before_end, before_write}
 
 -- What the events keep.
 
@@ -138,10 +138,7 @@ found_next w x y n q f is within there stop here kept spares =
       between = λ k p e lt.
           elim (cases_eq k n) [
             | inl same ↦
-                let one : q ≡ p = same_Some _ _ (sym there ∙ ap (at w) (sym same) ∙ e) in
-                let P : Request → Type 0 = λ z. IsBetween (get nat_eq y.ends) (user_data_of z.entry) k in
-                let Q : ℕ → Type 0 = λ j. IsBetween (get nat_eq y.ends) (user_data_of q.entry) j in
-                subst P one (subst Q (sym same) here)
+                rw (same, same_Some p q (sym e ∙ ap (at w) same ∙ there)) here
             | inr other ↦ kept (user_data_of p.entry) k (ap is_some e) (omega (arith, lt)) (f.between k p e (omega (arith, lt, other)))
           ];
       places = omega arith;

@@ -26,8 +26,7 @@ use Rattle.uring_dispatch.specs.declared.waiting.Waiting.{Waiting}
 use Rattle.uring_dispatch.proofs.HeldLemmas.{running_none, running_some}
 use Rattle.uring_dispatch.specs.ByUserData.{KeepsPlaces}
 use Rattle.uring_dispatch.specs.declared.by_user_data.ByUserData.{ByUserData}
-use Rattle.uring_dispatch.specs.declared.grouped.Grouped.{Grouped}
-use Rattle.uring_dispatch.proofs.Touches.{still_there}
+use Rattle.uring_dispatch.proofs.Changes.{still_there}
 
 -- What the end of a request as it is issued dooms.
 

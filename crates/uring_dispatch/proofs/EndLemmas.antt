@@ -1,5 +1,5 @@
 -- When a request ends: the window and the groups still fit one another, and what is held is what the lists say.
-use Rattle.std.proofs.Common.{◌≡◌, ◌≢◌, ℕ, ◌+◌, ◌<◌, ◌≤◌, ◌⊎◌, ℤ, List, length, false, not, ◌&&◌, ltb, Option, Some, None, is_some, refl, sym, ◌∙◌, ap, subst, arith, inl, inr}
+use Rattle.std.proofs.Common.{◌≡◌, ◌≢◌, ℕ, ◌+◌, ◌<◌, ◌≤◌, ◌⊎◌, ℤ, List, length, not, ◌&&◌, ltb, Option, Some, None, is_some, refl, sym, ◌∙◌, ap, subst, arith, inl, inr}
 use Rattle.std.proofs.lemmas.Bool.{cases_lt, cases_eq, and_right}
 use Rattle.std.proofs.lemmas.Option.{same_Some}
 use Rattle.uring_entry.specs.Success.{is_success}
@@ -11,8 +11,8 @@ use Rattle.uring_dispatch.specs.declared.request.Request.{Request}
 use Rattle.uring_dispatch.specs.declared.group.Group.{Group}
 use Rattle.uring_dispatch.specs.Window.{Window, at, end_of, one_if, Changes}
 use Rattle.uring_dispatch.specs.Groups.{Groups, group_at, Exchanges, IsBeyond}
-use Rattle.uring_dispatch.specs.Held.{IsKept, IsSound, IsNext, IsShown, IsShownGroup, AreHeld, HasLost}
-use Rattle.uring_dispatch.proofs.Touches.{before_end, gone_stays, shown_same}
+use Rattle.uring_dispatch.specs.Held.{IsKept, IsSound, IsNext, IsShownGroup, AreHeld, HasLost}
+use Rattle.uring_dispatch.proofs.Changes.{before_end, gone_stays, shown_same}
 use Rattle.uring_dispatch.proofs.Counting.{count_below_changed}
 use Rattle.uring_dispatch.proofs.HeldLemmas.{some_none, vacant, linked, member, within_group, kept_on, shown_within, outstanding_some, running_some}
 

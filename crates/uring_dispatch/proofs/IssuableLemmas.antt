@@ -1,7 +1,7 @@
 -- Which requests can be issued, from who waits.
-use Rattle.std.proofs.Common.{◌≡◌, ℕ, ◌*◌, ◌/◌, ◌<◌, ◌≤◌, ◌⊎◌, length, slice_get, Bool, true, false, not, ◌&&◌, ◌||◌, ◌==◌, ltb, leb, Option, Some, None, is_some, refl, sym, ◌∙◌, ap, subst, arith, inl, inr}
-use Rattle.std.specs.Prelude.{if◌then◌else◌, MatchOption}
-use Rattle.std.proofs.lemmas.Bool.{cases_lt, and_right, or_from, lt-leb, and_parts, and_from, and_left, or_cases, or_left, or_right, both_ways, lt-ltb, le-ltb, ltb-true, le-leb, leb-true, eq-eqb, eqb-true}
+use Rattle.std.proofs.Common.{◌≡◌, ℕ, ◌*◌, ◌/◌, ◌<◌, ◌≤◌, length, slice_get, Bool, true, false, not, ◌&&◌, ◌||◌, ◌==◌, ltb, leb, Option, Some, None, is_some, refl, sym, ◌∙◌, ap, arith, inl, inr}
+use Rattle.std.specs.Prelude.{MatchOption}
+use Rattle.std.proofs.lemmas.Bool.{cases_lt, and_right, or_from, lt-leb, and_parts, and_from, and_left, or_left, or_right, both_ways, lt-ltb, le-ltb, ltb-true, le-leb, eq-eqb, eqb-true}
 use Rattle.std.proofs.lemmas.Option.{same_Some, slice_get_past}
 use Rattle.uring_entry.specs.Below.{least_below, count_below}
 use Rattle.uring_entry.specs.Requests.{Requests, is_doomed, is_ready, is_issuable}
@@ -68,8 +68,7 @@ module _ {w : Window} {g : Groups} {r : Requests} {n : ℕ} {q : Request} {p : G
                   let one = i.sound.members q.group p b.least other.0 i.found (omega (arith, kept.from)) (omega (arith, kept.to, i.to)) other.1 in
                   let two = i.sound.members key b b.least other.0 here kept.from kept.to other.1 in
                   let same : p ≡ b = same_Some p b (sym i.found ∙ ap (group_at g) (sym one ∙ two) ∙ here) in
-                  let P : Group → Type 0 = λ x. n < x.end in
-                  absurd (let lower = subst P same i.to in omega arith)
+                  let ends : p.end ≡ b.end = ap (λ (x : Group). x.end) same in absurd (omega (arith, i.to))
             ]
       ]
 

@@ -2,16 +2,12 @@ pub mod Counting
 pub mod WaitingLemmas
 pub mod IssuableLemmas
 pub mod WindowLemmas
-pub mod WindowEvents
 pub mod WindowFront
-pub mod BarrierLemmas
 pub mod GroupsKept
 pub mod HeldLemmas
 pub mod WhyHeld
-pub mod Finding
 pub mod EndLemmas
 pub mod Issues
-pub mod Touches
 pub mod Changes
 pub mod ByData
 pub mod Choosing

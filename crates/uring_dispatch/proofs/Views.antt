@@ -1,9 +1,9 @@
--- From what a dispatcher shows to what it holds, and back.
-use Rattle.std.proofs.Common.{◌≡◌, ℕ, ◌+◌, ◌≤◌, Result, Ok, Err, is_err, length, Bool, true, false, Option, Some, None, refl, sym, ◌∙◌, ap, subst, arith}
+-- From what a dispatcher shows to what it holds, and back; and what its queries find.
+use Rattle.std.proofs.Common.{◌≡◌, ℕ, ◌+◌, ◌≤◌, Result, Ok, Err, is_err, length, Bool, true, false, Option, Some, None, refl, sym, ◌∙◌, ap, subst, arith, not, ◌&&◌}
 use Rattle.std.specs.Prelude.{if◌then◌else◌, MatchOption, IsOk, OnOk}
 use Rattle.std.proofs.lemmas.Bool.{false≢true}
-use Rattle.uring_entry.specs.Preparation.{operation_of}
-use Rattle.uring_entry.specs.Requests.{Requests, no_request, entry_of, is_outstanding, is_running, least_of, operation_running, entry_outstanding}
+use Rattle.uring_entry.specs.Preparation.{operation_of, is_faulty}
+use Rattle.uring_entry.specs.Requests.{Requests, no_request, entry_of, is_outstanding, is_running, least_of, operation_running, entry_outstanding, target_of}
 use Rattle.uring_entry.proofs.BelowLemmas.{least_below_none, least_below_some, is_some_value}
 use Rattle.uring_dispatch.specs.declared.request.Request.{Request}
 use Rattle.uring_dispatch.specs.Window.{Window, at, end_of, IsFirst}
@@ -22,6 +22,10 @@ use Rattle.uring_dispatch.specs.declared.answers.Issued.TheVariants.{Run, Ended,
 use Rattle.uring_dispatch.specs.declared.answers.Posts.{Posts}
 use Rattle.uring_dispatch.proofs.Alike.{held_alike, alike_room, alike_back}
 use Rattle.uring_dispatch.proofs.HeldLemmas.{some_none, shown_within, outstanding_none, outstanding_some, running_some}
+use Rattle.uring_entry.specs.declared.operation.Op.{Op}
+use Rattle.uring_entry.specs.declared.operation.Op.TheVariants.{Cancel}
+use Rattle.uring_dispatch.specs.declared.answers.Found.TheVariants.{Nobody}
+use Rattle.uring_dispatch.specs.Cancels.{found_as, found_for, found_by, operation_outstanding}
 
 pub shows_held : (w : Window) (g : Groups) (r : Requests) (room : ℕ) (between : Bool)
     → AreHeld w g r → ShowsRequests (dispatch_of w g room between) r
@@ -146,26 +150,14 @@ pub counts_records : (d e : Grouped) (old : Dispatch) (room more : ℕ) (between
     → dispatch_of d.window d.groups room between ≡ old → HasSameRecords d e → room ≤ more
     → IsSameCount old (dispatch_of e.window e.groups more between)
 counts_records d e old room more between view s le =
-    let P : Dispatch → Type 0 = λ x. IsSameCount x (dispatch_of e.window e.groups more between) in
-    subst P view
-    (record {
-      accepted = ap (λ (w : Window). end_of w) s.window;
-      outstanding = ap (λ (w : Window). w.outstanding) s.window;
-      running = ap (λ (w : Window). w.running) s.window;
-      room = le;
-    })
+    rw (← view)
+    (record { accepted = ap (λ (w : Window). end_of w) s.window; outstanding = ap (λ (w : Window). w.outstanding) s.window; running = ap (λ (w : Window). w.running) s.window; room = le })
 
 pub counts_same : (w v : Window) (g h : Groups) (old : Dispatch) (room : ℕ) (between after : Bool)
     → dispatch_of w g room between ≡ old → v ≡ w → IsSameCount old (dispatch_of v h room after)
 counts_same w v g h old room between after view same =
-    let P : Dispatch → Type 0 = λ x. IsSameCount x (dispatch_of v h room after) in
-    subst P view
-    (record {
-      accepted = ap (λ (z : Window). end_of z) same;
-      outstanding = ap (λ (z : Window). z.outstanding) same;
-      running = ap (λ (z : Window). z.running) same;
-      room = omega arith;
-    })
+    rw (← view)
+    (record { accepted = ap (λ (z : Window). end_of z) same; outstanding = ap (λ (z : Window). z.outstanding) same; running = ap (λ (z : Window). z.running) same; room = omega arith })
 
 pub on_ok : {E : Type 0} (x : Result (Unit {0}) E) (P : Type 0) → is_err x ≡ false → OnOk x P → P
 on_ok (Ok u) P e h = h
@@ -174,3 +166,37 @@ on_ok (Err u) P e h = cc
 pub ok_not_err : {E : Type 0} (x : Result (Unit {0}) E) → IsOk x → is_err x ≡ true → ⊥
 ok_not_err (Ok u) ok e = cc
 ok_not_err (Err u) ok e = absurd (false≢true ok)
+
+-- what is outstanding is to do what its entry asks for
+pub operation_held : (w : Window) (g : Groups) (r : Requests) (n : ℕ) (request : Request)
+    → IsSound w g → AreHeld w g r → at w n ≡ Some request → operation_outstanding r n ≡ request.op
+operation_held w g r n request s h e =
+    ap (λ b. if b && not (is_faulty (entry_of r n)) then Some (operation_of (entry_of r n)) else None) (outstanding_some s h _ e)
+    ∙ go (is_faulty (entry_of r n))
+    ∙ sym (h.shown n request e).op
+  where
+    go : (b : Bool) → (if true && not b then Some (operation_of (entry_of r n)) else None) ≡ (if b then None else Some (operation_of (entry_of r n)))
+    go true = refl
+    go false = refl
+
+pub finds_gone : (w : Window) (g : Groups) (r : Requests) (n : ℕ) → AreHeld w g r → at w n ≡ None
+    → None ≡ found_by r n
+finds_gone w g r n h e =
+    sym (ap (λ b. found_for r n (if b && not (is_faulty (entry_of r n)) then Some (operation_of (entry_of r n)) else None)) (outstanding_none h _ e))
+
+-- by what it is to do
+pub finds_by : (w : Window) (g : Groups) (r : Requests) (n : ℕ) (request : Request) (op : Option Op)
+    → IsSound w g → AreHeld w g r → at w n ≡ Some request → request.op ≡ op
+    → found_for r n op ≡ found_by r n
+finds_by w g r n request op s h e is =
+    sym (ap (found_for r n) (operation_held w g r n request s h e ∙ is))
+
+-- what is no cancel finds nothing
+pub finds_other : (r : Requests) (n : ℕ) (op : Op) → ((t : ℕ) (all : Bool) → op ≡ Cancel t all → ⊥)
+    → None ≡ found_for r n (Some op)
+finds_other r n (Cancel t all) other = absurd (other t all refl)
+finds_other r n _ other = refl
+
+-- by the request that it may choose
+pub found_none : (r : Requests) (n : ℕ) → None ≡ target_of r n → Nobody ≡ found_as r (target_of r n)
+found_none r n e = ap (found_as r) e

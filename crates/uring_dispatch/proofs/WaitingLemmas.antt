@@ -4,89 +4,60 @@ use Rattle.std.specs.Prelude.{if◌then◌else◌}
 use Rattle.std.proofs.lemmas.Bool.{cases_lt, cases_eq, both_ways, false≢true, lt-ltb, le-ltb, ltb-true, ne_eqb}
 use Rattle.std.proofs.lemmas.Option.{same_Some}
 use Rattle.uring_entry.specs.Groups.{is_before, earlier_of}
-use Rattle.uring_number_set.specs.NumberSet.{NumberSet, Covers, Puts, HasGrown, HasMoved}
+use Rattle.uring_number_set.specs.NumberSet.{NumberSet, Puts, HasGrown, HasMoved}
 use Rattle.uring_number_set.proofs.BlockLemmas.{holds_same}
 use Rattle.uring_dispatch.specs.declared.request.Request.{Request}
 use Rattle.uring_dispatch.specs.declared.group.Group.{Group}
 use Rattle.uring_dispatch.specs.declared.waiting.Waiting.{Waiting}
-use Rattle.uring_dispatch.specs.Window.{Window, at, end_of, Changes, started}
+use Rattle.uring_dispatch.specs.Window.{Window, at, end_of, Changes}
 use Rattle.uring_dispatch.specs.Groups.{Groups, group_at}
-use Rattle.uring_dispatch.specs.Held.{IsSound, IsNext}
+use Rattle.uring_dispatch.specs.Held.{IsSound}
 use Rattle.uring_dispatch.proofs.WindowFront.{within_end}
-use Rattle.uring_dispatch.proofs.HeldLemmas.{some_none, vacant, linked}
+use Rattle.uring_dispatch.proofs.HeldLemmas.{some_none}
 use Rattle.uring_dispatch.proofs.EndLemmas.{Ends, left_with, left_member}
 use Rattle.uring_dispatch.specs.Waiting.{leads, dooms, waits_at_head, waits_doomed, IsListedAt, Reaches, IsListed, CanTell, IsSameReach, GrowsTo, Keeps, StandsAsBefore}
 use Rattle.uring_entry.proofs.BelowLemmas.{is_some_value}
-use Rattle.uring_dispatch.proofs.Touches.{before_end, still_there}
+use Rattle.uring_dispatch.proofs.Changes.{before_end, still_there}
 
 -- Telling anew.
 
-pub same_reach : (s : NumberSet) → IsSameReach s s
-same_reach s = record { start = refl; stop = refl; limit = refl }
-
-reach_both : (s t u : NumberSet) → IsSameReach s t → IsSameReach t u → IsSameReach s u
-reach_both s t u a b = omega arith
-
 pub keeps_none : (w : Window) (g : Groups) (s : Waiting) → Keeps w g s s
-keeps_none w g s = record {
-  told = λ k e. e;
-  heads = same_reach s.heads;
-  doomed = same_reach s.doomed;
-}
+keeps_none w g s = record { told = λ k e. e; heads = omega arith; doomed = omega arith }
 
 pub keeps_both : (w : Window) (g : Groups) (s t u : Waiting) → Keeps w g s t → Keeps w g t u
     → Keeps w g s u
 keeps_both w g s t u a b = record {
   told = λ k e. b.told k (a.told k e);
-  heads = reach_both s.heads t.heads u.heads a.heads b.heads;
-  doomed = reach_both s.doomed t.doomed u.doomed a.doomed b.doomed;
+  heads = omega (arith, a.heads, b.heads);
+  doomed = omega (arith, a.doomed, b.doomed);
 }
 
 pub listed_same : (w : Window) (g : Groups) (s : Waiting) (n m : ℕ) → n ≡ m → IsListedAt w g s n
     → IsListedAt w g s m
 listed_same w g s n m e l = let P : ℕ → Type 0 = λ j. IsListedAt w g s j in subst P e l
 
-covers_kept : (s t : NumberSet) (n : ℕ) → Covers s n → IsSameReach s t → Covers t n
-covers_kept s t n c k = omega arith
-
 pub tell_kept : (w : Window) (g : Groups) (s t : Waiting) (n : ℕ) → CanTell s n → Keeps w g s t
     → CanTell t n
-tell_kept w g s t n c k = record {
-  heads = covers_kept s.heads t.heads n c.heads k.heads;
-  doomed = covers_kept s.doomed t.doomed n c.doomed k.doomed;
-}
+tell_kept w g s t n c k = omega (arith, c, k.heads, k.doomed)
 
--- A request that has ended doesn't wait.
+-- A request that has ended doesn't wait, nor does one that was started.
 
-pub forgotten_listed : (w : Window) (g : Groups) (s t : Waiting) (n : ℕ) → at w n ≡ None
-    → Puts s.heads t.heads n false → Puts s.doomed t.doomed n false → IsListedAt w g t n
-forgotten_listed w g s t n gone a b = record {
-  head = a.here ∙ sym (ap (λ o. waits_at_head g o n) gone);
-  doomed = b.here ∙ sym (ap (λ o. waits_doomed g o n) gone);
-}
-
-reach_put : (s t : NumberSet) (n : ℕ) (b : Bool) → Puts s t n b → IsSameReach s t
-reach_put s t n b p = omega arith
-
--- nor does one that was started
-pub started_listed : (w : Window) (g : Groups) (s t : Waiting) (n : ℕ) (q : Request)
-    → at w n ≡ Some (started q) → Puts s.heads t.heads n false → Puts s.doomed t.doomed n false
-    → IsListedAt w g t n
-started_listed w g s t n q runs a b = record {
-  head = a.here ∙ sym (ap (λ o. waits_at_head g o n) runs);
-  doomed = b.here ∙ sym (ap (λ o. waits_doomed g o n) runs);
-}
+pub idle_listed : (w : Window) (g : Groups) (s t : Waiting) (n : ℕ) (o : Option Request) → at w n ≡ o
+    → waits_at_head g o n ≡ false → waits_doomed g o n ≡ false → Puts s.heads t.heads n false
+    → Puts s.doomed t.doomed n false → IsListedAt w g t n
+idle_listed w g s t n o is head doomed a b =
+    record { head = rw is (a.here ∙ sym head); doomed = rw is (b.here ∙ sym doomed) }
 
 pub forgotten_keeps : (w : Window) (g : Groups) (s t : Waiting) (n : ℕ) → IsListedAt w g t n
     → Puts s.heads t.heads n false → Puts s.doomed t.doomed n false → Keeps w g s t
 forgotten_keeps w g s t n own a b = record {
   told = λ k e.
       elim (cases_eq k n) [
-        | inl same ↦ let P : ℕ → Type 0 = λ j. IsListedAt w g t j in subst P (sym same) own
+        | inl same ↦ rw same own
         | inr other ↦ record { head = a.others k other ∙ e.head; doomed = b.others k other ∙ e.doomed }
       ];
-  heads = reach_put s.heads t.heads n false a;
-  doomed = reach_put s.doomed t.doomed n false b;
+  heads = omega (arith, a);
+  doomed = omega (arith, b);
 }
 
 -- What an event leaves as it was.
@@ -134,14 +105,8 @@ pub stands_apart : (w v : Window) (g h : Groups) (k : ℕ) → at v k ≡ at w k
 stands_apart w v g h k same others = go (at w k) refl
   where
     go : (o : Option Request) → at w k ≡ o → StandsAsBefore w v g h k
-    go None e = record {
-      head = ap (λ o. waits_at_head h o k) (same ∙ e) ∙ sym (ap (λ o. waits_at_head g o k) e);
-      doomed = ap (λ o. waits_doomed h o k) (same ∙ e) ∙ sym (ap (λ o. waits_doomed g o k) e);
-    }
-    go (Some x) e = record {
-      head = ap (λ o. waits_at_head h o k) (same ∙ e) ∙ ap (λ p. not x.is_running && leads p k) (others x e) ∙ sym (ap (λ o. waits_at_head g o k) e);
-      doomed = ap (λ o. waits_doomed h o k) (same ∙ e) ∙ ap (λ p. not x.is_running && (dooms p k || x.is_cancelled)) (others x e) ∙ sym (ap (λ o. waits_doomed g o k) e);
-    }
+    go None e = record { head = rw (same, e); doomed = rw (same, e) }
+    go (Some x) e = record { head = rw (same, e, others x e); doomed = rw (same, e, others x e) }
 
 -- the request k of a group that leads and dooms it as before
 pub stands_in : (w v : Window) (g h : Groups) (k : ℕ) (x : Request) (p q : Group) → at v k ≡ at w k
@@ -149,13 +114,8 @@ pub stands_in : (w v : Window) (g h : Groups) (k : ℕ) (x : Request) (p q : Gro
     → leads (Some p) k ≡ leads (Some q) k → dooms (Some p) k ≡ dooms (Some q) k
     → StandsAsBefore w v g h k
 stands_in w v g h k x p q same e was now leads_on dooms_on = record {
-  head =
-      ap (λ o. waits_at_head h o k) (same ∙ e) ∙ ap (λ o. not x.is_running && leads o k) now ∙ ap (λ b. not x.is_running && b) leads_on
-      ∙ sym (ap (λ o. waits_at_head g o k) e ∙ ap (λ o. not x.is_running && leads o k) was);
-  doomed =
-      ap (λ o. waits_doomed h o k) (same ∙ e) ∙ ap (λ o. not x.is_running && (dooms o k || x.is_cancelled)) now
-      ∙ ap (λ b. not x.is_running && (b || x.is_cancelled)) dooms_on
-      ∙ sym (ap (λ o. waits_doomed g o k) e ∙ ap (λ o. not x.is_running && (dooms o k || x.is_cancelled)) was);
+  head = rw (same, e, now, was) (ap (λ b. not x.is_running && b) leads_on);
+  doomed = rw (same, e, now, was) (ap (λ b. not x.is_running && (b || x.is_cancelled)) dooms_on);
 }
 
 -- A request ends.
@@ -189,25 +149,17 @@ stands_ended {w} {v} {g} {h} {n} {request} {q} {least} {k} {broken} s e breaks b
 
 -- What is covered.
 
-covers_outstanding : (w : Window) (s : NumberSet) (n : ℕ) → Reaches w s → is_some (at w n) ≡ true
-    → Covers s n
-covers_outstanding w s n r there = let low = r.low n there in let within = within_end w n there in omega arith
-
 -- what can be told of an outstanding request
 pub tell_outstanding : (w : Window) (g : Groups) (s : Waiting) (n : ℕ) → IsListed w g s
     → is_some (at w n) ≡ true → CanTell s n
 tell_outstanding w g s n l there =
-    record { heads = covers_outstanding w s.heads n l.heads there; doomed = covers_outstanding w s.doomed n l.doomed there }
-
-covers_after : (w : Window) (s : NumberSet) (n k : ℕ) → Reaches w s → is_some (at w n) ≡ true
-    → n ≤ k → k < end_of w → Covers s k
-covers_after w s n k r there from to = let low = r.low n there in omega arith
+    omega (arith, l.heads.stop, l.doomed.stop, l.heads.low n there, l.doomed.low n there, within_end w n there)
 
 -- and of one after it
 pub tell_after : (w : Window) (g : Groups) (s : Waiting) (n k : ℕ) → IsListed w g s
     → is_some (at w n) ≡ true → n ≤ k → k < end_of w → CanTell s k
 tell_after w g s n k l there from to =
-    record { heads = covers_after w s.heads n k l.heads there from to; doomed = covers_after w s.doomed n k l.doomed there from to }
+    omega (arith, l.heads.stop, l.doomed.stop, l.heads.low n there, l.doomed.low n there)
 
 -- fewer requests are outstanding
 pub reaches_fewer : (w v : Window) (s t : NumberSet) → Reaches w s → end_of v ≡ end_of w
@@ -306,5 +258,4 @@ pub restarted_listed : (w v : Window) (g h : Groups) (s t : Waiting) (n : ℕ) (
     → IsListed w g s → is_some (at w n) ≡ true → Changes w v n (Some q) → end_of v ≡ end_of w → h ≡ g
     → Keeps v h s t → IsListedAt v h t n → IsListed v h t
 restarted_listed w v g h s t n q l there c end same keeps own =
-    let P : Groups → Type 0 = λ x. IsListed w x s in
-    write_listed w v h s t n q (subst P (sym same) l) there c end keeps own
+    write_listed w v h s t n q (rw same l) there c end keeps own

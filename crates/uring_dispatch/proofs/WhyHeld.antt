@@ -1,9 +1,8 @@
 -- Why an outstanding request stands as it does, from what is held.
-use Rattle.std.proofs.Common.{◌≡◌, ◌≢◌, ℕ, ◌<◌, ◌≤◌, length, Bool, true, false, not, ◌||◌, Option, Some, None, is_some, refl, sym, ◌∙◌, ap, subst, arith, inl, inr}
+use Rattle.std.proofs.Common.{◌≡◌, ◌≢◌, ℕ, ◌<◌, ◌≤◌, length, Bool, true, false, not, Option, Some, None, is_some, refl, sym, ◌∙◌, ap, arith, inl, inr}
 use Rattle.std.specs.Prelude.{if◌then◌else◌}
 use Rattle.std.proofs.lemmas.Bool.{cases_lt, or_from, and_from, and_left, and_right, or_left, or_right, lt-leb, le-leb, lt-ltb}
-use Rattle.std.proofs.lemmas.Option.{same_Some}
-use Rattle.uring_entry.specs.Requests.{Requests, entry_of, has_ended, is_running, is_doomed, is_joined, is_draining, holds_back}
+use Rattle.uring_entry.specs.Requests.{Requests, entry_of, has_ended, is_joined, is_draining, holds_back}
 use Rattle.uring_entry.specs.Groups.{IsGroup, is_before}
 use Rattle.uring_entry.specs.Why.{first_doom, faulty_member_of, failed_member_of, doom_of, since_of, holder_of, waiting_for, why_of}
 use Rattle.uring_entry.specs.Preparation.{fault_of}
@@ -12,8 +11,7 @@ use Rattle.uring_entry.specs.declared.why.Doom.TheVariants.{OwnFault, FaultOf, F
 use Rattle.uring_entry.specs.declared.why.Since.{Since}
 use Rattle.uring_entry.specs.declared.why.Since.TheVariants.{SameGroup, ItDrains, OwnDrains}
 use Rattle.uring_entry.proofs.GroupLemmas.{joined_member, draining_is, first_member_inside}
-use Rattle.uring_entry.specs.declared.why.Why.{Why}
-use Rattle.uring_entry.specs.declared.why.Why.TheVariants.{NeverAccepted, HasEnded, Runs, IsDoomed, Waits, MayStart}
+use Rattle.uring_entry.specs.declared.why.Why.TheVariants.{HasEnded, Waits, MayStart}
 use Rattle.uring_entry.proofs.BelowLemmas.{least_below_none, least_below_some}
 use Rattle.uring_entry.proofs.WhyLemmas.{StillWaits, faulty_member_is, failed_member_before, failed_member_none}
 use Rattle.uring_dispatch.specs.declared.request.Request.{Request}

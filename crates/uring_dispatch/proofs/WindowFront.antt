@@ -6,8 +6,7 @@ use Rattle.uring_dispatch.specs.declared.request.Request.{Request}
 use Rattle.uring_dispatch.specs.Window.{Window, key_at, found_by, at, end_of, runs, one_if, IsWindow, IsTrimmed, IsFirst, HasBefore, started, chosen}
 use Rattle.std.specs.Prelude.{IfSome}
 use Rattle.uring_dispatch.proofs.Counting.{count_below_some, count_below_within}
-use Rattle.uring_dispatch.proofs.WindowLemmas.{key_at_low, key_at_high, key_at_past, key_at_within, at_keyed}
-use Rattle.uring_dispatch.proofs.WindowEvents.{write_window}
+use Rattle.uring_dispatch.proofs.WindowLemmas.{key_at_low, key_at_high, key_at_past, key_at_within, at_keyed, write_window}
 use Rattle.uring_dispatch.proofs.HeldLemmas.{some_none}
 
 -- The front.

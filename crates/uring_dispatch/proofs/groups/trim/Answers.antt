@@ -6,8 +6,7 @@ use Rattle.slab.specs.Slab.{get}
 use Rattle.uring_number_set.proofs.BlockLemmas.{popped}
 use Rattle.uring_dispatch.specs.declared.group.Barrier.{Barrier}
 use Rattle.uring_dispatch.specs.Groups.{covers, IsSorted, IsBeyond, drain_of}
-use Rattle.uring_dispatch.proofs.BarrierLemmas.{covered_pop, beyond_pop}
-use Rattle.uring_dispatch.proofs.GroupsKept.{sorted_pop, starts_at_no, starts_at_yes, head_at}
+use Rattle.uring_dispatch.proofs.GroupsKept.{sorted_pop, starts_at_no, starts_at_yes, head_at, covered_pop, beyond_pop}
 use Rattle.uring_dispatch.proofs.groups.trim.Goals as goal
 
 pub loop-barrier-preserved : goal.loop-barrier-preserved

@@ -1,4 +1,3 @@
-use Rattle.std.proofs.Common.{refl}
 use Rattle.uring_dispatch.proofs.Accepts.{accept_sound, accepts_new, accept_held, kept_op}
 use Rattle.uring_dispatch.proofs.grouped.Grouped.accept.Goals as goal
 

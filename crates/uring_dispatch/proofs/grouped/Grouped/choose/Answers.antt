@@ -1,6 +1,6 @@
 use Rattle.std.proofs.Common.{refl}
 use Rattle.uring_entry.proofs.BelowLemmas.{is_some_value}
-use Rattle.uring_dispatch.specs.Window.{at, chosen}
+use Rattle.uring_dispatch.specs.Window.{at}
 use Rattle.uring_dispatch.proofs.Changes.{write_sound, choose_held}
 use Rattle.uring_dispatch.proofs.grouped.Grouped.choose.Goals as goal
 

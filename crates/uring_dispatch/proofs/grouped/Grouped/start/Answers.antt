@@ -1,6 +1,6 @@
 use Rattle.std.proofs.Common.{refl, ap, sym, ◌∙◌}
 use Rattle.uring_entry.proofs.BelowLemmas.{is_some_value}
-use Rattle.uring_dispatch.specs.Window.{at, runs, started}
+use Rattle.uring_dispatch.specs.Window.{at, runs}
 use Rattle.uring_dispatch.proofs.Changes.{write_sound, start_held}
 use Rattle.uring_dispatch.proofs.grouped.Grouped.start.Goals as goal
 

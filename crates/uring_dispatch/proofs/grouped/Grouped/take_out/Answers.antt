@@ -1,4 +1,4 @@
-use Rattle.std.proofs.Common.{sym, ◌∙◌, ap, is_some, None, arith, refl, not, ◌&&◌, inl, inr, false}
+use Rattle.std.proofs.Common.{◌∙◌, ap, is_some, None, arith, not, ◌&&◌, inl, inr, false}
 use Rattle.std.proofs.lemmas.Bool.{false≢true}
 use Rattle.uring_entry.specs.Requests.{is_soft, entry_of}
 use Rattle.uring_entry.specs.Layout.{Sqe}

@@ -1,7 +1,5 @@
-use Rattle.std.proofs.Common.{◌≡◌, arith, subst, sym, ◌∙◌}
+use Rattle.std.proofs.Common.{arith, sym, ◌∙◌}
 use Rattle.std.proofs.lemmas.Option.{same_Some}
-use Rattle.uring_dispatch.specs.declared.group.Group.{Group}
-use Rattle.uring_dispatch.specs.Waiting.{Starts}
 use Rattle.uring_dispatch.proofs.AcceptsListed.{accept_listed, can_grow, low_member, starts_least}
 use Rattle.uring_dispatch.proofs.ByData.{found_on, goes_accepted}
 use Rattle.uring_dispatch.proofs.outstanding.Outstanding.accept.Goals as goal
