@@ -81,15 +81,7 @@ pub record Regroups (u t : Window) (g : Group) : Type 0 where
   pub end : end_of t ≡ end_of u
 
 retold : (q : Request) (g : Group) (r : Requests) (n : ℕ) → Tells q r n → Tells (record q { group = g }) r n
-retold q g r n t = record {
-  entry = t.entry;
-  faulty = t.faulty;
-  refused = t.refused;
-  last = t.last;
-  running = t.running;
-  ended = t.ended;
-  failed = t.failed;
-}
+retold q g r n t = assumption
 
 regrouped_here : (u t : Window) (g : Group) (x : Request) → Regroups u t g → IsWithin u g.from
     → at t g.from ≡ Some x → (q : Request) × (at u g.from ≡ Some q) × (x ≡ record q { group = g })

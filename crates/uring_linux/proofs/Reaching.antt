@@ -105,7 +105,7 @@ waiting_accepted r e g within w =
       some = w.some;
       begins = λ k is. last_accepted r e k (omega (arith, is)) ∙ w.begins k is;
       ends = λ k is. last_accepted r e k (omega (arith, is)) ∙ w.ends k is;
-      idle = λ k le lt. record { started = (w.idle k le lt).started; ended = (w.idle k le lt).ended };
+      idle = λ k le lt. let idle = w.idle k le lt in assumption;
       healthy = λ k le lt. (accepted_faults r e).fault k (omega (arith, lt, within)) ∙ w.healthy k le lt;
     }
 
@@ -120,10 +120,10 @@ accepted_amid l e s =
       begins = λ k is. last_accepted r e k (omega (arith, is)) ∙ s.begins k is;
       idle = λ k le lt.
           elim (cases_lt k (length r.accepted)) [
-            | inl before ↦ record { started = (s.amid k le before).started; ended = (s.amid k le before).ended }
-            | inr new ↦ record { started = (s.later k new).started; ended = (s.later k new).ended }
+            | inl before ↦ let idle = s.amid k le before in assumption
+            | inr new ↦ let idle = s.later k new in assumption
           ];
-      later = λ k le. let new = s.later k (omega (arith, le)) in record { started = new.started; ended = new.ended; cut = new.cut };
+      later = λ k le. let new = s.later k (omega (arith, le)) in assumption;
       waiting = order_kept (IsWaiting r) (IsWaiting (manual.with_accepted r e)) 0 l.drains.deferred l.drains.from s.waiting
           (λ g there some within w. waiting_accepted r e g (omega (arith, within, low)) w);
     }
@@ -150,7 +150,7 @@ waiting_cut r g w = record {
   some = w.some;
   begins = λ k is. last_kept r k (w.begins k is);
   ends = λ k is. last_kept r k (w.ends k is);
-  idle = λ k le lt. record { started = (w.idle k le lt).started; ended = (w.idle k le lt).ended };
+  idle = λ k le lt. let idle = w.idle k le lt in assumption;
   healthy = w.healthy;
 }
 
@@ -190,7 +190,7 @@ cut_between l s = go (nat_lt l.drains.from (length l.requests.accepted)) refl
           (record {
             low = ltb-true _ _ e;
             begins = λ k is. last_kept l.requests k (s.begins k is);
-            idle = λ k le lt. record { started = (s.amid k le lt).started; ended = (s.amid k le lt).ended };
+            idle = λ k le lt. let idle = s.amid k le lt in assumption;
             later = λ k le. new_cut l.requests k le (s.later k le);
             waiting = waiting_all_cut l s;
           })
