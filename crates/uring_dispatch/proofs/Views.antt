@@ -63,23 +63,21 @@ least_held w g r (Some n) s h m =
 pub entry_none : (w : Window) (g : Groups) (r : Requests) (n : ℕ) → AreHeld w g r → at w n ≡ None
     → None ≡ entry_outstanding r n
 entry_none w g r n h e =
-    sym (ap (λ b. if b then Some (entry_of r n) else None) (outstanding_none h _ e))
+    rw (outstanding_none h n e)
 
 pub entry_some : (w : Window) (g : Groups) (r : Requests) (n : ℕ) (q : Request) → IsSound w g
     → AreHeld w g r → at w n ≡ Some q → Some q.entry ≡ entry_outstanding r n
 entry_some w g r n q s h e =
-    ap Some (h.shown n q e).entry
-    ∙ sym (ap (λ b. if b then Some (entry_of r n) else None) (outstanding_some s h _ e))
+    rw (outstanding_some s h n e) (ap Some (h.shown n q e).entry)
 
 pub operation_none : (r : Requests) (n : ℕ) → is_running r n ≡ false → None ≡ operation_running r n
-operation_none r n e = sym (ap (λ b. if b then Some (operation_of (entry_of r n)) else None) e)
+operation_none r n e = rw e
 
 pub operation_some : (w : Window) (g : Groups) (r : Requests) (n : ℕ) (q : Request) → AreHeld w g r
     → at w n ≡ Some q → q.is_running ≡ true → q.op ≡ operation_running r n
 operation_some w g r n q h e runs =
     let shown = h.shown n q e in
-    shown.op ∙ ap (λ b. if b then None else Some (operation_of (entry_of r n))) (shown.sound runs)
-    ∙ sym (ap (λ b. if b then Some (operation_of (entry_of r n)) else None) (running_some h _ e ∙ runs))
+    rw (running_some h n e ∙ runs) (shown.op ∙ ap (λ b. if b then None else Some (operation_of (entry_of r n))) (shown.sound runs))
 
 -- nothing is held at first
 pub empty_held : (w : Window) (g : Groups) → ((n : ℕ) → at w n ≡ None) → end_of w ≡ 0
@@ -102,7 +100,7 @@ empty_sound w g none end groups beyond = record {
   linked = λ n q e. some_none (none n) e;
   members = λ key q n request found from to e. some_none (none n) e;
   kept = λ key q e. some_none (groups key) e;
-  beyond = let P : ℕ → Type 0 = λ x. IsBeyond g.barriers x in subst P (sym end) beyond;
+  beyond = rw end beyond;
   last = λ key q e found. some_none (groups key) found;
 }
 

@@ -239,23 +239,18 @@ end_listed w v g h s t u n head stop first l c end others keeps own at_head betw
         ]
 
 -- A request was written, and it was told of anew.
-pub write_listed : (w v : Window) (g : Groups) (s t : Waiting) (n : ℕ) (q : Request)
-    → IsListed w g s → is_some (at w n) ≡ true → Changes w v n (Some q) → end_of v ≡ end_of w
-    → Keeps v g s t → IsListedAt v g t n → IsListed v g t
-write_listed w v g s t n q l there c end keeps own =
+pub restarted_listed : (w v : Window) (g h : Groups) (s t : Waiting) (n : ℕ) (q : Request)
+    → IsListed w g s → is_some (at w n) ≡ true → Changes w v n (Some q) → end_of v ≡ end_of w → h ≡ g
+    → Keeps v h s t → IsListedAt v h t n → IsListed v h t
+restarted_listed w v g h s t n q l there c end same_groups keeps own =
+    let told : (k : ℕ) → IsListedAt w h s k = rw same_groups l.told in
     let as_many : (k : ℕ) → is_some (at v k) ≡ true → is_some (at w k) ≡ true = λ k some. sym (still_there c there k) ∙ some in
     record {
       told = λ k.
           elim (cases_eq k n) [
-            | inl same ↦ let P : ℕ → Type 0 = λ j. IsListedAt v g t j in subst P (sym same) own
-            | inr other ↦ keeps.told k (told_before w v g g s k (l.told k) (stands_same w v g k (c.others k other)))
+            | inl same ↦ rw same own
+            | inr other ↦ keeps.told k (told_before w v h h s k (told k) (stands_same w v h k (c.others k other)))
           ];
       heads = reaches_fewer w v s.heads t.heads l.heads end as_many keeps.heads;
       doomed = reaches_fewer w v s.doomed t.doomed l.doomed end as_many keeps.doomed;
     }
-
-pub restarted_listed : (w v : Window) (g h : Groups) (s t : Waiting) (n : ℕ) (q : Request)
-    → IsListed w g s → is_some (at w n) ≡ true → Changes w v n (Some q) → end_of v ≡ end_of w → h ≡ g
-    → Keeps v h s t → IsListedAt v h t n → IsListed v h t
-restarted_listed w v g h s t n q l there c end same keeps own =
-    write_listed w v h s t n q (rw same l) there c end keeps own
