@@ -1,5 +1,5 @@
 -- What each event changes in what is kept.
-use Rattle.std.proofs.Common.{◌≡◌, ◌≢◌, ℕ, suc, ◌+◌, ◌-◌, ◌<◌, ◌≤◌, ℤ, length, Bool, true, false, not, ◌&&◌, ◌||◌, ◌==◌, List, [], ◌∷◌, ◌++◌, set, slice_get, Some, None, refl, sym, ◌∙◌, ap, arith, inl, inr, length-append, length-set}
+use Rattle.std.proofs.Common.{◌≡◌, ◌≢◌, ℕ, suc, ◌+◌, ◌-◌, ◌<◌, ◌≤◌, ℤ, length, Bool, true, false, not, ◌&&◌, ◌||◌, ◌==◌, List, [], ◌∷◌, ◌++◌, set, slice_get, Some, None, refl, sym, ◌∙◌, ap, arith, inl, inr, length-append, length-set, zero}
 use Rattle.std.specs.List.{list_any}
 use Rattle.std.proofs.lemmas.Bool.{cases_lt, cases_eq, ne_eqb, and_left}
 use Rattle.std.proofs.lemmas.Option.{slice_get_past, slice_get-get_or, slice_get_within, same_Some}
@@ -12,7 +12,7 @@ use Rattle.uring_entry.specs.Requests.{Requests, no_request, entry_of, is_linked
 use Rattle.uring_entry.proofs.BelowLemmas.{some_below_same}
 use Rattle.uring_entry.specs.Below.{some_below}
 use Rattle.std.proofs.Math.Bool.{or-false}
-use Rattle.uring_entry.proofs.RequestLemmas.{get_or_push_other, entry_of_accepted_at, entry_of_accepted_other, has_failed_unended, has_failed_accepted, has_ended_other, has_ended_same, has_failed_other, has_failed_same, is_running_started_same, is_running_started_other, is_running_ended_same, is_running_ended_other, added_other}
+use Rattle.uring_entry.proofs.RequestLemmas.{entry_of_accepted_at, entry_of_accepted_other, has_failed_unended, has_failed_accepted, has_ended_other, has_ended_same, has_failed_other, has_failed_same, is_running_started_same, is_running_started_other, is_running_ended_same, is_running_ended_other, added_other}
 use Rattle.uring_entry.proofs.GroupEvents.{entry_same, is_last_cut, is_last_cut_last}
 use Rattle.uring_linux.specs.declared.request.Request.{Request}
 use Rattle.uring_linux.specs.Groups.{IsGrouped}
@@ -28,16 +28,10 @@ push_here xs x =
 
 pub push_other : (xs : List Request) (x : Request) (k : ℕ) → k ≢ length xs
     → slice_get (xs ++ x ∷ []) k ≡ slice_get xs k
-push_other xs x k ne =
-    let long = length-append xs (x ∷ []) in
-    elim (cases_lt k (length xs)) [
-      | inl low ↦
-          slice_get-get_or (xs ++ x ∷ []) k x (omega (arith, long)) ∙ ap Some (get_or_push_other xs x k x ne)
-          ∙ sym (slice_get-get_or xs k x low)
-      | inr high ↦
-          let past : length (xs ++ x ∷ []) ≤ k = grind (arith, long, ne) in
-          slice_get_past (xs ++ x ∷ []) k past ∙ sym (slice_get_past xs k high)
-    ]
+push_other [] x zero ne = absurd (ne refl)
+push_other [] x (suc k) ne = refl
+push_other (y ∷ xs) x zero ne = refl
+push_other (y ∷ xs) x (suc k) ne = push_other xs x k (λ e. ne (ap suc e))
 
 pub is_set_here : (xs : List Request) (x : Request) (i : ℕ) → i < length xs → slice_get (set xs i x) i ≡ Some x
 is_set_here xs x i lt =
