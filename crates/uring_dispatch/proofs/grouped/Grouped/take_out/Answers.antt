@@ -18,9 +18,6 @@ pub least_left-least-requires-clause-to : goal.least_left-least-requires-clause-
 least_left-least-requires-clause-to c =
     (within_group c.args.self.now.sound c.end_one-request.ensures.request (c.requires.group _ c.end_one-request.ensures.request)).1
 
-pub least_left-least-requires-clause-gone : goal.least_left-least-requires-clause-gone
-least_left-least-requires-clause-gone c = c.end_one-request.ensures.changes.here
-
 pub least_left-least-requires-clause-others : goal.least_left-least-requires-clause-others
 least_left-least-requires-clause-others c = λ ne.
     ap is_some (c.end_one-request.ensures.changes.others _ ne) ∙ (c.args.self.now.sound.kept _ c.args.group.now (c.requires.group _ c.end_one-request.ensures.request)).here

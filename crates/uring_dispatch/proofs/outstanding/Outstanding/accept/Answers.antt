@@ -28,9 +28,6 @@ invariant_of-self c =
       found = let end = c.accept-group.ensures.accepts.end in found_on _ _ _ c.args.self.now.found (goes_accepted _ _ _ _ _ _ c.accept-group.ensures.accepts) (omega (arith, end, c.requires.places));
     }
 
-pub returns-clause-end : goal.returns-clause-end
-returns-clause-end c = c.accept-group.ensures.accepts.end
-
 pub returns-clause-room : goal.returns-clause-room
 returns-clause-room c = λ k r.
     let end = c.accept-group.ensures.accepts.end in

@@ -17,6 +17,3 @@ returns-clause-room c = λ k r.
     let end = ap (λ (w : Window). end_of w) c.close.ensures.window in
     let groups = ap (λ (g : Groups). g.room) c.close.ensures.groups in
     omega (arith, r, window, end, groups)
-
-pub returns-clause-last : goal.returns-clause-last
-returns-clause-last c = ap (λ (g : Groups). g.last) c.close.ensures.groups

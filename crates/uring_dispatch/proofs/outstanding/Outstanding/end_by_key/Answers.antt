@@ -19,9 +19,6 @@ relist_range-requires c = λ k from to.
     let keeps = forgotten_keeps _ _ _ _ c.args.n own c.forget.ensures.heads c.forget.ensures.doomed in
     tell_kept _ _ _ _ _ (tell_kept _ _ _ _ _ (tell_after _ _ _ c.args.n k c.args.self.now.listed c.take_out-others.ensures.there from (omega arith)) keeps) c.relist_other.ensures.keeps
 
-pub invariant_of-self : goal.invariant_of-self
-invariant_of-self c = (c.take_out-others.new.self.sound, tt)
-
 pub invariant_of-self-2 : goal.invariant_of-self-2
 invariant_of-self-2 c =
     let gone = c.take_out-others.ensures.gone in

@@ -19,10 +19,6 @@ pub returns-in_err-reserve_in-clause-kept : goal.returns-in_err-reserve_in-claus
 returns-in_err-reserve_in-clause-kept g c = λ k le r.
     omega (arith, r, c.reserve_in.ensures.window_kept k le r.window, c.reserve_in.ensures.groups_kept k le r.groups, (alike_records _ _ c.reserve_in.ensures.same).end)
 
-pub returns-in_err-reserve_in-clause-granted : goal.returns-in_err-reserve_in-clause-granted
-returns-in_err-reserve_in-clause-granted g c =
-    λ r n h grants below. absurd (false≢true (c.in_err-reserve_in.ensures.granted r n h grants below))
-
 pub returns-in_err-reserve_in-2-clause-kept : goal.returns-in_err-reserve_in-2-clause-kept
 returns-in_err-reserve_in-2-clause-kept g c = λ k le r.
     let sets = c.reserve_in-2.ensures in
@@ -60,15 +56,6 @@ pub returns-clause-granted : goal.returns-clause-granted
 returns-clause-granted g c = λ r n h grants below.
     let end = (alike_records _ _ c.reserve_in.ensures.same).end in
     c.reserve_in-3.ensures.granted n grants (omega (arith, c.end.ensures.value, end, below))
-
-pub invariant_of-self-2 : goal.invariant_of-self-2
-invariant_of-self-2 g c = (c.reserve_in.new.self.sound, tt)
-
-pub invariant_of-self-3 : goal.invariant_of-self-3
-invariant_of-self-3 g c = (c.reserve_in.new.self.sound, tt)
-
-pub invariant_of-self-4 : goal.invariant_of-self-4
-invariant_of-self-4 g c = (c.reserve_in.new.self.sound, tt)
 
 pub invariant_of-self-in-Break-branch-2 : goal.invariant_of-self-in-Break-branch-2
 invariant_of-self-in-Break-branch-2 g c =
