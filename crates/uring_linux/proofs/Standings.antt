@@ -1,11 +1,11 @@
 -- How a request stands, from what is kept of it, and what its issue is answered.
-use Rattle.std.proofs.Common.{◌≡◌, ℕ, suc, ◌+◌, ◌<◌, ℤ, length, Bool, true, false, not, ◌&&◌, ◌||◌, leb, Option, Some, None, is_some, refl, sym, ◌∙◌, ap, subst, arith, inl, inr, List, set, ◌-◌, ◌≤◌, ◌⊎◌}
+use Rattle.std.proofs.Common.{◌≡◌, ℕ, ◌<◌, ℤ, length, Bool, true, false, not, ◌&&◌, ◌||◌, leb, Option, Some, None, is_some, refl, sym, ◌∙◌, ap, subst, arith, inl, inr, List, set, ◌-◌, ◌≤◌, ◌⊎◌}
 use Rattle.std.specs.Prelude.{if◌then◌else◌, neg_ℤ}
 use Rattle.std.proofs.lemmas.Bool.{cases_lt, cases_Bool, and_left, and_right, and_from, and_parts, or_parts, or_left, both_ways, lt-ltb, le-ltb, le-leb, lt-leb, not-true}
 use Rattle.uring_entry.specs.Preparation.{fault_of, is_faulty, is_cancel, is_cancel_all, operation_of}
 use Rattle.uring_entry.specs.declared.fault.Fault.{Fault}
 use Rattle.uring_entry.specs.Success as success
-use Rattle.uring_entry.specs.Below.{least_below, count_below}
+use Rattle.uring_entry.specs.Below.{least_below}
 use Rattle.uring_entry.specs.Groups.{first_member}
 use Rattle.uring_entry.specs.Requests as manual
 use Rattle.uring_entry.specs.Requests.{Requests, entry_of, has_ended, is_outstanding, is_running, is_in_group, least_of}
@@ -218,9 +218,6 @@ busy_issuable true false c e = refl
 busy_issuable false b c e = refl
 
 -- Counts.
-
-pub next_count : (p : ℕ → Bool) (n : ℕ) → count_below p (n + 1) ≡ count_below p n + one_if (p n)
-next_count p n = let more : n + 1 ≡ suc n = omega arith in ap (count_below p) more
 
 pub one_more : (b : Bool) (k : ℕ) → k ≡ one_if b → 0 < k → b ≡ true
 one_more true k e lt = refl
