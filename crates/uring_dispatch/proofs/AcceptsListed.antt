@@ -63,8 +63,7 @@ reaches_accepted w v s t n r grows is end others =
     few : (n < stop_of s) ⊎ (stop_of s ≤ n) → stop_of t ≤ end_of v + 63
     few (inl low) =
         let most = grows.few (s.first + length s.blocks) (omega arith) (omega arith) in
-        let was = r.few in
-        omega arith
+        omega (arith, r.few)
     few (inr high) = let most = grows.few (n / 64 + 1) (omega arith) (omega arith) in omega arith
 
 pub accept_listed : (w v : Window) (g h : Groups) (entry : Sqe) (request : Request) (s t : Waiting) (n : ℕ)

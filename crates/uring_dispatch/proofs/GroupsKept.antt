@@ -273,9 +273,7 @@ pub before_free : (records : List (Option Group)) (barriers : List Barrier) (las
     → (key number : ℕ) → drain_of (get_or records key None) ≡ Some number → n ≤ number
 before_free records barriers last b n a lt e low key number drains =
     let head = head_is barriers b lt e in
-    let P : List Barrier → Type 0 = λ x. IsSorted x × (list_any (covers key number) x ≡ true) in
-    let both = subst P head.1 (a.sorted, a.covered key number drains) in
-    let least = front_least b head.0 key number both.0 both.1 in
+    let least = front_least b head.0 key number (subst IsSorted head.1 a.sorted) (sym (ap (list_any (covers key number)) head.1) ∙ a.covered key number drains) in
     omega arith
 
 pub none_free : (records : List (Option Group)) (barriers : List Barrier) (last : Option ℕ) (n : ℕ)

@@ -162,8 +162,7 @@ module _ (w : Window) (requests : List (Option Request)) (key outstanding room :
             in
             let last : one_if (runs (at pushed (end_of w))) ≡ 0 = ap (λ o. one_if (runs o)) push_changes.here ∙ ap one_if waits in
             let whole : count_below (λ n. runs (at pushed n)) (end_of pushed) ≡ count_below (λ n. runs (at pushed n)) (suc (end_of w)) = ap (count_below (λ n. runs (at pushed n))) end in
-            let was = i.counted in
-            omega arith;
+            omega (arith, i.counted);
         fits = omega (arith, i.fits);
       }
 
@@ -200,8 +199,7 @@ module _ (w : Window) (requests : List (Option Request)) (n key outstanding runn
         count_below_changed (λ m. runs (at w m)) (λ m. runs (at rewritten m)) (end_of w) n inside.1 (λ k ne. ap runs (write_changes.others k ne))
         in
         let now : one_if (runs (at rewritten n)) ≡ one_if q.is_running = ap (λ o. one_if (runs o)) write_changes.here in
-        let was = i.counted in
-        omega arith;
+        omega (arith, i.counted);
     fits = i.fits;
   }
 
@@ -247,8 +245,7 @@ module _ (w : Window) (requests : List (Option Request)) (n key outstanding runn
             let ran : one_if (runs (at w n)) ≡ one_if q.is_running = ap (λ o. one_if (runs o)) (at_keyed w n (Some key) e ∙ is) in
             let now : one_if (runs (at without n)) ≡ 0 = ap (λ o. one_if (runs o)) end_changes.here in
             let whole : count_below (λ m. runs (at without m)) (end_of without) ≡ count_below (λ m. runs (at without m)) (end_of w) = ap (count_below (λ m. runs (at without m))) end in
-            let was = i.counted in
-            omega arith;
+            omega (arith, i.counted);
         fits = omega (arith, i.fits);
       }
 

@@ -14,8 +14,7 @@ overflow_add-total c =
     let few = count_below_within (can_go c.args.self.now.waiting c.limit-limit.result) (64 * (c.loop-place.place + 1)) in
     let so_far : c.loop-place.total ≡ count_below (can_go c.args.self.now.waiting c.limit-limit.result) (64 * c.loop-place.place) = c.loop-place.invariant in
     let ones : c.from-total.result ≡ count_ones c.block.result = c.from-total.ensures in
-    let end = c.end.ensures.limit in
-    omega arith
+    omega (arith, c.end.ensures.limit)
 
 pub loop-place-preserved : goal.loop-place-preserved
 loop-place-preserved c =
