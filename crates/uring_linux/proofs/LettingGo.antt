@@ -39,9 +39,7 @@ left_from s t to first items over =
 left_end : (s t : Window) → IsLeft s t → end_of t ≡ end_of s
 left_end s t l =
     let long = ap length l.items ∙ length-drop (t.first - s.first) s.items in
-    let low = l.low in
-    let high = l.high in
-    omega arith
+    omega (arith, l.low, l.high)
 
 left_at : (s t : Window) (n : ℕ) → IsLeft s t → t.first ≤ n → at t n ≡ at s n
 left_at s t n l le =

@@ -38,10 +38,7 @@ pub least_within : (s : Window) (r : Requests) (q : Request) → Shows s r → a
 least_within s r q h here =
     let f = first_told s r q h here in
     let t = f.1 in
-    let high = t.high in
-    let within = t.group.accepted in
-    let count = h.count in
-    omega arith
+    omega (arith, t.high, t.group.accepted, h.count)
 
 -- After a member that hasn't ended, no member is in turn.
 

@@ -1,7 +1,7 @@
 -- What is told of a request, and what a cancel finds, from what is kept.
 use Rattle.std.proofs.Common.{◌≡◌, ℕ, ◌<◌, ◌≤◌, length, Bool, true, false, not, ◌&&◌, leb, ltb, Option, Some, None, is_some, refl, sym, ◌∙◌, ap, arith, inl, inr}
 use Rattle.std.specs.Prelude.{if◌then◌else◌, unwrap_or}
-use Rattle.std.proofs.lemmas.Bool.{cases_lt, and_right, and_from}
+use Rattle.std.proofs.lemmas.Bool.{and_right, and_from}
 use Rattle.uring_entry.specs.Below.{least_below}
 use Rattle.uring_entry.specs.Groups.{IsGroup, first_member}
 use Rattle.uring_entry.specs.Preparation.{fault_of, is_faulty, operation_of}
@@ -19,9 +19,9 @@ use Rattle.uring_dispatch.specs.Cancels.{operation_outstanding}
 use Rattle.uring_linux.specs.LinuxRequests.{LinuxRequests, is_doomed, is_deferred, keeps_back}
 use Rattle.uring_linux.specs.declared.request.Request.{Request}
 use Rattle.uring_linux.specs.Window.{Window, at, end_of, Tells, Shows}
-use Rattle.uring_linux.proofs.WindowLemmas.{not_none}
 use Rattle.uring_linux.specs.LinuxCancels.{told_for, told_of}
 use Rattle.uring_linux.specs.LinuxWhy.{doom_of, least_free_of, kept_back_by, why_of}
+use Rattle.uring_linux.proofs.Standings.{outside}
 
 -- Members.
 
@@ -60,10 +60,7 @@ told_turn l n doomed deferred none a b = rw (none, a, b)
 pub gone_ended : (s : Window) (r : Requests) (n : ℕ) → Shows s r → None ≡ at s n → n < end_of s
     → has_ended r n ≡ true
 gone_ended s r n h none lt =
-    elim (cases_lt n s.first) [
-      | inl low ↦ h.gone n low
-      | inr high ↦ absurd (not_none s n (record { low = high; high = lt }) none)
-    ]
+    elim (outside s r n h none) [ inl gone ↦ gone | inr past ↦ absurd (omega (arith, past, h.count)) ]
 
 -- Cancels.
 

@@ -18,8 +18,7 @@ returns-clause-shows c = λ l h.
 pub overflow_add-self : goal.overflow_add-self
 overflow_add-self c =
     let few = count_within unended_counts c.self.inside.window.items in
-    let was = c.self.invariant.outstanding in
-    omega (arith, c.end-n.ensures.limit, c.end-n.ensures.value)
+    omega (arith, c.self.invariant.outstanding, c.end-n.ensures.limit, c.end-n.ensures.value)
 
 pub invariant_of-self : goal.invariant_of-self
 invariant_of-self c =

@@ -51,8 +51,7 @@ overflow_sub-self c =
     let here = sym c.in-Some.ensures in
     let open_ = subst (λ (d : LinuxDispatch). is_unended (at d.held.window c.args.n) ≡ true) (sym c.self.view_is) c.requires in
     let some = unended_one c.self.inside.window c.args.n c.in-Some.request here (ap is_unended (sym (at_roomed c.self.inside.window 0 c.args.n ∙ here)) ∙ open_) in
-    let was = c.self.invariant.outstanding in
-    omega arith
+    omega (arith, c.self.invariant.outstanding)
 
 pub less_if-self-inside-requires : goal.less_if-self-inside-requires
 less_if-self-inside-requires c =
@@ -61,8 +60,7 @@ less_if-self-inside-requires c =
     let unended = not-true _ (ap is_unended (sym (at_roomed c.self.inside.window 0 c.args.n ∙ here)) ∙ open_) in
     let one = count_some running_counts c.self.inside.window c.args.n c.in-Some.request here in
     let same = ap (λ b. one_if (c.in-Some.request.is_running && not b)) unended ∙ ap one_if (and-true c.in-Some.request.is_running) in
-    let was = c.self.invariant.running in
-    omega arith
+    omega (arith, c.self.invariant.running)
 
 pub invariant_of-self : goal.invariant_of-self
 invariant_of-self c =

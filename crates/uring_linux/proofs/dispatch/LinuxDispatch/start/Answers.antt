@@ -46,5 +46,4 @@ overflow_add-self c =
     let is = open_from c.self.inside.window c.args.n c.in-Some.request false (subst (λ (d : LinuxDispatch). IsOpen d.held.window c.args.n false) (sym c.self.view_is) c.requires) here in
     let counted = (started_counts c.self.inside.window c.note_start.new.self c.self.inside.drains c.self.inside.has_skipped c.self.inside.room c.self.inside.is_between_calls c.args.n c.in-Some.request here is.0 is.1 (c.note_start.ensures.written c.in-Some.request (sym c.in-Some.ensures))).running in
     let few = count_within running_counts c.note_start.new.self.items in
-    let was = c.self.invariant.running in
-    omega (arith, c.note_start.ensures.limit)
+    omega (arith, c.self.invariant.running, c.note_start.ensures.limit)
