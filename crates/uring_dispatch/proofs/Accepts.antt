@@ -1,49 +1,32 @@
--- What accepting an entry, and the end of a call, leave of what is held: from what the window and the groups say of them.
-use Rattle.std.proofs.Common.{◌≡◌, ◌≢◌, ℕ, ◌+◌, ◌<◌, ◌≤◌, length, Bool, ◌==◌, Option, Some, None, is_some, refl, sym, ◌∙◌, ap, subst, arith, inl, inr}
-use Rattle.std.proofs.lemmas.Bool.{cases_eq, ne_eqb}
+-- When an entry is accepted and when a call ends: the window and the groups still fit one another, and what is held is what the lists say.
+use Rattle.std.proofs.Common.{◌≡◌, ◌≢◌, ◌⊎◌, ℕ, ◌+◌, ◌<◌, ◌≤◌, length, Bool, ◌==◌, Option, Some, None, is_some, refl, sym, ◌∙◌, ap, subst, arith, inl, inr, zero, suc, [], ◌∷◌, length-append, true, false, not, ◌&&◌, ◌||◌}
+use Rattle.std.proofs.lemmas.Bool.{cases_eq, ne_eqb, cases_lt, both_ways, and_left, and_from, lt-ltb, false≢true}
 use Rattle.std.proofs.lemmas.Option.{same_Some}
 use Rattle.std.proofs.Math.Numerals.{lt_of_le_of_ne}
 use Rattle.uring_entry.specs.Layout.{Sqe}
-use Rattle.uring_entry.specs.Preparation.{is_faulty}
-use Rattle.uring_entry.specs.Requests.{Requests, is_linked, is_drain, with_cut}
-use Rattle.uring_entry.proofs.RequestLemmas.{added_other}
-use Rattle.uring_entry.proofs.GroupEvents.{group_cut, is_last_cut_last}
+use Rattle.uring_entry.specs.Preparation.{is_faulty, fault_of, operation_of}
+use Rattle.uring_entry.specs.Requests.{Requests, is_linked, is_drain, with_cut, entry_of, has_started, has_ended, is_last, is_outstanding, is_running, with_accepted, outstanding_in, running_in}
+use Rattle.uring_entry.proofs.RequestLemmas.{added_other, entry_of_accepted_at, entry_of_accepted_other}
+use Rattle.uring_entry.proofs.GroupEvents.{group_cut, is_last_cut_last, group_accepted, group_joined, group_new, first_entry_accepted, first_entry_more, first_broken_accepted, first_broken_more, first_member_none}
 use Rattle.uring_entry.proofs.BelowLemmas.{is_some_value}
 use Rattle.uring_dispatch.specs.declared.request.Request.{Request}
 use Rattle.uring_dispatch.specs.declared.group.Group.{Group}
-use Rattle.uring_dispatch.specs.Window.{Window, at, end_of, Changes}
-use Rattle.uring_dispatch.specs.Groups.{Groups, group_at, last_group, with_member, IsBeyond}
-use Rattle.uring_dispatch.specs.Held.{IsKept, IsSound, AreHeld}
-use Rattle.uring_dispatch.specs.Accepts.{Accepts}
+use Rattle.uring_dispatch.specs.Window.{Window, at, end_of, Changes, one_if}
+use Rattle.uring_dispatch.specs.Groups.{Groups, group_at, last_group, with_member, IsBeyond, Exchanges}
+use Rattle.uring_dispatch.specs.Held.{IsKept, IsSound, AreHeld, IsShownGroup, op_of}
+use Rattle.uring_dispatch.specs.Accepts.{Accepts, new_request}
 use Rattle.uring_dispatch.proofs.GroupsKept.{only_key}
-use Rattle.uring_dispatch.proofs.HeldLemmas.{linked, member}
-
-older : (w v : Window) (q : Request) (k : ℕ) (x : Request) → Changes w v (end_of w) (Some q)
-    → at v k ≡ Some x → k ≢ end_of w → at w k ≡ Some x
-older w v q k x c is ne = sym (c.others k ne) ∙ is
-
--- the group that was joined, or the new one
-joined_kept : (w v : Window) (g h : Groups) (entry : Sqe) (request : Request) → IsSound w g
-    → Accepts w v g h entry request → (o : Option Group) → last_group g.records g.last ≡ o
-    → IsKept v (with_member o (end_of w) (is_drain entry) (is_faulty entry))
-joined_kept w v g h entry request s a None e = record {
-  from = omega arith;
-  to = omega arith;
-  end = omega (arith, a.end);
-  over = λ m high low. absurd (omega arith);
-  here = ap is_some a.changes.here;
-}
-joined_kept w v g h entry request s a (Some q) e =
-    let k = s.kept request.group q (a.joins ∙ e) in
-    let last = is_some_value g.last (sym a.kept ∙ ap is_some e) in
-    let top : q.end ≡ end_of w = s.last request.group q (last.1 ∙ ap Some (sym (a.key last.0 last.1))) (a.joins ∙ e) in
-    record {
-      from = k.from;
-      to = omega (arith, k.to);
-      end = omega (arith, a.end);
-      over = λ m high low. ap is_some (a.changes.others m (λ same. absurd (omega (arith, k.to, same)))) ∙ k.over m high low;
-      here = ap is_some (a.changes.others q.least (λ same. absurd (omega (arith, k.to, same)))) ∙ k.here;
-    }
+use Rattle.uring_dispatch.proofs.HeldLemmas.{some_none, linked, member, kept_on}
+use Rattle.std.specs.Prelude.{if◌then◌else◌, Result, Ok, Err, IfOk, IfErr}
+use Rattle.std.specs.Result.{result_ok}
+use Rattle.std.specs.List.{list_any}
+use Rattle.std.proofs.Math.Bool.{or-false, not-not}
+use Rattle.uring_entry.specs.Below.{count_below, found_or}
+use Rattle.uring_entry.specs.declared.fault.Fault.{Fault}
+use Rattle.uring_entry.specs.declared.operation.Op.{Op}
+use Rattle.uring_entry.specs.Groups.{IsGroup, first_fault, first_drain, first_broken}
+use Rattle.uring_dispatch.proofs.Changes.{before_write, shown_written}
+use Rattle.uring_dispatch.proofs.Counting.{count_below_same}
 
 member_from : (o : Option Group) (n : ℕ) (d f : Bool) (k : ℕ) → (with_member o n d f).from ≤ k
     → k < n → (q : Group) × (o ≡ Some q) × (q.from ≤ k)
@@ -54,86 +37,279 @@ member_end : (o : Option Group) (n : ℕ) (d f : Bool) → (with_member o n d f)
 member_end None n d f = refl
 member_end (Some q) n d f = refl
 
-member_low : (o : Option Group) (n : ℕ) (d f : Bool) → ((q : Group) → o ≡ Some q → q.from ≤ n)
-    → (with_member o n d f).from ≤ n
-member_low None n d f h = omega arith
-member_low (Some q) n d f h = h q refl
+module _ {w v : Window} {g h : Groups} {entry : Sqe} {request : Request} (s : IsSound w g) (a : Accepts w v g h entry request) where
+  -- the group that is joined ends where the window does
+  joined_end : {q : Group} → last_group g.records g.last ≡ Some q → q.end ≡ end_of w
+  joined_end {q} e =
+      let last = is_some_value g.last (sym a.kept ∙ ap is_some e) in
+      s.last request.group q (last.1 ∙ ap Some (sym (a.key last.0 last.1))) (a.joins ∙ e)
 
-pub accept_sound : (w v : Window) (g h : Groups) (entry : Sqe) (request : Request) → IsSound w g
-    → Accepts w v g h entry request → IsSound v h
-accept_sound w v g h entry request s a =
-    let p : Group = with_member (last_group g.records g.last) (end_of w) (is_drain entry) (is_faulty entry) in
-    let top : p.end ≡ end_of w + 1 = member_end (last_group g.records g.last) (end_of w) (is_drain entry) (is_faulty entry) in
-    let low : p.from ≤ end_of w =
-    member_low (last_group g.records g.last) (end_of w) (is_drain entry) (is_faulty entry)
-    (λ q e. let k = s.kept request.group q (a.joins ∙ e) in omega (arith, k.from, k.to, k.end))
+  -- what is kept under a key now
+  now : (key : ℕ) (x : Group) → group_at h key ≡ Some x
+      → ((key ≡ request.group) × (x ≡ with_member (last_group g.records g.last) (end_of w) (is_drain entry) (is_faulty entry))) ⊎ ((key ≢ request.group) × (group_at g key ≡ Some x))
+  now key x found =
+      elim (cases_eq key request.group) [
+        | inl same ↦ inl (same, same_Some _ _ (sym found ∙ ap (group_at h) same ∙ a.exchange.here))
+        | inr other ↦ inr (other, sym (a.exchange.others key other) ∙ found)
+      ]
+
+  -- the group that was joined, or the new one
+  joined_kept : (o : Option Group) → last_group g.records g.last ≡ o
+      → IsKept v (with_member o (end_of w) (is_drain entry) (is_faulty entry))
+  joined_kept None e = record { from = omega arith; to = omega arith; end = omega (arith, a.end); over = λ m high low. absurd (omega arith); here = ap is_some a.changes.here }
+  joined_kept (Some q) e =
+      let old = s.kept request.group q (a.joins ∙ e) in
+      let top = joined_end e in
+      let k = kept_on old (omega (arith, a.end)) (λ m from to. ap is_some (a.changes.others m (λ same. absurd (omega (arith, old.to, same))))) in
+      record { from = k.from; to = omega (arith, k.to); end = omega (arith, a.end); over = k.over; here = k.here }
+
+  pub accept_sound : IsSound v h
+  accept_sound =
+      let o : Option Group = last_group g.records g.last in
+      let p : Group = with_member o (end_of w) (is_drain entry) (is_faulty entry) in
+      let top : p.end ≡ end_of w + 1 = member_end o (end_of w) (is_drain entry) (is_faulty entry) in
+      let own = joined_kept o refl in
+      record {
+        linked = λ k x is.
+            elim (before_write a.changes is) [
+              | inl new ↦
+                  let least = least_low o refl in
+                  member _ p k (ap (λ (z : Request). group_at h z.group) (sym new.1) ∙ a.exchange.here) (omega (arith, own.from, new.0)) (omega (arith, new.0))
+              | inr was ↦
+                  let link = linked s was.1 in
+                  let within = (s.kept x.group link.group link.found).end in
+                  elim (cases_eq x.group request.group) [
+                    | inl same ↦
+                        let begins : p.from ≡ link.group.from = ap (λ z. (with_member z (end_of w) (is_drain entry) (is_faulty entry)).from) (sym a.joins ∙ ap (group_at g) (sym same) ∙ link.found) in
+                        member _ p k (ap (group_at h) same ∙ a.exchange.here) (omega (arith, link.from)) (omega (arith, link.to))
+                    | inr other ↦ member _ link.group k (a.exchange.others x.group other ∙ link.found) link.from link.to
+                  ]
+            ];
+        members = λ key x k y found from to is.
+            elim (now key x found) [
+              | inr other ↦
+                  elim (before_write a.changes is) [
+                    | inl new ↦ absurd (omega (arith, (s.kept key x other.1).end, new.0))
+                    | inr was ↦ s.members key x k y other.1 from to was.1
+                  ]
+              | inl here ↦
+                  let begins : x.from ≡ p.from = ap (λ (z : Group). z.from) here.1 in
+                  let ends : x.end ≡ p.end = ap (λ (z : Group). z.end) here.1 in
+                  elim (before_write a.changes is) [
+                    | inl new ↦ ap (λ (z : Request). z.group) (sym new.1) ∙ sym here.0
+                    | inr was ↦
+                        let low : k < end_of w = lt_of_le_of_ne (omega arith) was.0 in
+                        let q = member_from o (end_of w) (is_drain entry) (is_faulty entry) k (omega arith) low in
+                        s.members request.group q.0 k y (a.joins ∙ q.1) q.2 (omega (arith, joined_end q.1)) was.1 ∙ sym here.0
+                  ]
+            ];
+        kept = λ key x found.
+            elim (now key x found) [
+              | inl here ↦ subst (λ (z : Group). IsKept v z) (sym here.1) own
+              | inr other ↦
+                  let k = s.kept key x other.1 in
+                  kept_on k (omega (arith, a.end)) (λ m from to. ap is_some (a.changes.others m (λ same. absurd (omega (arith, k.to, k.end, same)))))
+            ];
+        beyond = rw a.end a.beyond;
+        last = λ key x e found.
+            elim (now key x found) [
+              | inl here ↦ ap (λ (z : Group). z.end) here.1 ∙ top ∙ sym a.end
+              | inr other ↦ absurd (other.0 (only_key (is_linked entry) request.group key _ a.last e))
+            ];
+      }
+    where
+      least_low : (o : Option Group) → last_group g.records g.last ≡ o → (with_member o (end_of w) (is_drain entry) (is_faulty entry)).least ≤ end_of w
+      least_low None e = omega arith
+      least_low (Some q) e = let k = s.kept request.group q (a.joins ∙ e) in omega (arith, k.to, k.end)
+
+-- The lists, when an entry is accepted.
+
+longer : (r : Requests) (entry : Sqe)
+    → length (with_accepted r entry).accepted ≡ suc (length r.accepted)
+longer r entry = let more = length-append r.accepted (entry ∷ []) in omega arith
+
+-- two groups with one end begin together
+same_from : (r : Requests) (a b end : ℕ) → IsGroup r a end → IsGroup r b end → a < b → ⊥
+same_from r a zero end g h lt = omega arith
+same_from r a (suc k) end g h lt =
+    both_ways _ (g.joined k (omega arith) (omega (arith, h.some))) (h.begins k refl)
+
+-- the counts
+outstanding_more : (r : Requests) (entry : Sqe) → has_ended r (length r.accepted) ≡ false
+    → outstanding_in (with_accepted r entry) ≡ outstanding_in r + 1
+outstanding_more r entry none =
+    let n : ℕ = length r.accepted in
+    let more = longer r entry in
+    let whole : outstanding_in (with_accepted r entry) ≡ count_below (is_outstanding (with_accepted r entry)) n + one_if (is_outstanding (with_accepted r entry) n) =
+    ap (count_below (is_outstanding (with_accepted r entry))) more
     in
+    let before : count_below (is_outstanding (with_accepted r entry)) n ≡ outstanding_in r =
+    count_below_same (is_outstanding (with_accepted r entry)) (is_outstanding r) n
+    (λ k lt. ap (λ b. b && not (has_ended r k)) (lt-ltb k (length (with_accepted r entry).accepted) (omega arith) ∙ sym (lt-ltb k n lt)))
+    in
+    let last : one_if (is_outstanding (with_accepted r entry) n) ≡ 1 =
+    ap one_if (and_from _ _ (lt-ltb n (length (with_accepted r entry).accepted) (omega arith)) (ap not none))
+    in
+    omega arith
+
+running_same : (r : Requests) (entry : Sqe) → has_started r (length r.accepted) ≡ false
+    → running_in (with_accepted r entry) ≡ running_in r
+running_same r entry none =
+    let whole : running_in (with_accepted r entry) ≡ running_in r + one_if (is_running r (length r.accepted)) = ap (count_below (is_running r)) (longer r entry) in
+    let last : one_if (is_running r (length r.accepted)) ≡ 0 = ap one_if (and_left _ _ none) in
+    omega arith
+
+not_linked : (b : Bool) (key : ℕ) → not (is_some (if b then Some key else None)) ≡ not b
+not_linked true key = refl
+not_linked false key = refl
+
+module _ {w v : Window} {g h : Groups} {r : Requests} {entry : Sqe} {request : Request} (s : IsSound w g) (a : AreHeld w g r) (c : Accepts w v g h entry request) where
+  -- the group that was joined, or the new one
+  joined_shown : (o : Option Group) → last_group g.records g.last ≡ o
+      → IsShownGroup (with_accepted r entry) (with_member o (length r.accepted) (is_drain entry) (is_faulty entry))
+  joined_shown None e =
+      let n : ℕ = length r.accepted in
+      let none = (a.untouched n (omega arith)).ended in
+      record {
+        group = group_new r entry (λ k end. a.last k end ∙ ap not (sym c.kept ∙ ap is_some e));
+        fault = sym (first_entry_more r entry is_faulty n (omega arith) ∙ ap (λ o. found_or o (is_faulty entry) n) (first_member_none (λ m. is_faulty (entry_of r m)) n));
+        drain = sym (first_entry_more r entry is_drain n (omega arith) ∙ ap (λ o. found_or o (is_drain entry) n) (first_member_none (λ m. is_drain (entry_of r m)) n));
+        broken = sym (first_broken_more r entry n none (omega arith) ∙ first_member_none _ n);
+      }
+  joined_shown (Some q) e =
+      let n : ℕ = length r.accepted in
+      let none = (a.untouched n (omega arith)).ended in
+      let end : q.end ≡ n = joined_end s c e ∙ sym a.count in
+      let old = a.groups request.group q (c.joins ∙ e) in
+      let group : IsGroup r q.from n = subst (λ k. IsGroup r q.from k) end old.group in
+      let low : q.from ≤ n = omega (arith, group.some) in
+      record {
+        group = group_joined r entry q.from group (λ k last. a.last k last ∙ ap not (sym c.kept ∙ ap is_some e));
+        fault =
+            ap (λ o. found_or o (is_faulty entry) n) (old.fault ∙ ap (first_fault r q.from) end)
+            ∙ sym (first_entry_more r entry is_faulty q.from low);
+        drain =
+            ap (λ o. found_or o (is_drain entry) n) (old.drain ∙ ap (first_drain r q.from) end)
+            ∙ sym (first_entry_more r entry is_drain q.from low);
+        broken = old.broken ∙ ap (first_broken r q.from) end ∙ sym (first_broken_more r entry q.from none low);
+      }
+
+  -- a group of another key is closed
+  closed_elsewhere : {other : ℕ} {x : Group} → group_at g other ≡ Some x → other ≢ request.group
+      → (k : ℕ) → suc k ≡ x.end → is_last r k ≡ true
+  closed_elsewhere {other} {x} is ne k e =
+      elim (cases_lt x.end (length r.accepted)) [
+        | inl low ↦ one.ends k e low
+        | inr high ↦ go (last_group g.records g.last) refl (omega (arith, one.accepted))
+      ]
+    where
+      one : IsGroup r x.from x.end
+      one = (a.groups other x is).group
+
+      go : (p : Option Group) → last_group g.records g.last ≡ p → x.end ≡ length r.accepted → is_last r k ≡ true
+      go None f top = a.last k (e ∙ top) ∙ ap not (sym c.kept ∙ ap is_some f)
+      go (Some q) f top =
+          let end : q.end ≡ x.end = joined_end s c f ∙ sym a.count ∙ sym top in
+          let two : IsGroup r q.from x.end = subst (λ z. IsGroup r q.from z) end (a.groups request.group q (c.joins ∙ f)).group in
+          let kept = s.kept other x is in
+          let y = is_some_value (at w x.least) kept.here in
+          elim (cases_lt x.from q.from) [
+            | inl before ↦ absurd (same_from r x.from q.from x.end one two before)
+            | inr after ↦
+                absurd
+                (ne
+                (sym (s.members other x x.least y.0 is kept.from kept.to y.1)
+                ∙ s.members request.group q x.least y.0 (c.joins ∙ f) (omega (arith, kept.from)) (omega (arith, kept.to)) y.1))
+          ]
+
+  elsewhere_shown : (x : Group) → IsShownGroup r x → ((k : ℕ) → suc k ≡ x.end → is_last r k ≡ true)
+      → IsShownGroup (with_accepted r entry) x
+  elsewhere_shown x old closed =
+      let none = (a.untouched (length r.accepted) (omega arith)).ended in
+      let within = old.group.accepted in
+      record {
+        group = group_accepted r entry x.from x.end old.group closed;
+        fault = old.fault ∙ sym (first_entry_accepted r entry is_faulty x.from x.end within);
+        drain = old.drain ∙ sym (first_entry_accepted r entry is_drain x.from x.end within);
+        broken = old.broken ∙ sym (first_broken_accepted r entry x.from x.end none within);
+      }
+
+pub accept_held : {w v : Window} {g h : Groups} {r : Requests} {entry : Sqe} {key : ℕ} → IsSound w g
+    → AreHeld w g r → Accepts w v g h entry (new_request entry key)
+    → v.outstanding ≡ w.outstanding + 1 → v.running ≡ w.running → AreHeld v h (with_accepted r entry)
+accept_held {w} {v} {g} {h} {r} {entry} {key} s a c outstanding running =
+    let n : ℕ = length r.accepted in
+    let top : end_of w ≡ n = sym a.count in
+    let fresh = a.untouched n (omega arith) in
+    let more = longer r entry in
+    let here = entry_of_accepted_at r entry in
     record {
-      linked = λ k x is.
-          elim (cases_eq k (end_of w)) [
-            | inl same ↦
-                let one : request ≡ x = same_Some _ _ (sym a.changes.here ∙ ap (at v) (sym same) ∙ is) in
-                member _ p k (ap (λ (z : Request). group_at h z.group) (sym one) ∙ a.exchange.here) (omega arith) (omega arith)
-            | inr other ↦
-                let link = linked _ _ k x s (older w v request k x a.changes is other) in
-                elim (cases_eq x.group request.group) [
-                  | inl same ↦
-                      let joined = sym a.joins ∙ ap (group_at g) (sym same) ∙ link.found in
-                      member _ p k (ap (group_at h) same ∙ a.exchange.here)
-                      (ap-from (last_group g.records g.last) link.group joined (end_of w) (is_drain entry) (is_faulty entry) k link.from)
-                      (let k1 = (s.kept x.group link.group link.found).end in omega (arith, link.to))
-                  | inr elsewhere ↦ member _ link.group k (a.exchange.others x.group elsewhere ∙ link.found) link.from link.to
-                ]
+      count = omega (arith, c.end);
+      outstanding = omega (arith, outstanding_more r entry fresh.ended, a.outstanding);
+      running = running ∙ a.running ∙ sym (running_same r entry fresh.started);
+      ended = λ m e lt.
+          elim (cases_eq m (end_of w)) [
+            | inl same ↦ some_none e (ap (at v) same ∙ c.changes.here)
+            | inr other ↦ a.ended m (sym (c.changes.others m other) ∙ e) (lt_of_le_of_ne (omega (arith, top)) (λ k. other (k ∙ sym top)))
           ];
-      members = λ key x k y found from to is.
-          elim (cases_eq k (end_of w)) [
-            | inl same ↦
-                let one : request ≡ y = same_Some _ _ (sym a.changes.here ∙ ap (at v) (sym same) ∙ is) in
-                elim (cases_eq key request.group) [
-                  | inl here ↦ ap (λ (z : Request). z.group) (sym one) ∙ sym here
-                  | inr other ↦
-                      let old = sym (a.exchange.others key other) ∙ found in
-                      absurd (let k1 = (s.kept key x old).end in omega (arith, same))
-                ]
-            | inr before ↦
-                let was = older w v request k y a.changes is before in
-                elim (cases_eq key request.group) [
-                  | inl here ↦
-                      let one : p ≡ x = same_Some _ _ (sym a.exchange.here ∙ ap (group_at h) (sym here) ∙ found) in
-                      let low1 : p.from ≤ k = let f : p.from ≡ x.from = ap (λ (z : Group). z.from) one in omega arith in
-                      let top1 : k < end_of w = let f : p.end ≡ x.end = ap (λ (z : Group). z.end) one in lt_of_le_of_ne (omega arith) before in
-                      let q = member_from (last_group g.records g.last) (end_of w) (is_drain entry) (is_faulty entry) k low1 top1 in
-                      let last = is_some_value g.last (sym a.kept ∙ ap is_some q.1) in
-                      let end : q.0.end ≡ end_of w = s.last request.group q.0 (last.1 ∙ ap Some (sym (a.key last.0 last.1))) (a.joins ∙ q.1) in
-                      s.members request.group q.0 k y (a.joins ∙ q.1) q.2 (omega arith) was ∙ sym here
-                  | inr other ↦ s.members key x k y (sym (a.exchange.others key other) ∙ found) from to was
-                ]
+      shown =
+          shown_written c.changes a.shown
+          (rw top
+          (record { entry = sym here; op = ap op_of (sym here); unended = fresh.ended; cancelled = sym fresh.cancelled; running = sym fresh.started; sound = λ f. absurd (false≢true f) }))
+          (λ k other. record { entry = entry_of_accepted_other r entry k (λ j. other (j ∙ sym top)); ended = refl; cancelled = refl; started = refl });
+      groups = λ k x found.
+          elim (now s c k x found) [
+            | inl same ↦ rw (same.1, top) (joined_shown s a c (last_group g.records g.last) refl)
+            | inr other ↦ elsewhere_shown s a c x (a.groups k x other.1) (closed_elsewhere s a c other.1 other.0)
           ];
-      kept = λ key x found.
-          elim (cases_eq key request.group) [
-            | inl here ↦
-                let one : p ≡ x = same_Some _ _ (sym a.exchange.here ∙ ap (group_at h) (sym here) ∙ found) in
-                let P : Group → Type 0 = λ z. IsKept v z in
-                subst P one (joined_kept w v g h entry request s a (last_group g.records g.last) refl)
-            | inr other ↦
-                let k = s.kept key x (sym (a.exchange.others key other) ∙ found) in
-                record {
-                  from = k.from;
-                  to = k.to;
-                  end = omega (arith, k.end, a.end);
-                  over = λ m high under. ap is_some (a.changes.others m (λ same. absurd (omega (arith, k.to, k.end, same)))) ∙ k.over m high under;
-                  here = ap is_some (a.changes.others x.least (λ same. absurd (omega (arith, k.to, k.end, same)))) ∙ k.here;
-                }
-          ];
-      beyond = let P : ℕ → Type 0 = λ x. IsBeyond h.barriers x in subst P (sym a.end) a.beyond;
-      last = λ key x e found.
-          let same = only_key (is_linked entry) request.group key _ a.last e in
-          let one : p ≡ x = same_Some _ _ (sym a.exchange.here ∙ ap (group_at h) (sym same) ∙ found) in
-          ap (λ (z : Group). z.end) (sym one) ∙ top ∙ sym a.end;
+      last = λ k e.
+          let at_n : k ≡ n = omega arith in
+          ap (is_last (with_accepted r entry)) at_n
+          ∙ ap (λ x. not (is_linked x) || list_any (λ cut. cut == n + 1) r.cuts) here
+          ∙ ap (λ b. not (is_linked entry) || b) fresh.cut ∙ or-false (not (is_linked entry))
+          ∙ sym (ap (λ o. not (is_some o)) c.last ∙ not_linked (is_linked entry) key);
+      untouched = λ m le. let old = a.untouched m (omega arith) in assumption;
     }
-  where
-    ap-from : (o : Option Group) (q : Group) → o ≡ Some q → (n : ℕ) (d f : Bool) (k : ℕ) → q.from ≤ k → (with_member o n d f).from ≤ k
-    ap-from o q e n d f k le = let P : Option Group → Type 0 = λ x. (with_member x n d f).from ≤ k in subst P (sym e) le
+
+-- what the code keeps of an entry
+prepared : (e : Sqe) (p : Result Op Fault)
+    → IfOk p (λ op. (fault_of e ≡ None) × (op ≡ operation_of e))
+    → IfErr p (λ fault. fault_of e ≡ Some fault)
+    → (result_ok p ≡ op_of e) × (is_some (result_ok p) ≡ not (is_faulty e))
+prepared e (Ok op) right wrong =
+    let fine : is_faulty e ≡ false = ap is_some right.0 in
+    (ap Some right.1 ∙ sym (ap (λ b. if b then None else Some (operation_of e)) fine), sym (ap not fine))
+prepared e (Err fault) right wrong =
+    let bad : is_faulty e ≡ true = ap is_some wrong in
+    (sym (ap (λ b. if b then None else Some (operation_of e)) bad), sym (ap not bad))
+
+pub kept_op : (e : Sqe) (p : Result Op Fault) (o : Option Op) (none : Bool)
+    → IfOk p (λ op. (fault_of e ≡ None) × (op ≡ operation_of e))
+    → IfErr p (λ fault. fault_of e ≡ Some fault) → o ≡ result_ok p → is_some o ≡ not none
+    → (o ≡ op_of e) × (none ≡ is_faulty e)
+kept_op e p o none right wrong is empty =
+    let both = prepared e p right wrong in
+    (is ∙ both.0, sym (not-not none) ∙ ap not (sym empty ∙ ap is_some is ∙ both.1) ∙ not-not (is_faulty e))
+
+pub accepts_new : (w v : Window) (g h : Groups) (entry : Sqe) (key n : ℕ) (op : Option Op) (faulty : Bool)
+    → n ≡ end_of w → (op ≡ op_of entry) × (faulty ≡ is_faulty entry)
+    → Changes w v (end_of w) (Some (record (new_request entry key) { op = op }))
+    → end_of v ≡ end_of w + 1 → group_at g key ≡ last_group g.records g.last
+    → ((k : ℕ) → g.last ≡ Some k → key ≡ k)
+    → is_some (last_group g.records g.last) ≡ is_some g.last
+    → Exchanges g h key (Some (with_member (last_group g.records g.last) n (is_drain entry) faulty))
+    → IsBeyond h.barriers (n + 1) → h.last ≡ (if is_linked entry then Some key else None)
+    → Accepts w v g h entry (new_request entry key)
+accepts_new w v g h entry key n op faulty top same changes end joins only kept exchange beyond last = record {
+  changes = rw (← same.0) changes;
+  end = end;
+  joins = joins;
+  key = only;
+  kept = kept;
+  exchange = rw (← top, ← same.1) exchange;
+  beyond = rw (← top) beyond;
+  last = last;
+}
 
 -- A call ends.
 
@@ -153,9 +329,7 @@ cut_held w g r h = record {
   outstanding = h.outstanding;
   running = h.running;
   ended = h.ended;
-  shown = λ n q e.
-      let old = h.shown n q e in
-      record { entry = old.entry; op = old.op; unended = old.unended; cancelled = old.cancelled; running = old.running; sound = old.sound };
+  shown = λ n q e. let old = h.shown n q e in assumption;
   groups = λ key q e.
       let old = h.groups key q e in
       record { group = group_cut r q.from q.end old.group; fault = old.fault; drain = old.drain; broken = old.broken };

@@ -1,5 +1,6 @@
 -- Who waits, when an entry is accepted, a call ends and memory is asked for.
 use Rattle.std.proofs.Common.{◌≡◌, ◌≢◌, ◌⊎◌, ℕ, ◌+◌, ◌/◌, ◌<◌, ◌≤◌, length, Bool, true, false, ◌||◌, Option, Some, None, is_some, refl, sym, ◌∙◌, ap, subst, arith, inl, inr}
+use Rattle.std.proofs.lemmas.Option.{same_Some}
 use Rattle.std.proofs.lemmas.Bool.{cases_lt, cases_eq, both_ways}
 use Rattle.uring_entry.specs.Below.{found_or}
 use Rattle.uring_entry.specs.Layout.{Sqe}
@@ -15,7 +16,7 @@ use Rattle.uring_dispatch.specs.Window.{Window, at, end_of}
 use Rattle.uring_dispatch.specs.Groups.{Groups, group_at, with_member}
 use Rattle.uring_dispatch.specs.Held.{IsSound}
 use Rattle.uring_dispatch.specs.Waiting.{waits_at_head, waits_doomed, IsListedAt, Reaches, IsListed, GrowsTo, Starts, CanGrow, StandsAsBefore}
-use Rattle.uring_dispatch.proofs.HeldLemmas.{some_none, vacant, linked}
+use Rattle.uring_dispatch.proofs.HeldLemmas.{some_none, linked, least_before}
 use Rattle.uring_dispatch.specs.Accepts.{Accepts}
 use Rattle.uring_dispatch.proofs.WaitingLemmas.{told_before, stands_apart, stands_in}
 
@@ -42,18 +43,12 @@ starts_least w g s key q sound l is =
 
 pub can_grow : (w : Window) (s : NumberSet) (n room : ℕ) → Reaches w s → n ≡ end_of w → 0 < room
     → end_of w + room ≤ s.limit → CanGrow s n
-can_grow w s n room r is some fits =
-    let a = r.start in
-    let b = r.stop in
-    record { start = omega arith; stop = omega arith; room = omega arith }
+can_grow w s n room r is some fits = omega arith
 
-reaches_accepted : (w v : Window) (s t : NumberSet) (n : ℕ) (q : Request) → Reaches w s
+reaches_accepted : (w v : Window) (s t : NumberSet) (n : ℕ) → Reaches w s
     → GrowsTo s t n → n ≡ end_of w → end_of v ≡ end_of w + 1
     → ((k : ℕ) → k ≢ end_of w → at v k ≡ at w k) → Reaches v t
-reaches_accepted w v s t n q r grows is end others =
-    let a = r.start in
-    let b = grows.start in
-    let c = grows.covered in
+reaches_accepted w v s t n r grows is end others =
     record {
       start = omega arith;
       stop = omega arith;
@@ -68,8 +63,7 @@ reaches_accepted w v s t n q r grows is end others =
     few : (n < stop_of s) ⊎ (stop_of s ≤ n) → stop_of t ≤ end_of v + 63
     few (inl low) =
         let most = grows.few (s.first + length s.blocks) (omega arith) (omega arith) in
-        let was = r.few in
-        omega arith
+        omega (arith, r.few)
     few (inr high) = let most = grows.few (n / 64 + 1) (omega arith) (omega arith) in omega arith
 
 pub accept_listed : (w v : Window) (g h : Groups) (entry : Sqe) (request : Request) (s t : Waiting) (n : ℕ)
@@ -84,26 +78,23 @@ accept_listed w v g h entry request s t n sound l a is own members told heads do
         | inl same ↦ let P : ℕ → Type 0 = λ j. IsListedAt v h t j in subst P (is ∙ sym same) own
         | inr other ↦ older k other (at w k) refl
       ];
-  heads = reaches_accepted w v s.heads t.heads n request l.heads heads is a.end (λ k ne. a.changes.others k ne);
-  doomed = reaches_accepted w v s.doomed t.doomed n request l.doomed doomed is a.end (λ k ne. a.changes.others k ne);
+  heads = reaches_accepted w v s.heads t.heads n l.heads heads is a.end (λ k ne. a.changes.others k ne);
+  doomed = reaches_accepted w v s.doomed t.doomed n l.doomed doomed is a.end (λ k ne. a.changes.others k ne);
 }
   where
     stays : (k : ℕ) → StandsAsBefore w v g h k → IsListedAt v h t k
     stays k b = told k (told_before w v g h s k (l.told k) b)
 
     older : (k : ℕ) → k ≢ end_of w → (o : Option Request) → at w k ≡ o → IsListedAt v h t k
-    older k ne None e = stays k (stands_apart w v g h k (a.changes.others k ne) (λ x there. some_none x _ e there))
+    older k ne None e = stays k (stands_apart w v g h k (a.changes.others k ne) (λ x there. some_none e there))
     older k ne (Some x) e =
         elim (cases_eq x.group request.group) [
           | inr apart ↦
               stays k
               (stands_apart w v g h k (a.changes.others k ne)
-              (λ y there.
-              let one : x ≡ y = some-one x y (sym e ∙ there) in
-              let P : Request → Type 0 = λ z. group_at h z.group ≡ group_at g z.group in
-              subst P one (a.exchange.others x.group apart)))
+              (λ y there. rw (same_Some y x (sym there ∙ e)) (a.exchange.others x.group apart)))
           | inl here ↦
-              let link = linked _ _ k x sound e in
+              let link = linked sound e in
               let q : Group = link.group in
               let was : group_at g request.group ≡ Some q = ap (group_at g) (sym here) ∙ link.found in
               let p : Group = with_member (Some q) (end_of w) (is_drain entry) (is_faulty entry) in
@@ -113,36 +104,23 @@ accept_listed w v g h entry request s t n sound l a is own members told heads do
                     stays k
                     (stands_in w v g h k x p q (a.changes.others k ne) e link.found (ap (group_at h) here ∙ now) refl (ap (λ b. b || is_before q.broken k) same))
                 | inr fresh ↦
-                    let kept = sound.kept request.group q was in
-                    let end = kept.end in
+                    let end = (sound.kept request.group q was).end in
                     let to = link.to in
-                    let from : q.least ≤ k =
-                    elim (cases_lt k q.least) [
-                      | inl low ↦ some_none x _ (vacant w k (kept.over k link.from low)) e
-                      | inr high ↦ high
-                    ]
-                    in
+                    let from = least_before sound e link.found in
                     members p now (fresh ∙ ap Some (sym is)) k from (omega arith)
               ]
         ]
-      where
-        some-one : (y z : Request) → Some y ≡ Some z → y ≡ z
-        some-one y z e = cc
 
 -- A call ends.
 pub cut_listed : (w : Window) (g : Groups) (s : Waiting) → IsListed w g s
     → IsListed w (record g { last = None }) s
-cut_listed w g s l = record { told = λ n. let t = l.told n in record { head = t.head; doomed = t.doomed }; heads = l.heads; doomed = l.doomed }
+cut_listed w g s l = record { told = λ n. let t = l.told n in assumption; heads = l.heads; doomed = l.doomed }
 
 -- Memory is asked for.
 
 reaches_same : (w : Window) (s t : NumberSet) → Reaches w s → HasSame s t → Reaches w t
 reaches_same w s t r h =
-    let a = r.start in
-    let b = r.stop in
-    let c = h.start in
-    let d = h.stop in
-    let e = r.few in
+    let few = r.few in
     record { start = omega arith; stop = omega arith; few = omega arith; low = λ n there. let low = r.low n there in omega arith }
 
 pub same_listed : (w : Window) (g : Groups) (s t : Waiting) → IsListed w g s

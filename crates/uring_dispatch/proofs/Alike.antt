@@ -1,17 +1,17 @@
 -- The window and the groups where only how much more there is memory for differs, or nothing of what they say.
-use Rattle.std.proofs.Common.{◌≡◌, ℕ, ◌≤◌, List, Result, Ok, Err, true, not, is_some, refl, sym, ◌∙◌, ap, subst, arith}
+use Rattle.std.proofs.Common.{◌≡◌, ℕ, ◌≤◌, Result, Ok, Err, true, not, is_some, refl, sym, ◌∙◌, ap, arith}
 use Rattle.std.specs.Prelude.{OnOk, OnErr}
 use Rattle.uring_entry.specs.Requests.{Requests}
-use Rattle.uring_dispatch.specs.declared.group.Barrier.{Barrier}
 use Rattle.uring_dispatch.specs.declared.grouped.Grouped.{Grouped}
 use Rattle.uring_dispatch.specs.declared.waiting.Waiting.{Waiting}
 use Rattle.uring_dispatch.specs.Window.{Window, at, end_of}
-use Rattle.uring_dispatch.specs.Groups.{Groups, group_at, IsBeyond}
+use Rattle.uring_dispatch.specs.Groups.{Groups, group_at}
 use Rattle.uring_dispatch.specs.Held.{has_member, IsSound, AreHeld}
 use Rattle.uring_dispatch.specs.Waiting.{IsListed}
 use Rattle.uring_dispatch.specs.Grouped.{HasSameRecords}
 use Rattle.uring_dispatch.proofs.WindowFront.{at_room}
-use Rattle.uring_dispatch.proofs.WaitingLemmas.{told_before, stands_apart, reaches_fewer, same_reach}
+use Rattle.uring_dispatch.proofs.WaitingLemmas.{told_before, stands_apart, reaches_fewer}
+use Rattle.uring_dispatch.proofs.HeldLemmas.{kept_on}
 
 -- each number has its request, and each key its group
 pub record IsAlike (w v : Window) (g h : Groups) : Type 0 where
@@ -50,24 +50,13 @@ pub alike_records : (d e : Grouped) → HasSameRecords d e
 alike_records d e s = alike_from d.window e.window d.groups e.groups s.window s.groups
 
 pub sound_alike : (w v : Window) (g h : Groups) → IsAlike w v g h → IsSound w g → IsSound v h
-sound_alike w v g h a s =
-    let P : ℕ → Type 0 = λ n. IsBeyond g.barriers n in
-    let Q : List Barrier → Type 0 = λ xs. IsBeyond xs (end_of v) in
-    record {
-      linked = λ n q e. ap (λ o. has_member o n) (a.groups q.group) ∙ s.linked n q (sym (a.rows n) ∙ e);
-      members = λ key q n x found from to e. s.members key q n x (sym (a.groups key) ∙ found) from to (sym (a.rows n) ∙ e);
-      kept = λ key q found.
-          let k = s.kept key q (sym (a.groups key) ∙ found) in
-          record {
-            from = k.from;
-            to = k.to;
-            end = omega (arith, k.end, a.end);
-            over = λ m high low. ap is_some (a.rows m) ∙ k.over m high low;
-            here = ap is_some (a.rows q.least) ∙ k.here;
-          };
-      beyond = subst Q (sym a.barriers) (subst P (sym a.end) s.beyond);
-      last = λ key q e found. s.last key q (sym a.last ∙ e) (sym (a.groups key) ∙ found) ∙ sym a.end;
-    }
+sound_alike w v g h a s = record {
+  linked = λ n q e. ap (λ o. has_member o n) (a.groups q.group) ∙ s.linked n q (sym (a.rows n) ∙ e);
+  members = λ key q n x found from to e. s.members key q n x (sym (a.groups key) ∙ found) from to (sym (a.rows n) ∙ e);
+  kept = λ key q found. kept_on (s.kept key q (sym (a.groups key) ∙ found)) (omega (arith, a.end)) (λ m from to. ap is_some (a.rows m));
+  beyond = rw (a.barriers, a.end) s.beyond;
+  last = λ key q e found. s.last key q (sym a.last ∙ e) (sym (a.groups key) ∙ found) ∙ sym a.end;
+}
 
 pub held_alike : (w v : Window) (g h : Groups) (r : Requests) → IsAlike w v g h → AreHeld w g r
     → AreHeld v h r
@@ -88,8 +77,8 @@ listed_alike w v g h s a l =
     let fewer : (k : ℕ) → is_some (at v k) ≡ true → is_some (at w k) ≡ true = λ k some. ap is_some (sym (a.rows k)) ∙ some in
     record {
       told = λ n. told_before w v g h s n (l.told n) (stands_apart w v g h n (a.rows n) (λ x e. a.groups x.group));
-      heads = reaches_fewer w v s.heads s.heads l.heads a.end fewer (same_reach s.heads);
-      doomed = reaches_fewer w v s.doomed s.doomed l.doomed a.end fewer (same_reach s.doomed);
+      heads = reaches_fewer w v s.heads s.heads l.heads a.end fewer (omega arith);
+      doomed = reaches_fewer w v s.doomed s.doomed l.doomed a.end fewer (omega arith);
     }
 
 -- what asking for memory leaves, whatever it answers

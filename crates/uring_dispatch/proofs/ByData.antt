@@ -1,6 +1,6 @@
 -- Between which numbers the requests with the same user data are: what each event keeps of it, and what a search makes of it.
-use Rattle.std.proofs.Common.{◌≡◌, ◌⊎◌, ℕ, ◌+◌, ◌^◌, ◌<◌, ◌≤◌, Option, Some, None, is_some, true, false, refl, sym, ◌∙◌, ap, subst, arith, inl, inr}
-use Rattle.std.proofs.lemmas.Bool.{cases_lt, cases_eq, false≢true}
+use Rattle.std.proofs.Common.{◌≡◌, ◌⊎◌, ℕ, ◌+◌, ◌^◌, ◌<◌, ◌≤◌, Option, Some, None, is_some, false, refl, sym, ◌∙◌, ap, subst, arith, inl, inr}
+use Rattle.std.proofs.lemmas.Bool.{cases_lt, cases_eq}
 use Rattle.std.proofs.lemmas.Option.{same_Some}
 use Rattle.std.specs.Prelude.{nat_eq}
 use Rattle.std.specs.HashMap.{get, spare}
@@ -14,9 +14,10 @@ use Rattle.uring_dispatch.specs.Held.{AreHeld}
 use Rattle.uring_dispatch.specs.Accepts.{Accepts}
 use Rattle.uring_dispatch.specs.Noted.{IsBetween, KeepsBetween}
 use Rattle.uring_dispatch.specs.ByUserData.{HasPlaces, KeepsFrom, AreFound, Spans, GoesOn}
-use Rattle.uring_dispatch.proofs.WindowFront.{at_past}
+use Rattle.uring_dispatch.proofs.WindowFront.{within_end}
 use Rattle.uring_dispatch.proofs.HeldLemmas.{some_none, candidate_none, candidate_other_data}
 use Rattle.uring_dispatch.proofs.Alike.{IsAlike}
+use Rattle.uring_dispatch.proofs.Changes.{before_end, before_write}
 
 -- What the events keep.
 
@@ -40,28 +41,19 @@ goes_alike w v g h a = record {
 }
 
 -- a request was started, or chosen
-pub goes_changed : (w v : Window) (n : ℕ) (q p : Request) → at w n ≡ Some q
-    → Changes w v n (Some p) → end_of v ≡ end_of w → p.entry ≡ q.entry → GoesOn w v
-goes_changed w v n q p there c end entry = record {
+pub goes_changed : {w v : Window} {n : ℕ} {q p : Request} → at w n ≡ Some q → Changes w v n (Some p)
+    → end_of v ≡ end_of w → p.entry ≡ q.entry → GoesOn w v
+goes_changed {w} {q = q} there c end entry = record {
   end = omega arith;
   kept = λ k x lt e.
-      elim (cases_eq k n) [
-        | inl same ↦
-            let one : p ≡ x = same_Some _ _ (sym c.here ∙ ap (at v) (sym same) ∙ e) in
-            (q, ap (at w) same ∙ there, subst (λ (y : Request). y.entry ≡ q.entry) one entry)
-        | inr other ↦ (x, sym (c.others k other) ∙ e, refl)
+      elim (before_write c e) [
+        | inl at_n ↦ (q, ap (at w) at_n.0 ∙ there, subst (λ (y : Request). y.entry ≡ q.entry) at_n.1 entry)
+        | inr was ↦ (x, was.1, refl)
       ];
 }
 
-pub goes_ended : (w v : Window) (n : ℕ) → Changes w v n None → end_of v ≡ end_of w → GoesOn w v
-goes_ended w v n c end = record {
-  end = omega arith;
-  kept = λ k p lt e.
-      elim (cases_eq k n) [
-        | inl same ↦ some_none p _ (ap (at v) same ∙ c.here) e
-        | inr other ↦ (p, sym (c.others k other) ∙ e, refl)
-      ];
-}
+pub goes_ended : {w v : Window} {n : ℕ} → Changes w v n None → end_of v ≡ end_of w → GoesOn w v
+goes_ended c end = record { end = omega arith; kept = λ k p lt e. (p, (before_end c e).1, refl) }
 
 pub goes_accepted : (w v : Window) (g h : Groups) (entry : Sqe) (request : Request)
     → Accepts w v g h entry request → GoesOn w v
@@ -88,7 +80,7 @@ found_dropped w x y n f within before up no_more ends =
       stop = no_more (end_of w) f.stop within;
       between = λ k q e lt.
           elim (cases_lt k n) [
-            | inl low ↦ some_none q _ (before k low) e
+            | inl low ↦ some_none (before k low) e
             | inr high ↦
                 elim (cases_lt k x.stop) [
                   | inl looked ↦ rw ends (f.between k q e looked)
@@ -109,7 +101,7 @@ found_renewed w x y first f same within before places = record {
       ];
   between = λ k q e lt.
       elim (cases_lt k first) [
-        | inl low ↦ some_none q _ (before k low) e
+        | inl low ↦ some_none (before k low) e
         | inr high ↦
             let was = f.between k q e (same.stop k high lt) in
             let is = same.ends k (user_data_of q.entry) high lt in
@@ -127,7 +119,7 @@ found_past w x y n f is within none stop ends =
       stop = omega arith;
       between = λ k q e lt.
           elim (cases_eq k n) [
-            | inl same ↦ some_none q _ (ap (at w) same ∙ none) e
+            | inl same ↦ some_none (ap (at w) same ∙ none) e
             | inr other ↦ rw ends (f.between k q e (omega (arith, lt, other)))
           ];
       places = rw ends (omega arith);
@@ -146,10 +138,7 @@ found_next w x y n q f is within there stop here kept spares =
       between = λ k p e lt.
           elim (cases_eq k n) [
             | inl same ↦
-                let one : q ≡ p = same_Some _ _ (sym there ∙ ap (at w) (sym same) ∙ e) in
-                let P : Request → Type 0 = λ z. IsBetween (get nat_eq y.ends) (user_data_of z.entry) k in
-                let Q : ℕ → Type 0 = λ j. IsBetween (get nat_eq y.ends) (user_data_of q.entry) j in
-                subst P one (subst Q (sym same) here)
+                rw (same, same_Some p q (sym e ∙ ap (at w) same ∙ there)) here
             | inr other ↦ kept (user_data_of p.entry) k (ap is_some e) (omega (arith, lt)) (f.between k p e (omega (arith, lt, other)))
           ];
       places = omega arith;
@@ -157,29 +146,15 @@ found_next w x y n q f is within there stop here kept spares =
 
 -- What a search makes of it.
 
-within_end : (w : Window) (n : ℕ) (q : Request) → at w n ≡ Some q → n < end_of w
-within_end w n q e =
-    elim (cases_lt n (end_of w)) [
-      | inl lt ↦ lt
-      | inr past ↦ some_none q _ (at_past w n past) e
-    ]
-
-pub some_within : (w : Window) (n : ℕ) → is_some (at w n) ≡ true → n < end_of w
-some_within w n e = go (at w n) refl e
-  where
-    go : (o : Option Request) → at w n ≡ o → is_some o ≡ true → n < end_of w
-    go (Some q) is s = within_end w n q is
-    go None is s = absurd (false≢true s)
-
 pub spans_all : (w : Window) (named_data : ℕ) → Spans w named_data 0 (end_of w)
-spans_all w named_data n q e named = (omega arith, within_end w n q e)
+spans_all w named_data n q e named = (omega arith, within_end w n (ap is_some e))
 
 pub spans_noted : (w : Window) (x : ByUserData) (named_data from to : ℕ) → AreFound w x
     → x.stop ≡ end_of w → end_of w < 2 ^ 63
     → ((n : ℕ) → n < 2 ^ 63 → IsBetween (get nat_eq x.ends) named_data n → (from ≤ n) × (n < to))
     → Spans w named_data from to
 spans_noted w x named_data from to f full fits noted n q e named =
-    let lt = within_end w n q e in
+    let lt = within_end w n (ap is_some e) in
     noted n (omega arith) (subst (λ d. IsBetween (get nat_eq x.ends) d n) named (f.between n q e (omega arith)))
 
 pub outside : (w : Window) (g : Groups) (r : Requests) (n k named_data from to : ℕ) → AreHeld w g r
@@ -188,10 +163,10 @@ pub outside : (w : Window) (g : Groups) (r : Requests) (n k named_data from to :
 outside w g r n k named_data from to h named spans out = go (at w k) refl
   where
     go : (o : Option Request) → at w k ≡ o → is_candidate r n k ≡ false
-    go None e = candidate_none w g r n k h e
+    go None e = candidate_none h n _ e
     go (Some q) e =
         elim (cases_eq (user_data_of q.entry) named_data) [
-          | inr other ↦ candidate_other_data w g r n k q named_data h e named other
+          | inr other ↦ candidate_other_data h n _ e named other
           | inl same ↦
               let inside = spans k q e same in
               elim out [

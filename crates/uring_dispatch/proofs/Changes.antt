@@ -1,107 +1,119 @@
--- What a start and a choice leave of what is held.
-use Rattle.std.proofs.Common.{◌≡◌, ◌≢◌, ℕ, ◌+◌, ◌≤◌, [], ◌∷◌, length, false, ◌==◌, Some, None, is_some, refl, sym, ◌∙◌, ap, subst, arith, inl, inr}
+-- One request is touched: what is said of each other number by its request stands; and what a start and a choice leave of what is held.
+use Rattle.std.proofs.Common.{◌≡◌, ◌≢◌, ℕ, ◌+◌, ◌≤◌, [], ◌∷◌, length, false, ◌==◌, Some, None, is_some, refl, sym, ◌∙◌, ap, arith, inl, inr, ◌⊎◌, true}
 use Rattle.std.proofs.lemmas.Bool.{cases_eq, eq-eqb, ne_eqb}
 use Rattle.std.proofs.lemmas.Option.{same_Some}
 use Rattle.uring_entry.specs.Preparation.{is_faulty}
-use Rattle.uring_entry.specs.Requests.{Requests, entry_of, is_running, is_cancelled, has_started, with_started, with_cancelled}
+use Rattle.uring_entry.specs.Requests.{Requests, entry_of, is_running, is_cancelled, has_started, with_started, with_cancelled, has_ended}
 use Rattle.uring_entry.proofs.RequestLemmas.{is_running_started_same, is_running_started_other, added_same, added_other}
 use Rattle.uring_dispatch.specs.declared.request.Request.{Request}
 use Rattle.uring_dispatch.specs.Window.{Window, at, end_of, one_if, Changes, started, chosen, IsAsBefore}
-use Rattle.uring_dispatch.specs.Groups.{Groups, group_at, IsBeyond}
-use Rattle.uring_dispatch.specs.Held.{IsSound, IsShown, AreHeld}
+use Rattle.uring_dispatch.specs.Groups.{Groups, group_at}
+use Rattle.uring_dispatch.specs.Held.{IsSound, IsShown, AreHeld, op_of}
 use Rattle.uring_dispatch.proofs.WindowFront.{at_past}
-use Rattle.uring_dispatch.proofs.Touches.{each_row, shown_same}
 use Rattle.uring_dispatch.proofs.Counting.{count_below_changed}
-use Rattle.uring_dispatch.proofs.HeldLemmas.{some_none, shown_within, running_some, vacant, linked, member}
+use Rattle.uring_dispatch.proofs.HeldLemmas.{some_none, shown_within, running_some, vacant, linked, member, kept_on}
+
+-- the request of n is gone
+module _ {w v : Window} {n : ℕ} (c : Changes w v n None) where
+  pub before_end : {k : ℕ} {p : Request} → at v k ≡ Some p → (k ≢ n) × (at w k ≡ Some p)
+  before_end {k} e =
+      elim (cases_eq k n) [ inl same ↦ some_none (ap (at v) same ∙ c.here) e | inr other ↦ (other, sym (c.others k other) ∙ e) ]
+
+  pub gone_stays : (m : ℕ) → at w m ≡ None → at v m ≡ None
+  gone_stays m e =
+      elim (cases_eq m n) [ inl same ↦ ap (at v) same ∙ c.here | inr other ↦ c.others m other ∙ e ]
+
+-- the request of n was written
+module _ {w v : Window} {n : ℕ} {now : Request} (c : Changes w v n (Some now)) where
+  pub before_write : {k : ℕ} {q : Request} → at v k ≡ Some q
+      → ((k ≡ n) × (now ≡ q)) ⊎ ((k ≢ n) × (at w k ≡ Some q))
+  before_write {k} e =
+      elim (cases_eq k n) [
+        | inl same ↦ inl (same, same_Some _ _ (sym c.here ∙ ap (at v) (sym same) ∙ e))
+        | inr other ↦ inr (other, sym (c.others k other) ∙ e)
+      ]
+
+  pub still_there : is_some (at w n) ≡ true → (k : ℕ) → is_some (at v k) ≡ is_some (at w k)
+  still_there there k =
+      elim (cases_eq k n) [
+        | inl same ↦ ap (λ j. is_some (at v j)) same ∙ ap is_some c.here ∙ sym (ap (λ j. is_some (at w j)) same ∙ there)
+        | inr other ↦ ap is_some (c.others k other)
+      ]
+
+-- The lists say of k what they said before.
+pub record IsSameAt (r s : Requests) (k : ℕ) : Type 0 where
+  pub entry : entry_of s k ≡ entry_of r k
+  pub ended : has_ended s k ≡ has_ended r k
+  pub cancelled : is_cancelled s k ≡ is_cancelled r k
+  pub started : has_started s k ≡ has_started r k
+
+pub shown_same : {r s : Requests} {k : ℕ} {q : Request} → IsSameAt r s k → IsShown r k q
+    → IsShown s k q
+shown_same same old = record {
+  entry = old.entry ∙ sym same.entry;
+  op = old.op ∙ ap op_of (sym same.entry);
+  unended = same.ended ∙ old.unended;
+  cancelled = old.cancelled ∙ sym same.cancelled;
+  running = old.running ∙ sym same.started;
+  sound = λ runs. ap is_faulty same.entry ∙ old.sound runs;
+}
+
+-- each request is shown, if that which was written is, and the lists say of the others what they said
+pub shown_written : {w v : Window} {r s : Requests} {n : ℕ} {now : Request} → Changes w v n (Some now)
+    → ((k : ℕ) (q : Request) → at w k ≡ Some q → IsShown r k q) → IsShown s n now
+    → ((k : ℕ) → k ≢ n → IsSameAt r s k) → (k : ℕ) (q : Request) → at v k ≡ Some q → IsShown s k q
+shown_written c old here elsewhere k q e =
+    elim (before_write c e) [
+      | inl at_n ↦ rw (at_n.0, ← at_n.1) here
+      | inr was ↦ shown_same (elsewhere k was.0) (old k q was.1)
+    ]
 
 -- Request n is written, and stays in its group.
 
-written : (w v : Window) (n : ℕ) (p q : Request) → at w n ≡ Some p → Changes w v n (Some q)
-    → q.group ≡ p.group → (k : ℕ) (x : Request) → at v k ≡ Some x
+written : {w v : Window} {n : ℕ} {p q : Request} → at w n ≡ Some p → Changes w v n (Some q)
+    → q.group ≡ p.group → (k : ℕ) {x : Request} → at v k ≡ Some x
     → (y : Request) × (at w k ≡ Some y) × (x.group ≡ y.group)
-written w v n p q there c same k x is =
-    elim (cases_eq k n) [
-      | inl here ↦
-          let one : q ≡ x = same_Some _ _ (sym c.here ∙ ap (at v) (sym here) ∙ is) in
-          (p, ap (at w) here ∙ there, ap (λ (z : Request). z.group) (sym one) ∙ same)
-      | inr other ↦ (x, sym (c.others k other) ∙ is, refl)
+written {w} {p = p} there c same k {x} is =
+    elim (before_write c is) [
+      | inl at_n ↦ (p, ap (at w) at_n.0 ∙ there, ap (λ (z : Request). z.group) (sym at_n.1) ∙ same)
+      | inr was ↦ (x, was.1, refl)
     ]
 
-pub write_sound : (w v : Window) (g : Groups) (n : ℕ) (p q : Request) → IsSound w g
+pub write_sound : {w v : Window} {g : Groups} {n : ℕ} {p q : Request} → IsSound w g
     → at w n ≡ Some p → Changes w v n (Some q) → q.group ≡ p.group → end_of v ≡ end_of w
     → IsSound v g
-write_sound w v g n p q s there c same end = record {
+write_sound {g = g} s there c same end = record {
   linked = λ k x is.
-      let old = written w v n p q there c same k x is in
-      let link = linked _ _ k old.0 s old.1 in
+      let old = written there c same k is in
+      let link = linked s old.1 in
       member _ link.group k (ap (group_at g) old.2 ∙ link.found) link.from link.to;
   members = λ key y k x found from to is.
-      let old = written w v n p q there c same k x is in
-      old.2 ∙ s.members key y k old.0 found from to old.1;
-  kept = λ key y found.
-      let k = s.kept key y found in
-      record {
-        from = k.from;
-        to = k.to;
-        end = omega (arith, k.end);
-        over = λ m high low.
-            ap is_some (c.others m (λ e. some_none p _ (ap (at w) (sym e) ∙ vacant w m (k.over m high low)) there)) ∙ k.over m high low;
-        here =
-            elim (cases_eq y.least n) [
-              | inl is ↦ ap (λ m. is_some (at v m)) is ∙ ap is_some c.here
-              | inr other ↦ ap is_some (c.others y.least other) ∙ k.here
-            ];
-      };
-  beyond = let P : ℕ → Type 0 = λ x. IsBeyond g.barriers x in subst P (sym end) s.beyond;
+      let old = written there c same k is in old.2 ∙ s.members key y k old.0 found from to old.1;
+  kept = λ key y found. kept_on (s.kept key y found) (omega (arith, end)) (λ m from to. still_there c (ap is_some there) m);
+  beyond = rw end s.beyond;
   last = λ key y e found. s.last key y e found ∙ sym end;
 }
 
-gone : (w v : Window) (n k : ℕ) (q : Request) → Changes w v n (Some q) → at v k ≡ None
-    → at w k ≡ None
-gone w v n k q c e =
-    elim (cases_eq k n) [
-      | inl same ↦ some_none q _ e (ap (at v) same ∙ c.here)
-      | inr other ↦ sym (c.others k other) ∙ e
-    ]
-
 -- a cancel chooses a request
-pub choose_held : (w v : Window) (g : Groups) (r : Requests) (n : ℕ) (p : Request) → AreHeld w g r
+pub choose_held : {w v : Window} {g : Groups} {r : Requests} {n : ℕ} {p : Request} → AreHeld w g r
     → at w n ≡ Some p → Changes w v n (Some (chosen p)) → IsAsBefore w v → v.running ≡ w.running
     → AreHeld v g (with_cancelled r (n ∷ []))
-choose_held w v g r n p h there c as_before runs_on =
+choose_held {w} {r = r} {n = n} {p = p} h there c as_before runs_on =
     let s : Requests = with_cancelled r (n ∷ []) in
     let still : (k : ℕ) → k ≢ n → is_cancelled s k ≡ is_cancelled r k =
     λ k ne. added_other (λ j. j == k) r.cancelled n (ne_eqb n k (λ e. ne (sym e)))
     in
+    let shown = h.shown n p there in
     record {
       count = h.count ∙ sym as_before.end;
       outstanding = as_before.outstanding ∙ h.outstanding;
       running = runs_on ∙ h.running;
-      ended = λ m e lt. h.ended m (gone w v n m (chosen p) c e) lt;
+      ended = λ m e lt. h.ended m (vacant w m (sym (still_there c (ap is_some there) m) ∙ ap is_some e)) lt;
       shown =
-          each_row w v n (Some (chosen p)) (λ k q. IsShown r k q) (λ k q. IsShown s k q) c
-          (λ q is.
-          let old = h.shown n p there in
-          let P : Request → Type 0 = λ z. IsShown s n z in
-          subst P (same_Some _ _ is)
-          (record {
-            entry = old.entry;
-            op = old.op;
-            unended = old.unended;
-            cancelled = sym (added_same (λ j. j == n) r.cancelled n (eq-eqb n n refl));
-            running = old.running;
-            sound = old.sound;
-          }))
-          (λ k q other e old. shown_same r s k q (record { entry = refl; ended = refl; cancelled = still k other; started = refl }) old)
-          h.shown;
-      groups = λ key q is.
-          let old = h.groups key q is in
-          record {
-            group = let i = old.group in record { some = i.some; accepted = i.accepted; begins = i.begins; joined = i.joined; ends = i.ends };
-            fault = old.fault;
-            drain = old.drain;
-            broken = old.broken;
-          };
+          shown_written c h.shown
+          (record { entry = shown.entry; op = shown.op; unended = shown.unended; cancelled = sym (added_same (λ j. j == n) r.cancelled n (eq-eqb n n refl)); running = shown.running; sound = shown.sound })
+          (λ k other. record { entry = refl; ended = refl; cancelled = still k other; started = refl });
+      groups = λ key q is. let old = h.groups key q is in assumption;
       last = h.last;
       untouched = λ m past.
           let old = h.untouched m past in
@@ -109,17 +121,16 @@ choose_held w v g r n p h there c as_before runs_on =
     }
   where
     below : (m : ℕ) → length r.accepted ≤ m → n ≡ m → ⊥
-    below m past e =
-        some_none p (at w n) (at_past w n (omega (arith, h.count))) there
+    below m past e = some_none (at_past w n (omega (arith, h.count))) there
 
 -- a request starts
-pub start_held : (w v : Window) (g : Groups) (r : Requests) (n : ℕ) (p : Request) → IsSound w g
+pub start_held : {w v : Window} {g : Groups} {r : Requests} {n : ℕ} {p : Request} → IsSound w g
     → AreHeld w g r → at w n ≡ Some p → p.is_running ≡ false → is_faulty (entry_of r n) ≡ false
     → Changes w v n (Some (started p)) → IsAsBefore w v → v.running ≡ w.running + 1
     → AreHeld v g (with_started r n)
-start_held w v g r n p sound h there waits right c as_before more =
+start_held {w} {r = r} {n = n} {p = p} sound h there waits right c as_before more =
     let s : Requests = with_started r n in
-    let inside = shown_within w g r n p sound h there in
+    let inside = shown_within sound h there in
     let shown = h.shown n p there in
     let still : (k : ℕ) → k ≢ n → has_started s k ≡ has_started r k =
     λ k ne. added_other (λ j. j == k) r.started n (ne_eqb n k (λ e. ne (sym e)))
@@ -128,34 +139,16 @@ start_held w v g r n p sound h there waits right c as_before more =
       count = h.count ∙ sym as_before.end;
       outstanding = as_before.outstanding ∙ h.outstanding;
       running =
-          let was : one_if (is_running r n) ≡ 0 = ap one_if (running_some w g r n p h there ∙ waits) in
+          let was : one_if (is_running r n) ≡ 0 = ap one_if (running_some h _ there ∙ waits) in
           let now : one_if (is_running s n) ≡ 1 = ap one_if (is_running_started_same r n shown.unended) in
           let change = count_below_changed (is_running r) (is_running s) (length r.accepted) n inside (λ k ne. is_running_started_other r n k ne) in
           omega (arith, h.running, change);
-      ended = λ m e lt. h.ended m (gone w v n m (started p) c e) lt;
+      ended = λ m e lt. h.ended m (vacant w m (sym (still_there c (ap is_some there) m) ∙ ap is_some e)) lt;
       shown =
-          each_row w v n (Some (started p)) (λ k q. IsShown r k q) (λ k q. IsShown s k q) c
-          (λ q is.
-          let P : Request → Type 0 = λ z. IsShown s n z in
-          subst P (same_Some _ _ is)
-          (record {
-            entry = shown.entry;
-            op = shown.op;
-            unended = shown.unended;
-            cancelled = shown.cancelled;
-            running = sym (added_same (λ j. j == n) r.started n (eq-eqb n n refl));
-            sound = λ e. right;
-          }))
-          (λ k q other e old. shown_same r s k q (record { entry = refl; ended = refl; cancelled = refl; started = still k other }) old)
-          h.shown;
-      groups = λ key q is.
-          let old = h.groups key q is in
-          record {
-            group = let i = old.group in record { some = i.some; accepted = i.accepted; begins = i.begins; joined = i.joined; ends = i.ends };
-            fault = old.fault;
-            drain = old.drain;
-            broken = old.broken;
-          };
+          shown_written c h.shown
+          (record { entry = shown.entry; op = shown.op; unended = shown.unended; cancelled = shown.cancelled; running = sym (added_same (λ j. j == n) r.started n (eq-eqb n n refl)); sound = λ e. right })
+          (λ k other. record { entry = refl; ended = refl; cancelled = refl; started = still k other });
+      groups = λ key q is. let old = h.groups key q is in assumption;
       last = h.last;
       untouched = λ m past.
           let old = h.untouched m past in

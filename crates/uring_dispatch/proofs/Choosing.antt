@@ -26,7 +26,7 @@ use Rattle.uring_dispatch.specs.declared.waiting.Waiting.{Waiting}
 use Rattle.uring_dispatch.proofs.HeldLemmas.{running_none, running_some}
 use Rattle.uring_dispatch.specs.ByUserData.{KeepsPlaces}
 use Rattle.uring_dispatch.specs.declared.by_user_data.ByUserData.{ByUserData}
-use Rattle.uring_dispatch.specs.declared.grouped.Grouped.{Grouped}
+use Rattle.uring_dispatch.proofs.Changes.{still_there}
 
 -- What the end of a request as it is issued dooms.
 
@@ -86,14 +86,6 @@ cancel_succeeds r n is = by_all (is_cancel_all (entry_of r n)) refl
 
 -- A cancel chooses one.
 
-still_there : (w v : Window) (m k : ℕ) (p : Request) → at w m ≡ Some p
-    → Changes w v m (Some (chosen p)) → is_some (at v k) ≡ is_some (at w k)
-still_there w v m k p there c =
-    elim (cases_eq k m) [
-      | inl same ↦ ap (λ j. is_some (at v j)) same ∙ ap is_some c.here ∙ sym (ap is_some there) ∙ ap (λ j. is_some (at w j)) (sym same)
-      | inr other ↦ ap is_some (c.others k other)
-    ]
-
 runs_still : (w v : Window) (m k : ℕ) (p : Request) → at w m ≡ Some p
     → Changes w v m (Some (chosen p)) → runs (at v k) ≡ runs (at w k)
 runs_still w v m k p there c =
@@ -107,39 +99,30 @@ pub choose_same : (w v : Window) (m : ℕ) (p : Request) → at w m ≡ Some p
 choose_same w v m p there c as_before running = record {
   as_before = as_before;
   running = running;
-  there = λ k. still_there w v m k p there c;
+  there = still_there c (ap is_some there);
   runs_on = λ k. runs_still w v m k p there c;
 }
 
 same_none : (w : Window) → HasSameRequests w w
-same_none w = record { as_before = record { end = refl; outstanding = refl; room = refl }; running = refl; there = λ k. refl; runs_on = λ k. refl }
+same_none w = assumption
 
 same_both : (u v w : Window) → HasSameRequests u v → HasSameRequests v w → HasSameRequests u w
 same_both u v w a b = record {
-  as_before = record { end = b.as_before.end ∙ a.as_before.end; outstanding = b.as_before.outstanding ∙ a.as_before.outstanding; room = b.as_before.room ∙ a.as_before.room };
+  as_before = omega arith;
   running = b.running ∙ a.running;
   there = λ k. b.there k ∙ a.there k;
   runs_on = λ k. b.runs_on k ∙ a.runs_on k;
 }
 
-memory_both : (s t u : Waiting) → HasMemory s t → HasMemory t u → HasMemory s u
-memory_both s t u a b =
-    let x = a.heads in
-    let y = a.doomed in
-    let z = b.heads in
-    let v = b.doomed in
-    record { heads = omega arith; doomed = omega arith }
-
 pub chosen_nobody : (d : Outstanding) → HasChosen d d
-chosen_nobody d =
-    record { same = same_none d.grouped.window; groups = refl; memory = record { heads = omega arith; doomed = omega arith }; places = omega arith }
+chosen_nobody d = record { same = same_none d.grouped.window; groups = refl; memory = omega arith; places = omega arith }
 
 pub chosen_both : (a b c : Outstanding) → HasChosen a b → HasChosen b c → HasChosen a c
 chosen_both a b c x y = record {
   same = same_both a.grouped.window b.grouped.window c.grouped.window x.same y.same;
   groups = y.groups ∙ x.groups;
-  memory = memory_both a.waiting b.waiting c.waiting x.memory y.memory;
-  places = let p = x.places in let q = y.places in omega (arith, p, q);
+  memory = omega (arith, x.memory, y.memory);
+  places = omega (arith, x.places, y.places);
 }
 
 -- Targets.
@@ -149,8 +132,8 @@ pub runs_held : (w : Window) (g : Groups) (r : Requests) (m : ℕ) → AreHeld w
 runs_held w g r m h = go (at w m) refl
   where
     go : (o : Option Request) → at w m ≡ o → is_running r m ≡ runs o
-    go None e = running_none w g r m h e
-    go (Some q) e = running_some w g r m q h e
+    go None e = running_none h _ e
+    go (Some q) e = running_some h _ e
 
 -- what a cancel ends with that chose m, by whether m is running
 pub result_some : (r : Requests) (m : ℕ) (o : Option ℕ) (b : Bool) → Some m ≡ o → is_running r m ≡ b
@@ -196,8 +179,7 @@ chosen_none d e n user_data m same chosen none =
       few = omega arith;
       count_is = λ r h named. sym (ap (λ (xs : List ℕ). length xs) (nobody r h named));
       shows = λ r h named.
-          subst (λ (z : Grouped). Shows z (with_cancelled r (all_below (is_target r n) m))) (sym same)
-          (subst (λ xs. Shows d.grouped (with_cancelled r xs)) (sym (nobody r h named)) (subst (λ q. Shows d.grouped q) (sym (none_cancelled r)) h));
+          rw (same, nobody r h named) (subst (λ q. Shows d.grouped q) (sym (none_cancelled r)) h);
     }
 
 -- only what is noted of user data differs
@@ -207,7 +189,7 @@ pub chosen_noted : (d e : Outstanding) → e.grouped.window ≡ d.grouped.window
 chosen_noted d e window groups waiting x y before after places = record {
   same = subst (λ (z : Window). HasSameRequests d.grouped.window z) (sym window) (same_none d.grouped.window);
   groups = groups;
-  memory = subst (λ (z : Waiting). HasMemory d.waiting z) (sym waiting) (record { heads = omega arith; doomed = omega arith });
+  memory = subst (λ (z : Waiting). HasMemory d.waiting z) (sym waiting) (omega arith);
   places = subst (λ z. KeepsPlaces z e.by_user_data) (sym before) (subst (λ z. KeepsPlaces x z) (sym after) places);
 }
 
@@ -219,54 +201,49 @@ none_more : (p : ℕ → Bool) (m : ℕ) → p m ≡ false → all_below p (m + 
 none_more p m e = let next : m + 1
     ≡ suc m = omega arith in ap (all_below p) next ∙ ap (λ b. all_below p m ++ cond b (m ∷ []) []) e ∙ append-nil (all_below p m)
 
--- what the test of the next number answers
-target_tested : (old now : Outstanding) (n user_data m count : ℕ) (tested : Bool)
-    → AreChosen old now n user_data m count
-    → ((r : Requests) → Shows now.grouped r → user_data ≡ addr_of (entry_of r n) → tested ≡ is_target r n m)
-    → (r : Requests) → Shows old.grouped r → user_data ≡ addr_of (entry_of r n) → is_target r n m ≡ tested
-target_tested old now n user_data m count tested c test r h named =
-    sym (test (with_cancelled r (all_below (is_target r n) m)) (c.shows r h named) named ∙ target_next r n m)
+module _ {old now : Outstanding} {n user_data m count : ℕ} (c : AreChosen old now n user_data m count) where
+  -- what the test of the next number answers
+  target_tested : {tested : Bool}
+      → ((r : Requests) → Shows now.grouped r → user_data ≡ addr_of (entry_of r n) → tested ≡ is_target r n m)
+      → (r : Requests) → Shows old.grouped r → user_data ≡ addr_of (entry_of r n) → is_target r n m ≡ tested
+  target_tested test r h named =
+      sym (test (with_cancelled r (all_below (is_target r n) m)) (c.shows r h named) named ∙ target_next r n m)
 
--- the next number is a target, and was chosen
-pub chosen_more : (old now next : Outstanding) (n user_data m count : ℕ)
-    → AreChosen old now n user_data m count
-    → ((r : Requests) → Shows now.grouped r → user_data ≡ addr_of (entry_of r n) → true ≡ is_target r n m)
-    → HasChosen now next
-    → ((r : Requests) → Shows now.grouped r → Shows next.grouped (with_cancelled r (m ∷ [])))
-    → AreChosen old next n user_data (m + 1) (count + 1)
-chosen_more old now next n user_data m count c test chosen shows =
-    let few = c.few in
-    let more : (r : Requests) → Shows old.grouped r → user_data ≡ addr_of (entry_of r n) → all_below (is_target r n) (m + 1) ≡ all_below (is_target r n) m ++ m ∷ [] =
-    λ r h named. one_more (is_target r n) m (target_tested old now n user_data m count true c test r h named)
-    in
-    record {
-      chosen = chosen_both old now next c.chosen chosen;
-      few = omega arith;
-      count_is = λ r h named.
-          ap (λ k. k + 1) (c.count_is r h named) ∙ sym (length-append (all_below (is_target r n) m) (m ∷ []))
-          ∙ ap (λ (xs : List ℕ). length xs) (sym (more r h named));
-      shows = λ r h named.
-          subst (λ xs. Shows next.grouped (with_cancelled r xs)) (sym (more r h named))
-          (subst (λ xs. Shows next.grouped (record r { cancelled = xs })) (append_assoc r.cancelled (all_below (is_target r n) m) (m ∷ []))
-          (shows (with_cancelled r (all_below (is_target r n) m)) (c.shows r h named)));
-    }
+  -- the next number is a target, and was chosen
+  pub chosen_more : {next : Outstanding}
+      → ((r : Requests) → Shows now.grouped r → user_data ≡ addr_of (entry_of r n) → true ≡ is_target r n m)
+      → HasChosen now next
+      → ((r : Requests) → Shows now.grouped r → Shows next.grouped (with_cancelled r (m ∷ [])))
+      → AreChosen old next n user_data (m + 1) (count + 1)
+  chosen_more {next} test chosen shows =
+      let few = c.few in
+      let more : (r : Requests) → Shows old.grouped r → user_data ≡ addr_of (entry_of r n) → all_below (is_target r n) (m + 1) ≡ all_below (is_target r n) m ++ m ∷ [] =
+      λ r h named. one_more (is_target r n) m (target_tested test r h named)
+      in
+      record {
+        chosen = chosen_both old now next c.chosen chosen;
+        few = omega arith;
+        count_is = λ r h named.
+            ap (λ k. k + 1) (c.count_is r h named) ∙ sym (length-append (all_below (is_target r n) m) (m ∷ []))
+            ∙ ap (λ (xs : List ℕ). length xs) (sym (more r h named));
+        shows = λ r h named.
+            rw (more r h named, ← append_assoc r.cancelled (all_below (is_target r n) m) (m ∷ [])) (shows (with_cancelled r (all_below (is_target r n) m)) (c.shows r h named));
+      }
 
--- the next number is none
-pub chosen_past : (old now : Outstanding) (n user_data m count : ℕ)
-    → AreChosen old now n user_data m count
-    → ((r : Requests) → Shows now.grouped r → user_data ≡ addr_of (entry_of r n) → false ≡ is_target r n m)
-    → AreChosen old now n user_data (m + 1) count
-chosen_past old now n user_data m count c test =
-    let few = c.few in
-    let same_ones : (r : Requests) → Shows old.grouped r → user_data ≡ addr_of (entry_of r n) → all_below (is_target r n) (m + 1) ≡ all_below (is_target r n) m =
-    λ r h named. none_more (is_target r n) m (target_tested old now n user_data m count false c test r h named)
-    in
-    record {
-      chosen = c.chosen;
-      few = omega arith;
-      count_is = λ r h named. c.count_is r h named ∙ ap (λ (xs : List ℕ). length xs) (sym (same_ones r h named));
-      shows = λ r h named. subst (λ xs. Shows now.grouped (with_cancelled r xs)) (sym (same_ones r h named)) (c.shows r h named);
-    }
+  -- the next number is none
+  pub chosen_past : ((r : Requests) → Shows now.grouped r → user_data ≡ addr_of (entry_of r n) → false ≡ is_target r n m)
+      → AreChosen old now n user_data (m + 1) count
+  chosen_past test =
+      let few = c.few in
+      let same : (r : Requests) → Shows old.grouped r → user_data ≡ addr_of (entry_of r n) → all_below (is_target r n) (m + 1) ≡ all_below (is_target r n) m =
+      λ r h named. none_more (is_target r n) m (target_tested test r h named)
+      in
+      record {
+        chosen = c.chosen;
+        few = omega arith;
+        count_is = λ r h named. c.count_is r h named ∙ ap (λ (xs : List ℕ). length xs) (sym (same r h named));
+        shows = λ r h named. rw (same r h named) (c.shows r h named);
+      }
 
 -- all numbers were tested
 pub chosen_all : (r : Requests) (n m : ℕ) → m ≡ length r.accepted

@@ -1,5 +1,5 @@
 -- Counts below a bound: what one change does to them, the bits of a block, and the list of all that are counted.
-use Rattle.std.proofs.Common.{◌≡◌, ◌≢◌, ℕ, zero, suc, ◌+◌, ◌*◌, ◌/◌, ◌%◌, ◌^◌, ◌<◌, ◌≤◌, ◌⊎◌, ◌==◌, cond, count_ones, Bool, true, false, List, [], ◌∷◌, ◌++◌, length, slice_get, Some, None, refl, sym, ◌∙◌, ap, arith, inl, inr, length-append}
+use Rattle.std.proofs.Common.{◌≡◌, ◌≢◌, ℕ, zero, suc, ◌+◌, ◌-◌, ◌*◌, ◌/◌, ◌%◌, ◌^◌, ◌<◌, ◌≤◌, ◌==◌, cond, count_ones, Bool, true, false, List, [], ◌∷◌, ◌++◌, length, slice_get, Some, None, refl, sym, ◌∙◌, ap, arith, inl, inr, length-append}
 use Rattle.std.specs.Int.{bit_at}
 use Rattle.std.specs.Int.Count.{ones_step}
 use Rattle.std.proofs.lemmas.Bool.{cases_eq, eq-eqb, ne_eqb}
@@ -55,19 +55,6 @@ count_below_zero p (suc n) none =
     let here : one_if (p n) ≡ 0 = ap one_if (none n (omega arith)) in
     omega arith
 
--- nothing from n on is counted
-pub count_below_past : (p : ℕ → Bool) (n m : ℕ) → n ≤ m → ((k : ℕ) → n ≤ k → p k ≡ false)
-    → count_below p m ≡ count_below p n
-count_below_past p n zero le none = let same : n ≡ 0 = omega arith in ap (count_below p) (sym same)
-count_below_past p n (suc m) le none =
-    elim (cases_eq n (suc m)) [
-      | inl same ↦ ap (count_below p) (sym same)
-      | inr other ↦
-          let rest = count_below_past p n m (omega arith) none in
-          let here : one_if (p m) ≡ 0 = ap one_if (none m (omega arith)) in
-          omega arith
-    ]
-
 -- a count goes on after a number
 pub count_below_apart : (p : ℕ → Bool) (n k : ℕ)
     → count_below p (n + k) ≡ count_below p n + count_below (λ i. p (n + i)) k
@@ -76,6 +63,14 @@ count_below_apart p n (suc k) =
     let more : n + suc k ≡ suc (n + k) = omega arith in
     let rest = count_below_apart p n k in
     ap (count_below p) more ∙ omega arith
+
+-- nothing from n on is counted
+pub count_below_past : (p : ℕ → Bool) (n m : ℕ) → n ≤ m → ((k : ℕ) → n ≤ k → p k ≡ false)
+    → count_below p m ≡ count_below p n
+count_below_past p n m le none =
+    let gap : n + (m - n) ≡ m = omega arith in
+    let rest = count_below_zero (λ i. p (n + i)) (m - n) (λ i lt. none (n + i) (omega arith)) in
+    sym (ap (count_below p) gap) ∙ count_below_apart p n (m - n) ∙ omega arith
 
 -- the first number apart
 count_below_front : (p : ℕ → Bool) (n : ℕ)

@@ -1,168 +1,198 @@
--- When a request ends, the window and the groups still fit one another.
-use Rattle.std.proofs.Common.{◌≡◌, ◌≢◌, ℕ, ◌<◌, ◌≤◌, Option, Some, None, is_some, refl, sym, ◌∙◌, ap, subst, arith, inl, inr}
-use Rattle.std.proofs.lemmas.Bool.{cases_lt, cases_eq}
+-- When a request ends: the window and the groups still fit one another, and what is held is what the lists say.
+use Rattle.std.proofs.Common.{◌≡◌, ◌≢◌, ℕ, ◌+◌, ◌<◌, ◌≤◌, ◌⊎◌, ℤ, List, length, not, ◌&&◌, ltb, Option, Some, None, is_some, refl, sym, ◌∙◌, ap, subst, arith, inl, inr}
+use Rattle.std.proofs.lemmas.Bool.{cases_lt, cases_eq, and_right}
 use Rattle.std.proofs.lemmas.Option.{same_Some}
+use Rattle.uring_entry.specs.Success.{is_success}
+use Rattle.uring_entry.specs.Requests.{Requests, entry_of, has_ended, is_outstanding, is_running, is_soft, with_ended, outstanding_in, running_in}
+use Rattle.uring_entry.specs.Groups.{earlier_of}
+use Rattle.uring_entry.proofs.RequestLemmas.{has_ended_same, has_ended_other, is_running_ended_same, is_running_ended_other}
+use Rattle.uring_entry.proofs.GroupEvents.{group_ended, first_broken_ended, first_broken_elsewhere}
 use Rattle.uring_dispatch.specs.declared.request.Request.{Request}
 use Rattle.uring_dispatch.specs.declared.group.Group.{Group}
-use Rattle.uring_dispatch.specs.Window.{Window, at, end_of, Changes}
+use Rattle.uring_dispatch.specs.Window.{Window, at, end_of, one_if, Changes}
 use Rattle.uring_dispatch.specs.Groups.{Groups, group_at, Exchanges, IsBeyond}
-use Rattle.uring_dispatch.specs.Held.{IsKept, IsSound, IsNext}
-use Rattle.uring_dispatch.proofs.HeldLemmas.{some_none, vacant, linked, member}
+use Rattle.uring_dispatch.specs.Held.{IsKept, IsSound, IsNext, IsShownGroup, AreHeld, HasLost}
+use Rattle.uring_dispatch.proofs.Changes.{before_end, gone_stays, shown_same}
+use Rattle.uring_dispatch.proofs.Counting.{count_below_changed}
+use Rattle.uring_dispatch.proofs.HeldLemmas.{some_none, vacant, linked, member, within_group, kept_on, shown_within, outstanding_some, running_some}
 
--- Request n of this group ends: what the window and the groups are before and after.
-pub record Ends (w v : Window) (g h : Groups) (n : ℕ) (request : Request) (q : Group) (left : Option Group) : Type 0 where
+-- what is left of a group
+abbrev pub left_with : Group → ℕ → Option ℕ → Group
+left_with q least broken = record q { least = least; broken = broken }
+
+-- Request n of this group ends: what the window and the groups are before and after. The group's least outstanding member is then this one, and its end if there is none.
+pub record Ends (w v : Window) (g h : Groups) (n : ℕ) (request : Request) (q : Group) (least : ℕ) (broken : Option ℕ) : Type 0 where
   pub there : at w n ≡ Some request
   pub changes : Changes w v n None
   pub end : end_of v ≡ end_of w
   pub group : group_at g request.group ≡ Some q
+  pub next : IsNext v q.least q.end least
+  pub left : Option Group
   pub exchange : Exchanges g h request.group left
+  pub some : least < q.end → left ≡ Some (left_with q least broken)
+  pub none : q.end ≤ least → left ≡ None
+  pub closed : h.last ≡ None
 
--- a request lies in its group
-pub in_group : (w : Window) (g : Groups) (n : ℕ) (request : Request) (q : Group) → IsSound w g
-    → at w n ≡ Some request → group_at g request.group ≡ Some q → (q.from ≤ n) × (n < q.end)
-in_group w g n request q s there is =
-    let link = linked _ _ n request s there in
-    let one : link.group ≡ q = same_Some _ _ (sym link.found ∙ is) in
-    let P : Group → Type 0 = λ x. (x.from ≤ n) × (n < x.end) in
-    subst P one (link.from, link.to)
+module _ {w v : Window} {g h : Groups} {n : ℕ} {request : Request} {q : Group} {least : ℕ} (broken : Option ℕ) (there : at w n ≡ Some request) (changes : Changes w v n None) (end : end_of v ≡ end_of w) (group : group_at g request.group ≡ Some q) (next : IsNext v q.least q.end least) where
+  -- the group's last member has ended
+  pub ends_last : q.end ≤ least → Exchanges g h request.group None → h.last ≡ None
+      → Ends w v g h n request q least broken
+  ends_last le exchange closed =
+      record { there = there; changes = changes; end = end; group = group; next = next; left = None; exchange = exchange; some = λ lt. absurd (omega arith); none = λ past. refl; closed = closed }
 
--- and not before the group's least outstanding member
-pub least_before : (w : Window) (g : Groups) (n : ℕ) (request : Request) (q : Group) → IsSound w g
-    → at w n ≡ Some request → group_at g request.group ≡ Some q → q.least ≤ n
-least_before w g n request q s there is =
-    elim (cases_lt n q.least) [
-      | inl low ↦ some_none request _ (vacant w n ((s.kept request.group q is).over n (in_group w g n request q s there is).0 low)) there
-      | inr high ↦ high
-    ]
+  -- another member is outstanding
+  pub ends_more : least < q.end → Exchanges g h request.group (Some (left_with q least broken))
+      → h.last ≡ None → Ends w v g h n request q least broken
+  ends_more lt exchange closed =
+      record { there = there; changes = changes; end = end; group = group; next = next; left = Some (left_with q least broken); exchange = exchange; some = λ more. refl; none = λ past. absurd (omega arith); closed = closed }
 
--- another number keeps its request
-pub kept_request : (w v : Window) (n k : ℕ) (p : Request) → Changes w v n None → at v k ≡ Some p
-    → (k ≢ n) × (at w k ≡ Some p)
-kept_request w v n k p c e =
-    elim (cases_eq k n) [
-      | inl same ↦ some_none p _ (ap (at v) same ∙ c.here) e
-      | inr other ↦ (other, sym (c.others k other) ∙ e)
-    ]
+module _ {w v : Window} {g h : Groups} {n : ℕ} {request : Request} {q : Group} {least : ℕ} {broken : Option ℕ} (s : IsSound w g) (e : Ends w v g h n request q least broken) where
+  -- a group of another key hasn't n
+  apart : {key : ℕ} {p : Group} → group_at g key ≡ Some p → key ≢ request.group → p.from ≤ n → n < p.end → ⊥
+  apart {key} {p} is ne from to = ne (sym (s.members key p n request is from to e.there))
 
-gone_stays : (w v : Window) (n m : ℕ) → Changes w v n None → at w m ≡ None → at v m ≡ None
-gone_stays w v n m c e =
-    elim (cases_eq m n) [
-      | inl same ↦ ap (at v) same ∙ c.here
-      | inr other ↦ c.others m other ∙ e
-    ]
+  -- what is kept under a key now
+  now : (key : ℕ) (x : Group) → group_at h key ≡ Some x
+      → ((key ≡ request.group) × (least < q.end) × (x ≡ left_with q least broken)) ⊎ ((key ≢ request.group) × (group_at g key ≡ Some x))
+  now key x found =
+      elim (cases_eq key request.group) [
+        | inr other ↦ inr (other, sym (e.exchange.others key other) ∙ found)
+        | inl same ↦
+            let left = sym e.exchange.here ∙ ap (group_at h) (sym same) ∙ found in
+            elim (cases_lt least q.end) [
+              | inl lt ↦ inl (same, lt, same_Some _ _ (sym left ∙ e.some lt))
+              | inr le ↦ some_none (e.none le) left
+            ]
+      ]
 
--- a group of another key hasn't n
-pub apart : (w : Window) (g : Groups) (n key : ℕ) (request : Request) (p : Group) → IsSound w g
-    → at w n ≡ Some request → group_at g key ≡ Some p → key ≢ request.group → p.from ≤ n → n < p.end
-    → ⊥
-apart w g n key request p s there is ne from to =
-    ne (sym (s.members key p n request is from to there))
+  -- no member before the least is outstanding now
+  over : (m : ℕ) → q.from ≤ m → m < least → at v m ≡ None
+  over m from low =
+      elim (cases_lt m q.least) [
+        | inl before ↦ gone_stays e.changes m (vacant w m ((s.kept request.group q e.group).over m from before))
+        | inr after ↦ e.next.over m after low
+      ]
 
-kept_elsewhere : (w v : Window) (g : Groups) (n key : ℕ) (request : Request) (p : Group)
-    → IsSound w g → at w n ≡ Some request → Changes w v n None → end_of v ≡ end_of w
-    → group_at g key ≡ Some p → key ≢ request.group → IsKept v p
-kept_elsewhere w v g n key request p s there c end is ne =
-    let k = s.kept key p is in
-    record {
-      from = k.from;
-      to = k.to;
-      end = omega (arith, k.end);
-      over = λ m high low. ap is_some (gone_stays w v n m c (vacant w m (k.over m high low)));
-      here =
-          ap is_some (c.others p.least (λ same. apart w g n key request p s there is ne (omega (arith, k.from)) (omega (arith, k.to))))
-          ∙ k.here;
-    }
+  -- where another member is
+  pub left_member : {k : ℕ} {x : Request} → at v k ≡ Some x → x.group ≡ request.group
+      → (q.from ≤ k) × (least ≤ k) × (k < q.end)
+  left_member {k} there same =
+      let inside = within_group s (before_end e.changes there).1 (ap (group_at g) same ∙ e.group) in
+      let high : least ≤ k = elim (cases_lt k least) [ inl low ↦ some_none (over k inside.0 low) there | inr high ↦ high ] in
+      (inside.0, high, inside.1)
 
--- The group's last member has ended.
+  pub end_sound : IsBeyond h.barriers (end_of w) → IsSound v h
+  end_sound beyond = record {
+    linked = λ k x there.
+        let link = linked s (before_end e.changes there).1 in
+        elim (cases_eq x.group request.group) [
+          | inl same ↦
+              let inside = left_member there same in
+              let lt : least < q.end = omega (arith, inside.1, inside.2) in
+              member _ (left_with q least broken) k (ap (group_at h) same ∙ e.exchange.here ∙ e.some lt) inside.0 inside.2
+          | inr other ↦ member _ link.group k (e.exchange.others x.group other ∙ link.found) link.from link.to
+        ];
+    members = λ key x k y found from to there.
+        let was = (before_end e.changes there).1 in
+        elim (now key x found) [
+          | inl left ↦
+              let begins : x.from ≡ q.from = ap (λ (z : Group). z.from) left.2 in
+              let ends : x.end ≡ q.end = ap (λ (z : Group). z.end) left.2 in
+              s.members key q k y (ap (group_at g) left.0 ∙ e.group) (omega arith) (omega arith) was
+          | inr kept ↦ s.members key x k y kept.1 from to was
+        ];
+    kept = λ key x found.
+        elim (now key x found) [
+          | inl left ↦ subst (λ (z : Group). IsKept v z) (sym left.2) (left_kept left.1)
+          | inr kept ↦
+              let k = s.kept key x kept.1 in
+              kept_on k (omega (arith, e.end)) (λ m from to. ap is_some (e.changes.others m (λ same. apart kept.1 kept.0 (omega arith) (omega (arith, k.to)))))
+        ];
+    beyond = subst (λ k. IsBeyond h.barriers k) (sym e.end) beyond;
+    last = λ key x is found. some_none e.closed is;
+  }
+    where
+      left_kept : least < q.end → IsKept v (left_with q least broken)
+      left_kept lt =
+          let kept = s.kept request.group q e.group in
+          record {
+            from = omega (arith, kept.from, e.next.from_on);
+            to = lt;
+            end = omega (arith, kept.end, e.end);
+            over = λ m from low. ap is_some (over m from low);
+            here = e.next.here lt;
+          }
 
-pub end_sound_last : (w v : Window) (g h : Groups) (n : ℕ) (request : Request) (q : Group) (least : ℕ)
-    → IsSound w g → Ends w v g h n request q None → IsNext v q.least q.end least → least ≡ q.end
-    → IsBeyond h.barriers (end_of w) → h.last ≡ None → IsSound v h
-end_sound_last w v g h n request q least s e next all beyond closed =
-    let kept = s.kept request.group q e.group in
-    let over : (k : ℕ) (p : Request) → at v k ≡ Some p → p.group ≢ request.group =
-    λ k p is same.
-    let was = kept_request w v n k p e.changes is in
-    let link = linked _ _ k p s was.1 in
-    let one : link.group ≡ q = same_Some _ _ (sym link.found ∙ ap (group_at g) same ∙ e.group) in
-    let from : q.from ≤ k = let P : Group → Type 0 = λ x. x.from ≤ k in subst P one link.from in
-    let to : k < q.end = let P : Group → Type 0 = λ x. k < x.end in subst P one link.to in
-    elim (cases_lt k q.least) [
-      | inl low ↦ some_none p _ (vacant w k (kept.over k from low)) was.1
-      | inr high ↦ some_none p _ (next.over k high (omega arith)) is
-    ]
-    in
-    let still : (key : ℕ) (p : Group) → group_at h key ≡ Some p → (key ≢ request.group) × (group_at g key ≡ Some p) =
-    λ key p is.
-    elim (cases_eq key request.group) [
-      | inl same ↦ some_none p _ (ap (group_at h) same ∙ e.exchange.here) is
-      | inr other ↦ (other, sym (e.exchange.others key other) ∙ is)
-    ]
-    in
-    record {
-      linked = λ k p is.
-          let was = kept_request w v n k p e.changes is in
-          let link = linked _ _ k p s was.1 in
-          member _ link.group k (e.exchange.others p.group (over k p is) ∙ link.found) link.from link.to;
-      members = λ key p k r is from to there. s.members key p k r (still key p is).1 from to (kept_request w v n k r e.changes there).1;
-      kept = λ key p is.
-          let old = still key p is in kept_elsewhere w v g n key request p s e.there e.changes e.end old.1 old.0;
-      beyond = let P : ℕ → Type 0 = λ x. IsBeyond h.barriers x in subst P (sym e.end) beyond;
-      last = λ key p is found. some_none key _ closed is;
-    }
+-- The lists.
 
--- Another member of the group is outstanding.
+module _ {w : Window} {g : Groups} {r : Requests} (n : ℕ) {request : Request} (res : ℤ) (bytes : List ℕ) (s : IsSound w g) (h : AreHeld w g r) (e : at w n ≡ Some request) where
+  outstanding_less : outstanding_in (with_ended r n res bytes) + 1 ≡ outstanding_in r
+  outstanding_less =
+      let was : one_if (is_outstanding r n) ≡ 1 = ap one_if (outstanding_some s h _ e) in
+      let now : one_if (is_outstanding (with_ended r n res bytes) n) ≡ 0 = ap one_if (and_right _ _ (ap not (has_ended_same r n res bytes))) in
+      let change = count_below_changed (is_outstanding r) (is_outstanding (with_ended r n res bytes)) (length r.accepted) n (shown_within s h e)
+      (λ k ne. ap (λ b. ltb k (length r.accepted) && not b) (has_ended_other r n res bytes k ne))
+      in
+      omega (arith, change)
 
-pub end_sound_more : (w v : Window) (g h : Groups) (n : ℕ) (request : Request) (q p : Group) (least : ℕ)
-    → IsSound w g → Ends w v g h n request q (Some p) → IsNext v q.least q.end least → least ≢ q.end
-    → p.from ≡ q.from → p.end ≡ q.end → p.least ≡ least → IsBeyond h.barriers (end_of w)
-    → h.last ≡ None → IsSound v h
-end_sound_more w v g h n request q p least s e next more from end is beyond closed =
-    let kept = s.kept request.group q e.group in
-    let low : least < q.end = omega (arith, next.up_to, more) in
-    let old : (key : ℕ) (x : Group) → group_at h key ≡ Some x → (y : Group) × (group_at g key ≡ Some y) × (x.from ≡ y.from) × (x.end ≡ y.end) =
-    λ key x found.
-    elim (cases_eq key request.group) [
-      | inl same ↦
-          let one : p ≡ x = same_Some _ _ (sym e.exchange.here ∙ ap (group_at h) (sym same) ∙ found) in
-          (q, ap (group_at g) same ∙ e.group, ap (λ (z : Group). z.from) (sym one) ∙ from, ap (λ (z : Group). z.end) (sym one) ∙ end)
-      | inr other ↦ (x, sym (e.exchange.others key other) ∙ found, refl, refl)
-    ]
-    in
-    record {
-      linked = λ k x there.
-          let was = kept_request w v n k x e.changes there in
-          let link = linked _ _ k x s was.1 in
-          elim (cases_eq x.group request.group) [
-            | inl same ↦
-                let one : link.group ≡ q = same_Some _ _ (sym link.found ∙ ap (group_at g) same ∙ e.group) in
-                member _ p k (ap (group_at h) same ∙ e.exchange.here)
-                (let f : link.group.from ≡ q.from = ap (λ (z : Group). z.from) one in omega (arith, link.from))
-                (let f : link.group.end ≡ q.end = ap (λ (z : Group). z.end) one in omega (arith, link.to))
-            | inr other ↦ member _ link.group k (e.exchange.others x.group other ∙ link.found) link.from link.to
-          ];
-      members = λ key x k r found a b there.
-          let was = old key x found in
-          s.members key was.0 k r was.1 (omega (arith, was.2)) (omega (arith, was.3)) (kept_request w v n k r e.changes there).1;
-      kept = λ key x found.
-          elim (cases_eq key request.group) [
-            | inl same ↦
-                let one : p ≡ x = same_Some _ _ (sym e.exchange.here ∙ ap (group_at h) (sym same) ∙ found) in
-                let P : Group → Type 0 = λ z. IsKept v z in
-                subst P one
-                (record {
-                  from = omega (arith, kept.from, next.from_on);
-                  to = omega arith;
-                  end = omega (arith, kept.end, e.end);
-                  over = λ m high under.
-                      elim (cases_lt m q.least) [
-                        | inl before ↦ ap is_some (gone_stays w v n m e.changes (vacant w m (kept.over m (omega arith) before)))
-                        | inr after ↦ ap is_some (next.over m after (omega arith))
-                      ];
-                  here = ap (λ m. is_some (at v m)) is ∙ next.here low;
-                })
-            | inr other ↦ kept_elsewhere w v g n key request x s e.there e.changes e.end (sym (e.exchange.others key other) ∙ found) other
-          ];
-      beyond = let P : ℕ → Type 0 = λ x. IsBeyond h.barriers x in subst P (sym e.end) beyond;
-      last = λ key x found there. some_none key _ closed found;
-    }
+  running_less : running_in (with_ended r n res bytes) + one_if request.is_running ≡ running_in r
+  running_less =
+      let was : one_if (is_running r n) ≡ one_if request.is_running = ap one_if (running_some h _ e) in
+      let now : one_if (is_running (with_ended r n res bytes) n) ≡ 0 = ap one_if (is_running_ended_same r n res bytes) in
+      let change = count_below_changed (is_running r) (is_running (with_ended r n res bytes)) (length r.accepted) n (shown_within s h e) (λ k ne. is_running_ended_other r n res bytes k ne) in
+      omega (arith, change)
+
+module _ {w v : Window} {g h : Groups} {r : Requests} {n : ℕ} {request : Request} {q : Group} {least : ℕ} {broken : Option ℕ} (res : ℤ) (bytes : List ℕ) (s : IsSound w g) (e : Ends w v g h n request q least broken) (a : AreHeld w g r) where
+  shown_left : broken ≡ earlier_of q.broken (is_soft (entry_of r n) && not (is_success (entry_of r n) res)) n
+      → IsShownGroup (with_ended r n res bytes) (left_with q least broken)
+  shown_left breaks =
+      let shown = a.groups request.group q e.group in
+      let inside = within_group s e.there e.group in
+      record {
+        group = group_ended r n res bytes q.from q.end shown.group;
+        fault = shown.fault;
+        drain = shown.drain;
+        broken =
+            breaks ∙ ap (λ b. earlier_of b (is_soft (entry_of r n) && not (is_success (entry_of r n) res)) n) shown.broken
+            ∙ sym (first_broken_ended r n res bytes q.from q.end inside.0 inside.1 (a.shown n request e.there).unended);
+      }
+
+  shown_elsewhere : {key : ℕ} {p : Group} → group_at g key ≡ Some p → key ≢ request.group
+      → IsShownGroup (with_ended r n res bytes) p
+  shown_elsewhere {key} {p} is ne =
+      let shown = a.groups key p is in
+      record {
+        group = group_ended r n res bytes p.from p.end shown.group;
+        fault = shown.fault;
+        drain = shown.drain;
+        broken =
+            shown.broken ∙ sym (first_broken_elsewhere r n res bytes p.from p.end (λ m high low same. apart s e is ne (omega arith) (omega arith)));
+      }
+
+  pub end_held : HasLost w v (one_if request.is_running) → g.last ≡ None
+      → (least < q.end → broken ≡ earlier_of q.broken (is_soft (entry_of r n) && not (is_success (entry_of r n) res)) n)
+      → AreHeld v h (with_ended r n res bytes)
+  end_held lost was breaks =
+      let within = shown_within s a e.there in
+      record {
+        count = a.count ∙ sym e.end;
+        outstanding = omega (arith, lost.outstanding, a.outstanding, outstanding_less n res bytes s a e.there);
+        running = omega (arith, lost.runs, a.running, running_less n res bytes s a e.there);
+        ended = λ m gone lt.
+            elim (cases_eq m n) [
+              | inl same ↦ ap (has_ended (with_ended r n res bytes)) same ∙ has_ended_same r n res bytes
+              | inr other ↦ has_ended_other r n res bytes m other ∙ a.ended m (sym (e.changes.others m other) ∙ gone) lt
+            ];
+        shown = λ k x there.
+            let was = before_end e.changes there in
+            shown_same (record { entry = refl; ended = has_ended_other r n res bytes k was.0; cancelled = refl; started = refl }) (a.shown k x was.1);
+        groups = λ key x found.
+            elim (now s e key x found) [
+              | inl left ↦ subst (λ (z : Group). IsShownGroup (with_ended r n res bytes) z) (sym left.2) (shown_left (breaks left.1))
+              | inr kept ↦ shown_elsewhere kept.1 kept.0
+            ];
+        last = λ k end. a.last k end ∙ ap (λ o. not (is_some o)) (was ∙ sym e.closed);
+        untouched = λ m past.
+            let old = a.untouched m past in
+            record { started = old.started; ended = has_ended_other r n res bytes m (λ same. absurd (omega arith)) ∙ old.ended; cancelled = old.cancelled; cut = old.cut };
+      }

@@ -1,12 +1,12 @@
 -- What the issue of a request is answered, by what the code found.
-use Rattle.std.proofs.Common.{◌≡◌, ℕ, ◌<◌, ℤ, negsuc, length, Bool, true, false, not, Some, None, refl, sym, ◌∙◌, ap, inl, inr}
+use Rattle.std.proofs.Common.{◌≡◌, ℕ, ◌<◌, ℤ, negsuc, length, Bool, true, false, Some, None, refl, sym, ◌∙◌, ap, inl, inr}
 use Rattle.std.specs.Prelude.{if◌then◌else◌}
 use Rattle.std.proofs.lemmas.Bool.{cases_Bool}
 use Rattle.uring_entry.specs.Layout.{Sqe, addr_of}
 use Rattle.uring_entry.specs.declared.operation.Op.{Op}
 use Rattle.uring_entry.specs.declared.operation.Op.TheVariants.{Cancel}
 use Rattle.uring_entry.specs.Preparation.{is_faulty, is_cancel, is_cancel_all, operation_of}
-use Rattle.uring_entry.specs.Requests.{Requests, entry_of, is_outstanding, is_running, is_doomed, is_ready, doomed_result, cancel_result}
+use Rattle.uring_entry.specs.Requests.{Requests, entry_of, is_outstanding, is_running, is_doomed, is_ready, cancel_result}
 use Rattle.uring_entry.proofs.Preparations.{asks_cancel}
 use Rattle.uring_entry.proofs.RequestLemmas.{is_doomed_own_fault}
 use Rattle.uring_dispatch.specs.declared.answers.Issued.TheVariants.{Run, Ended, NotReady, Running, Unknown}
@@ -31,60 +31,23 @@ op_some e op is = go (is_faulty e) is
     go true x = cc
     go false x = (refl, cc)
 
-doomed_answer : (r : Requests) (n : ℕ) → is_doomed r n ≡ true
-    → issued_waiting r n ≡ Ended (doomed_result r n)
-doomed_answer r n doomed =
-    ap
-    (λ b.
-    if b then Ended (doomed_result r n) else
-    if not (is_ready r n) then NotReady else
-    if is_cancel (entry_of r n) then Ended (cancel_result r n) else Run (operation_of (entry_of r n)))
-    doomed
-
 pub issued_faulty : (r : Requests) (n : ℕ) → n < length r.accepted → is_faulty (entry_of r n) ≡ true
     → Ended (negsuc 21) ≡ issued_waiting r n
-issued_faulty r n lt faulty =
-    sym (doomed_answer r n (is_doomed_own_fault r n lt faulty) ∙ ap (λ b. Ended (if b then negsuc 21 else negsuc 124)) faulty)
+issued_faulty r n lt faulty = rw (is_doomed_own_fault r n lt faulty, faulty)
 
 pub issued_doomed : (r : Requests) (n : ℕ) → is_doomed r n ≡ true → is_faulty (entry_of r n) ≡ false
     → Ended (negsuc 124) ≡ issued_waiting r n
-issued_doomed r n doomed right =
-    sym (doomed_answer r n doomed ∙ ap (λ b. Ended (if b then negsuc 21 else negsuc 124)) right)
-
--- what is neither doomed nor held back
-issued_ready : (r : Requests) (n : ℕ) → is_doomed r n ≡ false → is_ready r n ≡ true
-    → issued_waiting r n
-    ≡ (if is_cancel (entry_of r n) then Ended (cancel_result r n) else Run (operation_of (entry_of r n)))
-issued_ready r n free ready =
-    ap
-    (λ b.
-    if b then Ended (doomed_result r n) else
-    if not (is_ready r n) then NotReady else
-    if is_cancel (entry_of r n) then Ended (cancel_result r n) else Run (operation_of (entry_of r n)))
-    free
-    ∙ ap
-    (λ b. if not b then NotReady else if is_cancel (entry_of r n) then Ended (cancel_result r n) else Run (operation_of (entry_of r n)))
-    ready
+issued_doomed r n doomed right = rw (doomed, right)
 
 pub issued_not_ready : (r : Requests) (n : ℕ) → is_doomed r n ≡ false → is_ready r n ≡ false
     → NotReady ≡ issued_waiting r n
-issued_not_ready r n free waits =
-    sym
-    (ap
-    (λ b.
-    if b then Ended (doomed_result r n) else
-    if not (is_ready r n) then NotReady else
-    if is_cancel (entry_of r n) then Ended (cancel_result r n) else Run (operation_of (entry_of r n)))
-    free
-    ∙ ap
-    (λ b. if not b then NotReady else if is_cancel (entry_of r n) then Ended (cancel_result r n) else Run (operation_of (entry_of r n)))
-    waits)
+issued_not_ready r n free waits = rw (free, waits)
 
 pub issued_cancel : (r : Requests) (n : ℕ) (res : ℤ) → is_doomed r n ≡ false → is_ready r n ≡ true
     → is_cancel (entry_of r n) ≡ true → res ≡ cancel_result r n → Ended res ≡ issued_waiting r n
 issued_cancel r n res free ready cancel is =
-    ap Ended is
-    ∙ sym (issued_ready r n free ready ∙ ap (λ b. if b then Ended (cancel_result r n) else Run (operation_of (entry_of r n))) cancel)
+    rw (free, ready)
+    (ap Ended is ∙ sym (ap (λ b. if b then Ended (cancel_result r n) else Run (operation_of (entry_of r n))) cancel))
 
 pub issued_run : (r : Requests) (n : ℕ) (op : Op) → is_doomed r n ≡ false → is_ready r n ≡ true
     → op ≡ operation_of (entry_of r n) → ((t : ℕ) (all : Bool) → op ≡ Cancel t all → ⊥)
@@ -93,41 +56,32 @@ issued_run r n op free ready does other =
     elim (cases_Bool (is_cancel (entry_of r n))) [
       | inl cancel ↦ absurd (other (addr_of (entry_of r n)) (is_cancel_all (entry_of r n)) (does ∙ asks_cancel (entry_of r n) cancel))
       | inr other_code ↦
-          ap Run does
-          ∙ sym
-          (issued_ready r n free ready
-          ∙ ap (λ b. if b then Ended (cancel_result r n) else Run (operation_of (entry_of r n))) other_code)
+          rw (free, ready)
+          (ap Run does ∙ sym (ap (λ b. if b then Ended (cancel_result r n) else Run (operation_of (entry_of r n))) other_code))
     ]
 
 -- The order of the tests.
 
 pub issued_gone : (r : Requests) (n : ℕ) → is_outstanding r n ≡ false → Unknown ≡ issued r n
-issued_gone r n a =
-    sym (ap (λ x. if not x then Unknown else if is_running r n then Running else issued_waiting r n) a)
+issued_gone r n a = rw a
 
 pub issued_runs : (r : Requests) (n : ℕ) → is_outstanding r n ≡ true → is_running r n ≡ true
     → Running ≡ issued r n
-issued_runs r n a b =
-    sym
-    (ap (λ x. if not x then Unknown else if is_running r n then Running else issued_waiting r n) a
-    ∙ ap (λ x. if x then Running else issued_waiting r n) b)
+issued_runs r n a b = rw (a, b)
 
 pub issued_else : (r : Requests) (n : ℕ) → is_outstanding r n ≡ true → is_running r n ≡ false
     → issued_waiting r n ≡ issued r n
-issued_else r n a b =
-    sym
-    (ap (λ x. if not x then Unknown else if is_running r n then Running else issued_waiting r n) a
-    ∙ ap (λ x. if x then Running else issued_waiting r n) b)
+issued_else r n a b = rw (a, b)
 
 -- What an end posts.
 
 pub posted_none : (r : Requests) (n : ℕ) (res : ℤ) → is_running r n ≡ false
     → None ≡ posted_by r n res
-posted_none r n res e = sym (ap (λ b. if b then Some (posts_of (entry_of r n) res) else None) e)
+posted_none r n res e = rw e
 
 pub posted_some : (r : Requests) (n : ℕ) (res : ℤ) → is_running r n ≡ true
     → Some (posts_of (entry_of r n) res) ≡ posted_by r n res
-posted_some r n res e = sym (ap (λ b. if b then Some (posts_of (entry_of r n) res) else None) e)
+posted_some r n res e = rw e
 
 -- a finish is answered by whether the request was running
 pub finished_none : (r : Requests) (n : ℕ) (res : ℤ) → None ≡ posted_by r n res

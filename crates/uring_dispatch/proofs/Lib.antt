@@ -3,26 +3,20 @@
 pub mod Counting
 pub mod ByData
 pub mod WindowLemmas
-pub mod WindowEvents
 pub mod WindowFront
-pub mod BarrierLemmas
 pub mod GroupsKept
 -- How a request stands, and why:
 pub mod HeldLemmas
 pub mod WhyHeld
 pub mod WaitingLemmas
 pub mod IssuableLemmas
-pub mod Finding
 -- What an event leaves of what is held: an entry is accepted, a request is issued, chosen by a cancel, or ends:
-pub mod Touches
 pub mod Changes
 pub mod Accepts
-pub mod AcceptsHeld
 pub mod AcceptsListed
 pub mod Issues
 pub mod Choosing
 pub mod EndLemmas
-pub mod EndsHeld
 -- What a dispatcher shows, and how much it keeps:
 pub mod Alike
 pub mod Views

@@ -119,6 +119,4 @@ pub window_few : (w : Window) (g : Groups) (r : Requests) → AreHeld w g r
     → w.outstanding ≤ end_of w
 window_few w g r h =
     let few = count_below_few (is_outstanding r) (length r.accepted) in
-    let a = h.count in
-    let b = h.outstanding in
-    omega arith
+    omega (arith, h.count, h.outstanding)

@@ -1,9 +1,9 @@
--- From what a dispatcher shows to what it holds, and back.
-use Rattle.std.proofs.Common.{◌≡◌, ℕ, ◌+◌, ◌≤◌, Result, Ok, Err, is_err, length, Bool, true, false, Option, Some, None, refl, sym, ◌∙◌, ap, subst, arith}
+-- From what a dispatcher shows to what it holds, and back; and what its queries find.
+use Rattle.std.proofs.Common.{◌≡◌, ℕ, ◌+◌, ◌≤◌, Result, Ok, Err, is_err, length, Bool, true, false, Option, Some, None, refl, sym, ◌∙◌, ap, subst, arith, not, ◌&&◌}
 use Rattle.std.specs.Prelude.{if◌then◌else◌, MatchOption, IsOk, OnOk}
 use Rattle.std.proofs.lemmas.Bool.{false≢true}
-use Rattle.uring_entry.specs.Preparation.{operation_of}
-use Rattle.uring_entry.specs.Requests.{Requests, no_request, entry_of, is_outstanding, is_running, least_of, operation_running, entry_outstanding}
+use Rattle.uring_entry.specs.Preparation.{operation_of, is_faulty}
+use Rattle.uring_entry.specs.Requests.{Requests, no_request, entry_of, is_outstanding, is_running, least_of, operation_running, entry_outstanding, target_of}
 use Rattle.uring_entry.proofs.BelowLemmas.{least_below_none, least_below_some, is_some_value}
 use Rattle.uring_dispatch.specs.declared.request.Request.{Request}
 use Rattle.uring_dispatch.specs.Window.{Window, at, end_of, IsFirst}
@@ -22,6 +22,10 @@ use Rattle.uring_dispatch.specs.declared.answers.Issued.TheVariants.{Run, Ended,
 use Rattle.uring_dispatch.specs.declared.answers.Posts.{Posts}
 use Rattle.uring_dispatch.proofs.Alike.{held_alike, alike_room, alike_back}
 use Rattle.uring_dispatch.proofs.HeldLemmas.{some_none, shown_within, outstanding_none, outstanding_some, running_some}
+use Rattle.uring_entry.specs.declared.operation.Op.{Op}
+use Rattle.uring_entry.specs.declared.operation.Op.TheVariants.{Cancel}
+use Rattle.uring_dispatch.specs.declared.answers.Found.TheVariants.{Nobody}
+use Rattle.uring_dispatch.specs.Cancels.{found_as, found_for, found_by, operation_outstanding}
 
 pub shows_held : (w : Window) (g : Groups) (r : Requests) (room : ℕ) (between : Bool)
     → AreHeld w g r → ShowsRequests (dispatch_of w g room between) r
@@ -49,33 +53,31 @@ held_from d w g room between r e s =
 
 pub least_held : (w : Window) (g : Groups) (r : Requests) (o : Option ℕ) → IsSound w g
     → AreHeld w g r → MatchOption o ((n : ℕ) → at w n ≡ None) (IsFirst w) → o ≡ least_of r
-least_held w g r None s h m = sym (least_below_none (is_outstanding r) (length r.accepted) (λ k lt. outstanding_none w g r k h (m k)))
+least_held w g r None s h m = sym (least_below_none (is_outstanding r) (length r.accepted) (λ k lt. outstanding_none h _ (m k)))
 least_held w g r (Some n) s h m =
     let q = is_some_value (at w n) m.here in
     sym
-    (least_below_some (is_outstanding r) (length r.accepted) n (shown_within w g r n q.0 s h q.1) (outstanding_some w g r n q.0 s h q.1)
-    (λ k lt. outstanding_none w g r k h (m.before k lt)))
+    (least_below_some (is_outstanding r) (length r.accepted) n (shown_within s h q.1) (outstanding_some s h _ q.1)
+    (λ k lt. outstanding_none h _ (m.before k lt)))
 
 pub entry_none : (w : Window) (g : Groups) (r : Requests) (n : ℕ) → AreHeld w g r → at w n ≡ None
     → None ≡ entry_outstanding r n
 entry_none w g r n h e =
-    sym (ap (λ b. if b then Some (entry_of r n) else None) (outstanding_none w g r n h e))
+    rw (outstanding_none h n e)
 
 pub entry_some : (w : Window) (g : Groups) (r : Requests) (n : ℕ) (q : Request) → IsSound w g
     → AreHeld w g r → at w n ≡ Some q → Some q.entry ≡ entry_outstanding r n
 entry_some w g r n q s h e =
-    ap Some (h.shown n q e).entry
-    ∙ sym (ap (λ b. if b then Some (entry_of r n) else None) (outstanding_some w g r n q s h e))
+    rw (outstanding_some s h n e) (ap Some (h.shown n q e).entry)
 
 pub operation_none : (r : Requests) (n : ℕ) → is_running r n ≡ false → None ≡ operation_running r n
-operation_none r n e = sym (ap (λ b. if b then Some (operation_of (entry_of r n)) else None) e)
+operation_none r n e = rw e
 
 pub operation_some : (w : Window) (g : Groups) (r : Requests) (n : ℕ) (q : Request) → AreHeld w g r
     → at w n ≡ Some q → q.is_running ≡ true → q.op ≡ operation_running r n
 operation_some w g r n q h e runs =
     let shown = h.shown n q e in
-    shown.op ∙ ap (λ b. if b then None else Some (operation_of (entry_of r n))) (shown.sound runs)
-    ∙ sym (ap (λ b. if b then Some (operation_of (entry_of r n)) else None) (running_some w g r n q h e ∙ runs))
+    rw (running_some h n e ∙ runs) (shown.op ∙ ap (λ b. if b then None else Some (operation_of (entry_of r n))) (shown.sound runs))
 
 -- nothing is held at first
 pub empty_held : (w : Window) (g : Groups) → ((n : ℕ) → at w n ≡ None) → end_of w ≡ 0
@@ -86,8 +88,8 @@ empty_held w g none end outstanding running groups = record {
   outstanding = outstanding;
   running = running;
   ended = λ n e lt. absurd (omega arith);
-  shown = λ n q e. some_none q _ (none n) e;
-  groups = λ key q e. some_none q _ (groups key) e;
+  shown = λ n q e. some_none (none n) e;
+  groups = λ key q e. some_none (groups key) e;
   last = λ k e. absurd (omega arith);
   untouched = λ n le. record { started = refl; ended = refl; cancelled = refl; cut = refl };
 }
@@ -95,11 +97,11 @@ empty_held w g none end outstanding running groups = record {
 pub empty_sound : (w : Window) (g : Groups) → ((n : ℕ) → at w n ≡ None) → end_of w ≡ 0
     → ((key : ℕ) → group_at g key ≡ None) → IsBeyond g.barriers 0 → IsSound w g
 empty_sound w g none end groups beyond = record {
-  linked = λ n q e. some_none q _ (none n) e;
-  members = λ key q n request found from to e. some_none request _ (none n) e;
-  kept = λ key q e. some_none q _ (groups key) e;
-  beyond = let P : ℕ → Type 0 = λ x. IsBeyond g.barriers x in subst P (sym end) beyond;
-  last = λ key q e found. some_none q _ (groups key) found;
+  linked = λ n q e. some_none (none n) e;
+  members = λ key q n request found from to e. some_none (none n) e;
+  kept = λ key q e. some_none (groups key) e;
+  beyond = rw end beyond;
+  last = λ key q e found. some_none (groups key) found;
 }
 
 -- Room.
@@ -120,22 +122,10 @@ unchanged_end None old new c = ap (λ (d : Dispatch). d.accepted) c
 
 pub room_stays : (old new : Outstanding) (room : ℕ) → Stays old new
     → end_of new.grouped.window ≡ end_of old.grouped.window → HasRoom old room → HasRoom new room
-room_stays old new room s end r = record {
-  window = omega (arith, s.window, r.window);
-  groups = omega (arith, s.groups, r.groups);
-  heads = omega (arith, end, s.memory.heads, r.heads);
-  doomed = omega (arith, end, s.memory.doomed, r.doomed);
-  places = omega (arith, end, r.places, s.places);
-}
+room_stays old new room s end r = omega arith
 
 pub room_fewer : (d : Outstanding) (room fewer : ℕ) → fewer ≤ room → HasRoom d room → HasRoom d fewer
-room_fewer d room fewer le r = record {
-  window = omega (arith, r.window);
-  groups = omega (arith, r.groups);
-  heads = omega (arith, r.heads);
-  doomed = omega (arith, r.doomed);
-  places = omega (arith, r.places);
-}
+room_fewer d room fewer le r = omega arith
 
 -- room was asked for, and not refused
 pub reserved_room : {E : Type 0} (d : Outstanding) (x : Result (Unit {0}) E) (w : Window) (s : Waiting) (count : ℕ)
@@ -144,8 +134,7 @@ pub reserved_room : {E : Type 0} (d : Outstanding) (x : Result (Unit {0}) E) (w 
     → stop_of s.heads + count ≤ d.waiting.heads.limit
     → stop_of s.doomed + count ≤ d.waiting.doomed.limit
     → OnOk x (HasPlaces d.by_user_data (end_of d.grouped.window + count)) → OnOk x (HasRoom d count)
-reserved_room d (Ok u) w s count window groups end a b heads doomed places =
-    record { window = omega (arith, window); groups = omega (arith, groups); heads = omega (arith, end, a, heads); doomed = omega (arith, end, b, doomed); places = places }
+reserved_room d (Ok u) w s count window groups end a b heads doomed places = omega arith
 reserved_room d (Err u) w s count window groups end a b heads doomed places = places
 
 -- the dispatcher shows no more than before, if only the room of its parts differs
@@ -159,26 +148,14 @@ pub counts_records : (d e : Grouped) (old : Dispatch) (room more : ℕ) (between
     → dispatch_of d.window d.groups room between ≡ old → HasSameRecords d e → room ≤ more
     → IsSameCount old (dispatch_of e.window e.groups more between)
 counts_records d e old room more between view s le =
-    let P : Dispatch → Type 0 = λ x. IsSameCount x (dispatch_of e.window e.groups more between) in
-    subst P view
-    (record {
-      accepted = ap (λ (w : Window). end_of w) s.window;
-      outstanding = ap (λ (w : Window). w.outstanding) s.window;
-      running = ap (λ (w : Window). w.running) s.window;
-      room = le;
-    })
+    rw (← view)
+    (record { accepted = ap (λ (w : Window). end_of w) s.window; outstanding = ap (λ (w : Window). w.outstanding) s.window; running = ap (λ (w : Window). w.running) s.window; room = le })
 
 pub counts_same : (w v : Window) (g h : Groups) (old : Dispatch) (room : ℕ) (between after : Bool)
     → dispatch_of w g room between ≡ old → v ≡ w → IsSameCount old (dispatch_of v h room after)
 counts_same w v g h old room between after view same =
-    let P : Dispatch → Type 0 = λ x. IsSameCount x (dispatch_of v h room after) in
-    subst P view
-    (record {
-      accepted = ap (λ (z : Window). end_of z) same;
-      outstanding = ap (λ (z : Window). z.outstanding) same;
-      running = ap (λ (z : Window). z.running) same;
-      room = omega arith;
-    })
+    rw (← view)
+    (record { accepted = ap (λ (z : Window). end_of z) same; outstanding = ap (λ (z : Window). z.outstanding) same; running = ap (λ (z : Window). z.running) same; room = omega arith })
 
 pub on_ok : {E : Type 0} (x : Result (Unit {0}) E) (P : Type 0) → is_err x ≡ false → OnOk x P → P
 on_ok (Ok u) P e h = h
@@ -187,3 +164,37 @@ on_ok (Err u) P e h = cc
 pub ok_not_err : {E : Type 0} (x : Result (Unit {0}) E) → IsOk x → is_err x ≡ true → ⊥
 ok_not_err (Ok u) ok e = cc
 ok_not_err (Err u) ok e = absurd (false≢true ok)
+
+-- what is outstanding is to do what its entry asks for
+pub operation_held : (w : Window) (g : Groups) (r : Requests) (n : ℕ) (request : Request)
+    → IsSound w g → AreHeld w g r → at w n ≡ Some request → operation_outstanding r n ≡ request.op
+operation_held w g r n request s h e =
+    ap (λ b. if b && not (is_faulty (entry_of r n)) then Some (operation_of (entry_of r n)) else None) (outstanding_some s h _ e)
+    ∙ go (is_faulty (entry_of r n))
+    ∙ sym (h.shown n request e).op
+  where
+    go : (b : Bool) → (if true && not b then Some (operation_of (entry_of r n)) else None) ≡ (if b then None else Some (operation_of (entry_of r n)))
+    go true = refl
+    go false = refl
+
+pub finds_gone : (w : Window) (g : Groups) (r : Requests) (n : ℕ) → AreHeld w g r → at w n ≡ None
+    → None ≡ found_by r n
+finds_gone w g r n h e =
+    sym (ap (λ b. found_for r n (if b && not (is_faulty (entry_of r n)) then Some (operation_of (entry_of r n)) else None)) (outstanding_none h _ e))
+
+-- by what it is to do
+pub finds_by : (w : Window) (g : Groups) (r : Requests) (n : ℕ) (request : Request) (op : Option Op)
+    → IsSound w g → AreHeld w g r → at w n ≡ Some request → request.op ≡ op
+    → found_for r n op ≡ found_by r n
+finds_by w g r n request op s h e is =
+    sym (ap (found_for r n) (operation_held w g r n request s h e ∙ is))
+
+-- what is no cancel finds nothing
+pub finds_other : (r : Requests) (n : ℕ) (op : Op) → ((t : ℕ) (all : Bool) → op ≡ Cancel t all → ⊥)
+    → None ≡ found_for r n (Some op)
+finds_other r n (Cancel t all) other = absurd (other t all refl)
+finds_other r n _ other = refl
+
+-- by the request that it may choose
+pub found_none : (r : Requests) (n : ℕ) → None ≡ target_of r n → Nobody ≡ found_as r (target_of r n)
+found_none r n e = ap (found_as r) e

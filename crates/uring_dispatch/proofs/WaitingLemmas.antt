@@ -4,99 +4,60 @@ use Rattle.std.specs.Prelude.{if◌then◌else◌}
 use Rattle.std.proofs.lemmas.Bool.{cases_lt, cases_eq, both_ways, false≢true, lt-ltb, le-ltb, ltb-true, ne_eqb}
 use Rattle.std.proofs.lemmas.Option.{same_Some}
 use Rattle.uring_entry.specs.Groups.{is_before, earlier_of}
-use Rattle.uring_number_set.specs.NumberSet.{NumberSet, Covers, Puts, HasGrown, HasMoved}
+use Rattle.uring_number_set.specs.NumberSet.{NumberSet, Puts, HasGrown, HasMoved}
 use Rattle.uring_number_set.proofs.BlockLemmas.{holds_same}
 use Rattle.uring_dispatch.specs.declared.request.Request.{Request}
 use Rattle.uring_dispatch.specs.declared.group.Group.{Group}
 use Rattle.uring_dispatch.specs.declared.waiting.Waiting.{Waiting}
-use Rattle.uring_dispatch.specs.Window.{Window, at, end_of, Changes, started}
+use Rattle.uring_dispatch.specs.Window.{Window, at, end_of, Changes}
 use Rattle.uring_dispatch.specs.Groups.{Groups, group_at}
-use Rattle.uring_dispatch.specs.Held.{IsSound, IsNext}
-use Rattle.uring_dispatch.proofs.WindowFront.{at_past}
-use Rattle.uring_dispatch.proofs.HeldLemmas.{some_none, vacant, linked}
-use Rattle.uring_dispatch.proofs.EndLemmas.{Ends}
+use Rattle.uring_dispatch.specs.Held.{IsSound}
+use Rattle.uring_dispatch.proofs.WindowFront.{within_end}
+use Rattle.uring_dispatch.proofs.HeldLemmas.{some_none}
+use Rattle.uring_dispatch.proofs.EndLemmas.{Ends, left_with, left_member}
 use Rattle.uring_dispatch.specs.Waiting.{leads, dooms, waits_at_head, waits_doomed, IsListedAt, Reaches, IsListed, CanTell, IsSameReach, GrowsTo, Keeps, StandsAsBefore}
+use Rattle.uring_entry.proofs.BelowLemmas.{is_some_value}
+use Rattle.uring_dispatch.proofs.Changes.{before_end, still_there}
 
 -- Telling anew.
 
-pub same_reach : (s : NumberSet) → IsSameReach s s
-same_reach s = record { start = refl; stop = refl; limit = refl }
-
-reach_both : (s t u : NumberSet) → IsSameReach s t → IsSameReach t u → IsSameReach s u
-reach_both s t u a b = record {
-  start = b.start ∙ a.start;
-  stop = b.stop ∙ a.stop;
-  limit = b.limit ∙ a.limit;
-}
-
 pub keeps_none : (w : Window) (g : Groups) (s : Waiting) → Keeps w g s s
-keeps_none w g s = record {
-  told = λ k e. e;
-  heads = same_reach s.heads;
-  doomed = same_reach s.doomed;
-}
+keeps_none w g s = record { told = λ k e. e; heads = omega arith; doomed = omega arith }
 
 pub keeps_both : (w : Window) (g : Groups) (s t u : Waiting) → Keeps w g s t → Keeps w g t u
     → Keeps w g s u
 keeps_both w g s t u a b = record {
   told = λ k e. b.told k (a.told k e);
-  heads = reach_both s.heads t.heads u.heads a.heads b.heads;
-  doomed = reach_both s.doomed t.doomed u.doomed a.doomed b.doomed;
+  heads = omega (arith, a.heads, b.heads);
+  doomed = omega (arith, a.doomed, b.doomed);
 }
 
 pub listed_same : (w : Window) (g : Groups) (s : Waiting) (n m : ℕ) → n ≡ m → IsListedAt w g s n
     → IsListedAt w g s m
 listed_same w g s n m e l = let P : ℕ → Type 0 = λ j. IsListedAt w g s j in subst P e l
 
-covers_kept : (s t : NumberSet) (n : ℕ) → Covers s n → IsSameReach s t → Covers t n
-covers_kept s t n c k =
-    let a = c.from in
-    let b = c.to in
-    let x = k.start in
-    let y = k.stop in
-    record { from = omega arith; to = omega arith }
-
 pub tell_kept : (w : Window) (g : Groups) (s t : Waiting) (n : ℕ) → CanTell s n → Keeps w g s t
     → CanTell t n
-tell_kept w g s t n c k = record {
-  heads = covers_kept s.heads t.heads n c.heads k.heads;
-  doomed = covers_kept s.doomed t.doomed n c.doomed k.doomed;
-}
+tell_kept w g s t n c k = omega (arith, c, k.heads, k.doomed)
 
--- A request that has ended doesn't wait.
+-- A request that has ended doesn't wait, nor does one that was started.
 
-pub forgotten_listed : (w : Window) (g : Groups) (s t : Waiting) (n : ℕ) → at w n ≡ None
-    → Puts s.heads t.heads n false → Puts s.doomed t.doomed n false → IsListedAt w g t n
-forgotten_listed w g s t n gone a b = record {
-  head = a.here ∙ sym (ap (λ o. waits_at_head g o n) gone);
-  doomed = b.here ∙ sym (ap (λ o. waits_doomed g o n) gone);
-}
-
-reach_put : (s t : NumberSet) (n : ℕ) (b : Bool) → Puts s t n b → IsSameReach s t
-reach_put s t n b p =
-    let start = p.start in
-    let stop = p.stop in
-    record { start = omega arith; stop = omega arith; limit = p.limit }
-
--- nor does one that was started
-pub started_listed : (w : Window) (g : Groups) (s t : Waiting) (n : ℕ) (q : Request)
-    → at w n ≡ Some (started q) → Puts s.heads t.heads n false → Puts s.doomed t.doomed n false
-    → IsListedAt w g t n
-started_listed w g s t n q runs a b = record {
-  head = a.here ∙ sym (ap (λ o. waits_at_head g o n) runs);
-  doomed = b.here ∙ sym (ap (λ o. waits_doomed g o n) runs);
-}
+pub idle_listed : (w : Window) (g : Groups) (s t : Waiting) (n : ℕ) (o : Option Request) → at w n ≡ o
+    → waits_at_head g o n ≡ false → waits_doomed g o n ≡ false → Puts s.heads t.heads n false
+    → Puts s.doomed t.doomed n false → IsListedAt w g t n
+idle_listed w g s t n o is head doomed a b =
+    record { head = rw is (a.here ∙ sym head); doomed = rw is (b.here ∙ sym doomed) }
 
 pub forgotten_keeps : (w : Window) (g : Groups) (s t : Waiting) (n : ℕ) → IsListedAt w g t n
     → Puts s.heads t.heads n false → Puts s.doomed t.doomed n false → Keeps w g s t
 forgotten_keeps w g s t n own a b = record {
   told = λ k e.
       elim (cases_eq k n) [
-        | inl same ↦ let P : ℕ → Type 0 = λ j. IsListedAt w g t j in subst P (sym same) own
+        | inl same ↦ rw same own
         | inr other ↦ record { head = a.others k other ∙ e.head; doomed = b.others k other ∙ e.doomed }
       ];
-  heads = reach_put s.heads t.heads n false a;
-  doomed = reach_put s.doomed t.doomed n false b;
+  heads = omega (arith, a);
+  doomed = omega (arith, b);
 }
 
 -- What an event leaves as it was.
@@ -144,14 +105,8 @@ pub stands_apart : (w v : Window) (g h : Groups) (k : ℕ) → at v k ≡ at w k
 stands_apart w v g h k same others = go (at w k) refl
   where
     go : (o : Option Request) → at w k ≡ o → StandsAsBefore w v g h k
-    go None e = record {
-      head = ap (λ o. waits_at_head h o k) (same ∙ e) ∙ sym (ap (λ o. waits_at_head g o k) e);
-      doomed = ap (λ o. waits_doomed h o k) (same ∙ e) ∙ sym (ap (λ o. waits_doomed g o k) e);
-    }
-    go (Some x) e = record {
-      head = ap (λ o. waits_at_head h o k) (same ∙ e) ∙ ap (λ p. not x.is_running && leads p k) (others x e) ∙ sym (ap (λ o. waits_at_head g o k) e);
-      doomed = ap (λ o. waits_doomed h o k) (same ∙ e) ∙ ap (λ p. not x.is_running && (dooms p k || x.is_cancelled)) (others x e) ∙ sym (ap (λ o. waits_doomed g o k) e);
-    }
+    go None e = record { head = rw (same, e); doomed = rw (same, e) }
+    go (Some x) e = record { head = rw (same, e, others x e); doomed = rw (same, e, others x e) }
 
 -- the request k of a group that leads and dooms it as before
 pub stands_in : (w v : Window) (g h : Groups) (k : ℕ) (x : Request) (p q : Group) → at v k ≡ at w k
@@ -159,141 +114,64 @@ pub stands_in : (w v : Window) (g h : Groups) (k : ℕ) (x : Request) (p q : Gro
     → leads (Some p) k ≡ leads (Some q) k → dooms (Some p) k ≡ dooms (Some q) k
     → StandsAsBefore w v g h k
 stands_in w v g h k x p q same e was now leads_on dooms_on = record {
-  head =
-      ap (λ o. waits_at_head h o k) (same ∙ e) ∙ ap (λ o. not x.is_running && leads o k) now ∙ ap (λ b. not x.is_running && b) leads_on
-      ∙ sym (ap (λ o. waits_at_head g o k) e ∙ ap (λ o. not x.is_running && leads o k) was);
-  doomed =
-      ap (λ o. waits_doomed h o k) (same ∙ e) ∙ ap (λ o. not x.is_running && (dooms o k || x.is_cancelled)) now
-      ∙ ap (λ b. not x.is_running && (b || x.is_cancelled)) dooms_on
-      ∙ sym (ap (λ o. waits_doomed g o k) e ∙ ap (λ o. not x.is_running && (dooms o k || x.is_cancelled)) was);
+  head = rw (same, e, now, was) (ap (λ b. not x.is_running && b) leads_on);
+  doomed = rw (same, e, now, was) (ap (λ b. not x.is_running && (b || x.is_cancelled)) dooms_on);
 }
 
 -- A request ends.
 
--- the last member of its group
-pub stands_ended_last : (w v : Window) (g h : Groups) (n : ℕ) (request : Request) (q : Group) (least k : ℕ)
-    → IsSound w g → Ends w v g h n request q None → IsNext v q.least q.end least → least ≡ q.end
-    → k ≢ n → StandsAsBefore w v g h k
-stands_ended_last w v g h n request q least k s e next all ne =
-    let kept = s.kept request.group q e.group in
-    let same = e.changes.others k ne in
-    stands_apart w v g h k same
-    (λ x is.
-    e.exchange.others x.group
-    (λ here.
-    let link = linked _ _ k x s is in
-    let one : link.group ≡ q = same_Some _ _ (sym link.found ∙ ap (group_at g) here ∙ e.group) in
-    let from : q.from ≤ k = let P : Group → Type 0 = λ z. z.from ≤ k in subst P one link.from in
-    let to : k < q.end = let P : Group → Type 0 = λ z. k < z.end in subst P one link.to in
-    elim (cases_lt k q.least) [
-      | inl low ↦ some_none x _ (vacant w k (kept.over k from low)) is
-      | inr high ↦ some_none x _ (next.over k high (omega arith)) (same ∙ is)
-    ]))
-
--- another member of its group is outstanding
-pub stands_ended_more : (w v : Window) (g h : Groups) (n : ℕ) (request : Request) (q p : Group) (least k : ℕ) (breaks : Bool)
-    → IsSound w g → Ends w v g h n request q (Some p) → IsNext v q.least q.end least
-    → p.least ≡ least → p.fault ≡ q.fault → p.broken ≡ earlier_of q.broken breaks n
-    → (breaks ≡ true → k < q.end → (k < n) ⊎ (is_before q.broken k ≡ true)) → k ≢ n → k ≢ least
-    → StandsAsBefore w v g h k
-stands_ended_more w v g h n request q p least k breaks s e next is_least fault broken after ne_n ne_least =
-    go (at w k) refl
+pub stands_ended : {w v : Window} {g h : Groups} {n : ℕ} {request : Request} {q : Group} {least k : ℕ} {broken : Option ℕ}
+    → IsSound w g → Ends w v g h n request q least broken → (breaks : Bool)
+    → (least < q.end → broken ≡ earlier_of q.broken breaks n)
+    → (breaks ≡ true → k < q.end → (k < n) ⊎ (is_before q.broken k ≡ true)) → k ≢ n
+    → (least < q.end → k ≢ least) → StandsAsBefore w v g h k
+stands_ended {w} {v} {g} {h} {n} {request} {q} {least} {k} {broken} s e breaks broken_is after ne_n ne_least = go (at w k) refl
   where
     same : at v k ≡ at w k
     same = e.changes.others k ne_n
 
     go : (o : Option Request) → at w k ≡ o → StandsAsBefore w v g h k
-    go None is = stands_apart w v g h k same (λ x there. some_none x _ is there)
+    go None is = stands_apart w v g h k same (λ x there. some_none is there)
     go (Some x) is =
         elim (cases_eq x.group request.group) [
           | inr apart ↦
-              stands_apart w v g h k same
-              (λ y there. let one : x ≡ y = same_Some _ _ (sym is ∙ there) in
-              let P : Request → Type 0 = λ z. group_at h z.group ≡ group_at g z.group in subst P one (e.exchange.others x.group apart))
+              stands_apart w v g h k same (λ y there. rw (same_Some y x (sym there ∙ is)) (e.exchange.others x.group apart))
           | inl here ↦
-              let was = ap (group_at g) here ∙ e.group in
-              let now = ap (group_at h) here ∙ e.exchange.here in
-              let link = linked _ _ k x s is in
-              let one : link.group ≡ q = same_Some _ _ (sym link.found ∙ was) in
-              let to : k < q.end = let P : Group → Type 0 = λ z. k < z.end in subst P one link.to in
-              let led : q.least ≢ k =
-              λ is_first.
-              elim (cases_lt k least) [
-                | inl low ↦ some_none x _ (next.over k (omega arith) low) (same ∙ is)
-                | inr high ↦ let up = next.from_on in absurd (ne_least (omega arith))
-              ]
-              in
-              stands_in w v g h k x p q same is was now
-              (ne_eqb p.least k (λ z. ne_least (sym z ∙ is_least)) ∙ sym (ne_eqb q.least k led))
-              (ap (λ f. is_some f || is_before p.broken k) fault
-              ∙ ap (λ b. is_some q.fault || is_before b k) broken
-              ∙ ap (λ b. is_some q.fault || b) (before_earlier q.broken breaks n k (λ t. after t to)))
+              let inside = left_member s e (same ∙ is) here in
+              let lt : least < q.end = omega (arith, inside.1, inside.2) in
+              let later = ne_least lt in
+              let led : q.least ≢ k = λ first. absurd (omega (arith, e.next.from_on, inside.1)) in
+              stands_in w v g h k x (left_with q least broken) q same is (ap (group_at g) here ∙ e.group) (ap (group_at h) here ∙ e.exchange.here ∙ e.some lt)
+              (ne_eqb least k (λ z. later (sym z)) ∙ sym (ne_eqb q.least k led))
+              (ap (λ b. is_some q.fault || is_before b k) (broken_is lt)
+              ∙ ap (λ b. is_some q.fault || b) (before_earlier q.broken breaks n k (λ t. after t inside.2)))
         ]
 
 -- What is covered.
-
-pub within_end : (w : Window) (n : ℕ) → is_some (at w n) ≡ true → n < end_of w
-within_end w n there =
-    elim (cases_lt n (end_of w)) [
-      | inl low ↦ low
-      | inr past ↦ absurd (both_ways _ (ap is_some (at_past w n past)) there)
-    ]
-
-covers_outstanding : (w : Window) (s : NumberSet) (n : ℕ) → Reaches w s → is_some (at w n) ≡ true
-    → Covers s n
-covers_outstanding w s n r there =
-    let low = r.low n there in
-    let within = within_end w n there in
-    let stop = r.stop in
-    record { from = low; to = omega arith }
 
 -- what can be told of an outstanding request
 pub tell_outstanding : (w : Window) (g : Groups) (s : Waiting) (n : ℕ) → IsListed w g s
     → is_some (at w n) ≡ true → CanTell s n
 tell_outstanding w g s n l there =
-    record { heads = covers_outstanding w s.heads n l.heads there; doomed = covers_outstanding w s.doomed n l.doomed there }
-
-covers_after : (w : Window) (s : NumberSet) (n k : ℕ) → Reaches w s → is_some (at w n) ≡ true
-    → n ≤ k → k < end_of w → Covers s k
-covers_after w s n k r there from to =
-    let low = r.low n there in
-    let stop = r.stop in
-    record { from = omega arith; to = omega arith }
+    omega (arith, l.heads.stop, l.doomed.stop, l.heads.low n there, l.doomed.low n there, within_end w n there)
 
 -- and of one after it
 pub tell_after : (w : Window) (g : Groups) (s : Waiting) (n k : ℕ) → IsListed w g s
     → is_some (at w n) ≡ true → n ≤ k → k < end_of w → CanTell s k
 tell_after w g s n k l there from to =
-    record { heads = covers_after w s.heads n k l.heads there from to; doomed = covers_after w s.doomed n k l.doomed there from to }
+    omega (arith, l.heads.stop, l.doomed.stop, l.heads.low n there, l.doomed.low n there)
 
 -- fewer requests are outstanding
 pub reaches_fewer : (w v : Window) (s t : NumberSet) → Reaches w s → end_of v ≡ end_of w
     → ((k : ℕ) → is_some (at v k) ≡ true → is_some (at w k) ≡ true) → IsSameReach s t → Reaches v t
 reaches_fewer w v s t r end fewer same =
-    let start = r.start in
-    let stop = r.stop in
-    let a = same.start in
-    let b = same.stop in
-    let c = r.few in
+    let few = r.few in
     record { start = omega arith; stop = omega arith; few = omega arith; low = λ k there. let low = r.low k (fewer k there) in omega arith }
 
 -- a set covers a number more, and is then told of numbers that it covers
 pub grows_told : (s t u : NumberSet) (n : ℕ) → HasGrown s t n → IsSameReach t u → GrowsTo s u n
 grows_told s t u n g r =
-    let start = g.start in
-    let limit = g.same.limit in
-    let longer = g.longer in
-    let covered = g.covered in
-    let a = r.start in
-    let b = r.stop in
-    let c = r.limit in
-    record {
-      start = omega arith;
-      longer = omega arith;
-      covered = omega arith;
-      few = λ m old below. let most = g.few m old below in omega arith;
-      limit = omega arith;
-    }
+    record { start = omega arith; longer = omega arith; covered = omega arith; few = λ m old below. let most = g.few m old below in omega arith; limit = omega arith }
 
 -- what was let go at the front isn't needed
 pub reaches_moved : (w : Window) (s t : NumberSet) (first : ℕ) → Reaches w s → HasMoved s t first
@@ -327,11 +205,7 @@ pub end_listed : (w v : Window) (g h : Groups) (s t u : Waiting) (n head stop fi
     → ((k : ℕ) → k < first → at v k ≡ None) → IsListed v h u
 end_listed w v g h s t u n head stop first l c end others keeps own at_head between x y within before =
     let fewer : (k : ℕ) → is_some (at v k) ≡ true → is_some (at w k) ≡ true =
-    λ k there.
-    elim (cases_eq k n) [
-      | inl same ↦ absurd (both_ways _ (ap is_some (ap (at v) same ∙ c.here)) there)
-      | inr other ↦ ap is_some (sym (c.others k other)) ∙ there
-    ]
+    λ k there. let q = is_some_value (at v k) there in ap is_some (before_end c q.1).1
     in
     record {
       told = λ k. told_moved v h t u k first first (one k) x y;
@@ -365,31 +239,18 @@ end_listed w v g h s t u n head stop first l c end others keeps own at_head betw
         ]
 
 -- A request was written, and it was told of anew.
-pub write_listed : (w v : Window) (g : Groups) (s t : Waiting) (n : ℕ) (q : Request)
-    → IsListed w g s → is_some (at w n) ≡ true → Changes w v n (Some q) → end_of v ≡ end_of w
-    → Keeps v g s t → IsListedAt v g t n → IsListed v g t
-write_listed w v g s t n q l there c end keeps own =
-    let as_many : (k : ℕ) → is_some (at v k) ≡ true → is_some (at w k) ≡ true =
-    λ k some.
-    elim (cases_eq k n) [
-      | inl same ↦ ap (λ j. is_some (at w j)) same ∙ there
-      | inr other ↦ ap is_some (sym (c.others k other)) ∙ some
-    ]
-    in
+pub restarted_listed : (w v : Window) (g h : Groups) (s t : Waiting) (n : ℕ) (q : Request)
+    → IsListed w g s → is_some (at w n) ≡ true → Changes w v n (Some q) → end_of v ≡ end_of w → h ≡ g
+    → Keeps v h s t → IsListedAt v h t n → IsListed v h t
+restarted_listed w v g h s t n q l there c end same_groups keeps own =
+    let told : (k : ℕ) → IsListedAt w h s k = rw same_groups l.told in
+    let as_many : (k : ℕ) → is_some (at v k) ≡ true → is_some (at w k) ≡ true = λ k some. sym (still_there c there k) ∙ some in
     record {
       told = λ k.
           elim (cases_eq k n) [
-            | inl same ↦ let P : ℕ → Type 0 = λ j. IsListedAt v g t j in subst P (sym same) own
-            | inr other ↦ keeps.told k (told_before w v g g s k (l.told k) (stands_same w v g k (c.others k other)))
+            | inl same ↦ rw same own
+            | inr other ↦ keeps.told k (told_before w v h h s k (told k) (stands_same w v h k (c.others k other)))
           ];
       heads = reaches_fewer w v s.heads t.heads l.heads end as_many keeps.heads;
       doomed = reaches_fewer w v s.doomed t.doomed l.doomed end as_many keeps.doomed;
     }
-
--- and the groups stayed as they were
-pub restarted_listed : (w v : Window) (g h : Groups) (s t : Waiting) (n : ℕ) (q : Request)
-    → IsListed w g s → is_some (at w n) ≡ true → Changes w v n (Some q) → end_of v ≡ end_of w → h ≡ g
-    → Keeps v h s t → IsListedAt v h t n → IsListed v h t
-restarted_listed w v g h s t n q l there c end same keeps own =
-    let P : Groups → Type 0 = λ x. IsListed w x s in
-    write_listed w v h s t n q (subst P (sym same) l) there c end keeps own

@@ -6,8 +6,7 @@ use Rattle.uring_dispatch.specs.declared.request.Request.{Request}
 use Rattle.uring_dispatch.specs.Window.{Window, key_at, found_by, at, end_of, runs, one_if, IsWindow, IsTrimmed, IsFirst, HasBefore, started, chosen}
 use Rattle.std.specs.Prelude.{IfSome}
 use Rattle.uring_dispatch.proofs.Counting.{count_below_some, count_below_within}
-use Rattle.uring_dispatch.proofs.WindowLemmas.{key_at_low, key_at_high, key_at_past, key_at_within, at_keyed}
-use Rattle.uring_dispatch.proofs.WindowEvents.{write_window}
+use Rattle.uring_dispatch.proofs.WindowLemmas.{key_at_low, key_at_high, key_at_past, key_at_within, at_keyed, write_window}
 use Rattle.uring_dispatch.proofs.HeldLemmas.{some_none}
 
 -- The front.
@@ -45,8 +44,8 @@ first_outstanding w i t lt =
 
 pub empty_window : IsWindow (record { first = 0; keys = []; requests = []; outstanding = 0; running = 0; room = 0 })
 empty_window = record {
-  present = λ n k e. some_none k _ (key_at_past 0 [] n (omega arith)) e;
-  distinct = λ m n k a b. some_none k _ (key_at_past 0 [] n (omega arith)) b;
+  present = λ n k e. some_none (key_at_past 0 [] n (omega arith)) e;
+  distinct = λ m n k a b. some_none (key_at_past 0 [] n (omega arith)) b;
   counted = refl;
   fits = omega arith;
 }
@@ -80,26 +79,26 @@ running_fits w i =
     let few = count_below_within (λ n. runs (at w n)) (end_of w) in omega (arith, i.counted, i.fits)
 
 -- request n was started, or chosen
-pub start_window : (w : Window) (requests : List (Option Request)) (n key outstanding : ℕ)
-    → IsWindow w → key_at w.first w.keys n ≡ Some key → is_some (at w n) ≡ true
-    → runs (at w n) ≡ false
-    → ((q : Request) → get_or w.requests key None ≡ Some q → get_or requests key None ≡ Some (started q))
-    → ((k : ℕ) → k ≢ key → get_or requests k None ≡ get_or w.requests k None)
-    → IsWindow (record w { requests = requests; outstanding = outstanding; running = w.running + 1 })
-start_window w requests n key outstanding i e there waits here others =
-    let found = is_some_value (at w n) there in
-    let one : one_if (runs (at w n)) ≡ 0 = ap one_if waits in
-    write_window w requests n key outstanding (w.running + 1) (started found.0) i e (here found.0 (sym (by_key w n key e) ∙ found.1)) others (omega arith)
+module _ (w : Window) (requests : List (Option Request)) (n key outstanding : ℕ) (i : IsWindow w) (e : key_at w.first w.keys n ≡ Some key) (there : is_some (at w n) ≡ true) where
+  write_by : (f : Request → Request) (running : ℕ)
+      → ((q : Request) → at w n ≡ Some q → running + one_if (runs (at w n)) ≡ w.running + one_if (f q).is_running)
+      → ((q : Request) → get_or w.requests key None ≡ Some q → get_or requests key None ≡ Some (f q))
+      → ((k : ℕ) → k ≢ key → get_or requests k None ≡ get_or w.requests k None)
+      → IsWindow (record w { requests = requests; outstanding = outstanding; running = running })
+  write_by f running counts here others =
+      let found = is_some_value (at w n) there in
+      write_window w requests n key outstanding running (f found.0) i e (here found.0 (sym (by_key w n key e) ∙ found.1)) others (counts found.0 found.1)
 
-pub choose_window : (w : Window) (requests : List (Option Request)) (n key outstanding : ℕ)
-    → IsWindow w → key_at w.first w.keys n ≡ Some key → is_some (at w n) ≡ true
-    → ((q : Request) → get_or w.requests key None ≡ Some q → get_or requests key None ≡ Some (chosen q))
-    → ((k : ℕ) → k ≢ key → get_or requests k None ≡ get_or w.requests k None)
-    → IsWindow (record w { requests = requests; outstanding = outstanding })
-choose_window w requests n key outstanding i e there here others =
-    let found = is_some_value (at w n) there in
-    write_window w requests n key outstanding w.running (chosen found.0) i e (here found.0 (sym (by_key w n key e) ∙ found.1)) others
-    (ap (λ o. w.running + one_if (runs o)) found.1)
+  pub start_window : runs (at w n) ≡ false
+      → ((q : Request) → get_or w.requests key None ≡ Some q → get_or requests key None ≡ Some (started q))
+      → ((k : ℕ) → k ≢ key → get_or requests k None ≡ get_or w.requests k None)
+      → IsWindow (record w { requests = requests; outstanding = outstanding; running = w.running + 1 })
+  start_window waits = write_by started (w.running + 1) (λ q is. let one : one_if (runs (at w n)) ≡ 0 = ap one_if waits in omega arith)
+
+  pub choose_window : ((q : Request) → get_or w.requests key None ≡ Some q → get_or requests key None ≡ Some (chosen q))
+      → ((k : ℕ) → k ≢ key → get_or requests k None ≡ get_or w.requests k None)
+      → IsWindow (record w { requests = requests; outstanding = outstanding })
+  choose_window = write_by chosen w.running (λ q is. ap (λ o. w.running + one_if (runs o)) is)
 
 -- who runs is counted
 pub runs_counted : (w : Window) (n key : ℕ) → IsWindow w → key_at w.first w.keys n ≡ Some key
@@ -123,6 +122,10 @@ ended_counted w n key q i e is =
 -- past the end there is nothing
 pub at_past : (w : Window) (n : ℕ) → end_of w ≤ n → at w n ≡ None
 at_past w n le = at_keyed w n None (key_at_past w.first w.keys n le)
+
+pub within_end : (w : Window) (n : ℕ) → is_some (at w n) ≡ true → n < end_of w
+within_end w n there =
+    elim (cases_lt n (end_of w)) [ inl low ↦ low | inr past ↦ absurd (both_ways _ (ap is_some (at_past w n past)) there) ]
 
 pub at_room : (w : Window) (room n : ℕ) → at (record w { room = room }) n ≡ at w n
 unfolding at

@@ -1,12 +1,16 @@
--- The window: what is found by a number, from the keys and the requests.
-use Rattle.std.proofs.Common.{◌≡◌, ◌≢◌, ℕ, suc, ◌+◌, ◌-◌, ◌<◌, ◌≤◌, List, [], ◌∷◌, ◌++◌, length, get_or, set, Option, Some, None, refl, sym, ◌∙◌, ap, arith, inl, inr}
+-- The window: what is found by a number, from the keys and the requests, and what the events keep: each key has a request, none stands twice, and the running requests are counted.
+use Rattle.std.proofs.Common.{◌≡◌, ◌≢◌, ℕ, suc, ◌+◌, ◌-◌, ◌<◌, ◌≤◌, List, [], ◌∷◌, ◌++◌, length, get_or, set, Option, Some, None, refl, sym, ◌∙◌, ap, arith, inl, inr, ◌⊎◌, false, is_some, length-append}
 use Rattle.std.specs.Prelude.{if◌then◌else◌}
-use Rattle.std.proofs.lemmas.Bool.{cases_lt, cases_eq, lt-ltb, le-ltb}
-use Rattle.std.proofs.lemmas.List.{get_or_past, get_or-set_same, get_or-set_other}
+use Rattle.std.proofs.lemmas.Bool.{cases_lt, cases_eq, lt-ltb, le-ltb, both_ways}
+use Rattle.std.proofs.lemmas.List.{get_or_past, get_or-set_same, get_or-set_other, length-set}
 use Rattle.std.proofs.Math.Seq.{get_or-append_seam}
 use Rattle.uring_entry.proofs.RequestLemmas.{get_or_push_other}
-use Rattle.uring_dispatch.specs.Window.{Window, key_at, found_by, at}
+use Rattle.uring_dispatch.specs.Window.{Window, key_at, found_by, at, end_of, runs, one_if, IsWindow, Changes}
 use Rattle.uring_dispatch.proofs.HeldLemmas.{some_none}
+use Rattle.std.proofs.lemmas.Option.{same_Some}
+use Rattle.uring_dispatch.specs.declared.request.Request.{Request}
+use Rattle.uring_entry.specs.Below.{count_below}
+use Rattle.uring_dispatch.proofs.Counting.{count_below_same, count_below_changed}
 
 pub key_at_low : (first : ℕ) (keys : List (Option ℕ)) (n : ℕ) → n < first
     → key_at first keys n ≡ None
@@ -30,11 +34,11 @@ pub key_at_within : (first : ℕ) (keys : List (Option ℕ)) (n key : ℕ)
     → key_at first keys n ≡ Some key → (first ≤ n) × (n < first + length keys)
 key_at_within first keys n key e =
     elim (cases_lt n first) [
-      | inl low ↦ some_none key _ (key_at_low first keys n low) e
+      | inl low ↦ some_none (key_at_low first keys n low) e
       | inr high ↦
           elim (cases_lt n (first + length keys)) [
             | inl inside ↦ (high, inside)
-            | inr past ↦ some_none key _ (key_at_past first keys n past) e
+            | inr past ↦ some_none (key_at_past first keys n past) e
           ]
     ]
 
@@ -101,3 +105,170 @@ at_keyed w n key e = ap (found_by w.requests) e
 pub at_key : (w : Window) (n : ℕ) → at w n ≡ found_by w.requests (key_at w.first w.keys n)
 unfolding at
 at_key w n = refl
+
+-- What the changes of the window keep.
+
+found_other : (was now : List (Option Request)) (key : ℕ) (o : Option ℕ)
+    → ((k : ℕ) → k ≢ key → get_or now k None ≡ get_or was k None) → ((k : ℕ) → o ≡ Some k → k ≢ key)
+    → found_by now o ≡ found_by was o
+found_other was now key None h ne = refl
+found_other was now key (Some k) h ne = h k (ne k refl)
+
+-- A request of a new key is pushed.
+
+module _ (w : Window) (requests : List (Option Request)) (key outstanding room : ℕ) (q : Request) (i : IsWindow w) (vacant : get_or w.requests key None ≡ None) (here : get_or requests key None ≡ Some q) (others : (k : ℕ) → k ≢ key → get_or requests k None ≡ get_or w.requests k None) where
+  abbrev pushed : Window
+  pushed = record { first = w.first; keys = w.keys ++ Some key ∷ []; requests = requests; outstanding = outstanding; running = w.running; room = room }
+
+  -- no number had the key
+  unused : (n k : ℕ) → key_at w.first w.keys n ≡ Some k → k ≢ key
+  unused n k e same = both_ways _ (ap is_some (ap (λ j. get_or w.requests j None) same ∙ vacant)) (i.present n k e)
+
+  pub push_changes : Changes w pushed (end_of w) (Some q)
+  push_changes = record {
+    here = at_keyed pushed (end_of w) (Some key) (key_at_push_here w.first w.keys (Some key)) ∙ here;
+    others = λ k ne.
+        at_keyed pushed k (key_at w.first w.keys k) (key_at_push_other w.first w.keys (Some key) k ne)
+        ∙ found_other w.requests requests key (key_at w.first w.keys k) others (λ j e. unused k j e) ∙ sym (at_key w k);
+  }
+
+  push_cases : (n k : ℕ) → key_at w.first (w.keys ++ Some key ∷ []) n ≡ Some k
+      → ((n ≡ end_of w) × (k ≡ key)) ⊎ (key_at w.first w.keys n ≡ Some k)
+  push_cases n k e =
+      elim (cases_eq n (end_of w)) [
+        | inl same ↦
+            inl (same, same_Some k key (sym e ∙ ap (key_at w.first (w.keys ++ Some key ∷ [])) same ∙ key_at_push_here w.first w.keys (Some key)))
+        | inr other ↦ inr (sym (key_at_push_other w.first w.keys (Some key) n other) ∙ e)
+      ]
+
+  pub push_window : q.is_running ≡ false → room + 1 ≡ w.room → IsWindow pushed
+  push_window waits less =
+      let longer : length (w.keys ++ Some key ∷ []) ≡ length w.keys + 1 = length-append w.keys (Some key ∷ []) in
+      let end : end_of pushed ≡ suc (end_of w) = omega arith in
+      record {
+        present = λ n k e.
+            elim (push_cases n k e) [
+              | inl new ↦ ap (λ j. is_some (get_or requests j None)) new.1 ∙ ap is_some here
+              | inr old ↦ ap is_some (others k (unused n k old)) ∙ i.present n k old
+            ];
+        distinct = λ m n k a b.
+            elim (push_cases m k a) [
+              | inl new ↦ elim (push_cases n k b) [ inl again ↦ new.0 ∙ sym again.0 | inr old ↦ absurd (unused n k old new.1) ]
+              | inr was ↦ elim (push_cases n k b) [ inl new ↦ absurd (unused m k was new.1) | inr old ↦ i.distinct m n k was old ]
+            ];
+        counted =
+            let before : count_below (λ n. runs (at pushed n)) (end_of w) ≡ count_below (λ n. runs (at w n)) (end_of w) =
+            count_below_same (λ n. runs (at pushed n)) (λ n. runs (at w n)) (end_of w) (λ k lt. ap runs (push_changes.others k (λ e. absurd (omega (arith, e)))))
+            in
+            let last : one_if (runs (at pushed (end_of w))) ≡ 0 = ap (λ o. one_if (runs o)) push_changes.here ∙ ap one_if waits in
+            let whole : count_below (λ n. runs (at pushed n)) (end_of pushed) ≡ count_below (λ n. runs (at pushed n)) (suc (end_of w)) = ap (count_below (λ n. runs (at pushed n))) end in
+            omega (arith, i.counted);
+        fits = omega (arith, i.fits);
+      }
+
+-- another number has another key
+other_key : (w : Window) (n k key : ℕ) → IsWindow w → key_at w.first w.keys n ≡ Some key → k ≢ n
+    → (j : ℕ) → key_at w.first w.keys k ≡ Some j → j ≢ key
+other_key w n k key i e ne j is same = ne (i.distinct k n key (is ∙ ap Some same) e)
+
+-- A request is written under the key of its number.
+
+module _ (w : Window) (requests : List (Option Request)) (n key outstanding running : ℕ) (q : Request) (i : IsWindow w) (e : key_at w.first w.keys n ≡ Some key) (here : get_or requests key None ≡ Some q) (others : (k : ℕ) → k ≢ key → get_or requests k None ≡ get_or w.requests k None) where
+  abbrev rewritten : Window
+  rewritten = record w { requests = requests; outstanding = outstanding; running = running }
+
+  pub write_changes : Changes w rewritten n (Some q)
+  write_changes = record {
+    here = at_keyed rewritten n (Some key) e ∙ here;
+    others = λ k ne.
+        at_key rewritten k ∙ found_other w.requests requests key (key_at w.first w.keys k) others (other_key w n k key i e ne) ∙ sym (at_key w k);
+  }
+
+  pub write_window : running + one_if (runs (at w n)) ≡ w.running + one_if q.is_running
+      → IsWindow rewritten
+  write_window count = record {
+    present = λ m k is.
+        elim (cases_eq k key) [
+          | inl same ↦ ap (λ j. is_some (get_or requests j None)) same ∙ ap is_some here
+          | inr other ↦ ap is_some (others k other) ∙ i.present m k is
+        ];
+    distinct = i.distinct;
+    counted =
+        let inside = key_at_within w.first w.keys n key e in
+        let change : count_below (λ m. runs (at rewritten m)) (end_of w) + one_if (runs (at w n)) ≡ count_below (λ m. runs (at w m)) (end_of w) + one_if (runs (at rewritten n)) =
+        count_below_changed (λ m. runs (at w m)) (λ m. runs (at rewritten m)) (end_of w) n inside.1 (λ k ne. ap runs (write_changes.others k ne))
+        in
+        let now : one_if (runs (at rewritten n)) ≡ one_if q.is_running = ap (λ o. one_if (runs o)) write_changes.here in
+        omega (arith, i.counted);
+    fits = i.fits;
+  }
+
+-- The request of a number ends.
+
+module _ (w : Window) (requests : List (Option Request)) (n key outstanding running : ℕ) (i : IsWindow w) (e : key_at w.first w.keys n ≡ Some key) (others : (k : ℕ) → k ≢ key → get_or requests k None ≡ get_or w.requests k None) where
+  abbrev without : Window
+  without = record w { keys = set w.keys (n - w.first) None; requests = requests; outstanding = outstanding; running = running }
+
+  pub end_changes : Changes w without n None
+  end_changes =
+      let inside = key_at_within w.first w.keys n key e in
+      record {
+        here = at_keyed without n None (key_at_set_here w.first w.keys None n inside.0 inside.1);
+        others = λ k ne.
+            at_keyed without k (key_at w.first w.keys k) (key_at_set_other w.first w.keys None n k inside.0 ne)
+            ∙ found_other w.requests requests key (key_at w.first w.keys k) others (other_key w n k key i e ne) ∙ sym (at_key w k);
+      }
+
+  end_cases : (k j : ℕ) → key_at w.first (set w.keys (n - w.first) None) k ≡ Some j
+      → (k ≢ n) × (key_at w.first w.keys k ≡ Some j)
+  end_cases k j is =
+      let inside = key_at_within w.first w.keys n key e in
+      elim (cases_eq k n) [
+        | inl same ↦ some_none (ap (key_at w.first (set w.keys (n - w.first) None)) same ∙ key_at_set_here w.first w.keys None n inside.0 inside.1) is
+        | inr other ↦ (other, sym (key_at_set_other w.first w.keys None n k inside.0 other) ∙ is)
+      ]
+
+  pub end_window : (q : Request) → get_or w.requests key None ≡ Some q
+      → running + one_if q.is_running ≡ w.running → IsWindow without
+  end_window q is count =
+      let inside = key_at_within w.first w.keys n key e in
+      let long : length (set w.keys (n - w.first) None) ≡ length w.keys = length-set w.keys (n - w.first) None in
+      let end : end_of without ≡ end_of w = omega arith in
+      record {
+        present = λ m k at_m.
+            let old = end_cases m k at_m in ap is_some (others k (other_key w n m key i e old.0 k old.1)) ∙ i.present m k old.1;
+        distinct = λ a b k x y. i.distinct a b k (end_cases a k x).1 (end_cases b k y).1;
+        counted =
+            let change : count_below (λ m. runs (at without m)) (end_of w) + one_if (runs (at w n)) ≡ count_below (λ m. runs (at w m)) (end_of w) + one_if (runs (at without n)) =
+            count_below_changed (λ m. runs (at w m)) (λ m. runs (at without m)) (end_of w) n inside.1 (λ k ne. ap runs (end_changes.others k ne))
+            in
+            let ran : one_if (runs (at w n)) ≡ one_if q.is_running = ap (λ o. one_if (runs o)) (at_keyed w n (Some key) e ∙ is) in
+            let now : one_if (runs (at without n)) ≡ 0 = ap (λ o. one_if (runs o)) end_changes.here in
+            let whole : count_below (λ m. runs (at without m)) (end_of without) ≡ count_below (λ m. runs (at without m)) (end_of w) = ap (count_below (λ m. runs (at without m))) end in
+            omega (arith, i.counted);
+        fits = omega (arith, i.fits);
+      }
+
+-- the front is trimmed
+pub trim_window : (w : Window) (first : ℕ) (keys : List (Option ℕ))
+    → ((n : ℕ) → key_at first keys n ≡ key_at w.first w.keys n) → first + length keys ≡ end_of w
+    → IsWindow w → IsWindow (record w { first = first; keys = keys })
+trim_window w first keys same end i =
+    let v : Window = record w { first = first; keys = keys } in
+    record {
+      present = λ n k e. i.present n k (sym (same n) ∙ e);
+      distinct = λ m n k a b. i.distinct m n k (sym (same m) ∙ a) (sym (same n) ∙ b);
+      counted =
+          i.counted
+          ∙ count_below_same (λ n. runs (at w n)) (λ n. runs (at v n)) (end_of w) (λ k lt. ap runs (at_key w k ∙ ap (found_by w.requests) (sym (same k)) ∙ sym (at_key v k)))
+          ∙ ap (count_below (λ n. runs (at v n))) (sym end);
+      fits = omega (arith, i.fits);
+    }
+
+pub trim_changes : (u w : Window) (first : ℕ) (keys : List (Option ℕ)) (n : ℕ)
+    → ((k : ℕ) → key_at first keys k ≡ key_at w.first w.keys k) → Changes u w n None
+    → Changes u (record w { first = first; keys = keys }) n None
+trim_changes u w first keys n same c =
+    let v : Window = record w { first = first; keys = keys } in
+    let kept : (k : ℕ) → at v k ≡ at w k = λ k. at_key v k ∙ ap (found_by w.requests) (same k) ∙ sym (at_key w k) in
+    record { here = kept n ∙ c.here; others = λ k ne. kept k ∙ c.others k ne }

@@ -10,16 +10,13 @@ use Rattle.uring_linux.specs.KeptDrains.{KeptDrains, accepted_drains, cut_drains
 use Rattle.uring_linux.specs.LinuxRequests.{LinuxRequests, is_past, asks_to_skip, is_let_in, no_request, with_last_entry, with_accepted, with_cut}
 use Rattle.uring_linux.specs.Window.{Window, new_request, end_of, Tells, Shows}
 use Rattle.uring_linux.specs.LinuxDispatch.{dispatch_of, ShowsRequests}
-use Rattle.uring_linux.proofs.WindowCounts.{unended_shown, running_shown}
+use Rattle.uring_linux.proofs.WindowCounts.{dispatch_shows}
 use Rattle.uring_linux.proofs.WindowEvents.{roomed, skipped_accepted, tells_new, none_shows}
 
 pub dispatch_new : (s : Window) (d : KeptDrains) → s ≡ record { first = 0; items = []; room = 0 }
     → d ≡ record { drains = no_drains; room = 0 }
     → ShowsRequests (dispatch_of s d false 0 true) no_request
-dispatch_new s d es ed =
-    subst (λ (x : Window). ShowsRequests (dispatch_of x d false 0 true) no_request) (sym es)
-    (subst (λ (y : KeptDrains). ShowsRequests (dispatch_of (record { first = 0; items = []; room = 0 }) y false 0 true) no_request) (sym ed)
-    (record { accepted = refl; outstanding = unended_shown _ _ none_shows; running = running_shown _ _ none_shows; held = record { window = none_shows; drains = refl; skipped = refl } }))
+dispatch_new s d es ed = rw (es, ed) (dispatch_shows (record { first = 0; items = []; room = 0 }) (record { drains = no_drains; room = 0 }) false 0 true no_request none_shows refl refl)
 
 -- an entry is taken, as the definitions say
 taken : (q : Request) (d e : Drains) (first second : Bool) (r : Requests) (n : ℕ) → Tells q r n → d ≡ e
@@ -43,21 +40,13 @@ dispatch_accepted s t d k b c room left between amid e q l first place h ec eq g
     let tells = subst (λ x. Tells x (manual.with_accepted r e) n) (sym eq) (tells_new r e c place (h.held.window.later n (omega arith)) skip) in
     let shows = g r e (roomed s.first s.items 0 s.room r h.held.window) tells in
     let more : length r.accepted + 1 ≡ length (r.accepted ++ e ∷ []) = sym (length-append r.accepted (e ∷ [])) in
-    record {
-      accepted = shows.count;
-      outstanding = unended_shown t (manual.with_accepted r e) shows;
-      running = running_shown t (manual.with_accepted r e) shows;
-      held = record {
-        window = roomed t.first t.items t.room 0 (manual.with_accepted r e) shows;
-        drains =
-            f (manual.with_accepted r e) shows
-            ∙ ap (λ (x : Request). accepted_drains (manual.with_accepted r e) (is_linked x.entry) (with_request d.drains first q)) eq
-            ∙ ap (accepted_drains (manual.with_accepted r e) (is_linked e))
-            (taken q d.drains l.drains first (d.drains.from == end_of s) (manual.with_accepted r e) n tells h.held.drains is
-            (ap (λ (x : Drains). x.from == end_of s) h.held.drains ∙ ap (λ x. l.drains.from == x) h.held.window.count));
-        skipped = skip ∙ ap (some_below (λ m. asks_to_skip (entry_of (manual.with_accepted r e) m))) more;
-      };
-    }
+    dispatch_shows t k c left amid (with_accepted l e) shows
+    (f (manual.with_accepted r e) shows
+    ∙ ap (λ (x : Request). accepted_drains (manual.with_accepted r e) (is_linked x.entry) (with_request d.drains first q)) eq
+    ∙ ap (accepted_drains (manual.with_accepted r e) (is_linked e))
+    (taken q d.drains l.drains first (d.drains.from == end_of s) (manual.with_accepted r e) n tells h.held.drains is
+    (ap (λ (x : Drains). x.from == end_of s) h.held.drains ∙ ap (λ x. l.drains.from == x) h.held.window.count)))
+    (skip ∙ ap (some_below (λ m. asks_to_skip (entry_of (manual.with_accepted r e) m))) more)
 
 pub dispatch_cut : (s t : Window) (d k : KeptDrains) (b : Bool) (room left : ℕ) (between amid : Bool) (l : LinuxRequests)
     → ShowsRequests (dispatch_of s d b room between) l
@@ -67,13 +56,4 @@ pub dispatch_cut : (s t : Window) (d k : KeptDrains) (b : Bool) (room left : ℕ
 dispatch_cut s t d k b room left between amid l h g f =
     let r = l.requests in
     let shows = g r (roomed s.first s.items 0 s.room r h.held.window) in
-    record {
-      accepted = shows.count;
-      outstanding = unended_shown t (manual.with_cut r) shows;
-      running = running_shown t (manual.with_cut r) shows;
-      held = record {
-        window = roomed t.first t.items t.room 0 (manual.with_cut r) shows;
-        drains = f (manual.with_cut r) shows ∙ ap (cut_drains (manual.with_cut r)) h.held.drains;
-        skipped = h.held.skipped;
-      };
-    }
+    dispatch_shows t k b left amid (with_cut l) shows (f (manual.with_cut r) shows ∙ ap (cut_drains (manual.with_cut r)) h.held.drains) h.held.skipped

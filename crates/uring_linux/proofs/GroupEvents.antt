@@ -94,18 +94,8 @@ starts_accepted r e n from lt s =
 
 pub grouped_started : (g : Group) (r : Requests) (n k : ℕ) → IsGrouped g r k → IsGrouped g (with_started r n) k
 grouped_started g r n k i = record {
-  starts = let s = i.starts in record { low = s.low; begins = s.begins; joined = s.joined };
-  told = λ is.
-      let t = i.told is in
-      let p = t.group in
-      record {
-        group = record { some = p.some; accepted = p.accepted; begins = p.begins; joined = p.joined; ends = p.ends };
-        low = t.low;
-        high = t.high;
-        ended = t.ended;
-        fault = t.fault;
-        broken = t.broken;
-      };
+  starts = let s = i.starts in assumption;
+  told = λ is. let t = i.told is in assumption;
 }
 
 -- A call closes.
@@ -122,7 +112,7 @@ grouped_cut g r k within i = record {
       };
   told = λ is.
       let t = i.told is in
-      record { group = group_cut r g.from g.end t.group; low = t.low; high = t.high; ended = t.ended; fault = t.fault; broken = t.broken };
+      let group = group_cut r g.from g.end t.group in assumption;
 }
 
 -- A request ends.
@@ -172,7 +162,7 @@ told_ended g r n res bytes breaks m going is =
 
 pub starts_ended : (r : Requests) (n : ℕ) (res : ℤ) (bytes : List ℕ) (k from : ℕ) → Starts r k from
     → Starts (with_ended r n res bytes) k from
-starts_ended r n res bytes k from s = record { low = s.low; begins = s.begins; joined = s.joined }
+starts_ended r n res bytes k from s = assumption
 
 -- another group than that of the request that ends
 pub told_elsewhere : (x g : Group) (r : Requests) (n : ℕ) (res : ℤ) (bytes : List ℕ) → IsMember r n g

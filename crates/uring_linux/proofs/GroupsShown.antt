@@ -81,15 +81,7 @@ pub record Regroups (u t : Window) (g : Group) : Type 0 where
   pub end : end_of t ≡ end_of u
 
 retold : (q : Request) (g : Group) (r : Requests) (n : ℕ) → Tells q r n → Tells (record q { group = g }) r n
-retold q g r n t = record {
-  entry = t.entry;
-  faulty = t.faulty;
-  refused = t.refused;
-  last = t.last;
-  running = t.running;
-  ended = t.ended;
-  failed = t.failed;
-}
+retold q g r n t = assumption
 
 regrouped_here : (u t : Window) (g : Group) (x : Request) → Regroups u t g → IsWithin u g.from
     → at t g.from ≡ Some x → (q : Request) × (at u g.from ≡ Some q) × (x ≡ record q { group = g })
@@ -214,8 +206,7 @@ pushed_shows s u t q r e joins faulty h amid is tells ef ei w =
       | inl last ↦
           let same : y ≡ x = let f : Some y ≡ Some x = sym there ∙ ap (at v) last ∙ at_push_here s x room in cc in
           let place : k ≡ n = last ∙ count in
-          subst (λ (z : Request). IsGrouped z.group (with_accepted r e) k) (sym same)
-          (subst (IsGrouped g (with_accepted r e)) (sym place) (grouped_last g (with_accepted r e) n told (joined_end joins n faulty) (λ f. apart (place ∙ sym f))))
+          rw (same, place) (grouped_last g (with_accepted r e) n told (joined_end joins n faulty) (λ f. apart (place ∙ sym f)))
       | inr other ↦
           let was : at s k ≡ Some y = sym (at_push_other s x room k other) ∙ there in
           let inside = (at_within s k y was).high in
@@ -239,8 +230,7 @@ written_grouped s q x r t n h here same f k y is =
       | inl place ↦
           let one : y ≡ x = let g : Some y ≡ Some x = sym is ∙ ap (at _) place ∙ at_set_here s x n w in cc in
           let high = w.high in
-          subst (λ (z : Request). IsGrouped z.group t k) (sym one)
-          (subst (λ z. IsGrouped z t k) (sym same) (f q.group k (omega arith) (h.grouped k q (ap (at s) place ∙ here))))
+          rw (one, same) (f q.group k (omega arith) (h.grouped k q (ap (at s) place ∙ here)))
       | inr other ↦
           let was : at s k ≡ Some y = sym (at_set_other s x n k w.low other) ∙ is in
           let inside = (at_within s k y was).high in

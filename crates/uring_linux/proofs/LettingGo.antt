@@ -11,7 +11,7 @@ use Rattle.uring_linux.specs.LinuxRequests.{LinuxRequests}
 use Rattle.uring_linux.specs.LinuxDispatch.{dispatch_of, ShowsRequests}
 use Rattle.uring_linux.proofs.WindowLemmas.{at_high, kept}
 use Rattle.uring_linux.proofs.WindowEvents.{at_within, roomed}
-use Rattle.uring_linux.proofs.WindowCounts.{at_place, there, unended_shown, running_shown}
+use Rattle.uring_linux.proofs.WindowCounts.{at_place, there, dispatch_shows}
 
 get_drop : (xs : List Request) (k i j : ℕ) → j ≡ k + i → slice_get (drop k xs) i ≡ slice_get xs j
 get_drop xs zero i j e = let same : i ≡ j = omega arith in ap (slice_get xs) same
@@ -39,9 +39,7 @@ left_from s t to first items over =
 left_end : (s t : Window) → IsLeft s t → end_of t ≡ end_of s
 left_end s t l =
     let long = ap length l.items ∙ length-drop (t.first - s.first) s.items in
-    let low = l.low in
-    let high = l.high in
-    omega arith
+    omega (arith, l.low, l.high)
 
 left_at : (s t : Window) (n : ℕ) → IsLeft s t → t.first ≤ n → at t n ≡ at s n
 left_at s t n l le =
@@ -111,14 +109,4 @@ pub dispatch_left : (s t : Window) (d : KeptDrains) (b : Bool) (room left : ℕ)
     → ((r : Requests) → Shows s r → Shows t r) → ShowsRequests (dispatch_of s d b room between) l
     → ShowsRequests (dispatch_of t d b left amid) l
 dispatch_left s t d b room left between amid l f h =
-    let shows = f l.requests (roomed s.first s.items 0 s.room l.requests h.held.window) in
-    record {
-      accepted = shows.count;
-      outstanding = unended_shown t l.requests shows;
-      running = running_shown t l.requests shows;
-      held = record {
-        window = roomed t.first t.items t.room 0 l.requests shows;
-        drains = h.held.drains;
-        skipped = h.held.skipped;
-      };
-    }
+    dispatch_shows t d b left amid l (f l.requests (roomed s.first s.items 0 s.room l.requests h.held.window)) h.held.drains h.held.skipped

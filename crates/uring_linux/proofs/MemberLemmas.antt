@@ -7,12 +7,13 @@ use Rattle.uring_entry.specs.Requests.{Requests, has_ended, is_last, is_joined, 
 use Rattle.uring_entry.specs.Groups.{IsGroup, first_member, is_before, first_broken}
 use Rattle.uring_entry.specs.Why.{failed_member_of}
 use Rattle.uring_entry.specs.Below.{least_below}
-use Rattle.uring_entry.proofs.BelowLemmas.{some_below_some, some_below_same, some_below_between, least_below_none, least_below_some, least_below_same, is_some_least_below}
+use Rattle.uring_entry.proofs.BelowLemmas.{some_below_some, least_below_none, least_below_some, least_below_same, is_some_least_below, least_below_out, least_below_tells}
 use Rattle.uring_entry.proofs.GroupLemmas.{joined_member, in_group_member}
 use Rattle.uring_entry.proofs.RequestLemmas.{is_joined_yes}
 use Rattle.uring_entry.proofs.WhyLemmas.{failed_member_before, failed_member_none}
 use Rattle.uring_linux.specs.LinuxRequests.{has_fault, is_in_faulty_group, is_in_turn, keeps_back, first_of}
 use Rattle.uring_linux.specs.Groups.{if_before}
+use Rattle.uring_linux.specs.LinuxWhy.{faulty_member_of}
 
 -- it is a request's turn if nobody keeps it back
 pub turn_is : (r : Requests) (n : ℕ) → is_in_turn r n ≡ not (is_some (least_below (keeps_back r n) n))
@@ -47,18 +48,36 @@ not_in_turn r n some amid going =
     (some_below_some (keeps_back r n) n (n - 1) (omega (arith, some))
     (and_from _ _ (is_joined_yes r (n - 1) n (λ k le lt. subst (λ j. is_last r j ≡ false) (omega (arith, le, lt, some)) amid)) (ap not going)))
 
-pub faulty_is : (r : Requests) (from end n : ℕ) → IsGroup r from end → from ≤ n → n < end
-    → is_in_faulty_group r n ≡ is_some (first_member (has_fault r) from end)
-unfolding is_in_faulty_group first_member
-faulty_is r from end n g high lt =
-    some_below_between (λ m. is_in_group r m n && has_fault r m) end (length r.accepted) g.accepted
+-- a bound that goes further, over numbers at which the test fails
+least_below_between : (p : ℕ → Bool) (n m : ℕ) → n ≤ m → ((k : ℕ) → n ≤ k → k < m → p k ≡ false)
+    → least_below p m ≡ least_below p n
+least_below_between p n m le h = go (least_below p n) refl
+  where
+    go : (o : Option ℕ) → least_below p n ≡ o → least_below p m ≡ o
+    go None e = least_below_none p m (λ k lt. elim (cases_lt k n) [ inl low ↦ least_below_out p n e k low | inr high ↦ h k high lt ])
+    go (Some k) e =
+        let least = least_below_tells p n k e in
+        least_below_some p m k (omega (arith, least.below)) least.holds least.before
+
+-- the first member with a fault
+pub faulty_member_is : (r : Requests) (from end n : ℕ) → IsGroup r from end → from ≤ n → n < end
+    → first_member (has_fault r) from end ≡ faulty_member_of r n
+unfolding first_member
+faulty_member_is r from end n g high lt =
+    sym
+    (least_below_between (λ m. is_in_group r m n && has_fault r m) end (length r.accepted) g.accepted
     (λ m past within. and_left _ _ (in_group_member r from end n m g high lt within ∙ and_right _ _ (le-ltb m end past)))
-    ∙ some_below_same (λ m. is_in_group r m n && has_fault r m) (λ m. leb from m && has_fault r m) end
+    ∙ least_below_same (λ m. is_in_group r m n && has_fault r m) (λ m. leb from m && has_fault r m) end
     (λ m inside.
     let f = g.accepted in
     ap (λ b. b && has_fault r m)
-    (in_group_member r from end n m g high lt (omega arith) ∙ ap (λ b. leb from m && b) (lt-ltb m end inside) ∙ and-true (leb from m)))
-    ∙ sym (is_some_least_below (λ m. leb from m && has_fault r m) end)
+    (in_group_member r from end n m g high lt (omega arith) ∙ ap (λ b. leb from m && b) (lt-ltb m end inside) ∙ and-true (leb from m))))
+
+pub faulty_is : (r : Requests) (from end n : ℕ) → IsGroup r from end → from ≤ n → n < end
+    → is_in_faulty_group r n ≡ is_some (first_member (has_fault r) from end)
+unfolding is_in_faulty_group
+faulty_is r from end n g high lt =
+    sym (is_some_least_below (λ m. is_in_group r m n && has_fault r m) (length r.accepted)) ∙ ap is_some (sym (faulty_member_is r from end n g high lt))
 
 pub first_is : (r : Requests) (from end n : ℕ) → IsGroup r from end → from ≤ n → n < end
     → first_of r n ≡ if_before (Some from) n

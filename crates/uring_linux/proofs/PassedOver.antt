@@ -1,5 +1,5 @@
 -- What a search may pass over: requests that have ended, and members of a group after one that hasn't.
-use Rattle.std.proofs.Common.{◌≡◌, ℕ, ◌+◌, ◌-◌, ◌<◌, ◌≤◌, Bool, true, false, not, ◌&&◌, Some, refl, ◌∙◌, ap, arith, inl, inr}
+use Rattle.std.proofs.Common.{◌≡◌, ℕ, ◌+◌, ◌-◌, ◌<◌, ◌≤◌, Bool, true, false, not, ◌&&◌, Some, refl, ◌∙◌, ap, arith, inl, inr, suc}
 use Rattle.std.proofs.lemmas.Bool.{cases_lt, and_left, and_right, and_from, le-leb}
 use Rattle.uring_entry.specs.Below.{count_below}
 use Rattle.uring_entry.specs.Requests.{Requests, has_ended, is_outstanding}
@@ -12,6 +12,7 @@ use Rattle.uring_linux.specs.Groups.{TellsGroup, IsMember}
 use Rattle.uring_linux.specs.LinuxRequests.{LinuxRequests, keeps_back, is_in_turn, is_issuable}
 use Rattle.uring_linux.specs.Window.{Window, at, end_of, Shows}
 use Rattle.uring_linux.proofs.GroupsShown.{kept_from}
+use Rattle.uring_dispatch.specs.Window.{one_if}
 
 -- Before the least that is kept of the first group, all have ended.
 
@@ -37,10 +38,7 @@ pub least_within : (s : Window) (r : Requests) (q : Request) → Shows s r → a
 least_within s r q h here =
     let f = first_told s r q h here in
     let t = f.1 in
-    let high = t.high in
-    let within = t.group.accepted in
-    let count = h.count in
-    omega arith
+    omega (arith, t.high, t.group.accepted, h.count)
 
 -- After a member that hasn't ended, no member is in turn.
 
@@ -75,8 +73,10 @@ passed_issuable l k e = go (is_outstanding l.requests k) _ (is_in_turn l.request
 
 -- none in between is counted
 pub count_passed : (p : ℕ → Bool) (n m : ℕ) → n < m → ((k : ℕ) → n < k → k < m → p k ≡ false)
-    → count_below p m ≡ count_below p (n + 1)
+    → count_below p m ≡ count_below p n + one_if (p n)
 count_passed p n m lt none =
+    let next : n + 1 ≡ suc n = omega arith in
+    let one = ap (count_below p) next in
     let gap : (n + 1) + (m - (n + 1)) ≡ m = omega arith in
     let apart = count_below_apart p (n + 1) (m - (n + 1)) in
     let zero_ = count_below_zero (λ i. p ((n + 1) + i)) (m - (n + 1)) (λ i low. none ((n + 1) + i) (omega arith) (omega arith)) in

@@ -1,7 +1,7 @@
 -- What is so of the requests of a ring whatever happened: to the members of deferred groups nothing has happened, and not all that is outstanding is deferred.
 use Rattle.std.proofs.Common.{◌≡◌, ◌≢◌, ℕ, suc, ◌<◌, ◌≤◌, ℤ, length, Bool, true, false, not, ◌||◌, ◌==◌, List, [], ◌∷◌, refl, sym, ◌∙◌, ap, arith, inl, inr, length-append}
 use Rattle.std.specs.Prelude.{if◌then◌else◌, nat_lt}
-use Rattle.std.proofs.lemmas.Bool.{cases_lt, cases_Bool, both_ways, and_from, and_parts, or_left, or_cases, or_parts, ltb-true, ltb-false, ne_eqb, lt-ltb, le-leb}
+use Rattle.std.proofs.lemmas.Bool.{cases_lt, both_ways, and_from, and_parts, or_left, or_cases, or_parts, ltb-true, ltb-false, ne_eqb, lt-ltb, le-leb, false_from_ne_true}
 use Rattle.uring_entry.specs.Layout.{Sqe}
 use Rattle.uring_entry.specs.Requests as manual
 use Rattle.uring_entry.specs.Requests.{Requests, entry_of, is_linked, is_last, is_outstanding, is_running}
@@ -105,7 +105,7 @@ waiting_accepted r e g within w =
       some = w.some;
       begins = λ k is. last_accepted r e k (omega (arith, is)) ∙ w.begins k is;
       ends = λ k is. last_accepted r e k (omega (arith, is)) ∙ w.ends k is;
-      idle = λ k le lt. record { started = (w.idle k le lt).started; ended = (w.idle k le lt).ended };
+      idle = λ k le lt. let idle = w.idle k le lt in assumption;
       healthy = λ k le lt. (accepted_faults r e).fault k (omega (arith, lt, within)) ∙ w.healthy k le lt;
     }
 
@@ -120,10 +120,10 @@ accepted_amid l e s =
       begins = λ k is. last_accepted r e k (omega (arith, is)) ∙ s.begins k is;
       idle = λ k le lt.
           elim (cases_lt k (length r.accepted)) [
-            | inl before ↦ record { started = (s.amid k le before).started; ended = (s.amid k le before).ended }
-            | inr new ↦ record { started = (s.later k new).started; ended = (s.later k new).ended }
+            | inl before ↦ let idle = s.amid k le before in assumption
+            | inr new ↦ let idle = s.later k new in assumption
           ];
-      later = λ k le. let new = s.later k (omega (arith, le)) in record { started = new.started; ended = new.ended; cut = new.cut };
+      later = λ k le. let new = s.later k (omega (arith, le)) in assumption;
       waiting = order_kept (IsWaiting r) (IsWaiting (manual.with_accepted r e)) 0 l.drains.deferred l.drains.from s.waiting
           (λ g there some within w. waiting_accepted r e g (omega (arith, within, low)) w);
     }
@@ -150,7 +150,7 @@ waiting_cut r g w = record {
   some = w.some;
   begins = λ k is. last_kept r k (w.begins k is);
   ends = λ k is. last_kept r k (w.ends k is);
-  idle = λ k le lt. record { started = (w.idle k le lt).started; ended = (w.idle k le lt).ended };
+  idle = λ k le lt. let idle = w.idle k le lt in assumption;
   healthy = w.healthy;
 }
 
@@ -190,7 +190,7 @@ cut_between l s = go (nat_lt l.drains.from (length l.requests.accepted)) refl
           (record {
             low = ltb-true _ _ e;
             begins = λ k is. last_kept l.requests k (s.begins k is);
-            idle = λ k le lt. record { started = (s.amid k le lt).started; ended = (s.amid k le lt).ended };
+            idle = λ k le lt. let idle = s.amid k le lt in assumption;
             later = λ k le. new_cut l.requests k le (s.later k le);
             waiting = waiting_all_cut l s;
           })
@@ -201,7 +201,7 @@ cut_between l s = go (nat_lt l.drains.from (length l.requests.accepted)) refl
       settled = record {
         low = s.low;
         begins = λ k is. last_kept l.requests k (s.begins k is);
-        amid = λ k le lt. record { started = (s.amid k le lt).started; ended = (s.amid k le lt).ended };
+        amid = λ k le lt. let idle = s.amid k le lt in assumption;
         later = λ k le. new_cut l.requests k le (s.later k le);
         waiting = waiting_all_cut l s;
         gone = gone_same l.requests (manual.with_cut l.requests) l.drains.deferred (alone_cut l.requests l.drains.deferred) s.gone;
@@ -232,13 +232,10 @@ issuable_free l n s e =
     let go = and_parts (is_in_turn l.requests n) _ rest.1 in
     record {
       low = ltb-true _ _ (and_parts _ _ parts.0).0;
-      out =
-          elim (cases_Bool (is_in_some l.drains.deferred n)) [
-            | inl held ↦
-                let h = held_by l.requests 0 l.drains.deferred l.drains.from n s.waiting held in
-                absurd (goes_not (is_doomed l.requests n) (is_deferred l n) (not_doomed l.requests h.group n h.waiting h.low h.high) held go.1)
-            | inr free ↦ free
-          ];
+      out = false_from_ne_true _
+          (λ held.
+          let h = held_by l.requests 0 l.drains.deferred l.drains.from n s.waiting held in
+          goes_not (is_doomed l.requests n) (is_deferred l n) (not_doomed l.requests h.group n h.waiting h.low h.high) held go.1);
     }
 
 running_free : (l : LinuxRequests) (n : ℕ) → IsSettled l → is_running l.requests n ≡ true → IsFree l n
@@ -250,13 +247,10 @@ running_free l n s e =
             | inl low ↦ low
             | inr past ↦ absurd (both_ways _ (s.later n past).started started)
           ];
-      out =
-          elim (cases_Bool (is_in_some l.drains.deferred n)) [
-            | inl held ↦
-                let h = held_by l.requests 0 l.drains.deferred l.drains.from n s.waiting held in
-                absurd (both_ways _ (h.waiting.idle n h.low h.high).started started)
-            | inr free ↦ free
-          ];
+      out = false_from_ne_true _
+          (λ held.
+          let h = held_by l.requests 0 l.drains.deferred l.drains.from n s.waiting held in
+          both_ways _ (h.waiting.idle n h.low h.high).started started);
     }
 
 -- who isn't deferred is no member of a group that is
@@ -279,24 +273,18 @@ started_settled l n b f =
         begins = s.begins;
         amid = λ k le lt. let c = b.closed in absurd (omega (arith, le, lt, c));
         later = λ k le.
-            record {
-              started = added_other (λ m. m == k) r.started n (ne_eqb n k (λ e. let low = f.low in omega (arith, e, le, low))) ∙ (s.later k le).started;
-              ended = (s.later k le).ended;
-              cut = (s.later k le).cut;
-            };
+            let new = s.later k le in
+            let started = added_other (λ m. m == k) r.started n (ne_eqb n k (λ e. let low = f.low in omega (arith, e, le, low))) ∙ new.started in
+            assumption;
         waiting = order_kept (IsWaiting r) (IsWaiting (manual.with_started r n)) 0 l.drains.deferred l.drains.from s.waiting
             (λ g there some within w.
-            record {
-              some = w.some;
-              begins = w.begins;
-              ends = w.ends;
-              idle = λ k le lt.
-                  record {
-                    started = added_other (λ m. m == k) r.started n (ne_eqb n k (λ e. among_apart l.drains.deferred n k g there f.out le lt (sym e))) ∙ (w.idle k le lt).started;
-                    ended = (w.idle k le lt).ended;
-                  };
-              healthy = w.healthy;
-            });
+            let idle : (k : ℕ) → g.from ≤ k → k < g.end → IsIdle (manual.with_started r n) k =
+            λ k le lt.
+            let old = w.idle k le lt in
+            let started = added_other (λ m. m == k) r.started n (ne_eqb n k (λ e. among_apart l.drains.deferred n k g there f.out le lt (sym e))) ∙ old.started in
+            assumption
+            in
+            assumption);
         gone = gone_same r (manual.with_started r n) l.drains.deferred (alone_started r n l.drains.deferred) s.gone;
       };
       closed = b.closed;
@@ -310,17 +298,13 @@ ended_settled l n res bytes b f =
     let t = manual.with_ended r n res bytes in
     let all = order_kept (IsWaiting r) (IsWaiting t) 0 l.drains.deferred l.drains.from s.waiting
     (λ g there some within w.
-    record {
-      some = w.some;
-      begins = w.begins;
-      ends = w.ends;
-      idle = λ k le lt.
-          record {
-            started = (w.idle k le lt).started;
-            ended = has_ended_other r n res bytes k (among_apart l.drains.deferred n k g there f.out le lt) ∙ (w.idle k le lt).ended;
-          };
-      healthy = w.healthy;
-    })
+    let idle : (k : ℕ) → g.from ≤ k → k < g.end → IsIdle t k =
+    λ k le lt.
+    let old = w.idle k le lt in
+    let ended = has_ended_other r n res bytes k (among_apart l.drains.deferred n k g there f.out le lt) ∙ old.ended in
+    assumption
+    in
+    assumption)
     in
     record {
       settled = record {
@@ -328,11 +312,9 @@ ended_settled l n res bytes b f =
         begins = s.begins;
         amid = λ k le lt. let c = b.closed in absurd (omega (arith, le, lt, c));
         later = λ k le.
-            record {
-              started = (s.later k le).started;
-              ended = has_ended_other r n res bytes k (λ e. let low = f.low in absurd (omega (arith, e, le, low))) ∙ (s.later k le).ended;
-              cut = (s.later k le).cut;
-            };
+            let new = s.later k le in
+            let ended = has_ended_other r n res bytes k (λ e. let low = f.low in absurd (omega (arith, e, le, low))) ∙ new.ended in
+            assumption;
         waiting = order_still (IsWaiting t) (is_alone t l.drains.deferred) 0 l.drains.deferred l.drains.from all;
         gone = gone_on t 0 l.drains.deferred l.drains.from s.low all;
       };

@@ -1,12 +1,11 @@
 -- What is told of a request, and what a cancel finds, from what is kept.
 use Rattle.std.proofs.Common.{◌≡◌, ℕ, ◌<◌, ◌≤◌, length, Bool, true, false, not, ◌&&◌, leb, ltb, Option, Some, None, is_some, refl, sym, ◌∙◌, ap, arith, inl, inr}
 use Rattle.std.specs.Prelude.{if◌then◌else◌, unwrap_or}
-use Rattle.std.proofs.lemmas.Bool.{cases_lt, and_left, and_right, and_from, lt-ltb, le-ltb}
-use Rattle.std.proofs.Math.Bool.{and-true}
+use Rattle.std.proofs.lemmas.Bool.{and_right, and_from}
 use Rattle.uring_entry.specs.Below.{least_below}
 use Rattle.uring_entry.specs.Groups.{IsGroup, first_member}
 use Rattle.uring_entry.specs.Preparation.{fault_of, is_faulty, operation_of}
-use Rattle.uring_entry.specs.Requests.{Requests, entry_of, has_ended, is_outstanding, is_running, is_in_group}
+use Rattle.uring_entry.specs.Requests.{Requests, entry_of, has_ended, is_outstanding, is_running}
 use Rattle.uring_entry.specs.declared.fault.Fault.{Fault}
 use Rattle.uring_entry.specs.declared.operation.Op.{Op}
 use Rattle.uring_entry.specs.declared.operation.Op.TheVariants.{Cancel}
@@ -14,15 +13,15 @@ use Rattle.uring_entry.specs.declared.why.Why.{Why}
 use Rattle.uring_entry.specs.declared.why.Why.TheVariants.{NeverAccepted, HasEnded, Runs, IsDoomed, Waits, MayStart}
 use Rattle.uring_entry.specs.declared.why.Doom.{Doom}
 use Rattle.uring_entry.specs.declared.why.Since.TheVariants.{Deferred}
-use Rattle.uring_entry.proofs.BelowLemmas.{least_below_none, least_below_some, least_below_same, least_below_out, least_below_tells}
-use Rattle.uring_entry.proofs.GroupLemmas.{joined_member, in_group_member}
+use Rattle.uring_entry.proofs.BelowLemmas.{least_below_same}
+use Rattle.uring_entry.proofs.GroupLemmas.{joined_member}
 use Rattle.uring_dispatch.specs.Cancels.{operation_outstanding}
-use Rattle.uring_linux.specs.LinuxRequests.{LinuxRequests, has_fault, is_doomed, is_deferred, keeps_back}
+use Rattle.uring_linux.specs.LinuxRequests.{LinuxRequests, is_doomed, is_deferred, keeps_back}
 use Rattle.uring_linux.specs.declared.request.Request.{Request}
 use Rattle.uring_linux.specs.Window.{Window, at, end_of, Tells, Shows}
-use Rattle.uring_linux.proofs.WindowLemmas.{not_none}
 use Rattle.uring_linux.specs.LinuxCancels.{told_for, told_of}
-use Rattle.uring_linux.specs.LinuxWhy.{faulty_member_of, doom_of, least_free_of, kept_back_by, why_of}
+use Rattle.uring_linux.specs.LinuxWhy.{doom_of, least_free_of, kept_back_by, why_of}
+use Rattle.uring_linux.proofs.Standings.{outside}
 
 -- Members.
 
@@ -33,31 +32,6 @@ unfolding first_member
 keeper_is r from end n g high lt =
     least_below_same (λ m. leb from m && not (has_ended r m)) (keeps_back r n) n
     (λ m low. ap (λ b. b && not (has_ended r m)) (sym (joined_member r from end m n g high lt (omega arith))))
-
--- a bound that goes further, over numbers at which the test fails
-least_below_between : (p : ℕ → Bool) (n m : ℕ) → n ≤ m → ((k : ℕ) → n ≤ k → k < m → p k ≡ false)
-    → least_below p m ≡ least_below p n
-least_below_between p n m le h = go (least_below p n) refl
-  where
-    go : (o : Option ℕ) → least_below p n ≡ o → least_below p m ≡ o
-    go None e = least_below_none p m (λ k lt. elim (cases_lt k n) [ inl low ↦ least_below_out p n e k low | inr high ↦ h k high lt ])
-    go (Some k) e =
-        let least = least_below_tells p n k e in
-        least_below_some p m k (omega (arith, least.below)) least.holds least.before
-
--- the first member with a fault
-pub faulty_member_is : (r : Requests) (from end n : ℕ) → IsGroup r from end → from ≤ n → n < end
-    → first_member (has_fault r) from end ≡ faulty_member_of r n
-unfolding first_member
-faulty_member_is r from end n g high lt =
-    sym
-    (least_below_between (λ m. is_in_group r m n && has_fault r m) end (length r.accepted) g.accepted
-    (λ m past within. and_left _ _ (in_group_member r from end n m g high lt within ∙ and_right _ _ (le-ltb m end past)))
-    ∙ least_below_same (λ m. is_in_group r m n && has_fault r m) (λ m. leb from m && has_fault r m) end
-    (λ m inside.
-    let f = g.accepted in
-    ap (λ b. b && has_fault r m)
-    (in_group_member r from end n m g high lt (omega arith) ∙ ap (λ b. leb from m && b) (lt-ltb m end inside) ∙ and-true (leb from m))))
 
 -- Why.
 
@@ -70,12 +44,7 @@ pub told_why : (l : LinuxRequests) (n : ℕ) (given ended running : Bool)
     → ltb n (length l.requests.accepted) ≡ given → has_ended l.requests n ≡ ended
     → is_running l.requests n ≡ running
     → tell given ended running (kept_back_by l n (least_below (keeps_back l.requests n) n)) ≡ why_of l n
-told_why l n given ended running a b c =
-    let x = kept_back_by l n (least_below (keeps_back l.requests n) n) in
-    sym
-    (ap (λ z. tell z (has_ended l.requests n) (is_running l.requests n) x) a
-    ∙ ap (λ z. tell given z (is_running l.requests n) x) b
-    ∙ ap (λ z. tell given ended z x) c)
+told_why l n given ended running a b c = rw (a, c, b)
 
 abbrev turn : (doomed deferred : Bool) → Doom → ℕ → Why
 turn doomed deferred doom m = if doomed then IsDoomed doom else if deferred then Waits m Deferred else MayStart
@@ -85,22 +54,13 @@ pub told_turn : (l : LinuxRequests) (n : ℕ) (doomed deferred : Bool)
     → least_below (keeps_back l.requests n) n ≡ None → is_doomed l.requests n ≡ doomed → is_deferred l n ≡ deferred
     → turn doomed deferred (doom_of l.requests n) (unwrap_or (least_free_of l) n)
     ≡ kept_back_by l n (least_below (keeps_back l.requests n) n)
-told_turn l n doomed deferred none a b =
-    let x = doom_of l.requests n in
-    let m = unwrap_or (least_free_of l) n in
-    sym
-    (ap (kept_back_by l n) none
-    ∙ ap (λ z. turn z (is_deferred l n) x m) a
-    ∙ ap (λ z. turn doomed z x m) b)
+told_turn l n doomed deferred none a b = rw (none, a, b)
 
 -- who is not kept any more has ended
 pub gone_ended : (s : Window) (r : Requests) (n : ℕ) → Shows s r → None ≡ at s n → n < end_of s
     → has_ended r n ≡ true
 gone_ended s r n h none lt =
-    elim (cases_lt n s.first) [
-      | inl low ↦ h.gone n low
-      | inr high ↦ absurd (not_none s n (record { low = high; high = lt }) none)
-    ]
+    elim (outside s r n h none) [ inl gone ↦ gone | inr past ↦ absurd (omega (arith, past, h.count)) ]
 
 -- Cancels.
 

@@ -1,11 +1,11 @@
 -- How a request stands, from what is kept of it, and what its issue is answered.
-use Rattle.std.proofs.Common.{◌≡◌, ℕ, suc, ◌+◌, ◌<◌, ℤ, pos, length, Bool, true, false, not, ◌&&◌, ◌||◌, leb, Option, Some, None, is_some, refl, sym, ◌∙◌, ap, subst, arith, inl, inr, List, set, ◌-◌}
+use Rattle.std.proofs.Common.{◌≡◌, ℕ, ◌<◌, ℤ, length, Bool, true, false, not, ◌&&◌, ◌||◌, leb, Option, Some, None, is_some, refl, sym, ◌∙◌, ap, subst, arith, inl, inr, List, set, ◌-◌, ◌≤◌, ◌⊎◌}
 use Rattle.std.specs.Prelude.{if◌then◌else◌, neg_ℤ}
 use Rattle.std.proofs.lemmas.Bool.{cases_lt, cases_Bool, and_left, and_right, and_from, and_parts, or_parts, or_left, both_ways, lt-ltb, le-ltb, le-leb, lt-leb, not-true}
 use Rattle.uring_entry.specs.Preparation.{fault_of, is_faulty, is_cancel, is_cancel_all, operation_of}
 use Rattle.uring_entry.specs.declared.fault.Fault.{Fault}
 use Rattle.uring_entry.specs.Success as success
-use Rattle.uring_entry.specs.Below.{least_below, count_below}
+use Rattle.uring_entry.specs.Below.{least_below}
 use Rattle.uring_entry.specs.Groups.{first_member}
 use Rattle.uring_entry.specs.Requests as manual
 use Rattle.uring_entry.specs.Requests.{Requests, entry_of, has_ended, is_outstanding, is_running, is_in_group, least_of}
@@ -25,7 +25,7 @@ use Rattle.uring_linux.specs.Issues.{issued, issued_ready, ended_with}
 use Rattle.uring_linux.specs.Window.{Window, at, end_of, Tells, Shows}
 use Rattle.uring_linux.specs.LinuxDispatch.{LinuxDispatch, dispatch_of, ShowsRequests}
 use Rattle.uring_linux.proofs.WindowLemmas.{not_none}
-use Rattle.uring_linux.proofs.WindowCounts.{unended_shown, running_shown}
+use Rattle.uring_linux.proofs.WindowCounts.{dispatch_shows}
 use Rattle.uring_linux.proofs.WindowEvents.{at_within, roomed}
 use Rattle.uring_linux.proofs.GroupsShown.{started_shows}
 
@@ -40,29 +40,28 @@ pub shown_as : (s : Window) (d : KeptDrains) (b : Bool) (room : ℕ) (between : 
 shown_as s d b room between x l e g =
     shown s d b room between l (subst (λ (y : LinuxDispatch). ShowsRequests y l) (sym e) g)
 
-pub outside_ended : (s : Window) (r : Requests) (n : ℕ) → Shows s r → None ≡ at s n
-    → is_outstanding r n ≡ false
-outside_ended s r n h none =
+-- what isn't kept has ended, or wasn't given
+pub outside : (s : Window) (r : Requests) (n : ℕ) → Shows s r → None ≡ at s n
+    → (has_ended r n ≡ true) ⊎ (length r.accepted ≤ n)
+outside s r n h none =
     elim (cases_lt n s.first) [
-      | inl low ↦ and_right _ _ (ap not (h.gone n low))
+      | inl low ↦ inl (h.gone n low)
       | inr high ↦
           elim (cases_lt n (end_of s)) [
             | inl inside ↦ absurd (not_none s n (record { low = high; high = inside }) none)
-            | inr past ↦ and_left _ _ (le-ltb n (length r.accepted) (omega (arith, past, h.count)))
+            | inr past ↦ inr (omega (arith, past, h.count))
           ]
     ]
+
+pub outside_ended : (s : Window) (r : Requests) (n : ℕ) → Shows s r → None ≡ at s n
+    → is_outstanding r n ≡ false
+outside_ended s r n h none =
+    elim (outside s r n h none) [ inl gone ↦ and_right _ _ (ap not gone) | inr past ↦ and_left _ _ (le-ltb n (length r.accepted) past) ]
 
 pub outside_idle : (s : Window) (r : Requests) (n : ℕ) → Shows s r → None ≡ at s n
     → is_running r n ≡ false
 outside_idle s r n h none =
-    elim (cases_lt n s.first) [
-      | inl low ↦ and_right _ _ (ap not (h.gone n low))
-      | inr high ↦
-          elim (cases_lt n (end_of s)) [
-            | inl inside ↦ absurd (not_none s n (record { low = high; high = inside }) none)
-            | inr past ↦ and_left _ _ (h.later n (omega (arith, past, h.count))).started
-          ]
-    ]
+    elim (outside s r n h none) [ inl gone ↦ and_right _ _ (ap not gone) | inr past ↦ and_left _ _ (h.later n past).started ]
 
 pub outstanding_ended : (q : Request) (r : Requests) (n : ℕ) → Tells q r n → q.has_ended ≡ true
     → is_outstanding r n ≡ false
@@ -117,15 +116,7 @@ pub asked : (l : LinuxRequests) (n : ℕ) (o run turn doomed deferred : Bool)
     → is_outstanding l.requests n ≡ o → is_running l.requests n ≡ run → is_in_turn l.requests n ≡ turn
     → is_doomed l.requests n ≡ doomed → is_deferred l n ≡ deferred
     → issued l n ≡ ask o run turn doomed deferred (ended_with l.requests n (doomed_result l.requests n)) (issued_ready l.requests n)
-asked l n o run turn doomed deferred a b c d e =
-    let r = l.requests in
-    let x = ended_with r n (doomed_result r n) in
-    let y = issued_ready r n in
-    ap (λ z. ask z (is_running r n) (is_in_turn r n) (is_doomed r n) (is_deferred l n) x y) a
-    ∙ ap (λ z. ask o z (is_in_turn r n) (is_doomed r n) (is_deferred l n) x y) b
-    ∙ ap (λ z. ask o run z (is_doomed r n) (is_deferred l n) x y) c
-    ∙ ap (λ z. ask o run turn z (is_deferred l n) x y) d
-    ∙ ap (λ z. ask o run turn doomed z x y) e
+asked l n o run turn doomed deferred a b c d e = rw (a, b, c, d, e)
 
 pub ended_outstanding : (l : LinuxRequests) (n : ℕ) (res : ℤ) (p : Posts) → issued l n ≡ Ended res p
     → is_outstanding l.requests n ≡ true
@@ -140,9 +131,7 @@ ended_outstanding l n res p e = go (is_outstanding l.requests n) _ e
 pub cancelled_one : (r : Requests) (n : ℕ) (b : Bool) → is_cancel_all (entry_of r n) ≡ false
     → is_some (found_by r n) ≡ b
     → cancel_result r n ≡ (if b then neg_ℤ EALREADY else neg_ℤ ENOENT)
-cancelled_one r n b one found =
-    ap (λ x. if x then pos 0 else (if is_some (found_by r n) then neg_ℤ EALREADY else neg_ℤ ENOENT)) one
-    ∙ ap (λ x. if x then neg_ℤ EALREADY else neg_ℤ ENOENT) found
+cancelled_one r n b one found = rw (one, found)
 
 -- Events.
 
@@ -155,16 +144,7 @@ dispatch_started s t d b room left between amid l n q h here going et =
     let out = and_parts _ _ going in
     let open_ = not-true _ out.1 in
     let shows = subst (λ (x : Window). Shows x (manual.with_started l.requests n)) (sym et) (started_shows s q l.requests n (shown s d b room between l h) here open_) in
-    record {
-      accepted = shows.count;
-      outstanding = unended_shown t (manual.with_started l.requests n) shows;
-      running = running_shown t (manual.with_started l.requests n) shows;
-      held = record {
-        window = roomed t.first t.items t.room 0 (manual.with_started l.requests n) shows;
-        drains = h.held.drains;
-        skipped = h.held.skipped;
-      };
-    }
+    dispatch_shows t d b left amid (with_started l n) shows h.held.drains h.held.skipped
 
 pub dispatch_ended : (s t : Window) (d k : KeptDrains) (b : Bool) (room left : ℕ) (between amid : Bool) (l : LinuxRequests) (n : ℕ) (q : Request) (res : ℤ) (bytes : List ℕ) (failed : Bool)
     → ShowsRequests (dispatch_of s d b room between) l → at s n ≡ Some q
@@ -178,16 +158,8 @@ dispatch_ended s t d k b room left between amid l n q res bytes failed h here go
     let open_ = not-true _ out.1 in
     let r = manual.with_ended l.requests n res bytes in
     let shows = g l.requests res bytes (shown s d b room between l h) open_ ef in
-    record {
-      accepted = shows.count;
-      outstanding = unended_shown t r shows;
-      running = running_shown t r shows;
-      held = record {
-        window = roomed t.first t.items t.room 0 r shows;
-        drains = f r shows ∙ ap (λ (x : Drains). record x { deferred = after_going_on r x.deferred }) h.held.drains;
-        skipped = h.held.skipped;
-      };
-    }
+    dispatch_shows t k b left amid (with_ended l n res bytes) shows
+    (f r shows ∙ ap (λ (x : Drains). record x { deferred = after_going_on r x.deferred }) h.held.drains) h.held.skipped
 
 -- What can be issued.
 
@@ -246,9 +218,6 @@ busy_issuable true false c e = refl
 busy_issuable false b c e = refl
 
 -- Counts.
-
-pub next_count : (p : ℕ → Bool) (n : ℕ) → count_below p (n + 1) ≡ count_below p n + one_if (p n)
-next_count p n = let more : n + 1 ≡ suc n = omega arith in ap (count_below p) more
 
 pub one_more : (b : Bool) (k : ℕ) → k ≡ one_if b → 0 < k → b ≡ true
 one_more true k e lt = refl

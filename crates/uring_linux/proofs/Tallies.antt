@@ -1,5 +1,5 @@
 -- What each event changes in the numbers, and that they stay right.
-use Rattle.std.proofs.Common.{◌≡◌, ℕ, ◌+◌, ◌-◌, ◌<◌, ◌≤◌, length, Bool, true, false, not, ◌&&◌, [], set, Some, None, refl, sym, ◌∙◌, ap, subst, arith, inl, inr, length-set}
+use Rattle.std.proofs.Common.{◌≡◌, ℕ, ◌+◌, ◌-◌, ◌<◌, ◌≤◌, length, Bool, true, false, not, ◌&&◌, [], set, Some, None, refl, sym, ◌∙◌, ap, arith, inl, inr, length-set}
 use Rattle.std.proofs.Math.Bool.{and-true}
 use Rattle.std.proofs.lemmas.Bool.{cases_Bool, both_ways, not-true}
 use Rattle.uring_entry.specs.Layout.{Sqe}
@@ -11,7 +11,7 @@ use Rattle.uring_linux.specs.KeptDrains.{KeptDrains}
 use Rattle.uring_linux.specs.Window.{Window, new_request, at, end_of, is_unended, runs, unended_among, running_among, IsOpen, Lessens}
 use Rattle.uring_linux.specs.LinuxDispatch.{dispatch_of, IsDispatch}
 use Rattle.uring_linux.specs.Counts.{HasAccepted, HasStarted, HasEnded, HasFinished}
-use Rattle.uring_linux.proofs.WindowCounts.{unended_none, running_none, unended_written, running_written, at_roomed}
+use Rattle.uring_linux.proofs.WindowCounts.{unended_none, running_none, at_roomed, count_written, unended_counts, running_counts}
 
 pub open_from : (s : Window) (n : ℕ) (q : Request) (b : Bool) → IsOpen (record s { room = 0 }) n b
     → at s n ≡ Some q → (q.has_ended ≡ false) × (q.is_running ≡ b)
@@ -26,8 +26,7 @@ never_open s n open_ none = both_ways _ (ap is_unended (at_roomed s 0 n ∙ sym 
 pub new_dispatch : (s : Window) (d : KeptDrains) → s ≡ record { first = 0; items = []; room = 0 }
     → d ≡ record { drains = no_drains; room = 0 } → IsDispatch s d 0 0 0 true
 new_dispatch s d es ed =
-    subst (λ (x : Window). IsDispatch x d 0 0 0 true) (sym es)
-    (subst (λ (y : KeptDrains). IsDispatch (record { first = 0; items = []; room = 0 }) y 0 0 0 true) (sym ed)
+    rw (es, ed)
     (record {
       outstanding = sym unended_none;
       running = sym running_none;
@@ -38,7 +37,7 @@ new_dispatch s d es ed =
       high = omega arith;
       few = omega arith;
       closed = λ e. omega arith;
-    }))
+    })
 
 -- A request is accepted.
 
@@ -72,33 +71,20 @@ pub accepted_dispatch : (s t : Window) (d k : KeptDrains) (o r room left : ℕ) 
     → IsDispatch t k (o + 1) r left false
 accepted_dispatch s t d k o r room left between c e q n i first long outstanding running new less is same from_same closed less_groups few =
     let counted = accepted_counts s t d k false c room left between false e q n long outstanding running new is in
-    let low = i.low in
-    let high = i.high in
-    let windowed = i.window in
-    let grouped = i.groups in
     record {
       outstanding = ap (λ x. x + 1) i.outstanding ∙ sym counted.outstanding;
       running = i.running ∙ sym counted.running;
       window = omega arith;
       groups = omega arith;
-      amid =
-          elim (cases_Bool (is_linked q.entry)) [
-            | inl linked ↦ λ lt. let a = same linked in omega arith
-            | inr last ↦ λ lt. let a = closed last in absurd (omega arith)
-          ];
-      low =
-          elim (cases_Bool (is_linked q.entry)) [
-            | inl linked ↦ let a = from_same linked in omega arith
-            | inr last ↦ let a = closed last in omega arith
-          ];
-      high =
-          elim (cases_Bool (is_linked q.entry)) [
-            | inl linked ↦ let a = from_same linked in omega arith
-            | inr last ↦ let a = closed last in omega arith
-          ];
+      amid = λ lt. by_link (λ linked. let a = same linked in omega arith) (λ last. let a = closed last in absurd (omega arith));
+      low = by_link (λ linked. let a = from_same linked in omega arith) (λ last. let a = closed last in omega arith);
+      high = by_link (λ linked. let a = from_same linked in omega arith) (λ last. let a = closed last in omega arith);
       few = few (omega arith) i.few;
       closed = λ never. absurd (cc);
     }
+  where
+    by_link : {P : Type 0} → (is_linked q.entry ≡ true → P) → (is_linked q.entry ≡ false → P) → P
+    by_link in_link at_end = elim (cases_Bool (is_linked q.entry)) [ inl linked ↦ in_link linked | inr last ↦ at_end last ]
 
 -- A request starts.
 
@@ -110,8 +96,8 @@ pub started_counts : (s t : Window) (d : KeptDrains) (b : Bool) (room : ℕ) (be
     → HasStarted (dispatch_of s d b room between) (dispatch_of t d b room between)
 started_counts s t d b room between n q here open_ idle et =
     let long = length-set s.items (n - s.first) (record q { is_running = true }) in
-    let unended = unended_written s n q (record q { is_running = true }) here in
-    let running = running_written s n q (record q { is_running = true }) here in
+    let unended = count_written unended_counts s n q (record q { is_running = true }) here in
+    let running = count_written running_counts s n q (record q { is_running = true }) here in
     let was : one_if (runs (Some q)) ≡ 0 = ap (λ x. one_if (x && not q.has_ended)) idle in
     let now : one_if (runs (Some (record q { is_running = true }))) ≡ 1 = ap (λ x. one_if (not x)) open_ in
     record {
@@ -130,9 +116,6 @@ started_dispatch s t d o r room between n q i here open_ idle et =
     let end : end_of t ≡ end_of s = counted.accepted in
     let first = ap (λ (x : Window). x.first) et in
     let spare = ap (λ (x : Window). x.room) et in
-    let windowed = i.window in
-    let low = i.low in
-    let high = i.high in
     record {
       outstanding = i.outstanding ∙ sym counted.outstanding;
       running = ap (λ x. x + 1) i.running ∙ sym counted.running;
@@ -156,8 +139,8 @@ pub lessens : (s t : Window) (n : ℕ) (q : Request) (failed : Bool) → at s n 
 lessens s t n q failed here open_ et =
     let ended = record q { is_running = false; has_ended = true; has_failed = failed } in
     let long = length-set s.items (n - s.first) ended in
-    let unended = unended_written s n q ended here in
-    let running = running_written s n q ended here in
+    let unended = count_written unended_counts s n q ended here in
+    let running = count_written running_counts s n q ended here in
     let was : one_if (runs (Some q)) ≡ one_if q.is_running = ap (λ x. one_if (q.is_running && not x)) open_ ∙ ap one_if (and-true q.is_running) in
     let open_one : one_if (is_unended (Some q)) ≡ 1 = ap (λ x. one_if (not x)) open_ in
     let items : t.items ≡ set s.items (n - s.first) ended = ap (λ (x : Window). x.items) et in
@@ -205,18 +188,6 @@ pub ended_dispatch : (s t : Window) (d k : KeptDrains) (o p r u room : ℕ) (bet
     → length k.drains.deferred ≤ length d.drains.deferred → p + 1 ≡ o → u + one_if q.is_running ≡ r
     → IsDispatch t k p u room between
 ended_dispatch s t d k o p r u room between q i l spare from fewer less less_running =
-    let la = l.outstanding in
-    let lb = l.running in
-    let end = l.end in
-    let first = l.first in
-    let roomy = l.room in
-    let ia = i.outstanding in
-    let ib = i.running in
-    let windowed = i.window in
-    let grouped = i.groups in
-    let low = i.low in
-    let high = i.high in
-    let few = i.few in
     record {
       outstanding = omega arith;
       running = omega arith;

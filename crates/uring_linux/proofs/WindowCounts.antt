@@ -1,16 +1,19 @@
 -- How many of the requests that are kept haven't ended, and how many run: what each event changes in that.
-use Rattle.std.proofs.Common.{◌≡◌, ℕ, suc, ◌+◌, ◌-◌, ◌<◌, ◌≤◌, length, Bool, true, false, not, ◌&&◌, List, [], ◌∷◌, ◌++◌, set, slice_get, Option, Some, refl, sym, ◌∙◌, ap, subst, arith, inl, inr, length-append, length-set}
-use Rattle.std.proofs.lemmas.Bool.{and_right, lt-ltb}
+use Rattle.std.proofs.Common.{◌≡◌, ℕ, suc, ◌+◌, ◌-◌, ◌<◌, ◌≤◌, length, Bool, true, false, not, ◌&&◌, List, [], ◌∷◌, ◌++◌, set, slice_get, Option, Some, refl, sym, ◌∙◌, ap, arith, inl, inr, length-append, length-set}
+use Rattle.std.proofs.lemmas.Bool.{cases_Bool, and_right, lt-ltb}
 use Rattle.std.proofs.Math.Bool.{and-true}
 use Rattle.std.proofs.lemmas.Option.{slice_get_cases, slice_get_within}
-use Rattle.uring_entry.specs.Below.{count_below}
-use Rattle.uring_entry.specs.Requests.{Requests, has_ended, has_started, is_outstanding, is_running, outstanding_in, running_in}
+use Rattle.uring_entry.specs.Below.{count_below, some_below}
+use Rattle.uring_entry.specs.Requests.{Requests, has_ended, has_started, is_outstanding, is_running, outstanding_in, running_in, entry_of}
 use Rattle.uring_dispatch.specs.Window.{one_if}
 use Rattle.uring_dispatch.proofs.Counting.{count_below_same, count_below_changed, count_below_within, count_below_some, count_below_zero, count_below_apart}
 use Rattle.uring_linux.specs.declared.request.Request.{Request}
 use Rattle.uring_linux.specs.Window.{Window, at, is_unended, runs, unended_among, running_among, Shows, IsOpen}
 use Rattle.uring_linux.proofs.WindowLemmas.{at_high}
-use Rattle.uring_linux.proofs.WindowEvents.{push_here, push_other, is_set_here, set_other, at_within}
+use Rattle.uring_linux.proofs.WindowEvents.{push_here, push_other, is_set_here, set_other, at_within, roomed}
+use Rattle.uring_linux.specs.KeptDrains.{KeptDrains}
+use Rattle.uring_linux.specs.LinuxRequests.{LinuxRequests, asks_to_skip}
+use Rattle.uring_linux.specs.LinuxDispatch.{dispatch_of, ShowsRequests}
 
 -- how many pass a test
 abbrev among : (Option Request → Bool) → List Request → ℕ
@@ -32,30 +35,6 @@ among_set p xs i q lt =
     let long : among p (set xs i q) ≡ count_below (λ k. p (slice_get (set xs i q) k)) (length xs) = ap (count_below (λ k. p (slice_get (set xs i q) k))) (length-set xs i q) in
     omega arith
 
--- the same of both counts
-
-pub unended_pushed : (xs : List Request) (q : Request)
-    → unended_among (xs ++ q ∷ []) ≡ unended_among xs + one_if (is_unended (Some q))
-unfolding unended_among
-unended_pushed xs q = among_pushed is_unended xs q
-
-pub running_pushed : (xs : List Request) (q : Request)
-    → running_among (xs ++ q ∷ []) ≡ running_among xs + one_if (runs (Some q))
-unfolding running_among
-running_pushed xs q = among_pushed runs xs q
-
-pub unended_set : (xs : List Request) (i : ℕ) (q : Request) → i < length xs
-    → unended_among (set xs i q) + one_if (is_unended (slice_get xs i))
-    ≡ unended_among xs + one_if (is_unended (Some q))
-unfolding unended_among
-unended_set xs i q lt = among_set is_unended xs i q lt
-
-pub running_set : (xs : List Request) (i : ℕ) (q : Request) → i < length xs
-    → running_among (set xs i q) + one_if (runs (slice_get xs i))
-    ≡ running_among xs + one_if (runs (Some q))
-unfolding running_among
-running_set xs i q lt = among_set runs xs i q lt
-
 pub unended_none : unended_among [] ≡ 0
 unfolding unended_among
 unended_none = refl
@@ -63,28 +42,6 @@ unended_none = refl
 pub running_none : running_among [] ≡ 0
 unfolding running_among
 running_none = refl
-
-pub unended_within : (xs : List Request) → unended_among xs ≤ length xs
-unfolding unended_among
-unended_within xs = count_below_within _ (length xs)
-
-pub running_within : (xs : List Request) → running_among xs ≤ length xs
-unfolding running_among
-running_within xs = count_below_within _ (length xs)
-
-pub unended_some : (xs : List Request) (i : ℕ) → i < length xs → is_unended (slice_get xs i) ≡ true
-    → 0 < unended_among xs
-unfolding unended_among
-unended_some xs i lt e = count_below_some _ (length xs) i lt e
-
-pub running_some : (xs : List Request) (i : ℕ) → i < length xs
-    → one_if (runs (slice_get xs i)) ≤ running_among xs
-unfolding running_among
-running_some xs i lt = go (runs (slice_get xs i)) refl
-  where
-    go : (b : Bool) → runs (slice_get xs i) ≡ b → one_if b ≤ count_below (λ k. runs (slice_get xs k)) (length xs)
-    go true e = count_below_some _ (length xs) i lt e
-    go false e = omega arith
 
 -- What is kept shows how many are outstanding and running.
 
@@ -138,55 +95,77 @@ running_shown s r h =
     (λ n lt. and_right _ _ (ap not (h.gone n lt)))
     ∙ ap (count_below (is_running r)) h.count
 
--- One request is written anew.
+-- the dispatcher shows what is kept
+pub dispatch_shows : (t : Window) (k : KeptDrains) (c : Bool) (room : ℕ) (between : Bool) (l : LinuxRequests)
+    → Shows t l.requests → k.drains ≡ l.drains
+    → c ≡ some_below (λ m. asks_to_skip (entry_of l.requests m)) (length l.requests.accepted)
+    → ShowsRequests (dispatch_of t k c room between) l
+dispatch_shows t k c room between l shows drains skipped = record {
+  accepted = shows.count;
+  outstanding = unended_shown t l.requests shows;
+  running = running_shown t l.requests shows;
+  held = record { window = roomed t.first t.items t.room 0 l.requests shows; drains = drains; skipped = skipped };
+}
+
+-- Both counts.
+
+-- this counts those that pass the test
+pub record Counts (p : Option Request → Bool) (f : List Request → ℕ) : Type 0 where
+  pub is : (xs : List Request) → f xs ≡ among p xs
+
+pub unended_counts : Counts is_unended unended_among
+unfolding unended_among
+unended_counts = record { is = λ xs. refl }
+
+pub running_counts : Counts runs running_among
+unfolding running_among
+running_counts = record { is = λ xs. refl }
 
 pub kept_at : (s : Window) (n : ℕ) (q : Request) → at s n ≡ Some q → slice_get s.items (n - s.first) ≡ Some q
 kept_at s n q e = let w = at_within s n q e in sym (at_high s n w.low) ∙ e
 
-pub unended_written : (s : Window) (n : ℕ) (q t : Request) → at s n ≡ Some q
-    → unended_among (set s.items (n - s.first) t) + one_if (is_unended (Some q))
-    ≡ unended_among s.items + one_if (is_unended (Some t))
-unended_written s n q t e =
-    let here = kept_at s n q e in
-    ap (λ o. unended_among (set s.items (n - s.first) t) + one_if (is_unended o)) (sym here)
-    ∙ unended_set s.items (n - s.first) t (slice_get_within s.items (n - s.first) q here)
+module _ {p : Option Request → Bool} {f : List Request → ℕ} (c : Counts p f) where
+  pub count_within : (xs : List Request) → f xs ≤ length xs
+  count_within xs = let few = count_below_within (λ k. p (slice_get xs k)) (length xs) in let all = c.is xs in omega arith
 
-pub running_written : (s : Window) (n : ℕ) (q t : Request) → at s n ≡ Some q
-    → running_among (set s.items (n - s.first) t) + one_if (runs (Some q))
-    ≡ running_among s.items + one_if (runs (Some t))
-running_written s n q t e =
-    let here = kept_at s n q e in
-    ap (λ o. running_among (set s.items (n - s.first) t) + one_if (runs o)) (sym here)
-    ∙ running_set s.items (n - s.first) t (slice_get_within s.items (n - s.first) q here)
+  pub count_pushed : (xs : List Request) (q : Request) → f (xs ++ q ∷ []) ≡ f xs + one_if (p (Some q))
+  count_pushed xs q = c.is (xs ++ q ∷ []) ∙ among_pushed p xs q ∙ ap (λ k. k + one_if (p (Some q))) (sym (c.is xs))
 
-pub unended_same : (s : Window) (n : ℕ) (q t : Request) → at s n ≡ Some q
-    → is_unended (Some t) ≡ is_unended (Some q)
-    → unended_among (set s.items (n - s.first) t) ≡ unended_among s.items
-unended_same s n q t e same =
-    let all = unended_written s n q t e in
-    let one : one_if (is_unended (Some t)) ≡ one_if (is_unended (Some q)) = ap one_if same in
-    omega arith
+  -- one request is written anew
+  pub count_written : (s : Window) (n : ℕ) (q t : Request) → at s n ≡ Some q
+      → f (set s.items (n - s.first) t) + one_if (p (Some q)) ≡ f s.items + one_if (p (Some t))
+  count_written s n q t e =
+      let here = kept_at s n q e in
+      let change = among_set p s.items (n - s.first) t (slice_get_within s.items (n - s.first) q here) in
+      let was : one_if (p (slice_get s.items (n - s.first))) ≡ one_if (p (Some q)) = ap (λ o. one_if (p o)) here in
+      let after = c.is (set s.items (n - s.first) t) in
+      let before = c.is s.items in
+      omega arith
 
-pub running_same : (s : Window) (n : ℕ) (q t : Request) → at s n ≡ Some q → runs (Some t) ≡ runs (Some q)
-    → running_among (set s.items (n - s.first) t) ≡ running_among s.items
-running_same s n q t e same =
-    let all = running_written s n q t e in
-    let one : one_if (runs (Some t)) ≡ one_if (runs (Some q)) = ap one_if same in
-    omega arith
+  pub count_same : (s : Window) (n : ℕ) (q t : Request) → at s n ≡ Some q → p (Some t) ≡ p (Some q)
+      → f (set s.items (n - s.first) t) ≡ f s.items
+  count_same s n q t e same =
+      let all = count_written s n q t e in
+      let one : one_if (p (Some t)) ≡ one_if (p (Some q)) = ap one_if same in
+      omega arith
 
--- there is one at least
+  -- one that passes is counted
+  pub count_some : (s : Window) (n : ℕ) (q : Request) → at s n ≡ Some q → one_if (p (Some q)) ≤ f s.items
+  count_some s n q e =
+      let here = kept_at s n q e in
+      let all = c.is s.items in
+      elim (cases_Bool (p (Some q))) [
+        | inl passes ↦
+            let one : one_if (p (Some q)) ≡ 1 = ap one_if passes in
+            let some = count_below_some (λ k. p (slice_get s.items k)) (length s.items) (n - s.first) (slice_get_within s.items (n - s.first) q here) (ap p here ∙ passes) in
+            omega arith
+        | inr fails ↦ let none : one_if (p (Some q)) ≡ 0 = ap one_if fails in omega arith
+      ]
+
 pub unended_one : (s : Window) (n : ℕ) (q : Request) → at s n ≡ Some q → is_unended (Some q) ≡ true
     → 0 < unended_among s.items
 unended_one s n q e open_ =
-    let here = kept_at s n q e in
-    unended_some s.items (n - s.first) (slice_get_within s.items (n - s.first) q here) (ap is_unended here ∙ open_)
-
-pub running_one : (s : Window) (n : ℕ) (q : Request) → at s n ≡ Some q
-    → one_if (runs (Some q)) ≤ running_among s.items
-running_one s n q e =
-    let here = kept_at s n q e in
-    subst (λ o. one_if (runs o) ≤ running_among s.items) here
-    (running_some s.items (n - s.first) (slice_get_within s.items (n - s.first) q here))
+    let some = count_some unended_counts s n q e in let one : one_if (is_unended (Some q)) ≡ 1 = ap one_if open_ in omega arith
 
 -- Whatever room there is.
 

@@ -1,8 +1,8 @@
 -- What each event changes in what is kept.
-use Rattle.std.proofs.Common.{◌≡◌, ◌≢◌, ℕ, suc, ◌+◌, ◌-◌, ◌<◌, ◌≤◌, ℤ, length, Bool, true, false, not, ◌&&◌, ◌||◌, ◌==◌, List, [], ◌∷◌, ◌++◌, set, slice_get, Some, None, refl, sym, ◌∙◌, ap, subst, arith, inl, inr, length-append, length-set}
+use Rattle.std.proofs.Common.{◌≡◌, ◌≢◌, ℕ, suc, ◌+◌, ◌-◌, ◌<◌, ◌≤◌, ℤ, length, Bool, true, false, not, ◌&&◌, ◌||◌, ◌==◌, List, [], ◌∷◌, ◌++◌, set, slice_get, Some, None, refl, sym, ◌∙◌, ap, arith, inl, inr, length-append, length-set, zero}
 use Rattle.std.specs.List.{list_any}
 use Rattle.std.proofs.lemmas.Bool.{cases_lt, cases_eq, ne_eqb, and_left}
-use Rattle.std.proofs.lemmas.Option.{slice_get_past, slice_get-get_or, slice_get_within}
+use Rattle.std.proofs.lemmas.Option.{slice_get_past, slice_get-get_or, slice_get_within, same_Some}
 use Rattle.std.proofs.lemmas.List.{get_or-set_same, get_or-set_other}
 use Rattle.std.proofs.Math.Seq.{get_or-append_seam}
 use Rattle.uring_entry.specs.Layout.{Sqe}
@@ -12,7 +12,7 @@ use Rattle.uring_entry.specs.Requests.{Requests, no_request, entry_of, is_linked
 use Rattle.uring_entry.proofs.BelowLemmas.{some_below_same}
 use Rattle.uring_entry.specs.Below.{some_below}
 use Rattle.std.proofs.Math.Bool.{or-false}
-use Rattle.uring_entry.proofs.RequestLemmas.{get_or_push_other, entry_of_accepted_at, entry_of_accepted_other, has_failed_unended, has_failed_accepted, has_ended_other, has_ended_same, has_failed_other, has_failed_same, is_running_started_same, is_running_started_other, is_running_ended_same, is_running_ended_other, added_other}
+use Rattle.uring_entry.proofs.RequestLemmas.{entry_of_accepted_at, entry_of_accepted_other, has_failed_unended, has_failed_accepted, has_ended_other, has_ended_same, has_failed_other, has_failed_same, is_running_started_same, is_running_started_other, is_running_ended_same, is_running_ended_other, added_other}
 use Rattle.uring_entry.proofs.GroupEvents.{entry_same, is_last_cut, is_last_cut_last}
 use Rattle.uring_linux.specs.declared.request.Request.{Request}
 use Rattle.uring_linux.specs.Groups.{IsGrouped}
@@ -28,16 +28,10 @@ push_here xs x =
 
 pub push_other : (xs : List Request) (x : Request) (k : ℕ) → k ≢ length xs
     → slice_get (xs ++ x ∷ []) k ≡ slice_get xs k
-push_other xs x k ne =
-    let long = length-append xs (x ∷ []) in
-    elim (cases_lt k (length xs)) [
-      | inl low ↦
-          slice_get-get_or (xs ++ x ∷ []) k x (omega (arith, long)) ∙ ap Some (get_or_push_other xs x k x ne)
-          ∙ sym (slice_get-get_or xs k x low)
-      | inr high ↦
-          let past : length (xs ++ x ∷ []) ≤ k = grind (arith, long, ne) in
-          slice_get_past (xs ++ x ∷ []) k past ∙ sym (slice_get_past xs k high)
-    ]
+push_other [] x zero ne = absurd (ne refl)
+push_other [] x (suc k) ne = refl
+push_other (y ∷ xs) x zero ne = refl
+push_other (y ∷ xs) x (suc k) ne = push_other xs x k (λ e. ne (ap suc e))
 
 pub is_set_here : (xs : List Request) (x : Request) (i : ℕ) → i < length xs → slice_get (set xs i x) i ≡ Some x
 is_set_here xs x i lt =
@@ -103,11 +97,11 @@ pub record Keeps (s : Window) (r : Requests) : Type 0 where
   pub later : (n : ℕ) → length r.accepted ≤ n → IsNew r n
 
 pub keeps : (s : Window) (r : Requests) → Shows s r → Keeps s r
-keeps s r h = record { count = h.count; told = h.told; gone = h.gone; begins = h.begins; later = h.later }
+keeps s r h = assumption
 
 pub shows : (s : Window) (r : Requests) → Keeps s r
     → ((n : ℕ) (q : Request) → at s n ≡ Some q → IsGrouped q.group r n) → Shows s r
-shows s r h grouped = record { count = h.count; told = h.told; gone = h.gone; begins = h.begins; later = h.later; grouped = grouped }
+shows s r h grouped = assumption
 
 -- An entry is accepted.
 
@@ -148,9 +142,7 @@ accepted_keeps s q room r e h t =
       told = λ n x is.
           elim (cases_eq n (end_of s)) [
             | inl same ↦
-                let here : x ≡ q = let f : Some x ≡ Some q = sym is ∙ ap (at _) same ∙ at_push_here s q room in cc in
-                subst (λ y. Tells y (with_accepted r e) n) (sym here)
-                (subst (λ k. Tells q (with_accepted r e) k) (sym (same ∙ count)) t)
+                rw (same_Some x q (sym is ∙ ap (at _) same ∙ at_push_here s q room), same ∙ count) t
             | inr other ↦
                 let was : at s n ≡ Some x = sym (at_push_other s q room n other) ∙ is in
                 let w = at_within s n x was in
@@ -158,7 +150,7 @@ accepted_keeps s q room r e h t =
           ];
       gone = h.gone;
       begins = λ k is. last_accepted r e k (omega (arith, is, count)) ∙ h.begins k is;
-      later = λ n le. let new = h.later n (omega (arith, le, more)) in record { started = new.started; ended = new.ended; cut = new.cut };
+      later = λ n le. let new = h.later n (omega (arith, le, more)) in assumption;
     }
 
 -- One request is written anew.
@@ -180,8 +172,7 @@ written_keeps s q r t n h w f here =
       told = λ k x is.
           elim (cases_eq k n) [
             | inl same ↦
-                let one : x ≡ q = let g : Some x ≡ Some q = sym is ∙ ap (at _) same ∙ at_set_here s q n w in cc in
-                subst (λ y. Tells y t k) (sym one) (subst (λ j. Tells q t j) (sym same) here)
+                rw (same_Some x q (sym is ∙ ap (at _) same ∙ at_set_here s q n w), same) here
             | inr other ↦ f.others x k other (h.told k x (sym (at_set_other s q n k w.low other) ∙ is))
           ];
       gone = λ k lt. f.gone k (h.gone k lt);
@@ -192,15 +183,7 @@ written_keeps s q r t n h w f here =
 -- A request starts.
 
 tells_started : (q : Request) (r : Requests) (n k : ℕ) → k ≢ n → Tells q r k → Tells q (with_started r n) k
-tells_started q r n k ne t = record {
-  entry = t.entry;
-  faulty = t.faulty;
-  refused = t.refused;
-  last = t.last;
-  running = t.running ∙ sym (is_running_started_other r n k ne);
-  ended = t.ended;
-  failed = t.failed;
-}
+tells_started q r n k ne t = let running = t.running ∙ sym (is_running_started_other r n k ne) in assumption
 
 pub started_keeps : (s : Window) (q : Request) (r : Requests) (n : ℕ) → Keeps s r → at s n ≡ Some q
     → has_ended r n ≡ false
@@ -215,21 +198,9 @@ started_keeps s q r n h here going =
       gone = λ k e. e;
       begins = λ k e. e;
       later = λ k le new.
-          record {
-            started = added_other (λ m. m == k) r.started n (ne_eqb n k (λ e. absurd (omega (arith, e, le, w.high, h.count)))) ∙ new.started;
-            ended = new.ended;
-            cut = new.cut;
-          };
+          let started = added_other (λ m. m == k) r.started n (ne_eqb n k (λ e. absurd (omega (arith, e, le, w.high, h.count)))) ∙ new.started in assumption;
     })
-    (record {
-      entry = t.entry;
-      faulty = t.faulty;
-      refused = t.refused;
-      last = t.last;
-      running = sym (is_running_started_same r n going);
-      ended = t.ended;
-      failed = t.failed;
-    })
+    (let running = sym (is_running_started_same r n going) in assumption)
 
 -- A request ends.
 
@@ -262,11 +233,7 @@ ended_keeps s q r n res bytes failed h here going is =
           ];
       begins = λ k e. e;
       later = λ k le new.
-          record {
-            started = new.started;
-            ended = has_ended_other r n res bytes k (λ e. absurd (omega (arith, e, le, w.high, h.count))) ∙ new.ended;
-            cut = new.cut;
-          };
+          let ended = has_ended_other r n res bytes k (λ e. absurd (omega (arith, e, le, w.high, h.count))) ∙ new.ended in assumption;
     })
     (record {
       entry = t.entry;
@@ -288,23 +255,12 @@ last_kept r k was =
     ]
 
 pub new_cut : (r : Requests) (k : ℕ) → length r.accepted ≤ k → IsNew r k → IsNew (with_cut r) k
-new_cut r k le new = record {
-  started = new.started;
-  ended = new.ended;
-  cut = added_other (λ cut. cut == k + 1) r.cuts (length r.accepted) (ne_eqb _ _ (λ e. absurd (omega (arith, e, le)))) ∙ new.cut;
-}
+new_cut r k le new =
+    let cut = added_other (λ cut. cut == k + 1) r.cuts (length r.accepted) (ne_eqb _ _ (λ e. absurd (omega (arith, e, le)))) ∙ new.cut in assumption
 
 tells_cut : (q : Request) (r : Requests) (k : ℕ) → suc k ≢ length r.accepted → Tells q r k
     → Tells q (with_cut r) k
-tells_cut q r k ne t = record {
-  entry = t.entry;
-  faulty = t.faulty;
-  refused = t.refused;
-  last = t.last ∙ sym (is_last_cut r k ne);
-  running = t.running;
-  ended = t.ended;
-  failed = t.failed;
-}
+tells_cut q r k ne t = let last = t.last ∙ sym (is_last_cut r k ne) in assumption
 
 pub cut_keeps : (s : Window) (q : Request) (r : Requests) (n : ℕ) → Keeps s r → at s n ≡ Some q
     → n + 1 ≡ end_of s
@@ -320,15 +276,7 @@ cut_keeps s q r n h here is =
       begins = last_kept r;
       later = new_cut r;
     })
-    (record {
-      entry = t.entry;
-      faulty = t.faulty;
-      refused = t.refused;
-      last = sym (is_last_cut_last r n (omega (arith, is, h.count)));
-      running = t.running;
-      ended = t.ended;
-      failed = t.failed;
-    })
+    (let last = sym (is_last_cut_last r n (omega (arith, is, h.count))) in assumption)
 
 pub cut_keeps_none : (s : Window) (r : Requests) → Keeps s r → end_of s ≤ s.first
     → Keeps s (with_cut r)
@@ -346,14 +294,7 @@ pub roomed : (first : ℕ) (items : List Request) (room other : ℕ) (r : Reques
     → Shows (record { first = first; items = items; room = room }) r
     → Shows (record { first = first; items = items; room = other }) r
 unfolding at
-roomed first items room other r h = record {
-  count = h.count;
-  told = h.told;
-  gone = h.gone;
-  begins = h.begins;
-  later = h.later;
-  grouped = h.grouped;
-}
+roomed first items room other r h = assumption
 
 -- whether skipped success was asked for, after one more entry
 pub skipped_accepted : (r : Requests) (e : Sqe) (b : Bool)

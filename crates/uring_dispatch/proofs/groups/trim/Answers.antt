@@ -1,13 +1,11 @@
-use Rattle.std.proofs.Common.{◌≡◌, ◌<◌, ◌∙◌, ap, arith, length, refl, sym, subst, List, true, Some}
+use Rattle.std.proofs.Common.{◌≡◌, ◌<◌, ◌∙◌, ap, arith, length, refl, sym, subst, List, true}
 use Rattle.std.specs.Option.{option_to_list}
 use Rattle.std.specs.VecDeque.{deque_len}
 use Rattle.std.specs.List.{list_any}
-use Rattle.slab.specs.Slab.{get}
 use Rattle.uring_number_set.proofs.BlockLemmas.{popped}
 use Rattle.uring_dispatch.specs.declared.group.Barrier.{Barrier}
-use Rattle.uring_dispatch.specs.Groups.{covers, IsSorted, IsBeyond, drain_of}
-use Rattle.uring_dispatch.proofs.BarrierLemmas.{covered_pop, beyond_pop}
-use Rattle.uring_dispatch.proofs.GroupsKept.{sorted_pop, starts_at_no, starts_at_yes, head_at}
+use Rattle.uring_dispatch.specs.Groups.{covers, IsSorted, IsBeyond}
+use Rattle.uring_dispatch.proofs.GroupsKept.{sorted_pop, starts_at_no, starts_at_yes, head_at, covered_pop, beyond_pop}
 use Rattle.uring_dispatch.proofs.groups.trim.Goals as goal
 
 pub loop-barrier-preserved : goal.loop-barrier-preserved
@@ -31,5 +29,4 @@ pub returns-then-is_live-clause-live : goal.returns-then-is_live-clause-live
 returns-then-is_live-clause-live c = λ b rest e.
     let same = head_at _ b rest c.in-Some.barrier.now e c.in-Some.ensures.lookup in
     let is = starts_at_yes _ _ (sym c.is_live.ensures ∙ c.if-is_live.true) in
-    let P : Barrier → Type 0 = λ x. drain_of (get c.args.groups.now x.key) ≡ Some x.number in
-    subst P same is
+    rw (← same) is

@@ -11,8 +11,7 @@ pub returns-then-left-bit-clause-here : goal.returns-then-left-bit-clause-here
 returns-then-left-bit-clause-here c =
     let bit = shr_and_one c.args.block c.loop-i.i in
     let few = bit_at-lt c.args.block c.loop-i.i in
-    let some = c.if-left-bit.true in
-    omega arith
+    omega (arith, c.if-left-bit.true)
 
 pub returns-then-left-bit-clause-before : goal.returns-then-left-bit-clause-before
 returns-then-left-bit-clause-before c =

@@ -16,8 +16,7 @@ loop-n-preserved c = record {
 
 pub returns-clause-full : goal.returns-clause-full
 returns-clause-full c =
-    let within = c.loop-n.invariant.found.stop in
-    omega (arith, c.loop-n.invariant.stop, c.end-n-end.ensures.value)
+    omega (arith, c.loop-n.invariant.found.stop, c.loop-n.invariant.stop, c.end-n-end.ensures.value)
 
 pub returns-clause-fits : goal.returns-clause-fits
 returns-clause-fits c = omega (arith, c.end-n-end.ensures.limit, c.end-n-end.ensures.value)

@@ -15,6 +15,3 @@ returns-in-Some-clause-shows c = λ r s.
 pub returns-in-None-clause-answer : goal.returns-in-None-clause-answer
 returns-in-None-clause-answer c = λ r s.
     finished_none r c.args.n c.args.outcome.res (rw (to_z-of_z w32 c.args.outcome.res (search rules)) at (c.in-None.ensures.answer r s))
-
-pub returns-in-None-clause-shows : goal.returns-in-None-clause-shows
-returns-in-None-clause-shows c = λ r s. c.in-None.ensures.shows r c.args.outcome.bytes s

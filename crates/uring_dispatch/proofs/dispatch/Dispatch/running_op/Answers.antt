@@ -5,7 +5,7 @@ use Rattle.uring_dispatch.proofs.dispatch.Dispatch.running_op.Goals as goal
 
 pub returns-in_err-request : goal.returns-in_err-request
 returns-in_err-request c = λ r s.
-    c.from_residual.ensures ∙ operation_none r c.args.n (running_none _ c.self.inside.outstanding.grouped.groups r c.args.n (held_from _ _ c.self.inside.outstanding.grouped.groups _ _ r c.self.view_is s) (sym c.in_err-request.ensures))
+    c.from_residual.ensures ∙ operation_none r c.args.n (running_none (held_from _ _ c.self.inside.outstanding.grouped.groups _ _ r c.self.view_is s) _ (sym c.in_err-request.ensures))
 
 pub returns-then-request : goal.returns-then-request
 returns-then-request c = λ r s.
@@ -13,4 +13,4 @@ returns-then-request c = λ r s.
 
 pub returns-else-request : goal.returns-else-request
 returns-else-request c = λ r s.
-    operation_none r c.args.n (running_some _ c.self.inside.outstanding.grouped.groups r c.args.n c.in_ok-request.request.now (held_from _ _ c.self.inside.outstanding.grouped.groups _ _ r c.self.view_is s) (sym c.in_ok-request.ensures) ∙ c.if-request.false)
+    operation_none r c.args.n (running_some (held_from _ _ c.self.inside.outstanding.grouped.groups _ _ r c.self.view_is s) _ (sym c.in_ok-request.ensures) ∙ c.if-request.false)

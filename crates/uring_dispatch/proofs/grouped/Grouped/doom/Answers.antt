@@ -3,6 +3,7 @@ use Rattle.std.proofs.lemmas.Bool.{le-ltb}
 use Rattle.uring_entry.specs.Groups.{is_before}
 use Rattle.uring_entry.specs.Preparation.{fault_of}
 use Rattle.uring_dispatch.proofs.WhyHeld.{doom_own, doom_member, doom_failed, doom_else}
+use Rattle.uring_dispatch.proofs.HeldLemmas.{in_group}
 use Rattle.uring_dispatch.proofs.grouped.Grouped.doom.Goals as goal
 
 pub returns-in-Err : goal.returns-in-Err
@@ -12,28 +13,19 @@ returns-in-Err c = λ r h.
 pub returns-in-Some : goal.returns-in-Some
 returns-in-Some c = λ r h.
     sym
-    (doom_member _ _ r c.args.n c.args.request.now c.group_of-group.result c.in-Some.m c.args.self.now.sound h c.requires c.group_of-group.ensures.group
-    (ap fault_of (sym (h.shown c.args.n c.args.request.now c.requires).entry) ∙ c.in_default.ensures.right.0)
-    c.in-Some.is)
+    (doom_member (in_group c.args.self.now.sound h c.requires c.group_of-group.ensures.group) (ap fault_of (sym (h.shown c.args.n c.args.request.now c.requires).entry) ∙ c.in_default.ensures.right.0) c.in-Some.is)
 
 pub returns-in-Some-broken : goal.returns-in-Some-broken
 returns-in-Some-broken c = λ r h.
     sym
-    (doom_failed _ _ r c.args.n c.args.request.now c.group_of-group.result c.in-Some-broken.m c.args.self.now.sound h c.requires c.group_of-group.ensures.group
-    (ap fault_of (sym (h.shown c.args.n c.args.request.now c.requires).entry) ∙ c.in_default.ensures.right.0)
-    c.in_default-fault.is c.in-Some-broken.is c.if-m-n.true)
+    (doom_failed (in_group c.args.self.now.sound h c.requires c.group_of-group.ensures.group) (ap fault_of (sym (h.shown c.args.n c.args.request.now c.requires).entry) ∙ c.in_default.ensures.right.0) c.in_default-fault.is c.in-Some-broken.is c.if-m-n.true)
 
 pub returns-in_default-broken : goal.returns-in_default-broken
 returns-in_default-broken c = λ r h.
     sym
-    (doom_else _ _ r c.args.n c.args.request.now c.group_of-group.result c.args.self.now.sound h c.requires c.group_of-group.ensures.group
-    (ap fault_of (sym (h.shown c.args.n c.args.request.now c.requires).entry) ∙ c.in_default.ensures.right.0)
-    c.in_default-fault.is
-    (ap (λ o. is_before o c.args.n) c.in-Some-broken.is ∙ le-ltb c.in-Some-broken.m c.args.n c.if-m-n.false))
+    (doom_else (in_group c.args.self.now.sound h c.requires c.group_of-group.ensures.group) (ap fault_of (sym (h.shown c.args.n c.args.request.now c.requires).entry) ∙ c.in_default.ensures.right.0) c.in_default-fault.is (ap (λ o. is_before o c.args.n) c.in-Some-broken.is ∙ le-ltb c.in-Some-broken.m c.args.n c.if-m-n.false))
 
 pub returns-in_default-broken-2 : goal.returns-in_default-broken-2
 returns-in_default-broken-2 c = λ r h.
     sym
-    (doom_else _ _ r c.args.n c.args.request.now c.group_of-group.result c.args.self.now.sound h c.requires c.group_of-group.ensures.group
-    (ap fault_of (sym (h.shown c.args.n c.args.request.now c.requires).entry) ∙ c.in_default.ensures.right.0)
-    c.in_default-fault.is (ap (λ o. is_before o c.args.n) c.in_default-broken.is))
+    (doom_else (in_group c.args.self.now.sound h c.requires c.group_of-group.ensures.group) (ap fault_of (sym (h.shown c.args.n c.args.request.now c.requires).entry) ∙ c.in_default.ensures.right.0) c.in_default-fault.is (ap (λ o. is_before o c.args.n) c.in_default-broken.is))

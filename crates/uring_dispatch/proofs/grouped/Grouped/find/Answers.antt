@@ -1,5 +1,5 @@
 use Rattle.std.proofs.Common.{sym, ◌∙◌}
-use Rattle.uring_dispatch.proofs.Finding.{found_none}
+use Rattle.uring_dispatch.proofs.Views.{found_none}
 use Rattle.uring_dispatch.proofs.ByData.{spans_all}
 use Rattle.uring_dispatch.proofs.grouped.Grouped.find.Goals as goal
 

@@ -7,6 +7,7 @@ use Rattle.uring_dispatch.specs.Groups.{Groups, group_at, drain_of, IsFirstDrain
 use Rattle.uring_dispatch.specs.Held.{AreHeld}
 use Rattle.uring_entry.proofs.GroupLemmas.{first_member_inside}
 use Rattle.uring_dispatch.proofs.WhyHeld.{first_of_all, first_draining_is, first_own}
+use Rattle.uring_dispatch.proofs.HeldLemmas.{in_group}
 use Rattle.uring_dispatch.proofs.grouped.Grouped.first_holder.Goals as goal
 
 plain : (o : Option ℕ) → is_some o ≡ false → o ≡ None
@@ -25,22 +26,16 @@ first-after w g r b from h f le key number d =
 
 pub returns-in-Some-clause-holds : goal.returns-in-Some-clause-holds
 returns-in-Some-clause-holds c = λ r h.
-    first_of_all _ _ r c.args.n c.in-Some.least c.args.request.now c.group_of-group.result c.args.self.now.sound h c.requires c.group_of-group.ensures.group
-    (sym c.is_some.ensures ∙ c.if-is_some.true) c.in-Some.ensures
+    first_of_all (in_group c.args.self.now.sound h c.requires c.group_of-group.ensures.group) (sym c.is_some.ensures ∙ c.if-is_some.true) c.in-Some.ensures
 
 pub returns-in-Some-first_draining-clause-holds : goal.returns-in-Some-first_draining-clause-holds
 returns-in-Some-first_draining-clause-holds c = λ r h.
-    first_draining_is _ _ r c.args.n c.args.request.now c.group_of-group.result c.in-Some-first_draining.first c.args.self.now.sound h c.requires c.group_of-group.ensures.group
-    (plain c.group_of-group.result.drain (sym c.is_some.ensures ∙ c.if-is_some.false)) c.in-Some-first_draining.ensures c.if-first-group.true
+    first_draining_is (in_group c.args.self.now.sound h c.requires c.group_of-group.ensures.group) (plain c.group_of-group.result.drain (sym c.is_some.ensures ∙ c.if-is_some.false)) c.in-Some-first_draining.ensures c.if-first-group.true
 
 pub returns-in-Some-2-clause-holds : goal.returns-in-Some-2-clause-holds
 returns-in-Some-2-clause-holds c = λ r h.
-    first_own _ _ r c.args.n c.args.request.now c.group_of-group.result c.args.self.now.sound h c.requires c.group_of-group.ensures.group
-    (plain c.group_of-group.result.drain (sym c.is_some.ensures ∙ c.if-is_some.false))
-    (first-after _ _ r c.in-Some-first_draining.first c.group_of-group.result.from h c.in-Some-first_draining.ensures c.if-first-group.false)
+    first_own (in_group c.args.self.now.sound h c.requires c.group_of-group.ensures.group) (plain c.group_of-group.result.drain (sym c.is_some.ensures ∙ c.if-is_some.false)) (first-after _ _ r c.in-Some-first_draining.first c.group_of-group.result.from h c.in-Some-first_draining.ensures c.if-first-group.false)
 
 pub returns-in-None-first_draining-clause-holds : goal.returns-in-None-first_draining-clause-holds
 returns-in-None-first_draining-clause-holds c = λ r h.
-    first_own _ _ r c.args.n c.args.request.now c.group_of-group.result c.args.self.now.sound h c.requires c.group_of-group.ensures.group
-    (plain c.group_of-group.result.drain (sym c.is_some.ensures ∙ c.if-is_some.false))
-    (λ key number d. absurd (c.in-None-first_draining.ensures key number d))
+    first_own (in_group c.args.self.now.sound h c.requires c.group_of-group.ensures.group) (plain c.group_of-group.result.drain (sym c.is_some.ensures ∙ c.if-is_some.false)) (λ key number d. absurd (c.in-None-first_draining.ensures key number d))

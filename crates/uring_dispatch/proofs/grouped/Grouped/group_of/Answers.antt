@@ -8,7 +8,7 @@ use Rattle.uring_dispatch.proofs.grouped.Grouped.group_of.Goals as goal
 
 pub unreachable-requires : goal.unreachable-requires
 unreachable-requires c =
-    let link = linked _ _ c.args.n c.args.request.now c.args.self.now.sound c.requires in
+    let link = linked c.args.self.now.sound c.requires in
     both_ways _ (ap is_some (sym c.in_default.ensures)) (ap is_some link.found)
 
 pub returns-clause-own : goal.returns-clause-own

@@ -2,26 +2,26 @@ use Rattle.std.proofs.Common.{sym, ◌∙◌, ap, not, arith, inl, inr}
 use Rattle.std.proofs.lemmas.Bool.{cases_Bool, both_ways}
 use Rattle.uring_entry.proofs.BelowLemmas.{is_some_value}
 use Rattle.uring_dispatch.specs.Window.{at}
-use Rattle.uring_dispatch.proofs.HeldLemmas.{not_least, after_barrier, not_alone, ready_held}
+use Rattle.uring_dispatch.proofs.HeldLemmas.{not_least, after_barrier, not_alone, ready_held, in_group}
 use Rattle.uring_dispatch.proofs.grouped.Grouped.is_ready.Goals as goal
 
 pub returns-then-group-n : goal.returns-then-group-n
 returns-then-group-n c = λ r h.
     let q = is_some_value (at c.args.self.now.window c.args.n) c.requires.there in
-    sym (not_least _ _ r c.args.n q.0 c.args.group.now c.args.self.now.sound h q.1 (c.requires.group q.0 q.1) (λ e. absurd (omega (arith, e))))
+    sym (not_least (in_group c.args.self.now.sound h q.1 (c.requires.group q.0 q.1)) (λ e. absurd (omega (arith, e))))
 
 pub returns-then-has_barrier_before : goal.returns-then-has_barrier_before
 returns-then-has_barrier_before c = λ r h.
     let q = is_some_value (at c.args.self.now.window c.args.n) c.requires.there in
     sym
-    (after_barrier _ _ r c.args.n q.0 c.args.group.now c.args.self.now.sound h q.1 (c.requires.group q.0 q.1)
+    (after_barrier (in_group c.args.self.now.sound h q.1 (c.requires.group q.0 q.1))
     (c.has_barrier_before.ensures.held c.if-has_barrier_before.true))
 
 pub returns-then-is_none : goal.returns-then-is_none
 returns-then-is_none c = λ r h.
     let q = is_some_value (at c.args.self.now.window c.args.n) c.requires.there in
     sym
-    (ready_held _ _ r c.args.n q.0 c.args.group.now c.args.self.now.sound h q.1 (c.requires.group q.0 q.1) (omega arith)
+    (ready_held (in_group c.args.self.now.sound h q.1 (c.requires.group q.0 q.1)) (omega arith)
     (c.has_barrier_before.ensures.free c.if-has_barrier_before.false)
     (λ drains. absurd (both_ways _ (c.is_none.ensures ∙ ap not c.if-is_none.true) drains)))
 
@@ -33,12 +33,12 @@ returns c = λ r h.
       | inl some ↦
           ap not some
           ∙ sym
-          (not_alone _ _ r c.args.n q.0 c.args.group.now c.args.self.now.sound h q.1 (c.requires.group q.0 q.1) drains
+          (not_alone (in_group c.args.self.now.sound h q.1 (c.requires.group q.0 q.1)) drains
           (c.has_before.ensures.some some))
       | inr none ↦
           ap not none
           ∙ sym
-          (ready_held _ _ r c.args.n q.0 c.args.group.now c.args.self.now.sound h q.1 (c.requires.group q.0 q.1) (omega arith)
+          (ready_held (in_group c.args.self.now.sound h q.1 (c.requires.group q.0 q.1)) (omega arith)
           (c.has_barrier_before.ensures.free c.if-has_barrier_before.false)
           (λ more. c.has_before.ensures.none none))
     ]

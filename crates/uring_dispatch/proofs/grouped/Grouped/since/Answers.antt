@@ -9,17 +9,17 @@ unreachable-requires c = both_ways _ (ap is_some (sym c.in_default.ensures)) c.r
 pub returns-then-other-request : goal.returns-then-other-request
 returns-then-other-request c = λ r h.
     since_is r c.args.n c.args.m _ _
-    (joined_held _ _ r c.args.n c.args.m c.args.request.now c.in-Some.other.now c.args.self.now.sound h c.requires.there (sym c.in-Some.ensures) c.requires.earlier c.if-other-request.true)
+    (joined_held c.args.self.now.sound h c.requires.there (sym c.in-Some.ensures) c.requires.earlier c.if-other-request.true)
     refl
 
 pub returns-then-drains : goal.returns-then-drains
 returns-then-drains c = λ r h.
     since_is r c.args.n c.args.m _ _
-    (joined_apart _ _ r c.args.n c.args.m c.args.request.now c.in-Some.other.now c.args.self.now.sound h c.requires.there (sym c.in-Some.ensures) c.requires.earlier c.if-other-request.false)
-    (draining_kept _ _ r c.args.m c.in-Some.other.now c.args.self.now.sound h (sym c.in-Some.ensures) ∙ sym c.drains.ensures ∙ c.if-drains.true)
+    (joined_apart c.args.self.now.sound h c.requires.there (sym c.in-Some.ensures) c.requires.earlier c.if-other-request.false)
+    (draining_kept _ c.args.self.now.sound h (sym c.in-Some.ensures) ∙ sym c.drains.ensures ∙ c.if-drains.true)
 
 pub returns-else-drains : goal.returns-else-drains
 returns-else-drains c = λ r h.
     since_is r c.args.n c.args.m _ _
-    (joined_apart _ _ r c.args.n c.args.m c.args.request.now c.in-Some.other.now c.args.self.now.sound h c.requires.there (sym c.in-Some.ensures) c.requires.earlier c.if-other-request.false)
-    (draining_kept _ _ r c.args.m c.in-Some.other.now c.args.self.now.sound h (sym c.in-Some.ensures) ∙ sym c.drains.ensures ∙ c.if-drains.false)
+    (joined_apart c.args.self.now.sound h c.requires.there (sym c.in-Some.ensures) c.requires.earlier c.if-other-request.false)
+    (draining_kept _ c.args.self.now.sound h (sym c.in-Some.ensures) ∙ sym c.drains.ensures ∙ c.if-drains.false)

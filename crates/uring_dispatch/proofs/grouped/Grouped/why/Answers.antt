@@ -8,12 +8,12 @@ pub returns-then-is_doomed : goal.returns-then-is_doomed
 returns-then-is_doomed c = λ r h.
     ap IsDoomed (c.doom.ensures r h)
     ∙ sym
-    (why_doomed r c.args.n (still_held _ _ r c.args.n c.in-Some.request.now c.args.self.now.sound h (sym c.in-Some.ensures) c.if-request.false)
+    (why_doomed r c.args.n (still_held c.args.self.now.sound h (sym c.in-Some.ensures) c.if-request.false)
     (sym (c.is_doomed.ensures r h) ∙ c.if-is_doomed.true))
 
 pub returns : goal.returns
 returns c = λ r h.
     c.waiting.ensures r h
     ∙ sym
-    (why_waiting r c.args.n (still_held _ _ r c.args.n c.in-Some.request.now c.args.self.now.sound h (sym c.in-Some.ensures) c.if-request.false)
+    (why_waiting r c.args.n (still_held c.args.self.now.sound h (sym c.in-Some.ensures) c.if-request.false)
     (sym (c.is_doomed.ensures r h) ∙ c.if-is_doomed.false))

@@ -1,7 +1,5 @@
-use Rattle.std.proofs.Common.{◌≡◌, arith, subst, sym, ◌∙◌}
+use Rattle.std.proofs.Common.{arith, sym, ◌∙◌}
 use Rattle.std.proofs.lemmas.Option.{same_Some}
-use Rattle.uring_dispatch.specs.declared.group.Group.{Group}
-use Rattle.uring_dispatch.specs.Waiting.{Starts}
 use Rattle.uring_dispatch.proofs.AcceptsListed.{accept_listed, can_grow, low_member, starts_least}
 use Rattle.uring_dispatch.proofs.ByData.{found_on, goes_accepted}
 use Rattle.uring_dispatch.proofs.outstanding.Outstanding.accept.Goals as goal
@@ -18,13 +16,8 @@ pub accept-requires-clause-low : goal.accept-requires-clause-low
 accept-requires-clause-low c = λ p is.
     let a = c.accept-group.ensures.accepts in
     let l = c.args.self.now.listed in
-    let one : _ ≡ p = same_Some _ _ (sym a.exchange.here ∙ is) in
-    let own : Starts c.args.self.now.waiting c.end-number.result =
-    record { heads = omega (arith, l.heads.start, c.end-number.ensures.value); doomed = omega (arith, l.doomed.start, c.end-number.ensures.value) }
-    in
-    let P : Group → Type 0 = λ q. Starts c.args.self.now.waiting q.least in
-    subst P one
-    (low_member _ _ _ _ _ (record { heads = omega (arith, own.heads, c.end-number.ensures.value); doomed = omega (arith, own.doomed, c.end-number.ensures.value) })
+    rw (same_Some p _ (sym is ∙ a.exchange.here))
+    (low_member _ _ _ _ _ (omega (arith, l.heads.start, l.doomed.start, c.end-number.ensures.value))
     (λ q last. starts_least c.args.self.now.grouped.window c.args.self.now.grouped.groups c.args.self.now.waiting c.accept-group.result q c.args.self.now.grouped.sound l (a.joins ∙ last)))
 
 pub invariant_of-self : goal.invariant_of-self
@@ -35,16 +28,7 @@ invariant_of-self c =
       found = let end = c.accept-group.ensures.accepts.end in found_on _ _ _ c.args.self.now.found (goes_accepted _ _ _ _ _ _ c.accept-group.ensures.accepts) (omega (arith, end, c.requires.places));
     }
 
-pub returns-clause-end : goal.returns-clause-end
-returns-clause-end c = c.accept-group.ensures.accepts.end
-
 pub returns-clause-room : goal.returns-clause-room
 returns-clause-room c = λ k r.
     let end = c.accept-group.ensures.accepts.end in
-    record {
-      window = omega (arith, r.window, c.accept-group.ensures.window_room);
-      groups = omega (arith, r.groups, c.accept-group.ensures.groups_room);
-      heads = omega (arith, r.heads, end, c.accept.ensures.heads_reach.limit);
-      doomed = omega (arith, r.doomed, end, c.accept.ensures.doomed_reach.limit);
-      places = omega (arith, r.places, end);
-    }
+    omega (arith, r, end, c.accept-group.ensures.window_room, c.accept-group.ensures.groups_room, c.accept.ensures.heads_reach.limit, c.accept.ensures.doomed_reach.limit)

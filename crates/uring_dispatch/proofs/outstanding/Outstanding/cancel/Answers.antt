@@ -34,7 +34,7 @@ returns-clause-stays c =
       last = stays.last;
       window = stays.window ∙ chosen.same.as_before.room;
       groups = stays.groups ∙ ap (λ (g : Groups). g.room) chosen.groups;
-      memory = record { heads = omega (arith, chosen.memory.heads, stays.memory.heads); doomed = omega (arith, chosen.memory.doomed, stays.memory.doomed) };
+      memory = omega (arith, chosen.memory, stays.memory);
       places = omega (arith, chosen.places, stays.places);
     }
 
@@ -43,9 +43,4 @@ returns-clause-counts c =
     let chosen = c.make_choices-res.ensures.chosen.same in
     let lost = c.end.ensures.counts in
     let none : one_if (runs (at c.make_choices-res.new.self.grouped.window c.args.n)) ≡ 0 = ap one_if (chosen.runs_on c.args.n ∙ c.requires.waits) in
-    record {
-      end = lost.end ∙ chosen.as_before.end;
-      outstanding = lost.outstanding ∙ chosen.as_before.outstanding;
-      runs = omega (arith, lost.runs, chosen.running);
-      room = lost.room ∙ chosen.as_before.room;
-    }
+    omega (arith, lost, chosen.as_before, chosen.running)

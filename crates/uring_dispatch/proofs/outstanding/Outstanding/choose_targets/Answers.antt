@@ -15,7 +15,7 @@ loop-m-init c =
     (λ r h named k lt.
     and_left _ _
     (elim (cases_lt k c.first-first.result) [
-      | inl low ↦ candidate_none _ _ r c.args.n k h (c.first-first.ensures.before k low)
+      | inl low ↦ candidate_none h c.args.n _ (c.first-first.ensures.before k low)
       | inr high ↦ outside _ _ r c.args.n k c.args.user_data _ _ h named spans (inl (omega (arith, lt, high)))
     ]))
 
@@ -24,12 +24,12 @@ loop-m-preserved c =
     elim c.if-is_target.branch [
       | then-is_target w ↦
           rw (w.self-is, w.count-is)
-          (chosen_more _ _ _ c.args.n c.args.user_data c.loop-m.m c.loop-m.count c.loop-m.invariant
+          (chosen_more c.loop-m.invariant
           (λ r h named. sym w.if-is_target.true ∙ c.is_target.ensures.target r h named)
           w.choose.ensures.chosen w.choose.ensures.shows)
       | else-is_target w ↦
           rw (w.self-is, w.count-is)
-          (chosen_past _ _ c.args.n c.args.user_data c.loop-m.m c.loop-m.count c.loop-m.invariant
+          (chosen_past c.loop-m.invariant
           (λ r h named. sym w.if-is_target.false ∙ c.is_target.ensures.target r h named))
     ]
 

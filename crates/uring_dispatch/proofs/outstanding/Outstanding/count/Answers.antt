@@ -6,7 +6,7 @@ use Rattle.uring_dispatch.proofs.IssuableLemmas.{count_start, count_end}
 use Rattle.uring_dispatch.proofs.outstanding.Outstanding.count.Goals as goal
 
 pub loop-place-init : goal.loop-place-init
-loop-place-init c = sym (count_start _ _ c.args.self.now.waiting c.limit-limit.result c.first-place.result c.args.self.now.listed c.first-place.ensures.before)
+loop-place-init c = sym (count_start c.limit-limit.result c.first-place.result c.args.self.now.listed c.first-place.ensures.before)
 
 pub overflow_add-total : goal.overflow_add-total
 overflow_add-total c =
@@ -14,8 +14,7 @@ overflow_add-total c =
     let few = count_below_within (can_go c.args.self.now.waiting c.limit-limit.result) (64 * (c.loop-place.place + 1)) in
     let so_far : c.loop-place.total ≡ count_below (can_go c.args.self.now.waiting c.limit-limit.result) (64 * c.loop-place.place) = c.loop-place.invariant in
     let ones : c.from-total.result ≡ count_ones c.block.result = c.from-total.ensures in
-    let end = c.end.ensures.limit in
-    omega arith
+    omega (arith, c.end.ensures.limit)
 
 pub loop-place-preserved : goal.loop-place-preserved
 loop-place-preserved c =
@@ -26,4 +25,4 @@ loop-place-preserved c =
 pub returns : goal.returns
 returns c = λ r h.
     c.loop-place.invariant
-    ∙ count_end _ _ r c.args.self.now.waiting c.limit-limit.result (64 * c.loop-place.place) c.args.self.now.grouped.sound h c.args.self.now.listed (c.limit-limit.ensures r h) (omega (arith, c.end.ensures.value))
+    ∙ count_end c.limit-limit.result c.args.self.now.grouped.sound h c.args.self.now.listed (c.limit-limit.ensures r h) (64 * c.loop-place.place) (omega (arith, c.end.ensures.value))

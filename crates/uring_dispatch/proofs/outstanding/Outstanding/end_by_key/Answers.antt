@@ -1,5 +1,5 @@
-use Rattle.std.proofs.Common.{arith}
-use Rattle.uring_dispatch.proofs.WaitingLemmas.{tell_outstanding, tell_after, tell_kept, keeps_both, forgotten_listed, forgotten_keeps, end_listed}
+use Rattle.std.proofs.Common.{arith, None, refl}
+use Rattle.uring_dispatch.proofs.WaitingLemmas.{tell_outstanding, tell_after, tell_kept, keeps_both, idle_listed, forgotten_keeps, end_listed}
 use Rattle.uring_dispatch.proofs.ByData.{found_on, found_dropped, goes_ended}
 use Rattle.uring_dispatch.proofs.outstanding.Outstanding.end_by_key.Goals as goal
 
@@ -8,24 +8,21 @@ forget-requires c = tell_outstanding _ _ _ c.args.n c.args.self.now.listed c.tak
 
 pub relist_other-requires : goal.relist_other-requires
 relist_other-requires c =
-    let own = forgotten_listed _ c.take_out-others.new.self.groups _ _ c.args.n c.take_out-others.ensures.gone.here c.forget.ensures.heads c.forget.ensures.doomed in
+    let own = idle_listed _ c.take_out-others.new.self.groups _ _ c.args.n None c.take_out-others.ensures.gone.here refl refl c.forget.ensures.heads c.forget.ensures.doomed in
     tell_kept _ _ _ _ _ (tell_outstanding _ _ _ c.take_out-others.result.head c.args.self.now.listed c.take_out-others.ensures.head)
     (forgotten_keeps _ _ _ _ c.args.n own c.forget.ensures.heads c.forget.ensures.doomed)
 
 pub relist_range-requires : goal.relist_range-requires
 relist_range-requires c = λ k from to.
     let doomed = c.take_out-others.ensures.doomed in
-    let own = forgotten_listed _ c.take_out-others.new.self.groups _ _ c.args.n c.take_out-others.ensures.gone.here c.forget.ensures.heads c.forget.ensures.doomed in
+    let own = idle_listed _ c.take_out-others.new.self.groups _ _ c.args.n None c.take_out-others.ensures.gone.here refl refl c.forget.ensures.heads c.forget.ensures.doomed in
     let keeps = forgotten_keeps _ _ _ _ c.args.n own c.forget.ensures.heads c.forget.ensures.doomed in
     tell_kept _ _ _ _ _ (tell_kept _ _ _ _ _ (tell_after _ _ _ c.args.n k c.args.self.now.listed c.take_out-others.ensures.there from (omega arith)) keeps) c.relist_other.ensures.keeps
-
-pub invariant_of-self : goal.invariant_of-self
-invariant_of-self c = (c.take_out-others.new.self.sound, tt)
 
 pub invariant_of-self-2 : goal.invariant_of-self-2
 invariant_of-self-2 c =
     let gone = c.take_out-others.ensures.gone in
-    let own = forgotten_listed _ c.take_out-others.new.self.groups _ _ c.args.n gone.here c.forget.ensures.heads c.forget.ensures.doomed in
+    let own = idle_listed _ c.take_out-others.new.self.groups _ _ c.args.n None gone.here refl refl c.forget.ensures.heads c.forget.ensures.doomed in
     let a = forgotten_keeps _ _ _ _ c.args.n own c.forget.ensures.heads c.forget.ensures.doomed in
     let b = c.relist_other.ensures in
     let d = c.relist_range.ensures in
@@ -36,5 +33,5 @@ invariant_of-self-2 c =
       found =
           let e = c.drop_before-2.ensures in
           let end = c.take_out-others.ensures.counts.end in
-          found_dropped _ _ _ c.first-first.result (found_on _ _ _ c.args.self.now.found (goes_ended _ _ c.args.n gone end) (omega (arith, end, c.args.self.now.found.places))) c.first-first.ensures.within c.first-first.ensures.before e.up e.no_more e.ends;
+          found_dropped _ _ _ c.first-first.result (found_on _ _ _ c.args.self.now.found (goes_ended gone end) (omega (arith, end, c.args.self.now.found.places))) c.first-first.ensures.within c.first-first.ensures.before e.up e.no_more e.ends;
     }

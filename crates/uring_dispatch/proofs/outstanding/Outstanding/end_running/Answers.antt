@@ -12,12 +12,12 @@ use Rattle.uring_dispatch.proofs.outstanding.Outstanding.end_running.Goals as go
 
 pub returns-in_default-clause-answer : goal.returns-in_default-clause-answer
 returns-in_default-clause-answer c = λ r h.
-    posted_none r c.args.n c.args.res (running_none _ _ r c.args.n h (at_keyed _ c.args.n _ (sym c.in_default.ensures.value)))
+    posted_none r c.args.n c.args.res (running_none h _ (at_keyed _ c.args.n _ (sym c.in_default.ensures.value)))
 
 pub returns-then-not-request-clause-answer : goal.returns-then-not-request-clause-answer
 returns-then-not-request-clause-answer c = λ r h.
     let there = at_keyed _ c.args.n _ (sym c.in-Some.ensures.value) ∙ c.by_key-request.ensures in
-    posted_none r c.args.n c.args.res (running_some _ _ r c.args.n _ h there ∙ c.if-not-request.true)
+    posted_none r c.args.n c.args.res (running_some h _ there ∙ c.if-not-request.true)
 
 pub group_of-group-requires : goal.group_of-group-requires
 group_of-group-requires c = at_keyed _ c.args.n _ (sym c.in-Some.ensures.value) ∙ c.by_key-request.ensures
@@ -28,7 +28,7 @@ returns-clause-answer c = λ r h.
     let entry = (h.shown c.args.n _ there).entry in
     let success = rw (to_z-of_z w32 c.args.res (search rules)) at c.succeeded-is_success.ensures in
     ap Some (c.of-posts.ensures c.args.res success ∙ ap (λ (e : Sqe). posts_of e c.args.res) entry)
-    ∙ posted_some r c.args.n c.args.res (running_some _ _ r c.args.n _ h there ∙ c.if-not-request.false)
+    ∙ posted_some r c.args.n c.args.res (running_some h _ there ∙ c.if-not-request.false)
 
 pub returns-clause-shows : goal.returns-clause-shows
 returns-clause-shows c = λ r bytes h.

@@ -6,13 +6,13 @@ use Rattle.uring_dispatch.proofs.outstanding.Outstanding.issue.Goals as goal
 
 pub returns-in_default-clause-answer : goal.returns-in_default-clause-answer
 returns-in_default-clause-answer c = λ r h.
-    issued_gone r c.args.n (outstanding_none _ _ r c.args.n h (at_keyed _ c.args.n _ (sym c.in_default.ensures.value)))
+    issued_gone r c.args.n (outstanding_none h _ (at_keyed _ c.args.n _ (sym c.in_default.ensures.value)))
 
 pub returns-then-request-clause-answer : goal.returns-then-request-clause-answer
 returns-then-request-clause-answer c = λ r h.
     let there = at_keyed _ c.args.n _ (sym c.in-Some.ensures.value) ∙ c.by_key-request.ensures in
-    issued_runs r c.args.n (outstanding_some _ _ r c.args.n _ c.args.self.now.grouped.sound h there)
-    (running_some _ _ r c.args.n _ h there ∙ c.if-request.true)
+    issued_runs r c.args.n (outstanding_some c.args.self.now.grouped.sound h _ there)
+    (running_some h _ there ∙ c.if-request.true)
 
 pub issue_waiting-requires-clause-there : goal.issue_waiting-requires-clause-there
 issue_waiting-requires-clause-there c =
@@ -22,5 +22,5 @@ pub returns-clause-answer : goal.returns-clause-answer
 returns-clause-answer c = λ r h.
     let there = at_keyed _ c.args.n _ (sym c.in-Some.ensures.value) ∙ c.by_key-request.ensures in
     c.issue_waiting.ensures.answer r h
-    ∙ issued_else r c.args.n (outstanding_some _ _ r c.args.n _ c.args.self.now.grouped.sound h there)
-    (running_some _ _ r c.args.n _ h there ∙ c.if-request.false)
+    ∙ issued_else r c.args.n (outstanding_some c.args.self.now.grouped.sound h _ there)
+    (running_some h _ there ∙ c.if-request.false)

@@ -1,4 +1,4 @@
-use Rattle.std.proofs.Common.{◌≡◌, sym, ◌∙◌, ap, refl, is_some, rules, arith}
+use Rattle.std.proofs.Common.{◌≡◌, Some, sym, ◌∙◌, ap, refl, is_some, rules, arith}
 use Rattle.std.specs.Int.{w32}
 use Rattle.std.proofs.lemmas.Int.{to_z-of_z}
 use Rattle.uring_entry.specs.Layout.{addr_of}
@@ -6,7 +6,7 @@ use Rattle.uring_entry.specs.Requests.{entry_of, no_bytes}
 use Rattle.uring_dispatch.specs.Window.{at, runs, one_if, started}
 use Rattle.uring_dispatch.specs.Groups.{Groups}
 use Rattle.uring_dispatch.proofs.HeldLemmas.{shown_within}
-use Rattle.uring_dispatch.proofs.WaitingLemmas.{tell_outstanding, started_listed, forgotten_keeps, restarted_listed}
+use Rattle.uring_dispatch.proofs.WaitingLemmas.{tell_outstanding, idle_listed, forgotten_keeps, restarted_listed}
 use Rattle.uring_entry.proofs.RequestLemmas.{never_success}
 use Rattle.uring_dispatch.proofs.Choosing.{ends_failing}
 use Rattle.uring_dispatch.proofs.Issues.{op_none, op_some, issued_faulty, issued_doomed, issued_not_ready, issued_cancel, issued_run}
@@ -17,7 +17,7 @@ use Rattle.uring_dispatch.proofs.outstanding.Outstanding.issue_waiting.Goals as 
 pub returns-in_default-clause-answer : goal.returns-in_default-clause-answer
 returns-in_default-clause-answer c = λ r h.
     let shown = h.shown c.args.n c.args.request c.requires.there in
-    issued_faulty r c.args.n (shown_within _ _ r c.args.n c.args.request c.args.self.now.grouped.sound h c.requires.there) (op_none (entry_of r c.args.n) (sym c.in_default.is ∙ shown.op))
+    issued_faulty r c.args.n (shown_within c.args.self.now.grouped.sound h c.requires.there) (op_none (entry_of r c.args.n) (sym c.in_default.is ∙ shown.op))
 
 pub returns-in_default-clause-shows : goal.returns-in_default-clause-shows
 returns-in_default-clause-shows c = λ r h.
@@ -71,12 +71,12 @@ forget-requires c = tell_outstanding _ _ _ c.args.n c.args.self.now.listed (ap i
 pub invariant_of-self : goal.invariant_of-self
 invariant_of-self c =
     let changes = c.start.ensures.changes _ c.requires.there in
-    let own = started_listed _ c.start.new.self.groups _ _ c.args.n c.args.request changes.here c.forget.ensures.heads c.forget.ensures.doomed in
+    let own = idle_listed _ c.start.new.self.groups _ _ c.args.n (Some (started c.args.request)) changes.here refl refl c.forget.ensures.heads c.forget.ensures.doomed in
     record {
       listed =
           restarted_listed _ _ _ _ _ _ c.args.n (started c.args.request) c.args.self.now.listed (ap is_some c.requires.there) changes c.start.ensures.same.end c.start.ensures.groups
           (forgotten_keeps _ _ _ _ c.args.n own c.forget.ensures.heads c.forget.ensures.doomed) own;
-      found = let end = c.start.ensures.same.end in found_on _ _ _ c.args.self.now.found (goes_changed _ _ c.args.n c.args.request (started c.args.request) c.requires.there changes end refl) (omega (arith, end, c.args.self.now.found.places));
+      found = let end = c.start.ensures.same.end in found_on _ _ _ c.args.self.now.found (goes_changed c.requires.there changes end refl) (omega (arith, end, c.args.self.now.found.places));
     }
 
 pub returns : goal.returns
@@ -87,7 +87,7 @@ returns c =
         last = ap (λ (g : Groups). g.last) c.start.ensures.groups ∙ c.requires.last;
         window = same.room;
         groups = ap (λ (g : Groups). g.room) c.start.ensures.groups;
-        memory = let heads = c.forget.ensures.heads.limit in let doomed = c.forget.ensures.doomed.limit in record { heads = omega arith; doomed = omega arith };
+        memory = omega (arith, c.forget.ensures.heads.limit, c.forget.ensures.doomed.limit);
         places = omega arith;
       };
       answer = λ r h.

@@ -10,5 +10,4 @@ invariant_of-result c =
 
 pub returns-clause-room : goal.returns-clause-room
 returns-clause-room c =
-    let end = c.new.ensures.end in
-    record { window = omega arith; groups = omega arith; heads = omega arith; doomed = omega arith; places = omega arith }
+    omega (arith, c.new.ensures.end)

@@ -17,29 +17,12 @@ invariant_of-self g c =
 
 pub returns-in_err-reserve_in-clause-kept : goal.returns-in_err-reserve_in-clause-kept
 returns-in_err-reserve_in-clause-kept g c = λ k le r.
-    let end = (alike_records _ _ c.reserve_in.ensures.same).end in
-    record {
-      window = c.reserve_in.ensures.window_kept k le r.window;
-      groups = c.reserve_in.ensures.groups_kept k le r.groups;
-      heads = omega (arith, r.heads);
-      doomed = omega (arith, r.doomed);
-      places = omega (arith, end, r.places);
-    }
-
-pub returns-in_err-reserve_in-clause-granted : goal.returns-in_err-reserve_in-clause-granted
-returns-in_err-reserve_in-clause-granted g c =
-    λ r n h grants below. absurd (false≢true (c.in_err-reserve_in.ensures.granted r n h grants below))
+    omega (arith, r, c.reserve_in.ensures.window_kept k le r.window, c.reserve_in.ensures.groups_kept k le r.groups, (alike_records _ _ c.reserve_in.ensures.same).end)
 
 pub returns-in_err-reserve_in-2-clause-kept : goal.returns-in_err-reserve_in-2-clause-kept
 returns-in_err-reserve_in-2-clause-kept g c = λ k le r.
-    let end = (alike_records _ _ c.reserve_in.ensures.same).end in
-    record {
-      window = c.reserve_in.ensures.window_kept k le r.window;
-      groups = c.reserve_in.ensures.groups_kept k le r.groups;
-      heads = omega (arith, end, r.heads, c.reserve_in-2.ensures.same_heads.same.limit);
-      doomed = omega (arith, end, r.doomed, c.reserve_in-2.ensures.same_doomed.same.limit);
-      places = omega (arith, end, r.places);
-    }
+    let sets = c.reserve_in-2.ensures in
+    omega (arith, r, c.reserve_in.ensures.window_kept k le r.window, c.reserve_in.ensures.groups_kept k le r.groups, (alike_records _ _ c.reserve_in.ensures.same).end, sets.same_heads.same.limit, sets.same_doomed.same.limit)
 
 pub returns-in_err-reserve_in-2-clause-granted : goal.returns-in_err-reserve_in-2-clause-granted
 returns-in_err-reserve_in-2-clause-granted g c = λ r n h grants below.
@@ -65,27 +48,14 @@ returns-clause-room g c =
 pub returns-clause-kept : goal.returns-clause-kept
 returns-clause-kept g c = λ k le r.
     let end = (alike_records _ _ c.reserve_in.ensures.same).end in
-    record {
-      window = c.reserve_in.ensures.window_kept k le r.window;
-      groups = c.reserve_in.ensures.groups_kept k le r.groups;
-      heads = omega (arith, end, r.heads, c.reserve_in-2.ensures.same_heads.same.limit);
-      doomed = omega (arith, end, r.doomed, c.reserve_in-2.ensures.same_doomed.same.limit);
-      places = c.reserve_in-3.ensures.kept (end_of c.reserve_in.new.self.window + k) (omega (arith, c.end.ensures.value, le)) (omega (arith, end, r.places));
-    }
+    let sets = c.reserve_in-2.ensures in
+    let places = c.reserve_in-3.ensures.kept (end_of c.reserve_in.new.self.window + k) (omega (arith, c.end.ensures.value, le)) (omega (arith, end, r.places)) in
+    omega (arith, r, places, end, c.reserve_in.ensures.window_kept k le r.window, c.reserve_in.ensures.groups_kept k le r.groups, sets.same_heads.same.limit, sets.same_doomed.same.limit)
 
 pub returns-clause-granted : goal.returns-clause-granted
 returns-clause-granted g c = λ r n h grants below.
     let end = (alike_records _ _ c.reserve_in.ensures.same).end in
     c.reserve_in-3.ensures.granted n grants (omega (arith, c.end.ensures.value, end, below))
-
-pub invariant_of-self-2 : goal.invariant_of-self-2
-invariant_of-self-2 g c = (c.reserve_in.new.self.sound, tt)
-
-pub invariant_of-self-3 : goal.invariant_of-self-3
-invariant_of-self-3 g c = (c.reserve_in.new.self.sound, tt)
-
-pub invariant_of-self-4 : goal.invariant_of-self-4
-invariant_of-self-4 g c = (c.reserve_in.new.self.sound, tt)
 
 pub invariant_of-self-in-Break-branch-2 : goal.invariant_of-self-in-Break-branch-2
 invariant_of-self-in-Break-branch-2 g c =

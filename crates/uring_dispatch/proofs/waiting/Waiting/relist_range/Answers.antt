@@ -1,6 +1,5 @@
-use Rattle.std.proofs.Common.{arith, inl, inr, ℕ, ◌≡◌, subst}
+use Rattle.std.proofs.Common.{arith, inl, inr, ◌≡◌}
 use Rattle.std.proofs.lemmas.Bool.{cases_lt}
-use Rattle.uring_dispatch.specs.Waiting.{IsListedAt}
 use Rattle.uring_dispatch.proofs.WaitingLemmas.{keeps_none, keeps_both, tell_kept}
 use Rattle.uring_dispatch.proofs.waiting.Waiting.relist_range.Goals as goal
 
@@ -16,9 +15,7 @@ loop-n-preserved c = record {
       elim (cases_lt k c.loop-n.n) [
         | inl low ↦ c.relist.ensures.keeps.told k (c.loop-n.invariant.here k from low)
         | inr high ↦
-            let same : c.loop-n.n ≡ k = omega arith in
-            let P : ℕ → Type 0 = λ j. IsListedAt c.args.grouped.now.window c.args.grouped.now.groups c.relist.new.self j in
-            subst P same c.relist.ensures.here
+            let same : k ≡ c.loop-n.n = omega arith in rw same c.relist.ensures.here
       ];
   keeps = keeps_both _ _ _ _ _ c.loop-n.invariant.keeps c.relist.ensures.keeps;
 }

@@ -1,6 +1,6 @@
 use Rattle.std.proofs.Common.{arith, sym, ◌∙◌, ap, is_some}
 use Rattle.uring_dispatch.specs.Window.{Window, at}
-use Rattle.uring_dispatch.proofs.WindowEvents.{write_changes}
+use Rattle.uring_dispatch.proofs.WindowLemmas.{write_changes}
 use Rattle.uring_dispatch.proofs.WindowFront.{by_key, keyless, choose_window}
 use Rattle.uring_dispatch.proofs.window.Window.choose.Goals as goal
 

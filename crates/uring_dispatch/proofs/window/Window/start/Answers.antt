@@ -1,6 +1,6 @@
 use Rattle.std.proofs.Common.{arith, sym, ◌∙◌, ap, is_some}
 use Rattle.uring_dispatch.specs.Window.{Window, key_at, at, runs}
-use Rattle.uring_dispatch.proofs.WindowEvents.{write_changes}
+use Rattle.uring_dispatch.proofs.WindowLemmas.{write_changes}
 use Rattle.uring_dispatch.proofs.WindowFront.{by_key, start_window, running_fits}
 use Rattle.uring_dispatch.proofs.window.Window.start.Goals as goal
 

@@ -3,7 +3,7 @@ use Rattle.uring_linux.specs.LinuxDispatch.{LinuxDispatch, ShowsRequests}
 use Rattle.uring_linux.proofs.Dispatches.{dispatch_accepted}
 use Rattle.uring_linux.specs.LinuxDispatch.{dispatch_of}
 use Rattle.uring_linux.specs.Counts.{HasAccepted}
-use Rattle.uring_linux.proofs.WindowCounts.{unended_within}
+use Rattle.uring_linux.proofs.WindowCounts.{count_within, unended_counts}
 use Rattle.uring_linux.proofs.Tallies.{accepted_counts, accepted_dispatch}
 use Rattle.uring_linux.proofs.dispatch.LinuxDispatch.accept.Goals as goal
 
@@ -17,9 +17,8 @@ returns-clause-shows c = λ l h.
 
 pub overflow_add-self : goal.overflow_add-self
 overflow_add-self c =
-    let few = unended_within c.self.inside.window.items in
-    let was = c.self.invariant.outstanding in
-    omega (arith, c.end-n.ensures.limit, c.end-n.ensures.value)
+    let few = count_within unended_counts c.self.inside.window.items in
+    omega (arith, c.self.invariant.outstanding, c.end-n.ensures.limit, c.end-n.ensures.value)
 
 pub invariant_of-self : goal.invariant_of-self
 invariant_of-self c =

@@ -7,7 +7,7 @@ use Rattle.uring_linux.specs.LinuxDispatch.{LinuxDispatch, ShowsRequests, dispat
 use Rattle.uring_linux.specs.Counts.{HasEnded, HasFinished}
 use Rattle.uring_linux.specs.Window.{at, is_unended, IsOpen}
 use Rattle.uring_linux.proofs.Tallies.{open_from, never_open, ended_counts, finished_counts, ended_dispatch}
-use Rattle.uring_linux.proofs.WindowCounts.{at_roomed, unended_one, running_one}
+use Rattle.uring_linux.proofs.WindowCounts.{at_roomed, unended_one, count_some, running_counts}
 use Rattle.uring_linux.proofs.Standings.{shown, outside_ended, dispatch_ended}
 use Rattle.uring_linux.proofs.dispatch.LinuxDispatch.end.Goals as goal
 
@@ -51,18 +51,16 @@ overflow_sub-self c =
     let here = sym c.in-Some.ensures in
     let open_ = subst (λ (d : LinuxDispatch). is_unended (at d.held.window c.args.n) ≡ true) (sym c.self.view_is) c.requires in
     let some = unended_one c.self.inside.window c.args.n c.in-Some.request here (ap is_unended (sym (at_roomed c.self.inside.window 0 c.args.n ∙ here)) ∙ open_) in
-    let was = c.self.invariant.outstanding in
-    omega arith
+    omega (arith, c.self.invariant.outstanding)
 
 pub less_if-self-inside-requires : goal.less_if-self-inside-requires
 less_if-self-inside-requires c =
     let here = sym c.in-Some.ensures in
     let open_ = subst (λ (d : LinuxDispatch). is_unended (at d.held.window c.args.n) ≡ true) (sym c.self.view_is) c.requires in
     let unended = not-true _ (ap is_unended (sym (at_roomed c.self.inside.window 0 c.args.n ∙ here)) ∙ open_) in
-    let one = running_one c.self.inside.window c.args.n c.in-Some.request here in
+    let one = count_some running_counts c.self.inside.window c.args.n c.in-Some.request here in
     let same = ap (λ b. one_if (c.in-Some.request.is_running && not b)) unended ∙ ap one_if (and-true c.in-Some.request.is_running) in
-    let was = c.self.invariant.running in
-    omega arith
+    omega (arith, c.self.invariant.running)
 
 pub invariant_of-self : goal.invariant_of-self
 invariant_of-self c =

@@ -4,7 +4,7 @@ use Rattle.uring_dispatch.proofs.Counting.{count_below_zero, length_all_below}
 use Rattle.uring_linux.specs.LinuxRequests.{is_issuable}
 use Rattle.uring_linux.specs.LinuxDispatch.{LinuxDispatch}
 use Rattle.uring_linux.proofs.PassedOver.{passed_issuable, count_passed}
-use Rattle.uring_linux.proofs.Standings.{gone_issuable, next_count, shown_as}
+use Rattle.uring_linux.proofs.Standings.{gone_issuable, shown_as}
 use Rattle.uring_linux.proofs.dispatch.LinuxDispatch.issuable.Goals as goal
 
 pub loop-k-init : goal.loop-k-init
@@ -37,7 +37,6 @@ loop-k-preserved c = record {
   counted = λ l g.
       let h = shown_as c.self.inside.window c.self.inside.drains c.self.inside.has_skipped c.self.inside.room c.self.inside.is_between_calls _ l c.self.view_is g in
       let so_far = c.loop-k.invariant.counted l g in
-      let more = next_count (is_issuable l) c.loop-k.k in
       let here = c.one-total.ensures.value l g in
       let passed = count_passed (is_issuable l) c.loop-k.k c.next_after-k.result c.next_after-k.ensures.after (λ i after lt. passed_issuable l i (c.next_after-k.ensures.skipped l.requests i h after lt)) in
       omega arith;

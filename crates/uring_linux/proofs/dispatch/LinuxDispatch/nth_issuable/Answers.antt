@@ -5,7 +5,7 @@ use Rattle.uring_dispatch.proofs.Counting.{count_below_zero, length_all_below, g
 use Rattle.uring_linux.specs.LinuxRequests.{is_issuable}
 use Rattle.uring_linux.specs.LinuxDispatch.{LinuxDispatch}
 use Rattle.uring_linux.proofs.PassedOver.{passed_issuable, count_passed}
-use Rattle.uring_linux.proofs.Standings.{gone_issuable, next_count, one_more, shown_as}
+use Rattle.uring_linux.proofs.Standings.{gone_issuable, one_more, shown_as}
 use Rattle.uring_linux.proofs.dispatch.LinuxDispatch.nth_issuable.Goals as goal
 
 pub loop-n-init : goal.loop-n-init
@@ -46,7 +46,6 @@ loop-n-preserved c = record {
   counted = λ l g.
       let h = shown_as c.self.inside.window c.self.inside.drains c.self.inside.has_skipped c.self.inside.room c.self.inside.is_between_calls _ l c.self.view_is g in
       let so_far = c.loop-n.invariant.counted l g in
-      let more = next_count (is_issuable l) c.loop-n.n in
       let here = c.one-count.ensures.value l g in
       let passed = count_passed (is_issuable l) c.loop-n.n c.next_after-n.result c.next_after-n.ensures.after (λ i after lt. passed_issuable l i (c.next_after-n.ensures.skipped l.requests i h after lt)) in
       omega arith;

@@ -4,7 +4,7 @@ use Rattle.uring_linux.specs.LinuxDispatch.{LinuxDispatch, ShowsRequests, dispat
 use Rattle.uring_linux.specs.Counts.{HasStarted}
 use Rattle.uring_linux.specs.Window.{IsOpen}
 use Rattle.uring_linux.proofs.Tallies.{open_from, never_open, started_counts, started_dispatch}
-use Rattle.uring_linux.proofs.WindowCounts.{running_within}
+use Rattle.uring_linux.proofs.WindowCounts.{count_within, running_counts}
 use Rattle.uring_linux.proofs.WindowEvents.{at_within}
 use Rattle.uring_linux.proofs.Standings.{shown, outside_ended, dispatch_started}
 use Rattle.uring_linux.proofs.dispatch.LinuxDispatch.start.Goals as goal
@@ -45,6 +45,5 @@ overflow_add-self c =
     let here = sym c.in-Some.ensures in
     let is = open_from c.self.inside.window c.args.n c.in-Some.request false (subst (λ (d : LinuxDispatch). IsOpen d.held.window c.args.n false) (sym c.self.view_is) c.requires) here in
     let counted = (started_counts c.self.inside.window c.note_start.new.self c.self.inside.drains c.self.inside.has_skipped c.self.inside.room c.self.inside.is_between_calls c.args.n c.in-Some.request here is.0 is.1 (c.note_start.ensures.written c.in-Some.request (sym c.in-Some.ensures))).running in
-    let few = running_within c.note_start.new.self.items in
-    let was = c.self.invariant.running in
-    omega (arith, c.note_start.ensures.limit)
+    let few = count_within running_counts c.note_start.new.self.items in
+    omega (arith, c.self.invariant.running, c.note_start.ensures.limit)

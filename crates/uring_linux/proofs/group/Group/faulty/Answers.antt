@@ -1,5 +1,5 @@
 use Rattle.std.proofs.Common.{◌∙◌}
-use Rattle.uring_linux.proofs.Reasons.{faulty_member_is}
+use Rattle.uring_linux.proofs.MemberLemmas.{faulty_member_is}
 use Rattle.uring_linux.proofs.group.Group.faulty.Goals as goal
 
 pub returns : goal.returns

@@ -2,7 +2,7 @@ use Rattle.std.proofs.Common.{arith, refl, sym, ◌∙◌, ap, subst}
 use Rattle.uring_entry.specs.Requests.{with_cut}
 use Rattle.uring_linux.specs.Window.{Window, unended_among, running_among, Shows}
 use Rattle.uring_linux.proofs.WindowLemmas.{not_none}
-use Rattle.uring_linux.proofs.WindowCounts.{unended_same, running_same}
+use Rattle.uring_linux.proofs.WindowCounts.{count_same, unended_counts, running_counts}
 use Rattle.uring_linux.proofs.GroupsShown.{cut_shows, cut_shows_none}
 use Rattle.uring_linux.proofs.window.Window.close.Goals as goal
 
@@ -24,8 +24,8 @@ returns-clause-shows c = λ r h.
 
 pub returns-clause-outstanding : goal.returns-clause-outstanding
 returns-clause-outstanding c =
-    ap (λ (s : Window). unended_among s.items) (c.note_last.ensures.written c.in-Some.request (sym c.in-Some.ensures)) ∙ unended_same _ _ c.in-Some.request _ (sym c.in-Some.ensures) refl
+    ap (λ (s : Window). unended_among s.items) (c.note_last.ensures.written c.in-Some.request (sym c.in-Some.ensures)) ∙ count_same unended_counts _ _ c.in-Some.request _ (sym c.in-Some.ensures) refl
 
 pub returns-clause-running : goal.returns-clause-running
 returns-clause-running c =
-    ap (λ (s : Window). running_among s.items) (c.note_last.ensures.written c.in-Some.request (sym c.in-Some.ensures)) ∙ running_same _ _ c.in-Some.request _ (sym c.in-Some.ensures) refl
+    ap (λ (s : Window). running_among s.items) (c.note_last.ensures.written c.in-Some.request (sym c.in-Some.ensures)) ∙ count_same running_counts _ _ c.in-Some.request _ (sym c.in-Some.ensures) refl

@@ -1,7 +1,7 @@
 use Rattle.std.proofs.Common.{◌≡◌, Some, refl, sym, ◌∙◌, ap}
 use Rattle.uring_linux.specs.declared.request.Request.{Request}
 use Rattle.uring_linux.specs.Window.{Window, at, unended_among, running_among}
-use Rattle.uring_linux.proofs.WindowCounts.{unended_same, running_same}
+use Rattle.uring_linux.proofs.WindowCounts.{count_same, unended_counts, running_counts}
 use Rattle.uring_linux.proofs.WindowEvents.{at_within, at_set_here, at_set_other}
 use Rattle.uring_linux.proofs.window.Window.keep_group.Goals as goal
 
@@ -23,8 +23,8 @@ returns-in-Some-clause-others c = λ k ne.
 
 pub returns-in-Some-clause-outstanding : goal.returns-in-Some-clause-outstanding
 returns-in-Some-clause-outstanding c =
-    ap (λ (s : Window). unended_among s.items) (c.note_group.ensures.written c.in-Some.first (sym c.in-Some.ensures)) ∙ unended_same _ _ c.in-Some.first _ (sym c.in-Some.ensures) refl
+    ap (λ (s : Window). unended_among s.items) (c.note_group.ensures.written c.in-Some.first (sym c.in-Some.ensures)) ∙ count_same unended_counts _ _ c.in-Some.first _ (sym c.in-Some.ensures) refl
 
 pub returns-in-Some-clause-running : goal.returns-in-Some-clause-running
 returns-in-Some-clause-running c =
-    ap (λ (s : Window). running_among s.items) (c.note_group.ensures.written c.in-Some.first (sym c.in-Some.ensures)) ∙ running_same _ _ c.in-Some.first _ (sym c.in-Some.ensures) refl
+    ap (λ (s : Window). running_among s.items) (c.note_group.ensures.written c.in-Some.first (sym c.in-Some.ensures)) ∙ count_same running_counts _ _ c.in-Some.first _ (sym c.in-Some.ensures) refl

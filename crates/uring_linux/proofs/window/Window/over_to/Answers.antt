@@ -1,4 +1,4 @@
-use Rattle.std.proofs.Common.{◌≡◌, ℕ, true, Some, sym, ◌∙◌, ap, arith, inl, inr}
+use Rattle.std.proofs.Common.{◌≡◌, ℕ, true, Some, sym, ◌∙◌, ap, arith, inl, inr, ◌<◌, ◌+◌}
 use Rattle.std.proofs.lemmas.Bool.{cases_lt, cases_Bool}
 use Rattle.uring_linux.specs.declared.request.Request.{Request}
 use Rattle.uring_linux.specs.Window.{Window, at}
@@ -23,8 +23,12 @@ loop-n-preserved c =
     let only : (k : ℕ) (q : Request) → k ≡ c.loop-n.n → at c.args.self.now k ≡ Some q → q ≡ c.in-Some.request =
     λ k q same e. let f : Some q ≡ Some c.in-Some.request = sym e ∙ ap (at c.args.self.now) same ∙ sym c.in-Some.ensures in cc
     in
-    let ended : (k : ℕ) (q : Request) → k ≡ c.loop-n.n → at c.args.self.now k ≡ Some q → q.has_ended ≡ true =
-    λ k q same e. ap (λ (x : Request). x.has_ended) (only k q same e) ∙ c.if-not-request.false
+    let ended : (k : ℕ) (q : Request) → k < c.loop-n.n + 1 → at c.args.self.now k ≡ Some q → q.has_ended ≡ true =
+    λ k q lt e.
+    elim (cases_lt k c.loop-n.n) [
+      | inl before ↦ i.ended k q before e
+      | inr here ↦ ap (λ (x : Request). x.has_ended) (only k q (omega (arith, lt, here)) e) ∙ c.if-not-request.false
+    ]
     in
     elim (cases_Bool c.in-Some.request.is_last) [
       | inl last ↦
@@ -32,11 +36,7 @@ loop-n-preserved c =
           record {
             low = omega arith;
             high = omega arith;
-            ended = λ k q lt e.
-                elim (cases_lt k c.loop-n.n) [
-                  | inl before ↦ i.ended k q before e
-                  | inr here ↦ ended k q (omega (arith, lt, here)) e
-                ];
+            ended = ended;
             last = λ k q is e. ap (λ (x : Request). x.is_last) (only k q (omega (arith, is, to)) e) ∙ last;
           }
       | inr other ↦
@@ -44,11 +44,7 @@ loop-n-preserved c =
           record {
             low = omega arith;
             high = omega arith;
-            ended = λ k q lt e.
-                elim (cases_lt k c.loop-n.n) [
-                  | inl before ↦ i.ended k q before e
-                  | inr here ↦ ended k q (omega (arith, lt, here)) e
-                ];
+            ended = ended;
             last = λ k q is e. i.last k q (omega (arith, is, to)) e;
           }
     ]

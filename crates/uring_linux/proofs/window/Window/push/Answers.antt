@@ -5,7 +5,7 @@ use Rattle.uring_linux.specs.declared.request.Test.TheVariants.{Faulty}
 use Rattle.uring_linux.specs.Groups.{with_member}
 use Rattle.uring_linux.specs.Window.{unended_among, running_among}
 use Rattle.uring_linux.proofs.GroupsShown.{Regroups, pushed_shows}
-use Rattle.uring_linux.proofs.WindowCounts.{unended_pushed, running_pushed}
+use Rattle.uring_linux.proofs.WindowCounts.{count_pushed, unended_counts, running_counts}
 use Rattle.uring_linux.proofs.WindowLemmas.{agrees}
 use Rattle.uring_linux.proofs.window.Window.push.Goals as goal
 
@@ -21,7 +21,7 @@ returns-clause-shows c = λ r e h tells.
     (subst (Regroups c.append.new.self c.keep_group.new.self) is (record { here = k.here; others = k.others; first = k.first; end = k.end }))
 
 pub returns-clause-outstanding : goal.returns-clause-outstanding
-returns-clause-outstanding c = c.keep_group.ensures.outstanding ∙ ap unended_among c.append.ensures.items ∙ unended_pushed _ _
+returns-clause-outstanding c = c.keep_group.ensures.outstanding ∙ ap unended_among c.append.ensures.items ∙ count_pushed unended_counts _ _
 
 pub returns-clause-running : goal.returns-clause-running
-returns-clause-running c = c.keep_group.ensures.running ∙ ap running_among c.append.ensures.items ∙ running_pushed _ _
+returns-clause-running c = c.keep_group.ensures.running ∙ ap running_among c.append.ensures.items ∙ count_pushed running_counts _ _
