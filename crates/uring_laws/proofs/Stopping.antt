@@ -1,6 +1,6 @@
 -- The laws of where submission calls end: from the open call as it is read off the history, and by induction over it.
 use Rattle.std.proofs.Common.{◌≡◌, ◌↔◌, ℕ, ◌+◌, ◌≤◌, ◌<◌, Bool, true, false, cond, eqb, nat_lt, List, [], ◌∷◌, ◌++◌, length, take, count_by, Option, Some, None, is_some, unwrap_or, slice_get, if◌then◌else◌, ◌⊎◌, inl, inr, refl, sym, subst, ap, ap₂, ◌∙◌, arith, append-nil}
-use Rattle.std.proofs.lemmas.Bool.{eqb-true, eqb-false, ltb-true, ltb-false, cases_Bool}
+use Rattle.std.proofs.lemmas.Bool.{eqb-true, eqb-false, cases_Bool}
 use Rattle.std.proofs.lemmas.List.{length_push, take_at}
 use Rattle.std.proofs.lemmas.List.Sums.{sum_by-cons}
 use Rattle.std.proofs.lemmas.Option.{slice_get-get_or}
@@ -29,8 +29,7 @@ use Rattle.uring_laws.proofs.Telling.{count_more, count_same, told_same}
 
 -- what a place gives is no refusal
 given_no_more : (entry : Option Sqe) → entry_answer entry ≡ answer.NoMore → ⊥
-given_no_more None e = cc
-given_no_more (Some entry) e = cc
+given_no_more entry e = grind arith
 
 -- a take gives no more exactly if all positions are taken
 no_more_at : (all : Bool) (taken count : ℕ) (place : Option Place) (p : Place)
@@ -44,21 +43,12 @@ closes_at : (few : Bool) (taken count : ℕ) (accepted missed head : ℕ) → ta
     → nat_lt taken count ≡ few
     → (cond few answer.NotAll (answer.Taken accepted missed head) ≡ answer.NotAll → ⊥)
     ↔ (taken ≡ count)
-closes_at true taken count accepted missed head within e =
-    (λ refused. absurd (refused refl), λ same. absurd (omega (arith, ltb-true taken count e, same)))
-closes_at false taken count accepted missed head within e = (λ _. omega (arith, ltb-false taken count e), λ _ f. let no : answer.Taken accepted missed head ≡ answer.NotAll = f in cc)
+closes_at few taken count accepted missed head within e = grind arith
 
 -- the positions of a call are all taken exactly if it took those that it opened with, or stopped
 all_at : (had : Bool) (taken count since opened : ℕ) → taken ≡ since
     → count ≡ (if had then since else opened) → (taken ≡ count) ↔ ((since ≡ opened) ⊎ (had ≡ true))
-all_at true taken count since opened t n = (λ _. inr refl, λ _. t ∙ sym n)
-all_at false taken count since opened t n = (
-  λ same. inl (sym t ∙ same ∙ n),
-  elim [
-    | inl all ↦ t ∙ all ∙ sym n
-    | inr had ↦ absurd cc
-  ],
-)
+all_at had taken count since opened t n = grind arith
 
 both : {A B C : Type 0} → A ↔ B → B ↔ C → A ↔ C
 both f g = (λ a. g.0 (f.0 a), λ c. f.1 (g.1 c))
