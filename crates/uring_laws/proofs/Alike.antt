@@ -96,13 +96,8 @@ module _ (g : Setup) (v : World) (s c : List ℕ) (e : List Ending) (d : Drains)
 
   issued_rings : (n : ℕ) (res : ℤ) (bytes : List ℕ)
       → HaveSameRings g (happens g v (step.Issue n) (answer.Ended res bytes)) (happens g (with_lists v s c e d) (step.Issue n) (answer.Ended res bytes))
-  issued_rings n res bytes = record {
-    submission = refl;
-    requests = issued_end_same (requests_of v) s c e a g.linux n res;
-    completions = posted_same n res no_bytes;
-    is_closed = refl;
-    drains = drains_ended_same (requests_of v) s c e a g.linux d same n res;
-  }
+  issued_rings n res bytes =
+      search (rules, issued_end_same (requests_of v) s c e a g.linux n res, posted_same n res no_bytes, drains_ended_same (requests_of v) s c e a g.linux d same n res)
 
   rings_then : (x : Step) (b : Answer) → Change g v x b
       → HaveSameRings g (happens g v x b) (happens g (with_lists v s c e d) x b)
@@ -127,13 +122,8 @@ module _ (g : Setup) (v : World) (s c : List ℕ) (e : List Ending) (d : Drains)
       issued_rings n (doomed_result g.linux v.requests n) no_bytes
   rings_then x b (cancels n outstanding idle spared ready cancel) =
       issued_rings n (cancel_result g.linux v.requests n) no_bytes
-  rings_then x b (finishes n res bytes running) = record {
-    submission = refl;
-    requests = end_same (requests_of v) s c e a n res bytes;
-    completions = posted_same n res bytes;
-    is_closed = refl;
-    drains = drains_ended_same (requests_of v) s c e a g.linux d same n res;
-  }
+  rings_then x b (finishes n res bytes running) =
+      search (rules, end_same (requests_of v) s c e a n res bytes, posted_same n res bytes, drains_ended_same (requests_of v) s c e a g.linux d same n res)
   rings_then x b _ = by_rings g (happens g v x b) s c e d a same
 
 finished_files : (g : Setup) (v w : World) (n : ℕ) (a : Answer) → AreAlike g v w

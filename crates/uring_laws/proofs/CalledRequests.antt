@@ -4,7 +4,6 @@ use Rattle.std.proofs.lemmas.Bool.{and_parts, cases_Bool, both_ways, not-true, n
 use Rattle.std.proofs.lemmas.List.{length_push}
 use Rattle.uring_laws.proofs.Growth.{IsCut}
 use Rattle.uring_entry.specs.Layout.{Sqe}
-use Rattle.uring_entry.specs.Preparation.{is_cancel}
 use Rattle.uring_entry.specs.Requests as manual
 use Rattle.uring_entry.specs.Requests.{Requests, has_ended, is_outstanding, is_joined, is_linked, is_draining, is_drain, is_ready, waits_for, holds_back, with_call}
 use Rattle.uring_entry.proofs.BelowLemmas.{some_below_same, some_below_in}
@@ -197,19 +196,9 @@ module _ (l : LinuxRequests) (entries : List Sqe) (cut : IsCut l.requests) (n : 
   may_start_kept false so = ready_kept r entries cut n within
 
   pub start_kept : (linux : Bool) → (linux ≡ true → IsBetween l) → CanStart linux l n → CanStart linux (called_by linux l entries) n
-  start_kept linux so c = record {
-    outstanding = outstanding_kept r entries cut n within ∙ c.outstanding;
-    idle = c.idle;
-    spared = ends_doomed_kept linux ∙ c.spared;
-    ready = may_start_kept linux so ∙ c.ready;
-    no_cancel = ap is_cancel (entry_kept r entries cut n within) ∙ c.no_cancel;
-  }
+  start_kept linux so c =
+      grind (arith, outstanding_kept r entries cut n within, ends_doomed_kept linux, may_start_kept linux so, entry_kept r entries cut n within)
 
   pub start_was : (linux : Bool) → (linux ≡ true → IsBetween l) → CanStart linux (called_by linux l entries) n → CanStart linux l n
-  start_was linux so c = record {
-    outstanding = sym (outstanding_kept r entries cut n within) ∙ c.outstanding;
-    idle = c.idle;
-    spared = sym (ends_doomed_kept linux) ∙ c.spared;
-    ready = sym (may_start_kept linux so) ∙ c.ready;
-    no_cancel = sym (ap is_cancel (entry_kept r entries cut n within)) ∙ c.no_cancel;
-  }
+  start_was linux so c =
+      grind (arith, outstanding_kept r entries cut n within, ends_doomed_kept linux, may_start_kept linux so, entry_kept r entries cut n within)

@@ -126,22 +126,12 @@ module _ (l : LinuxRequests) (m : ℕ) (res : ℤ) (bytes : List ℕ) (n : ℕ) 
 
   -- a request that can start can do so after the end of another, and could before it if it might then
   pub start_past : (linux : Bool) → n ≢ m → CanStart linux l n → CanStart linux (with_end linux l m res bytes) n
-  start_past linux differ c = record {
-    outstanding = outstanding_end l.requests m res bytes n differ ∙ c.outstanding;
-    idle = is_running_ended_other l.requests m res bytes n differ ∙ c.idle;
-    spared = spared_past linux c.spared c.ready;
-    ready = ready_past linux c.ready;
-    no_cancel = c.no_cancel;
-  }
+  start_past linux differ c =
+      grind (arith, outstanding_end l.requests m res bytes n differ, is_running_ended_other l.requests m res bytes n differ, spared_past linux c.spared c.ready, ready_past linux c.ready)
 
   pub start_ahead : (linux : Bool) → n ≢ m → may_start linux l n ≡ true → CanStart linux (with_end linux l m res bytes) n → CanStart linux l n
-  start_ahead linux differ ready c = record {
-    outstanding = sym (outstanding_end l.requests m res bytes n differ) ∙ c.outstanding;
-    idle = sym (is_running_ended_other l.requests m res bytes n differ) ∙ c.idle;
-    spared = spared_ahead linux ready c.spared;
-    ready = ready;
-    no_cancel = c.no_cancel;
-  }
+  start_ahead linux differ ready c =
+      grind (arith, outstanding_end l.requests m res bytes n differ, is_running_ended_other l.requests m res bytes n differ, spared_ahead linux ready c.spared)
 
 pub not_ended : (r : Requests) (n : ℕ) → is_outstanding r n ≡ true → has_ended r n ≡ false
 not_ended r n out =

@@ -1,5 +1,5 @@
 -- What a start leaves as it was, by either's rules: who is doomed, who may start, who posts and how the drains stand. Only who runs changes.
-use Rattle.std.proofs.Common.{◌≡◌, ◌≢◌, ℕ, ℤ, Bool, true, false, not, ◌&&◌, List, [], ◌∷◌, ◌++◌, Option, refl, sym, ap, ap₂, ◌∙◌, arith}
+use Rattle.std.proofs.Common.{◌≡◌, ◌≢◌, ℕ, ℤ, Bool, true, false, not, ◌&&◌, List, [], ◌∷◌, ◌++◌, Option, refl, ap, ap₂, ◌∙◌, arith}
 use Rattle.uring_entry.specs.Layout.{Sqe}
 use Rattle.uring_entry.specs.Preparation.{is_cancel}
 use Rattle.uring_entry.specs.Requests as manual
@@ -79,20 +79,10 @@ start_called g w n c = rw (c.outstanding, c.idle, c.spared, c.ready, c.no_cancel
 -- a request that can start could start before another one did, and can after it
 pub start_before : (linux : Bool) (l : LinuxRequests) (m n : ℕ) → n ≢ m
     → CanStart linux (with_started l m) n → CanStart linux l n
-start_before linux l m n differ c = record {
-  outstanding = c.outstanding;
-  idle = sym (is_running_started_other l.requests m n differ) ∙ c.idle;
-  spared = sym (ends_doomed_started linux l.requests m n) ∙ c.spared;
-  ready = sym (may_start_started linux l m n) ∙ c.ready;
-  no_cancel = c.no_cancel;
-}
+start_before linux l m n differ c =
+    grind (arith, is_running_started_other l.requests m n differ, ends_doomed_started linux l.requests m n, may_start_started linux l m n)
 
 pub start_after : (linux : Bool) (l : LinuxRequests) (m n : ℕ) → n ≢ m → CanStart linux l n
     → CanStart linux (with_started l m) n
-start_after linux l m n differ c = record {
-  outstanding = c.outstanding;
-  idle = is_running_started_other l.requests m n differ ∙ c.idle;
-  spared = ends_doomed_started linux l.requests m n ∙ c.spared;
-  ready = may_start_started linux l m n ∙ c.ready;
-  no_cancel = c.no_cancel;
-}
+start_after linux l m n differ c =
+    grind (arith, is_running_started_other l.requests m n differ, ends_doomed_started linux l.requests m n, may_start_started linux l m n)
