@@ -1,7 +1,7 @@
 -- Events that are added to those that may come next.
-use Rattle.std.proofs.Common.{◌≡◌, ℕ, zero, suc, ◌+◌, ◌-◌, ◌<◌, ◌≤◌, ℤ, pos, Bool, true, false, not, if◌then◌else◌, slice_get, nat_lt, None, List, [], ◌∷◌, ◌++◌, length, drop, Option, Some, refl, sym, ap, subst, ◌∙◌, ◌⊎◌, inl, inr, arith}
+use Rattle.std.proofs.Common.{◌≡◌, ℕ, zero, suc, ◌+◌, ◌-◌, ◌<◌, ◌≤◌, ℤ, pos, Bool, true, false, not, if◌then◌else◌, slice_get, None, List, [], ◌∷◌, ◌++◌, length, drop, Option, Some, refl, sym, ap, subst, ◌∙◌, ◌⊎◌, inl, inr, arith}
 use Rattle.std.specs.Prelude.{Contains, neg_ℤ}
-use Rattle.std.proofs.lemmas.Bool.{cases_lt, and_parts, lt-ltb}
+use Rattle.std.proofs.lemmas.Bool.{cases_lt, and_parts, lt-ltb, and_from, cases_Bool}
 use Rattle.std.proofs.lemmas.Option.{same_Some, none-some}
 use Rattle.std.proofs.lemmas.List.Elements.{Contains-append_left, Contains-push, Contains-push_cases}
 use Rattle.uring_entry.specs.Setup.{Setup}
@@ -23,7 +23,7 @@ use Rattle.uring_fill.specs.Filling.{is_hidden, seen_in, IsPart}
 use Rattle.uring_fill.specs.Parts.{is_asked, is_stale, StandsAt, Adds, HasEndsOf, IsIdle, AreNext, AreAllNext, FinishFits, TellsNext, IsErrorOf, QuietResult, with_none, with_count, with_error}
 use Rattle.uring_results.specs.Results.{may_end}
 use Rattle.uring_fill.proofs.Events.{HiddenEvent, idle_one, start, issue_end, finish_end, flush, hidden_event, flush_idle, few_moved, issued_end, part_issue, part_finish, finish_runs, quiet_end, seen_part, part_seen}
-use Rattle.uring_fill.proofs.Issuing.{both_so, outstanding_accepted}
+use Rattle.uring_fill.proofs.Issuing.{outstanding_accepted}
 use Rattle.uring_core.proofs.Sound.{sound_of}
 
 pub adds_none : (core : Core) (wanted : Option Cqe) (next : List Event) → Adds core wanted next next
@@ -211,19 +211,6 @@ errors_there e n Q first second new on further a b c res so (inr (inr (is, fine)
     subst (λ r. Contains new (issued_as n r)) (sym is) (c fine (subst Q is so))
 
 -- each end of a request of this entry as it is issued that goes on from the part is there
-issued_here : (core : Core) (seen : List Event) (wanted : Option Cqe) (h : History) (n : ℕ) (res : ℤ) (bytes : List ℕ) (quiet new : List Event)
-    → StandsAt core seen wanted h → ((x : Event) → Contains quiet x → Contains new x)
-    → ((r : ℤ) → posts core.setup.linux (world core.setup h).requests n r ≡ false → QuietResult core.setup.linux (entry_of (world core.setup h).requests n) (length (world core.setup h).requests.accepted) r → Contains quiet (issued_as n r))
-    → ((r : ℤ) → posts core.setup.linux (world core.setup h).requests n r ≡ true → wanted ≡ Some (completion_for (entry_of (world core.setup h).requests n) r no_bytes) → Contains new (issued_as n r))
-    → IsPart core.setup seen ((step.Issue n, answer.Ended res bytes) ∷ h)
-    → (told : Bool) → posts core.setup.linux (world core.setup h).requests n res ≡ told
-    → Contains new (issued_as n res)
-issued_here core seen wanted h n res bytes quiet new at kept silent loud p true told =
-    loud res told (part_issue core seen wanted h n res bytes at p told)
-issued_here core seen wanted h n res bytes quiet new at kept silent loud p false told =
-    kept (issued_as n res)
-    (silent res told (quiet_end core.setup.linux (requests_of (world core.setup h)) n res bytes (issued_end core.setup (world core.setup h) n res bytes p.lawful.0) told))
-
 pub issued_there : (core : Core) (seen : List Event) (wanted : Option Cqe) (h : History) (n : ℕ) (res : ℤ) (bytes : List ℕ) (e : Sqe) (accepted : ℕ) (quiet new : List Event)
     → StandsAt core seen wanted h → e ≡ entry_of (world core.setup h).requests n
     → accepted ≡ length (world core.setup h).requests.accepted
@@ -233,34 +220,24 @@ pub issued_there : (core : Core) (seen : List Event) (wanted : Option Cqe) (h : 
     → IsPart core.setup seen ((step.Issue n, answer.Ended res bytes) ∷ h)
     → Contains new (step.Issue n, answer.Ended res bytes)
 issued_there core seen wanted h n res bytes e accepted quiet new at is many kept silent loud p =
-    let r = (world core.setup h).requests in
     let linux = core.setup.linux in
     let ended = issued_end core.setup (world core.setup h) n res bytes p.lawful.0 in
-    subst (λ b. Contains new (step.Issue n, answer.Ended res b)) (sym ended.none)
-    (issued_here core seen wanted h n res bytes quiet new at kept
-    (subst (λ m. (x : ℤ) → posts linux r n x ≡ false → QuietResult linux (entry_of r n) m x → Contains quiet (issued_as n x)) many (subst (λ f. (x : ℤ) → posts linux r n x ≡ false → QuietResult linux f accepted x → Contains quiet (issued_as n x)) is silent))
-    (subst (λ f. (x : ℤ) → posts linux r n x ≡ true → wanted ≡ Some (completion_for f x no_bytes) → Contains new (issued_as n x)) is loud)
-    p (posts linux r n res) refl)
+    subst (λ b. Contains new (step.Issue n, answer.Ended res b)) (sym ended.none) (elim (cases_Bool (posts linux (world core.setup h).requests n res)) [
+      | inl told ↦ loud res told (rw is (part_issue core seen wanted h n res bytes at p told))
+      | inr none ↦ kept (issued_as n res) (silent res none (rw (is, many) (quiet_end linux (requests_of (world core.setup h)) n res bytes ended none)))
+    ])
 
 -- Ends of running requests.
-
-finish_by : (e : Sqe) (wanted : Option Cqe) (n : ℕ) (res : ℤ) (bytes : List ℕ) (quiet new : List Event)
-    → ((x : Event) → Contains quiet x → Contains new x)
-    → (posts_completion e res ≡ false → FinishFits e wanted res bytes → Contains quiet (step.Finish n, answer.Ended res bytes))
-    → (posts_completion e res ≡ true → FinishFits e wanted res bytes → Contains new (step.Finish n, answer.Ended res bytes))
-    → FinishFits e wanted res bytes → (told : Bool) → posts_completion e res ≡ told
-    → Contains new (step.Finish n, answer.Ended res bytes)
-finish_by e wanted n res bytes quiet new kept silent loud fits true posts = loud posts fits
-finish_by e wanted n res bytes quiet new kept silent loud fits false posts =
-    kept (step.Finish n, answer.Ended res bytes) (silent posts fits)
 
 pub finish_there : (e : Sqe) (wanted : Option Cqe) (n : ℕ) (res : ℤ) (bytes : List ℕ) (quiet new : List Event)
     → ((x : Event) → Contains quiet x → Contains new x)
     → (posts_completion e res ≡ false → FinishFits e wanted res bytes → Contains quiet (step.Finish n, answer.Ended res bytes))
     → (posts_completion e res ≡ true → FinishFits e wanted res bytes → Contains new (step.Finish n, answer.Ended res bytes))
     → FinishFits e wanted res bytes → Contains new (step.Finish n, answer.Ended res bytes)
-finish_there e wanted n res bytes quiet new kept silent loud fits =
-    finish_by e wanted n res bytes quiet new kept silent loud fits (posts_completion e res) refl
+finish_there e wanted n res bytes quiet new kept silent loud fits = elim (cases_Bool (posts_completion e res)) [
+  | inl told ↦ loud told fits
+  | inr none ↦ kept (step.Finish n, answer.Ended res bytes) (silent none fits)
+]
 
 -- All ends of one request.
 
@@ -297,7 +274,7 @@ running_outstanding g h n lawful running =
     let r = (world g h).requests in
     let parts = and_parts (has_started r n) (not (has_ended r n)) running in
     let low : n < length r.accepted = (sound_of g h lawful).requests.started_accepted n parts.0 in
-    both_so (nat_lt n (length r.accepted)) (not (has_ended r n)) (lt-ltb n (length r.accepted) low) parts.1
+    and_from _ _ (lt-ltb n (length r.accepted) low) parts.1
 
 -- what may end is outstanding
 ends_outstanding : (g : Setup) (seen : List Event) (h : History) (n : ℕ) (next : List Event)
@@ -311,8 +288,7 @@ ends_outstanding g seen h n next lawful there = record {
 
 none_outstanding : (outstanding : Bool) (e : Sqe) → None ≡ (if outstanding then Some e else None)
     → outstanding ≡ true → ⊥
-none_outstanding true e none is = cc
-none_outstanding false e none is = cc
+none_outstanding outstanding e none is = cc
 
 pub no_ends : (g : Setup) (seen : List Event) (h : History) (n : ℕ) (next : List Event)
     → IsLawfulApart g h → None ≡ entry_outstanding (world g h).requests n → HasEndsOf g seen h n next
@@ -326,13 +302,9 @@ pub accepted_ends : (g : Setup) (seen : List Event) (h : History) (n : ℕ) (nex
 accepted_ends g seen h n next lawful there =
     ends_outstanding g seen h n next lawful (λ is. there (outstanding_accepted (world g h).requests n is))
 
-entry_by : (outstanding : Bool) (e told : Sqe) → Some told ≡ (if outstanding then Some e else None) → told ≡ e
-entry_by true e told is = cc
-entry_by false e told is = absurd cc
-
 pub entry_told : (r : Requests) (n : ℕ) (told : Sqe) → Some told ≡ entry_outstanding r n
     → told ≡ entry_of r n
-entry_told r n told is = entry_by (is_outstanding r n) (entry_of r n) told is
+entry_told r n told is = grind arith
 
 -- The step that was seen next.
 

@@ -1,12 +1,11 @@
 -- Which events go on from a part, and what is so of those that do.
-use Rattle.std.proofs.Common.{◌≡◌, ℕ, ◌+◌, ◌-◌, ◌≤◌, ℤ, pos, Bool, true, false, not, ◌&&◌, ◌||◌, cond, List, [], ◌∷◌, ◌++◌, length, Option, Some, None, if◌then◌else◌, refl, sym, ap, ap₂, subst, ◌∙◌, inl, inr, arith}
+use Rattle.std.proofs.Common.{◌≡◌, ℕ, ◌+◌, ◌-◌, ◌≤◌, ℤ, pos, Bool, true, false, not, ◌&&◌, ◌||◌, cond, List, [], ◌∷◌, ◌++◌, length, Option, Some, None, if◌then◌else◌, refl, sym, ap, subst, ◌∙◌, inl, inr, arith, rules}
 use Rattle.std.specs.Prelude.{slice_get, drop, is_some, neg_ℤ}
 use Rattle.std.proofs.lemmas.Bool.{cases_lt, and_parts, or_parts, or_left, or_right}
 use Rattle.std.proofs.lemmas.Bool.Decides.{Decides-int_eq}
 use Rattle.std.proofs.lemmas.List.{length-drop}
 use Rattle.uring_entry.specs.Setup.{Setup}
-use Rattle.uring_entry.specs.Layout.{Sqe, Cqe, has}
-use Rattle.uring_entry.specs.Flags.{skip_success}
+use Rattle.uring_entry.specs.Layout.{Sqe, Cqe}
 use Rattle.uring_entry.specs.Preparation.{is_faulty, is_cancel, is_cancel_all}
 use Rattle.uring_entry.specs.Success.{is_success, posts_completion}
 use Rattle.uring_entry.specs.declared.errno.TheConstants.{ENOENT, EINVAL, EOPNOTSUPP, EALREADY, ECANCELED}
@@ -24,13 +23,13 @@ use Rattle.uring_dispatch.proofs.Counting.{length_all_below, count_below_within}
 use Rattle.uring_core.specs.Core.{Core}
 use Rattle.uring_core.specs.World.{World, requests_of}
 use Rattle.uring_core.specs.StepAnswers.{CalledForApart, FinishesApart}
-use Rattle.uring_core.specs.Events.{started_by, end_told_by, is_flush, is_store_cq_head}
+use Rattle.uring_core.specs.Events.{end_told_by, is_flush, is_store_cq_head}
 use Rattle.uring_core.specs.Histories.{Event, History, world, IsLawfulApart}
 use Rattle.uring_core.specs.declared.step.Step.{Step}
 use Rattle.uring_core.specs.declared.step.Step.TheVariants as step
 use Rattle.uring_core.specs.declared.answer.Answer.{Answer}
 use Rattle.uring_core.specs.declared.answer.Answer.TheVariants as answer
-use Rattle.uring_core.proofs.Changes.{Change, refuses, runs, dooms, cancels, finishes, change_of, not_some}
+use Rattle.uring_core.proofs.Changes.{Change, refuses, runs, dooms, cancels, change_of, not_some}
 use Rattle.uring_core.proofs.CompletionMoves.{CompletionMove, stays, ends, flushes, stores_head, completion_move}
 use Rattle.uring_core.proofs.RequestEnds.{doomed_fails}
 use Rattle.uring_core.proofs.Sound.{sound_of}
@@ -88,7 +87,7 @@ running_posts g h n res lawful running = by_rules g.linux refl where
 pub finish_runs : (running : Bool) (res : ℤ) (bytes : List ℕ) → FinishesApart running (answer.Ended res bytes)
     → running ≡ true
 finish_runs true res bytes called = refl
-finish_runs false res bytes called = absurd (let e : answer.Ended res bytes ≡ answer.NotRunning = called in cc)
+finish_runs false res bytes called = absurd cc
 
 -- so does whoever finishes
 finish_posts : (g : Setup) (h : History) (n : ℕ) (res : ℤ) (bytes : List ℕ)
@@ -102,21 +101,11 @@ finish_posts g h n res bytes lawful =
 pub start_part : (g : Setup) (seen : List Event) (h : History) (n : ℕ) → IsPart g seen h
     → IsLawfulApart g ((step.Issue n, answer.Run) ∷ h)
     → IsPart g seen ((step.Issue n, answer.Run) ∷ h)
-start_part g seen h n p lawful = record {
-  lawful = lawful;
-  results = (tt, p.results);
-  shows = p.shows;
-  posts = p.posts;
-}
+start_part g seen h n p lawful = search rules
 
 pub flush_part : (g : Setup) (seen : List Event) (h : History) (a : Answer) → IsPart g seen h
     → IsLawfulApart g ((step.Flush, a) ∷ h) → IsPart g seen ((step.Flush, a) ∷ h)
-flush_part g seen h a p lawful = record {
-  lawful = lawful;
-  results = (tt, p.results);
-  shows = p.shows;
-  posts = p.posts;
-}
+flush_part g seen h a p lawful = search rules
 
 -- Ends of running requests.
 
@@ -189,9 +178,7 @@ pub record EndsIssued (linux : Bool) (l : LinuxRequests) (n : ℕ) (res : ℤ) (
 
 goes_by : (outstanding running doomed ready : Bool) → outstanding ≡ true → running ≡ false
     → (doomed || ready) ≡ true → (outstanding && not running && (doomed || ready)) ≡ true
-goes_by true false doomed ready o r goes = goes
-goes_by false running doomed ready o r goes = absurd cc
-goes_by true true doomed ready o r goes = absurd cc
+goes_by outstanding running doomed ready o r goes = grind arith
 
 -- what is to end as doomed, or may start, can be issued
 issuable_by : (linux : Bool) (l : LinuxRequests) (n : ℕ) → is_outstanding l.requests n ≡ true
@@ -204,59 +191,39 @@ issuable_by linux l n outstanding idle goes =
 spared_by : (linux : Bool) (l : LinuxRequests) (n : ℕ) → ends_doomed linux l.requests n ≡ false
     → may_start linux l n ≡ true → linux ≡ true → kernel.is_doomed l.requests n ≡ false
 spared_by true l n spared ready is = (starts_so l n spared ready).spared
-spared_by false l n spared ready is = absurd (let f : false ≡ true = is in cc)
+spared_by false l n spared ready is = absurd cc
 
-both : (s : Step) (a : Answer) (n : ℕ) (res : ℤ) (bytes : List ℕ) → s ≡ step.Issue n
-    → a ≡ answer.Ended res bytes
-    → ◌≡◌ {A = Event} (s, a) (step.Issue n, answer.Ended res bytes)
-both s a n res bytes is told = ap₂ (λ (x : Step) (y : Answer). (x, y)) is told
-
-ends_by : (g : Setup) (w : World) (n : ℕ) (res : ℤ) (bytes : List ℕ) (s : Step) (a : Answer) → Change g w s a
-    → s ≡ step.Issue n → a ≡ answer.Ended res bytes → EndsIssued g.linux (requests_of w) n res bytes
-ends_by g w n res bytes s a (dooms m outstanding idle doomed) is told =
-    let same : m ≡ n = cc in
-    let result : doomed_result g.linux w.requests m ≡ res = cc in
-    let none : no_bytes ≡ bytes = cc in
+ends_by : (g : Setup) (w : World) (n : ℕ) (res : ℤ) (bytes : List ℕ) (a : Answer) → Change g w (step.Issue n) a
+    → a ≡ answer.Ended res bytes → EndsIssued g.linux (requests_of w) n res bytes
+ends_by g w n res bytes a (dooms _ outstanding idle doomed) told =
     record {
-      outstanding = subst (λ k. is_outstanding w.requests k ≡ true) same outstanding;
-      idle = subst (λ k. is_running w.requests k ≡ false) same idle;
-      issuable = subst (λ k. is_issuable g.linux (requests_of w) k ≡ true) same (issuable_by g.linux (requests_of w) m outstanding idle (or_left _ _ doomed));
-      none = sym none;
-      by = doomed_end (sym result ∙ ap (doomed_result g.linux w.requests) same);
+      outstanding = outstanding;
+      idle = idle;
+      issuable = issuable_by g.linux (requests_of w) n outstanding idle (or_left _ _ doomed);
+      none = cc;
+      by = doomed_end cc;
     }
-ends_by g w n res bytes s a (cancels m outstanding idle spared ready cancel) is told =
-    let same : m ≡ n = cc in
-    let result : cancel_result g.linux w.requests m ≡ res = cc in
-    let none : no_bytes ≡ bytes = cc in
+ends_by g w n res bytes a (cancels _ outstanding idle spared ready cancel) told =
     record {
-      outstanding = subst (λ k. is_outstanding w.requests k ≡ true) same outstanding;
-      idle = subst (λ k. is_running w.requests k ≡ false) same idle;
-      issuable = subst (λ k. is_issuable g.linux (requests_of w) k ≡ true) same (issuable_by g.linux (requests_of w) m outstanding idle (or_right _ _ ready));
-      none = sym none;
-      by = cancel_end (sym result ∙ ap (cancel_result g.linux w.requests) same) (subst (λ k. is_cancel (entry_of w.requests k) ≡ true) same cancel) (λ l. subst (λ k. kernel.is_doomed w.requests k ≡ false) same (spared_by g.linux (requests_of w) m spared ready l));
+      outstanding = outstanding;
+      idle = idle;
+      issuable = issuable_by g.linux (requests_of w) n outstanding idle (or_right _ _ ready);
+      none = cc;
+      by = cancel_end (cc) cancel (spared_by g.linux (requests_of w) n spared ready);
     }
-ends_by g w n res bytes s a (runs m outstanding idle spared ready cancel) is told = absurd cc
-ends_by g w n res bytes s a (finishes m got given running) is told = absurd cc
-ends_by g w n res bytes s a (refuses _ _ same silent) is told =
-    let e : ◌≡◌ {A = Option Ending} (Some (record { number = n; res = res; bytes = bytes })) None = sym (ap (λ (x : Event). end_told_by x) (both s a n res bytes is told)) ∙ silent.ends in
-    absurd cc
-ends_by g w n res bytes s a _ is told = absurd cc
+ends_by g w n res bytes a (runs _ outstanding idle spared ready cancel) told = absurd cc
+ends_by g w n res bytes a (refuses _ _ same silent) told = absurd cc
 
 pub issued_end : (g : Setup) (w : World) (n : ℕ) (res : ℤ) (bytes : List ℕ)
     → CalledForApart g w (step.Issue n) (answer.Ended res bytes)
     → EndsIssued g.linux (requests_of w) n res bytes
 issued_end g w n res bytes called =
-    ends_by g w n res bytes (step.Issue n) (answer.Ended res bytes) (change_of g w (step.Issue n) (answer.Ended res bytes) called) refl refl
+    ends_by g w n res bytes (answer.Ended res bytes) (change_of g w (step.Issue n) (answer.Ended res bytes) called) refl
 
 -- What is issued and ends without a completion.
 
-quiet_success : (skips success : Bool) → not (skips && success) ≡ false → success ≡ true
-quiet_success true true e = refl
-quiet_success true false e = absurd cc
-quiet_success false success e = absurd cc
-
 succeeds : (e : Sqe) (res : ℤ) → posts_completion e res ≡ false → is_success e res ≡ true
-succeeds e res quiet = quiet_success (has skip_success e) (is_success e res) quiet
+succeeds e res quiet = grind arith
 
 few_targets : (r : Requests) (n : ℕ) → length (targets_of r n) ≤ length r.accepted
 unfolding targets_of
@@ -328,16 +295,9 @@ record HeadsKept (w v : World) : Type 0 where
   head : v.completions.head ≡ w.completions.head
   seen_head : v.completions.seen_head ≡ w.completions.seen_head
 
-end_heads : (told : Bool) (size : ℕ) (l : Completions) (c : Cqe)
-    → ((cond told (with_posted size l c) l).head ≡ l.head) × ((cond told (with_posted size l c) l).seen_head ≡ l.seen_head)
-end_heads true size l c = (refl, refl)
-end_heads false size l c = (refl, refl)
-
 heads_by : (g : Setup) (w : World) (s : Step) (a : Answer) (v : World) → CompletionMove g w s a v
     → is_flush (s, a) ≡ false → is_store_cq_head (s, a) ≡ false → HeadsKept w v
-heads_by g w s a v (ends _ _ n res bytes r off tells accepted ended) f k =
-    let e = end_heads (posts g.linux w.requests n res) g.cq w.completions (completion_for (entry_of w.requests n) res bytes) in
-    record { head = e.0; seen_head = e.1 }
+heads_by g w s a v (ends _ _ n res bytes r off tells accepted ended) f k = grind arith
 heads_by g w s a v (flushes moved) f k = absurd cc
 heads_by g w s a v (stores_head head) f k = absurd cc
 heads_by g w s a v _ f k = record { head = refl; seen_head = refl }
@@ -355,7 +315,7 @@ settled : (g : Setup) (h : History) → IsLawfulApart g h → is_stale h ≡ fal
     → (world g h).completions.seen_head ≡ (world g h).completions.head
 settled g [] lawful e = refl
 settled g ((step.Flush, a) ∷ h) lawful e = refl
-settled g ((step.StoreCqHead, a) ∷ h) lawful e = absurd (let f : true ≡ false = e in cc)
+settled g ((step.StoreCqHead, a) ∷ h) lawful e = absurd cc
 settled g ((s, a) ∷ h) lawful e = settled_then g s a h lawful (settled g h lawful.1 e) refl refl
 
 nothing_put : (size : ℕ) (l : Completions) → IsSoundCompletions size l → l.seen_head ≡ l.head
@@ -395,37 +355,29 @@ pub data HiddenEvent (g : Setup) (h : History) : Event → Type 0 where
   finish_end : (n : ℕ) (res : ℤ) (bytes : List ℕ) → HiddenEvent g h (step.Finish n, answer.Ended res bytes)
   flush : (a : Answer) → HiddenEvent g h (step.Flush, a)
 
-both_run : (s : Step) (a : Answer) (n : ℕ) → s ≡ step.Issue n → a ≡ answer.Run
-    → ◌≡◌ {A = Event} (s, a) (step.Issue n, answer.Run)
-both_run s a n is told = ap₂ (λ (x : Step) (y : Answer). (x, y)) is told
-
-starts_by : (g : Setup) (w : World) (n : ℕ) (s : Step) (a : Answer) → Change g w s a → s ≡ step.Issue n
-    → a ≡ answer.Run → is_issuable g.linux (requests_of w) n ≡ true
-starts_by g w n s a (runs m outstanding idle spared ready cancel) is told =
-    let same : m ≡ n = cc in
-    subst (λ k. is_issuable g.linux (requests_of w) k ≡ true) same (issuable_by g.linux (requests_of w) m outstanding idle (or_right _ _ ready))
-starts_by g w n s a (refuses _ _ same silent) is told =
-    let e : Some n ≡ None = sym (ap (λ (x : Event). started_by x) (both_run s a n is told)) ∙ silent.starts in
-    absurd cc
-starts_by g w n s a _ is told = absurd cc
+starts_by : (g : Setup) (w : World) (n : ℕ) (a : Answer) → Change g w (step.Issue n) a → a ≡ answer.Run
+    → is_issuable g.linux (requests_of w) n ≡ true
+starts_by g w n a (runs _ outstanding idle spared ready cancel) told = issuable_by g.linux (requests_of w) n outstanding idle (or_right _ _ ready)
+starts_by g w n a (refuses _ _ same silent) told = absurd cc
+starts_by g w n a _ told = absurd cc
 
 pub hidden_event : (g : Setup) (h : History) (x : Event) → IsLawfulApart g (x ∷ h) → is_hidden x.0 ≡ true
     → HiddenEvent g h x
 hidden_event g h (step.Issue n, answer.Run) lawful hidden =
-    start n (starts_by g (world g h) n (step.Issue n) answer.Run (change_of g (world g h) (step.Issue n) answer.Run lawful.0) refl refl)
+    start n (starts_by g (world g h) n answer.Run (change_of g (world g h) (step.Issue n) answer.Run lawful.0) refl)
 hidden_event g h (step.Issue n, answer.Ended res bytes) lawful hidden = issue_end n res bytes
 hidden_event g h (step.Issue n, a) lawful hidden = idle_one _ (record { hidden = refl; same = refl })
 hidden_event g h (step.Finish n, answer.Ended res bytes) lawful hidden = finish_end n res bytes
 hidden_event g h (step.Finish n, a) lawful hidden = idle_one _ (record { hidden = refl; same = refl })
 hidden_event g h (step.Flush, a) lawful hidden = flush a
-hidden_event g h (s, a) lawful hidden = absurd (let f : false ≡ true = hidden in cc)
+hidden_event g h (s, a) lawful hidden = absurd cc
 
 -- Steps that are seen.
 
 no_end : (s : Step) (linux : Bool) (r : Requests) (a : Answer) → is_hidden s ≡ false
     → GivesAllowed linux r (s, a)
-no_end (step.Issue n) linux r a e = absurd (let f : true ≡ false = e in cc)
-no_end (step.Finish n) linux r a e = absurd (let f : true ≡ false = e in cc)
+no_end (step.Issue n) linux r a e = absurd cc
+no_end (step.Finish n) linux r a e = absurd cc
 no_end s linux r a e = tt
 
 ends_hidden : (s : Step) (a : Answer) (n : ℕ) (res : ℤ) (bytes : List ℕ)

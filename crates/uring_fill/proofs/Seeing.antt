@@ -1,5 +1,5 @@
 -- Events one after the other.
-use Rattle.std.proofs.Common.{◌≡◌, ℕ, suc, ◌+◌, ◌-◌, ◌<◌, ◌≤◌, Bool, true, false, List, [], ◌∷◌, ◌++◌, length, take, drop, get_or, if◌then◌else◌, refl, sym, ap, subst, ◌∙◌, inl, inr, arith, append_assoc, append-nil, Option, Some, None}
+use Rattle.std.proofs.Common.{◌≡◌, ℕ, suc, ◌+◌, ◌-◌, ◌<◌, ◌≤◌, Bool, List, [], ◌∷◌, ◌++◌, length, take, drop, get_or, if◌then◌else◌, refl, sym, ap, subst, ◌∙◌, inl, inr, arith, append_assoc, append-nil, Option}
 use Rattle.std.proofs.lemmas.List.{take_more, take-append-drop}
 use Rattle.std.specs.List.{cons_option}
 use Rattle.std.specs.Option.{option_to_list}
@@ -17,8 +17,7 @@ use Rattle.uring_fill.specs.Parts.{onto}
 use Rattle.uring_fill.proofs.Going.{lawful_onto, onto_is}
 
 pub at_most_one : (b : Bool) → (if b then 0 else 1) ≤ 1
-at_most_one true = omega arith
-at_most_one false = omega arith
+at_most_one b = grind arith
 
 -- one event more
 pub taken_next : (events : List Event) (k : ℕ) (e : Event) → k < length events → e ≡ get_or events k e
@@ -65,8 +64,7 @@ descend P count place n high before here =
 
 -- one event more, with the completion that it reaps
 added_none : (o : Option Cqe) → cons_option o [] ≡ option_to_list o
-added_none None = refl
-added_none (Some c) = refl
+added_none o = grind arith
 
 pub completions_next : (seen : List Event) (k : ℕ) (e : Event) (old mid new : List Cqe) → k < length seen
     → e ≡ get_or seen k e → mid ≡ old ++ completions_in (take k seen)

@@ -1,15 +1,15 @@
 -- Worlds that are alike answer alike, and stay alike by each event, by either's rules: `alike_go_on`.
 -- Each definition on requests and drains reads their lists only by what is found in them, so that the order of what started and ended is read by none.
 -- Stable: other crates may import what is pub.
-use Rattle.std.proofs.Common.{◌≡◌, ℕ, ℤ, true, if◌then◌else◌, List, [], ◌∷◌, ◌++◌, Option, Some, None, refl, sym, subst, ap, ap₂, ◌∙◌}
+use Rattle.std.proofs.Common.{◌≡◌, ℕ, ℤ, true, if◌then◌else◌, List, [], ◌∷◌, ◌++◌, Some, refl, sym, subst, ap, ap₂, ◌∙◌, rules}
+use Rattle.uring_linux.specs.LinuxRequests.{LinuxRequests}
 use Rattle.uring_entry.specs.Setup.{Setup}
-use Rattle.uring_entry.specs.Layout.{Sqe}
-use Rattle.uring_entry.specs.Preparation.{is_cancel, operation_of}
-use Rattle.uring_entry.specs.Submission.{Call, entries_from}
+use Rattle.uring_entry.specs.Preparation.{operation_of}
+use Rattle.uring_entry.specs.Submission.{entries_from}
 use Rattle.uring_entry.specs.Completions.{with_posted, completion_for}
-use Rattle.uring_entry.specs.Requests.{Requests, Ending, entry_of, is_outstanding, is_running, no_bytes}
+use Rattle.uring_entry.specs.Requests.{Ending, entry_of, is_running, no_bytes}
 use Rattle.uring_linux.specs.Drains.{Drains}
-use Rattle.uring_rules.specs.Rules.{ends_doomed, may_start, doomed_result, cancel_result}
+use Rattle.uring_rules.specs.Rules.{doomed_result, cancel_result}
 use Rattle.uring_files.specs.Contents.{empty_files}
 use Rattle.uring_files.specs.Operations.{after}
 use Rattle.uring_core.specs.World.{World, requests_of, happens, taking_of, taking_entry_of, ending_of, with_end_of}
@@ -25,7 +25,6 @@ use Rattle.uring_core.proofs.FileHistory.{files_kept, files_ended}
 use Rattle.uring_laws.specs.Swaps.{StandAlike, AreAlike, AlikeAnswerAlike, AlikeGoOnAlike, ChangeAnywhere}
 use Rattle.uring_laws.proofs.AlikeRequests.{AreSame, ReadSame, read_same, listed, outstanding_same, running_same}
 use Rattle.uring_laws.proofs.AlikeRules.{ends_doomed_same, may_start_same, cancel_result_same, posts_same, next_of_same, drains_called_same, drains_ended_same, issued_end_same, end_same, pushed}
-use Rattle.uring_laws.proofs.StartedRequests.{issued_by}
 use Rattle.uring_laws.proofs.WholeLaws.{lawful_apart}
 
 -- Answers.
@@ -37,11 +36,8 @@ with_lists w s c e d = record w { requests = listed w.requests s c e; drains = d
 module _ (g : Setup) (w : World) (s c : List ℕ) (e : List Ending) (d : Drains) (a : ReadSame w.requests s c e) (same : g.linux ≡ true → w.drains ≡ d) where
   pub issue_same : (n : ℕ) → issue_answer g (with_lists w s c e d) n ≡ issue_answer g w n
   issue_same n =
-      let r : Requests = w.requests in
-      let q : Requests = listed r s c e in
-      ap₂ (λ x y. issued_by x y (ends_doomed g.linux q n) (may_start g.linux (requests_of (with_lists w s c e d)) n) (is_cancel (entry_of r n)) (doomed_result g.linux q n) (cancel_result g.linux q n)) (outstanding_same r s c e a n) (running_same r s c e a n)
-      ∙ ap₂ (λ x y. issued_by (is_outstanding r n) (is_running r n) x y (is_cancel (entry_of r n)) (doomed_result g.linux q n) (cancel_result g.linux q n)) (ends_doomed_same (requests_of w) s c e a g.linux n) (may_start_same (requests_of w) s c e a g.linux d same n)
-      ∙ ap (λ z. issued_by (is_outstanding r n) (is_running r n) (ends_doomed g.linux r n) (may_start g.linux (requests_of w) n) (is_cancel (entry_of r n)) (doomed_result g.linux r n) z) (cancel_result_same (requests_of w) s c e a g.linux n)
+      let l : LinuxRequests = requests_of w in
+      cc (outstanding_same l.requests s c e a n, running_same l.requests s c e a n, ends_doomed_same l s c e a g.linux n, may_start_same l s c e a g.linux d same n, cancel_result_same l s c e a g.linux n)
 
   called_same : files_of g w ≡ files_of g (with_lists w s c e d) → (x : Step) (b : Answer) → CalledFor g w x b
       → CalledFor g (with_lists w s c e d) x b
@@ -90,34 +86,9 @@ with_files g v w rings files = assumption (rings, files)
 
 by_rings : (g : Setup) (v : World) (s c : List ℕ) (e : List Ending) (d : Drains) → AreSame v.requests s c e
     → (g.linux ≡ true → v.drains ≡ d) → HaveSameRings g v (with_lists v s c e d)
-by_rings g v s c e d a same = record {
-  submission = refl;
-  requests = record { accepted = refl; cuts = refl; started = a.started; cancelled = a.cancelled; ended = a.ended };
-  completions = refl;
-  is_closed = refl;
-  drains = same;
-}
+by_rings g v s c e d a same = search (rules, a.started, a.cancelled, a.ended)
 
 module _ (g : Setup) (v : World) (s c : List ℕ) (e : List Ending) (d : Drains) (a : AreSame v.requests s c e) (same : g.linux ≡ true → v.drains ≡ d) where
-  taken_rings : (entry : Sqe) (o : Option Call)
-      → HaveSameRings g (taking_entry_of g v entry o) (taking_entry_of g (with_lists v s c e d) entry o)
-  taken_rings entry None = by_rings g v s c e d a same
-  taken_rings entry (Some call) = by_rings g (taking_entry_of g v entry (Some call)) s c e d a same
-
-  dropped_rings : (o : Option Call) → HaveSameRings g (taking_of g v o) (taking_of g (with_lists v s c e d) o)
-  dropped_rings None = by_rings g v s c e d a same
-  dropped_rings (Some call) = by_rings g (taking_of g v (Some call)) s c e d a same
-
-  closed_rings : (o : Option Call) → HaveSameRings g (ending_of g v o) (ending_of g (with_lists v s c e d) o)
-  closed_rings None = by_rings g v s c e d a same
-  closed_rings (Some call) = record {
-    submission = refl;
-    requests = record { accepted = refl; cuts = refl; started = a.started; cancelled = a.cancelled; ended = a.ended };
-    completions = refl;
-    is_closed = refl;
-    drains = drains_called_same (requests_of v) s c e (read_same v.requests s c e a) g.linux d same (entries_from v.submission call.count);
-  }
-
   posted_same : (n : ℕ) (res : ℤ) (bytes : List ℕ)
       → with_end_of g v n res bytes ≡ with_end_of g (with_lists v s c e d) n res bytes
   posted_same n res bytes =
@@ -125,22 +96,21 @@ module _ (g : Setup) (v : World) (s c : List ℕ) (e : List Ending) (d : Drains)
 
   issued_rings : (n : ℕ) (res : ℤ) (bytes : List ℕ)
       → HaveSameRings g (happens g v (step.Issue n) (answer.Ended res bytes)) (happens g (with_lists v s c e d) (step.Issue n) (answer.Ended res bytes))
-  issued_rings n res bytes = record {
-    submission = refl;
-    requests = issued_end_same (requests_of v) s c e a g.linux n res;
-    completions = posted_same n res no_bytes;
-    is_closed = refl;
-    drains = drains_ended_same (requests_of v) s c e a g.linux d same n res;
-  }
+  issued_rings n res bytes =
+      search (rules, issued_end_same (requests_of v) s c e a g.linux n res, posted_same n res no_bytes, drains_ended_same (requests_of v) s c e a g.linux d same n res)
 
   rings_then : (x : Step) (b : Answer) → Change g v x b
       → HaveSameRings g (happens g v x b) (happens g (with_lists v s c e d) x b)
   rings_then x b (refuses _ _ still silent) =
       subst (λ u. HaveSameRings g u (happens g (with_lists v s c e d) x b)) (sym (still v))
       (subst (HaveSameRings g v) (sym (still (with_lists v s c e d))) (by_rings g v s c e d a same))
-  rings_then x b (takes entry call place opened left at valid) = taken_rings entry v.submission.call
-  rings_then x b (drops call place opened left at invalid) = dropped_rings v.submission.call
-  rings_then x b (closes accepted missed head call opened all told) = closed_rings v.submission.call
+  rings_then x b (takes entry call place opened left at valid) =
+      subst (λ o. HaveSameRings g (taking_entry_of g v entry o) (taking_entry_of g (with_lists v s c e d) entry o)) (sym opened) (by_rings g (taking_entry_of g v entry (Some call)) s c e d a same)
+  rings_then x b (drops call place opened left at invalid) =
+      subst (λ o. HaveSameRings g (taking_of g v o) (taking_of g (with_lists v s c e d) o)) (sym opened) (by_rings g (taking_of g v (Some call)) s c e d a same)
+  rings_then x b (closes accepted missed head call opened all told) =
+      let drains = drains_called_same (requests_of v) s c e (read_same v.requests s c e a) g.linux d same (entries_from v.submission call.count) in
+      subst (λ o. HaveSameRings g (ending_of g v o) (ending_of g (with_lists v s c e d) o)) (sym opened) (search (rules, drains, a.started, a.cancelled, a.ended))
   rings_then x b (runs n outstanding idle spared ready no_cancel) = record {
     submission = refl;
     requests = record { accepted = refl; cuts = refl; started = λ p. pushed p v.requests.started s (n ∷ []) (a.started p); cancelled = a.cancelled; ended = a.ended };
@@ -152,13 +122,8 @@ module _ (g : Setup) (v : World) (s c : List ℕ) (e : List Ending) (d : Drains)
       issued_rings n (doomed_result g.linux v.requests n) no_bytes
   rings_then x b (cancels n outstanding idle spared ready cancel) =
       issued_rings n (cancel_result g.linux v.requests n) no_bytes
-  rings_then x b (finishes n res bytes running) = record {
-    submission = refl;
-    requests = end_same (requests_of v) s c e a n res bytes;
-    completions = posted_same n res bytes;
-    is_closed = refl;
-    drains = drains_ended_same (requests_of v) s c e a g.linux d same n res;
-  }
+  rings_then x b (finishes n res bytes running) =
+      search (rules, end_same (requests_of v) s c e a n res bytes, posted_same n res bytes, drains_ended_same (requests_of v) s c e a g.linux d same n res)
   rings_then x b _ = by_rings g (happens g v x b) s c e d a same
 
 finished_files : (g : Setup) (v w : World) (n : ℕ) (a : Answer) → AreAlike g v w

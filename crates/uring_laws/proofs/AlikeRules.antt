@@ -84,13 +84,9 @@ module _ (l : LinuxRequests) (s c : List ℕ) (e : List Ending) (a : AreSame l.r
       record { accepted = refl; cuts = refl; started = same.started; cancelled = same.cancelled; ended = same.ended }
   issued_end_same false n res =
       let same = ended_same n res no_bytes in
-      record {
-        accepted = refl;
-        cuts = refl;
-        started = same.started;
-        cancelled = λ p. pushed p l.requests.cancelled c (manual.chosen_by l.requests n res) (a.cancelled p) ∙ ap (λ xs. list_any p (c ++ xs)) (sym (chosen_same l.requests s c e (read_same l.requests s c e a) n res));
-        ended = same.ended;
-      }
+      let chosen = chosen_same l.requests s c e (read_same l.requests s c e a) n res in
+      let cancelled = λ (p : ℕ → Bool). pushed p l.requests.cancelled c (manual.chosen_by l.requests n res) (a.cancelled p) ∙ ap (λ xs. list_any p (c ++ xs)) (sym chosen) in
+      record { accepted = refl; cuts = refl; started = same.started; cancelled = cancelled; ended = same.ended }
 
   pub end_same : (n : ℕ) (res : ℤ) (bytes : List ℕ)
       → StandAlike (manual.with_ended l.requests n res bytes) (manual.with_ended (listed l.requests s c e) n res bytes)

@@ -3,7 +3,7 @@ use Rattle.std.proofs.Common.{◌≡◌, ◌≢◌, ℕ, zero, suc, ◌+◌, ◌
 use Rattle.std.specs.Prelude.{slice_set, nat_le, nat_lt}
 use Rattle.std.specs.Option.{option_map, option_map_or}
 use Rattle.std.specs.Ordering.{int_eq}
-use Rattle.std.proofs.lemmas.Bool.{true≢false, cases_Bool, cases_lt, or_cases, or_left, or_right, and_parts, and_right, not-true, leb-true, ltb-true, le-ltb}
+use Rattle.std.proofs.lemmas.Bool.{true≢false, cases_Bool, cases_lt, or_cases, or_left, or_right, and_parts, and_right, not-true, leb-true, ltb-true, le-ltb, cond-true}
 use Rattle.std.proofs.lemmas.Bool.Decides.{Decides-int_eq}
 use Rattle.std.proofs.lemmas.Cmp.{int_eq_equiv}
 use Rattle.std.proofs.Math.Bool.{or_comm}
@@ -47,12 +47,8 @@ either_test true true x y z apart = absurd (apart refl refl)
 either_test _ _ x y z apart = refl
 
 -- no bytes change nothing
-if_none : (b : Bool) (xs ys : List ℕ) → b ≡ true → (if b then xs else ys) ≡ xs
-if_none true xs ys e = refl
-if_none false xs ys e = absurd cc
-
 nothing_over : (old new : List ℕ) (off : ℕ) → length new ≡ 0 → overwritten old off new ≡ old
-nothing_over old new off none = if_none (length new == 0) old _ (ap (λ n. n == 0) none)
+nothing_over old new off none = cond-true (length new == 0) old _ (ap (λ n. n == 0) none)
 
 -- bytes written over others, in both orders
 some_over : (old a b with_a with_b left right : List ℕ) (o p : ℕ) → IsWrittenOver old a o with_a
@@ -203,9 +199,7 @@ gives_elsewhere files d e res apart =
 
 gives_on_one : (files : List FileContents) (d e : Op) (res : ℤ) → stay_apart_on_one d e ≡ true
     → result_of (after files d res) e ≡ result_of files e
-gives_on_one files (Read own off len) (Read fd at count) res apart = refl
-gives_on_one files (Read own off len) (Write fd at count more) res apart = refl
-gives_on_one files (Read own off len) (Fsync fd) res apart = refl
+gives_on_one files (Read own off len) e res apart = refl
 gives_on_one files (Write own off len bytes) (Read fd at count) res apart =
     chosen_as_before (int_eq res (pos len)) files own fd (written off (take len bytes)) (read_outcome at count)
     (λ same file. read_after file (take len bytes) off at count (let low : off + len ≤ at = leb-true (off + len) at apart in omega (arith, low, few len bytes)))
@@ -226,24 +220,20 @@ gives_same files d e res apart = elim (or_cases (are_on_others d e) (stay_apart_
 
 -- Which files both orders leave.
 
-swapped_disjoint : (off len at count : ℕ) → are_disjoint off len at count ≡ true
-    → are_disjoint at count off len ≡ true
-swapped_disjoint off len at count e = or_comm (nat_le (at + count) off) (nat_le (off + len) at) ∙ e
-
 others_either : (asked other : Option ℤ) → others asked other ≡ true → others other asked ≡ true
 others_either None None apart = refl
 others_either (Some own) (Some k) apart = ap not (int_eq_equiv.symm k own) ∙ apart
 others_either _ _ apart = refl
 
 on_one_either : (d e : Op) → stay_apart_on_one d e ≡ true → stay_apart_on_one e d ≡ true
-on_one_either (Read fd off len) (Read other at count) a = refl
-on_one_either (Read fd off len) (Write other at count bytes) a = a
-on_one_either (Read fd off len) (Fsync other) a = refl
-on_one_either (Write fd off len bytes) (Read other at count) a = a
 on_one_either (Write fd off len bytes) (Write other at count more) a =
-    swapped_disjoint off len at count a
-on_one_either (Fsync fd) (Read other at count) a = refl
-on_one_either (Fsync fd) (Fsync other) a = refl
+    or_comm (nat_le (at + count) off) (nat_le (off + len) at) ∙ a
+on_one_either (Read fd off len) (Read other at count) a = a
+on_one_either (Read fd off len) (Write other at count bytes) a = a
+on_one_either (Read fd off len) (Fsync other) a = a
+on_one_either (Write fd off len bytes) (Read other at count) a = a
+on_one_either (Fsync fd) (Read other at count) a = a
+on_one_either (Fsync fd) (Fsync other) a = a
 on_one_either d e a = absurd (true≢false (sym a))
 
 apart_either : (d e : Op) → stay_apart d e ≡ true → stay_apart e d ≡ true
@@ -288,14 +278,11 @@ leaves_elsewhere files d e x y apart = elim (cases d) [
 
 leaves_on_one : (files : List FileContents) (d e : Op) (x y : ℤ) → stay_apart_on_one d e ≡ true
     → after (after files d x) e y ≡ after (after files e y) d x
-leaves_on_one files (Read fd off len) (Read other at count) x y apart = refl
-leaves_on_one files (Read fd off len) (Write other at count more) x y apart = refl
-leaves_on_one files (Read fd off len) (Fsync other) x y apart = refl
-leaves_on_one files (Write fd off len bytes) (Read other at count) x y apart = refl
+leaves_on_one files (Read fd off len) e x y apart = refl
+leaves_on_one files d (Read fd off len) x y apart = refl
 leaves_on_one files (Write fd off len bytes) (Write other at count more) x y apart =
     chosen_either (int_eq x (pos len)) (int_eq y (pos count)) files fd other (written off (take len bytes)) (written at (take count more))
     (λ same file. written_either file (take len bytes) (take count more) off at len count (few len bytes) (few count more) apart)
-leaves_on_one files (Fsync fd) (Read other at count) x y apart = refl
 leaves_on_one files (Fsync fd) (Fsync other) x y apart =
     chosen_either (int_eq x (pos 0)) (int_eq y (pos 0)) files fd other with_writes_synced with_writes_synced (λ same file. refl)
 leaves_on_one files d e x y apart = absurd (true≢false (sym apart))

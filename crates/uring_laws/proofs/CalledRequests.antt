@@ -1,9 +1,9 @@
 -- Who can start before a call accepts entries can start after it, and the other way round, by either's rules. By Linux's no group that was deferred goes on by a call: something else is outstanding then.
-use Rattle.std.proofs.Common.{◌≡◌, ℕ, ◌<◌, ◌≤◌, ◌==◌, Bool, true, false, not, ◌&&◌, ◌||◌, nat_lt, if◌then◌else◌, List, [], ◌∷◌, length, refl, sym, ap, ap₂, ◌∙◌, arith, ◌⊎◌, inl, inr, length-append}
-use Rattle.std.specs.List.{list_any}
-use Rattle.std.proofs.lemmas.Bool.{and_parts, cases_Bool, both_ways, not-true, not-false, lt-ltb, false_from_ne_true}
+use Rattle.std.proofs.Common.{◌≡◌, ℕ, ◌<◌, ◌≤◌, Bool, true, false, not, ◌&&◌, ◌||◌, nat_lt, if◌then◌else◌, List, [], ◌∷◌, length, refl, sym, ap, ap₂, ◌∙◌, arith, inl, inr, ◌+◌}
+use Rattle.std.proofs.lemmas.Bool.{and_parts, cases_Bool, both_ways, not-true, not-false, lt-ltb, false_from_ne_true, cond_both}
+use Rattle.std.proofs.lemmas.List.{length_push}
+use Rattle.uring_laws.proofs.Growth.{IsCut}
 use Rattle.uring_entry.specs.Layout.{Sqe}
-use Rattle.uring_entry.specs.Preparation.{is_cancel}
 use Rattle.uring_entry.specs.Requests as manual
 use Rattle.uring_entry.specs.Requests.{Requests, has_ended, is_outstanding, is_joined, is_linked, is_draining, is_drain, is_ready, waits_for, holds_back, with_call}
 use Rattle.uring_entry.proofs.BelowLemmas.{some_below_same, some_below_in}
@@ -36,43 +36,30 @@ module _ (r : Requests) (d : Drains) where
   abbrev next_group : Deferred
   next_group = record { from = d.from; end = length r.accepted; drains = d.group }
 
+  by_group : (P : Drains → Type 0) → P (after_group true) → P (after_group false) → P (with_group r d)
+  by_group P plain held = cond_both (not d.ring || is_faulty_from r d.from) _ _ P (λ _. plain) (λ _. held)
+
   group_fewer : (n : ℕ) → n < d.from → is_in_some (with_group r d).deferred n ≡ true → is_in_some d.deferred n ≡ true
-  group_fewer n lt held = go (not d.ring || is_faulty_from r d.from) held where
-    go : (plain : Bool) → is_in_some (after_group plain).deferred n ≡ true → is_in_some d.deferred n ≡ true
-    go true e = e
-    go false e =
-        elim (in_pushed d.deferred next_group n (still_fewer _ (deferred_with d (length r.accepted)) n e)) [
-          | inl old ↦ old
-          | inr new ↦ (let from : d.from ≤ n = new.0 in absurd (omega (arith, from, lt)))
-        ]
+  group_fewer n lt = by_group (λ e. is_in_some e.deferred n ≡ true → is_in_some d.deferred n ≡ true) (λ e. e) (λ e.
+      elim (in_pushed d.deferred next_group n (still_fewer _ (deferred_with d (length r.accepted)) n e)) [
+        | inl old ↦ old
+        | inr new ↦ (let from : d.from ≤ n = new.0 in absurd (omega (arith, from, lt)))
+      ])
 
   -- as long as something else is outstanding, nobody goes on
   group_keeps : (k n : ℕ) → k < d.from → k < length r.accepted → has_ended r k ≡ false → is_in_some d.deferred k ≡ false
       → is_in_some d.deferred n ≡ true → is_in_some (with_group r d).deferred n ≡ true
-  group_keeps k n lt accepted still out held = go (not d.ring || is_faulty_from r d.from) where
-    with_next : is_in_some (deferred_with d (length r.accepted)) k ≡ false
-    with_next = false_from_ne_true _ (λ e. elim (in_pushed d.deferred next_group k e) [
-      | inl old ↦ both_ways _ out old
-      | inr new ↦ (let from : d.from ≤ k = new.0 in omega (arith, from, lt))
-    ])
+  group_keeps k n lt accepted still out held =
+      let all : List Deferred = deferred_with d (length r.accepted) in
+      let with_next : is_in_some all k ≡ false = false_from_ne_true _ (λ e. elim (in_pushed d.deferred next_group k e) [
+        | inl old ↦ both_ways _ out old
+        | inr new ↦ (let from : d.from ≤ k = new.0 in omega (arith, from, lt))
+      ]) in
+      by_group (λ e. is_in_some e.deferred n ≡ true) held
+      (ap (λ groups. is_in_some groups n) (unmoved (is_alone r all) all (not_alone r all k accepted still with_next)) ∙ pushed_old d.deferred next_group n held)
 
-    go : (plain : Bool) → is_in_some (after_group plain).deferred n ≡ true
-    go true = held
-    go false =
-        let all : List Deferred = deferred_with d (length r.accepted) in
-        ap (λ groups. is_in_some groups n) (unmoved (is_alone r all) all (not_alone r all k accepted still with_next)) ∙ pushed_old d.deferred next_group n held
-
-  group_from : d.from ≤ length r.accepted → d.from ≤ (with_group r d).from
-  group_from le = go (not d.ring || is_faulty_from r d.from) where
-    go : (plain : Bool) → d.from ≤ (after_group plain).from
-    go true = le
-    go false = le
-
-  group_within : (with_group r d).from ≤ length r.accepted
-  group_within = go (not d.ring || is_faulty_from r d.from) where
-    go : (plain : Bool) → (after_group plain).from ≤ length r.accepted
-    go true = omega arith
-    go false = omega arith
+  group_from : (with_group r d).from ≡ length r.accepted
+  group_from = by_group (λ e. e.from ≡ length r.accepted) refl refl
 
 -- n was taken with a group that was accepted
 record IsTaken (l : LinuxRequests) (n : ℕ) : Type 0 where
@@ -92,44 +79,25 @@ module _ (l : LinuxRequests) (e : Sqe) where
   abbrev with_last : Drains
   with_last = with_last_entry longer_by (length l.requests.accepted) l.drains
 
-  -- the requests once the entry was accepted, whether another member follows or not
-  abbrev after : Bool → LinuxRequests
-  after linked =
-      record { requests = longer_by; drains = if linked then with_last else with_group longer_by with_last }
+  -- what is so of the drains once the entry was accepted, whether another member follows or not
+  by_link : (P : Drains → Type 0) → P with_last → P (with_group longer_by with_last) → P (with_accepted l e).drains
+  by_link P more last = cond_both (is_linked e) _ _ P (λ _. more) (λ _. last)
+
+  more : length longer_by.accepted ≡ length l.requests.accepted + 1
+  more = length_push l.requests.accepted e
 
   accepted_taken : (n : ℕ) → IsTaken l n → IsTaken (with_accepted l e) n
-  accepted_taken n t = go (is_linked e) where
-    more : length l.requests.accepted ≤ length longer_by.accepted
-    more = let grown = length-append l.requests.accepted (e ∷ []) in omega (arith, grown)
-
-    low : l.drains.from ≤ length longer_by.accepted
-    low = let le = t.within in omega (arith, le, more)
-
-    go : (linked : Bool) → IsTaken (after linked) n
-    go true = record { before = t.before; within = low }
-    go false = record {
-      before = let lt = t.before in let up = group_from longer_by with_last low in omega (arith, lt, up);
-      within = group_within longer_by with_last;
-    }
+  accepted_taken n t =
+      by_link (λ d. IsTaken (record { requests = longer_by; drains = d }) n) (record { before = t.before; within = omega (arith, more, t.within) })
+      (let from = group_from longer_by with_last in record { before = omega (arith, more, t.before, t.within, from); within = omega (arith, from) })
 
   accepted_fewer : (n : ℕ) → IsTaken l n → is_deferred (with_accepted l e) n ≡ true → is_deferred l n ≡ true
-  accepted_fewer n t held = go (is_linked e) held where
-    go : (linked : Bool) → is_deferred (after linked) n ≡ true → is_deferred l n ≡ true
-    go true f = f
-    go false f = group_fewer longer_by with_last n t.before f
+  accepted_fewer n t = by_link (λ d. is_in_some d.deferred n ≡ true → is_deferred l n ≡ true) (λ f. f) (group_fewer longer_by with_last n t.before)
 
   accepted_keeps : (k n : ℕ) → KeepsBack l k → is_deferred l n ≡ true → is_deferred (with_accepted l e) n ≡ true
-  accepted_keeps k n b held = go (is_linked e) where
-    low : k < length longer_by.accepted
-    low =
-        let lt = b.taken.before in
-        let le = b.taken.within in
-        let grown = length-append l.requests.accepted (e ∷ []) in
-        omega (arith, lt, le, grown)
-
-    go : (linked : Bool) → is_deferred (after linked) n ≡ true
-    go true = held
-    go false = group_keeps longer_by with_last k n b.taken.before low b.still b.free held
+  accepted_keeps k n b held =
+      let low : k < length longer_by.accepted = omega (arith, more, b.taken.before, b.taken.within) in
+      by_link (λ d. is_in_some d.deferred n ≡ true) held (group_keeps longer_by with_last k n b.taken.before low b.still b.free held)
 
   accepted_back : (k : ℕ) → KeepsBack l k → KeepsBack (with_accepted l e) k
   accepted_back k b = record {
@@ -159,23 +127,16 @@ entries_back [] l k b = b
 entries_back (x ∷ xs) l k b = entries_back xs (with_accepted l x) k (accepted_back l x k b)
 
 module _ (l : LinuxRequests) where
-  abbrev closed : Bool → Drains
-  closed amid = if amid then with_group (manual.with_cut l.requests) l.drains else l.drains
+  by_cut : (P : Drains → Type 0) → P (with_group (manual.with_cut l.requests) l.drains) → P l.drains → P (with_cut l).drains
+  by_cut P amid between_calls = cond_both (nat_lt l.drains.from (length l.requests.accepted)) _ _ P (λ _. amid) (λ _. between_calls)
 
   cut_fewer : (n : ℕ) → IsTaken l n → is_in_some (with_cut l).drains.deferred n ≡ true → is_deferred l n ≡ true
-  cut_fewer n t held = go (nat_lt l.drains.from (length l.requests.accepted)) held where
-    go : (amid : Bool) → is_in_some (closed amid).deferred n ≡ true → is_deferred l n ≡ true
-    go true f = group_fewer (manual.with_cut l.requests) l.drains n t.before f
-    go false f = f
+  cut_fewer n t = by_cut (λ d. is_in_some d.deferred n ≡ true → is_deferred l n ≡ true) (group_fewer (manual.with_cut l.requests) l.drains n t.before) (λ f. f)
 
   cut_keeps : (k n : ℕ) → KeepsBack l k → is_deferred l n ≡ true → is_in_some (with_cut l).drains.deferred n ≡ true
-  cut_keeps k n b held = go (nat_lt l.drains.from (length l.requests.accepted)) where
-    low : k < length l.requests.accepted
-    low = let lt = b.taken.before in let le = b.taken.within in omega (arith, lt, le)
-
-    go : (amid : Bool) → is_in_some (closed amid).deferred n ≡ true
-    go true = group_keeps (manual.with_cut l.requests) l.drains k n b.taken.before low b.still b.free held
-    go false = held
+  cut_keeps k n b held =
+      let low : k < length l.requests.accepted = omega (arith, b.taken.before, b.taken.within) in
+      by_cut (λ d. is_in_some d.deferred n ≡ true) (group_keeps (manual.with_cut l.requests) l.drains k n b.taken.before low b.still b.free held) held
 
 someone : (r : Requests) (groups : List Deferred) → is_alone r groups ≡ false
     → some_below (λ k. not (has_ended r k) && not (is_in_some groups k)) (length r.accepted) ≡ true
@@ -203,7 +164,7 @@ deferred_called l entries n within b = elim (cases_Bool (is_deferred l n)) [
 
 -- Who can start.
 
-module _ (r : Requests) (entries : List Sqe) (cut : (length r.accepted ≡ 0) ⊎ (list_any (λ c. c == length r.accepted) r.cuts ≡ true)) (n : ℕ) (within : n < length r.accepted) where
+module _ (r : Requests) (entries : List Sqe) (cut : IsCut r) (n : ℕ) (within : n < length r.accepted) where
   pub waits_kept : (k : ℕ) → k < n → waits_for (with_call r entries) n k ≡ waits_for r n k
   waits_kept k low =
       ap₂ (λ x y. (is_joined (with_call r entries) k n || x) || y) (member_kept r entries cut is_drain k (omega (arith, within, low))) (member_kept r entries cut is_drain n within)
@@ -222,7 +183,7 @@ module _ (r : Requests) (entries : List Sqe) (cut : (length r.accepted ≡ 0) �
       let more = longer r entries cut in
       ap (λ b. b && not (has_ended r n)) (lt-ltb n (length (with_call r entries).accepted) (omega (arith, within, more)) ∙ sym (lt-ltb n (length r.accepted) within))
 
-module _ (l : LinuxRequests) (entries : List Sqe) (cut : (length l.requests.accepted ≡ 0) ⊎ (list_any (λ c. c == length l.requests.accepted) l.requests.cuts ≡ true)) (n : ℕ) (within : n < length l.requests.accepted) where
+module _ (l : LinuxRequests) (entries : List Sqe) (cut : IsCut l.requests) (n : ℕ) (within : n < length l.requests.accepted) where
   abbrev r : Requests
   r = l.requests
 
@@ -235,19 +196,9 @@ module _ (l : LinuxRequests) (entries : List Sqe) (cut : (length l.requests.acce
   may_start_kept false so = ready_kept r entries cut n within
 
   pub start_kept : (linux : Bool) → (linux ≡ true → IsBetween l) → CanStart linux l n → CanStart linux (called_by linux l entries) n
-  start_kept linux so c = record {
-    outstanding = outstanding_kept r entries cut n within ∙ c.outstanding;
-    idle = c.idle;
-    spared = ends_doomed_kept linux ∙ c.spared;
-    ready = may_start_kept linux so ∙ c.ready;
-    no_cancel = ap is_cancel (entry_kept r entries cut n within) ∙ c.no_cancel;
-  }
+  start_kept linux so c =
+      grind (arith, outstanding_kept r entries cut n within, ends_doomed_kept linux, may_start_kept linux so, entry_kept r entries cut n within)
 
   pub start_was : (linux : Bool) → (linux ≡ true → IsBetween l) → CanStart linux (called_by linux l entries) n → CanStart linux l n
-  start_was linux so c = record {
-    outstanding = sym (outstanding_kept r entries cut n within) ∙ c.outstanding;
-    idle = c.idle;
-    spared = sym (ends_doomed_kept linux) ∙ c.spared;
-    ready = sym (may_start_kept linux so) ∙ c.ready;
-    no_cancel = sym (ap is_cancel (entry_kept r entries cut n within)) ∙ c.no_cancel;
-  }
+  start_was linux so c =
+      grind (arith, outstanding_kept r entries cut n within, ends_doomed_kept linux, may_start_kept linux so, entry_kept r entries cut n within)

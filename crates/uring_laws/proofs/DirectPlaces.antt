@@ -1,5 +1,5 @@
 -- The entries of published positions, read off a history.
-use Rattle.std.proofs.Common.{◌≡◌, ℕ, ◌+◌, ◌-◌, ◌<◌, ◌≤◌, false, not, ◌&&◌, nat_lt, [], ◌∷◌, ◌++◌, length, map, Option, Some, None, slice_get, get_or, if◌then◌else◌, cond, refl, sym, ap, ap₂, ◌∙◌, ◌⊎◌, inl, inr, arith}
+use Rattle.std.proofs.Common.{◌≡◌, ℕ, ◌+◌, ◌-◌, ◌<◌, ◌≤◌, false, not, nat_lt, [], ◌∷◌, ◌++◌, length, map, Option, Some, None, slice_get, get_or, if◌then◌else◌, cond, refl, sym, ap, ◌∙◌, ◌⊎◌, inl, inr, arith}
 use Rattle.std.proofs.lemmas.Bool.{cases_lt, lt-ltb, le-ltb}
 use Rattle.std.proofs.lemmas.List.{length-append, length-map, get_or_append_left, get_or-append_right, get_or-map}
 use Rattle.std.proofs.lemmas.Option.{slice_get_within, slice_get-get_or, get_or_from_slice_get}
@@ -15,7 +15,6 @@ use Rattle.uring_core.specs.declared.step.Step.TheVariants as step
 use Rattle.uring_core.specs.declared.answer.Answer.{Answer}
 use Rattle.uring_core.specs.declared.answer.Answer.TheVariants as answer
 use Rattle.uring_core.proofs.SubmissionMoves.{SubmissionMove, stays, stages, stores, submission_move}
-use Rattle.uring_laws.proofs.Telling.{told_same}
 use Rattle.uring_laws.proofs.DirectSubmission.{DirectSubmission, direct_submission}
 
 abbrev pub EntriesTold : Setup → History → World → Type 0
@@ -28,9 +27,7 @@ entry_at size word before = if nat_lt word size then Some (slot_content before w
 
 entry_same : (size : ℕ) (e : Event) (h : History) (k : ℕ) → staged_by e ≡ None
     → is_store_tail e ≡ false → published_entry size (e ∷ h) k ≡ published_entry size h k
-entry_same size e h k none other =
-    ap₂ (λ words before. entry_at size (get_or words k 0) before) (told_same staged_by e h none)
-    (ap (λ b. cond (b && not (nat_lt k (length (published_words h)))) h (before_published k h)) other)
+entry_same size e h k none other = rw (none, other)
 
 -- how many words there are
 words_count : (g : Setup) (h : History) (w : World) → DirectSubmission g h w

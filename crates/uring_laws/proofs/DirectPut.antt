@@ -1,17 +1,15 @@
 -- How many completions were put into the ring, read off a history.
-use Rattle.std.proofs.Common.{◌≡◌, ℕ, ◌+◌, ◌-◌, ◌==◌, min, nat_lt, Bool, true, false, ◌&&◌, [], ◌∷◌, length, Option, Some, None, is_some, if◌then◌else◌, cond, refl, sym, ap, ap₂, ◌∙◌}
-use Rattle.std.specs.Option.{option_and_then}
+use Rattle.std.proofs.Common.{◌≡◌, ℕ, ◌+◌, ◌-◌, ◌==◌, min, nat_lt, Bool, true, false, ◌&&◌, [], ◌∷◌, length, Some, None, is_some, if◌then◌else◌, cond, refl, ap, ap₂, arith}
 use Rattle.std.proofs.lemmas.Bool.{cond_both}
 use Rattle.uring_entry.specs.Setup.{Setup}
 use Rattle.uring_entry.specs.Layout.{Cqe}
 use Rattle.uring_rules.specs.Rules.{posts}
 use Rattle.uring_entry.specs.Completions.{Completions, with_posted, completion_for}
-use Rattle.uring_entry.specs.Requests.{Ending, entry_of}
+use Rattle.uring_entry.specs.Requests.{entry_of}
 use Rattle.uring_core.specs.World.{World}
 use Rattle.uring_core.specs.Histories.{Event, History, world, IsLawfulApart}
-use Rattle.uring_core.specs.Events.{end_told_by, is_flush}
 use Rattle.uring_laws.specs.Direct.{with_told, before_last, stored_head, flushed_head}
-use Rattle.uring_laws.specs.HistoryLists.{completion_by, posts_told, posted_count, put_count}
+use Rattle.uring_laws.specs.HistoryLists.{posts_told, posted_count, put_count}
 use Rattle.uring_core.specs.declared.step.Step.{Step}
 use Rattle.uring_core.specs.declared.answer.Answer.{Answer}
 use Rattle.uring_core.proofs.CompletionMoves.{CompletionMove, stays, ends, flushes, completion_move}
@@ -28,27 +26,17 @@ end_put : (size : ℕ) (l : Completions) (told_so : Bool) (c : Cqe) (there poste
     → l.put ≡ there → length l.posted ≡ posted → l.seen_head ≡ loaded
     → (cond told_so (with_posted size l c) l).put
     ≡ (if is_some (cond told_so (Some c) None) && (there == posted) && nat_lt (there - loaded) size then there + 1 else there)
-end_put size l true c there posted loaded put_is posted_is loaded_is =
-    ap (λ n. if (n == length l.posted) && nat_lt (n - l.seen_head) size then n + 1 else n) put_is
-    ∙ ap₂ (λ n k. if (there == n) && nat_lt (there - k) size then there + 1 else there) posted_is loaded_is
+end_put size l true c there posted loaded put_is posted_is loaded_is = cc
 end_put size l false c there posted loaded put_is posted_is loaded_is = put_is
-
--- the count that an event makes, by the end that it tells
-put_told : (g : Setup) (h : History) (flushes_now : Bool) (ending told : Option Ending)
-    → flushes_now ≡ false → ending ≡ told
-    → (if flushes_now then min (posted_count g h) (stored_head h + g.cq) else (if is_some (option_and_then (completion_by g (world g h).requests) ending) && (put_count g h == posted_count g h) && nat_lt (put_count g h - flushed_head h) g.cq then put_count g h + 1 else put_count g h))
-    ≡ (if is_some (option_and_then (completion_by g (world g h).requests) told) && (put_count g h == posted_count g h) && nat_lt (put_count g h - flushed_head h) g.cq then put_count g h + 1 else put_count g h)
-put_told g h flushes_now ending told no_flush is =
-    ap₂ (λ flush end. if flush then min (posted_count g h) (stored_head h + g.cq) else (if is_some (option_and_then (completion_by g (world g h).requests) end) && (put_count g h == posted_count g h) && nat_lt (put_count g h - flushed_head h) g.cq then put_count g h + 1 else put_count g h)) no_flush is
 
 put_direct : (g : Setup) (h : History) (s : Step) (a : Answer) (v : World)
     → CompletionMove g (world g h) s a v → PutFacts g h
     → (world g h).completions.put ≡ put_count g h → v.completions.put ≡ put_count g ((s, a) ∷ h)
 put_direct g h s a v (stays _ _ l r is_closed off no_end left) f i =
-    i ∙ sym (put_told g h (is_flush (s, a)) (end_told_by (s, a)) None off.flushes no_end)
+    rw (off.flushes, no_end) i
 put_direct g h s a v (ends _ _ n res bytes r off told same_accepted one_more) f i =
-    end_put g.cq (world g h).completions (posts g.linux (world g h).requests n res) (completion_for (entry_of (world g h).requests n) res bytes) (put_count g h) (posted_count g h) (flushed_head h) i f.posted f.loaded
-    ∙ sym (put_told g h (is_flush (s, a)) (end_told_by (s, a)) (Some (record { number = n; res = res; bytes = bytes })) off.flushes told)
+    rw (off.flushes, told)
+    (end_put g.cq (world g h).completions (posts g.linux (world g h).requests n res) (completion_for (entry_of (world g h).requests n) res bytes) (put_count g h) (posted_count g h) (flushed_head h) i f.posted f.loaded)
 put_direct g h s a v (flushes moved) f i =
     ap₂ (λ posted head. min posted (head + g.cq)) f.posted f.stored
 put_direct g h s a v _ f i = i
@@ -58,19 +46,16 @@ put_direct g h s a v _ f i = i
 posted_or_not : (size : ℕ) (l : Completions) (told_so : Bool) (c : Cqe)
     → (cond told_so (with_posted size l c) l).posted
     ≡ with_told l.posted (cond told_so (Some c) None)
-posted_or_not size l true c = refl
-posted_or_not size l false c = refl
+posted_or_not size l told_so c = grind arith
 
 posts_direct : (g : Setup) (h : History) (s : Step) (a : Answer) (v : World)
     → CompletionMove g (world g h) s a v → (world g h).completions.posted ≡ posts_told g h
     → v.completions.posted ≡ posts_told g ((s, a) ∷ h)
 posts_direct g h s a v (stays _ _ l r is_closed off no_end left) i =
-    i ∙ sym (ap (λ o. with_told (posts_told g h) (option_and_then (completion_by g (world g h).requests) o)) no_end)
+    rw no_end i
 posts_direct g h s a v (ends _ _ n res bytes r off told same_accepted one_more) i =
     let w : World = world g h in
-    posted_or_not g.cq w.completions (posts g.linux w.requests n res) (completion_for (entry_of w.requests n) res bytes)
-    ∙ ap (λ xs. with_told xs (completion_by g w.requests (record { number = n; res = res; bytes = bytes }))) i
-    ∙ sym (ap (λ o. with_told (posts_told g h) (option_and_then (completion_by g w.requests) o)) told)
+    rw (told, ← i) (posted_or_not g.cq w.completions (posts g.linux w.requests n res) (completion_for (entry_of w.requests n) res bytes))
 posts_direct g h s a v _ i = i
 
 pub posted_told : (g : Setup) (h : History) → IsLawfulApart g h
@@ -81,11 +66,7 @@ posted_told g ((s, a) ∷ before) lawful = posts_direct g before s a _ (completi
 put_facts : (g : Setup) (h : History) → IsLawfulApart g h → PutFacts g h
 put_facts g h lawful =
     let d = direct_completions g h lawful in
-    record {
-      posted = ap length (posted_told g h lawful);
-      loaded = d.flushed;
-      stored = d.stored;
-    }
+    record { posted = ap length (posted_told g h lawful); loaded = d.flushed; stored = d.stored }
 
 pub direct_put : (g : Setup) (h : History) → IsLawfulApart g h
     → (world g h).completions.put ≡ put_count g h

@@ -1,15 +1,15 @@
 -- The accepted entries, the cuts and the completions posted, read off a history.
-use Rattle.std.proofs.Common.{◌≡◌, ℕ, ◌+◌, ◌<◌, ◌==◌, Bool, true, false, ◌||◌, List, [], ◌∷◌, ◌++◌, length, take, map, sum, Some, None, get_or, cond, refl, sym, ap, ap₂, ◌∙◌, arith, append-nil, take-add}
+use Rattle.std.proofs.Common.{◌≡◌, ℕ, ◌+◌, ◌<◌, ◌==◌, true, ◌||◌, List, [], ◌∷◌, ◌++◌, length, take, map, sum, Some, None, get_or, cond, refl, sym, ap, ap₂, ◌∙◌, arith, append-nil, take-add}
 use Rattle.std.specs.List.{list_any, filter_map, cons_option}
 use Rattle.std.proofs.lemmas.Bool.{or_left, or_right, eq-eqb}
 use Rattle.std.proofs.lemmas.List.{length-append, take-append-le, get_or_append_left}
 use Rattle.std.proofs.lemmas.List.Elements.{filter_map-append}
 use Rattle.std.proofs.lemmas.List.Sums.{sum_by_push, sum_by-cons}
 use Rattle.uring_entry.specs.Setup.{Setup}
-use Rattle.uring_entry.specs.Layout.{Sqe, Cqe, zero_entry, user_data_of}
+use Rattle.uring_entry.specs.Layout.{Sqe, zero_entry, user_data_of}
 use Rattle.uring_entry.specs.Success.{posts_completion}
 use Rattle.uring_entry.specs.Submission.{Submission, taken, accepted, entries_of, places_from, place_of}
-use Rattle.uring_entry.specs.Completions.{Completions, with_posted, with_end}
+use Rattle.uring_entry.specs.Completions.{Completions, with_end}
 use Rattle.uring_entry.specs.Requests.{Ending}
 use Rattle.uring_core.specs.Events.{accepted_by, closes_ring}
 use Rattle.uring_laws.specs.Direct.{told, sums_from, cut_counts, completion_of}
@@ -57,21 +57,12 @@ same_posts accepted more (e ∷ es) within =
     (same_posts accepted more es (λ n there. within n (or_right (e.number == n) _ there)))
 
 -- one end more
-posted_or_not : (size : ℕ) (l : Completions) (told_so : Bool) (c : Cqe)
-    → (cond told_so (with_posted size l c) l).posted
-    ≡ l.posted ++ cons_option (cond told_so (Some c) None) []
-posted_or_not size l true c = refl
-posted_or_not size l false c = sym (append-nil l.posted)
-
 end_posted : (size : ℕ) (l : Completions) (accepted : List Sqe) (es : List Ending) (e : Ending)
     → l.posted ≡ filter_map (completion_of accepted) es
     → (with_end size l (get_or accepted e.number zero_entry) e.res e.bytes).posted
     ≡ filter_map (completion_of accepted) (es ++ e ∷ [])
 end_posted size l accepted es e posted =
-    let entry = get_or accepted e.number zero_entry in
-    posted_or_not size l (posts_completion entry e.res) (record { user_data = user_data_of entry; res = e.res; payload = e.bytes })
-    ∙ ap (λ xs. xs ++ cons_option (completion_of accepted e) []) posted
-    ∙ sym (filter_map-append (completion_of accepted) es (e ∷ []))
+    grind (arith, append-nil l.posted, filter_map-append (completion_of accepted) es (e ∷ []), posted)
 
 -- By the manual pages' rules the entries alone tell what was posted.
 

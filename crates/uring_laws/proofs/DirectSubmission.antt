@@ -1,7 +1,7 @@
 -- The submission ring's lists, read off a history.
-use Rattle.std.proofs.Common.{◌≡◌, ℕ, ◌+◌, ◌≤◌, ◌==◌, Bool, true, false, ◌||◌, eqb, List, [], ◌∷◌, ◌++◌, length, map, sum, count_by, Option, Some, None, unwrap_or, if◌then◌else◌, cond, refl, sym, subst, ap, ap₂, ◌∙◌, arith, append-nil, append_assoc}
+use Rattle.std.proofs.Common.{◌≡◌, ℕ, ◌+◌, ◌≤◌, ◌==◌, Bool, true, false, ◌||◌, eqb, List, [], ◌∷◌, ◌++◌, length, map, sum, count_by, Option, Some, None, unwrap_or, if◌then◌else◌, cond, refl, sym, subst, ap, ap₂, ◌∙◌, arith, append-nil, append_assoc, rules}
 use Rattle.std.specs.Option.{option_or}
-use Rattle.std.proofs.lemmas.Bool.{eq-eqb, ne_eqb, eqb-false, ltb-false}
+use Rattle.std.proofs.lemmas.Bool.{eq-eqb, ne_eqb, ltb-false}
 use Rattle.std.proofs.lemmas.List.{length_push, map-append}
 use Rattle.uring_entry.specs.Setup.{Setup}
 use Rattle.uring_entry.specs.Layout.{Sqe, zero_entry}
@@ -49,12 +49,6 @@ takes_last_takes g before (step.Take, answer.Entry entry) idle = absurd cc
 takes_last_takes g before (step.Take, answer.Dropped) idle = absurd cc
 takes_last_takes g before _ idle = refl
 
--- what an event makes of whether the call stopped, if it opens none
-stopped_by : (g : Setup) (h : History) (e : Event) → opens_call e ≡ false
-    → has_stopped g (e ∷ h) ≡ (takes_last g (entries_taken h) e || has_stopped g h)
-stopped_by g h e other =
-    ap (λ b. if b then false else takes_last g (entries_taken h) e || has_stopped g h) other
-
 -- what an event leaves of the call that was opened last, if it opens none and takes no position
 record SameOpened (g : Setup) (h : History) (e : Event) : Type 0 where
   taken : taken_since h ≡ taken_since (e ∷ h)
@@ -63,14 +57,9 @@ record SameOpened (g : Setup) (h : History) (e : Event) : Type 0 where
 same_opened : (g : Setup) (h : History) (e : Event) → opens_call e ≡ false → opened_by e ≡ None
     → takes_position e ≡ false → SameOpened g h e
 same_opened g h e other none idle =
-    let since : since_last opens_call (e ∷ h) ≡ e ∷ since_last opens_call h = ap (λ b. cond b [] (e ∷ since_last opens_call h)) other in
-    let taken : taken_since h ≡ taken_since (e ∷ h) = sym (ap (count_by takes_position) since ∙ count_same takes_position e (since_last opens_call h) idle) in
-    let stops : has_stopped g h ≡ has_stopped g (e ∷ h) = sym (stopped_by g h e other ∙ ap (λ b. b || has_stopped g h) (takes_last_takes g (entries_taken h) e idle)) in
-    let last : last_told opened_by h ≡ last_told opened_by (e ∷ h) = sym (ap (λ o. option_or o (last_told opened_by h)) none) in
-    record {
-      taken = taken;
-      count = ap₂ (λ b n. cond b n (unwrap_or (last_told opened_by h) 0)) stops taken ∙ ap (λ o. cond (has_stopped g (e ∷ h)) (taken_since (e ∷ h)) (unwrap_or o 0)) last;
-    }
+    let same = count_same takes_position e (since_last opens_call h) idle in
+    let goes_on = takes_last_takes g (entries_taken h) e idle in
+    record { taken = rw (other, same); count = rw (other, none, goes_on, same) }
 
 still_opened : (g : Setup) (h : History) (e : Event) (call : Option Call) → SameOpened g h e
     → IsOpened g h call → IsOpened g (e ∷ h) call
@@ -81,17 +70,13 @@ still_opened g h e (Some call) same i = (i.0 ∙ same.taken, i.1 ∙ same.count)
 count_further : (stops had : Bool) (count before after last : ℕ)
     → count ≡ (if had then before else last) → eqb before count ≡ false → before + 1 ≡ after
     → (if stops then before + 1 else count) ≡ (if stops || had then after else last)
-count_further true had count before after last so_far left more = more
-count_further false true count before after last so_far left more =
-    absurd (eqb-false before count left (sym so_far))
-count_further false false count before after last so_far left more = so_far
+count_further stops had count before after last so_far left more = grind arith
 
 -- what a slot holds once one is filled
 fill_tells : (here : Bool) (entry : Sqe) (last : Option Sqe)
     → unwrap_or (option_or (if here then Some entry else None) last) zero_entry
     ≡ (if here then entry else unwrap_or last zero_entry)
-fill_tells true entry last = refl
-fill_tells false entry last = refl
+fill_tells here entry last = grind arith
 
 words_of_places : (size : ℕ) (content : ℕ → Sqe) (words : List ℕ)
     → map (λ p. p.word) (map (place_of size content) words) ≡ words
@@ -111,7 +96,7 @@ none_called : (g : Setup) (h : History) (w : World) (e : Event) → opens_call e
     → NoneCalled g h w e
 none_called g h w e none_opened none none_closed idle i =
     record {
-      calls = i.calls ∙ ap (λ b. if b then call_counts h ++ taken_since h ∷ [] else call_counts h) (sym none_closed);
+      calls = rw none_closed i.calls;
       closed = count_same closes_call e h none_closed ∙ i.closed;
       openings = count_same opens_call e h none_opened ∙ i.openings;
       opened = still_opened g h e w.submission.call (same_opened g h e none_opened none idle) i.opened;
@@ -130,19 +115,16 @@ position_taken : (g : Setup) (h : History) (w : World) (e : Event) (call : Call)
     → takes_position e ≡ true → DirectSubmission g h w → PositionTaken g h w e call
 position_taken g h w e call is left none_opened none none_closed taken i =
     let so_far : (call.taken ≡ taken_since h) × (call.count ≡ open_count g h) = subst (IsOpened g h) is i.opened in
-    let since : since_last opens_call (e ∷ h) ≡ e ∷ since_last opens_call h = ap (λ b. cond b [] (e ∷ since_last opens_call h)) none_opened in
-    let more : call.taken + 1 ≡ taken_since (e ∷ h) = omega (arith, count_more takes_position e (since_last opens_call h) taken, so_far.0) ∙ sym (ap (count_by takes_position) since) in
-    let stops = stopped_by g h e none_opened in
-    let last : last_told opened_by (e ∷ h) ≡ last_told opened_by h = ap (λ o. option_or o (last_told opened_by h)) none in
+    let more : call.taken + 1 ≡ taken_since (e ∷ h) = rw none_opened (omega (arith, count_more takes_position e (since_last opens_call h) taken, so_far.0)) in
     record {
-      calls = i.calls ∙ ap (λ b. if b then call_counts h ++ taken_since h ∷ [] else call_counts h) (sym none_closed);
+      calls = rw none_closed i.calls;
       closed = count_same closes_call e h none_closed ∙ i.closed;
       openings = count_same opens_call e h none_opened ∙ i.openings ∙ ap (λ o. length w.submission.calls + open_calls o) is;
       opened = (
         more,
-        count_further (takes_last g (entries_taken h) e) (has_stopped g h) call.count call.taken (taken_since (e ∷ h)) (unwrap_or (last_told opened_by h) 0)
-            (so_far.1 ∙ ap (λ n. cond (has_stopped g h) n (unwrap_or (last_told opened_by h) 0)) (sym so_far.0)) left more
-            ∙ ap₂ (λ b o. cond b (taken_since (e ∷ h)) (unwrap_or o 0)) (sym stops) (sym last),
+        rw (none_opened, none)
+            (count_further (takes_last g (entries_taken h) e) (has_stopped g h) call.count call.taken _ (unwrap_or (last_told opened_by h) 0)
+            (so_far.1 ∙ ap (λ n. cond (has_stopped g h) n (unwrap_or (last_told opened_by h) 0)) (sym so_far.0)) left (rw none_opened at more)),
       );
     }
 
@@ -178,30 +160,14 @@ submission_direct g h w s a v (loads head) sound entries i =
     let seen = ap sum i.calls in
     assumption (seen, f, i)
 submission_direct g h w s a v (begins count is_open no_call unspent) sound entries i =
-    record {
-      content = i.content;
-      published = i.published;
-      staged = i.staged;
-      calls = i.calls;
-      closed = count_same closes_call (step.Begin count, answer.Call (call_length w.submission count)) h refl ∙ i.closed;
-      openings =
-          count_more opens_call (step.Begin count, answer.Call (call_length w.submission count)) h refl
-          ∙ omega (arith, i.openings, ap open_calls no_call);
-      seen = i.seen;
-      opened = (refl, refl);
-    }
+    let closed = count_same closes_call (s, a) h refl ∙ i.closed in
+    let openings : count_by opens_call ((s, a) ∷ h) ≡ length w.submission.calls + 1 = omega (arith, count_more opens_call (s, a) h refl, i.openings, ap open_calls no_call) in
+    let opened : IsOpened g ((s, a) ∷ h) (Some (record { count = call_length w.submission count; taken = 0 })) = (refl, refl) in
+    assumption (closed, openings, opened, i)
 submission_direct g h w s a v (takes entry call place opened left at valid) sound entries i =
     let f = position_taken g h w (s, a) call opened left refl refl refl refl i in
-    record {
-      content = i.content;
-      published = i.published;
-      staged = i.staged;
-      calls = f.calls;
-      closed = f.closed;
-      openings = f.openings;
-      seen = i.seen;
-      opened = (f.opened.0, subst (λ xs. (if stops_after g (some_skips xs || asks_to_skip entry) entry then call.taken + 1 else call.count) ≡ open_count g ((s, a) ∷ h)) entries f.opened.1);
-    }
+    let count = subst (λ xs. (if stops_after g (some_skips xs || asks_to_skip entry) entry then call.taken + 1 else call.count) ≡ open_count g ((s, a) ∷ h)) entries f.opened.1 in
+    assumption (f.opened.0, count, f, i)
 submission_direct g h w s a v (drops call place opened left at invalid) sound entries i =
     let f = position_taken g h w (s, a) call opened left refl refl refl refl i in
     assumption (f, i)
@@ -210,31 +176,15 @@ submission_direct g h w s a v (closes accepted missed head call opened all count
     let so_far : (call.taken ≡ taken_since h) × (call.count ≡ open_count g h) = subst (IsOpened g h) opened i.opened in
     let within : call.taken ≤ call.count = subst (λ o. open_taken o ≤ positions_open o) opened sound.within_call in
     let whole : call.count ≡ taken_since h = omega (arith, ltb-false call.taken call.count all, within, so_far.0) in
-    record {
-      content = i.content;
-      published = i.published;
-      staged = i.staged;
-      calls = ap₂ (λ xs n. xs ++ n ∷ []) i.calls whole;
-      closed = count_more closes_call (step.End, answer.Taken accepted missed head) h refl ∙ omega (arith, i.closed, longer);
-      openings =
-          count_same opens_call (step.End, answer.Taken accepted missed head) h refl
-          ∙ omega (arith, i.openings, ap open_calls opened, longer);
-      seen = i.seen;
-      opened = tt;
-    }
+    let calls = ap₂ (λ xs n. xs ++ n ∷ []) i.calls whole in
+    let more : List ℕ = w.submission.calls ++ call.count ∷ [] in
+    let closed : count_by closes_call ((s, a) ∷ h) ≡ length more = omega (arith, count_more closes_call (s, a) h refl, i.closed, longer) in
+    let openings : count_by opens_call ((s, a) ∷ h) ≡ length more + 0 = omega (arith, count_same opens_call (s, a) h refl, i.openings, ap open_calls opened, longer) in
+    assumption (calls, closed, openings, tt, i)
 
 pub direct_submission : (g : Setup) (h : History) → IsLawfulApart g h
     → DirectSubmission g h (world g h)
-direct_submission g [] lawful = record {
-  content = λ slot. refl;
-  published = refl;
-  staged = refl;
-  calls = refl;
-  closed = refl;
-  openings = refl;
-  seen = refl;
-  opened = tt;
-}
+direct_submission g [] lawful = search rules
 direct_submission g ((s, a) ∷ before) lawful =
     submission_direct g before (world g before) s a _ (submission_move g s a before lawful) (sound_of g before lawful.1).submission (takes_places g before lawful.1).entries (direct_submission g before lawful.1)
 

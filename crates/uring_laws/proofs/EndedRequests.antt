@@ -1,27 +1,24 @@
 -- What an end leaves of other requests, by either's rules: who can start, who is to end as doomed and who posts; and the drains that two ends leave, in either order.
-use Rattle.std.proofs.Common.{◌≡◌, ◌≢◌, ℕ, ◌<◌, ◌==◌, ℤ, Bool, true, false, not, ◌&&◌, ◌||◌, nat_lt, if◌then◌else◌, List, [], ◌∷◌, ◌++◌, length, Option, refl, sym, subst, ap, ap₂, ◌∙◌, inl, inr}
+use Rattle.std.proofs.Common.{◌≡◌, ◌≢◌, ℕ, ◌<◌, ◌==◌, ℤ, Bool, true, false, not, ◌&&◌, ◌||◌, nat_lt, if◌then◌else◌, List, [], ◌∷◌, ◌++◌, length, Option, refl, sym, subst, ap, ap₂, ◌∙◌, arith}
 use Rattle.std.specs.List.{list_any}
-use Rattle.std.proofs.lemmas.Bool.{and_from, and_parts, and_left, and_right, and_cases, or_parts, both_ways, cases_Bool, not-true, not-false, false_from_ne_true}
-use Rattle.uring_entry.specs.Success.{is_success}
-use Rattle.uring_entry.specs.Requests.{Requests, Ending, entry_of, has_ended, is_outstanding, is_running, is_doomed, is_cancelled, is_draining, is_in_faulty_group, is_joined, is_ready, some_member, holds_back, waits_for, no_bytes, with_ended}
+use Rattle.std.proofs.lemmas.Bool.{and_from, and_parts, and_right, both_ways, not-true, false_from_ne_true}
+use Rattle.uring_entry.specs.Requests.{Requests, Ending, has_ended, is_outstanding, is_running, is_doomed, is_cancelled, is_in_faulty_group, is_joined, is_ready, some_member, waits_for, no_bytes, with_ended}
 use Rattle.uring_entry.specs.Why.{failed_member_of, is_failure_before}
 use Rattle.uring_entry.proofs.BelowLemmas.{some_below_none, least_below_same}
-use Rattle.uring_entry.proofs.RequestLemmas.{list_any_push, has_ended_same, has_ended_other, is_ready_yes, is_ready_inside, is_running_ended_other, is_doomed_faulty, is_doomed_after, is_doomed_cancelled}
-use Rattle.uring_entry.proofs.EventLemmas.{is_doomed_tells, is_after_failure_tells, is_after_failure_from}
+use Rattle.uring_entry.proofs.RequestLemmas.{list_any_push, has_ended_same, has_ended_other, is_ready_yes, is_ready_inside, is_running_ended_other}
 use Rattle.uring_linux.specs.declared.deferred.Deferred.{Deferred}
 use Rattle.uring_linux.specs.Drains.{Drains, is_in_some, still_deferred}
 use Rattle.uring_linux.specs.LinuxRequests as kernel
 use Rattle.uring_linux.specs.LinuxRequests.{LinuxRequests, breaker_of, first_of, is_alone, is_deferred, is_in_turn, keeps_back, posts_after}
 use Rattle.uring_linux.proofs.Deferring.{not_alone}
 use Rattle.uring_rules.specs.Rules.{ends_doomed, may_start, posts, drains_ended}
-use Rattle.uring_core.proofs.ListCounts.{any_kept}
 use Rattle.uring_laws.proofs.AlikeDrains.{going_same}
 use Rattle.uring_laws.proofs.AlikeLinux.{after_one}
 use Rattle.std.proofs.Math.Bool.{or_comm}
 use Rattle.uring_linux.proofs.FaultsKept.{faulty_ended}
 use Rattle.uring_linux.proofs.InOrder.{still_fewer}
 use Rattle.uring_laws.proofs.LinuxSound as sound
-use Rattle.uring_laws.proofs.LinuxSound.{IsFirst, after_end, failure_end, doom_ended, doom_stays, first_ended, turn_first}
+use Rattle.uring_laws.proofs.LinuxSound.{IsFirst, after_end, failure_end, doom_ended, doom_stays, first_ended, turn_first, after_stays}
 use Rattle.uring_laws.proofs.StartedRequests.{CanStart}
 
 -- m has ended
@@ -31,17 +28,10 @@ with_end linux l m res bytes =
 
 -- By the manual pages' rules.
 
--- whoever is ready waits for nobody that hasn't ended
-waits_not : (r : Requests) (m n : ℕ) → is_ready r n ≡ true → has_ended r m ≡ false → m < n
-    → waits_for r n m ≡ false
-waits_not r m n ready still low =
-    sym (ap (λ b. not b && waits_for r n m) still) ∙ is_ready_inside r n m ready low
-
--- and is in no group after it
+-- whoever is ready is in no group after one that hasn't ended
 joined_not : (r : Requests) (m n : ℕ) → is_ready r n ≡ true → has_ended r m ≡ false → m < n
     → is_joined r m n ≡ false
-joined_not r m n ready still low =
-    (or_parts (is_joined r m n) (is_draining r m) (or_parts (is_joined r m n || is_draining r m) (is_draining r n) (waits_not r m n ready still low)).0).0
+joined_not r m n ready still low = grind (arith, is_ready_inside r n m ready low)
 
 module _ (r : Requests) (m : ℕ) (res : ℤ) (bytes : List ℕ) (n : ℕ) where
   abbrev q : Requests
@@ -57,26 +47,13 @@ module _ (r : Requests) (m : ℕ) (res : ℤ) (bytes : List ℕ) (n : ℕ) where
   waits_end k = refl
 
   pub ready_end : is_ready r n ≡ true → is_ready q n ≡ true
-  ready_end ready = is_ready_yes q n free where
-    free : (k : ℕ) → k < n → holds_back q n k ≡ false
-    free k low = elim (and_cases (not (has_ended r k)) (waits_for r n k) (is_ready_inside r n k ready low)) [
-      | inl over ↦ and_left _ _ (ap not (any_kept (λ e. e.number == k) r.ended _ (not-false _ over)))
-      | inr none ↦ and_right _ _ (waits_end k ∙ none)
-    ]
+  ready_end ready =
+      is_ready_yes q n (λ k low. grind (arith, is_ready_inside r n k ready low, waits_end k, list_any_push (λ e. e.number == k) r.ended (record { number = m; res = res; bytes = bytes })))
 
   -- who is doomed stays so after an end
   stays_doomed : is_doomed r n ≡ true → is_doomed q n ≡ true
-  unfolding some_member is_joined
-  stays_doomed doomed = elim (is_doomed_tells r n doomed) [
-    | inl faulty ↦ is_doomed_faulty q n faulty
-    | inr rest ↦
-        elim rest [
-          | inl after ↦
-              let f = is_after_failure_tells r n after in
-              is_doomed_after q n (is_after_failure_from q n f.0 (record { before = f.1.before; joined = f.1.joined; soft = f.1.soft; failed = any_kept (λ e. (e.number == f.0) && not (is_success (entry_of r f.0) e.res)) r.ended _ f.1.failed }))
-          | inr cancelled ↦ is_doomed_cancelled q n cancelled
-        ]
-  ]
+  unfolding is_doomed some_member is_joined
+  stays_doomed doomed = grind (arith, after_stays r m res bytes n, doomed)
 
   -- By Linux's rules.
 
@@ -84,11 +61,7 @@ module _ (r : Requests) (m : ℕ) (res : ℤ) (bytes : List ℕ) (n : ℕ) where
   unfolding is_in_turn
   turn_from p first =
       ap not
-      (some_below_none (keeps_back p n) n
-      (λ k lt. elim (cases_Bool (is_joined p k n)) [
-        | inl joined ↦ and_right _ _ (ap not (first k lt joined))
-        | inr apart ↦ and_left _ _ apart
-      ]))
+      (some_below_none (keeps_back p n) n (λ k lt. grind (arith, first k lt)))
 
   turn_end : is_in_turn r n ≡ true → is_in_turn q n ≡ true
   turn_end turn = turn_from q (first_ended r m res bytes n (turn_first r n turn))
@@ -147,29 +120,18 @@ module _ (l : LinuxRequests) (m : ℕ) (res : ℤ) (bytes : List ℕ) (n : ℕ) 
       → ends_doomed linux (with_ended l.requests m res bytes) n ≡ false → ends_doomed linux l.requests n ≡ false
   spared_ahead true ready spared =
       let turn : is_in_turn l.requests n ≡ true = (and_parts (is_in_turn l.requests n) (not (is_deferred l n)) ready).0 in
-      let free : kernel.is_doomed (with_ended l.requests m res bytes) n ≡ false = sym (ap (λ b. b && kernel.is_doomed (with_ended l.requests m res bytes) n) (turn_end l.requests m res bytes n turn)) ∙ spared in
-      and_right _ _ (sym (doom_ended l.requests m res bytes n still (turn_first l.requests n turn)) ∙ free)
+      grind (arith, turn_end l.requests m res bytes n turn, doom_ended l.requests m res bytes n still (turn_first l.requests n turn), spared)
   spared_ahead false ready spared =
       sym (doomed_end l.requests m res bytes n (joined_not l.requests m n ready still)) ∙ spared
 
   -- a request that can start can do so after the end of another, and could before it if it might then
   pub start_past : (linux : Bool) → n ≢ m → CanStart linux l n → CanStart linux (with_end linux l m res bytes) n
-  start_past linux differ c = record {
-    outstanding = outstanding_end l.requests m res bytes n differ ∙ c.outstanding;
-    idle = is_running_ended_other l.requests m res bytes n differ ∙ c.idle;
-    spared = spared_past linux c.spared c.ready;
-    ready = ready_past linux c.ready;
-    no_cancel = c.no_cancel;
-  }
+  start_past linux differ c =
+      grind (arith, outstanding_end l.requests m res bytes n differ, is_running_ended_other l.requests m res bytes n differ, spared_past linux c.spared c.ready, ready_past linux c.ready)
 
   pub start_ahead : (linux : Bool) → n ≢ m → may_start linux l n ≡ true → CanStart linux (with_end linux l m res bytes) n → CanStart linux l n
-  start_ahead linux differ ready c = record {
-    outstanding = sym (outstanding_end l.requests m res bytes n differ) ∙ c.outstanding;
-    idle = sym (is_running_ended_other l.requests m res bytes n differ) ∙ c.idle;
-    spared = spared_ahead linux ready c.spared;
-    ready = ready;
-    no_cancel = c.no_cancel;
-  }
+  start_ahead linux differ ready c =
+      grind (arith, outstanding_end l.requests m res bytes n differ, is_running_ended_other l.requests m res bytes n differ, spared_ahead linux ready c.spared)
 
 pub not_ended : (r : Requests) (n : ℕ) → is_outstanding r n ≡ true → has_ended r n ≡ false
 not_ended r n out =
@@ -211,11 +173,7 @@ none_goes_on l m res n differ a =
 same_numbers : (ended : List Ending) (a b c d : Ending) (k : ℕ) → a.number ≡ d.number → b.number ≡ c.number
     → list_any (λ e. e.number == k) ((ended ++ a ∷ []) ++ b ∷ []) ≡ list_any (λ e. e.number == k) ((ended ++ c ∷ []) ++ d ∷ [])
 same_numbers ended a b c d k one two =
-    list_any_push (λ e. e.number == k) (ended ++ a ∷ []) b
-    ∙ ap (λ z. z || (b.number == k)) (list_any_push (λ e. e.number == k) ended a)
-    ∙ either_order (list_any (λ e. e.number == k) ended) (a.number == k) (b.number == k)
-    ∙ ap₂ (λ i j. (list_any (λ e. e.number == k) ended || (i == k)) || (j == k)) two one
-    ∙ sym (list_any_push (λ e. e.number == k) (ended ++ c ∷ []) d ∙ ap (λ z. z || (d.number == k)) (list_any_push (λ e. e.number == k) ended c))
+    simp (list_any_push, one, two) (either_order (list_any (λ e. e.number == k) ended) (d.number == k) (c.number == k))
 
 -- Two that are outstanding and not deferred end: the drains stand the same in either order.
 pub drains_either : (linux : Bool) (l : LinuxRequests) (m n : ℕ) (x y : ℤ) (xs ys : List ℕ) → n ≢ m

@@ -1,9 +1,9 @@
 -- The laws of `files.rt` on lists of operations alone: the file of a descriptor is made by the operations on it,
 -- and operations that were dealt out by their file can be carried out at places with files of their own.
 -- From the lemmas of uring_files that each file stands by itself. Stable: other crates may import what is pub.
-use Rattle.std.proofs.Common.{◌≡◌, ℕ, ◌<◌, ◌==◌, ℤ, Bool, true, false, cond, List, [], ◌∷◌, map, refl, sym, ap, ◌∙◌, inl, inr}
+use Rattle.std.proofs.Common.{◌≡◌, ℕ, ◌<◌, ◌==◌, ℤ, Bool, true, false, cond, List, [], ◌∷◌, map, refl, sym, ap, ◌∙◌, inl, inr, arith, subst}
 use Rattle.std.specs.List.{filter}
-use Rattle.std.proofs.lemmas.Bool.{both_ways, eq-eqb, false_from_ne_true}
+use Rattle.std.proofs.lemmas.Bool.{both_ways, eq-eqb, false_from_ne_true, cond_both, cond-true}
 use Rattle.uring_entry.specs.Preparation.{operation_of}
 use Rattle.uring_entry.specs.Requests.{Requests, Ending, entry_of}
 use Rattle.uring_entry.specs.declared.operation.Op.{Op}
@@ -24,13 +24,11 @@ left_apart : (files others : List FileContents) (done : List Done) (fd : ℤ) (k
     → AgreeAt fd (files_left files done) (files_left others (filter (λ d. keeps d.op) done))
 left_apart files others [] fd keeps own same = same
 left_apart files others (d ∷ later) fd keeps own same =
-    by_test (keeps d.op) refl (λ fs os agree. left_apart fs os later fd keeps own agree) where
-      by_test : (here : Bool) → keeps d.op ≡ here → ((fs os : List FileContents) → AgreeAt fd fs os → AgreeAt fd (files_left fs later) (files_left os (filter (λ x. keeps x.op) later)))
-          → AgreeAt fd (files_left (after files d.op d.outcome.res) later) (files_left others (cond here (d ∷ filter (λ x. keeps x.op) later) (filter (λ x. keeps x.op) later)))
-      by_test true e then_on = then_on (after files d.op d.outcome.res) (after others d.op d.outcome.res) (files_apart files others d.op d.outcome.res fd same)
-      by_test false e then_on =
-          let elsewhere : is_on fd d.op ≡ false = false_from_ne_true _ (λ on. both_ways _ e (own d.op on)) in
-          then_on (after files d.op d.outcome.res) others (others_stay files d.op d.outcome.res fd elsewhere ∙ same)
+    let now : List FileContents = after files d.op d.outcome.res in
+    let rest : List Done = filter (λ x. keeps x.op) later in
+    cond_both (keeps d.op) (d ∷ rest) rest (λ kept. AgreeAt fd (files_left now later) (files_left others kept))
+    (λ here. left_apart now (after others d.op d.outcome.res) later fd keeps own (files_apart files others d.op d.outcome.res fd same))
+    (λ left_out. left_apart now others later fd keeps own (others_stay files d.op d.outcome.res fd (false_from_ne_true _ (λ on. both_ways _ left_out (own d.op on))) ∙ same))
 
 pub left_by_own : (files : List FileContents) (done : List Done) (fd : ℤ) (keeps : Op → Bool)
     → ((op : Op) → is_on fd op ≡ true → keeps op ≡ true)
@@ -52,12 +50,7 @@ own_ends : (r : Requests) (ends : List Ending) (fd : ℤ)
     → map (done_of r) (ends_of fd r ends) ≡ filter (λ d. is_on fd d.op) (map (done_of r) ends)
 unfolding done_of
 own_ends r [] fd = refl
-own_ends r (e ∷ later) fd =
-    by_test (is_on fd (operation_of (entry_of r e.number))) (own_ends r later fd) where
-      by_test : (on : Bool) → map (done_of r) (ends_of fd r later) ≡ filter (λ d. is_on fd d.op) (map (done_of r) later)
-          → map (done_of r) (cond on (e ∷ ends_of fd r later) (ends_of fd r later)) ≡ cond on (done_of r e ∷ filter (λ d. is_on fd d.op) (map (done_of r) later)) (filter (λ d. is_on fd d.op) (map (done_of r) later))
-      by_test true rest = ap (λ ds. done_of r e ∷ ds) rest
-      by_test false rest = rest
+own_ends r (e ∷ later) fd = grind (arith, own_ends r later fd)
 
 pub after_by_own : FileByItsEnds
 after_by_own r files ends fd =
@@ -89,12 +82,10 @@ module _ (place : Op → ℕ) (by_file : IsByFile place) where
 
   agree_after : (files : List FileContents) (parts : ℕ → List FileContents) (d : Done) → Agree place files parts → Agree place (after files d.op d.outcome.res) (part_after d parts)
   unfolding part_after
-  agree_after files parts d agree fd op on = by_test (place d.op == place op) refl where
-    by_test : (here : Bool) → (place d.op == place op) ≡ here → AgreeAt fd (after files d.op d.outcome.res) (cond here (after (parts (place op)) d.op d.outcome.res) (parts (place op)))
-    by_test true e = files_apart files (parts (place op)) d.op d.outcome.res fd (agree fd op on)
-    by_test false e =
-        let elsewhere : is_on fd d.op ≡ false = false_from_ne_true _ (λ also. both_ways _ e (eq-eqb _ _ (by_file fd d.op op also on))) in
-        others_stay files d.op d.outcome.res fd elsewhere ∙ agree fd op on
+  agree_after files parts d agree fd op on =
+      cond_both (place d.op == place op) _ _ (AgreeAt fd (after files d.op d.outcome.res))
+      (λ here. files_apart files (parts (place op)) d.op d.outcome.res fd (agree fd op on))
+      (λ elsewhere. others_stay files d.op d.outcome.res fd (false_from_ne_true _ (λ also. both_ways _ elsewhere (eq-eqb _ _ (by_file fd d.op op also on)))) ∙ agree fd op on)
 
   -- what is left for a place once the first operation was carried out
   left_at : (parts : ℕ → List FileContents) (d : Done) (later : List Done) (k : ℕ) → AreDone (parts k) (done_at place k (d ∷ later)) → AreDone (part_after d parts k) (done_at place k later)
@@ -105,10 +96,8 @@ module _ (place : Op → ℕ) (by_file : IsByFile place) where
     by_test false all = all
 
   first_at : (parts : ℕ → List FileContents) (d : Done) (later : List Done) → AreDone (parts (place d.op)) (done_at place (place d.op) (d ∷ later)) → IsOutcome (parts (place d.op)) d.op d.outcome
-  first_at parts d later done = by_test (place d.op == place d.op) (eq-eqb _ _ refl) done where
-    by_test : (here : Bool) → here ≡ true → AreDone (parts (place d.op)) (cond here (d ∷ done_at place (place d.op) later) (done_at place (place d.op) later)) → IsOutcome (parts (place d.op)) d.op d.outcome
-    by_test true e all = all.0
-    by_test false e all = absurd (let f : false ≡ true = e in cc)
+  first_at parts d later done =
+      (subst (AreDone (parts (place d.op))) (cond-true (place d.op == place d.op) _ _ (eq-eqb _ _ refl)) done).0
 
   joined : (places : ℕ) → ((op : Op) → place op < places) → (files : List FileContents) (parts : ℕ → List FileContents) (done : List Done) → Agree place files parts → ((k : ℕ) → k < places → AreDone (parts k) (done_at place k done)) → AreDone files done
   joined places within files parts [] agree at = tt

@@ -1,6 +1,7 @@
 -- What a cancel of one request finds, from what is told of it.
 use Rattle.std.proofs.Common.{◌≡◌, ℕ, ◌<◌, length, Bool, true, false, not, ◌&&◌, Option, Some, None, refl, sym, ◌∙◌, ap, subst}
 use Rattle.std.specs.Prelude.{if◌then◌else◌, pos, neg_ℤ}
+use Rattle.uring_laws.proofs.ReasonLaws.{least_of}
 use Rattle.uring_entry.specs.declared.errno.TheConstants.{EALREADY}
 use Rattle.uring_entry.specs.declared.operation.Op.{Op}
 use Rattle.uring_entry.specs.declared.operation.Op.TheVariants.{Cancel}
@@ -8,7 +9,7 @@ use Rattle.uring_entry.specs.Layout.{addr_of}
 use Rattle.uring_entry.specs.Preparation.{is_faulty, is_cancel_all, operation_of}
 use Rattle.uring_entry.specs.Requests.{Requests, entry_of, is_outstanding, is_running, is_candidate, target_of, targets_of, cancel_result, count_result, result_for}
 use Rattle.uring_entry.proofs.Preparations.{asks_cancel, cancel_asked}
-use Rattle.uring_entry.proofs.BelowLemmas.{least_below_none, least_below_some, least_below_out, least_below_tells}
+use Rattle.uring_entry.proofs.BelowLemmas.{least_below_none, least_below_some, least_below_out}
 use Rattle.uring_dispatch.specs.Cancels.{found_as, found_for, found_by}
 use Rattle.uring_dispatch.specs.declared.answers.Found.{Found}
 use Rattle.uring_dispatch.specs.declared.answers.Found.TheVariants.{Nobody, Running, Chosen}
@@ -22,9 +23,7 @@ target_none r n e m lt = least_below_out (is_candidate r n) (length r.accepted) 
 target_some : (r : Requests) (n m : ℕ) → target_of r n ≡ Some m
     → IsLeastOf (is_candidate r n) (length r.accepted) m
 unfolding target_of
-target_some r n m e =
-    let least = least_below_tells (is_candidate r n) (length r.accepted) m e in
-    record { below = least.below; holds = least.holds; least = least.before }
+target_some r n m e = least_of (is_candidate r n) (length r.accepted) m e
 
 -- what is found, and what the cancel ends with
 target_found : (r : Requests) (n : ℕ) (o : Option ℕ) → target_of r n ≡ o

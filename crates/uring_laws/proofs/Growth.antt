@@ -1,7 +1,7 @@
 -- What stays of the requests as a history goes on, by either's rules: those accepted by then keep their entries and groups, and those that are doomed by the manual pages' rules stay so.
 -- By `Move`, event by event (`event_grows`), and over a history by induction (`grows`).
 -- Stable: other crates may import `Grows` with its fields, as `same_entry`, and `event_grows`, `grows`, `lawful_before`.
-use Rattle.std.proofs.Common.{◌≡◌, ℕ, ◌<◌, ◌≤◌, ℤ, Bool, true, false, List, [], ◌∷◌, ◌++◌, length, refl, ◌∙◌, ◌⊎◌, inl, inr, arith}
+use Rattle.std.proofs.Common.{◌≡◌, ℕ, ◌<◌, ◌≤◌, ℤ, Bool, true, false, List, [], ◌∷◌, ◌++◌, length, refl, ◌∙◌, ◌⊎◌, inl, inr, arith, rules}
 use Rattle.uring_entry.specs.Setup.{Setup}
 use Rattle.uring_entry.specs.Layout.{Sqe}
 use Rattle.uring_entry.specs.Requests.{Requests, entry_of, is_joined, is_draining, is_drain, some_member, is_doomed, is_cancelled, with_call, with_started}
@@ -30,26 +30,11 @@ pub record Grows (r later : Requests) : Type 0 where
       → is_doomed later n ≡ true
 
 same_grows : (r : Requests) → Grows r r
-same_grows r = record {
-  longer_then = omega arith;
-  same_entry = λ n lt. refl;
-  same_group = λ m n lt. refl;
-  same_drain = λ n lt. refl;
-  stays_cancelled = λ n e. e;
-  stays_doomed = λ n lt e. e;
-}
+same_grows r = search (rules, arith)
 
 pub then_grows : (r later last : Requests) → Grows r later → Grows later last → Grows r last
 then_grows r later last a b =
-    let l = a.longer_then in
-    record {
-      longer_then = omega (arith, b.longer_then);
-      same_entry = λ n lt. b.same_entry n (omega arith) ∙ a.same_entry n lt;
-      same_group = λ m n lt. b.same_group m n (omega arith) ∙ a.same_group m n lt;
-      same_drain = λ n lt. b.same_drain n (omega arith) ∙ a.same_drain n lt;
-      stays_cancelled = λ n e. b.stays_cancelled n (a.stays_cancelled n e);
-      stays_doomed = λ n lt e. b.stays_doomed n (omega arith) (a.stays_doomed n lt e);
-    }
+    grind arith
 
 start_grows : (r : Requests) (n : ℕ) → Grows r (with_started r n)
 start_grows r n = record {
@@ -78,9 +63,11 @@ end_grows r n res bytes cancelled choice =
       stays_doomed = λ m lt e. end_doom r n res bytes cancelled choice m e;
     }
 
-call_grows : (r : Requests) (entries : List Sqe)
-    → (length r.accepted ≡ 0) ⊎ (list_any (λ c. c == length r.accepted) r.cuts ≡ true)
-    → Grows r (with_call r entries)
+-- a call ended with the last entry
+abbrev pub IsCut : Requests → Type 0
+IsCut r = (length r.accepted ≡ 0) ⊎ (list_any (λ c. c == length r.accepted) r.cuts ≡ true)
+
+call_grows : (r : Requests) (entries : List Sqe) → IsCut r → Grows r (with_call r entries)
 call_grows r entries cut =
     record {
       longer_then = longer r entries cut;
@@ -102,9 +89,7 @@ cancel_grows true r n = end_grows r n _ _ r.cancelled (no_choice r n)
 cancel_grows false r n = end_grows r n _ _ _ (choice_of r n (cancel_result false r n) (inr refl))
 
 move_grows : (linux : Bool) (l : LinuxRequests) (s : Step) (a : Answer) (later : Requests)
-    → Move linux l s a later
-    → (length l.requests.accepted ≡ 0) ⊎ (list_any (λ c. c == length l.requests.accepted) l.requests.cuts ≡ true)
-    → Grows l.requests later
+    → Move linux l s a later → IsCut l.requests → Grows l.requests later
 move_grows linux l s a later (stays _ _ no_start no_end) cut = same_grows l.requests
 move_grows linux l s a later (accepts accepted missed head entries) cut =
     call_grows l.requests entries cut

@@ -1,7 +1,7 @@
 -- By Linux's rules what isn't deferred waits for no drain: whoever may start has nobody before it that a drain puts there. By what has happened, one submission call, start or end after the other.
-use Rattle.std.proofs.Common.{◌≡◌, ℕ, suc, ◌+◌, ◌-◌, ◌<◌, ◌≤◌, ℤ, min, max, length, Bool, true, false, not, ◌&&◌, ◌||◌, ◌==◌, List, [], ◌∷◌, refl, sym, ◌∙◌, ap, subst, arith, inl, inr, length-append}
+use Rattle.std.proofs.Common.{◌≡◌, ℕ, suc, ◌+◌, ◌-◌, ◌<◌, ◌≤◌, ℤ, min, max, length, Bool, true, false, not, ◌&&◌, ◌||◌, ◌==◌, List, [], ◌∷◌, refl, sym, ◌∙◌, ap, subst, arith, inl, inr, length-append, rules}
 use Rattle.std.specs.Prelude.{if◌then◌else◌, nat_lt}
-use Rattle.std.proofs.lemmas.Bool.{cases_lt, cases_Bool, eq-eqb, ne_eqb, lt-ltb, both_ways, and_left, and_right, and_from, and_parts, or_left, or_right, or_cases, or_parts, or_from, not-true, not-false, ltb-true, ltb-false, false_from_ne_true}
+use Rattle.std.proofs.lemmas.Bool.{cases_lt, cases_Bool, eq-eqb, ne_eqb, lt-ltb, both_ways, and_left, and_right, and_from, and_parts, or_left, or_right, or_cases, or_parts, or_from, not-true, not-false, ltb-true, ltb-false, false_from_ne_true, true_from_ne_false}
 use Rattle.uring_entry.specs.Layout.{Sqe}
 use Rattle.uring_entry.specs.Requests as manual
 use Rattle.uring_entry.specs.Requests.{Requests, entry_of, is_linked, is_drain, is_last, is_joined, is_in_group, has_ended}
@@ -31,10 +31,7 @@ still_off (g ∷ rest) = refl
 -- what hasn't ended is among these groups, if all that is outstanding is
 alone_in : (r : Requests) (xs : List Deferred) (m : ℕ) → is_alone r xs ≡ true → m < length r.accepted
     → has_ended r m ≡ false → is_in_some xs m ≡ true
-alone_in r xs m alone lt going = elim (cases_Bool (is_in_some xs m)) [
-  | inl there ↦ there
-  | inr out ↦ absurd (both_ways _ (not_alone r xs m lt going out) alone)
-]
+alone_in r xs m alone lt going = true_from_ne_false _ (λ out. both_ways _ (not_alone r xs m lt going out) alone)
 
 gone_ended : (r : Requests) (xs : List Deferred) (high n m : ℕ) (alone : Bool) → is_alone r xs ≡ alone
     → AreTold r 0 xs high → m < length r.accepted → m < n → is_joined r m n ≡ false
@@ -42,15 +39,9 @@ gone_ended : (r : Requests) (xs : List Deferred) (high n m : ℕ) (alone : Bool)
     → has_ended r m ≡ true
 gone_ended r xs high n m false is told low lt apart here gone w =
     absurd (both_ways (is_in_some xs n) (sym (ap (λ ys. is_in_some ys n) (still_off xs)) ∙ gone) here)
-gone_ended r xs high n m true is told low lt apart here gone w = elim (cases_Bool (has_ended r m)) [
-  | inl ended ↦ ended
-  | inr going ↦
-      let c = gone_calm r 0 xs high n m told here gone (alone_in r xs m is low going) lt apart in
-      absurd (elim w [
-        | inl drains ↦ both_ways _ c.0 drains
-        | inr other ↦ both_ways _ c.1 other.drains
-      ])
-]
+gone_ended r xs high n m true is told low lt apart here gone w = true_from_ne_false _ (λ going.
+    let c = gone_calm r 0 xs high n m told here gone (alone_in r xs m is low going) lt apart in
+    elim w [ inl drains ↦ both_ways _ c.0 drains | inr other ↦ both_ways _ c.1 other.drains ])
 
 -- A group is accepted.
 
@@ -66,10 +57,8 @@ module _ (r : Requests) (d : Drains) (i : IsAmid r d) where
 
   right_new : (n k : ℕ) → d.from ≤ n → n < length r.accepted → d.from ≤ k → k < length r.accepted → is_in_faulty_group r n ≡ false → has_fault r k ≡ false
   unfolding is_in_faulty_group
-  right_new n k low high under within right = elim (cases_Bool (has_fault r k)) [
-    | inl fault ↦ absurd (both_ways _ (some_below_out (λ m. is_in_group r m n && has_fault r m) (length r.accepted) right k within) (and_from _ _ (joined_new (min k n) (max k n) (omega (arith, low, under)) (omega (arith, high, within))) fault))
-    | inr none ↦ none
-  ]
+  right_new n k low high under within right =
+      false_from_ne_true _ (λ fault. both_ways _ (some_below_out (λ m. is_in_group r m n && has_fault r m) (length r.accepted) right k within) (and_from _ _ (joined_new (min k n) (max k n) (omega (arith, low, under)) (omega (arith, high, within))) fault))
 
   -- in a group without a fault that isn't told to drain nobody drains
   calm_new : (n : ℕ) → d.group ≡ false → d.from ≤ n → n < length r.accepted → is_in_faulty_group r n ≡ false → drains r n ≡ false
@@ -126,10 +115,8 @@ module _ (r : Requests) (d : Drains) (i : IsAmid r d) where
       → (m : ℕ) → m < length r.accepted → HasDrain r m → has_ended r m ≡ true
   none_left false is fine still none m lt other =
       absurd (let f : false ≡ true = sym (ap (λ ys. is_in_some ys d.from) (sym (still_off all) ∙ none)) ∙ pushed_new d.deferred g d.from (omega arith) i.some in cc)
-  none_left true is fine still none m lt other = elim (cases_Bool (has_ended r m)) [
-    | inl ended ↦ ended
-    | inr going ↦ absurd (both_ways _ (left_calm r 0 d.deferred g (length r.accepted) m (told_all fine) still none (alone_in r all m is lt going)) other.drains)
-  ]
+  none_left true is fine still none m lt other =
+      true_from_ne_false _ (λ going. both_ways _ (left_calm r 0 d.deferred g (length r.accepted) m (told_all fine) still none (alone_in r all m is lt going)) other.drains)
 
   some_ring : RingDrains r (with_deferred d (length r.accepted) d.deferred)
   some_ring off m lt other = elim (cases_lt m d.from) [
@@ -183,8 +170,7 @@ and_left_no a b none is = false_from_ne_true a (λ so. both_ways (a && b) none (
 owed_on : (first was let_in granted : Bool) → (first ≡ false → (was || granted) ≡ true)
     → (first ≡ true → (was && not let_in) ≡ true)
     → (if first then was && not let_in else was || granted) ≡ true
-owed_on true was let_in granted off on = on refl
-owed_on false was let_in granted off on = off refl
+owed_on first was let_in granted off on = grind arith
 
 accepted_drained : (l : LinuxRequests) (e : Sqe) → IsSettled l → IsDrained l.requests l.drains
     → IsDrained (with_accepted l e).requests (with_accepted l e).drains
@@ -266,11 +252,8 @@ accepted_drained l e s i = go (is_linked e) refl where
       let_out : (l.drains.from == last) ≡ true → k < last → is_let_in r last ≡ false
       let_out first before = and_right_no (is_first r last) (is_let_in r last) (sym first_is ∙ first) (none last before (omega (arith, more)))
 
-  on_by : (a b x : Bool) → (a ≡ false → b ≡ false) → (a || x) ≡ false → (b || x) ≡ false
-  on_by a b x so off = let p = or_parts a x off in or_from _ _ (so p.0) p.1
-
   on : d.ring ≡ false → d.group ≡ false
-  on off = on_by l.drains.ring l.drains.group _ i.holds.on off
+  on off = let p = or_parts l.drains.ring _ off in or_from _ _ (i.holds.on p.0) p.1
 
   holds : Holds r d
   holds = record {
@@ -334,11 +317,9 @@ cut_drained l i = go (nat_lt l.drains.from (length l.requests.accepted)) refl wh
 
 start_drained : (l : LinuxRequests) (n : ℕ) → IsDrained l.requests l.drains
     → IsDrained (manual.with_started l.requests n) l.drains
-start_drained l n i = record {
-  low = i.low;
-  amid = i.amid;
-  holds = still_holds l.requests (manual.with_started l.requests n) l.drains (started_keeps l.requests n) i.low i.holds refl;
-}
+start_drained l n i =
+    let holds = still_holds l.requests (manual.with_started l.requests n) l.drains (started_keeps l.requests n) i.low i.holds refl in
+    assumption (holds, i)
 
 end_drained : (l : LinuxRequests) (n : ℕ) (res : ℤ) (bytes : List ℕ) → IsDrained l.requests l.drains
     → IsDrained (with_ended l n res bytes).requests (with_ended l n res bytes).drains
@@ -361,19 +342,7 @@ end_drained l n res bytes i =
 -- Whatever happened.
 
 nothing_drained : IsDrained manual.no_request (made_by []).drains
-nothing_drained = record {
-  low = omega arith;
-  amid = λ k le lt. absurd (omega (arith, lt));
-  holds = record {
-    begins = λ k e. absurd (omega (arith, e));
-    told = omega arith;
-    waits = λ n m lt. absurd (omega (arith, lt));
-    ring = λ off m lt. absurd (omega (arith, lt));
-    group = λ still k le lt. absurd (omega (arith, lt));
-    on = λ off. refl;
-    owed = λ k lt. absurd (omega (arith, lt));
-  };
-}
+nothing_drained = search (rules, arith)
 
 all_drained : (happened : List Happening) → MayHaveHappened happened
     → IsDrained (made_by happened).requests (made_by happened).drains

@@ -1,5 +1,5 @@
 -- Of groups that drain by Linux's rules: what is so of the requests whatever happened, and stays as more is accepted after them.
-use Rattle.std.proofs.Common.{◌≡◌, ℕ, suc, ◌-◌, ◌<◌, ◌≤◌, ℤ, min, max, length, true, false, not, ◌&&◌, ◌||◌, ◌==◌, List, refl, sym, ◌∙◌, ap, ap₂, arith, ◌⊎◌, inl, inr}
+use Rattle.std.proofs.Common.{◌≡◌, ℕ, suc, ◌-◌, ◌<◌, ◌≤◌, ℤ, min, max, length, true, false, not, ◌&&◌, ◌||◌, ◌==◌, List, refl, sym, ◌∙◌, ap, ap₂, arith, ◌⊎◌, inl, inr, rules}
 use Rattle.std.specs.Prelude.{nat_le, nat_lt}
 use Rattle.std.proofs.lemmas.Bool.{cases_lt, both_ways, and_from, and_parts}
 use Rattle.uring_entry.specs.Layout.{Sqe}
@@ -89,12 +89,6 @@ module _ (r q : Requests) (n : ℕ) (last : (k : ℕ) → k < n → is_last q k 
       ap₂ (λ x y. x || y) (drain n (omega arith))
       (ap₂ (λ x y. x && y) (take_same n (omega arith)) (some_below_same (is_owed_by q n) (is_owed_by r n) n owed_same))
 
-  takes_as_before : may_take q n ≡ may_take r n
-  takes_as_before = take_same n (omega arith)
-
-  owes_as_before : owes_drain q n ≡ owes_drain r n
-  owes_as_before = owe_same n (omega arith)
-
 let_in_accepted : (r : Requests) (e : Sqe) (k : ℕ) → k < length r.accepted
     → is_let_in (manual.with_accepted r e) k ≡ is_let_in r k
 let_in_accepted r e k lt =
@@ -105,8 +99,8 @@ accepted_keeps r e = record {
   faults = accepted_faults r e;
   cut = λ k lt is. last_accepted r e k lt ∙ is;
   drain = λ k lt. marks_same r q k (last k lt) (let_in k lt) (drain k lt);
-  take = λ k lt. takes_as_before r q k (last k lt) (let_in k lt) (drain k lt);
-  owe = λ k lt. owes_as_before r q k (last k lt) (let_in k lt) (drain k lt);
+  take = λ k lt. take_same r q k (last k lt) (let_in k lt) (drain k lt) k (omega arith);
+  owe = λ k lt. owe_same r q k (last k lt) (let_in k lt) (drain k lt) k (omega arith);
   ended = λ k is. is;
 } where
   q : Requests
@@ -126,8 +120,8 @@ cut_keeps r = record {
   faults = cut_faults r;
   cut = λ k lt is. last_kept r k is;
   drain = λ k lt. marks_same r (manual.with_cut r) k (last k lt) (λ j le. refl) (λ j le. refl);
-  take = λ k lt. takes_as_before r (manual.with_cut r) k (last k lt) (λ j le. refl) (λ j le. refl);
-  owe = λ k lt. owes_as_before r (manual.with_cut r) k (last k lt) (λ j le. refl) (λ j le. refl);
+  take = λ k lt. take_same r (manual.with_cut r) k (last k lt) (λ j le. refl) (λ j le. refl) k (omega arith);
+  owe = λ k lt. owe_same r (manual.with_cut r) k (last k lt) (λ j le. refl) (λ j le. refl) k (omega arith);
   ended = λ k is. is;
 } where
   last : (n : ℕ) → n < length r.accepted → (k : ℕ) → k < n → is_last (manual.with_cut r) k ≡ is_last r k
@@ -135,25 +129,13 @@ cut_keeps r = record {
 
 pub started_keeps : (r : Requests) (n : ℕ) → KeepsGroups r (manual.with_started r n)
 unfolding is_joined
-started_keeps r n = record {
-  faults = record { count = omega arith; last = λ k lt. refl; fault = λ k lt. refl };
-  cut = λ k lt is. is;
-  drain = λ k lt. refl;
-  take = λ k lt. refl;
-  owe = λ k lt. refl;
-  ended = λ k is. is;
-}
+started_keeps r n = search (rules, arith)
 
 pub ended_keeps : (r : Requests) (n : ℕ) (res : ℤ) (bytes : List ℕ) → KeepsGroups r (manual.with_ended r n res bytes)
 unfolding is_joined
-ended_keeps r n res bytes = record {
-  faults = record { count = omega arith; last = λ k lt. refl; fault = λ k lt. refl };
-  cut = λ k lt is. is;
-  drain = λ k lt. refl;
-  take = λ k lt. refl;
-  owe = λ k lt. refl;
-  ended = λ k is. any_kept (λ e. e.number == k) r.ended _ is;
-}
+ended_keeps r n res bytes =
+    let ended : (k : ℕ) → has_ended r k ≡ true → has_ended (manual.with_ended r n res bytes) k ≡ true = λ k is. any_kept (λ e. e.number == k) r.ended _ is in
+    search (rules, arith, ended)
 
 -- What is so whatever happened.
 

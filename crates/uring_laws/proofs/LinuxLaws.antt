@@ -1,15 +1,12 @@
 -- The laws of `linux.rt`: doomed requests, links, drains and cancels by Linux's rules.
-use Rattle.std.proofs.Common.{◌≡◌, ℕ, ◌<◌, ◌==◌, pos, neg_ℤ, Bool, true, false, not, ◌&&◌, ◌||◌, List, [], ◌∷◌, ◌++◌, Option, Some, None, length, slice_get, count_by, if◌then◌else◌, refl, sym, subst, ◌∙◌, ◌⊎◌, inl, inr, arith}
-use Rattle.std.specs.Prelude.{is_some}
-use Rattle.std.specs.List.{list_any}
+use Rattle.std.proofs.Common.{◌≡◌, ℕ, ◌<◌, ◌==◌, neg_ℤ, Bool, true, false, not, ◌&&◌, ◌||◌, List, [], ◌∷◌, ◌++◌, Option, Some, None, length, slice_get, count_by, refl, sym, subst, ◌∙◌, ◌⊎◌, inl, inr, arith}
 use Rattle.std.specs.Ordering.{int_eq}
-use Rattle.std.proofs.lemmas.Bool.{and_right, and_parts, or_parts, cases_Bool, ltb-true, both_ways, false_from_ne_true, cond_both}
+use Rattle.std.proofs.lemmas.Bool.{and_right, and_parts, or_parts, cases_Bool, ltb-true, both_ways, false_from_ne_true}
 use Rattle.uring_entry.specs.Setup.{Setup}
-use Rattle.uring_entry.specs.declared.errno.TheConstants.{ENOENT, EALREADY, ECANCELED}
-use Rattle.uring_entry.specs.Preparation.{is_cancel_all}
-use Rattle.uring_entry.specs.Requests.{Requests, Ending, entry_of, has_started, has_ended, is_joined, is_outstanding, least_of}
+use Rattle.uring_entry.specs.declared.errno.TheConstants.{ECANCELED}
+use Rattle.uring_entry.specs.Requests.{Requests, Ending, has_started, has_ended, is_joined, is_outstanding, least_of}
 use Rattle.uring_linux.specs.Happenings.{Happening, made_by, MayHaveHappened}
-use Rattle.uring_linux.specs.LinuxRequests.{LinuxRequests, is_in_faulty_group, is_doomed, doomed_result, cancel_result, found_by, is_deferred}
+use Rattle.uring_linux.specs.LinuxRequests.{LinuxRequests, is_in_faulty_group, is_doomed, doomed_result, cancel_result, is_deferred}
 use Rattle.uring_core.specs.World.{World, requests_of}
 use Rattle.uring_core.specs.StepAnswers.{IsIssued}
 use Rattle.uring_core.specs.Histories.{History, world, IsLawfulApart}
@@ -28,7 +25,7 @@ use Rattle.uring_linux.specs.Laws.{GoesOn}
 use Rattle.uring_linux.proofs.GoingOn.{goes_on_from}
 use Rattle.uring_laws.specs.LinuxLaws.{DoomedNeverRun, DoomedStayDoomed, CancelledWereDoomed, MembersGoInOrder, IsStart, DeferredDontStart, drains, waits_for, DrainsHold, LeastFreeCanGoOn, LeastFreeGoesOn, CancelsDoomNobody}
 use Rattle.uring_laws.proofs.ToldRequests.{tells_requests}
-use Rattle.uring_laws.proofs.Growth.{grows, event_grows, then_grows, lawful_before}
+use Rattle.uring_laws.proofs.Growth.{grows, event_grows, then_grows, lawful_before, IsCut}
 use Rattle.uring_laws.proofs.OrderLaws.{result_told, end_there, ended_once, refused_no_end, refused_no_run, cancelled_doomed, started_so}
 use Rattle.uring_core.proofs.LinuxHistories.{by_linux, HasHappened, history_happens}
 use Rattle.uring_laws.proofs.LinuxKept.{Waits}
@@ -59,9 +56,8 @@ never_run g h lawful =
 
 -- who is doomed stays so, event by event
 stays_by : (l : LinuxRequests) (s : Step) (a : Answer) (q : Requests) → Move true l s a q → (n : ℕ)
-    → n < length l.requests.accepted
-    → (length l.requests.accepted ≡ 0) ⊎ (list_any (λ c. c == length l.requests.accepted) l.requests.cuts ≡ true)
-    → is_doomed l.requests n ≡ true → is_doomed q n ≡ true
+    → n < length l.requests.accepted → IsCut l.requests → is_doomed l.requests n ≡ true
+    → is_doomed q n ≡ true
 stays_by l s a q (stays _ _ no_start no_end) n below cut doomed = doomed
 stays_by l s a q (accepts accepted missed head entries) n below cut doomed =
     doom_called l.requests entries cut n below ∙ doomed
@@ -80,8 +76,7 @@ stay_doomed g ((s, a) ∷ after) before n lawful within doomed =
 
 -- ECANCELED is no result of a cancel
 cancel_unlike : (r : Requests) (n : ℕ) → int_eq (cancel_result r n) (neg_ℤ ECANCELED) ≡ false
-cancel_unlike r n = cond_both (is_cancel_all (entry_of r n)) (pos 0) (if is_some (found_by r n) then neg_ℤ EALREADY else neg_ℤ ENOENT) (λ res. int_eq res (neg_ℤ ECANCELED) ≡ false) (λ _. refl)
-    (λ _. cond_both (is_some (found_by r n)) (neg_ℤ EALREADY) (neg_ℤ ENOENT) (λ res. int_eq res (neg_ℤ ECANCELED) ≡ false) (λ _. refl) (λ _. refl))
+cancel_unlike r n = grind arith
 
 pub were_doomed : (g : Setup) → CancelledWereDoomed (by_linux g)
 were_doomed g after before n bytes lawful =
@@ -134,11 +129,7 @@ not_deferred g after before n a lawful start =
 waits_apart : (joined drains other right : Bool) → joined ≡ false
     → ((joined || drains) || (other && not right)) ≡ true
     → (drains ≡ true) ⊎ ((other ≡ true) × (right ≡ false))
-waits_apart false true other right e w = inl refl
-waits_apart false false true false e w = inr (refl, refl)
-waits_apart false false true true e w = absurd (let f : false ≡ true = w in cc)
-waits_apart false false false right e w = absurd (let f : false ≡ true = w in cc)
-waits_apart true drains other right e w = absurd (let f : true ≡ false = e in cc)
+waits_apart joined drains other right e w = grind arith
 
 -- whatever happened, what may start waits for nobody that hasn't ended
 none_waited : (l : LinuxRequests) (n m : ℕ) → HasHappened l → n < length l.requests.accepted → m < n

@@ -1,10 +1,11 @@
 -- What holds of the requests of every lawful history by Linux's rules: whoever started or ended did so in its turn, so that it stays as doomed or spared as it was then.
 -- By `Change`, event by event, and over a history by induction (`linux_sound`).
-use Rattle.std.proofs.Common.{◌≡◌, ℕ, ◌+◌, ◌-◌, ◌==◌, ◌<◌, ◌≤◌, ℤ, min, max, List, [], ◌∷◌, length, Bool, true, false, not, ◌&&◌, ◌||◌, if◌then◌else◌, neg_ℤ, refl, sym, subst, ◌∙◌, ap, ap₂, arith, ◌⊎◌, inl, inr}
+use Rattle.std.proofs.Common.{◌≡◌, ℕ, ◌+◌, ◌-◌, ◌==◌, ◌<◌, ◌≤◌, ℤ, min, max, List, [], ◌∷◌, length, Bool, true, false, not, ◌&&◌, ◌||◌, if◌then◌else◌, neg_ℤ, refl, sym, subst, ◌∙◌, ap, ap₂, arith, inl, inr}
 use Rattle.std.specs.List.{list_any}
 use Rattle.std.specs.Ordering.{int_eq}
-use Rattle.std.proofs.lemmas.Bool.{and_parts, and_left, and_right, cases_eq, or_from, or_left, or_right, or_cases, both_ways, eqb-true, not-true, not-false, not_from_true, false_from_ne_true}
+use Rattle.std.proofs.lemmas.Bool.{and_parts, and_left, and_right, cases_eq, or_from, or_right, both_ways, eqb-true, not-true, not-false, not_from_true, false_from_ne_true}
 use Rattle.std.proofs.lemmas.Bool.Decides.{Decides-int_eq}
+use Rattle.uring_laws.proofs.Growth.{IsCut}
 use Rattle.uring_entry.specs.Setup.{Setup}
 use Rattle.uring_entry.specs.Layout.{Sqe}
 use Rattle.uring_entry.specs.Success.{is_success}
@@ -142,20 +143,19 @@ module _ (r : Requests) (n : ℕ) (res : ℤ) (bytes : List ℕ) where
         ];
       }
 
-  -- who is doomed stays so, whoever ends
+  -- who is after a failure, or doomed, stays so, whoever ends
+  pub after_stays : (m : ℕ) → is_after_failure r m ≡ true → is_after_failure (with_ended r n res bytes) m ≡ true
+  after_stays m after =
+      let t = is_after_failure_tells r m after in
+      let f = t.1 in
+      is_after_failure_from (with_ended r n res bytes) m t.0 (record { before = f.before; joined = is_joined_ended r n res bytes t.0 m ∙ f.joined; soft = f.soft; failed = any_kept (λ e. (e.number == t.0) && not (is_success (entry_of r t.0) e.res)) r.ended _ f.failed })
+
   pub doom_stays : (m : ℕ) → is_doomed r m ≡ true → is_doomed (with_ended r n res bytes) m ≡ true
-  doom_stays m doomed =
-      elim (or_cases (is_in_faulty_group r m) (is_after_failure r m) doomed) [
-        | inl faulty ↦ or_left _ _ (faulty_ended r n res bytes m ∙ faulty)
-        | inr after ↦
-            let t = is_after_failure_tells r m after in
-            let f = t.1 in
-            or_right _ _ (is_after_failure_from (with_ended r n res bytes) m t.0 (record { before = f.before; joined = is_joined_ended r n res bytes t.0 m ∙ f.joined; soft = f.soft; failed = any_kept (λ e. (e.number == t.0) && not (is_success (entry_of r t.0) e.res)) r.ended _ f.failed }))
-      ]
+  doom_stays m doomed = grind (arith, faulty_ended r n res bytes m, after_stays m, doomed)
 
 -- A call accepts entries, and closes: what stands before it stays.
 
-module _ (r : Requests) (entries : List Sqe) (cut : (length r.accepted ≡ 0) ⊎ (list_any (λ c. c == length r.accepted) r.cuts ≡ true)) where
+module _ (r : Requests) (entries : List Sqe) (cut : IsCut r) where
   last_before : (k : ℕ) → k + 1 ≡ length r.accepted → is_last (with_call r entries) k ≡ true
   last_before k end =
       elim cut [
@@ -220,11 +220,6 @@ module _ (r : Requests) (entries : List Sqe) (cut : (length r.accepted ≡ 0) �
 
 -- What an answer tells.
 
-turn_parts : (turn doomed deferred : Bool) → (turn && doomed) ≡ false → (turn && not deferred) ≡ true
-    → (turn ≡ true) × ((doomed ≡ false) × (deferred ≡ false))
-turn_parts true doomed deferred spared free = (refl, (spared, not-true _ free))
-turn_parts false doomed deferred spared free = absurd (let f : false ≡ true = free in cc)
-
 -- of a request that starts: it is in its turn, spared, and not deferred
 pub record Starts (l : LinuxRequests) (n : ℕ) : Type 0 where
   pub turn : is_in_turn l.requests n ≡ true
@@ -234,9 +229,7 @@ pub record Starts (l : LinuxRequests) (n : ℕ) : Type 0 where
 pub starts_so : (l : LinuxRequests) (n : ℕ)
     → (is_in_turn l.requests n && is_doomed l.requests n) ≡ false
     → (is_in_turn l.requests n && not (is_deferred l n)) ≡ true → Starts l n
-starts_so l n spared free =
-    let p = turn_parts (is_in_turn l.requests n) (is_doomed l.requests n) (is_deferred l n) spared free in
-    record { turn = p.0; spared = p.1.0; free = p.1.1 }
+starts_so l n spared free = grind arith
 
 -- Histories.
 
@@ -266,12 +259,7 @@ linux_kept g w s a (finishes n res bytes running) i sound =
 linux_kept g w s a _ i sound = sound
 
 no_sound : IsSoundLinux no_request
-no_sound = record {
-  started_spared = λ n e. absurd (let f : false ≡ true = e in cc);
-  started_first = λ n e. absurd (let f : false ≡ true = e in cc);
-  ended_first = λ n e. absurd (let f : false ≡ true = e in cc);
-  ended_how = λ n e doomed. absurd (let f : false ≡ true = e in cc);
-}
+no_sound = grind arith
 
 pub linux_sound : (g : Setup) (h : History) → IsLawfulApart (by_linux g) h
     → IsSoundLinux (world (by_linux g) h).requests

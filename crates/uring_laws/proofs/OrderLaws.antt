@@ -1,14 +1,13 @@
 -- The laws of doomed requests, links and drains, by the manual pages' rules; and what these and those of Linux share.
-use Rattle.std.proofs.Common.{◌≡◌, ℕ, ◌<◌, ◌==◌, ℤ, pos, neg_ℤ, Bool, true, false, not, ◌&&◌, ◌||◌, List, ◌∷◌, ◌++◌, Option, Some, None, length, slice_get, count_by, refl, sym, subst, ap, ◌∙◌, ◌⊎◌, inl, inr, arith}
+use Rattle.std.proofs.Common.{◌≡◌, ℕ, ◌<◌, ◌==◌, ℤ, neg_ℤ, Bool, true, false, not, ◌&&◌, ◌||◌, List, ◌∷◌, ◌++◌, Option, Some, None, length, slice_get, count_by, refl, sym, subst, ap, ◌∙◌, ◌⊎◌, inl, inr, arith}
 use Rattle.std.specs.List.{list_any}
 use Rattle.std.specs.Ordering.{int_eq}
 use Rattle.std.proofs.lemmas.Bool.{and_from, both_ways, eq-eqb, true_from_ne_false, false_from_ne_true, cond_both}
 use Rattle.std.proofs.lemmas.Bool.Decides.{Decides-int_eq}
-use Rattle.std.proofs.lemmas.List.Folds.{list_any_at}
-use Rattle.std.proofs.lemmas.Option.{slice_get_within, get_or_from_slice_get}
+use Rattle.std.proofs.lemmas.Map.Keys.{any_passes_from_place}
 use Rattle.uring_entry.specs.Setup.{Setup}
-use Rattle.uring_entry.specs.declared.errno.TheConstants.{EALREADY, ECANCELED}
-use Rattle.uring_entry.specs.Requests.{Requests, Ending, has_started, has_ended, is_joined, is_draining, is_doomed, is_running, waits_for, doomed_result, cancel_result, count_result, result_for, target_of, targets_of, entry_of}
+use Rattle.uring_entry.specs.declared.errno.TheConstants.{ECANCELED}
+use Rattle.uring_entry.specs.Requests.{Requests, Ending, has_started, has_ended, is_joined, is_draining, is_doomed, waits_for, doomed_result, cancel_result, count_result, result_for, target_of, targets_of, entry_of}
 use Rattle.uring_entry.specs.Preparation.{is_cancel_all}
 use Rattle.uring_linux.specs.LinuxRequests.{LinuxRequests}
 use Rattle.uring_rules.specs.Rules as by_rules
@@ -33,13 +32,11 @@ use Rattle.uring_laws.proofs.Growth.{Grows, grows, event_grows, then_grows, lawf
 pub result_told : (ended : List Ending) (k : ℕ) (e : Ending) (res : ℤ) → slice_get ended k ≡ Some e
     → list_any (λ x. (x.number == e.number) && not (int_eq x.res res)) ended ≡ false → e.res ≡ res
 result_told ended k e res at none =
-    let within = slice_get_within ended k e at in
-    let here = get_or_from_slice_get ended k e e at in
     (Decides-int_eq e.res res).0
-    (true_from_ne_false _ (λ differ. both_ways _ none (list_any_at (λ x. (x.number == e.number) && not (int_eq x.res res)) ended k e within (ap (λ x. (x.number == e.number) && not (int_eq x.res res)) here ∙ and_from (e.number == e.number) _ (eq-eqb e.number _ refl) (ap not differ)))))
+    (true_from_ne_false _ (λ differ. both_ways _ none (any_passes_from_place (λ x. (x.number == e.number) && not (int_eq x.res res)) ended k e at (and_from (e.number == e.number) _ (eq-eqb e.number _ refl) (ap not differ)))))
 
 pub end_there : (r : Requests) (k : ℕ) (e : Ending) → slice_get r.ended k ≡ Some e → has_ended r e.number ≡ true
-end_there r k e at = list_any_at (λ x. x.number == e.number) r.ended k e (slice_get_within r.ended k e at) (ap (λ x. x.number == e.number) (get_or_from_slice_get r.ended k e e at) ∙ eq-eqb _ _ refl)
+end_there r k e at = any_passes_from_place (λ x. x.number == e.number) r.ended k e at (eq-eqb _ _ refl)
 
 pub ended_once : (g : Setup) (before : History) (m : ℕ) → IsLawfulApart g before
     → has_ended (world g before).requests m ≡ true → times_ended before m ≡ 1
@@ -114,8 +111,7 @@ never_run g h lawful =
 -- ECANCELED is no result of a cancel
 one_unlike : (r : Requests) (target : Option ℕ)
     → int_eq (result_for r target) (neg_ℤ ECANCELED) ≡ false
-one_unlike r None = refl
-one_unlike r (Some m) = cond_both (is_running r m) (neg_ℤ EALREADY) (pos 0) (λ res. int_eq res (neg_ℤ ECANCELED) ≡ false) (λ _. refl) (λ _. refl)
+one_unlike r target = grind arith
 
 cancel_unlike : (r : Requests) (n : ℕ) → int_eq (cancel_result r n) (neg_ℤ ECANCELED) ≡ false
 cancel_unlike r n = cond_both (is_cancel_all (entry_of r n)) (count_result (length (targets_of r n))) (result_for r (target_of r n)) (λ res. int_eq res (neg_ℤ ECANCELED) ≡ false) (λ _. refl) (λ _. one_unlike r (target_of r n))

@@ -1,7 +1,7 @@
 -- The law `published_is_told`: the items published are those that the events tell, and so is the count of dropped words.
 -- The items: from `own_submission`, position by position. The count: what all calls took less the entries among it,
 -- which `takes_places` has; kept from the last close on by induction over the history.
-use Rattle.std.proofs.Common.{◌≡◌, ℕ, suc, ◌+◌, ◌%◌, ◌^◌, ◌<◌, ◌≤◌, Bool, true, false, nat_lt, List, [], ◌∷◌, length, map, take, count_by, get_or, Option, Some, None, slice_get, if◌then◌else◌, refl, sym, subst, ap, ap₂, ◌∙◌, arith}
+use Rattle.std.proofs.Common.{◌≡◌, ℕ, suc, ◌+◌, ◌%◌, ◌^◌, ◌<◌, ◌≤◌, false, nat_lt, List, [], ◌∷◌, length, map, take, count_by, get_or, Option, Some, None, slice_get, if◌then◌else◌, refl, sym, subst, ap, ap₂, ◌∙◌, arith}
 use Rattle.std.specs.Prelude.{All}
 use Rattle.std.specs.List.{enumerate_from}
 use Rattle.std.proofs.lemmas.Bool.{ltb-false}
@@ -61,10 +61,7 @@ all_items size (p ∷ places) at = All-cons (IsItem size) (item_of p.word p.entr
 
 bad_is_high : (word size : ℕ) (entry : Sqe) → None ≡ (if nat_lt word size then Some entry else None)
     → size ≤ word
-bad_is_high word size entry e = by_test (nat_lt word size) refl e where
-  by_test : (low : Bool) → nat_lt word size ≡ low → None ≡ (if low then Some entry else None) → size ≤ word
-  by_test true is e = absurd cc
-  by_test false is e = ltb-false _ _ is
+bad_is_high word size entry e = grind arith
 
 word_is : (g : Setup) (h : History) → OwnSubmission g h → (k : ℕ) (p : Place)
     → slice_get (world g h).submission.published k ≡ Some p → get_or (staged_words h) k 0 ≡ p.word

@@ -1,7 +1,7 @@
 -- What why says, from what each case of it says: proofs of the laws on reasons.
 use Rattle.std.proofs.Common.{◌≡◌, ℕ, ◌<◌, ◌≤◌, length, Bool, true, false, not, ◌&&◌, ◌||◌, nat_lt, Option, Some, None, is_some, unwrap_or, refl, sym, ◌∙◌, ap, ap₂, subst, arith, inl, inr}
 use Rattle.std.specs.Prelude.{if◌then◌else◌, ◌⊎◌, ◌↔◌}
-use Rattle.std.proofs.lemmas.Bool.{cases_lt, and_from, and_parts, or_parts, or_from, both_ways, lt-ltb, le-ltb, not-true, ltb-true}
+use Rattle.std.proofs.lemmas.Bool.{cases_lt, and_from, and_parts, both_ways, lt-ltb, le-ltb, not-true, ltb-true}
 use Rattle.uring_entry.specs.Below.{least_below}
 use Rattle.uring_entry.specs.Requests.{Requests, some_member, entry_of, has_ended, is_outstanding, is_running, is_issuable, is_doomed, is_ready, is_in_faulty_group, is_after_failure, is_cancelled, is_joined, is_draining, waits_for, holds_back, doomed_result, cancel_result, no_bytes}
 use Rattle.uring_entry.specs.Preparation.{fault_of}
@@ -126,23 +126,14 @@ waits_said r n m since e =
     let t = told_as r n (Waits m since) e in
     let least = least_below_tells (holds_back r n) n m t.2 in
     let parts = and_parts (not (has_ended r m)) (waits_for r n m) least.holds in
-    record {
-      unstarted = unstarted_told r n t.0;
-      free = t.1;
-      before = least.below;
-      holds = least.holds;
-      least = least.before;
-      reason = subst (IsSince r n m) (sym t.3) (since_said r n m parts.1);
-    }
+    let unstarted = unstarted_told r n t.0 in
+    let reason = subst (IsSince r n m) (sym t.3) (since_said r n m parts.1) in
+    assumption (unstarted, reason, t, least)
 
 -- What dooms it.
 
-least_of : (p : ℕ → Bool) (bound m : ℕ) → least_below p bound ≡ Some m → IsLeastOf p bound m
-least_of p bound m e = let least = least_below_tells p bound m e in record {
-  below = least.below;
-  holds = least.holds;
-  least = least.before;
-}
+pub least_of : (p : ℕ → Bool) (bound m : ℕ) → least_below p bound ≡ Some m → IsLeastOf p bound m
+least_of p bound m e = assumption (least_below_tells p bound m e)
 
 no_faulty : (r : Requests) (n : ℕ) → faulty_member_of r n ≡ None → is_in_faulty_group r n ≡ false
 unfolding some_member
@@ -156,12 +147,7 @@ no_failed r n e = sym (is_some_least_below (is_failure_before r n) n) ∙ ap is_
 doomed_else : (r : Requests) (n : ℕ) → is_in_faulty_group r n ≡ false
     → is_after_failure r n ≡ false → is_doomed r n ≡ true → is_cancelled r n ≡ true
 unfolding is_doomed
-doomed_else r n a b doomed =
-    go (is_in_faulty_group r n) (is_after_failure r n) (is_cancelled r n) a b doomed
-  where
-    go : (x y z : Bool) → x ≡ false → y ≡ false → ((x || y) || z) ≡ true → z ≡ true
-    go x y true p q w = refl
-    go x y false p q w = absurd (both_ways _ (or_from _ _ (or_from _ _ p q) refl) w)
+doomed_else r n a b doomed = grind arith
 
 doom_is : (r : Requests) (n : ℕ) → is_doomed r n ≡ true → IsDoomOf r n (doom_of r n)
 doom_is r n doomed =
@@ -196,26 +182,15 @@ stands r m given going = by_why (why_of r m) refl (told r m) where
 
 -- whoever holds another back hasn't ended
 holder_going : (r : Requests) (n m : ℕ) → holds_back r n m ≡ true → has_ended r m ≡ false
-holder_going r n m holds =
-    let parts = and_parts (not (has_ended r m)) (waits_for r n m) holds in not-true _ parts.0
+holder_going r n m holds = not-true _ (and_parts (not (has_ended r m)) (waits_for r n m) holds).0
 
 free_parts : (r : Requests) (n m : ℕ) → has_ended r m ≡ false → holds_back r n m ≡ false
     → (is_joined r m n ≡ false) × (is_draining r m ≡ false) × (is_draining r n ≡ false)
-free_parts r n m going free =
-    let waits : waits_for r n m ≡ false = ap (λ b. not b && waits_for r n m) (sym going) ∙ free in
-    let outer = or_parts _ _ waits in
-    let inner = or_parts _ _ outer.0 in
-    (inner.0, inner.1, outer.1)
+free_parts r n m going free = grind arith
 
 held_joined : (r : Requests) (n m : ℕ) → holds_back r n m ≡ true → is_draining r m ≡ false
     → is_draining r n ≡ false → is_joined r m n ≡ true
-held_joined r n m holds a b =
-    let parts = and_parts (not (has_ended r m)) (waits_for r n m) holds in
-    go (is_joined r m n) (is_draining r m) (is_draining r n) a b parts.1
-  where
-    go : (x y z : Bool) → y ≡ false → z ≡ false → ((x || y) || z) ≡ true → x ≡ true
-    go true y z p q w = refl
-    go false y z p q w = absurd (both_ways _ (or_from _ _ p q) w)
+held_joined r n m holds a b = grind arith
 
 -- The least that holds one back, the least that holds that one back, and again the least: three in a row there never are.
 three_none : (r : Requests) (n m k j : ℕ) → IsLeast (holds_back r n) n m

@@ -1,5 +1,5 @@
 -- Histories of one class: `reordered_alike`, by one pair of events after the other.
-use Rattle.std.proofs.Common.{◌∙◌, ◌∷◌, ◌++◌, refl}
+use Rattle.std.proofs.Common.{◌∷◌, ◌++◌, refl, arith}
 use Rattle.uring_entry.specs.Setup.{Setup}
 use Rattle.uring_core.specs.World.{World}
 use Rattle.uring_core.specs.Histories.{world}
@@ -9,20 +9,7 @@ use Rattle.uring_laws.proofs.Swapping.{alike_same}
 
 -- alike to what is alike
 through : (g : Setup) (u v w : World) → AreAlike g u v → AreAlike g v w → AreAlike g u w
-through g u v w a b = record {
-  submission = a.submission ∙ b.submission;
-  requests = record {
-    accepted = a.requests.accepted ∙ b.requests.accepted;
-    cuts = a.requests.cuts ∙ b.requests.cuts;
-    started = λ p. a.requests.started p ∙ b.requests.started p;
-    cancelled = λ p. a.requests.cancelled p ∙ b.requests.cancelled p;
-    ended = λ p. a.requests.ended p ∙ b.requests.ended p;
-  };
-  completions = a.completions ∙ b.completions;
-  is_closed = a.is_closed ∙ b.is_closed;
-  drains = λ is. a.drains is ∙ b.drains is;
-  files = a.files ∙ b.files;
-}
+through g u v w a b = grind arith
 
 pub reordered_alike : (g : Setup) → ReorderedAlike g
 reordered_alike g h k (unchanged _) lawful =

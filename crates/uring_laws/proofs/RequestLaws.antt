@@ -1,8 +1,8 @@
 -- The laws `each_ends_once` and `least_can_go_on`.
 -- From what is sound of the requests, and from what can be issued.
-use Rattle.std.proofs.Common.{◌≡◌, ℕ, ◌<◌, ◌≤◌, ◌==◌, Bool, true, false, not, List, Option, Some, None, length, count_by, refl, sym, subst, inl, inr, arith}
+use Rattle.std.proofs.Common.{◌≡◌, ℕ, ◌<◌, ◌≤◌, ◌==◌, Bool, true, false, List, Option, Some, None, length, count_by, refl, sym, subst, inl, inr, arith}
 use Rattle.std.specs.List.{list_any}
-use Rattle.std.proofs.lemmas.Bool.{and_parts, and_cases, ltb-true, lt-ltb, both_ways, or_cases, not-false, false_from_ne_true, true_from_ne_false}
+use Rattle.std.proofs.lemmas.Bool.{and_parts, ltb-true, lt-ltb, both_ways, or_cases, false_from_ne_true, true_from_ne_false}
 use Rattle.uring_entry.specs.Setup.{Setup}
 use Rattle.uring_entry.specs.Requests.{Requests, has_ended, is_outstanding, least_of}
 use Rattle.uring_linux.specs.LinuxRequests.{LinuxRequests}
@@ -62,9 +62,5 @@ ends_once g h lawful =
     } where
       exactly_once : (r : Requests) (n : ℕ) → IsSoundRequests r → is_outstanding r n ≡ false → n < length r.accepted → count_by (λ e. e.number == n) r.ended ≡ 1
       exactly_once r n s none within =
-          let over : has_ended r n ≡ true =
-          elim (and_cases _ (not (has_ended r n)) none) [
-            | inl out ↦ absurd (both_ways _ out (lt-ltb _ _ within))
-            | inr over ↦ not-false _ over
-          ] in
+          let over : has_ended r n ≡ true = grind (arith, lt-ltb n (length r.accepted) within, none) in
           omega (arith, s.ends_once n, count_some (λ e. e.number == n) r.ended over)

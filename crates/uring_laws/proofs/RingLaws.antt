@@ -1,5 +1,5 @@
 -- The laws `reaped_begin_posted` and `nothing_after_close`, from what is sound.
-use Rattle.std.proofs.Common.{◌≡◌, ℕ, ◌≤◌, true, false, [], ◌∷◌, ◌++◌, length, take, drop, Option, Some, None, is_some, refl, sym, ap, ◌∙◌, cond, arith, append_assoc}
+use Rattle.std.proofs.Common.{◌≡◌, ℕ, ◌≤◌, true, false, [], ◌∷◌, ◌++◌, length, take, drop, None, is_some, refl, sym, ap, ◌∙◌, cond, arith, append_assoc}
 use Rattle.std.specs.List.{list_any}
 use Rattle.std.proofs.lemmas.Bool.{or_from, or_right}
 use Rattle.std.proofs.lemmas.List.{take-append-drop, take-take, length-drop, length-take}
@@ -43,20 +43,15 @@ shut_stays : (g : Setup) (w : World) (s : Step) (a : Answer) (v : World) → Sub
     → IsShut w → IsShut v × (takes_in (s, a) ≡ false)
 shut_stays g w s a v (stays _ _ r c is_closed off left) i =
     (record { closed = left.shut ∙ or_right _ _ i.closed; no_call = i.no_call }, off.takes_into)
-shut_stays g w s a v (begins count is_open no_call unspent) i = absurd (let e = i.closed in cc)
-shut_stays g w s a v (takes entry call place opened left at valid) i =
-    absurd (let o = i.no_call in cc)
-shut_stays g w s a v (drops call place opened left at invalid) i = absurd (let o = i.no_call in cc)
-shut_stays g w s a v (closes accepted missed head call opened all counted) i =
-    absurd (let o = i.no_call in cc)
+shut_stays g w s a v (begins count is_open no_call unspent) i = absurd cc
+shut_stays g w s a v (takes entry call place opened left at valid) i = absurd cc
+shut_stays g w s a v (drops call place opened left at invalid) i = absurd cc
+shut_stays g w s a v (closes accepted missed head call opened all counted) i = absurd cc
 shut_stays g w s a v _ i = (assumption i, refl)
 
 open_none : (w : World) → answer.Shut ≡ (cond (is_some w.submission.call) answer.InCall answer.Shut)
     → w.submission.call ≡ None
-open_none w e = by_call w.submission.call e where
-  by_call : (call : Option Rattle.uring_entry.specs.Submission.Call) → answer.Shut ≡ (cond (is_some call) answer.InCall answer.Shut) → call ≡ None
-  by_call None e = refl
-  by_call (Some call) e = absurd cc
+open_none w e = grind arith
 
 stays_shut : (g : Setup) (after before : History)
     → IsLawfulApart g (after ++ (step.Close, answer.Shut) ∷ before)

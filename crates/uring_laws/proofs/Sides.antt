@@ -1,13 +1,12 @@
 -- The steps on the submission ring change places with those on requests and completions: `submission_then_rest` and `rest_then_submission`. Neither side reads what the other writes, by either's rules.
-use Rattle.std.proofs.Common.{rules, ◌≡◌, ℕ, ℤ, Bool, true, false, List, ◌∷◌, Option, Some, None, refl, sym, subst, ap, ◌∙◌}
+use Rattle.std.proofs.Common.{rules, ◌≡◌, ℕ, ℤ, Bool, true, false, List, ◌∷◌, refl, sym, subst, ap, ◌∙◌}
 use Rattle.uring_entry.specs.Setup.{Setup}
-use Rattle.uring_entry.specs.Layout.{Sqe}
-use Rattle.uring_entry.specs.Submission.{Submission, Call}
+use Rattle.uring_entry.specs.Submission.{Submission}
 use Rattle.uring_entry.specs.Requests.{Requests, Ending, no_bytes}
 use Rattle.uring_rules.specs.Rules.{with_issued_end, drains_ended}
 use Rattle.uring_entry.specs.Completions.{Completions}
 use Rattle.uring_linux.specs.Drains.{Drains}
-use Rattle.uring_core.specs.World.{World, requests_of, with_end_of, happens, taking_of, taking_entry_of}
+use Rattle.uring_core.specs.World.{World, requests_of, with_end_of, happens}
 use Rattle.uring_core.specs.CalledFor.{CalledFor, IsLawful}
 use Rattle.uring_core.specs.Histories.{History, world}
 use Rattle.uring_core.specs.declared.step.Step.{Step}
@@ -39,26 +38,6 @@ rest_of w = record { started = w.requests.started; cancelled = w.requests.cancel
 
 -- Each side changes its own alone.
 
-taken_sub : (g : Setup) (w : World) (entry : Sqe) (o : Option Call)
-    → taking_entry_of g w entry o ≡ submitted w (taking_entry_of g w entry o).submission
-taken_sub g w entry None = refl
-taken_sub g w entry (Some call) = refl
-
-dropped_sub : (g : Setup) (w : World) (o : Option Call)
-    → taking_of g w o ≡ submitted w (taking_of g w o).submission
-dropped_sub g w None = refl
-dropped_sub g w (Some call) = refl
-
-taken_with : (g : Setup) (w : World) (x : Rest) (entry : Sqe) (o : Option Call)
-    → taking_entry_of g (with_rest w x) entry o ≡ with_rest (taking_entry_of g w entry o) x
-taken_with g w x entry None = refl
-taken_with g w x entry (Some call) = refl
-
-dropped_with : (g : Setup) (w : World) (x : Rest) (o : Option Call)
-    → taking_of g (with_rest w x) o ≡ with_rest (taking_of g w o) x
-dropped_with g w x None = refl
-dropped_with g w x (Some call) = refl
-
 -- it is the only one that changes, and whatever the rest is
 record OnSubmission (g : Setup) (w : World) (s : Step) (a : Answer) : Type 0 where
   alone : happens g w s a ≡ submitted w (happens g w s a).submission
@@ -71,9 +50,9 @@ on_submission g w s a (refuses _ _ same silent) on = record {
   beside = λ x. same (with_rest w x) ∙ ap (λ (v : World). with_rest v x) (sym (same w));
 }
 on_submission g w s a (takes entry call place opened left at valid) on =
-    record { alone = taken_sub g w entry w.submission.call; beside = λ x. taken_with g w x entry w.submission.call }
+    record { alone = rw opened; beside = λ x. rw opened }
 on_submission g w s a (drops call place opened left at invalid) on =
-    record { alone = dropped_sub g w w.submission.call; beside = λ x. dropped_with g w x w.submission.call }
+    record { alone = rw opened; beside = λ x. rw opened }
 on_submission g w s a _ on = search rules
 
 -- an end as a request is issued changes neither entries nor cuts, by either's rules

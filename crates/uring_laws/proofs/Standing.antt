@@ -5,7 +5,7 @@ use Rattle.std.proofs.Common.{◌≡◌, ℕ, ◌+◌, ◌-◌, ◌<◌, ◌≤�
 use Rattle.std.specs.Prelude.{All, not, ◌&&◌, ◌==◌, nat_le}
 use Rattle.std.specs.List.{list_any}
 use Rattle.std.proofs.Math.ListN.{drop_of_length-le}
-use Rattle.std.proofs.lemmas.Bool.{ne_eqb, eq-eqb, lt-leb, lt-ltb, le-ltb}
+use Rattle.std.proofs.lemmas.Bool.{ne_eqb, eq-eqb, lt-ltb, le-ltb}
 use Rattle.std.proofs.lemmas.List.{length-append, length-map, map-append}
 use Rattle.std.proofs.lemmas.List.Elements.{All-head, All-tail}
 use Rattle.std.proofs.lemmas.List.Sums.{sum_by_push}
@@ -39,8 +39,7 @@ room_left size l words s few = ne_eqb (staged l - l.seen_head) size (λ full. om
 fill_free : (slot size : ℕ) (busy : Bool) → slot < size → busy ≡ false
     → (if nat_le size slot then answer.NoSlot else (if busy then answer.Busy else answer.Filled))
     ≡ answer.Filled
-fill_free slot size busy low free =
-    ap (λ b. if nat_le size slot then answer.NoSlot else (if b then answer.Busy else answer.Filled)) free ∙ ap (λ b. if b then answer.NoSlot else answer.Filled) (lt-leb size slot low)
+fill_free slot size busy low free = grind arith
 
 pub slot_filled : (g : Setup) → FreeSlotIsFilled g
 slot_filled g w words slot entry a s low called =

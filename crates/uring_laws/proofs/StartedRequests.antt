@@ -1,5 +1,5 @@
 -- What a start leaves as it was, by either's rules: who is doomed, who may start, who posts and how the drains stand. Only who runs changes.
-use Rattle.std.proofs.Common.{◌≡◌, ◌≢◌, ℕ, ℤ, Bool, true, false, not, ◌&&◌, if◌then◌else◌, List, [], ◌∷◌, ◌++◌, Option, refl, sym, ap, ap₂, ◌∙◌}
+use Rattle.std.proofs.Common.{◌≡◌, ◌≢◌, ℕ, ℤ, Bool, true, false, not, ◌&&◌, List, [], ◌∷◌, ◌++◌, Option, refl, ap, ap₂, ◌∙◌, arith}
 use Rattle.uring_entry.specs.Layout.{Sqe}
 use Rattle.uring_entry.specs.Preparation.{is_cancel}
 use Rattle.uring_entry.specs.Requests as manual
@@ -7,11 +7,10 @@ use Rattle.uring_entry.specs.Requests.{Requests, entry_of, is_outstanding, is_ru
 use Rattle.uring_entry.proofs.EventLemmas.{is_doomed_started}
 use Rattle.uring_entry.proofs.RequestLemmas.{is_running_started_other}
 use Rattle.uring_linux.specs.LinuxRequests.{LinuxRequests, breaker_of, first_of, is_deferred, is_in_faulty_group, is_in_turn, posts_after, with_started}
-use Rattle.uring_rules.specs.Rules.{ends_doomed, may_start, doomed_result, cancel_result, posts, drains_called, drains_ended}
+use Rattle.uring_rules.specs.Rules.{ends_doomed, may_start, posts, drains_called, drains_ended}
 use Rattle.uring_core.specs.World.{World, requests_of}
 use Rattle.uring_core.specs.StepAnswers.{issue_answer}
 use Rattle.uring_entry.specs.Setup.{Setup}
-use Rattle.uring_core.specs.declared.answer.Answer.{Answer}
 use Rattle.uring_core.specs.declared.answer.Answer.TheVariants as answer
 use Rattle.uring_laws.proofs.AlikeDrains.{called_same, going_same}
 use Rattle.uring_laws.proofs.AlikeLinux.{after_one}
@@ -69,56 +68,21 @@ pub record CanStart (linux : Bool) (l : LinuxRequests) (n : ℕ) : Type 0 where
   pub ready : may_start linux l n ≡ true
   pub no_cancel : is_cancel (entry_of l.requests n) ≡ false
 
--- the answer to an issue, by what it asks
-abbrev pub issued_by : Bool → Bool → Bool → Bool → Bool → ℤ → ℤ → Answer
-issued_by outstanding running doomed ready cancel x z =
-    if not outstanding then answer.Unknown else
-    if running then answer.Running else
-    if doomed then answer.Ended x no_bytes else
-    if not ready then answer.NotReady else
-    if cancel then answer.Ended z no_bytes else
-    answer.Run
-
-tells_start : (o i d y c : Bool) (x z : ℤ) → answer.Run ≡ issued_by o i d y c x z
-    → ((o ≡ true) × (i ≡ false)) × ((d ≡ false) × ((y ≡ true) × (c ≡ false)))
-tells_start true false false true false x z e = ((refl, refl), (refl, (refl, refl)))
-tells_start _ _ _ _ _ x z e = absurd cc
-
-starts_so : (o i d y c : Bool) (x z : ℤ) → o ≡ true → i ≡ false → d ≡ false → y ≡ true → c ≡ false
-    → answer.Run ≡ issued_by o i d y c x z
-starts_so true false false true false x z e f h k l = refl
-starts_so _ _ _ _ _ x z e f h k l = absurd cc
-
 pub can_start : (g : Setup) (w : World) (n : ℕ) → answer.Run ≡ issue_answer g w n
     → CanStart g.linux (requests_of w) n
-can_start g w n e =
-    let r : Requests = w.requests in
-    let p = tells_start (is_outstanding r n) (is_running r n) (ends_doomed g.linux r n) (may_start g.linux (requests_of w) n) (is_cancel (entry_of r n)) (doomed_result g.linux r n) (cancel_result g.linux r n) e in
-    record { outstanding = p.0.0; idle = p.0.1; spared = p.1.0; ready = p.1.1.0; no_cancel = p.1.1.1 }
+can_start g w n e = grind arith
 
 pub start_called : (g : Setup) (w : World) (n : ℕ) → CanStart g.linux (requests_of w) n
     → answer.Run ≡ issue_answer g w n
-start_called g w n c =
-    let r : Requests = w.requests in
-    starts_so (is_outstanding r n) (is_running r n) (ends_doomed g.linux r n) (may_start g.linux (requests_of w) n) (is_cancel (entry_of r n)) (doomed_result g.linux r n) (cancel_result g.linux r n) c.outstanding c.idle c.spared c.ready c.no_cancel
+start_called g w n c = rw (c.outstanding, c.idle, c.spared, c.ready, c.no_cancel)
 
 -- a request that can start could start before another one did, and can after it
 pub start_before : (linux : Bool) (l : LinuxRequests) (m n : ℕ) → n ≢ m
     → CanStart linux (with_started l m) n → CanStart linux l n
-start_before linux l m n differ c = record {
-  outstanding = c.outstanding;
-  idle = sym (is_running_started_other l.requests m n differ) ∙ c.idle;
-  spared = sym (ends_doomed_started linux l.requests m n) ∙ c.spared;
-  ready = sym (may_start_started linux l m n) ∙ c.ready;
-  no_cancel = c.no_cancel;
-}
+start_before linux l m n differ c =
+    grind (arith, is_running_started_other l.requests m n differ, ends_doomed_started linux l.requests m n, may_start_started linux l m n)
 
 pub start_after : (linux : Bool) (l : LinuxRequests) (m n : ℕ) → n ≢ m → CanStart linux l n
     → CanStart linux (with_started l m) n
-start_after linux l m n differ c = record {
-  outstanding = c.outstanding;
-  idle = is_running_started_other l.requests m n differ ∙ c.idle;
-  spared = ends_doomed_started linux l.requests m n ∙ c.spared;
-  ready = may_start_started linux l m n ∙ c.ready;
-  no_cancel = c.no_cancel;
-}
+start_after linux l m n differ c =
+    grind (arith, is_running_started_other l.requests m n differ, ends_doomed_started linux l.requests m n, may_start_started linux l m n)

@@ -1,7 +1,7 @@
 -- The laws of where submission calls end: from the open call as it is read off the history, and by induction over it.
 use Rattle.std.proofs.Common.{◌≡◌, ◌↔◌, ℕ, ◌+◌, ◌≤◌, ◌<◌, Bool, true, false, cond, eqb, nat_lt, List, [], ◌∷◌, ◌++◌, length, take, count_by, Option, Some, None, is_some, unwrap_or, slice_get, if◌then◌else◌, ◌⊎◌, inl, inr, refl, sym, subst, ap, ap₂, ◌∙◌, arith, append-nil}
-use Rattle.std.proofs.lemmas.Bool.{eqb-true, eqb-false, ltb-true, ltb-false, cases_Bool}
-use Rattle.std.proofs.lemmas.List.{length_push, take_at}
+use Rattle.std.proofs.lemmas.Bool.{eqb-true, eqb-false, cases_Bool}
+use Rattle.std.proofs.lemmas.List.{take_at}
 use Rattle.std.proofs.lemmas.List.Sums.{sum_by-cons}
 use Rattle.std.proofs.lemmas.Option.{slice_get-get_or}
 use Rattle.uring_entry.specs.Setup.{Setup}
@@ -10,7 +10,7 @@ use Rattle.uring_entry.specs.Submission.{Call, Place, taken, call_length}
 use Rattle.uring_core.specs.World.{World}
 use Rattle.uring_core.specs.StepAnswers.{entry_answer, place_answer, take_answer, take_answer_in, end_answer, end_answer_in}
 use Rattle.uring_core.specs.Histories.{History, world, IsLawfulApart}
-use Rattle.uring_core.specs.Events.{opened_by, closes_call}
+use Rattle.uring_core.specs.Events.{opened_by}
 use Rattle.uring_laws.specs.Direct.{told, taken_since, has_stopped, open_count}
 use Rattle.uring_laws.specs.Stopping.{EndsThere, OpenCallEndsThere, CallsTakeAll, drops_word}
 use Rattle.uring_core.specs.declared.step.Step.{Step}
@@ -23,14 +23,13 @@ use Rattle.uring_core.specs.Stops.{open_taken, stops_at_word}
 use Rattle.uring_core.proofs.NoStops.{goes_on, word_goes_on}
 use Rattle.uring_core.proofs.Sound.{sound_of}
 use Rattle.uring_laws.proofs.DirectSubmission.{IsOpened, direct_submission}
-use Rattle.uring_laws.proofs.Telling.{count_more, count_same, told_same}
+use Rattle.uring_laws.proofs.Telling.{told_same}
 
 -- The open call.
 
 -- what a place gives is no refusal
 given_no_more : (entry : Option Sqe) → entry_answer entry ≡ answer.NoMore → ⊥
-given_no_more None e = cc
-given_no_more (Some entry) e = cc
+given_no_more entry e = grind arith
 
 -- a take gives no more exactly if all positions are taken
 no_more_at : (all : Bool) (taken count : ℕ) (place : Option Place) (p : Place)
@@ -44,21 +43,12 @@ closes_at : (few : Bool) (taken count : ℕ) (accepted missed head : ℕ) → ta
     → nat_lt taken count ≡ few
     → (cond few answer.NotAll (answer.Taken accepted missed head) ≡ answer.NotAll → ⊥)
     ↔ (taken ≡ count)
-closes_at true taken count accepted missed head within e =
-    (λ refused. absurd (refused refl), λ same. absurd (omega (arith, ltb-true taken count e, same)))
-closes_at false taken count accepted missed head within e = (λ _. omega (arith, ltb-false taken count e), λ _ f. let no : answer.Taken accepted missed head ≡ answer.NotAll = f in cc)
+closes_at few taken count accepted missed head within e = grind arith
 
 -- the positions of a call are all taken exactly if it took those that it opened with, or stopped
 all_at : (had : Bool) (taken count since opened : ℕ) → taken ≡ since
     → count ≡ (if had then since else opened) → (taken ≡ count) ↔ ((since ≡ opened) ⊎ (had ≡ true))
-all_at true taken count since opened t n = (λ _. inr refl, λ _. t ∙ sym n)
-all_at false taken count since opened t n = (
-  λ same. inl (sym t ∙ same ∙ n),
-  elim [
-    | inl all ↦ t ∙ all ∙ sym n
-    | inr had ↦ absurd cc
-  ],
-)
+all_at had taken count since opened t n = grind arith
 
 both : {A B C : Type 0} → A ↔ B → B ↔ C → A ↔ C
 both f g = (λ a. g.0 (f.0 a), λ c. f.1 (g.1 c))
@@ -109,9 +99,8 @@ open_counts None = []
 open_counts (Some call) = call.count ∷ []
 
 -- each call has as many positions as it opened with
-pub record TakesAll (h : History) (w : World) : Type 0 where
-  pub opened : told opened_by h ≡ w.submission.calls ++ open_counts w.submission.call
-  pub closed : count_by closes_call h ≡ length w.submission.calls
+abbrev TakesAll : History → World → Type 0
+TakesAll h w = told opened_by h ≡ w.submission.calls ++ open_counts w.submission.call
 
 -- a word that was dropped ended no call
 word_passed : (g : Setup) (h : History) → (g.linux ≡ true → count_by drops_word ((step.Take, answer.Dropped) ∷ h) ≡ 0)
@@ -125,48 +114,30 @@ word_passed g h none =
 all_kept : (g : Setup) (h : History) (s : Step) (a : Answer) (v : World) → g.stops ≡ false
     → (g.linux ≡ true → count_by drops_word ((s, a) ∷ h) ≡ 0)
     → SubmissionMove g (world g h) s a v → TakesAll h (world g h) → TakesAll ((s, a) ∷ h) v
-all_kept g h s a v goes none (stays _ _ r c is_closed off left) i = record {
-  opened = told_same opened_by (s, a) h off.opens ∙ i.opened;
-  closed = count_same closes_call (s, a) h off.closes ∙ i.closed;
-}
+all_kept g h s a v goes none (stays _ _ r c is_closed off left) i = told_same opened_by (s, a) h off.opens ∙ i
 all_kept g h s a v goes none (begins count is_open no_call unspent) i =
     let l = (world g h).submission in
-    record {
-      opened = ap (λ xs. xs ++ call_length l count ∷ []) (i.opened ∙ ap (λ o. l.calls ++ open_counts o) no_call ∙ append-nil l.calls);
-      closed = count_same closes_call (step.Begin count, answer.Call (call_length l count)) h refl ∙ i.closed;
-    }
+    ap (λ xs. xs ++ call_length l count ∷ []) (i ∙ ap (λ o. l.calls ++ open_counts o) no_call ∙ append-nil l.calls)
 all_kept g h s a v goes none (takes entry call place opened left at valid) i =
     let l = (world g h).submission in
-    record {
-      opened = i.opened ∙ ap (λ o. l.calls ++ open_counts o) opened ∙ ap (λ b. l.calls ++ (if b then call.taken + 1 else call.count) ∷ []) (sym (goes_on g _ entry goes));
-      closed = count_same closes_call (step.Take, answer.Entry entry) h refl ∙ i.closed;
-    }
+    i ∙ ap (λ o. l.calls ++ open_counts o) opened ∙ ap (λ b. l.calls ++ (if b then call.taken + 1 else call.count) ∷ []) (sym (goes_on g _ entry goes))
 all_kept g h s a v goes none (drops call place opened left at invalid) i =
     let l = (world g h).submission in
-    record {
-      opened = i.opened ∙ ap (λ o. l.calls ++ open_counts o) opened ∙ ap (λ b. l.calls ++ (if b then call.taken + 1 else call.count) ∷ []) (sym (word_passed g h none));
-      closed = count_same closes_call (step.Take, answer.Dropped) h refl ∙ i.closed;
-    }
+    i ∙ ap (λ o. l.calls ++ open_counts o) opened ∙ ap (λ b. l.calls ++ (if b then call.taken + 1 else call.count) ∷ []) (sym (word_passed g h none))
 all_kept g h s a v goes none (closes accepted missed head call opened all counted) i =
     let l = (world g h).submission in
-    record {
-      opened = i.opened ∙ ap (λ o. l.calls ++ open_counts o) opened ∙ sym (append-nil (l.calls ++ call.count ∷ []));
-      closed = count_more closes_call (step.End, answer.Taken accepted missed head) h refl ∙ omega (arith, i.closed, length_push l.calls call.count);
-    }
-all_kept g h s a v goes none _ i = record {
-  opened = i.opened;
-  closed = count_same closes_call (s, a) h refl ∙ i.closed;
-}
+    i ∙ ap (λ o. l.calls ++ open_counts o) opened ∙ sym (append-nil (l.calls ++ call.count ∷ []))
+all_kept g h s a v goes none _ i = i
 
 all_taken : (g : Setup) (h : History) → g.stops ≡ false → (g.linux ≡ true → count_by drops_word h ≡ 0)
     → IsLawfulApart g h → TakesAll h (world g h)
-all_taken g [] goes none lawful = record { opened = refl; closed = refl }
+all_taken g [] goes none lawful = refl
 all_taken g ((s, a) ∷ before) goes none lawful =
     let none_before : g.linux ≡ true → count_by drops_word before ≡ 0 = λ linux. omega (arith, none linux, sum_by-cons (λ e. cond (drops_word e) 1 0) (s, a) before) in
     all_kept g before s a _ goes none (submission_move g s a before lawful) (all_taken g before goes none_before lawful.1)
 
 pub calls_take_all : (g : Setup) → CallsTakeAll g
 calls_take_all g h goes none lawful =
-    let i = all_taken g h goes none lawful in
+    let d = direct_submission g h lawful in
     let l = (world g h).submission in
-    sym (direct_submission g h lawful).calls ∙ sym (ap₂ (λ n xs. take n xs) i.closed i.opened ∙ take_at l.calls (open_counts l.call) (length l.calls) refl)
+    sym d.calls ∙ sym (ap₂ (λ n xs. take n xs) d.closed (all_taken g h goes none lawful) ∙ take_at l.calls (open_counts l.call) (length l.calls) refl)

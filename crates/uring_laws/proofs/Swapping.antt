@@ -1,6 +1,6 @@
 -- Starts that change places with starts and ends, by either's rules: `starts_change`, `start_then_end` and `end_then_start`.
 -- A start changes nothing that a definition reads but who runs; an end changes who has ended and failed, which counts for those alone that wait for it.
-use Rattle.std.proofs.Common.{◌≡◌, ◌≢◌, ℕ, ℤ, Bool, true, false, ◌&&◌, ◌||◌, if◌then◌else◌, List, [], ◌∷◌, ◌++◌, refl, sym, subst, ap, ap₂, ◌∙◌, append-nil}
+use Rattle.std.proofs.Common.{◌≡◌, ◌≢◌, ℕ, ℤ, Bool, true, false, ◌&&◌, if◌then◌else◌, List, [], ◌∷◌, ◌++◌, refl, sym, subst, ap, ap₂, ◌∙◌, append-nil, arith, rules}
 use Rattle.std.specs.List.{list_any}
 use Rattle.std.proofs.lemmas.Bool.{and_right, both_ways}
 use Rattle.uring_entry.specs.Setup.{Setup}
@@ -12,7 +12,7 @@ use Rattle.uring_entry.specs.Completions.{with_posted, completion_for}
 use Rattle.uring_entry.specs.declared.operation.Outcome.{Outcome}
 use Rattle.uring_entry.proofs.RequestLemmas.{list_any_push, is_running_started_same, is_running_started_other}
 use Rattle.uring_linux.specs.Drains.{Drains}
-use Rattle.uring_rules.specs.Rules.{ends_doomed, may_start, doomed_result, cancel_result, with_issued_end}
+use Rattle.uring_rules.specs.Rules.{ends_doomed, may_start, doomed_result, with_issued_end}
 use Rattle.uring_files.specs.Contents.{FileContents}
 use Rattle.uring_files.specs.Operations.{IsOutcome}
 use Rattle.uring_core.specs.World.{World, requests_of, happens}
@@ -25,7 +25,7 @@ use Rattle.uring_core.specs.declared.answer.Answer.TheVariants as answer
 use Rattle.uring_core.proofs.FileHistory.{files_kept}
 use Rattle.uring_core.proofs.RequestEnds.{doomed_fails}
 use Rattle.uring_laws.specs.Swaps.{AreAlike, ChangePlaces, Ends, StartsChange, StartThenEnd, EndThenStart, start_of}
-use Rattle.uring_laws.proofs.StartedRequests.{CanStart, issued_by, can_start, start_called, start_before, start_after, ends_doomed_started, posts_started, drains_ended_started}
+use Rattle.uring_laws.proofs.StartedRequests.{CanStart, can_start, start_called, start_before, start_after, ends_doomed_started, posts_started, drains_ended_started}
 use Rattle.uring_laws.proofs.EndedRequests.{start_past, start_ahead, not_ended, not_over, other_than, either_order}
 use Rattle.uring_laws.proofs.WholeLaws.{lawful_apart}
 
@@ -37,22 +37,9 @@ pub record IsToEnd (linux : Bool) (r : Requests) (n : ℕ) : Type 0 where
   pub idle : is_running r n ≡ false
   pub doomed : ends_doomed linux r n ≡ true
 
-tells_doomed : (o i d y c : Bool) (x z res : ℤ) (bytes : List ℕ) → d ≡ true
-    → answer.Ended res bytes ≡ issued_by o i d y c x z
-    → ((o ≡ true) × (i ≡ false)) × ((res ≡ x) × (bytes ≡ no_bytes))
-tells_doomed true false true y c x z res bytes is e = ((refl, refl), (cc, cc))
-tells_doomed _ _ _ y c x z res bytes is e = absurd cc
-
-dooms_so : (o i d y c : Bool) (x z : ℤ) → o ≡ true → i ≡ false → d ≡ true
-    → answer.Ended x no_bytes ≡ issued_by o i d y c x z
-dooms_so true false true y c x z e f h = refl
-dooms_so _ _ _ y c x z e f h = absurd cc
-
 doom_called : (g : Setup) (w : World) (n : ℕ) → IsToEnd g.linux w.requests n
     → answer.Ended (doomed_result g.linux w.requests n) no_bytes ≡ issue_answer g w n
-doom_called g w n c =
-    let r : Requests = w.requests in
-    dooms_so (is_outstanding r n) (is_running r n) (ends_doomed g.linux r n) (may_start g.linux (requests_of w) n) (is_cancel (entry_of r n)) (doomed_result g.linux r n) (cancel_result g.linux r n) c.outstanding c.idle c.doomed
+doom_called g w n c = rw (c.outstanding, c.idle, c.doomed)
 
 pub tells_end : (files : List FileContents) (r : Requests) (m : ℕ) (runs : Bool) (res : ℤ) (bytes : List ℕ)
     → EndsOn files r m runs (answer.Ended res bytes)
@@ -70,21 +57,11 @@ ends_so files r m false res bytes is e = absurd cc
 -- Worlds.
 
 pub alike_same : (g : Setup) (v w : World) → v ≡ w → AreAlike g v w
-alike_same g v w same = subst (AreAlike g v) same (record {
-  submission = refl;
-  requests = record { accepted = refl; cuts = refl; started = λ p. refl; cancelled = λ p. refl; ended = λ p. refl };
-  completions = refl;
-  is_closed = refl;
-  drains = λ is. refl;
-  files = refl;
-})
+alike_same g v w same = subst (AreAlike g v) same (search rules)
 
 pub two_pushed : {X : Type 0} (p : X → Bool) (xs : List X) (x y : X)
     → list_any p ((xs ++ x ∷ []) ++ y ∷ []) ≡ list_any p ((xs ++ y ∷ []) ++ x ∷ [])
-two_pushed p xs x y =
-    list_any_push p (xs ++ x ∷ []) y ∙ ap (λ b. b || p y) (list_any_push p xs x)
-    ∙ either_order (list_any p xs) (p x) (p y)
-    ∙ sym (list_any_push p (xs ++ y ∷ []) x ∙ ap (λ b. b || p x) (list_any_push p xs y))
+two_pushed p xs x y = simp list_any_push (either_order (list_any p xs) (p x) (p y))
 
 -- the world with n started
 abbrev pub begun : World → ℕ → World
@@ -145,10 +122,7 @@ pub may_end : (g : Setup) (w : World) (runs : Bool) (n : ℕ) (x : Outcome)
     → CalledFor g w (end_step runs n) (answer.Ended x.res x.bytes) → MayEnd g w runs n x
 may_end g w true n x doomed called =
     tells_end (files_of g w) w.requests n (is_running w.requests n) x.res x.bytes called
-may_end g w false n x doomed called =
-    let r : Requests = w.requests in
-    let p = tells_doomed (is_outstanding r n) (is_running r n) (ends_doomed g.linux r n) (may_start g.linux (requests_of w) n) (is_cancel (entry_of r n)) (doomed_result g.linux r n) (cancel_result g.linux r n) x.res x.bytes (doomed refl) called in
-    (record { outstanding = p.0.0; idle = p.0.1; doomed = doomed refl }, λ i. record { res = p.1.0 i; bytes = p.1.1 i })
+may_end g w false n x doomed called = let is = doomed refl in grind arith
 
 -- the step ends n so
 pub record IsEnd (g : Setup) (w : World) (n : ℕ) (x : Outcome) (s : Step) : Type 0 where

@@ -1,16 +1,16 @@
 -- A start changes places with each step that is on the rings, by either's rules: `start_then_rings` and `rings_then_start`.
 -- Such a step asks nobody who runs; of the requests it changes at most which are accepted, after all that there are.
-use Rattle.std.proofs.Common.{rules, ◌≡◌, ℕ, ◌<◌, ◌==◌, true, not, List, ◌∷◌, length, Option, Some, None, refl, sym, subst, ap, ◌∙◌, ◌⊎◌}
-use Rattle.std.specs.List.{list_any}
+use Rattle.std.proofs.Common.{rules, ◌≡◌, ℕ, ◌<◌, true, not, List, ◌∷◌, length, Some, sym, subst, ap, ◌∙◌}
 use Rattle.std.proofs.lemmas.Bool.{and_parts, ltb-true}
+use Rattle.uring_laws.proofs.Growth.{IsCut}
 use Rattle.uring_entry.specs.Setup.{Setup}
 use Rattle.uring_entry.specs.Layout.{Sqe}
-use Rattle.uring_entry.specs.Submission.{Call, entries_from}
+use Rattle.uring_entry.specs.Submission.{entries_from}
 use Rattle.uring_entry.specs.Requests.{has_ended}
 use Rattle.uring_linux.specs.Drains.{Drains}
 use Rattle.uring_linux.specs.LinuxRequests.{LinuxRequests}
 use Rattle.uring_linux.proofs.Reaching.{IsBetween}
-use Rattle.uring_core.specs.World.{World, requests_of, happens, taking_of, taking_entry_of, ending_of}
+use Rattle.uring_core.specs.World.{World, requests_of, happens, ending_of}
 use Rattle.uring_core.specs.CalledFor.{CalledFor, IsLawful}
 use Rattle.uring_core.specs.Histories.{world, IsLawfulApart}
 use Rattle.uring_core.specs.declared.step.Step.{Step}
@@ -33,37 +33,19 @@ called_either g w n _ a on = search rules
 
 -- Both orders make the same.
 
-taken_either : (g : Setup) (w : World) (n : ℕ) (entry : Sqe) (o : Option Call)
-    → taking_entry_of g (begun w n) entry o ≡ begun (taking_entry_of g w entry o) n
-taken_either g w n entry None = refl
-taken_either g w n entry (Some call) = refl
-
-dropped_either : (g : Setup) (w : World) (n : ℕ) (o : Option Call)
-    → taking_of g (begun w n) o ≡ begun (taking_of g w o) n
-dropped_either g w n None = refl
-dropped_either g w n (Some call) = refl
-
-closed_either : (g : Setup) (w : World) (n : ℕ) (o : Option Call)
-    → ending_of g (begun w n) o ≡ begun (ending_of g w o) n
-closed_either g w n None = refl
-closed_either g w n (Some call) =
-    ap (λ (d : Drains). record (ending_of g (begun w n) (Some call)) { drains = d }) (drains_called_started g.linux (requests_of w) n (entries_from w.submission call.count))
-
 made_either : (g : Setup) (w : World) (n : ℕ) (s : Step) (a : Answer) → Change g w s a → IsOnRings s
     → happens g (begun w n) s a ≡ begun (happens g w s a) n
 made_either g w n s a (refuses _ _ same silent) on =
     same (begun w n) ∙ ap (λ (v : World). begun v n) (sym (same w))
-made_either g w n s a (takes entry call place opened left at valid) on =
-    taken_either g w n entry w.submission.call
-made_either g w n s a (drops call place opened left at invalid) on =
-    dropped_either g w n w.submission.call
+made_either g w n s a (takes entry call place opened left at valid) on = rw opened
+made_either g w n s a (drops call place opened left at invalid) on = rw opened
 made_either g w n s a (closes accepted missed head call opened all told) on =
-    closed_either g w n w.submission.call
+    rw opened (ap (λ (d : Drains). record (ending_of g (begun w n) (Some call)) { drains = d }) (drains_called_started g.linux (requests_of w) n (entries_from w.submission call.count)))
 made_either g w n s a _ on = search rules
 
 -- Who could start before such a step can start after it, and the other way round.
 
-module _ (g : Setup) (w : World) (n : ℕ) (cut : (length w.requests.accepted ≡ 0) ⊎ (list_any (λ c. c == length w.requests.accepted) w.requests.cuts ≡ true)) (so : g.linux ≡ true → IsBetween (requests_of w)) (within : n < length w.requests.accepted) where
+module _ (g : Setup) (w : World) (n : ℕ) (cut : IsCut w.requests) (so : g.linux ≡ true → IsBetween (requests_of w)) (within : n < length w.requests.accepted) where
   abbrev can : LinuxRequests → Type 0
   can l = CanStart g.linux l n
 
@@ -73,25 +55,13 @@ module _ (g : Setup) (w : World) (n : ℕ) (cut : (length w.requests.accepted �
   same_either : (l : LinuxRequests) → l ≡ requests_of w → (can (requests_of w) → can l) × (can l → can (requests_of w))
   same_either l same = (subst can (sym same), subst can same)
 
-  closed_start : (o : Option Call) → Either (ending_of g w o)
-  closed_start None = (λ c. c, λ c. c)
-  closed_start (Some call) =
-      let entries : List Sqe = entries_from w.submission call.count in
-      (start_kept (requests_of w) entries cut n within g.linux so, start_was (requests_of w) entries cut n within g.linux so)
-
-  taken_requests : (entry : Sqe) (o : Option Call) → requests_of (taking_entry_of g w entry o) ≡ requests_of w
-  taken_requests entry None = refl
-  taken_requests entry (Some call) = refl
-
-  dropped_requests : (o : Option Call) → requests_of (taking_of g w o) ≡ requests_of w
-  dropped_requests None = refl
-  dropped_requests (Some call) = refl
-
   start_either : (s : Step) (a : Answer) → Change g w s a → IsOnRings s → Either (happens g w s a)
   start_either s a (refuses _ _ same silent) on = same_either _ (ap requests_of (same w))
-  start_either s a (takes entry call place opened left at valid) on = same_either _ (taken_requests entry w.submission.call)
-  start_either s a (drops call place opened left at invalid) on = same_either _ (dropped_requests w.submission.call)
-  start_either s a (closes accepted missed head call opened all told) on = closed_start w.submission.call
+  start_either s a (takes entry call place opened left at valid) on = same_either _ (rw opened)
+  start_either s a (drops call place opened left at invalid) on = same_either _ (rw opened)
+  start_either s a (closes accepted missed head call opened all told) on =
+      let entries : List Sqe = entries_from w.submission call.count in
+      subst (λ o. Either (ending_of g w o)) (sym opened) (start_kept (requests_of w) entries cut n within g.linux so, start_was (requests_of w) entries cut n within g.linux so)
   start_either s a _ on = search rules
 
 pub start_then_rings : (g : Setup) → StartThenRings g

@@ -71,17 +71,8 @@ items_go_in : (g : Setup) (items : List Published) (before : History) (words : L
     → length answers ≡ length (item_steps slot items)
     → IsLawfulApart g (history_of (zip (item_steps slot items) answers) ++ before)
     → NoneRefused g before words slot items answers
-items_go_in g [] before words slot [] stands low few many lawful = record {
-  none_refused = refl;
-  now = refl;
-  staged = words;
-  many = omega arith;
-  stands = stands;
-}
-items_go_in g [] before words slot (a ∷ answers) stands low few many lawful =
-    absurd (omega (arith, many))
-items_go_in g (bad_word word ∷ later) before words slot [] stands low few many lawful =
-    absurd (omega (arith, many))
+items_go_in g [] before words slot [] stands low few many lawful =
+    record { none_refused = refl; now = refl; staged = words; many = omega arith; stands = stands }
 items_go_in g (bad_word word ∷ later) before words slot (a ∷ answers) stands low few many lawful =
     let events : List Event = zip (item_steps (slot + 1) later) answers in
     let after : IsLawfulApart g (history_of events ++ (step.Index word, a) ∷ before) = one_after (step.Index word, a) events before g lawful in
@@ -89,10 +80,6 @@ items_go_in g (bad_word word ∷ later) before words slot (a ∷ answers) stands
     word_goes_in g before words slot word later a answers one.0
     (items_go_in g later ((step.Index word, answer.Staged) ∷ before) (words ++ word ∷ []) (slot + 1) answers one.1 (omega arith) (omega (arith, length_push words word)) (omega (arith, many))
     (subst (λ x. IsLawfulApart g (history_of events ++ (step.Index word, x) ∷ before)) one.0 after))
-items_go_in g (with_entry entry ∷ later) before words slot [] stands low few many lawful =
-    absurd (omega (arith, many))
-items_go_in g (with_entry entry ∷ later) before words slot (a ∷ []) stands low few many lawful =
-    absurd (omega (arith, many))
 items_go_in g (with_entry entry ∷ later) before words slot (a ∷ b ∷ answers) stands low few many lawful =
     let events : List Event = zip (item_steps (slot + 1) later) answers in
     let filling : IsLawfulApart g (history_of ((step.Index slot, b) ∷ events) ++ (step.Fill slot entry, a) ∷ before) = one_after (step.Fill slot entry, a) ((step.Index slot, b) ∷ events) before g lawful in
@@ -103,6 +90,7 @@ items_go_in g (with_entry entry ∷ later) before words slot (a ∷ b ∷ answer
     entry_goes_in g before words slot entry later a b answers first.0 second.0
     (items_go_in g later ((step.Index slot, answer.Staged) ∷ (step.Fill slot entry, answer.Filled) ∷ before) (words ++ slot ∷ []) (slot + 1) answers second.1 (omega arith) (omega (arith, length_push words slot)) (omega (arith, many))
     (subst (λ x. IsLawfulApart g (history_of events ++ (step.Index slot, x) ∷ (step.Fill slot entry, answer.Filled) ∷ before)) second.0 staging))
+items_go_in g _ before words slot _ stands low few many lawful = absurd (omega (arith, many))
 
 pub takes_whole_call : (g : Setup) → TakesWholeCall g
 takes_whole_call g before items answers tail begun stands is_open few many lawful =

@@ -1,10 +1,10 @@
 -- A call that is accepted before another move is made: the move can be made as well, and leads to the same, if no cancel names an entry of the call.
-use Rattle.std.proofs.Common.{◌≡◌, ℕ, zero, suc, ◌-◌, ◌<◌, ◌≤◌, ℤ, Bool, true, false, not, ◌&&◌, ◌||◌, ◌==◌, nat_lt, List, [], ◌∷◌, ◌++◌, length, Option, Some, None, if◌then◌else◌, refl, sym, ap, ap₂, ◌∙◌, ◌⊎◌, inl, inr, arith, append-nil}
+use Rattle.std.proofs.Common.{◌≡◌, ℕ, zero, suc, ◌-◌, ◌<◌, ◌≤◌, ℤ, Bool, true, false, not, ◌&&◌, ◌||◌, ◌==◌, nat_lt, List, [], ◌∷◌, ◌++◌, length, Option, Some, if◌then◌else◌, refl, sym, ap, ap₂, ◌∙◌, inl, inr, arith, append-nil}
 use Rattle.std.specs.Prelude.{neg_ℤ}
-use Rattle.std.specs.List.{list_any}
 use Rattle.std.specs.Option.{option_to_list}
-use Rattle.std.proofs.lemmas.Bool.{and_parts, both_ways, cases_lt, lt-ltb, ltb-true, false_from_ne_true}
+use Rattle.std.proofs.lemmas.Bool.{and_parts, both_ways, cases_lt, lt-ltb, ltb-true, false_from_ne_true, cond-true, cond-false, cases_Bool}
 use Rattle.std.proofs.lemmas.List.{length-append, get_or-append_right}
+use Rattle.uring_laws.proofs.Growth.{IsCut}
 use Rattle.uring_entry.specs.Layout.{Sqe, zero_entry, addr_of, user_data_of}
 use Rattle.uring_entry.specs.Preparation.{is_cancel, is_cancel_all, is_faulty, operation_of}
 use Rattle.uring_entry.specs.Below.{least_below, all_below, found_or}
@@ -19,14 +19,13 @@ use Rattle.uring_moves.specs.Direct.{AreUnnamed}
 use Rattle.uring_moves.specs.declared.move_of_calls.Move.TheVariants as move
 use Rattle.uring_laws.proofs.AlikeRequests.{all_below_same}
 use Rattle.uring_laws.proofs.CalledRequests.{outstanding_kept, ready_kept}
-use Rattle.uring_moves.proofs.MovesLead.{can_of, can_then, if_so, if_not}
+use Rattle.uring_moves.proofs.MovesLead.{can_of, can_then}
 use Rattle.uring_moves.proofs.Prompting.{candidate_names}
 
 -- Bounds that go further, over numbers at which a test fails.
 
 none_more : (o : Option ℕ) (n : ℕ) → found_or o false n ≡ o
-none_more None n = refl
-none_more (Some k) n = refl
+none_more o n = grind arith
 
 least_between : (p : ℕ → Bool) (n m : ℕ) → n ≤ m → ((k : ℕ) → n ≤ k → k < m → p k ≡ false)
     → least_below p m ≡ least_below p n
@@ -52,12 +51,11 @@ all_between p n (suc m) le h =
 
 result_same : (r : Requests) (call : List Sqe) (o : Option ℕ)
     → result_for (with_call r call) o ≡ result_for r o
-result_same r call None = refl
-result_same r call (Some k) = refl
+result_same r call o = grind arith
 
 -- What a call leaves as it was.
 
-module _ (named : ℕ → Bool) (r : Requests) (call : List Sqe) (cut : (length r.accepted ≡ 0) ⊎ (list_any (λ c. c == length r.accepted) r.cuts ≡ true)) (unnamed : AreUnnamed named call) where
+module _ (named : ℕ → Bool) (r : Requests) (call : List Sqe) (cut : IsCut r) (unnamed : AreUnnamed named call) where
   candidate_kept : (n k : ℕ) → n < length r.accepted → k < length r.accepted
       → is_candidate (with_call r call) n k ≡ is_candidate r n k
   candidate_kept n k low less =
@@ -101,13 +99,10 @@ module _ (named : ℕ → Bool) (r : Requests) (call : List Sqe) (cut : (length 
       → n < length r.accepted → chosen_by (with_call r call) n res ≡ chosen_by r n res
   chosen_kept n res names low =
       ap (λ e. if is_cancel e && is_success e res then (if is_cancel_all e then targets_of (with_call r call) n else option_to_list (target_of (with_call r call) n)) else []) (entry_kept r call cut n low)
-      ∙ by_cancel (is_cancel (entry_of r n)) refl where
-        by_cancel : (cancels : Bool) → is_cancel (entry_of r n) ≡ cancels → (if is_cancel (entry_of r n) && is_success (entry_of r n) res then (if is_cancel_all (entry_of r n) then targets_of (with_call r call) n else option_to_list (target_of (with_call r call) n)) else []) ≡ chosen_by r n res
-        by_cancel true is =
-            ap₂ (λ ts o. if is_cancel (entry_of r n) && is_success (entry_of r n) res then (if is_cancel_all (entry_of r n) then ts else option_to_list o) else []) (targets_kept n (names is) low) (target_kept n (names is) low)
-        by_cancel false is =
-            ap (λ b. if b && is_success (entry_of r n) res then (if is_cancel_all (entry_of r n) then targets_of (with_call r call) n else option_to_list (target_of (with_call r call) n)) else []) is
-            ∙ sym (ap (λ b. if b && is_success (entry_of r n) res then (if is_cancel_all (entry_of r n) then targets_of r n else option_to_list (target_of r n)) else []) is)
+      ∙ elim (cases_Bool (is_cancel (entry_of r n))) [
+        | inl is ↦ rw (targets_kept n (names is) low, target_kept n (names is) low)
+        | inr other ↦ rw other
+      ]
 
 -- A move after the call.
 
@@ -115,7 +110,7 @@ module _ (named : ℕ → Bool) (r : Requests) (call : List Sqe) (cut : (length 
 abbrev pub called : Moment → List Sqe → List (List Sqe) → Moment
 called m call later = record m { requests = with_call m.requests call; left = later }
 
-module _ (named : ℕ → Bool) (m : Moment) (call : List Sqe) (later : List (List Sqe)) (cut : (length m.requests.accepted ≡ 0) ⊎ (list_any (λ c. c == length m.requests.accepted) m.requests.cuts ≡ true)) (unnamed : AreUnnamed named call) where
+module _ (named : ℕ → Bool) (m : Moment) (call : List Sqe) (later : List (List Sqe)) (cut : IsCut m.requests) (unnamed : AreUnnamed named call) where
   ended_after : (n : ℕ) (res : ℤ) → (is_cancel (entry_of m.requests n) ≡ true → named (addr_of (entry_of m.requests n)) ≡ true)
       → n < length m.requests.accepted
       → ended_at_once (called m call later) n res ≡ called (ended_at_once m n res) call later
@@ -158,22 +153,22 @@ module _ (named : ℕ → Bool) (m : Moment) (call : List Sqe) (later : List (Li
 
     by_cancel : (cancels : Bool) → is_cancel (entry_of r n) ≡ cancels → is_doomed r n ≡ false → issued (called m call later) n ≡ called (issued m n) call later
     by_cancel true is spared =
-        if_not (is_doomed q n) _ _ (doom ∙ spared)
-        ∙ if_so (is_cancel (entry_of q n)) _ _ (ap is_cancel entry ∙ is)
+        cond-false (is_doomed q n) _ _ (doom ∙ spared)
+        ∙ cond-true (is_cancel (entry_of q n)) _ _ (ap is_cancel entry ∙ is)
         ∙ ap (ended_at_once (called m call later) n) (result_kept named r call cut unnamed n (names is) low)
         ∙ ended_after n (cancel_result r n) names low
-        ∙ back (ended_at_once m n (cancel_result r n)) (if_not (is_doomed r n) _ _ spared ∙ if_so (is_cancel (entry_of r n)) _ _ is)
+        ∙ back (ended_at_once m n (cancel_result r n)) (cond-false (is_doomed r n) _ _ spared ∙ cond-true (is_cancel (entry_of r n)) _ _ is)
     by_cancel false is spared =
-        if_not (is_doomed q n) _ _ (doom ∙ spared)
-        ∙ if_not (is_cancel (entry_of q n)) _ _ (ap is_cancel entry ∙ is)
-        ∙ back (started m n) (if_not (is_doomed r n) _ _ spared ∙ if_not (is_cancel (entry_of r n)) _ _ is)
+        cond-false (is_doomed q n) _ _ (doom ∙ spared)
+        ∙ cond-false (is_cancel (entry_of q n)) _ _ (ap is_cancel entry ∙ is)
+        ∙ back (started m n) (cond-false (is_doomed r n) _ _ spared ∙ cond-false (is_cancel (entry_of r n)) _ _ is)
 
     by_doom : (doomed : Bool) → is_doomed r n ≡ doomed → issued (called m call later) n ≡ called (issued m n) call later
     by_doom true is =
-        if_so (is_doomed q n) _ _ (doom ∙ is)
+        cond-true (is_doomed q n) _ _ (doom ∙ is)
         ∙ ap (λ e. ended_at_once (called m call later) n (if is_faulty e then neg_ℤ EINVAL else neg_ℤ ECANCELED)) entry
         ∙ ended_after n (doomed_result r n) names low
-        ∙ back (ended_at_once m n (doomed_result r n)) (if_so (is_doomed r n) _ _ is)
+        ∙ back (ended_at_once m n (doomed_result r n)) (cond-true (is_doomed r n) _ _ is)
     by_doom false is = by_cancel (is_cancel (entry_of r n)) refl is
 
   pub issue_after : (n : ℕ) (next : Moment) → (is_cancel (entry_of m.requests n) ≡ true → named (addr_of (entry_of m.requests n)) ≡ true)

@@ -1,15 +1,14 @@
 -- A ring that stands empty takes a whole call: from a world, the world after the call, which some lawful history makes.
 -- By the laws of single steps, with the answers that are called for: first the items, then the tail, Begin, each Take, End and LoadHead.
-use Rattle.std.proofs.Common.{◌≡◌, ℕ, ◌+◌, ◌≤◌, Bool, true, false, zero, suc, List, [], ◌∷◌, ◌++◌, length, Option, Some, None, is_some, nat_lt, if◌then◌else◌, refl, sym, subst, ap, ◌∙◌, inl, arith}
+use Rattle.std.proofs.Common.{◌≡◌, ℕ, ◌+◌, ◌≤◌, Bool, false, zero, suc, List, [], ◌∷◌, ◌++◌, length, Option, nat_lt, if◌then◌else◌, refl, sym, subst, ap, ◌∙◌, inl, arith}
 use Rattle.std.proofs.lemmas.Bool.{le-ltb}
 use Rattle.std.proofs.lemmas.List.{length_push}
 use Rattle.uring_entry.specs.Setup.{Setup}
-use Rattle.uring_entry.specs.Layout.{Sqe}
 use Rattle.uring_entry.specs.IndexWords.{word_of}
 use Rattle.uring_entry.specs.Submission.{Submission, Place, taken, staged, with_published, call_length, Published, with_entry, bad_word}
 use Rattle.uring_files.specs.Contents.{FileContents}
 use Rattle.uring_core.specs.World.{World, happens}
-use Rattle.uring_core.specs.StepAnswers.{OrAgain, is_spent, fill_answer, index_answer, take_answer, begin_answer, end_answer, place_answer, entry_answer}
+use Rattle.uring_core.specs.StepAnswers.{OrAgain, is_spent, fill_answer, index_answer, take_answer, begin_answer, end_answer, place_answer}
 use Rattle.uring_core.specs.declared.step.Step.TheVariants as step
 use Rattle.uring_core.specs.declared.answer.Answer.{Answer}
 use Rattle.uring_core.specs.declared.answer.Answer.TheVariants as answer
@@ -67,22 +66,12 @@ items_go_in {moves} g (with_entry entry ∷ later) w files words slot there stan
 
 -- The call opens.
 
-begin_of : (is_closed in_call spent : Bool) (length : ℕ) → is_closed ≡ false → in_call ≡ false
-    → spent ≡ false
-    → (if is_closed then answer.Closed else (if in_call then answer.InCall else (if spent then answer.Spent else answer.Call length)))
-    ≡ answer.Call length
-begin_of is_closed in_call spent length e f k = rw (e, f, k) refl
-
 length_asked : (l : Submission) (count : ℕ) → Stands l [] count → call_length l count ≡ count
 length_asked l count s = omega (arith, s.waiting)
 
 begins_so : (g : Setup) (w : World) (count : ℕ) → Stands w.submission [] count
     → w.is_closed ≡ false → is_spent w count ≡ false → begin_answer w count ≡ answer.Call count
-begins_so g w count s is_open unspent =
-    ap (λ n. begin_with n (is_spent w n)) (length_asked w.submission count s) ∙ begin_of w.is_closed (is_some w.submission.call) (is_spent w count) count is_open (ap is_some s.call) unspent where
-      begin_with : ℕ → Bool → Answer
-      begin_with n spent =
-          if w.is_closed then answer.Closed else (if is_some w.submission.call then answer.InCall else (if spent then answer.Spent else answer.Call n))
+begins_so g w count s is_open unspent = cc (length_asked w.submission count s)
 
 call_begins : {moves : List Move} (g : Setup) (w : World) (files : List FileContents) (count : ℕ) → Reaches g w files moves
     → Stands w.submission [] count → w.is_closed ≡ false → is_spent w count ≡ false
@@ -95,11 +84,7 @@ call_begins g w files count there s is_open unspent =
 -- It takes its positions.
 
 not_again : (place : Option Place) → place_answer place ≡ answer.Again → ⊥
-not_again None e = cc
-not_again (Some place) e = by_entry place.entry e where
-  by_entry : (entry : Option Sqe) → entry_answer entry ≡ answer.Again → ⊥
-  by_entry None f = cc
-  by_entry (Some x) f = cc
+not_again place e = grind arith
 
 takes_on : {moves : List Move} (g : Setup) → g.stops ≡ false → g.linux ≡ false → (w : World) (files : List FileContents) (count done : ℕ)
     → Reaches g (in_call w count 0) files moves → Stands w.submission [] count → done ≤ count
@@ -117,15 +102,13 @@ takes_on {moves} g goes manual w files count (suc done) there s few =
 
 ends_so : (few : Bool) (accepted missed head : ℕ)
     → (if few then answer.NotAll else answer.Taken accepted missed head) ≡ answer.Again → ⊥
-ends_so true accepted missed head e = cc
-ends_so false accepted missed head e = cc
+ends_so few accepted missed head e = grind arith
 
 -- its end is a move
 ends_accept : (few : Bool) (accepted missed head : ℕ) (moves : List Move) → few ≡ false
     → with_event step.End (if few then answer.NotAll else answer.Taken accepted missed head) moves
     ≡ moves ++ move.Accept ∷ []
-ends_accept false accepted missed head moves e = refl
-ends_accept true accepted missed head moves e = absurd cc
+ends_accept few accepted missed head moves e = cc
 
 call_ends : {moves : List Move} (g : Setup) (w : World) (files : List FileContents) (count : ℕ)
     → Reaches g (in_call w count count) files moves → Stands w.submission [] count

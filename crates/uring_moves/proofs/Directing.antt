@@ -1,5 +1,5 @@
 -- The law `direct_moves_lead`: prompt moves are followed by direct ones, which run ahead of them by calls that no cancel tells of.
-use Rattle.std.proofs.Common.{◌≡◌, ℕ, zero, suc, ◌<◌, Bool, true, false, not, List, [], ◌∷◌, length, Option, Some, None, if◌then◌else◌, refl, sym, subst, ap, ◌∙◌, ◌⊎◌, inl, inr}
+use Rattle.std.proofs.Common.{◌≡◌, ℕ, zero, suc, ◌<◌, Bool, false, not, List, [], ◌∷◌, length, Option, Some, None, if◌then◌else◌, refl, sym, subst, ap, ◌∙◌, ◌⊎◌, inl, inr, arith}
 use Rattle.std.specs.Option.{option_and_then}
 use Rattle.std.proofs.lemmas.Bool.{and_parts, both_ways, cases_Bool}
 use Rattle.std.proofs.lemmas.List.Elements.{All-nil, All-cons, All-head, All-tail}
@@ -37,8 +37,7 @@ calm_called named m e calm =
 -- a move that accepts nothing leaves the calls that are left
 if_left : (b : Bool) (x y : Moment) (left : List (List Sqe)) → x.left ≡ left → y.left ≡ left
     → (if b then x else y).left ≡ left
-if_left true x y left e f = e
-if_left false x y left e f = f
+if_left b x y left e f = grind arith
 
 left_kept : (m next : Moment) (x : Move) → (x ≡ move.Accept → ⊥) → moved m x ≡ Some next
     → next.left ≡ m.left

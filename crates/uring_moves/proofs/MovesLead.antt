@@ -2,16 +2,15 @@
 -- By cases on `Change`: the close of a call is an accepting, an issue and a finish that isn't refused are moves, and all else is silent.
 use Rattle.std.proofs.Common.{◌≡◌, ℕ, ◌+◌, ◌≤◌, ℤ, Bool, true, false, not, ◌&&◌, ◌||◌, nat_lt, List, [], ◌∷◌, ◌++◌, length, take, drop, map, Option, Some, None, if◌then◌else◌, refl, sym, subst, ap, ap₂, ◌∙◌, arith, append_assoc, append-nil}
 use Rattle.std.specs.Option.{option_and_then}
-use Rattle.std.specs.Prelude.{unwrap_or}
 use Rattle.std.proofs.Math.Seq.{take-add}
-use Rattle.std.proofs.lemmas.Bool.{lt-ltb, and_parts}
+use Rattle.std.proofs.lemmas.Bool.{lt-ltb, and_parts, cond-true, and_from}
 use Rattle.std.proofs.lemmas.List.{length-map, length-take-le, map-append, drop-map, take-map, take-append-le, length-drop}
 use Rattle.std.proofs.lemmas.List.Sums.{sum_by_push}
 use Rattle.uring_entry.specs.Setup.{Setup}
 use Rattle.uring_entry.specs.Layout.{Sqe}
 use Rattle.uring_entry.specs.Preparation.{is_cancel, operation_of}
 use Rattle.uring_entry.specs.Submission.{Submission, Call, taken, entries_from, places_from, Published, published_items, place_of}
-use Rattle.uring_entry.specs.Requests.{Requests, entry_of, is_outstanding, is_running, is_doomed, is_ready, is_issuable, doomed_result, cancel_result, no_bytes, with_call}
+use Rattle.uring_entry.specs.Requests.{Requests, entry_of, is_running, doomed_result, cancel_result, no_bytes, with_call}
 use Rattle.uring_entry.specs.declared.operation.Outcome.{Outcome}
 use Rattle.uring_files.specs.Contents.{FileContents, empty_files}
 use Rattle.uring_files.specs.Operations.{after, result_of}
@@ -29,7 +28,7 @@ use Rattle.uring_core.proofs.Sound.{IsSound, sound_of}
 use Rattle.uring_core.proofs.SoundRings.{open_count}
 use Rattle.uring_laws.proofs.WholeLaws.{lawful_apart}
 use Rattle.uring_machine.specs.Machine.{IsUnrefused, finish_answer}
-use Rattle.uring_moves.specs.Moments.{Moment, starting, issued, finished, ended_at_once, is_finishable, moved, after_moves}
+use Rattle.uring_moves.specs.Moments.{Moment, starting, finished, ended_at_once, is_finishable, moved, after_moves}
 use Rattle.uring_moves.specs.Outcomes.{items_in, entries_in, RefusesNone}
 use Rattle.uring_moves.specs.Recorded.{with_event, moves_in}
 use Rattle.uring_moves.specs.declared.move_of_calls.Move.{Move}
@@ -49,10 +48,6 @@ pub record IsCome (g : Setup) (w : World) (files : List FileContents) (moves : L
 
 -- One move more.
 
-just : (o : Option Moment) → option_and_then (λ n. Some n) o ≡ o
-just None = refl
-just (Some m) = refl
-
 then_moved : (first : Option Moment) (later : List Move) (m : Move)
     → ((y : Moment) → after_moves y (later ++ m ∷ []) ≡ option_and_then (λ z. moved z m) (after_moves y later))
     → option_and_then (λ y. after_moves y (later ++ m ∷ [])) first
@@ -62,7 +57,7 @@ then_moved (Some y) later m next = next y
 
 pub one_move_more : (moves : List Move) (x : Moment) (m : Move)
     → after_moves x (moves ++ m ∷ []) ≡ option_and_then (λ z. moved z m) (after_moves x moves)
-one_move_more [] x m = just (moved x m)
+one_move_more [] x m = grind arith
 one_move_more (first ∷ later) x m =
     then_moved (moved x first) later m (λ y. one_move_more later y m)
 
@@ -131,34 +126,15 @@ call_comes {moves} g w files call within c =
 -- An issue and a finish.
 
 pub can_then : (can : Bool) (x y : Moment) → can ≡ true → x ≡ y → (if can then Some x else None) ≡ Some y
-can_then true x y is same = ap (λ z. Some z) same
-can_then false x y is same = absurd cc
+can_then can x y is same = grind arith
 
 pub can_of : (can : Bool) (m next : Moment) → (if can then Some m else None) ≡ Some next
     → (can ≡ true) × (m ≡ next)
-can_of true m next e = (refl, ap (λ o. unwrap_or o next) e)
-can_of false m next e = absurd cc
+can_of can m next e = grind arith
 
 pub issuable_so : (outstanding running doomed ready : Bool) → outstanding ≡ true → running ≡ false
     → (doomed || ready) ≡ true → (outstanding && not running && (doomed || ready)) ≡ true
-issuable_so true false doomed ready e f h = h
-issuable_so _ _ doomed ready e f h = absurd cc
-
-pub or_first : (a b : Bool) → a ≡ true → (a || b) ≡ true
-or_first true b e = refl
-or_first false b e = absurd cc
-
-pub or_second : (a b : Bool) → b ≡ true → (a || b) ≡ true
-or_second true b e = refl
-or_second false b e = e
-
-pub if_so : (b : Bool) (x y : Moment) → b ≡ true → (if b then x else y) ≡ x
-if_so true x y e = refl
-if_so false x y e = absurd cc
-
-pub if_not : (b : Bool) (x y : Moment) → b ≡ false → (if b then x else y) ≡ y
-if_not false x y e = refl
-if_not true x y e = absurd cc
+issuable_so outstanding running doomed ready e f h = grind arith
 
 -- the moment of a request that ended as it was issued
 at_once : (g : Setup) (w : World) (n : ℕ) (res : ℤ) (files : List FileContents) (rest : List (List Sqe))
@@ -180,21 +156,17 @@ finish_comes {moves} g w n running sound c =
     let files : List FileContents = after (files_of (by_manual g) w) (operation_of (entry_of r n)) o.res in
     let left : files_of (by_manual g) v ≡ files = files_ended r n o.res o.bytes (empty_files g.files) in
     let accepted : nat_lt n (length r.accepted) ≡ true = lt-ltb n (length r.accepted) (sound.requests.started_accepted n (and_parts _ _ running).0) in
-    let there : IsCome (by_manual g) v files (moves ++ move.Finish n ∷ []) c.calls = comes_on (by_manual g) w v (files_of (by_manual g) w) files (move.Finish n) c refl (λ rest. can_then (is_finishable r n) (finished (moment_of w (files_of (by_manual g) w) rest) n) (moment_of v files rest) (and_both accepted running)
+    let there : IsCome (by_manual g) v files (moves ++ move.Finish n ∷ []) c.calls = comes_on (by_manual g) w v (files_of (by_manual g) w) files (move.Finish n) c refl (λ rest. can_then (is_finishable r n) (finished (moment_of w (files_of (by_manual g) w) rest) n) (moment_of v files rest) (and_from _ _ accepted running)
     (ap (λ posted. record { requests = v.requests; posted = posted; files = files; left = rest }) (sym (posted_by_end g.cq w.completions (entry_of r n) o.res o.bytes)))) in
-    subst (λ x. IsCome (by_manual g) (happens (by_manual g) w (step.Finish n) x) (files_of (by_manual g) (happens (by_manual g) w (step.Finish n) x)) (with_event (step.Finish n) x moves) c.calls) (ap (λ b. if b then a else answer.NotRunning) (sym running)) (subst (λ fs. IsCome (by_manual g) v fs (moves ++ move.Finish n ∷ []) c.calls) (sym left) there) where
-      and_both : {x y : Bool} → x ≡ true → y ≡ true → (x && y) ≡ true
-      and_both {x} {y} e f = ap₂ (λ p q. p && q) e f
+    subst (λ x. IsCome (by_manual g) (happens (by_manual g) w (step.Finish n) x) (files_of (by_manual g) (happens (by_manual g) w (step.Finish n) x)) (with_event (step.Finish n) x moves) c.calls) (ap (λ b. if b then a else answer.NotRunning) (sym running)) (subst (λ fs. IsCome (by_manual g) v fs (moves ++ move.Finish n ∷ []) c.calls) (sym left) there)
 
 -- an event that tells nothing makes no move
 pub silent_makes_none : (s : Step) (a : Answer) (moves : List Move) → IsSilent (s, a)
     → with_event s a moves ≡ moves
-silent_makes_none step.End (answer.Taken accepted missed head) moves q =
-    let closes = q.closes in absurd cc
-silent_makes_none (step.Issue n) answer.Run moves q = let starts = q.starts in absurd cc
-silent_makes_none (step.Issue n) (answer.Ended res bytes) moves q = let ends = q.ends in absurd cc
-silent_makes_none (step.Finish n) (answer.Ended res bytes) moves q =
-    let ends = q.ends in absurd cc
+silent_makes_none step.End (answer.Taken accepted missed head) moves q = absurd cc
+silent_makes_none (step.Issue n) answer.Run moves q = absurd cc
+silent_makes_none (step.Issue n) (answer.Ended res bytes) moves q = absurd cc
+silent_makes_none (step.Finish n) (answer.Ended res bytes) moves q = absurd cc
 silent_makes_none s a moves q = refl
 
 -- one event more
@@ -220,18 +192,15 @@ comes {moves} g w s a (closes accepted missed head call opened all counted) soun
 comes {moves} g w s a (runs n outstanding idle spared ready no_cancel) sound unrefused kept c =
     let r : Requests = w.requests in
     let v : World = happens (by_manual g) w (step.Issue n) answer.Run in
-    subst (λ fs. IsCome (by_manual g) v fs (moves ++ move.Issue n ∷ []) c.calls) (sym (kept tt)) (comes_on (by_manual g) w v (files_of (by_manual g) w) (files_of (by_manual g) w) (move.Issue n) c refl (λ rest. can_then (is_issuable r n) (issued (moment_of w (files_of (by_manual g) w) rest) n) (moment_of v (files_of (by_manual g) w) rest) (issuable_so (is_outstanding r n) (is_running r n) (is_doomed r n) (is_ready r n) outstanding idle (or_second (is_doomed r n) (is_ready r n) ready))
-    (if_not (is_doomed r n) _ _ spared ∙ if_not (is_cancel (entry_of r n)) _ _ no_cancel)))
+    subst (λ fs. IsCome (by_manual g) v fs (moves ++ move.Issue n ∷ []) c.calls) (sym (kept tt)) (comes_on (by_manual g) w v (files_of (by_manual g) w) (files_of (by_manual g) w) (move.Issue n) c refl (λ rest. rw (outstanding, idle, spared, ready, no_cancel)))
 comes {moves} g w s a (dooms n outstanding idle doomed) sound unrefused kept c =
     let r : Requests = w.requests in
     let v : World = happens (by_manual g) w (step.Issue n) (answer.Ended (doomed_result r n) no_bytes) in
-    subst (λ fs. IsCome (by_manual g) v fs (moves ++ move.Issue n ∷ []) c.calls) (sym (kept tt)) (comes_on (by_manual g) w v (files_of (by_manual g) w) (files_of (by_manual g) w) (move.Issue n) c refl (λ rest. can_then (is_issuable r n) (issued (moment_of w (files_of (by_manual g) w) rest) n) (moment_of v (files_of (by_manual g) w) rest) (issuable_so (is_outstanding r n) (is_running r n) (is_doomed r n) (is_ready r n) outstanding idle (or_first (is_doomed r n) (is_ready r n) doomed))
-    (if_so (is_doomed r n) _ _ doomed ∙ at_once g w n (doomed_result r n) (files_of (by_manual g) w) rest)))
+    subst (λ fs. IsCome (by_manual g) v fs (moves ++ move.Issue n ∷ []) c.calls) (sym (kept tt)) (comes_on (by_manual g) w v (files_of (by_manual g) w) (files_of (by_manual g) w) (move.Issue n) c refl (λ rest. rw (outstanding, idle, doomed) (ap (λ z. Some z) (at_once g w n (doomed_result r n) (files_of (by_manual g) w) rest))))
 comes {moves} g w s a (cancels n outstanding idle spared ready cancel) sound unrefused kept c =
     let r : Requests = w.requests in
     let v : World = happens (by_manual g) w (step.Issue n) (answer.Ended (cancel_result r n) no_bytes) in
-    subst (λ fs. IsCome (by_manual g) v fs (moves ++ move.Issue n ∷ []) c.calls) (sym (kept tt)) (comes_on (by_manual g) w v (files_of (by_manual g) w) (files_of (by_manual g) w) (move.Issue n) c refl (λ rest. can_then (is_issuable r n) (issued (moment_of w (files_of (by_manual g) w) rest) n) (moment_of v (files_of (by_manual g) w) rest) (issuable_so (is_outstanding r n) (is_running r n) (is_doomed r n) (is_ready r n) outstanding idle (or_second (is_doomed r n) (is_ready r n) ready))
-    (if_not (is_doomed r n) _ _ spared ∙ (if_so (is_cancel (entry_of r n)) _ _ cancel ∙ at_once g w n (cancel_result r n) (files_of (by_manual g) w) rest))))
+    subst (λ fs. IsCome (by_manual g) v fs (moves ++ move.Issue n ∷ []) c.calls) (sym (kept tt)) (comes_on (by_manual g) w v (files_of (by_manual g) w) (files_of (by_manual g) w) (move.Issue n) c refl (λ rest. rw (outstanding, idle, spared, ready) (ap (λ z. Some z) (cond-true (is_cancel (entry_of r n)) _ _ cancel ∙ at_once g w n (cancel_result r n) (files_of (by_manual g) w) rest))))
 comes {moves} g w s a (finishes n res bytes running) sound unrefused kept c =
     subst (λ x. IsCome (by_manual g) (happens (by_manual g) w (step.Finish n) x) (files_of (by_manual g) (happens (by_manual g) w (step.Finish n) x)) (with_event (step.Finish n) x moves) c.calls) (sym unrefused) (finish_comes g w n running sound c)
 comes g w s a _ sound unrefused kept c = still (by_manual g) w _ (files_of (by_manual g) w) refl refl refl refl c

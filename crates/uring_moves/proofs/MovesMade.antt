@@ -8,10 +8,9 @@ use Rattle.std.proofs.lemmas.List.Elements.{All-head, All-tail}
 use Rattle.uring_entry.specs.Setup.{Setup}
 use Rattle.uring_entry.specs.Layout.{Sqe}
 use Rattle.uring_entry.specs.Preparation.{is_cancel, operation_of}
-use Rattle.uring_entry.specs.Success.{posts_completion}
 use Rattle.uring_entry.specs.Submission.{Submission, taken, entries_from, Published, with_entry, bad_word, published_items}
 use Rattle.uring_entry.specs.Requests.{Requests, entry_of, is_outstanding, is_running, is_doomed, is_ready, is_issuable, doomed_result, cancel_result, no_bytes, with_call}
-use Rattle.uring_entry.specs.Completions.{Completions, with_end, with_posted, completion_for}
+use Rattle.uring_entry.specs.Completions.{Completions, with_end}
 use Rattle.uring_entry.specs.declared.operation.Outcome.{Outcome}
 use Rattle.uring_files.specs.Contents.{FileContents}
 use Rattle.uring_files.specs.Operations.{after, result_of}
@@ -45,10 +44,7 @@ moment_of w files left = record {
 -- what an end posts
 pub posted_by_end : (size : ℕ) (l : Completions) (entry : Sqe) (res : ℤ) (bytes : List ℕ)
     → (with_end size l entry res bytes).posted ≡ posted_with l.posted entry res bytes
-posted_by_end size l entry res bytes = by_test (posts_completion entry res) where
-  by_test : (posts : Bool) → (if posts then with_posted size l (completion_for entry res bytes) else l).posted ≡ (if posts then l.posted ++ completion_for entry res bytes ∷ [] else l.posted)
-  by_test true = refl
-  by_test false = refl
+posted_by_end size l entry res bytes = grind arith
 
 -- A world between calls, in which these calls were taken, by these moves: nothing was reaped.
 pub record Between (g : Setup) (w : World) (files : List FileContents) (done : List (List Published)) (moves : List Move) : Type 0 where
@@ -111,19 +107,10 @@ between_still g w v files files' done b aside there = record {
   none_stored = aside.stored ∙ b.none_stored;
 }
 
-end_reaps_none : (size : ℕ) (l : Completions) (entry : Sqe) (res : ℤ) (bytes : List ℕ)
-    → (with_end size l entry res bytes).reaped ≡ l.reaped
-end_reaps_none size l entry res bytes = by_test (posts_completion entry res) where
-  by_test : (posts : Bool) → (if posts then with_posted size l (completion_for entry res bytes) else l).reaped ≡ l.reaped
-  by_test true = refl
-  by_test false = refl
-
-end_stores_none : (size : ℕ) (l : Completions) (entry : Sqe) (res : ℤ) (bytes : List ℕ)
-    → (with_end size l entry res bytes).head ≡ l.head
-end_stores_none size l entry res bytes = by_test (posts_completion entry res) where
-  by_test : (posts : Bool) → (if posts then with_posted size l (completion_for entry res bytes) else l).head ≡ l.head
-  by_test true = refl
-  by_test false = refl
+-- an end reaps none, and stores no head
+end_leaves : (size : ℕ) (l : Completions) (entry : Sqe) (res : ℤ) (bytes : List ℕ)
+    → ((with_end size l entry res bytes).reaped ≡ l.reaped) × ((with_end size l entry res bytes).head ≡ l.head)
+end_leaves size l entry res bytes = grind arith
 
 record IssueMade (g : Setup) (w : World) (n : ℕ) (files : List FileContents) (left : List (List Sqe)) (a : Answer) (next : Moment) : Type 0 where
   not_again : a ≡ answer.Again → ⊥
@@ -143,8 +130,8 @@ ends_at_once g w n files left res =
         submission = refl;
         closed = refl;
         accepted = refl;
-        reaped = end_reaps_none g.cq w.completions (entry_of w.requests n) res no_bytes;
-        stored = end_stores_none g.cq w.completions (entry_of w.requests n) res no_bytes;
+        reaped = (end_leaves g.cq w.completions (entry_of w.requests n) res no_bytes).0;
+        stored = (end_leaves g.cq w.completions (entry_of w.requests n) res no_bytes).1;
       };
     }
 
@@ -227,8 +214,8 @@ finish_step g calls last n later next w files done rest before split b fit room 
         submission = refl;
         closed = refl;
         accepted = refl;
-        reaped = end_reaps_none g.cq w.completions (entry_of w.requests n) o.res o.bytes;
-        stored = end_stores_none g.cq w.completions (entry_of w.requests n) o.res o.bytes;
+        reaped = (end_leaves g.cq w.completions (entry_of w.requests n) o.res o.bytes).0;
+        stored = (end_leaves g.cq w.completions (entry_of w.requests n) o.res o.bytes).1;
       } in
       let shows : moment_of v files' (map entries_in rest) ≡ finished (moment_of w files (map entries_in rest)) n =
       ap (λ posted. record { requests = v.requests; posted = posted; files = files'; left = map entries_in rest }) (posted_by_end g.cq w.completions (entry_of w.requests n) o.res o.bytes) in

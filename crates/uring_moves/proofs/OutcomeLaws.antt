@@ -25,22 +25,17 @@ use Rattle.uring_moves.proofs.Reaping.{AllReaped, all_reaped}
 
 -- Calls are told by their lengths and their items.
 
-first_length : {x y : ℕ} {xs ys : List ℕ} → x ∷ xs ≡ y ∷ ys → x ≡ y
-first_length e = cc
-
-other_lengths : {x y : ℕ} {xs ys : List ℕ} → x ∷ xs ≡ y ∷ ys → xs ≡ ys
-other_lengths e = cc
-
 pub same_cut : (xs ys : List (List Published)) → map length xs ≡ map length ys
     → items_in xs ≡ items_in ys → xs ≡ ys
 same_cut [] [] lengths items = refl
 same_cut [] (y ∷ ys) lengths items = absurd (omega (arith, ap length lengths))
 same_cut (x ∷ xs) [] lengths items = absurd (omega (arith, ap length lengths))
 same_cut (x ∷ xs) (y ∷ ys) lengths items =
-    let n : length x ≡ length y = first_length lengths in
+    let n : length x ≡ length y = cc in
+    let others : map length xs ≡ map length ys = cc in
     let here : x ≡ y = sym (take-append_seam x (items_in xs)) ∙ ap₂ take n items ∙ take-append_seam y (items_in ys) in
     let after : items_in xs ≡ items_in ys = sym (drop-append_seam x (items_in xs)) ∙ ap₂ drop n items ∙ drop-append_seam y (items_in ys) in
-    ap₂ (λ c cs. c ∷ cs) here (same_cut xs ys (other_lengths lengths) after)
+    ap₂ (λ c cs. c ∷ cs) here (same_cut xs ys others after)
 
 -- if closed calls took all positions, what was published is what they took
 pub all_taken : (l : Submission) (calls : List (List Published)) → published_items l ≡ items_in calls

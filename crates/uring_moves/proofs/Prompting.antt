@@ -4,8 +4,8 @@ use Rattle.std.proofs.Common.{◌≡◌, ℕ, ◌+◌, ◌-◌, ◌<◌, ℤ, po
 use Rattle.std.specs.Prelude.{All, unwrap_or}
 use Rattle.std.specs.List.{list_any}
 use Rattle.std.specs.Prelude.{neg_ℤ}
-use Rattle.std.specs.Option.{option_and_then, option_to_list}
-use Rattle.std.proofs.lemmas.Bool.{and_from, and_parts, or_parts, both_ways, cases_Bool, cases_lt, eqb-true, eq-eqb, not-true, true_from_ne_false, false_from_ne_true}
+use Rattle.std.specs.Option.{option_and_then}
+use Rattle.std.proofs.lemmas.Bool.{and_from, and_parts, both_ways, cases_Bool, cases_lt, eqb-true, eq-eqb, false_from_ne_true, cond-true, cond-false, or_right}
 use Rattle.std.proofs.lemmas.List.{get_or_append_left, get_or-append-add}
 use Rattle.std.proofs.Math.ListN.{get_or-eq_default}
 use Rattle.std.proofs.lemmas.List.Elements.{All-head, All-tail}
@@ -13,8 +13,7 @@ use Rattle.uring_entry.specs.Setup.{Setup}
 use Rattle.uring_entry.specs.Layout.{Sqe, zero_entry, addr_of, user_data_of}
 use Rattle.uring_entry.specs.Preparation.{is_cancel, is_cancel_all, operation_of}
 use Rattle.uring_entry.specs.declared.errno.TheConstants.{EALREADY}
-use Rattle.uring_entry.specs.Success.{is_success}
-use Rattle.uring_entry.specs.Requests.{Requests, entry_of, has_started, has_ended, is_outstanding, is_running, is_doomed, is_after_failure, some_member, is_joined, is_ready, is_issuable, is_candidate, target_of, is_target, targets_of, result_for, count_result, cancel_result, chosen_by, choices_of, doomed_result, no_bytes, with_call, with_started, with_ended}
+use Rattle.uring_entry.specs.Requests.{Requests, entry_of, has_started, has_ended, is_outstanding, is_running, is_doomed, is_after_failure, some_member, is_joined, is_ready, is_issuable, is_candidate, target_of, is_target, targets_of, result_for, count_result, cancel_result, chosen_by, doomed_result, no_bytes, with_call, with_started, with_ended}
 use Rattle.uring_entry.proofs.BelowLemmas.{least_below_same, least_below_tells}
 use Rattle.uring_entry.proofs.RequestLemmas.{list_any_push}
 use Rattle.uring_files.specs.Operations.{result_of}
@@ -28,7 +27,7 @@ use Rattle.uring_moves.specs.Outcomes.{IsOver}
 use Rattle.uring_moves.specs.Prompt.{is_named, IsPrompt, ArePrompt, NamesAll, AreNamed, PromptMovesLead}
 use Rattle.uring_moves.specs.declared.move_of_calls.Move.{Move}
 use Rattle.uring_moves.specs.declared.move_of_calls.Move.TheVariants as move
-use Rattle.uring_moves.proofs.MovesLead.{one_move_more, can_then, can_of, issuable_so, or_second, if_so, if_not}
+use Rattle.uring_moves.proofs.MovesLead.{one_move_more, can_then, can_of, issuable_so}
 use Rattle.uring_moves.proofs.SoundMoments.{IsSoundMoment, one_sound, first_moment, kept_on}
 
 -- Moments that differ in which requests were started.
@@ -85,12 +84,9 @@ targets_as_if : (named : ℕ → Bool) (r : Requests) (s : List ℕ) (n : ℕ) �
     → named (addr_of (entry_of r n)) ≡ true → targets_of (with_starts r s) n ≡ targets_of r n
 unfolding targets_of
 targets_as_if named r s n same names =
-    all_below_same (is_target (with_starts r s) n) (is_target r n) (length r.accepted) (λ k lt. by_candidate k (is_candidate r n k) refl) where
-      by_candidate : (k : ℕ) → (can : Bool) → is_candidate r n k ≡ can → is_target (with_starts r s) n k ≡ is_target r n k
-      by_candidate k true can =
-          ap₂ (λ b c. b && not c) (candidate_as_if r s n k) (run_chosen named r s n k same names can)
-      by_candidate k false not_one =
-          ap (λ b. b && not (is_running (with_starts r s) k)) (candidate_as_if r s n k ∙ not_one) ∙ sym (ap (λ b. b && not (is_running r k)) not_one)
+    all_below_same (is_target (with_starts r s) n) (is_target r n) (length r.accepted) (λ k lt. target_like (candidate_as_if r s n k) (run_chosen named r s n k same names)) where
+      target_like : {b c x y : Bool} → b ≡ c → (c ≡ true → x ≡ y) → (b && not x) ≡ (c && not y)
+      target_like e so = grind arith
 
 result_as_if : (named : ℕ → Bool) (r : Requests) (s : List ℕ) (n : ℕ) → RunSame named r s
     → named (addr_of (entry_of r n)) ≡ true → cancel_result (with_starts r s) n ≡ cancel_result r n
@@ -105,14 +101,10 @@ result_as_if named r s n same names =
 chosen_as_if : (named : ℕ → Bool) (r : Requests) (s : List ℕ) (n : ℕ) (res : ℤ) → RunSame named r s
     → (is_cancel (entry_of r n) ≡ true → named (addr_of (entry_of r n)) ≡ true)
     → chosen_by (with_starts r s) n res ≡ chosen_by r n res
-chosen_as_if named r s n res same names = by_cancel (is_cancel (entry_of r n)) refl where
-  by_cancel : (cancels : Bool) → is_cancel (entry_of r n) ≡ cancels → chosen_by (with_starts r s) n res ≡ chosen_by r n res
-  by_cancel true cancels =
-      ap (λ xs. if is_cancel (entry_of r n) && is_success (entry_of r n) res then xs else [])
-      (ap₂ (λ ts o. if is_cancel_all (entry_of r n) then ts else option_to_list o) (targets_as_if named r s n same (names cancels)) (target_as_if r s n))
-  by_cancel false other =
-      ap (λ b. if b && is_success (entry_of r n) res then choices_of (with_starts r s) n else []) other
-      ∙ sym (ap (λ b. if b && is_success (entry_of r n) res then choices_of r n else []) other)
+chosen_as_if named r s n res same names = elim (cases_Bool (is_cancel (entry_of r n))) [
+  | inl cancels ↦ rw (targets_as_if named r s n same (names cancels), target_as_if r s n)
+  | inr other ↦ rw other
+]
 
 -- who started makes no difference to an end that dooms the same
 ended_as_if : (m : Moment) (s : List ℕ) (n : ℕ) (res : ℤ)
@@ -190,26 +182,27 @@ follow_by named g calls m next there x f made idle s is fewer named_too = record
 -- who runs where fewer started runs
 idle_there : (r : Requests) (s : List ℕ) (n : ℕ) → (has_started r n ≡ true → IsAmong s n)
     → is_running (with_starts r s) n ≡ false → is_running r n ≡ false
-idle_there r s n fewer idle =
-    false_from_ne_true (is_running r n) (λ running.
-    (let q = and_parts (has_started r n) (not (has_ended r n)) running in
-    both_ways (is_running (with_starts r s) n) idle (and_from (has_started (with_starts r s) n) (not (has_ended r n)) (fewer q.0) q.1)))
+idle_there r s n fewer idle = grind arith
 
 run_same : (named : ℕ → Bool) (g : Setup) (calls : List (List Sqe)) (m : Moment) (f : IsFollowed named g calls m)
     → RunSame named f.there.requests f.starts
-run_same named g calls m f k names =
-    ap (λ b. b && not (has_ended f.there.requests k)) (elim (cases_Bool (has_started f.there.requests k)) [
-      | inl begun ↦ f.fewer k begun ∙ sym begun
-      | inr waits ↦ false_from_ne_true (list_any (λ j. j == k) f.starts) (λ also. both_ways (has_started f.there.requests k) waits (f.named_too k names also)) ∙ sym waits
-    ])
+run_same named g calls m f k names = grind (arith, f.fewer k, f.named_too k names)
 
 -- an end makes nothing run
 idle_ended : (r : Requests) (n : ℕ) (res : ℤ) (bytes chosen : List ℕ) (k : ℕ)
     → is_running r k ≡ false
     → is_running (with_ended (record r { cancelled = chosen }) n res bytes) k ≡ false
-idle_ended r n res bytes chosen k idle = false_from_ne_true _ (λ running.
-    let q = and_parts (has_started r k) _ running in
-    both_ways (is_running r k) idle (and_from (has_started r k) _ q.0 (ap not (or_parts (has_ended r k) (n == k) (sym (list_any_push (λ e. e.number == k) r.ended _) ∙ not-true _ q.1)).0)))
+idle_ended r n res bytes chosen k idle =
+    grind (arith, list_any_push (λ e. e.number == k) r.ended (record { number = n; res = res; bytes = bytes }))
+
+-- once n starts nobody but n runs that didn't before, and nobody at all once it has ended
+only_new : (r : Requests) (n k : ℕ) → is_running r k ≡ false → is_running (with_started r n) k ≡ true → n ≡ k
+only_new r n k idle running = grind (arith, list_any_push (λ j. j == k) r.started n)
+
+over_new : (r : Requests) (n : ℕ) (res : ℤ) (bytes : List ℕ) (k : ℕ) → is_running r k ≡ false
+    → is_running (with_ended (with_started r n) n res bytes) k ≡ false
+over_new r n res bytes k idle =
+    grind (arith, list_any_push (λ j. j == k) r.started n, list_any_push (λ x. x.number == k) r.ended (record { number = n; res = res; bytes = bytes }))
 
 -- Each move is followed.
 
@@ -234,10 +227,8 @@ accept_followed named g calls m next f calm e = by_left f.there.left refl e wher
 -- the request that starts is among those started, and so are the others that were
 more_begun : (xs ys : List ℕ) (n : ℕ) → ((k : ℕ) → IsAmong xs k → IsAmong ys k) → (k : ℕ)
     → IsAmong (xs ++ n ∷ []) k → IsAmong (ys ++ n ∷ []) k
-more_begun xs ys n all k there = elim (any_new (λ j. j == k) xs n there) [
-  | inl old ↦ any_kept (λ j. j == k) ys _ (all k old)
-  | inr new ↦ list_any_push (λ j. j == k) ys n ∙ or_second (list_any (λ j. j == k) ys) (n == k) new
-]
+more_begun xs ys n all k there =
+    grind (arith, all k, list_any_push (λ j. j == k) xs n, list_any_push (λ j. j == k) ys n)
 
 issue_followed : (named : ℕ → Bool) (g : Setup) (calls : List (List Sqe)) (m next : Moment) (n : ℕ) (f : IsFollowed named g calls m)
     → IsCalm named (as_if f.there f.starts) → is_issuable (as_if f.there f.starts).requests n ≡ true
@@ -258,11 +249,7 @@ issue_followed named g calls m next n f calm can is = by_doom (is_doomed rs n) r
   -- it can be issued there too
   can_there : is_issuable r n ≡ true
   can_there =
-      let p = and_parts (is_outstanding r n && not (is_running rs n)) (is_doomed rs n || is_ready rs n) can in
-      let o = and_parts (is_outstanding r n) (not (is_running rs n)) p.0 in
-      and_from (is_outstanding r n && not (is_running r n)) (is_doomed r n || is_ready r n)
-      (and_from (is_outstanding r n) (not (is_running r n)) o.0 (ap not (idle_there r f.starts n (f.fewer n) (not-true (is_running rs n) o.1))))
-      (sym (ap₂ (λ x y. x || y) (doomed_as_if r f.starts n) (ready_as_if r f.starts n)) ∙ p.1)
+      grind (arith, can, f.fewer n, doomed_as_if r f.starts n, ready_as_if r f.starts n)
 
   -- it ends at once
   ends : (res : ℤ) → issued t n ≡ ended_at_once t n res → next ≡ ended_at_once (as_if t f.starts) n res → IsFollowed named g calls next
@@ -276,19 +263,12 @@ issue_followed named g calls m next n f calm can is = by_doom (is_doomed rs n) r
   starts : is_doomed rs n ≡ false → is_cancel (entry_of rs n) ≡ false → next ≡ as_if t (f.starts ++ n ∷ []) → (names : Bool) → is_named named r n ≡ names → IsFollowed named g calls next
   starts spared other here true names =
       follow_by named g calls m next (started t n) (move.Issue n) f
-      (can_then (is_issuable r n) (issued t n) (started t n) can_there (if_not (is_doomed r n) _ _ (sym (doomed_as_if r f.starts n) ∙ spared) ∙ if_not (is_cancel (entry_of r n)) _ _ other))
-      (λ k quiet. false_from_ne_true (is_running (with_started r n) k) (λ running. runs k quiet (and_parts (has_started (with_started r n) k) (not (has_ended r k)) running)))
+      (can_then (is_issuable r n) (issued t n) (started t n) can_there (cond-false (is_doomed r n) _ _ (sym (doomed_as_if r f.starts n) ∙ spared) ∙ cond-false (is_cancel (entry_of r n)) _ _ other))
+      (λ k quiet. false_from_ne_true (is_running (with_started r n) k) (λ running. both_ways (is_named named r k) quiet (sym (ap (is_named named r) (only_new r n k (f.idle k quiet) running)) ∙ names)))
       (f.starts ++ n ∷ []) here (more_begun r.started f.starts n f.fewer)
       (λ k named_k begun. too k named_k (any_new (λ j. j == k) f.starts n begun)) where
-        runs : (k : ℕ) → is_named named r k ≡ false → (has_started (with_started r n) k ≡ true) × (not (has_ended r k) ≡ true) → ⊥
-        runs k quiet q = elim (any_new (λ j. j == k) r.started n q.0) [
-          | inl old ↦ both_ways (is_running r k) (f.idle k quiet) (and_from (has_started r k) (not (has_ended r k)) old q.1)
-          | inr new ↦ both_ways (is_named named r k) quiet (sym (ap (is_named named r) (eqb-true n k new)) ∙ names)
-        ]
-
         too : (k : ℕ) → is_named named r k ≡ true → IsAmong f.starts k ⊎ ((n == k) ≡ true) → has_started (with_started r n) k ≡ true
-        too k named_k (inl old) = any_kept (λ j. j == k) r.started _ (f.named_too k named_k old)
-        too k named_k (inr new) = list_any_push (λ j. j == k) r.started n ∙ or_second (has_started r k) (n == k) new
+        too k named_k some = grind (arith, f.named_too k named_k, list_any_push (λ j. j == k) r.started n)
   starts spared other here false quiet = record {
     moves = f.moves;
     there = f.there;
@@ -307,15 +287,15 @@ issue_followed named g calls m next n f calm can is = by_doom (is_doomed rs n) r
   by_cancel : (cancels : Bool) → is_cancel (entry_of rs n) ≡ cancels → is_doomed rs n ≡ false → IsFollowed named g calls next
   by_cancel true cancels spared =
       ends (cancel_result r n)
-      (if_not (is_doomed r n) _ _ (sym (doomed_as_if r f.starts n) ∙ spared) ∙ if_so (is_cancel (entry_of r n)) _ _ cancels)
-      (sym is ∙ if_not (is_doomed rs n) _ _ spared ∙ if_so (is_cancel (entry_of rs n)) _ _ cancels
+      (cond-false (is_doomed r n) _ _ (sym (doomed_as_if r f.starts n) ∙ spared) ∙ cond-true (is_cancel (entry_of r n)) _ _ cancels)
+      (sym is ∙ cond-false (is_doomed rs n) _ _ spared ∙ cond-true (is_cancel (entry_of rs n)) _ _ cancels
       ∙ ap (ended_at_once (as_if t f.starts) n) (result_as_if named r f.starts n (run_same named g calls m f) (calm.are_named n cancels)))
   by_cancel false other spared =
-      starts spared other (sym is ∙ if_not (is_doomed rs n) _ _ spared ∙ if_not (is_cancel (entry_of rs n)) _ _ other) (is_named named r n) refl
+      starts spared other (sym is ∙ cond-false (is_doomed rs n) _ _ spared ∙ cond-false (is_cancel (entry_of rs n)) _ _ other) (is_named named r n) refl
 
   by_doom : (doomed : Bool) → is_doomed rs n ≡ doomed → IsFollowed named g calls next
   by_doom true doomed =
-      ends (doomed_result r n) (if_so (is_doomed r n) _ _ (sym (doomed_as_if r f.starts n) ∙ doomed)) (sym is ∙ if_so (is_doomed rs n) _ _ doomed)
+      ends (doomed_result r n) (cond-true (is_doomed r n) _ _ (sym (doomed_as_if r f.starts n) ∙ doomed)) (sym is ∙ cond-true (is_doomed rs n) _ _ doomed)
   by_doom false spared = by_cancel (is_cancel (entry_of rs n)) refl spared
 
 finish_followed : (named : ℕ → Bool) (g : Setup) (calls : List (List Sqe)) (m next : Moment) (n : ℕ) (f : IsFollowed named g calls m)
@@ -337,22 +317,6 @@ finish_followed named g calls m next n f calm can is = by_name (is_named named r
   q : (has_started rs n ≡ true) × (not (has_ended r n) ≡ true)
   q = and_parts (has_started rs n) (not (has_ended r n)) p.1
 
-  only : (k : ℕ) → is_named named r k ≡ false → (has_started (started t n).requests k ≡ true) × (not (has_ended r k) ≡ true) → move.Finish n ≡ move.Finish k
-  only k quiet e = elim (any_new (λ j. j == k) r.started n e.0) [
-    | inl old ↦ absurd (both_ways (is_running r k) (f.idle k quiet) (and_from (has_started r k) (not (has_ended r k)) old e.1))
-    | inr new ↦ ap (λ j. move.Finish j) (eqb-true n k new)
-  ]
-
-  over : (k : ℕ) → is_named named r k ≡ false → has_started r k ≡ true → has_ended r k ≡ true
-  over k quiet old =
-      true_from_ne_false _ (λ going. both_ways (is_running r k) (f.idle k quiet) (and_from (has_started r k) (not (has_ended r k)) old (ap not going)))
-
-  still : (k : ℕ) → is_named named r k ≡ false → (has_started (started t n).requests k ≡ true) × (not (has_ended (finished (started t n) n).requests k) ≡ true) → ⊥
-  still k quiet e = elim (any_new (λ j. j == k) r.started n e.0) [
-    | inl old ↦ both_ways (has_ended (finished (started t n) n).requests k) (not-true _ e.1) (any_kept (λ x. x.number == k) r.ended _ (over k quiet old))
-    | inr new ↦ both_ways (has_ended (finished (started t n) n).requests k) (not-true _ e.1) (list_any_push (λ x. x.number == k) r.ended _ ∙ or_second (has_ended r k) (n == k) new)
-  ]
-
   by_name : (names : Bool) → is_named named r n ≡ names → IsFollowed named g calls next
   by_name true names =
       let o = result_of t.files (operation_of (entry_of r n)) in
@@ -365,17 +329,17 @@ finish_followed named g calls m next n f calm can is = by_name (is_named named r
       let spared : is_doomed r n ≡ false = sym (doomed_as_if r f.starts n) ∙ (calm.sound.manual.started_free n q.0).spared in
       let other : is_cancel (entry_of r n) ≡ false = calm.sound.no_cancel n q.0 in
       let ready : is_ready r n ≡ true = sym (ready_as_if r f.starts n) ∙ calm.ready n p.1 in
-      let starts : moved t (move.Issue n) ≡ Some t1 = can_then (is_issuable r n) (issued t n) t1 (issuable_so (is_outstanding r n) (is_running r n) (is_doomed r n) (is_ready r n) (and_from (nat_lt n (length r.accepted)) (not (has_ended r n)) p.0 q.1) (f.idle n quiet) (or_second (is_doomed r n) (is_ready r n) ready))
-      (if_not (is_doomed r n) _ _ spared ∙ if_not (is_cancel (entry_of r n)) _ _ other) in
-      let begun : has_started t1.requests n ≡ true = list_any_push (λ k. k == n) r.started n ∙ or_second (has_started r n) (n == n) (eq-eqb n n refl) in
+      let starts : moved t (move.Issue n) ≡ Some t1 = can_then (is_issuable r n) (issued t n) t1 (issuable_so (is_outstanding r n) (is_running r n) (is_doomed r n) (is_ready r n) (and_from (nat_lt n (length r.accepted)) (not (has_ended r n)) p.0 q.1) (f.idle n quiet) (or_right (is_doomed r n) (is_ready r n) ready))
+      (cond-false (is_doomed r n) _ _ spared ∙ cond-false (is_cancel (entry_of r n)) _ _ other) in
+      let begun : has_started t1.requests n ≡ true = list_any_push (λ k. k == n) r.started n ∙ or_right (has_started r n) (n == n) (eq-eqb n n refl) in
       let ends : moved t1 (move.Finish n) ≡ Some t2 = can_then (is_finishable t1.requests n) (finished t1 n) t2 (and_from (nat_lt n (length r.accepted)) (is_running t1.requests n) p.0 (and_from (has_started t1.requests n) (not (has_ended r n)) begun q.1)) refl in
       let there : after_moves (starting g calls) (f.moves ++ move.Issue n ∷ []) ≡ Some t1 = leads_more g calls f.moves t t1 (move.Issue n) f.leads starts in
       record {
         moves = (f.moves ++ move.Issue n ∷ []) ++ move.Finish n ∷ [];
         there = t2;
         leads = leads_more g calls (f.moves ++ move.Issue n ∷ []) t1 t2 (move.Finish n) there ends;
-        prompt = prompt_more named (f.moves ++ move.Issue n ∷ []) (starting g calls) t1 (move.Finish n) there (prompt_more named f.moves (starting g calls) t (move.Issue n) f.leads f.prompt (idle_prompt named t (move.Issue n) f.idle)) (λ k running quiet_k. only k quiet_k (and_parts (has_started t1.requests k) (not (has_ended t1.requests k)) running));
-        idle = λ k quiet_k. false_from_ne_true (is_running t2.requests k) (λ running. still k quiet_k (and_parts (has_started t1.requests k) (not (has_ended t2.requests k)) running));
+        prompt = prompt_more named (f.moves ++ move.Issue n ∷ []) (starting g calls) t1 (move.Finish n) there (prompt_more named f.moves (starting g calls) t (move.Issue n) f.leads f.prompt (idle_prompt named t (move.Issue n) f.idle)) (λ k running quiet_k. ap (λ j. move.Finish j) (only_new r n k (f.idle k quiet_k) running));
+        idle = λ k quiet_k. over_new r n _ _ k (f.idle k quiet_k);
         starts = f.starts;
         is = sym is;
         fewer = λ k now. elim (any_new (λ j. j == k) r.started n now) [
@@ -405,8 +369,7 @@ named_there P xs ys none before also n =
 ran_before : (r : Requests) (n : ℕ) (res : ℤ) (bytes chosen : List ℕ) (k : ℕ)
     → is_running (with_ended (record r { cancelled = chosen }) n res bytes) k ≡ true
     → is_running r k ≡ true
-ran_before r n res bytes chosen k running =
-    true_from_ne_false _ (λ idle. both_ways _ (idle_ended r n res bytes chosen k idle) running)
+ran_before r n res bytes chosen k running = grind (arith, idle_ended r n res bytes chosen k)
 
 ready_chosen : (r : Requests) (chosen : List ℕ) (k : ℕ) → is_ready (record r { cancelled = chosen }) k ≡ is_ready r k
 unfolding is_ready some_member is_joined
@@ -459,10 +422,10 @@ issue_calm named m next n calm can is = subst (IsCalm named) is (by_doom (is_doo
 
   by_cancel : (cancels : Bool) → is_cancel (entry_of m.requests n) ≡ cancels → is_doomed m.requests n ≡ false → IsCalm named (issued m n)
   by_cancel true cancels spared =
-      ends (cancel_result m.requests n) (if_not (is_doomed m.requests n) _ _ spared ∙ if_so (is_cancel (entry_of m.requests n)) _ _ cancels)
+      ends (cancel_result m.requests n) (cond-false (is_doomed m.requests n) _ _ spared ∙ cond-true (is_cancel (entry_of m.requests n)) _ _ cancels)
   by_cancel false other spared =
       let r : Requests = m.requests in
-      let begins : issued m n ≡ started m n = if_not (is_doomed r n) _ _ spared ∙ if_not (is_cancel (entry_of r n)) _ _ other in
+      let begins : issued m n ≡ started m n = cond-false (is_doomed r n) _ _ spared ∙ cond-false (is_cancel (entry_of r n)) _ _ other in
       let p = and_parts (is_outstanding r n && not (is_running r n)) (is_doomed r n || is_ready r n) can in
       let now : is_ready r n ≡ true = sym (ap (λ b. b || is_ready r n) spared) ∙ p.1 in
       subst (IsCalm named) (sym begins) (record {
@@ -473,7 +436,7 @@ issue_calm named m next n calm can is = subst (IsCalm named) is (by_doom (is_doo
       })
 
   by_doom : (doomed : Bool) → is_doomed m.requests n ≡ doomed → IsCalm named (issued m n)
-  by_doom true doomed = ends (doomed_result m.requests n) (if_so (is_doomed m.requests n) _ _ doomed)
+  by_doom true doomed = ends (doomed_result m.requests n) (cond-true (is_doomed m.requests n) _ _ doomed)
   by_doom false spared = by_cancel (is_cancel (entry_of m.requests n)) refl spared
 
 finish_calm : (named : ℕ → Bool) (m next : Moment) (n : ℕ) → IsCalm named m → is_finishable m.requests n ≡ true

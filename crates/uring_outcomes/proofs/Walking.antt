@@ -4,13 +4,12 @@ use Rattle.std.specs.Prelude.{IfOk, nat_eq}
 use Rattle.std.proofs.lemmas.List.Folds.{list_any-append}
 use Rattle.std.specs.declared.vec.Vec.{Vec}
 use Rattle.std.specs.declared.alloc.Global.{Global}
-use Rattle.std.proofs.lemmas.Bool.{and_parts, both_ways, lt-ltb, eq-eqb}
+use Rattle.std.proofs.lemmas.Bool.{and_parts, both_ways, lt-ltb, eq-eqb, or_left, or_right}
 use Rattle.std.proofs.lemmas.List.{take_more, map-append}
 use Rattle.std.proofs.lemmas.List.Elements.{All-push, All-more}
 use Rattle.uring_entry.specs.Setup.{Setup}
 use Rattle.uring_entry.specs.Layout.{Sqe, addr_of}
 use Rattle.uring_entry.proofs.RequestLemmas.{list_any_push}
-use Rattle.uring_moves.proofs.MovesLead.{or_first, or_second}
 use Rattle.uring_entry.specs.Preparation.{is_cancel}
 use Rattle.uring_entry.specs.Requests.{has_started, has_ended, is_outstanding, is_running, is_doomed, is_ready, is_issuable, outstanding_in}
 use Rattle.uring_dispatch.proofs.Counting.{count_below_some}
@@ -43,11 +42,11 @@ path_pushed old new v path is holds =
 
 pub among_kept : (names more : List ℕ) (u : ℕ) → among names u ≡ true → among (names ++ more) u ≡ true
 among_kept names more u there =
-    list_any-append (λ name. nat_eq name u) names more ∙ or_first (among names u) (among more u) there
+    list_any-append (λ name. nat_eq name u) names more ∙ or_left (among names u) (among more u) there
 
 pub among_pushed : (names : List ℕ) (u : ℕ) → among (names ++ u ∷ []) u ≡ true
 among_pushed names u =
-    list_any_push (λ name. nat_eq name u) names u ∙ or_second (among names u) (nat_eq u u) (eq-eqb u u refl)
+    list_any_push (λ name. nat_eq name u) names u ∙ or_right (among names u) (nat_eq u u) (eq-eqb u u refl)
 
 pub names_kept : (old new : List ℕ) (entries : List Sqe)
     → ((u : ℕ) → among old u ≡ true → among new u ≡ true)
