@@ -31,7 +31,7 @@ module _ {seat table : TableId} {v : View AppSide KernelSide} {held : List (ℕ 
   pub tail_allowed : (slots id : ℕ) (completion : Cqe)
       → Allows BothAgree slots id (v, (tail % size, completion) ∷ rest held) tail_index (λ _. (tail + 1) % 2 ^ 32) (λ _. StoresTail (step slots tail_index ((tail + 1) % 2 ^ 32) 0 none) (v, (tail % size, completion) ∷ rest held) ((tail + 1) % 2 ^ 32))
   tail_allowed slots id completion =
-      stores_tail slots id tail_index v ((tail % size, completion) ∷ rest held) ((tail + 1) % 2 ^ 32) completion (rest held) i.is_kernel (ap (λ (p : ℕ). (p, completion) ∷ rest held) blank_first.4) has_room (omega (arith, i.tail_word)) refl
+      stores_tail slots id v ((tail % size, completion) ∷ rest held) ((tail + 1) % 2 ^ 32) completion (rest held) i.is_kernel (ap (λ (p : ℕ). (p, completion) ∷ rest held) blank_first.4) has_room (omega (arith, i.tail_word))
 
   pub is_put : (completion : Cqe)
       → IsWriter seat table (record v { kernel = record v.kernel { put = v.kernel.put ++ completion ∷ [] } }) (rest held) size ((tail + 1) % 2 ^ 32) end
@@ -62,4 +62,4 @@ module _ {seat table : TableId} {v : View AppSide KernelSide} {held : List (ℕ 
   pub head_allowed : (slots id : ℕ) (held' : List (ℕ × Cqe)) → held' ≡ held
       → Allows BothAgree slots id (v, held') head_index (λ _. (head + 1) % 2 ^ 32) (λ _. StoresHead (step slots head_index ((head + 1) % 2 ^ 32) 0 none) (v, held') ((head + 1) % 2 ^ 32))
   head_allowed slots id held' same =
-      stores_head slots id head_index v held' ((head + 1) % 2 ^ 32) known_first.0 known_first.1 i.is_app known_first.2 (same ∙ i.holds) (omega (arith, i.head_word)) refl
+      stores_head slots id v held' ((head + 1) % 2 ^ 32) known_first.0 known_first.1 i.is_app known_first.2 (same ∙ i.holds) (omega (arith, i.head_word))

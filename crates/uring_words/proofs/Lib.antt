@@ -4,14 +4,12 @@ pub mod SlotSeats
 pub mod SlotActs
 pub mod Handing
 pub mod Turning
-mod AppSteps
-mod KernelSteps
-mod CompletionSteps
+mod RingLists
+pub mod FirstTable
+mod DroppedWords
 pub mod Plays
 pub mod CompletionPlays
 pub mod CompletionEnds
 pub mod CallLemmas
 pub mod Copying
-pub mod FirstTable
-pub mod CompletionFirst
 pub mod Tables

@@ -1,5 +1,5 @@
 use Rattle.std.proofs.Common.{[], arith, rules, refl}
-use Rattle.uring_words.proofs.CompletionFirst.{opens}
+use Rattle.uring_words.proofs.CompletionPlays.{opens}
 use Rattle.uring_words.proofs.FirstTable.{start_word}
 use Rattle.uring_words.proofs.SlotSeats.{splits}
 use Rattle.uring_words.proofs.completion.ends.new_ends.Goals as goal
