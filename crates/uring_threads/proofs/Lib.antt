@@ -2,8 +2,6 @@ pub mod TraceSteps
 pub mod ItemSteps
 pub mod CallSteps
 mod CallsMade
-mod BegunRows
-pub mod IssueSteps
 pub mod Tying
 pub mod Dealing
 mod Times
@@ -12,18 +10,13 @@ mod LeftAt
 pub mod Settling
 mod Collecting
 mod Draining
-mod SettledWork
 mod SettledWorkers
 pub mod Carrying
-mod FewResults
 pub mod Posting
 mod WorkerFiles
 pub mod Turning
-mod Issuing
-mod Delivering
-mod Granting
+pub mod Issuing
 mod FullLanes
-mod Closing
 pub mod SameEnds
 pub mod Recording
 mod Repeating

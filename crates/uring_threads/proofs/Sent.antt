@@ -44,12 +44,12 @@ jobs_stay r entries (n ∷ ns) within =
     let here : job_in r n ≡ job_in (with_call r entries) n = ap (λ e. record { number = n; op = operation_of e }) (sym (entry_stays r entries n (within n (or_left _ _ (eq-eqb n n refl))))) in
     ap (λ j. j ∷ map (job_in r) ns) here ∙ ap (λ js. job_in (with_call r entries) n ∷ js) (jobs_stay r entries ns (λ m there. within m (or_right _ _ there)))
 
--- an end as it is issued leaves the starts and the entries
-jobs_issued : (linux : Bool) (r : Requests) (n : ℕ) (res : ℤ) (jobs : List Job)
-    → jobs ≡ map (job_in r) r.started
-    → jobs ≡ map (job_in (with_issued_end linux r n res)) (with_issued_end linux r n res).started
-jobs_issued true r n res jobs same = same
-jobs_issued false r n res jobs same = same
+-- what holds of an end as it is issued by either rules
+by_either : (P : Requests → Type 0) (linux : Bool) (r : Requests) (n : ℕ) (res : ℤ)
+    → P (with_issued_end true r n res) → P (with_issued_end false r n res)
+    → P (with_issued_end linux r n res)
+by_either P true r n res there here = there
+by_either P false r n res there here = here
 
 jobs_then : (linux : Bool) (l : LinuxRequests) (q : Requests) (s : Step) (a : Answer) (jobs : List Job)
     → Move linux l s a q → IsSoundRequests l.requests
@@ -62,7 +62,7 @@ jobs_then linux l q s a jobs (accepts accepted missed head entries) i same =
 jobs_then linux l q s a jobs (starts n outstanding idle spared ready no_cancel) i same =
     ap (λ js. js ++ job_in l.requests n ∷ []) same ∙ sym (map-append (job_in l.requests) l.requests.started (n ∷ []))
 jobs_then linux l q s a jobs (ends_run n res bytes running) i same = same
-jobs_then linux l q s a jobs _ i same = jobs_issued linux l.requests _ _ jobs same
+jobs_then linux l q s a jobs _ i same = by_either (λ r. jobs ≡ map (job_in r) r.started) linux l.requests _ _ same same
 
 pub jobs_are_starts : (g : Setup) (h : History) → IsLawfulApart g h
     → jobs_in g h ≡ map (job_in (world g h).requests) (world g h).requests.started
@@ -96,12 +96,6 @@ silent_none w (step.Finish n) (answer.Ended res bytes) e = absurd cc
 silent_none w (step.Finish n) a e = refl
 silent_none w s a e = refl
 
--- an end as it is issued accepts nothing
-of_issued : (linux : Bool) (r : Requests) (n : ℕ) (res : ℤ) (done : List Done) → AreOf r.accepted done
-    → AreOf (with_issued_end linux r n res).accepted done
-of_issued true r n res done all = all
-of_issued false r n res done all = all
-
 done_then : (linux : Bool) (w : World) (q : Requests) (s : Step) (a : Answer) (done : List Done)
     → Move linux (requests_of w) s a q → IsSoundRequests w.requests → AreOf w.requests.accepted done
     → AreOf q.accepted (with_told done (done_by w (s, a)))
@@ -112,7 +106,7 @@ done_then linux w q s a done (accepts accepted missed head entries) i all =
 done_then linux w q s a done (starts n outstanding idle spared ready no_cancel) i all = all
 done_then linux w q s a done (ends_run n res bytes running) i all =
     of_snoc w.requests.accepted done _ all (i.started_accepted n (and_parts _ _ running).0) refl
-done_then linux w q s a done _ i all = of_issued linux w.requests _ _ done all
+done_then linux w q s a done _ i all = by_either (λ r. AreOf r.accepted done) linux w.requests _ _ all all
 
 pub done_is_of : (g : Setup) (h : History) → IsLawfulApart g h
     → AreOf (world g h).requests.accepted (done_in g h)
@@ -156,10 +150,9 @@ end_carries r m end done at fresh all n started ended =
 -- one that ended as it was issued
 carried_issued : (linux : Bool) (r : Requests) (m : ℕ) (res : ℤ) (done : List Done)
     → has_started r m ≡ false → Carried r done → Carried (with_issued_end linux r m res) done
-carried_issued true r m res done fresh all =
-    end_carries r m (record { number = m; res = res; bytes = no_bytes }) done refl fresh all
-carried_issued false r m res done fresh all =
-    end_carries r m (record { number = m; res = res; bytes = no_bytes }) done refl fresh all
+carried_issued linux r m res done fresh all =
+    let ends = end_carries r m (record { number = m; res = res; bytes = no_bytes }) done refl fresh all in
+    by_either (λ q. Carried q done) linux r m res ends ends
 
 carried_then : (g : Setup) (w : World) (q : Requests) (s : Step) (a : Answer) (done : List Done)
     → Move g.linux (requests_of w) s a q → CalledForApart g w s a → Carried w.requests done

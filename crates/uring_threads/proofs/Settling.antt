@@ -82,15 +82,13 @@ of_place accepted place k (d ∷ ds) all =
       by_test false rest = rest
 
 module _ (g : Setup) (workers : ℕ) (h : History) (k : ℕ) (lawful : IsLawfulApart g h) where
-  sent_jobs : AreJobsOf (world g h).requests.accepted (jobs_to g workers k h)
-  sent_jobs = subst (λ js. AreJobsOf (world g h).requests.accepted (jobs_at (place_of workers g.files) k js)) (sym (jobs_are_starts g h lawful)) (sent_are (place_of workers g.files) k (world g h).requests (world g h).requests.started)
-
   -- the operations of a worker are those whose results were taken in, and then more, whose results wait
   work_begins : (work : Work) → IsWork g workers h k work → Begins (done_by_worker g workers k h) work.done work.waiting
   work_begins work is =
+      let sent = sent_are (place_of workers g.files) k (world g h).requests (world g h).requests.started in
       begins (world g h).requests.accepted (done_by_worker g workers k h) work.done work.waiting
       (of_place (world g h).requests.accepted (place_of workers g.files) k (done_in g h) (done_is_of g h lawful))
-      (first_are (world g h).requests.accepted (jobs_of work.done) work.untaken (subst (AreJobsOf (world g h).requests.accepted) (sym is.jobs) sent_jobs))
+      (first_are (world g h).requests.accepted (jobs_of work.done) work.untaken (subst (AreJobsOf (world g h).requests.accepted) (sym (is.jobs ∙ ap (jobs_at (place_of workers g.files) k) (jobs_are_starts g h lawful))) sent))
       is.results
 
   -- the jobs that were sent are those whose results were taken in, those whose results wait, and those that the worker hasn't taken
