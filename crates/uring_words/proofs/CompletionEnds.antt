@@ -23,7 +23,7 @@ module _ {seat table : TableId} {v : View AppSide KernelSide} {held : List (ℕ 
   has_room = subst (λ (x : End). length x.knows.kernel.put < x.knows.kernel.end) (sym seen) room
 
   blank_first : (x : Cqe) × (xs : List Cqe) × (i.blank ≡ x ∷ xs) × (held ≡ (tail % size, x) ∷ held_from v.kernel.start v.kernel.size (length v.kernel.put + 1) xs) × (tail % size ≡ place_of v.kernel.start v.kernel.size (length v.kernel.put))
-  blank_first = first_held v.kernel.start size v.kernel.size (length v.kernel.put) tail held i.blank i.fits.sized i.fits.power i.tail_word i.holds (omega (arith, i.many, has_room))
+  blank_first = first_held v.kernel.start size v.kernel.size (length v.kernel.put) tail held i.blank i.fits.sized i.tail_word i.holds (omega (arith, i.many, has_room))
 
   pub blank_cell : (x : Cqe) × (held ≡ (tail % size, x) ∷ rest held)
   blank_cell = (blank_first.0, is_first _ _ _ blank_first.3)
@@ -54,7 +54,7 @@ module _ {seat table : TableId} {v : View AppSide KernelSide} {held : List (ℕ 
 module _ {seat table : TableId} {v : View AppSide KernelSide} {held : List (ℕ × Cqe)} {size tail head : ℕ}
     (i : IsReader seat table v held size tail head) (e : End) (seen : record { table = seat; knows = v } ≡ e) (some : 0 < length e.knows.app.known) where
   known_first : (x : Cqe) × (xs : List Cqe) × (v.app.known ≡ x ∷ xs) × (held ≡ (head % size, x) ∷ held_from v.app.start v.app.size (length v.app.got + 1) xs) × (head % size ≡ place_of v.app.start v.app.size (length v.app.got))
-  known_first = first_held v.app.start size v.app.size (length v.app.got) head held v.app.known i.fits.sized i.fits.power i.head_word i.holds (subst (λ (x : End). 0 < length x.knows.app.known) (sym seen) some)
+  known_first = first_held v.app.start size v.app.size (length v.app.got) head held v.app.known i.fits.sized i.head_word i.holds (subst (λ (x : End). 0 < length x.knows.app.known) (sym seen) some)
 
   pub known_cell : (x : Cqe) × (held ≡ (head % size, x) ∷ rest held)
   known_cell = (known_first.0, is_first _ _ _ known_first.3)

@@ -45,7 +45,7 @@ module _ {seat table : TableId} {v : View AppSide KernelSide} {held : List (ℕ 
 
   place : word % size ≡ place_of v.app.start v.app.size (length v.app.published + length (all_more front))
   place =
-      (at_place v.app.start size v.app.size (length v.app.published + length front) word i.fits.sized i.fits.power at).0
+      at_place v.app.start size v.app.size (length v.app.published + length front) word i.fits.sized at
       ∙ ap (λ (k : ℕ). place_of v.app.start v.app.size (length v.app.published + k)) (sym (more_length front))
 
   -- the place after the front is first
@@ -107,7 +107,7 @@ module _ (b : Holder) (size head k next : ℕ) (held : HoldsKnown b size head) (
     (is : m ≡ (b.0, part_done b.0.kernel.start b.0.kernel.size (length b.0.kernel.taken) k b.0.kernel.known (take k b.0.kernel.known)))
     (at : next ≡ word_of b.0.kernel.start (length b.0.kernel.taken + k)) (below : k < length b.0.kernel.known) where
   place_next : next % size ≡ place_of b.0.kernel.start b.0.kernel.size (length b.0.kernel.taken + k)
-  place_next = (at_place b.0.kernel.start size b.0.kernel.size (length b.0.kernel.taken + k) next held.sized held.power at).0
+  place_next = at_place b.0.kernel.start size b.0.kernel.size (length b.0.kernel.taken + k) next held.sized at
 
   -- the next one is first
   pub next_stands_first : (x : Position) × (m.1 ≡ (next % size, x) ∷ rest m.1)

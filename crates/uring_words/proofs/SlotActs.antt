@@ -206,20 +206,14 @@ module _ {S : Type 0} (start size : ℕ) (power : IsPowerOfTwo size) (fits : siz
 
 -- the first slot of a seat that holds some, in a ring of this size, at this index word
 pub first_held : {S : Type 0} (start size own count word : ℕ) (held : List (ℕ × S)) (xs : List S)
-    → own ≡ size → IsPowerOfTwo size → word ≡ word_of start count
-    → held ≡ held_from start own count xs → 0 < length xs
+    → own ≡ size → word ≡ word_of start count → held ≡ held_from start own count xs → 0 < length xs
     → (x : S) × (ys : List S) × (xs ≡ x ∷ ys)
     × (held ≡ (word % size, x) ∷ held_from start own (count + 1) ys)
     × (word % size ≡ place_of start own count)
-first_held start size own count word held [] is power at holds positive = absurd (omega arith)
-first_held start size own count word held (x ∷ ys) is power at holds positive =
-    let there = at_place start size own count word is power at in (
-      x,
-      ys,
-      refl,
-      holds ∙ ap (λ (p : ℕ). (p, x) ∷ held_from start own (count + 1) ys) (sym there.0),
-      there.0,
-    )
+first_held start size own count word held [] is at holds positive = absurd (omega arith)
+first_held start size own count word held (x ∷ ys) is at holds positive =
+    let there = at_place start size own count word is at in
+    (x, ys, refl, holds ∙ ap (λ (p : ℕ). (p, x) ∷ held_from start own (count + 1) ys) (sym there), there)
 
 -- a seat's first slot, as `slot_mut` asks for it
 pub is_first : {S : Type 0} (held others : List (ℕ × S)) (x : ℕ × S) → held ≡ x ∷ others
