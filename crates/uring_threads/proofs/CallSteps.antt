@@ -63,31 +63,25 @@ pub record TookNext (b : Kept) (g : Setup) (w : World) (count done : ℕ) (x : A
       ≡ place ∷ drop (taken w.submission + (done + 1)) w.submission.published
   pub world : now b ≡ in_call w (if ends_after g (Some place) then done + 1 else count) (done + 1)
 
-took_next : (a b : Kept) (w : World) (count done : ℕ) (x : Answer) → a.setup.stops ≡ false
-    → Stands (between_calls w).submission [] count → done < count → now a ≡ in_call w count done
-    → Grows a b (step.Take, x) → CalledForApart a.setup (now a) step.Take x
-    → TookNext b a.setup w count done x
-took_next a b w count done x goes s low at g called =
-    let l : Submission = w.submission in
-    let within : taken l + done < length l.published = omega (arith, s.waiting) in
-    let place : Place = get_or l.published (taken l + done) (record { word = 0; entry = None }) in
-    let is = slice_get-get_or l.published (taken l + done) (record { word = 0; entry = None }) within in
-    let one = position_taken a.setup goes (between_calls w) count count done x s (omega arith) low (subst (λ v. CalledForApart a.setup v step.Take x) at called) in
-    record {
-      place = place;
-      answer = one.0 ∙ ap place_answer is;
-      next = drop_more l.published (taken l + done) (record { word = 0; entry = None }) within ∙ ap (λ n. place ∷ drop n l.published) (omega arith);
-      world = grown a b step.Take x g ∙ ap (λ v. happens a.setup v step.Take x) at ∙ one.1 ∙ ap (λ p. in_call w (if ends_after a.setup p then done + 1 else count) (done + 1)) is;
-    }
-
 -- it took it of the positions that waited as the call opened
 pub took_of : (a k b : Kept) (w : World) (count done : ℕ) (x : Answer) → a.setup.stops ≡ false
     → k.setup ≡ a.setup → Stands w.submission [] count → now a ≡ in_call w count 0 → done < count
     → now k ≡ in_call (now a) count done → Grows k b (step.Take, x)
     → CalledForApart k.setup (now k) step.Take x → TookNext b a.setup (now a) count done x
-took_of a k b w count done x goes same s opened low at g called =
-    subst (λ (u : Setup). TookNext b u (now a) count done x) same
-    (took_next k b (now a) count done x (ap (λ (u : Setup). u.stops) same ∙ goes) (between_stands (now a) w count 0 opened s) low at g called)
+took_of a k b w count done x goes same waits opened low at g called =
+    let l : Submission = (now a).submission in
+    let s = between_stands (now a) w count 0 opened waits in
+    let none : Place = record { word = 0; entry = None } in
+    let within : taken l + done < length l.published = omega (arith, s.waiting) in
+    let place : Place = get_or l.published (taken l + done) none in
+    let is = slice_get-get_or l.published (taken l + done) none within in
+    let one = position_taken k.setup (ap (λ (u : Setup). u.stops) same ∙ goes) (between_calls (now a)) count count done x s (omega arith) low (subst (λ v. CalledForApart k.setup v step.Take x) at called) in
+    subst (λ (u : Setup). TookNext b u (now a) count done x) same (record {
+      place = place;
+      answer = one.0 ∙ ap place_answer is;
+      next = drop_more l.published (taken l + done) none within ∙ ap (λ n. place ∷ drop n l.published) (omega arith);
+      world = grown k b step.Take x g ∙ ap (λ v. happens k.setup v step.Take x) at ∙ one.1 ∙ ap (λ p. in_call (now a) (if ends_after k.setup p then done + 1 else count) (done + 1)) is;
+    })
 
 -- whether the call ends after it, as the code tests it
 pub ends_as : (b : Kept) (g s : Setup) (w : World) (count done : ℕ) (x : Answer) (ended is : Bool) → s ≡ g

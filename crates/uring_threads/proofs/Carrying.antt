@@ -1,8 +1,8 @@
--- What the lanes of the workers have carried, as the trace goes on.
-use Rattle.std.proofs.Common.{◌≡◌, ◌≢◌, ℕ, ◌<◌, ◌==◌, cond, List, [], ◌∷◌, ◌++◌, length, get_or, count_by, Option, Some, None, ℤ, refl, sym, subst, ap, ap₂, ◌∙◌, inl, inr, arith}
+-- What the lanes of the workers have carried, as the trace goes on; a lane for jobs that shows no room has carried as many as it holds, so as many requests were started.
+use Rattle.std.proofs.Common.{◌≡◌, ◌≢◌, ℕ, ◌<◌, ◌==◌, cond, List, [], ◌∷◌, ◌++◌, length, get_or, count_by, Option, Some, None, ℤ, refl, sym, subst, ap, ap₂, ◌∙◌, inl, inr, arith, ◌+◌, ◌≤◌}
 use Rattle.std.specs.List.{filter}
 use Rattle.std.proofs.lemmas.Bool.{cases_eq}
-use Rattle.std.proofs.lemmas.List.Sums.{sum_by-append}
+use Rattle.std.proofs.lemmas.List.Sums.{sum_by-append, length-filter, count_by-le-length}
 use Rattle.uring_entry.specs.Setup.{Setup}
 use Rattle.uring_entry.specs.Requests.{no_bytes}
 use Rattle.uring_entry.specs.declared.operation.Op.{Op}
@@ -19,19 +19,22 @@ use Rattle.uring_workers.specs.declared.job.Job.{Job}
 use Rattle.uring_workers.specs.declared.work_lanes.WorkLanes.{WorkLanes}
 use Rattle.uring_threads.specs.Collected.{Collects, OthersStay}
 use Rattle.std.proofs.Math.ListN.{set}
-use Rattle.std.proofs.lemmas.List.{length-set}
+use Rattle.std.proofs.lemmas.List.{length-set, length-append}
 use Rattle.uring_threads.specs.Dispatched.{HasCarried, HaveCarried, AreTakenIn}
-use Rattle.uring_workers.specs.WorkLanes.{IsSent, jobs_sent, results_received}
+use Rattle.uring_workers.specs.WorkLanes.{IsSent, jobs_sent, results_received, HoldJobs, SomeIsFull}
 use Rattle.uring_threads.specs.Issued.{IssuedAs}
 use Rattle.uring_threads.specs.Delivered.{OnlyPosts}
 use Rattle.uring_threads.proofs.Posting.{end_posts, accepted_issued}
 use Rattle.uring_threads.proofs.TraceSteps.{grown, grown_history, longer_history}
-use Rattle.uring_threads.specs.Kept.{Kept, now, Grows, history}
-use Rattle.uring_threads.specs.Tallies.{Tally, Appends, issues_request, takes_result}
+use Rattle.uring_threads.specs.Kept.{Kept, now, Grows, history, next_in}
+use Rattle.uring_threads.specs.Tallies.{Tally, Appends, issues_request, takes_result, starts_request}
 use Rattle.uring_workers.specs.Work.{place_of, results_of}
-use Rattle.uring_threads.specs.Dealt.{job_by, jobs_in, jobs_at, jobs_to, done_by_worker}
-use Rattle.uring_threads.proofs.LeftAt.{one_more_at, none_more_at}
+use Rattle.uring_threads.specs.Dealt.{job_by, jobs_in, jobs_at, jobs_to, done_by_worker, job_in}
+use Rattle.uring_threads.proofs.Sent.{one_more_at, none_more_at}
 use Rattle.uring_threads.proofs.SameLanes.{set_cases}
+use Rattle.std.specs.Prelude.{◌⊎◌, None, Result, Ok, Err, IfOk, Bool}
+use Rattle.uring_workers.proofs.LaneFacts.{lane_full}
+use Rattle.uring_threads.proofs.Times.{times, times_append, times_counts}
 
 -- Nothing is sent by events that issue no request, and nothing taken in by those that finish none.
 
@@ -170,3 +173,44 @@ carried_set a b n place old y d carried low p jobs taken = λ k e within.
     (set_cases (HasCarried b (length old)) old place y k e low
     (record { jobs = ap (λ q. jobs_sent (record y { jobs = q })) jobs ∙ (carried place d low).jobs ∙ sym (p.others.jobs place); results = taken })
     (λ other. others_carried a b (length old) place k (get_or old k e) p.others other (carried k e (omega (arith, within, long)))))
+
+-- a history counts what its events do
+times_history : (p : Event → Bool) (events : List Event)
+    → times p (history_of events) ≡ times p events
+times_history p [] = refl
+times_history p (e ∷ later) = omega (arith, ap (times p) (history_of_cons e later []), times_append p (history_of (e ∷ later)) [], times_append p (history_of later) (e ∷ []), times_history p later)
+
+-- each request that starts sends a job
+told_length : (w : World) (jobs : List Job) (e : Event)
+    → length (with_told jobs (job_by w e)) ≡ cond (starts_request e) 1 0 + length jobs
+told_length w jobs (step.Issue n, answer.Run) =
+    omega (arith, length-append jobs (job_in w.requests n ∷ []))
+told_length w jobs (s, a) = omega arith
+
+jobs_count : (g : Setup) (h : History) → length (jobs_in g h) ≡ times starts_request h
+jobs_count g [] = refl
+jobs_count g (e ∷ h) = omega (arith, told_length (world g h) (jobs_in g h) e, jobs_count g h)
+
+some_full : (k : Kept) (lanes : List WorkLanes) → HaveCarried k lanes → HoldJobs lanes
+    → SomeIsFull lanes → 64 ≤ count_by starts_request k.trace
+some_full k [] carried hold full = absurd (omega (arith, full.1))
+some_full k (d ∷ lanes) carried hold full =
+    let at : Job → Bool = λ j. place_of (length (d ∷ lanes)) k.setup.files j.op == full.0 in
+    omega (
+      arith,
+      lane_full (get_or (d ∷ lanes) full.0 d) (hold full.0 d full.1) (full.2 d),
+      ap length (carried full.0 d full.1).jobs,
+      length-filter at (jobs_in k.setup (history k)),
+      count_by-le-length at (jobs_in k.setup (history k)),
+      jobs_count k.setup (history k),
+      times_history starts_request k.trace,
+      times_counts starts_request k.trace,
+    )
+
+-- so as long as fewer requests were started, no lane keeps one from being issued
+pub next_is_none : {X E : Type 0} (r : Result X E) (k : Kept) (lanes : List WorkLanes)
+    → IfOk r (λ turn. (next_in k ≡ None) ⊎ SomeIsFull lanes) → HaveCarried k lanes
+    → HoldJobs lanes
+    → IfOk r (λ turn. count_by starts_request k.trace < 64 → next_in k ≡ None)
+next_is_none (Ok x) k lanes left carried hold = λ few. elim left [ inl none ↦ none | inr full ↦ absurd (omega (arith, few, some_full k lanes carried hold full)) ]
+next_is_none (Err e) k lanes left carried hold = tt

@@ -24,7 +24,7 @@ use Rattle.uring_threads.specs.Settled.{IsWork, IsTakenIn, finish_of}
 use Rattle.uring_workers.specs.Work.{place_of}
 use Rattle.uring_threads.specs.Dealt.{jobs_to, done_by_worker}
 use Rattle.uring_threads.specs.Tallies.{finishes_counted, results_taken_in, Tally, Appends, TakesFewResults, most_results}
-use Rattle.uring_threads.proofs.LeftAt.{one_more_at, none_more_at}
+use Rattle.uring_threads.proofs.Sent.{one_more_at, none_more_at}
 use Rattle.uring_threads.proofs.Posting.{end_posts}
 use Rattle.uring_threads.proofs.Recording.{records_one}
 use Rattle.uring_threads.proofs.Repeating.{repeats_none, repeats_then}

@@ -6,7 +6,6 @@ pub mod Tying
 pub mod Dealing
 mod Times
 mod Sent
-mod LeftAt
 pub mod Settling
 mod Collecting
 mod Draining
@@ -16,7 +15,6 @@ pub mod Posting
 mod WorkerFiles
 pub mod Turning
 pub mod Issuing
-mod FullLanes
 pub mod SameEnds
 pub mod Recording
 mod Repeating

@@ -22,8 +22,7 @@ use Rattle.uring_workers.specs.Work.{place_of_file, place_of, jobs_of, results_o
 use Rattle.uring_threads.specs.Dealt.{job_in, jobs_at, jobs_to, done_by_worker, IsDealtByFile}
 use Rattle.uring_threads.specs.Settled.{Work, IsWork, ResultsRun, NoneWaits, Settles, finish_of, with_taken_in, waiting_of}
 use Rattle.uring_threads.proofs.Dealing.{dealt_by_file, workers_join, files_by_worker, file_within}
-use Rattle.uring_threads.proofs.LeftAt.{op_at, left_own, left_runs, runs_left, one_more_at, none_more_at}
-use Rattle.uring_threads.proofs.Sent.{jobs_are_starts, AreOf, done_is_of}
+use Rattle.uring_threads.proofs.Sent.{op_at, left_own, left_runs, runs_left, one_more_at, none_more_at, jobs_are_starts, AreOf, done_is_of}
 use Rattle.uring_threads.proofs.Times.{times, times_append, times_some, times_any}
 
 -- The operations of a worker begin with those whose results were taken in.

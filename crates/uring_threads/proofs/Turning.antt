@@ -28,10 +28,9 @@ use Rattle.uring_threads.specs.Turns.{AreTies, Counts, IsDelivered, IsGivenUpAsS
 use Rattle.uring_threads.specs.declared.intake.Intake.{Intake}
 use Rattle.uring_threads.specs.declared.intake.Intake.TheVariants as intake
 use Rattle.uring_threads.specs.declared.turns.Turn.{Turn}
-use Rattle.uring_threads.proofs.Carrying.{quiet_stays, carried_stays}
+use Rattle.uring_threads.proofs.Carrying.{quiet_stays, carried_stays, next_is_none}
 use Rattle.uring_threads.proofs.Tying.{once_stays}
 use Rattle.uring_threads.proofs.Collecting.{on_err, few_between}
-use Rattle.uring_threads.proofs.FullLanes.{next_is_none}
 use Rattle.uring_threads.proofs.Recording.{records_none, turn_recorded}
 use Rattle.uring_threads.proofs.Repeating.{finishes_many, issues_many, repeats_idle, repeats_none}
 use Rattle.uring_threads.proofs.SameLanes.{hold_stays, lanes_none, lanes_then, short_stays}
