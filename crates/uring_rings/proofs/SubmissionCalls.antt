@@ -92,11 +92,7 @@ take_drops g l c word t bad =
 -- open calls of the same numbers are the same
 same_progress : (c d : OpenCall) → c.count ≡ d.count → c.taken ≡ d.taken → c.accepted ≡ d.accepted
     → c ≡ d
-same_progress c d to at of =
-    let counted : ℕ → OpenCall = λ n. record { count = n; taken = c.taken; accepted = c.accepted } in
-    let moved : ℕ → OpenCall = λ n. record { count = d.count; taken = n; accepted = c.accepted } in
-    let given_so_far : ℕ → OpenCall = λ n. record { count = d.count; taken = d.taken; accepted = n } in
-    ap counted to ∙ ap moved at ∙ ap given_so_far of
+same_progress c d to at of = λ i. record { count = to i; taken = at i; accepted = of i }
 
 -- the call goes on by one position
 take_shows : (g : Setup) (q : Sq) (l : Submission) (c : OpenCall) (word n : ℕ)
@@ -160,52 +156,41 @@ is_done g q l c s is_call through =
       ready = o.ready;
     }
 
--- the words dropped once the call is closed
-dropped_closed : (g : Setup) (q : Sq) (l : Submission) (c : OpenCall) → ShowsSubmission g q l
-    → (e : IsDone l c)
-    → (q.dropped + (c.count - c.accepted)) % 2 ^ 32 ≡ dropped (with_closed l e.call)
-dropped_closed g q l c s e =
-    let all : taken (with_closed l e.call) ≡ taken l + e.call.count = sum_by_push (λ (n : ℕ). n) l.calls e.call.count in
-    let split = entries_and_dropped (take e.call.count (drop (taken l) l.published)) in
-    let long : length (take e.call.count (drop (taken l) l.published)) ≡ e.call.count =
-    length-take-le e.call.count (drop (taken l) l.published) (simp length-drop e.ready) in
-    let beyond = dropped_beyond l.published (taken l) e.call.count in
-    let after : dropped (with_closed l e.call) ≡ dropped_in (take (taken l + e.call.count) l.published) % 2 ^ 32 =
-    ap (λ (n : ℕ). dropped_in (take n l.published) % 2 ^ 32) all in
-    omega (arith, s.dropped, e.count, e.accepted)
+-- Such a call is closed.
+module _ (g : Setup) (q : Sq) (l : Submission) (c : OpenCall) (head : ℕ) (s : ShowsSubmission g q l) (e : IsDone l c) (is_head : head ≡ (q.head + c.count) % 2 ^ 32) where
+  all_taken : taken (with_closed l e.call) ≡ taken l + e.call.count
+  all_taken = sum_by_push (λ (n : ℕ). n) l.calls e.call.count
 
--- the head once the call is closed
-head_closed : (g : Setup) (q : Sq) (l : Submission) (c : OpenCall) (head : ℕ)
-    → ShowsSubmission g q l → (e : IsDone l c)
-    → head ≡ (q.head + c.count) % 2 ^ 32 → head ≡ word_of g.start (taken (with_closed l e.call))
-head_closed g q l c head s e is_head =
-    let all : taken (with_closed l e.call) ≡ taken l + e.call.count = sum_by_push (λ (n : ℕ). n) l.calls e.call.count in
-    is_head
-    ∙ ap (λ (w : ℕ). (w + c.count) % 2 ^ 32) s.head
-    ∙ ap (λ (n : ℕ). (word_of g.start (taken l) + n) % 2 ^ 32) e.count
-    ∙ word_after g.start (taken l) e.call.count
-    ∙ ap (word_of g.start) (sym all)
+  dropped_closed : (q.dropped + (c.count - c.accepted)) % 2 ^ 32 ≡ dropped (with_closed l e.call)
+  dropped_closed =
+      let split = entries_and_dropped (take e.call.count (drop (taken l) l.published)) in
+      let long : length (take e.call.count (drop (taken l) l.published)) ≡ e.call.count =
+      length-take-le e.call.count (drop (taken l) l.published) (simp length-drop e.ready) in
+      let beyond = dropped_beyond l.published (taken l) e.call.count in
+      let after : dropped (with_closed l e.call) ≡ dropped_in (take (taken l + e.call.count) l.published) % 2 ^ 32 =
+      ap (λ (n : ℕ). dropped_in (take n l.published) % 2 ^ 32) all_taken in
+      omega (arith, s.dropped, e.count, e.accepted)
 
-pub end_answers : (g : Setup) (q : Sq) (l : Submission) (c : OpenCall) (head : ℕ)
-    → ShowsSubmission g q l → IsDone l c
-    → head ≡ (q.head + c.count) % 2 ^ 32
-    → Closed (record { accepted = c.accepted; dropped = (q.dropped + (c.count - c.accepted)) % 2 ^ 32; head = head })
-    ≡ end_answer g l
-end_answers g q l c head s e is_head =
-    let dropped_is = dropped_closed g q l c s e in
-    let head_is = head_closed g q l c head s e is_head in
-    let accepted_is = e.accepted in
-    sym (ap (end_of g l) e.is ∙ ap (λ (b : Bool). cond b (Closed (record { accepted = length (entries_of (places_from l e.call.count)); dropped = dropped (with_closed l e.call); head = word_of g.start (taken (with_closed l e.call)) })) NotAll) (eq-eqb e.call.taken e.call.count e.all) ∙ cc)
+  head_closed : head ≡ word_of g.start (taken (with_closed l e.call))
+  head_closed =
+      is_head
+      ∙ ap (λ (w : ℕ). (w + c.count) % 2 ^ 32) s.head
+      ∙ ap (λ (n : ℕ). (word_of g.start (taken l) + n) % 2 ^ 32) e.count
+      ∙ word_after g.start (taken l) e.call.count
+      ∙ ap (word_of g.start) (sym all_taken)
 
-pub end_shows : (g : Setup) (q : Sq) (l : Submission) (c : OpenCall) (head : ℕ)
-    → ShowsSubmission g q l → IsDone l c
-    → head ≡ (q.head + c.count) % 2 ^ 32
-    → ShowsSubmission g (record q { head = head; dropped = (q.dropped + (c.count - c.accepted)) % 2 ^ 32; call = None }) (closed_on l l.call)
-end_shows g q l c head s e is_head =
-    let all : taken (with_closed l e.call) ≡ taken l + e.call.count = sum_by_push (λ (n : ℕ). n) l.calls e.call.count in
-    subst (λ (o : Option Call). ShowsSubmission g (record q { head = head; dropped = (q.dropped + (c.count - c.accepted)) % 2 ^ 32; call = None }) (closed_on l o)) (sym e.is)
-    (let at_head = head_closed g q l c head s e is_head in
-    let dropped_is = dropped_closed g q l c s e in
-    let seen_first : l.seen_head ≤ taken (with_closed l e.call) = omega (arith, s.seen_first) in
-    let taken_first : taken (with_closed l e.call) ≤ length l.published = omega (arith, s.taken_first, e.ready) in
-    assumption)
+  pub end_answers : Closed (record { accepted = c.accepted; dropped = (q.dropped + (c.count - c.accepted)) % 2 ^ 32; head = head }) ≡ end_answer g l
+  end_answers =
+      let dropped_is = dropped_closed in
+      let head_is = head_closed in
+      let accepted_is = e.accepted in
+      sym (ap (end_of g l) e.is ∙ ap (λ (b : Bool). cond b (Closed (record { accepted = length (entries_of (places_from l e.call.count)); dropped = dropped (with_closed l e.call); head = word_of g.start (taken (with_closed l e.call)) })) NotAll) (eq-eqb e.call.taken e.call.count e.all) ∙ cc)
+
+  pub end_shows : ShowsSubmission g (record q { head = head; dropped = (q.dropped + (c.count - c.accepted)) % 2 ^ 32; call = None }) (closed_on l l.call)
+  end_shows =
+      subst (λ (o : Option Call). ShowsSubmission g (record q { head = head; dropped = (q.dropped + (c.count - c.accepted)) % 2 ^ 32; call = None }) (closed_on l o)) (sym e.is)
+      (let at_head = head_closed in
+      let dropped_is = dropped_closed in
+      let seen_first : l.seen_head ≤ taken (with_closed l e.call) = omega (arith, s.seen_first, all_taken) in
+      let taken_first : taken (with_closed l e.call) ≤ length l.published = omega (arith, s.taken_first, e.ready, all_taken) in
+      assumption)

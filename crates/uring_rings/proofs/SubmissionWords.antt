@@ -84,31 +84,6 @@ published_above g q l d s limit small leads =
     let near : length l.published < l.seen_head + 2 ^ 32 = omega (arith, s.few) in
     distance_of_words g.start (length l.published) l.seen_head d small ordered near (ap (λ (w : ℕ). (w + d) % 2 ^ 32) (sym s.seen_head) ∙ leads ∙ s.published)
 
--- a slot that a cell above the head last loaded names is busy
-pub busy_at : (g : Setup) (q : Sq) (l : Submission) (k slot : ℕ) → ShowsSubmission g q l
-    → l.seen_head + k < length l.published
-    → get_or q.array ((q.seen_head + k) % 2 ^ 32 % q.size) 0 ≡ slot → is_busy l slot ≡ true
-busy_at g q l k slot s within named =
-    let r = reads_place g q l l.seen_head q.seen_head k s s.seen_head (omega arith) within in
-    let short : k < length (drop l.seen_head l.published) = simp length-drop (omega arith) in
-    let here : get_or (drop l.seen_head l.published) k r.place ≡ r.place =
-    get_or-drop l.seen_head l.published k r.place ∙ get_or_from_slice_get l.published (l.seen_head + k) r.place r.place r.found in
-    let same : r.place.word ≡ slot = sym r.read ∙ named in
-    list_any_at (λ (p : Place). eqb p.word slot) (drop l.seen_head l.published) k r.place short (ap (λ (p : Place). eqb p.word slot) here ∙ eq-eqb r.place.word slot same)
-
--- a slot that no such cell names isn't
-pub not_busy : (g : Setup) (q : Sq) (l : Submission) (slot : ℕ) → ShowsSubmission g q l
-    → ((k : ℕ) → l.seen_head + k < length l.published → get_or q.array ((q.seen_head + k) % 2 ^ 32 % q.size) 0 ≡ slot → ⊥)
-    → is_busy l slot ≡ false
-not_busy g q l slot s unnamed =
-    list_any_none (λ (p : Place). eqb p.word slot) (drop l.seen_head l.published)
-    (λ k d short.
-    let within : l.seen_head + k < length l.published = let h = simp length-drop at short in omega arith in
-    let r = reads_place g q l l.seen_head q.seen_head k s s.seen_head (omega arith) within in
-    let here : get_or (drop l.seen_head l.published) k d ≡ r.place =
-    get_or-drop l.seen_head l.published k d ∙ get_or_from_slice_get l.published (l.seen_head + k) r.place d r.found in
-    ap (λ (p : Place). eqb p.word slot) here ∙ ne_eqb r.place.word slot (λ e. unnamed k within (r.read ∙ e)))
-
 -- a place above the head last loaded doesn't name a slot that isn't busy
 pub not_named : (l : Submission) (slot k : ℕ) (p : Place) → is_busy l slot ≡ false → l.seen_head ≤ k
     → slice_get l.published k ≡ Some p → p.word ≢ slot
@@ -130,21 +105,30 @@ pub size_limit : (g : Setup) (q : Sq) (l : Submission) → IsSq q.size q.table q
     → ShowsSubmission g q l → g.sq ≤ 4096
 size_limit g q l i s = omega (arith, i.limit, s.size)
 
--- the loop over the d positions above the head last loaded found one that names the slot
-pub loop_finds : (g : Setup) (q : Sq) (l : Submission) (d k slot : ℕ)
-    → IsSq q.size q.table q.array q.call → ShowsSubmission g q l
-    → d < 2 ^ 32 → (q.seen_head + d) % 2 ^ 32 ≡ q.published → k < d
-    → get_or q.array ((q.seen_head + k) % 2 ^ 32 % q.size) 0 ≡ slot → is_busy l slot ≡ true
-loop_finds g q l d k slot i s small leads below named =
-    let above = published_above g q l d s (size_limit g q l i s) small leads in
-    busy_at g q l k slot s (omega arith) named
+-- The loop over the d positions above the head last loaded.
+module _ (g : Setup) (q : Sq) (l : Submission) (d k slot : ℕ) (i : IsSq q.size q.table q.array q.call) (s : ShowsSubmission g q l) (small : d < 2 ^ 32) (leads : (q.seen_head + d) % 2 ^ 32 ≡ q.published) where
+  above : d ≡ length l.published - l.seen_head
+  above = published_above g q l d s (size_limit g q l i s) small leads
 
--- it found none
-pub loop_passes : (g : Setup) (q : Sq) (l : Submission) (d k slot : ℕ)
-    → IsSq q.size q.table q.array q.call
-    → ShowsSubmission g q l → d < 2 ^ 32 → (q.seen_head + d) % 2 ^ 32 ≡ q.published → d ≤ k
-    → ((j : ℕ) → j < k → get_or q.array ((q.seen_head + j) % 2 ^ 32 % q.size) 0 ≡ slot → ⊥)
-    → is_busy l slot ≡ false
-loop_passes g q l d k slot i s small leads all unnamed =
-    let above = published_above g q l d s (size_limit g q l i s) small leads in
-    not_busy g q l slot s (λ j within. unnamed j (omega arith))
+  -- it found one that names the slot
+  pub loop_finds : k < d → get_or q.array ((q.seen_head + k) % 2 ^ 32 % q.size) 0 ≡ slot → is_busy l slot ≡ true
+  loop_finds below named =
+      let within : l.seen_head + k < length l.published = omega (arith, above) in
+      let r = reads_place g q l l.seen_head q.seen_head k s s.seen_head (omega arith) within in
+      let short : k < length (drop l.seen_head l.published) = simp length-drop (omega arith) in
+      let here : get_or (drop l.seen_head l.published) k r.place ≡ r.place =
+      get_or-drop l.seen_head l.published k r.place ∙ get_or_from_slice_get l.published (l.seen_head + k) r.place r.place r.found in
+      list_any_at (λ (p : Place). eqb p.word slot) (drop l.seen_head l.published) k r.place short (ap (λ (p : Place). eqb p.word slot) here ∙ eq-eqb r.place.word slot (sym r.read ∙ named))
+
+  -- it found none
+  pub loop_passes : d ≤ k
+      → ((j : ℕ) → j < k → get_or q.array ((q.seen_head + j) % 2 ^ 32 % q.size) 0 ≡ slot → ⊥)
+      → is_busy l slot ≡ false
+  loop_passes all unnamed =
+      list_any_none (λ (p : Place). eqb p.word slot) (drop l.seen_head l.published)
+      (λ j e short.
+      let within : l.seen_head + j < length l.published = let h = simp length-drop at short in omega arith in
+      let r = reads_place g q l l.seen_head q.seen_head j s s.seen_head (omega arith) within in
+      let here : get_or (drop l.seen_head l.published) j e ≡ r.place =
+      get_or-drop l.seen_head l.published j e ∙ get_or_from_slice_get l.published (l.seen_head + j) r.place e r.found in
+      ap (λ (p : Place). eqb p.word slot) here ∙ ne_eqb r.place.word slot (λ e. unnamed j (omega (arith, above)) (r.read ∙ e)))

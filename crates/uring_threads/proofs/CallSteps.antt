@@ -20,34 +20,30 @@ use Rattle.uring_threads.specs.Tallies.{Appends, none_counted, calls_counted}
 use Rattle.uring_threads.specs.declared.calls.CallMade.TheVariants as made
 use Rattle.uring_threads.proofs.TraceSteps.{grown, appends_one, appends_then}
 
--- a Begin is answered in one of three ways
-pub begun_cases : (a : Kept) (count : ℕ) (x : Answer) → Stands (now a).submission [] count
-    → (now a).is_closed ≡ false → CalledForApart a.setup (now a) (step.Begin count) x
-    → ((n : ℕ) → x ≡ answer.Call n → ⊥) → (x ≡ answer.Again → ⊥) → (x ≡ answer.Spent → ⊥) → ⊥
-begun_cases a count x s not_closed called not_call not_again not_spent =
-    elim (call_opens a.setup (now a) count count x s not_closed (omega arith) called).0 [
-      | inl (inl same) ↦ not_call count same
-      | inl (inr again) ↦ not_again again.0
-      | inr spent ↦ not_spent spent.0
-    ]
+-- The Begin of a call of all positions that wait, in a ring that isn't closed.
+module _ (a : Kept) (count : ℕ) (x : Answer) (s : Stands (now a).submission [] count) (not_closed : (now a).is_closed ≡ false) (called : CalledForApart a.setup (now a) (step.Begin count) x) where
+  -- it is answered in one of three ways
+  pub begun_cases : ((n : ℕ) → x ≡ answer.Call n → ⊥) → (x ≡ answer.Again → ⊥) → (x ≡ answer.Spent → ⊥) → ⊥
+  begun_cases not_call not_again not_spent =
+      elim (call_opens a.setup (now a) count count x s not_closed (omega arith) called).0 [
+        | inl (inl same) ↦ not_call count same
+        | inl (inr again) ↦ not_again again.0
+        | inr spent ↦ not_spent spent.0
+      ]
 
--- and with Spent only if the numbers are spent
-pub begun_spent : (a : Kept) (count : ℕ) (x : Answer) → Stands (now a).submission [] count
-    → (now a).is_closed ≡ false → CalledForApart a.setup (now a) (step.Begin count) x
-    → x ≡ answer.Spent → is_spent (now a) count ≡ true
-begun_spent a count x s not_closed called is =
-    elim (call_opens a.setup (now a) count count x s not_closed (omega arith) called).0 [
-      | inl (inl same) ↦ absurd (let clash : answer.Call count ≡ answer.Spent = sym same ∙ is in cc)
-      | inl (inr again) ↦ absurd (let clash : answer.Again ≡ answer.Spent = sym again.0 ∙ is in cc)
-      | inr spent ↦ spent.1
-    ]
+  -- and with Spent only if the numbers are spent
+  pub begun_spent : x ≡ answer.Spent → is_spent (now a) count ≡ true
+  begun_spent is =
+      elim (call_opens a.setup (now a) count count x s not_closed (omega arith) called).0 [
+        | inl (inl same) ↦ absurd (let clash : answer.Call count ≡ answer.Spent = sym same ∙ is in cc)
+        | inl (inr again) ↦ absurd (let clash : answer.Again ≡ answer.Spent = sym again.0 ∙ is in cc)
+        | inr spent ↦ spent.1
+      ]
 
--- the call opened
-pub opened_now : (a b : Kept) (count n : ℕ) (x : Answer) → Stands (now a).submission [] count
-    → (now a).is_closed ≡ false → x ≡ answer.Call n → Grows a b (step.Begin count, x)
-    → CalledForApart a.setup (now a) (step.Begin count) x → now b ≡ in_call (now a) count 0
-opened_now a b count n x s not_closed is g called =
-    grown a b (step.Begin count) x g ∙ ap (beginning (now a) count) is ∙ (call_opens a.setup (now a) count count x s not_closed (omega arith) called).1
+  -- the call opened
+  pub opened_now : (b : Kept) (n : ℕ) → x ≡ answer.Call n → Grows a b (step.Begin count, x) → now b ≡ in_call (now a) count 0
+  opened_now b n is g =
+      grown a b (step.Begin count) x g ∙ ap (beginning (now a) count) is ∙ (call_opens a.setup (now a) count count x s not_closed (omega arith) called).1
 
 -- the world apart from the call that is open
 abbrev pub between_calls : World → World
@@ -67,31 +63,25 @@ pub record TookNext (b : Kept) (g : Setup) (w : World) (count done : ℕ) (x : A
       ≡ place ∷ drop (taken w.submission + (done + 1)) w.submission.published
   pub world : now b ≡ in_call w (if ends_after g (Some place) then done + 1 else count) (done + 1)
 
-took_next : (a b : Kept) (w : World) (count done : ℕ) (x : Answer) → a.setup.stops ≡ false
-    → Stands (between_calls w).submission [] count → done < count → now a ≡ in_call w count done
-    → Grows a b (step.Take, x) → CalledForApart a.setup (now a) step.Take x
-    → TookNext b a.setup w count done x
-took_next a b w count done x goes s low at g called =
-    let l : Submission = w.submission in
-    let within : taken l + done < length l.published = omega (arith, s.waiting) in
-    let place : Place = get_or l.published (taken l + done) (record { word = 0; entry = None }) in
-    let is = slice_get-get_or l.published (taken l + done) (record { word = 0; entry = None }) within in
-    let one = position_taken a.setup goes (between_calls w) count count done x s (omega arith) low (subst (λ v. CalledForApart a.setup v step.Take x) at called) in
-    record {
-      place = place;
-      answer = one.0 ∙ ap place_answer is;
-      next = drop_more l.published (taken l + done) (record { word = 0; entry = None }) within ∙ ap (λ n. place ∷ drop n l.published) (omega arith);
-      world = grown a b step.Take x g ∙ ap (λ v. happens a.setup v step.Take x) at ∙ one.1 ∙ ap (λ p. in_call w (if ends_after a.setup p then done + 1 else count) (done + 1)) is;
-    }
-
 -- it took it of the positions that waited as the call opened
 pub took_of : (a k b : Kept) (w : World) (count done : ℕ) (x : Answer) → a.setup.stops ≡ false
     → k.setup ≡ a.setup → Stands w.submission [] count → now a ≡ in_call w count 0 → done < count
     → now k ≡ in_call (now a) count done → Grows k b (step.Take, x)
     → CalledForApart k.setup (now k) step.Take x → TookNext b a.setup (now a) count done x
-took_of a k b w count done x goes same s opened low at g called =
-    subst (λ (u : Setup). TookNext b u (now a) count done x) same
-    (took_next k b (now a) count done x (ap (λ (u : Setup). u.stops) same ∙ goes) (between_stands (now a) w count 0 opened s) low at g called)
+took_of a k b w count done x goes same waits opened low at g called =
+    let l : Submission = (now a).submission in
+    let s = between_stands (now a) w count 0 opened waits in
+    let none : Place = record { word = 0; entry = None } in
+    let within : taken l + done < length l.published = omega (arith, s.waiting) in
+    let place : Place = get_or l.published (taken l + done) none in
+    let is = slice_get-get_or l.published (taken l + done) none within in
+    let one = position_taken k.setup (ap (λ (u : Setup). u.stops) same ∙ goes) (between_calls (now a)) count count done x s (omega arith) low (subst (λ v. CalledForApart k.setup v step.Take x) at called) in
+    subst (λ (u : Setup). TookNext b u (now a) count done x) same (record {
+      place = place;
+      answer = one.0 ∙ ap place_answer is;
+      next = drop_more l.published (taken l + done) none within ∙ ap (λ n. place ∷ drop n l.published) (omega arith);
+      world = grown k b step.Take x g ∙ ap (λ v. happens k.setup v step.Take x) at ∙ one.1 ∙ ap (λ p. in_call (now a) (if ends_after k.setup p then done + 1 else count) (done + 1)) is;
+    })
 
 -- whether the call ends after it, as the code tests it
 pub ends_as : (b : Kept) (g s : Setup) (w : World) (count done : ℕ) (x : Answer) (ended is : Bool) → s ≡ g
@@ -100,29 +90,20 @@ pub ends_as : (b : Kept) (g s : Setup) (w : World) (count done : ℕ) (x : Answe
 ends_as b g s w count done x ended is same tests e t =
     ap (λ u. ends_after u (Some t.place)) (sym same) ∙ sym (tests t.place t.answer) ∙ e
 
--- what is left of a list of places, seen from one place of it
-ends_next : (g : Setup) (before after : List Place) (place : Place) (done : ℕ) (ends : Bool) (calls : List ℕ)
-    → before ≡ place ∷ after → ends_after g (Some place) ≡ ends
-    → calls_after (ends_of g before) done ≡ calls → calls_after (ends ∷ ends_of g after) done ≡ calls
-ends_next g before after place done ends calls is e at = ap (λ b. calls_after (b ∷ ends_of g after) done) (sym e) ∙ ap (λ xs. calls_after (ends_of g xs) done) (sym is) ∙ at
+-- What is left of a list of places, seen from one place of it.
+module _ (g : Setup) (before after : List Place) (place : Place) (done : ℕ) (calls : List ℕ) (is : before ≡ place ∷ after) (at : calls_after (ends_of g before) done ≡ calls) where
+  ends_next : (ends : Bool) → ends_after g (Some place) ≡ ends → calls_after (ends ∷ ends_of g after) done ≡ calls
+  ends_next ends e = ap (λ b. calls_after (b ∷ ends_of g after) done) (sym e) ∙ ap (λ xs. calls_after (ends_of g xs) done) (sym is) ∙ at
 
--- the call ends after it
-pub ended_there : (g : Setup) (before after : List Place) (place : Place) (done : ℕ) (calls : List ℕ)
-    → before ≡ place ∷ after → ends_after g (Some place) ≡ true
-    → calls_after (ends_of g before) done ≡ calls
-    → calls ≡ (done + 1) ∷ calls_after (ends_of g after) 0
-unfolding calls_after
-ended_there g before after place done calls is e at =
-    sym (ends_next g before after place done true calls is e at) ∙ ap (λ n. n ∷ calls_after (ends_of g after) 0) (omega arith)
+  -- the call ends after it
+  pub ended_there : ends_after g (Some place) ≡ true → calls ≡ (done + 1) ∷ calls_after (ends_of g after) 0
+  unfolding calls_after
+  ended_there e = sym (ends_next true e) ∙ ap (λ n. n ∷ calls_after (ends_of g after) 0) (omega arith)
 
--- or goes on
-pub gone_on : (g : Setup) (before after : List Place) (place : Place) (done : ℕ) (calls : List ℕ)
-    → before ≡ place ∷ after → ends_after g (Some place) ≡ false
-    → calls_after (ends_of g before) done ≡ calls
-    → calls_after (ends_of g after) (done + 1) ≡ calls
-unfolding calls_after
-gone_on g before after place done calls is e at =
-    ap (calls_after (ends_of g after)) (omega arith) ∙ ends_next g before after place done false calls is e at
+  -- or goes on
+  pub gone_on : ends_after g (Some place) ≡ false → calls_after (ends_of g after) (done + 1) ≡ calls
+  unfolding calls_after
+  gone_on e = ap (calls_after (ends_of g after)) (omega arith) ∙ ends_next false e
 
 -- or took all
 pub all_taken : (g : Setup) (left : List Place) (count : ℕ) (calls : List ℕ) → 0 < count → left ≡ []
@@ -148,25 +129,18 @@ closed_now a t e b count n y z s few at end called load same =
     ∙ (call_closes t.setup (now a) count n (count - n) y z s (omega arith) (subst (λ w. CalledForApart t.setup w step.End y) at called)).0
     ∙ ap (λ (g : Setup). after_call g (now a) n) same
 
--- which was the first of the calls that were left
-pub first_made : (g : Setup) (w v : World) (count n : ℕ) → Stands w.submission [] count → 0 < n → n ≤ count
-    → calls_left g w.submission
-    ≡ n ∷ calls_after (ends_of g (drop (taken w.submission + n) w.submission.published)) 0
-    → v ≡ after_call g w n → IsFirst g w.submission v.submission count (made.Taken n)
-first_made g w v count n s some few first is =
-    let l : Submission = w.submission in
-    let more : taken (after_call g w n).submission ≡ taken l + n = sum_by_push (λ x. x) l.calls n in
-    subst (λ (u : World). IsFirst g w.submission u.submission count (made.Taken n)) (sym is)
-    (some, few, first ∙ ap (λ k. n ∷ calls_after (ends_of g (drop k l.published)) 0) (sym more), record { fresh = s.fresh; call = refl; head = refl; waiting = omega (arith, s.waiting, more) })
-
--- as it was said of the world in which it had opened
+-- which was the first of the calls that were left, as it was said of the world in which it had opened
 pub opened_first : (g : Setup) (w o v : World) (count n : ℕ) → o ≡ in_call w count 0
     → Stands w.submission [] count → 0 < n → n ≤ count
     → calls_left g o.submission
     ≡ n ∷ calls_after (ends_of g (drop (taken o.submission + n) o.submission.published)) 0
     → v ≡ after_call g w n → IsFirst g w.submission v.submission count (made.Taken n)
 opened_first g w o v count n at s some few first is =
-    first_made g w v count n s some few (subst (λ (u : World). calls_left g u.submission ≡ n ∷ calls_after (ends_of g (drop (taken u.submission + n) u.submission.published)) 0) at first) is
+    let l : Submission = w.submission in
+    let more : taken (after_call g w n).submission ≡ taken l + n = sum_by_push (λ x. x) l.calls n in
+    let left = subst (λ (u : World). calls_left g u.submission ≡ n ∷ calls_after (ends_of g (drop (taken u.submission + n) u.submission.published)) 0) at first in
+    subst (λ (u : World). IsFirst g w.submission u.submission count (made.Taken n)) (sym is)
+    (some, few, left ∙ ap (λ k. n ∷ calls_after (ends_of g (drop k l.published)) 0) (sym more), record { fresh = s.fresh; call = refl; head = refl; waiting = omega (arith, s.waiting, more) })
 
 -- what a call that opened appends
 pub call_counts : (a o t e b : Kept) (count : ℕ) (x y z : Answer) → Grows a o (step.Begin count, x)

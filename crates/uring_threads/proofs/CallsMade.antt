@@ -1,5 +1,5 @@
--- What calls that are made one after the other leave: which are left, how the ring stands, and what they append.
-use Rattle.std.proofs.Common.{◌≡◌, ℕ, zero, suc, ◌+◌, ◌-◌, ◌≤◌, Bool, true, false, not, ◌&&◌, List, [], ◌∷◌, ◌++◌, length, map, drop, sum, Some, None, is_some, if◌then◌else◌, nat_lt, nat_le, refl, sym, subst, ap, ap₂, ◌∙◌, inl, inr, arith, append_assoc, append-nil, length-drop}
+-- What calls that are made one after the other leave: which are left, how the ring stands, what they append, and which rows of steps they are.
+use Rattle.std.proofs.Common.{◌≡◌, ℕ, zero, suc, ◌+◌, ◌-◌, ◌≤◌, Bool, true, false, not, ◌&&◌, List, [], ◌∷◌, ◌++◌, length, map, drop, sum, Some, None, is_some, if◌then◌else◌, nat_lt, nat_le, refl, sym, subst, ap, ap₂, ◌∙◌, inl, inr, arith, append_assoc, append-nil, length-drop, ◌<◌}
 use Rattle.std.proofs.Math.ListN.{drop_of_length-le}
 use Rattle.std.proofs.Math.Seq.{drop-append_seam}
 use Rattle.std.proofs.lemmas.Bool.{cases_Bool, lt-ltb, lt-leb, le-leb, ltb-true, ltb-false}
@@ -15,12 +15,20 @@ use Rattle.uring_laws.proofs.Standing.{words_of, items_fresh, items_keep}
 use Rattle.uring_ports.specs.Items.{all_published_as}
 use Rattle.uring_ports.specs.declared.item.Item.{Item}
 use Rattle.uring_ports.specs.declared.item.Item.TheVariants as item
-use Rattle.uring_threads.specs.Calls.{calls_after, calls_of, calls_left, ends_after_item, ends_of, after_calls}
-use Rattle.uring_threads.specs.Kept.{Kept, now}
-use Rattle.uring_threads.specs.Taking.{HaveMade, IsFirst}
+use Rattle.uring_threads.specs.Calls.{calls_after, calls_of, calls_left, ends_after_item, ends_of, after_calls, AreBegun, calls_row, refused_row}
+use Rattle.uring_threads.specs.Kept.{Kept, now, IsUnmoved}
+use Rattle.uring_threads.specs.Taking.{HaveMade, IsFirst, HasBegun}
 use Rattle.uring_threads.specs.Tallies.{calls_counted, Appends}
 use Rattle.uring_threads.specs.declared.calls.CallMade.TheVariants as made
-use Rattle.uring_threads.proofs.TraceSteps.{appends_none, appends_then}
+use Rattle.uring_threads.proofs.TraceSteps.{appends_none, appends_then, still, unmoved_now}
+use Rattle.uring_core.specs.StepAnswers.{is_spent}
+use Rattle.uring_core.specs.declared.step.Step.{Step}
+use Rattle.uring_core.specs.declared.step.Step.TheVariants as step
+use Rattle.uring_threads.specs.EventRows.{Records, AreTaken, call_row, items_row, steps_of}
+use Rattle.uring_threads.specs.Rows.{with_items_published}
+use Rattle.uring_threads.specs.declared.calls.Begun.{Begun}
+use Rattle.uring_threads.specs.declared.calls.Begun.TheVariants as begun
+use Rattle.uring_threads.proofs.Recording.{call_more, call_refused, records_none, records_then}
 
 -- Lengths of calls.
 
@@ -116,39 +124,127 @@ none_made k count s = record {
   calls = refl;
   stands = s;
   begun = 0;
-  appends = appends_none k k (record { trace = refl; room = omega arith; setup = refl });
+  appends = appends_none k k (still k);
   idle = λ none. refl;
 }
 
--- which is the next of those that were left
-pub next_left : (a b c : Kept) (done : List ℕ) (rest n : ℕ) → HaveMade a b done rest
-    → IsFirst b.setup (now b).submission (now c).submission rest (made.Taken n)
-    → calls_left a.setup (now b).submission ≡ n ∷ calls_left a.setup (now c).submission
-next_left a b c done rest n h first = subst (λ (g : Setup). calls_left g (now b).submission ≡ n ∷ calls_left g (now c).submission) h.appends.setup first.2
+-- One call more.
+module _ (a b c : Kept) (done : List ℕ) (rest : ℕ) (h : HaveMade a b done rest) where
+  -- it is the next of those that were left
+  next_left : (n : ℕ) → IsFirst b.setup (now b).submission (now c).submission rest (made.Taken n)
+      → calls_left a.setup (now b).submission ≡ n ∷ calls_left a.setup (now c).submission
+  next_left n first = subst (λ (g : Setup). calls_left g (now b).submission ≡ n ∷ calls_left g (now c).submission) h.appends.setup first.2
 
-pub one_made : (a b c : Kept) (done : List ℕ) (rest n : ℕ) → HaveMade a b done rest
-    → now c ≡ after_call b.setup (now b) n
-    → IsFirst b.setup (now b).submission (now c).submission rest (made.Taken n)
-    → Appends b c (calls_counted 1) → HaveMade a c (done ++ n ∷ []) (rest - n)
-one_made a b c done rest n h e first p =
-    let same : b.setup ≡ a.setup = h.appends.setup in
-    record {
-      world = e ∙ ap₂ (λ (g : Setup) w. after_call g w n) same h.world ∙ sym (after_snoc a.setup (now a) done n);
-      calls = append_assoc done (n ∷ []) (calls_left a.setup (now c).submission) ∙ ap (λ ns. done ++ ns) (sym (next_left a b c done rest n h first)) ∙ h.calls;
-      stands = first.3;
-      begun = h.begun + 1;
-      appends = appends_then a b c (calls_counted h.begun) (calls_counted 1) (calls_counted (h.begun + 1)) h.appends p refl;
-      idle = λ none. absurd (omega (arith, none));
+  pub one_made : (n : ℕ) → now c ≡ after_call b.setup (now b) n
+      → IsFirst b.setup (now b).submission (now c).submission rest (made.Taken n)
+      → Appends b c (calls_counted 1) → HaveMade a c (done ++ n ∷ []) (rest - n)
+  one_made n e first p =
+      record {
+        world = e ∙ ap₂ (λ (g : Setup) w. after_call g w n) h.appends.setup h.world ∙ sym (after_snoc a.setup (now a) done n);
+        calls = append_assoc done (n ∷ []) (calls_left a.setup (now c).submission) ∙ ap (λ ns. done ++ ns) (sym (next_left n first)) ∙ h.calls;
+        stands = first.3;
+        begun = h.begun + 1;
+        appends = appends_then a b c (calls_counted h.begun) (calls_counted 1) (calls_counted (h.begun + 1)) h.appends p refl;
+        idle = λ none. absurd (omega (arith, none));
+      }
+
+  -- or the next doesn't open
+  one_refused : now c ≡ now b → Appends b c (calls_counted 1) → HaveMade a c done rest
+  one_refused e p =
+      record {
+        world = e ∙ h.world;
+        calls = ap (λ (w : World). done ++ calls_left a.setup w.submission) e ∙ h.calls;
+        stands = subst (λ (w : World). Stands w.submission [] rest) (sym e) h.stands;
+        begun = h.begun + 1;
+        appends = appends_then a b c (calls_counted h.begun) (calls_counted 1) (calls_counted (h.begun + 1)) h.appends p refl;
+        idle = λ none. absurd (omega (arith, none));
+      }
+
+-- The rows of calls that were begun.
+
+-- no call was made yet
+pub none_recorded : (k : Kept) (left : List ℕ) → Records k k (calls_row [] left)
+unfolding calls_row
+none_recorded k left = records_none k k (still k)
+
+module _ (a b c : Kept) (done : List ℕ) (rest : ℕ) (h : HaveMade a b done rest) (p : Records a b (calls_row done (calls_left a.setup (now b).submission))) where
+  -- one more was
+  pub next_recorded : (n : ℕ) → IsFirst b.setup (now b).submission (now c).submission rest (made.Taken n)
+      → Records b c (call_row rest (made.Taken n))
+      → Records a c (calls_row (done ++ n ∷ []) (calls_left a.setup (now c).submission))
+  next_recorded n first q =
+      call_more a b c done n (calls_left a.setup (now c).submission) (calls_left a.setup (now b).submission) rest p (next_left a b c done rest h n first) (sum_left a.setup (now b).submission rest h.stands) q
+
+  -- or the next didn't open
+  module _ (some : 0 < rest) (e : now c ≡ now b) (t : Appends b c (calls_counted 1)) (q : Records b c (step.Begin rest ∷ [])) where
+    refused_recorded : Records a c (calls_row done (calls_left a.setup (now c).submission) ++ refused_row (calls_left a.setup (now c).submission))
+    refused_recorded =
+        subst (λ (w : World). Records a c (calls_row done (calls_left a.setup w.submission) ++ refused_row (calls_left a.setup w.submission))) (sym e)
+        (call_refused a b c done (calls_left a.setup (now b).submission) rest some (sum_left a.setup (now b).submission rest h.stands) p q)
+
+    pub begun_again : HasBegun a c (begun.Again rest)
+    begun_again = record {
+      made = done;
+      have = one_refused a b c done rest h e t;
+      row = refused_recorded;
+      spent = λ count same. absurd cc;
     }
 
-pub one_refused : (a b c : Kept) (done : List ℕ) (rest : ℕ) → HaveMade a b done rest → now c ≡ now b
-    → Appends b c (calls_counted 1) → HaveMade a c done rest
-one_refused a b c done rest h e p =
-    record {
-      world = e ∙ h.world;
-      calls = ap (λ (w : World). done ++ calls_left a.setup w.submission) e ∙ h.calls;
-      stands = subst (λ (w : World). Stands w.submission [] rest) (sym e) h.stands;
-      begun = h.begun + 1;
-      appends = appends_then a b c (calls_counted h.begun) (calls_counted 1) (calls_counted (h.begun + 1)) h.appends p refl;
-      idle = λ none. absurd (omega (arith, none));
+    pub begun_spent : is_spent (now b) rest ≡ true → HasBegun a c (begun.Spent rest)
+    begun_spent spent = record {
+      made = done;
+      have = one_refused a b c done rest h e t;
+      row = refused_recorded;
+      spent = λ count same. let is : rest ≡ count = cc in ap₂ (λ (w : World) n. is_spent w n) e (sym is) ∙ spent;
     }
+
+-- or none is left
+pub begun_all : (a b : Kept) (done : List ℕ) (rest : ℕ) → rest ≡ 0 → HaveMade a b done rest
+    → Records a b (calls_row done (calls_left a.setup (now b).submission)) → HasBegun a b begun.Taken
+unfolding refused_row
+begun_all a b done rest none h p =
+    let have : HaveMade a b done 0 = subst (HaveMade a b done) none h in
+    let left : List ℕ = calls_left a.setup (now b).submission in
+    record {
+      made = done;
+      have = have;
+      row = p ∙ ap (λ zs. steps_of a ++ zs) (sym (append-nil (calls_row done left)) ∙ ap (λ ns. calls_row done left ++ refused_row ns) (sym (none_left a.setup (now b).submission have.stands)));
+      spent = λ count same. absurd cc;
+    }
+
+-- the calls that were left as these were begun
+begun_of : (a b : Kept) (x : Begun) (calls : List ℕ) (h : HasBegun a b x)
+    → calls_left a.setup (now a).submission ≡ calls
+    → AreBegun calls (calls_row h.made (calls_left a.setup (now b).submission) ++ refused_row (calls_left a.setup (now b).submission))
+begun_of a b x calls h are = record {
+  made = h.made;
+  left = calls_left a.setup (now b).submission;
+  all = h.have.calls ∙ are;
+  row = refl;
+}
+
+-- what waited was begun again
+pub row_begun : (a r b : Kept) (x : Begun) → IsUnmoved a r → HasBegun r b x
+    → (steps : List Step) × AreBegun (calls_left a.setup (now a).submission) steps × Records a b steps
+row_begun a r b x u h = (
+  calls_row h.made (calls_left r.setup (now b).submission) ++ refused_row (calls_left r.setup (now b).submission),
+  begun_of r b x (calls_left a.setup (now a).submission) h (ap₂ (λ (g : Setup) (w : World). calls_left g w.submission) u.setup (unmoved_now a r u)),
+  records_then a r b [] _ (records_none a r u) h.row,
+)
+
+-- items were published, and calls begun that take them
+pub row_taken : (a p b : Kept) (items : List Item) (x : Begun) → Stands (now a).submission [] 0
+    → length items ≤ a.setup.sq → p.setup ≡ a.setup
+    → now p ≡ with_items_published a.setup.sq (now a) (all_published_as items)
+    → Records a p (items_row 0 items ++ step.StoreTail ∷ []) → HasBegun p b x
+    → (steps : List Step) × AreTaken a.setup items steps × Records a b steps
+row_taken a p b items x s few same at published h =
+    let begun : List Step = calls_row h.made (calls_left p.setup (now b).submission) ++ refused_row (calls_left p.setup (now b).submission) in (
+      items_row 0 items ++ step.StoreTail ∷ begun,
+      record {
+        begun = begun;
+        are_begun = begun_of p b x _ h (ap₂ (λ (g : Setup) (w : World). calls_left g w.submission) same at ∙ published_left a.setup (now a).submission items s.fresh s few);
+        row = refl;
+      },
+      records_then a p b (items_row 0 items ++ step.StoreTail ∷ []) begun published h.row ∙ ap (λ zs. steps_of a ++ zs) (append_assoc (items_row 0 items) (step.StoreTail ∷ []) begun),
+    )

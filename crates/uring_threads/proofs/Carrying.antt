@@ -1,8 +1,8 @@
--- What the lanes of the workers have carried, as the trace goes on.
-use Rattle.std.proofs.Common.{◌≡◌, ◌≢◌, ℕ, ◌<◌, ◌==◌, cond, List, [], ◌∷◌, ◌++◌, length, get_or, count_by, Option, Some, None, ℤ, refl, sym, subst, ap, ap₂, ◌∙◌, inl, inr, arith}
+-- What the lanes of the workers have carried, as the trace goes on; a lane for jobs that shows no room has carried as many as it holds, so as many requests were started.
+use Rattle.std.proofs.Common.{◌≡◌, ◌≢◌, ℕ, ◌<◌, ◌==◌, cond, List, [], ◌∷◌, ◌++◌, length, get_or, count_by, Option, Some, None, ℤ, refl, sym, subst, ap, ap₂, ◌∙◌, inl, inr, arith, ◌+◌, ◌≤◌}
 use Rattle.std.specs.List.{filter}
 use Rattle.std.proofs.lemmas.Bool.{cases_eq}
-use Rattle.std.proofs.lemmas.List.Sums.{sum_by-append}
+use Rattle.std.proofs.lemmas.List.Sums.{sum_by-append, length-filter, count_by-le-length}
 use Rattle.uring_entry.specs.Setup.{Setup}
 use Rattle.uring_entry.specs.Requests.{no_bytes}
 use Rattle.uring_entry.specs.declared.operation.Op.{Op}
@@ -17,22 +17,24 @@ use Rattle.uring_core.specs.declared.answer.Answer.TheVariants as answer
 use Rattle.uring_core.proofs.Following.{history_of_cons}
 use Rattle.uring_workers.specs.declared.job.Job.{Job}
 use Rattle.uring_workers.specs.declared.work_lanes.WorkLanes.{WorkLanes}
-use Rattle.uring_threads.specs.Collected.{Collects}
+use Rattle.uring_threads.specs.Collected.{Collects, OthersStay}
 use Rattle.std.proofs.Math.ListN.{set}
-use Rattle.std.proofs.lemmas.List.{length-set, get_or-set_same, get_or-set_other}
-use Rattle.uring_threads.specs.Dispatched.{HaveCarried, AreTakenIn}
-use Rattle.uring_workers.specs.WorkLanes.{IsSent, jobs_sent, results_received}
+use Rattle.std.proofs.lemmas.List.{length-set, length-append}
+use Rattle.uring_threads.specs.Dispatched.{HasCarried, HaveCarried, AreTakenIn}
+use Rattle.uring_workers.specs.WorkLanes.{IsSent, jobs_sent, results_received, HoldJobs, SomeIsFull}
 use Rattle.uring_threads.specs.Issued.{IssuedAs}
 use Rattle.uring_threads.specs.Delivered.{OnlyPosts}
 use Rattle.uring_threads.proofs.Posting.{end_posts, accepted_issued}
-use Rattle.uring_threads.proofs.TraceSteps.{grown}
-use Rattle.uring_threads.specs.Kept.{Kept, now, Grows, history}
-use Rattle.uring_threads.specs.Tallies.{Tally, Appends, issues_request, takes_result}
+use Rattle.uring_threads.proofs.TraceSteps.{grown, grown_history, longer_history}
+use Rattle.uring_threads.specs.Kept.{Kept, now, Grows, history, next_in}
+use Rattle.uring_threads.specs.Tallies.{Tally, Appends, issues_request, takes_result, starts_request}
 use Rattle.uring_workers.specs.Work.{place_of, results_of}
-use Rattle.uring_threads.specs.Dealt.{job_by, jobs_in, jobs_at, jobs_to, done_by_worker}
-use Rattle.uring_threads.proofs.Collecting.{grown_history}
-use Rattle.uring_threads.proofs.LeftAt.{one_more_at, none_more_at}
-use Rattle.uring_threads.proofs.SettledWork.{longer_history}
+use Rattle.uring_threads.specs.Dealt.{job_by, jobs_in, jobs_at, jobs_to, done_by_worker, job_in}
+use Rattle.uring_threads.proofs.Sent.{one_more_at, none_more_at}
+use Rattle.uring_threads.proofs.SameLanes.{set_cases}
+use Rattle.std.specs.Prelude.{◌⊎◌, None, Result, Ok, Err, IfOk, Bool}
+use Rattle.uring_workers.proofs.LaneFacts.{lane_full}
+use Rattle.uring_threads.proofs.Times.{times, times_append, times_counts}
 
 -- Nothing is sent by events that issue no request, and nothing taken in by those that finish none.
 
@@ -58,12 +60,6 @@ no_results g (e ∷ later) h none =
     let both = sum_by-append (λ x. cond (takes_result x) 1 0) (e ∷ []) later in
     ap (done_in g) (history_of_cons e later h) ∙ no_results g later (e ∷ h) (omega (arith, none, both)) ∙ ap (with_told (done_in g h)) (no_result (world g h) e (omega (arith, none, both)))
 
-pub jobs_stay : (a b : Kept) (t : Tally) → Appends a b t → t.issues ≡ 0 → (workers k : ℕ)
-    → jobs_to b.setup workers k (history b) ≡ jobs_to a.setup workers k (history a)
-jobs_stay a b t p none workers k =
-    ap₂ (λ (s : Setup) h. jobs_to s workers k h) p.setup (longer_history a b p.events p.trace)
-    ∙ ap (jobs_at (place_of workers a.setup.files) k) (no_jobs a.setup p.events (history a) (ap (λ (u : Tally). u.issues) p.tally ∙ none))
-
 pub done_stays : (a b : Kept) (t : Tally) → Appends a b t → t.finishes ≡ 0 → (workers k : ℕ)
     → done_by_worker b.setup workers k (history b) ≡ done_by_worker a.setup workers k (history a)
 done_stays a b t p none workers k =
@@ -80,7 +76,13 @@ pub record WorkStays (old new : Kept) : Type 0 where
 
 pub quiet_stays : (a b : Kept) (t : Tally) → Appends a b t → t.issues ≡ 0 → t.finishes ≡ 0
     → WorkStays a b
-quiet_stays a b t p none idle = record { jobs = jobs_stay a b t p none; done = done_stays a b t p idle }
+quiet_stays a b t p none idle =
+    record {
+      jobs = λ workers k.
+          ap₂ (λ (s : Setup) h. jobs_to s workers k h) p.setup (longer_history a b p.events p.trace)
+          ∙ ap (jobs_at (place_of workers a.setup.files) k) (no_jobs a.setup p.events (history a) (ap (λ (u : Tally). u.issues) p.tally ∙ none));
+      done = done_stays a b t p idle;
+    }
 
 pub carried_stays : (a b : Kept) (lanes : List WorkLanes) → WorkStays a b → HaveCarried a lanes
     → HaveCarried b lanes
@@ -96,7 +98,8 @@ only_posts a n res bytes =
     let p = end_posts a.setup (now a) n res no_bytes in
     record { submission = refl; accepted = accepted_issued a.setup.linux (now a).requests n res; is_closed = refl; reaped = p.0; head = p.1 }
 
-ended_stays : (a b : Kept) (n : ℕ) → IssuedAs a b n None → WorkStays a b
+-- it ended at once: nothing was sent
+pub ended_stays : (a b : Kept) (n : ℕ) → IssuedAs a b n None → WorkStays a b
 ended_stays a b n issued = by_answer issued.0 issued.1 issued.2 where
   by_answer : (x : Answer) → Grows a b (step.Issue n, x) → IsEnded x → WorkStays a b
   by_answer (answer.Ended res bytes) g ended =
@@ -115,12 +118,6 @@ issued_posts a b n None issued = by_answer issued.0 issued.1 issued.2 where
   by_answer : (x : Answer) → Grows a b (step.Issue n, x) → IsEnded x → OnlyPosts (now a) (now b)
   by_answer (answer.Ended res bytes) g ended = subst (OnlyPosts (now a)) (sym (grown a b (step.Issue n) (answer.Ended res bytes) g)) (only_posts a n res bytes)
   by_answer _ g ended = absurd ended
-
--- it ended at once: nothing was sent
-pub carried_ended : (a b : Kept) (n : ℕ) (lanes : List WorkLanes) → IssuedAs a b n None
-    → HaveCarried a lanes → HaveCarried b lanes
-carried_ended a b n lanes issued carried =
-    carried_stays a b lanes (ended_stays a b n issued) carried
 
 -- it runs: its job was sent to its worker
 pub carried_run : (a b : Kept) (n place : ℕ) (op : Op) (old new : List WorkLanes)
@@ -155,36 +152,65 @@ carried_run a b n place op old new issued carried at low many was_sent others = 
     ]
 
 -- Results of a worker were taken in.
-pub carried_collected : (a b : Kept) (n place : ℕ) (old new : List WorkLanes) → HaveCarried a old
-    → Collects a b (length old) place n → length new ≡ length old
-    → ((d : WorkLanes) → (jobs_sent (get_or new place d) ≡ jobs_sent (get_or old place d)) × AreTakenIn b (length old) place (results_received (get_or new place d)))
-    → ((k : ℕ) (d : WorkLanes) → k < length old → k ≢ place → get_or new k d ≡ get_or old k d)
-    → HaveCarried b new
-carried_collected a b n place old new carried p many here others = λ k d within.
-    let within' : k < length old = omega (arith, within, many) in
-    let before = carried k d within' in
-    let jobs : jobs_to b.setup (length new) k (history b) ≡ jobs_to a.setup (length old) k (history a) = ap (λ m. jobs_to b.setup m k (history b)) many ∙ p.others.jobs k in
-    elim (cases_eq k place) [
-      | inl same ↦
-          let h = subst (λ i. (jobs_sent (get_or new i d) ≡ jobs_sent (get_or old i d)) × AreTakenIn b (length old) i (results_received (get_or new i d))) (sym same) (here d) in
-          record { jobs = h.0 ∙ before.jobs ∙ sym jobs; results = subst (λ m. AreTakenIn b m k (results_received (get_or new k d))) (sym many) h.1 }
-      | inr other ↦
-          let stays : get_or new k d ≡ get_or old k d = others k d within' other in
-          let done : done_by_worker b.setup (length new) k (history b) ≡ done_by_worker a.setup (length old) k (history a) = ap (λ m. done_by_worker b.setup m k (history b)) many ∙ p.others.results k other in
-          record {
-            jobs = ap (λ (l : WorkLanes). jobs_sent l) stays ∙ before.jobs ∙ sym jobs;
-            results = ap (λ (l : WorkLanes). results_received l) stays ∙ before.results ∙ ap results_of (sym done);
-          }
-    ]
+
+-- what was carried of another's stays
+pub others_carried : (a b : Kept) (workers place k : ℕ) (lanes : WorkLanes)
+    → OthersStay a b workers place → k ≢ place → HasCarried a workers k lanes
+    → HasCarried b workers k lanes
+others_carried a b workers place k lanes stay other has = record {
+  jobs = has.jobs ∙ sym (stay.jobs k);
+  results = has.results ∙ ap results_of (sym (stay.results k other));
+}
 
 -- with these lanes in their place
 pub carried_set : (a b : Kept) (n place : ℕ) (old : List WorkLanes) (y d : WorkLanes)
     → HaveCarried a old → place < length old → Collects a b (length old) place n
     → y.jobs ≡ (get_or old place d).jobs → AreTakenIn b (length old) place (results_received y)
     → HaveCarried b (set old place y)
-carried_set a b n place old y d carried low p jobs taken =
-    carried_collected a b n place old (set old place y) carried p (length-set old place y)
-    (λ e.
-    subst (λ (l : WorkLanes). (jobs_sent l ≡ jobs_sent (get_or old place e)) × AreTakenIn b (length old) place (results_received l)) (sym (get_or-set_same old place y e low))
-    (ap (λ q. jobs_sent (record y { jobs = q })) jobs ∙ (carried place d low).jobs ∙ sym (carried place e low).jobs, taken))
-    (λ k e within other. get_or-set_other old place k y e other)
+carried_set a b n place old y d carried low p jobs taken = λ k e within.
+    let long = length-set old place y in
+    subst (λ m. HasCarried b m k (get_or (set old place y) k e)) (sym long)
+    (set_cases (HasCarried b (length old)) old place y k e low
+    (record { jobs = ap (λ q. jobs_sent (record y { jobs = q })) jobs ∙ (carried place d low).jobs ∙ sym (p.others.jobs place); results = taken })
+    (λ other. others_carried a b (length old) place k (get_or old k e) p.others other (carried k e (omega (arith, within, long)))))
+
+-- a history counts what its events do
+times_history : (p : Event → Bool) (events : List Event)
+    → times p (history_of events) ≡ times p events
+times_history p [] = refl
+times_history p (e ∷ later) = omega (arith, ap (times p) (history_of_cons e later []), times_append p (history_of (e ∷ later)) [], times_append p (history_of later) (e ∷ []), times_history p later)
+
+-- each request that starts sends a job
+told_length : (w : World) (jobs : List Job) (e : Event)
+    → length (with_told jobs (job_by w e)) ≡ cond (starts_request e) 1 0 + length jobs
+told_length w jobs (step.Issue n, answer.Run) =
+    omega (arith, length-append jobs (job_in w.requests n ∷ []))
+told_length w jobs (s, a) = omega arith
+
+jobs_count : (g : Setup) (h : History) → length (jobs_in g h) ≡ times starts_request h
+jobs_count g [] = refl
+jobs_count g (e ∷ h) = omega (arith, told_length (world g h) (jobs_in g h) e, jobs_count g h)
+
+some_full : (k : Kept) (lanes : List WorkLanes) → HaveCarried k lanes → HoldJobs lanes
+    → SomeIsFull lanes → 64 ≤ count_by starts_request k.trace
+some_full k [] carried hold full = absurd (omega (arith, full.1))
+some_full k (d ∷ lanes) carried hold full =
+    let at : Job → Bool = λ j. place_of (length (d ∷ lanes)) k.setup.files j.op == full.0 in
+    omega (
+      arith,
+      lane_full (get_or (d ∷ lanes) full.0 d) (hold full.0 d full.1) (full.2 d),
+      ap length (carried full.0 d full.1).jobs,
+      length-filter at (jobs_in k.setup (history k)),
+      count_by-le-length at (jobs_in k.setup (history k)),
+      jobs_count k.setup (history k),
+      times_history starts_request k.trace,
+      times_counts starts_request k.trace,
+    )
+
+-- so as long as fewer requests were started, no lane keeps one from being issued
+pub next_is_none : {X E : Type 0} (r : Result X E) (k : Kept) (lanes : List WorkLanes)
+    → IfOk r (λ turn. (next_in k ≡ None) ⊎ SomeIsFull lanes) → HaveCarried k lanes
+    → HoldJobs lanes
+    → IfOk r (λ turn. count_by starts_request k.trace < 64 → next_in k ≡ None)
+next_is_none (Ok x) k lanes left carried hold = λ few. elim left [ inl none ↦ none | inr full ↦ absurd (omega (arith, few, some_full k lanes carried hold full)) ]
+next_is_none (Err e) k lanes left carried hold = tt

@@ -1,74 +1,49 @@
--- What is sent and taken in, as a result is taken in: the operation is the last of its worker's, and all else stays.
-use Rattle.std.proofs.Common.{◌≡◌, ℕ, ◌+◌, ◌<◌, arith, Bool, true, false, List, [], ◌∷◌, length, if◌then◌else◌, refl, sym, subst, ap, ap₂, ◌∙◌, inl, inr}
+-- What is sent and taken in, as a result is taken in: the operation is the last of its worker's, and all else stays; and how many results of each worker a turn takes in.
+use Rattle.std.proofs.Common.{◌≡◌, ℕ, ◌+◌, ◌<◌, arith, Bool, true, false, List, [], ◌∷◌, length, if◌then◌else◌, refl, sym, subst, ap, ap₂, ◌∙◌, inl, inr, ◌*◌, ◌≤◌, get_or}
 use Rattle.std.specs.Prelude.{slice_index_or, Result, Ok, Err, OnErr}
 use mathlib.Core.List.{IsPrefix}
-use Rattle.std.proofs.lemmas.Bool.{both_ways, cases_eq}
+use Rattle.std.proofs.lemmas.Bool.{both_ways, cases_eq, cases_lt}
 use Rattle.std.proofs.lemmas.List.{length_push}
 use Rattle.uring_entry.specs.Preparation.{operation_of}
 use Rattle.uring_entry.specs.Requests.{entry_of, is_running, with_ended}
 use Rattle.uring_entry.specs.Setup.{Setup}
 use Rattle.uring_entry.proofs.RequestLemmas.{is_running_ended_same, is_running_ended_other}
-use Rattle.uring_entry.specs.declared.operation.Outcome.{Outcome}
 use Rattle.uring_core.specs.Core.{IsFinished}
 use Rattle.uring_core.specs.World.{World}
 use Rattle.uring_files.specs.Done.{Done}
 use Rattle.uring_laws.specs.Finishes.{done_in}
-use Rattle.uring_core.specs.Histories.{Event, history_of, IsLawfulApart}
+use Rattle.uring_core.specs.Histories.{IsLawfulApart}
 use Rattle.uring_core.specs.declared.step.Step.TheVariants as step
 use Rattle.uring_core.specs.declared.answer.Answer.{Answer}
 use Rattle.uring_core.specs.declared.answer.Answer.TheVariants as answer
-use Rattle.uring_core.proofs.Following.{history_of_snoc}
 use Rattle.uring_workers.specs.declared.job.JobResult.{JobResult}
-use Rattle.uring_threads.specs.Collected.{CanBeTaken, OthersStay, Collects, CollectsNext, CollectsSeen, NextStays, NoneComes, Wait}
+use Rattle.uring_threads.specs.Collected.{CanBeTaken, OthersStay, Collects, CollectsNext, CollectsSeen, NextStays, NoneComes, Wait, TakesSeen}
 use Rattle.uring_threads.specs.Delivered.{OnlyPosts}
 use Rattle.uring_threads.specs.Kept.{Kept, now, Grows, IsUnmoved, history}
 use Rattle.uring_threads.specs.Settled.{IsWork, IsTakenIn, finish_of}
 use Rattle.uring_workers.specs.Work.{place_of}
 use Rattle.uring_threads.specs.Dealt.{jobs_to, done_by_worker}
-use Rattle.uring_threads.specs.Tallies.{finishes_counted, results_taken_in}
-use Rattle.uring_threads.proofs.LeftAt.{one_more_at, none_more_at}
+use Rattle.uring_threads.specs.Tallies.{finishes_counted, results_taken_in, Tally, Appends, TakesFewResults, most_results}
+use Rattle.uring_threads.proofs.Sent.{one_more_at, none_more_at}
 use Rattle.uring_threads.proofs.Posting.{end_posts}
 use Rattle.uring_threads.proofs.Recording.{records_one}
 use Rattle.uring_threads.proofs.Repeating.{repeats_none, repeats_then}
 use Rattle.uring_threads.proofs.Settling.{results_run}
-use Rattle.uring_threads.proofs.TraceSteps.{grown, appends_one, unmoved_now}
+use Rattle.uring_threads.proofs.TraceSteps.{grown, grown_history, appends_one, unmoved_is, still}
+use Rattle.std.proofs.Math.ListN.{set}
+use Rattle.uring_workers.specs.WorkLanes.{AreSameLanes, OnlyReceives, results_received, results_seen}
+use Rattle.uring_threads.specs.Dispatched.{AreTakenIn, HaveCarried}
+use Rattle.uring_threads.specs.EventRows.{Repeats}
+use Rattle.uring_workers.specs.declared.work_lanes.WorkLanes.{WorkLanes}
+use Rattle.uring_threads.proofs.Carrying.{carried_set, done_stays}
+use Rattle.uring_threads.proofs.SameLanes.{lanes_none, lanes_then, lanes_set, set_cases}
 
--- the history of a trace that is one event longer
-pub grown_history : (a b : Kept) (e : Event) → Grows a b e → history b ≡ e ∷ history a
-grown_history a b e grows = ap history_of grows.trace ∙ history_of_snoc a.trace e
-
--- a request that runs is ended
-pub ends_running : (a : Kept) (n : ℕ) (outcome : Outcome) (x : Answer)
-    → is_running (now a).requests n ≡ true → IsFinished (now a) n outcome x
-    → x ≡ answer.Ended outcome.res outcome.bytes
-ends_running a n outcome x runs finished = finished ∙ ap (λ b. if b then answer.Ended outcome.res outcome.bytes else answer.NotRunning) runs
-
--- so the trace has the Finish that takes the result in
-pub takes_in : (a b : Kept) (workers place : ℕ) (r : JobResult) (x : Answer)
-    → CanBeTaken a workers place r.number → IsFinished (now a) r.number r.outcome x
-    → Grows a b (step.Finish r.number, x) → Grows a b (finish_of r)
-takes_in a b workers place r x can finished grows = subst (λ y. Grows a b (step.Finish r.number, y)) (ends_running a r.number r.outcome x can.runs finished) grows
-
-module _ (a b : Kept) (workers place : ℕ) (r : JobResult) (can : CanBeTaken a workers place r.number) (grows : Grows a b (finish_of r)) where
-  -- the operation that the result is of
-  end : Done
-  end = record { number = r.number; op = operation_of (entry_of (now a).requests r.number); outcome = r.outcome }
-
-  -- so this worker's are one more
-  pub one_taken_in : results_taken_in workers place b ≡ results_taken_in workers place a + 1
-  unfolding end
-  one_taken_in =
-      ap length (ap₂ (λ g h. done_by_worker g workers place h) grows.setup (grown_history a b (finish_of r) grows) ∙ one_more_at (λ (d : Done). place_of workers a.setup.files d.op) place (done_in a.setup (history a)) end can.own)
-      ∙ length_push (done_by_worker a.setup workers place (history a)) end
-
-  pub others_stay : OthersStay a b workers place
-  unfolding end
-  others_stay =
-      record {
-        jobs = λ k. ap₂ (λ g h. jobs_to g workers k h) grows.setup (grown_history a b (finish_of r) grows);
-        results = λ k other. ap₂ (λ g h. done_by_worker g workers k h) grows.setup (grown_history a b (finish_of r) grows)
-            ∙ none_more_at (λ (d : Done). place_of workers a.setup.files d.op) k (done_in a.setup (history a)) end (λ same. other (sym same ∙ can.own));
-      }
+-- a result of a request that runs is taken in by the Finish that the trace has then
+pub takes_in : (a b : Kept) (r : JobResult) (x : Answer) → is_running (now a).requests r.number ≡ true
+    → IsFinished (now a) r.number r.outcome x → Grows a b (step.Finish r.number, x)
+    → Grows a b (finish_of r)
+takes_in a b r x runs finished grows =
+    subst (λ y. Grows a b (step.Finish r.number, y)) (finished ∙ ap (λ b. if b then answer.Ended r.outcome.res r.outcome.bytes else answer.NotRunning) runs) grows
 
 -- what was seen first is what is popped
 pub first_known : {known later : List JobResult} {seen popped : JobResult}
@@ -76,38 +51,13 @@ pub first_known : {known later : List JobResult} {seen popped : JobResult}
 first_known {known} {later} {seen} {popped} first all =
     ap (λ rs. slice_index_or rs 0 seen) (first.1 ∙ all)
 
--- no result is seen, or the first that is can't be taken in
+-- no result is seen
 pub none_stays : (kept : Kept) (workers place : ℕ) (seen : List JobResult) → length seen ≡ 0
     → NextStays kept workers place seen
 none_stays kept workers place [] none = tt
 none_stays kept workers place (r ∷ later) none = absurd (omega (arith, none))
 
-pub first_stays : (kept : Kept) (workers place : ℕ) {known : List JobResult} {seen : JobResult}
-    → IsPrefix (seen ∷ []) known → (CanBeTaken kept workers place seen.number → ⊥)
-    → NextStays kept workers place known
-first_stays kept workers place {known} {seen} first never =
-    subst (NextStays kept workers place) first.1 never
-
 -- Several results.
-
-pub same_others : (a b : Kept) (workers place : ℕ) → IsUnmoved a b → OthersStay a b workers place
-same_others a b workers place u =
-    record {
-      jobs = λ k. ap₂ (λ g es. jobs_to g workers k (history_of es)) u.setup u.trace;
-      results = λ k other. ap₂ (λ g es. done_by_worker g workers k (history_of es)) u.setup u.trace;
-    }
-
-pub then_others : (a b c : Kept) (workers place : ℕ) → OthersStay a b workers place
-    → OthersStay b c workers place → OthersStay a c workers place
-then_others a b c workers place p q = record {
-  jobs = λ k. q.jobs k ∙ p.jobs k;
-  results = λ k other. q.results k other ∙ p.results k other;
-}
-
-pub same_taken_in : (a b : Kept) (workers k : ℕ) → IsUnmoved a b
-    → results_taken_in workers k b ≡ results_taken_in workers k a
-same_taken_in a b workers k u =
-    ap₂ (λ g es. length (done_by_worker g workers k (history_of es))) u.setup u.trace
 
 -- the end of a request posts a completion, or none
 posts_end : (a b : Kept) (r : JobResult) → Grows a b (finish_of r) → OnlyPosts (now a) (now b)
@@ -115,15 +65,7 @@ posts_end a b r g =
     let p = end_posts a.setup (now a) r.number r.outcome.res r.outcome.bytes in
     subst (OnlyPosts (now a)) (sym (grown a b (step.Finish r.number) (answer.Ended r.outcome.res r.outcome.bytes) g)) (record { submission = refl; accepted = refl; is_closed = refl; reaped = p.0; head = p.1 })
 
--- what couldn't be taken in still can't where nothing happened
-same_comes : (a b : Kept) (workers : ℕ) → IsUnmoved a b → NoneComes a b workers
-same_comes a b workers u = λ k number can.
-    record {
-      runs = subst (λ (w : World). is_running w.requests number ≡ true) (unmoved_now a b u) can.runs;
-      own = sym (ap₂ (λ (g : Setup) (w : World). place_of workers g.files (operation_of (entry_of w.requests number))) u.setup (unmoved_now a b u)) ∙ can.own;
-    }
-
--- and where a request ended: no other runs by it
+-- what couldn't be taken in still can't where a request ended: no other runs by it
 end_comes : (a b : Kept) (workers : ℕ) (r : JobResult) → Grows a b (finish_of r)
     → NoneComes a b workers
 end_comes a b workers r grows = λ k number can.
@@ -143,16 +85,20 @@ end_comes a b workers r grows = λ k number can.
 -- none, and one more
 pub collects_none : (workers place : ℕ) {a b : Kept} → IsUnmoved a b → Collects a b workers place 0
 collects_none workers place {a} {b} u =
+    let is = sym (unmoved_is a b u) in
     record {
       repeats = repeats_none step.Finish u;
-      own = let same : results_taken_in workers place b ≡ results_taken_in workers place a = same_taken_in a b workers place u in omega (arith, same);
-      others = same_others a b workers place u;
-      none_comes = same_comes a b workers u;
+      own = subst (λ (k : Kept). results_taken_in workers place k ≡ results_taken_in workers place a + 0) is (omega arith);
+      others = subst (λ (k : Kept). OthersStay a k workers place) is (record { jobs = λ k. refl; results = λ k other. refl });
+      none_comes = subst (λ (k : Kept). NoneComes a k workers) is (λ k number can. record { runs = can.runs; own = can.own });
     }
 
-collects_first : {a b : Kept} {workers place : ℕ} (r : JobResult) → CanBeTaken a workers place r.number
+pub collects_first : {a b : Kept} {workers place : ℕ} (r : JobResult) → CanBeTaken a workers place r.number
     → Grows a b (finish_of r) → Collects a b workers place 1
 collects_first {a} {b} {workers} {place} r can grows =
+    let end : Done = record { number = r.number; op = operation_of (entry_of (now a).requests r.number); outcome = r.outcome } in
+    let at : Done → ℕ = λ d. place_of workers a.setup.files d.op in
+    let longer = grown_history a b (finish_of r) grows in
     record {
       repeats = record {
         numbers = r.number ∷ [];
@@ -160,8 +106,13 @@ collects_first {a} {b} {workers} {place} r can grows =
         tally = appends_one a b (finish_of r) (finishes_counted 1) grows refl refl;
         posts = posts_end a b r grows;
       };
-      own = one_taken_in a b workers place r can grows;
-      others = others_stay a b workers place r can grows;
+      own =
+          ap length (ap₂ (λ g h. done_by_worker g workers place h) grows.setup longer ∙ one_more_at at place (done_in a.setup (history a)) end can.own)
+          ∙ length_push (done_by_worker a.setup workers place (history a)) end;
+      others = record {
+        jobs = λ k. ap₂ (λ g h. jobs_to g workers k h) grows.setup longer;
+        results = λ k other. ap₂ (λ g h. done_by_worker g workers k h) grows.setup longer ∙ none_more_at at k (done_in a.setup (history a)) end (λ same. other (sym same ∙ can.own));
+      };
       none_comes = end_comes a b workers r grows;
     }
 
@@ -170,15 +121,9 @@ pub collects_then : {a b c : Kept} {workers place n m : ℕ} → Collects a b wo
 collects_then {a} {b} {c} {workers} {place} {n} {m} p q = record {
   repeats = repeats_then p.repeats q.repeats;
   own = omega (arith, p.own, q.own);
-  others = then_others a b c workers place p.others q.others;
+  others = record { jobs = λ k. q.others.jobs k ∙ p.others.jobs k; results = λ k other. q.others.results k other ∙ p.others.results k other };
   none_comes = λ k number can. p.none_comes k number (q.none_comes k number can);
 }
-
--- the next one, after more room was asked for
-pub collects_one : {a b c : Kept} {workers place : ℕ} (r : JobResult) → IsUnmoved a b
-    → CanBeTaken b workers place r.number → Grows b c (finish_of r) → Collects a c workers place 1
-collects_one {a} {b} {c} {workers} {place} r u can grows =
-    collects_then (collects_none workers place u) (collects_first r can grows)
 
 -- a turn's results, and a round more of them
 pub collects_more : {a b c : Kept} {workers place n : ℕ} (seen : List JobResult) (more : Bool)
@@ -211,13 +156,6 @@ pub first_waits : (a : Kept) (r : JobResult) (later : List JobResult)
 first_waits a r later lawful (workers, k, done, untaken, work) =
     results_run a.setup workers (history a) k done untaken r later lawful work
 
-pub first_grows : (a b : Kept) (r : JobResult) (later : List JobResult) (x : Answer)
-    → IsLawfulApart a.setup (history a) → Wait a (r ∷ later)
-    → IsFinished (now a) r.number r.outcome x → Grows a b (step.Finish r.number, x)
-    → Grows a b (finish_of r)
-first_grows a b r later x lawful w finished grows =
-    subst (λ y. Grows a b (step.Finish r.number, y)) (ends_running a r.number r.outcome x (first_waits a r later lawful w).runs finished) grows
-
 pub next_waits : (a b : Kept) (r : JobResult) (later : List JobResult)
     → IsLawfulApart a.setup (history a) → Wait a (r ∷ later) → Grows a b (finish_of r)
     → Wait b later
@@ -229,3 +167,107 @@ next_waits a b r later lawful w grows = (
   subst (λ h. IsWork b.setup w.0 h w.1 (record { done = w.2; untaken = w.3; waiting = later })) (sym (grown_history a b (finish_of r) grows))
       (subst (λ g. IsWork g w.0 (finish_of r ∷ history a) w.1 (record { done = w.2; untaken = w.3; waiting = later })) (sym grows.setup) (first_waits a r later lawful w).later),
 )
+
+-- by events none of which takes a result in
+none_taken_in : (a b : Kept) (t : Tally) → Appends a b t → t.finishes ≡ 0 → (workers k : ℕ)
+    → results_taken_in workers k b ≡ results_taken_in workers k a
+none_taken_in a b t p none workers k = ap length (done_stays a b t p none workers k)
+
+-- Results of the workers before this place were taken in, few of each, and of the others none.
+pub record CollectsBefore (first : List WorkLanes) (a : Kept) (place count : ℕ) (b : Kept) (lanes : List WorkLanes) : Type 0 where
+  pub most : count ≤ 64 * place
+  pub repeats : Repeats a b step.Finish (finishes_counted count)
+  pub carried : HaveCarried b lanes
+  pub same : AreSameLanes first lanes
+  pub before : (k : ℕ) → k < place
+      → results_taken_in (length first) k b ≤ results_taken_in (length first) k a + most_results
+  pub others : (k : ℕ) → place ≤ k
+      → results_taken_in (length first) k b ≡ results_taken_in (length first) k a
+
+pub collects_nothing : (first : List WorkLanes) (a : Kept) → HaveCarried a first
+    → CollectsBefore first a 0 0 a first
+collects_nothing first a carried = record {
+  most = omega arith;
+  repeats = repeats_none step.Finish (still a);
+  carried = carried;
+  same = lanes_none first;
+  before = λ k low. absurd (omega (arith, low));
+  others = λ k high. refl;
+}
+
+-- and so many of the worker at it
+pub collects_at : {first : List WorkLanes} {a : Kept} {place count n : ℕ} {b c : Kept} {lanes : List WorkLanes} (y d : WorkLanes)
+    → CollectsBefore first a place count b lanes → place < length lanes
+    → Collects b c (length first) place n → n ≤ most_results → OnlyReceives (get_or lanes place d) y
+    → AreTakenIn c (length first) place (results_received y)
+    → CollectsBefore first a (place + 1) (count + n) c (set lanes place y)
+collects_at {first} {a} {place} {count} {n} {b} {c} {lanes} y d p low q most receives taken =
+    record {
+      most = omega (arith, p.most, most);
+      repeats = repeats_then p.repeats q.repeats;
+      carried = carried_set b c n place lanes y d p.carried low (subst (λ m. Collects b c m place n) (sym p.same.many) q) receives.jobs (subst (λ m. AreTakenIn c m place (results_received y)) (sym p.same.many) taken);
+      same = lanes_then first lanes (set lanes place y) p.same (lanes_set lanes place y d low receives);
+      before = λ k below.
+          elim (cases_eq k place) [
+            | inl here ↦
+                let own : results_taken_in (length first) k c ≡ results_taken_in (length first) k b + n = rw here q.own in
+                let none : results_taken_in (length first) k b ≡ results_taken_in (length first) k a = p.others k (omega (arith, here)) in
+                omega (arith, own, none, most)
+            | inr other ↦
+                let few = p.before k (omega (arith, below, other)) in
+                let none = ap length (q.others.results k other) in
+                omega (arith, few, none)
+          ];
+      others = λ k high. ap length (q.others.results k (λ here. absurd (omega (arith, here, high)))) ∙ p.others k (omega (arith, high));
+    }
+
+-- of all
+pub few_in_all : {first lanes : List WorkLanes} {a b : Kept} {place count : ℕ}
+    → CollectsBefore first a place count b lanes → TakesFewResults (length first) a b
+few_in_all {place = place} p = λ k. elim (cases_lt k place) [ inl low ↦ p.before k low | inr high ↦ (let none = p.others k high in omega (arith, none)) ]
+
+-- Of the workers before this place, what was seen was taken in.
+
+-- what couldn't be taken in next still can't
+next_stays : (a b : Kept) (workers k : ℕ) (seen : List JobResult) → NoneComes a b workers
+    → NextStays a workers k seen → NextStays b workers k seen
+next_stays a b workers k [] none stays = tt
+next_stays a b workers k (r ∷ later) none stays = λ can. stays (none k r.number can)
+
+-- of each of them, fewer were taken in only if no other result is seen, or the next can't be taken in
+abbrev pub SeenBefore : ℕ → ℕ → Kept → Kept → List WorkLanes → Type 0
+SeenBefore workers place a b lanes = (k : ℕ) → k < place
+    → results_taken_in workers k b < results_taken_in workers k a + most_results → (d : WorkLanes)
+    → NextStays b workers k (results_seen (get_or lanes k d))
+
+-- and of the one at it
+pub seen_at : {first : List WorkLanes} {a : Kept} {place count n : ℕ} {b c : Kept} {lanes : List WorkLanes} (y : WorkLanes)
+    → CollectsBefore first a place count b lanes → place < length lanes
+    → CollectsSeen b c (length first) place n (results_seen y)
+    → SeenBefore (length first) place a b lanes
+    → SeenBefore (length first) (place + 1) a c (set lanes place y)
+seen_at {first} {a} {place} {count} {n} {b} {c} {lanes} y p within q seen = λ k low fewer d.
+    let workers : ℕ = length first in
+    set_cases (λ j (l : WorkLanes). results_taken_in workers j c < results_taken_in workers j a + most_results → NextStays c workers j (results_seen l)) lanes place y k d within
+    (λ few.
+    let none = p.others place (omega arith) in
+    q.rest (omega (arith, few, none, q.collected.own)))
+    (λ other few.
+    let same = ap length (q.collected.others.results k other) in
+    next_stays b c workers k (results_seen (get_or lanes k d)) q.collected.none_comes (seen k (omega (arith, low, other)) (omega (arith, few, same)) d))
+    fewer
+
+-- of all
+pub seen_in_all : {first lanes : List WorkLanes} {place : ℕ} (a b : Kept) → AreSameLanes first lanes
+    → place ≡ length first → SeenBefore (length first) place a b lanes → TakesSeen a b lanes
+seen_in_all {first} {lanes} a b same end seen =
+    subst (λ n. SeenBefore n n a b lanes) (sym same.many) (subst (λ n. SeenBefore (length first) n a b lanes) end seen)
+
+-- and by a turn, no other part of which takes any in
+pub few_between : (workers : ℕ) (a b c d : Kept) (t u : Tally) → Appends a b t → t.finishes ≡ 0
+    → TakesFewResults workers b c → Appends c d u → u.finishes ≡ 0 → TakesFewResults workers a d
+few_between workers a b c d t u p none few q no_more = λ k.
+    let before = none_taken_in a b t p none workers k in
+    let some = few k in
+    let after = none_taken_in c d u q no_more workers k in
+    omega (arith, before, some, after)

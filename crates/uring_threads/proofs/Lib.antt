@@ -6,23 +6,15 @@ mod Repeating
 pub mod ItemSteps
 pub mod CallSteps
 mod CallsMade
-mod BegunRows
-pub mod IssueSteps
 -- A turn of the dispatcher: what it pulls, issues and posts:
 pub mod Tying
-mod Granting
-mod Closing
-mod FullLanes
-mod Issuing
+pub mod Issuing
 pub mod Posting
-mod Delivering
-mod FewResults
 pub mod Turning
 -- Jobs and results, by workers:
 mod Times
 pub mod Dealing
 mod Sent
-mod LeftAt
 pub mod Carrying
 mod SameLanes
 pub mod SameEnds
@@ -30,7 +22,6 @@ pub mod SameEnds
 mod Collecting
 mod Draining
 pub mod Settling
-mod SettledWork
 mod SettledWorkers
 mod WorkerFiles
 pub mod Reporting

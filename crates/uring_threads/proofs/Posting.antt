@@ -1,11 +1,18 @@
--- Ends of requests leave the rings as they were, but for what is posted.
-use Rattle.std.proofs.Common.{◌≡◌, ℕ, ℤ, Bool, true, false, List, if◌then◌else◌, refl, ◌∙◌}
+-- What ends of requests and a delivery leave of the rings: ends leave them as they were, but for what is posted.
+use Rattle.std.proofs.Common.{◌≡◌, ℕ, ℤ, Bool, true, false, List, if◌then◌else◌, refl, ◌∙◌, sym, subst, ap}
 use Rattle.uring_entry.specs.Setup.{Setup}
 use Rattle.uring_entry.specs.Requests.{Requests, entry_of}
-use Rattle.uring_entry.specs.Completions.{with_posted, completion_for}
+use Rattle.uring_entry.specs.Completions.{with_posted, completion_for, with_flushed, with_tail_loaded, with_head_stored}
 use Rattle.uring_rules.specs.Rules.{posts, with_issued_end}
 use Rattle.uring_core.specs.World.{World, with_end_of}
-use Rattle.uring_threads.specs.Delivered.{OnlyPosts}
+use Rattle.uring_threads.specs.Delivered.{OnlyPosts, KeepsAllBut, on_completions, with_reaped_all}
+use Rattle.uring_entry.specs.Layout.{Cqe}
+use Rattle.uring_core.specs.declared.answer.Answer.{Answer}
+use Rattle.uring_core.specs.declared.step.Step.TheVariants as step
+use Rattle.uring_threads.specs.Kept.{Kept, now, Grows, IsUnmoved}
+use Rattle.uring_threads.specs.Tallies.{Appends, none_counted, reaps_counted}
+use Rattle.uring_threads.specs.Turns.{IsDelivered}
+use Rattle.uring_threads.proofs.TraceSteps.{grown, unmoved_now, appends_one, appends_then, appends_after, both_none, none_both}
 
 pub end_posts : (g : Setup) (w : World) (n : ℕ) (res : ℤ) (bytes : List ℕ)
     → ((with_end_of g w n res bytes).reaped ≡ w.completions.reaped)
@@ -32,3 +39,24 @@ posts_then w v u p q = record {
   reaped = q.reaped ∙ p.reaped;
   head = q.head ∙ p.head;
 }
+
+-- A row of a delivery: flush, load the tail, reap so many, store the head.
+module _ (a room flushed loaded reaped b : Kept) (x y z : Answer) (all : List Cqe) (u : IsUnmoved a room) (flush : Grows room flushed (step.Flush, x)) (load : Grows flushed loaded (step.LoadCqTail, y))
+    (reap : now reaped ≡ on_completions (now loaded) (with_reaped_all (now loaded).completions all)) (store : Grows reaped b (step.StoreCqHead, z)) where
+  row : now b ≡ on_completions (now a) (with_head_stored (with_reaped_all (with_tail_loaded (with_flushed room.setup.cq (now a).completions)) all))
+  row =
+      grown reaped b step.StoreCqHead z store
+      ∙ ap (λ (w : World). on_completions w (with_head_stored w.completions)) (reap ∙ ap (λ (w : World). on_completions w (with_reaped_all w.completions all)) (grown flushed loaded step.LoadCqTail y load
+      ∙ ap (λ (w : World). on_completions w (with_tail_loaded w.completions)) (grown room flushed step.Flush x flush ∙ ap (λ (w : World). on_completions w (with_flushed room.setup.cq w.completions)) (unmoved_now a room u))))
+
+  pub row_keeps : KeepsAllBut (now a) (now b)
+  row_keeps = subst (λ w. KeepsAllBut (now a) w) (sym row) (record { submission = refl; requests = refl; drains = refl; is_closed = refl; posted = refl })
+
+  pub row_delivers : IsDelivered (now b).completions all
+  row_delivers = subst (λ (w : World). IsDelivered w.completions all) (sym row) (record { reaped = refl; head = refl })
+
+  pub row_counts : (n : ℕ) → Appends loaded reaped (reaps_counted n) → Appends a b (reaps_counted n)
+  row_counts n p =
+      let last : Appends loaded b (reaps_counted n) = appends_then loaded reaped b (reaps_counted n) none_counted (reaps_counted n) p (appends_one reaped b (step.StoreCqHead, z) none_counted store refl refl) (both_none (reaps_counted n)) in
+      let later : Appends flushed b (reaps_counted n) = appends_then flushed loaded b none_counted (reaps_counted n) (reaps_counted n) (appends_one flushed loaded (step.LoadCqTail, y) none_counted load refl refl) last (none_both (reaps_counted n)) in
+      appends_after a room b (reaps_counted n) u (appends_then room flushed b none_counted (reaps_counted n) (reaps_counted n) (appends_one room flushed (step.Flush, x) none_counted flush refl refl) later (none_both (reaps_counted n)))

@@ -96,12 +96,6 @@ call_refused a b c done (n ∷ later) count some many p q =
     records_then a b c (calls_row done (n ∷ later)) (step.Begin (n + sum later) ∷ []) p
     (subst (λ k. Records b c (step.Begin k ∷ [])) (sym many ∙ sum_by-cons (λ x. x) n later ∙ omega arith) q)
 
--- items that were put and published, and the calls that took them
-pub taken_recorded : (a b c : Kept) (items : List Item) (begun : List Step)
-    → Records a b (items_row 0 items ++ step.StoreTail ∷ []) → Records b c begun
-    → Records a c (items_row 0 items ++ step.StoreTail ∷ begun)
-taken_recorded a b c items begun p q = records_then a b c (items_row 0 items ++ step.StoreTail ∷ []) begun p q ∙ ap (λ zs. steps_of a ++ zs) (append_assoc (items_row 0 items) (step.StoreTail ∷ []) begun)
-
 -- completions that were delivered, one or more
 pub delivery_recorded : (a b c d e f : Kept) (n : ℕ) (x y z : Answer) → 0 < n → IsUnmoved a b
     → Grows b c (step.Flush, x)
@@ -145,10 +139,6 @@ pub again_recorded : (a b : Kept) (i : Intake) (put : Put)
     → RecordsIntake a b i put put
 again_recorded a b i put r =
     record { again = r.0; pulled = []; is_again = r.1; is_pulled = none_pulled a.setup put; row = r.2 ∙ ap (λ zs. steps_of a ++ zs) (sym (append-nil r.0)) }
-
--- no event at all
-pub records_nothing : (a : Kept) → Records a a []
-records_nothing a = sym (append-nil (steps_of a))
 
 -- a whole turn
 pub turn_recorded : {E : Type 0} (a b c d e : Kept) (i : Intake) (before after : Put) (n : ℕ) (answer : Result Turn E) (t u : Tally)

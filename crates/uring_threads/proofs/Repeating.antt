@@ -11,7 +11,7 @@ use Rattle.uring_threads.specs.Kept.{Kept, now, IsUnmoved}
 use Rattle.uring_threads.specs.Tallies.{Tally, both, none_counted, finishes_counted, issues_counted, is_refused, issues_request, takes_result}
 use Rattle.uring_threads.proofs.Posting.{posts_none, posts_then}
 use Rattle.uring_threads.proofs.Recording.{records_none, records_then}
-use Rattle.uring_threads.proofs.TraceSteps.{appends_none, appends_then, unmoved_now}
+use Rattle.uring_threads.proofs.TraceSteps.{appends_none, appends_then, both_none, unmoved_now}
 
 -- not once
 pub repeats_none : (kind : ℕ → Step) {a b : Kept} → IsUnmoved a b → Repeats a b kind none_counted
@@ -36,13 +36,7 @@ repeats_then {a} {b} {c} {kind} p q =
 -- and then nothing happened
 pub repeats_still : {a k r : Kept} {kind : ℕ → Step} {t : Tally} → Repeats a k kind t → IsUnmoved k r
     → Repeats a r kind t
-repeats_still {a} {k} {r} p u =
-    record {
-      numbers = p.numbers;
-      row = ap (map step_of) u.trace ∙ p.row;
-      tally = record { events = p.tally.events; trace = u.trace ∙ p.tally.trace; tally = p.tally.tally; served = p.tally.served; room = omega (arith, p.tally.room, u.room); setup = u.setup ∙ p.tally.setup };
-      posts = subst (OnlyPosts (now a)) (sym (unmoved_now k r u)) p.posts;
-    }
+repeats_still {a} {k} {r} {kind} {t} p u = subst (Repeats a r kind) (both_none t) (repeats_then p (repeats_none kind u))
 
 -- the steps of the events that were appended
 appended : {a b : Kept} {kind : ℕ → Step} {t : Tally} (p : Repeats a b kind t)

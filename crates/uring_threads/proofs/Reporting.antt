@@ -1,10 +1,11 @@
 -- What is reported once all ends are settled, from what ties them to the trace.
-use Rattle.std.proofs.Common.{◌≡◌, ◌↔◌, ℕ, ℤ, zero, suc, ◌+◌, ◌<◌, ◌≤◌, ◌==◌, Bool, Some, true, false, List, [], ◌∷◌, ◌++◌, length, map, flat_map, take, drop, get_or, All, count_by, if◌then◌else◌, refl, sym, subst, ap, ap₂, ◌∙◌, arith, inl, inr, append_assoc, append-nil, length-drop}
+use Rattle.std.proofs.Common.{◌≡◌, ◌↔◌, ℕ, ℤ, zero, suc, ◌+◌, ◌<◌, ◌≤◌, ◌==◌, Bool, Some, true, false, List, [], ◌∷◌, ◌++◌, length, map, flat_map, take, drop, get_or, All, count_by, cond, if◌then◌else◌, refl, sym, subst, ap, ap₂, ◌∙◌, arith, inl, inr, append_assoc, append-nil, length-drop}
 use Rattle.std.specs.List.{list_any, slice_get}
 use Rattle.std.proofs.Math.Seq.{drop-append_seam, take-append_seam}
 use Rattle.std.proofs.lemmas.Bool.{or_cases, or_left, or_right}
 use Rattle.std.proofs.lemmas.Grind.{flat_map-append}
 use Rattle.std.proofs.lemmas.List.{map-append, length-map, length-append, take_more, take_all}
+use Rattle.std.proofs.lemmas.List.Sums.{sum_by-cons}
 use Rattle.std.proofs.lemmas.Option.{slice_get_within, get_or_from_slice_get}
 use Rattle.uring_entry.specs.Completions.{Completions, unreaped, with_posted, completion_for}
 use Rattle.uring_rules.specs.Rules.{posts}
@@ -15,7 +16,6 @@ use Rattle.uring_ports.specs.AppEnd.{AppEnd}
 use Rattle.uring_ports.specs.Ports.{Put, Sizes, items_of_calls, LeavesItems, LeavesCompletions}
 use Rattle.uring_ports.specs.declared.item.Item.{Item}
 use Rattle.uring_threads.specs.Collected.{TakesAll}
-use Rattle.uring_workers.specs.WorkLanes.{AreSameLanes}
 use Rattle.std.proofs.lemmas.List.Folds.{list_any-append}
 use Rattle.uring_entry.specs.Layout.{Cqe}
 use Rattle.uring_entry.specs.Requests.{entry_of, is_running}
@@ -28,7 +28,7 @@ use Rattle.uring_laws.specs.Standing.{Stands}
 use mathlib.Core.List.{IsPrefix}
 use Rattle.uring_threads.specs.Calls.{calls_of, calls_left}
 use Rattle.uring_threads.specs.Delivered.{OnlyPosts}
-use Rattle.uring_threads.specs.Turns.{IsDelivered, Tied, ClosesOnce, waiting_in, is_shut}
+use Rattle.uring_threads.specs.Turns.{Tied, waiting_in, is_shut}
 use Rattle.uring_threads.specs.Kernel.{Kernel, IsKernel}
 use Rattle.uring_threads.specs.Kept.{Kept, now, history}
 use Rattle.uring_threads.specs.Report.{Report, AreTogether, IsSameKernel, left_by, FinishesAll, LeavesRunning, PublishesItems, BeginsCalls, HasOneClose, ClosesOnlyAllTaken, DeliversReaped, untaken_at, all_untaken, has_job, all_waiting}
@@ -43,11 +43,9 @@ use Rattle.uring_workers.specs.declared.job.Job.{Job}
 use Rattle.uring_workers.specs.declared.job.JobResult.{JobResult}
 use Rattle.uring_workers.specs.declared.work_lanes.WorkLanes.{WorkLanes}
 use Rattle.uring_threads.proofs.CallsMade.{none_left}
-use Rattle.uring_threads.proofs.Closing.{closes_append}
+use Rattle.uring_threads.proofs.Tying.{closes_append, all_first}
 use Rattle.uring_threads.proofs.Posting.{posts_none, posts_then, end_posts}
 use Rattle.uring_threads.proofs.SameEnds.{together_same}
-use Rattle.uring_threads.proofs.Times.{times, times_counts}
-use Rattle.uring_threads.proofs.Tying.{all_first}
 
 -- Finishes leave the rings, but for what is posted.
 
@@ -60,12 +58,6 @@ finishes_post g events (r ∷ rs) =
     let one : OnlyPosts w (world g (history_of (events ++ finish_of r ∷ []))) = subst (λ h. OnlyPosts w (world g h)) (sym (history_of_snoc events (finish_of r))) (record { submission = refl; accepted = refl; is_closed = refl; reaped = p.0; head = p.1 }) in
     subst (λ es. OnlyPosts w (world g (history_of es))) (append_assoc events (finish_of r ∷ []) (map finish_of rs))
     (posts_then w (world g (history_of (events ++ finish_of r ∷ []))) (world g (history_of ((events ++ finish_of r ∷ []) ++ map finish_of rs))) one (finishes_post g (events ++ finish_of r ∷ []) rs))
-
-pub posts_only : (k : Kept) (lanes : List WorkLanes) (workers : List Worker) (r : Report)
-    → r.setup ≡ k.setup → FinishesAll k.trace lanes workers r → OnlyPosts (now k) (left_by r)
-posts_only k lanes workers r setup trace =
-    subst (λ es. OnlyPosts (now k) (world r.setup (history_of es))) (sym trace)
-    (subst (λ g. OnlyPosts (now k) (world g (history_of (k.trace ++ map finish_of (all_waiting lanes workers))))) (sym setup) (finishes_post k.setup k.trace (all_waiting lanes workers)))
 
 -- What the application submitted.
 
@@ -111,28 +103,11 @@ module _ (g : Setup) (w : World) (put pulled : Put) (i : Intake) (r : Report) (s
 -- The ring is closed once, if at all.
 
 no_close : (rs : List JobResult) → count_by closes_ring (map finish_of rs) ≡ 0
-no_close rs = sym (times_counts closes_ring (map finish_of rs)) ∙ none rs where
-  none : (rs : List JobResult) → times closes_ring (map finish_of rs) ≡ 0
-  none [] = refl
-  none (r ∷ rs) = omega (arith, none rs)
+no_close [] = refl
+no_close (r ∷ rs) = omega (arith, sum_by-cons (λ e. cond (closes_ring e) 1 0) (finish_of r) (map finish_of rs), no_close rs)
 
 abbrev one_if : Bool → ℕ
 one_if b = if b then 1 else 0
-
-pub has_one_close : (g : Setup) (k : Kept) (pulled : Put) (i : Intake) (lanes : List WorkLanes) (workers : List Worker) (r : Report)
-    → Tied g (now k) pulled i → ClosesOnce k i → OnlyPosts (now k) (left_by r)
-    → FinishesAll k.trace lanes workers r → HasOneClose r
-has_one_close g k pulled i lanes workers r t once posts trace =
-    ap (count_by closes_ring) trace ∙ closes_append k.trace (map finish_of (all_waiting lanes workers))
-    ∙ omega (arith, no_close (all_waiting lanes workers)) ∙ once ∙ ap one_if (t.shut ∙ sym t.closed ∙ sym posts.is_closed)
-
--- What the application received.
-
-pub delivers_reaped : (w : World) (reaped received : List Cqe) (r : Report)
-    → IsDelivered w.completions reaped → OnlyPosts w (left_by r)
-    → LeavesCompletions reaped received r.undelivered → DeliversReaped received r
-delivers_reaped w reaped received r delivered posts leaves =
-    sym leaves ∙ sym delivered.reaped ∙ sym posts.reaped
 
 -- What runs.
 
@@ -250,12 +225,6 @@ pub take_whole : {X : Type 0} (n : ℕ) (xs others : List X) → length xs ≡ n
 take_whole n xs others same =
     subst (λ m. take m (xs ++ others) ≡ xs) same (take-append_seam xs others)
 
--- lanes that are lent are written back whole
-pub lanes_back : (n : ℕ) (old lent new : List WorkLanes) → lent ≡ old → AreSameLanes lent new
-    → length old ≡ n → take n (new ++ drop (length new) old) ≡ new
-lanes_back n old lent new same lanes many =
-    take_whole n new (drop (length new) old) (omega (arith, lanes.many, ap length same, many))
-
 -- The history is lawful.
 
 pub settled_lawful : (k : Kept) (workers : List Worker) → 0 < length workers → AreSettled k workers
@@ -284,7 +253,10 @@ pub tells_ends : (app : AppEnd) (kernel same : Kernel) (workers : List Worker) (
 tells_ends app kernel same workers kept lanes unsent undelivered r t s is keeps these items completions good setup trace running rests =
     let goes_on : FinishesAll same.kept.trace lanes workers r = subst (λ (k : Kept). FinishesAll k.trace lanes workers r) keeps trace in
     let of : r.setup ≡ same.kept.setup = setup ∙ ap (λ (k : Kept). k.setup) keeps in
-    let posts : OnlyPosts (now same.kept) (left_by r) = posts_only same.kept lanes workers r of goes_on in
+    let results : List JobResult = all_waiting lanes workers in
+    let posts : OnlyPosts (now same.kept) (left_by r) =
+    subst (λ es. OnlyPosts (now same.kept) (world r.setup (history_of es))) (sym goes_on)
+    (subst (λ g. OnlyPosts (now same.kept) (world g (history_of (same.kept.trace ++ map finish_of results)))) (sym of) (finishes_post same.kept.setup same.kept.trace results)) in
     let left : LeavesItems app.submitted same.pulled r.unsent = subst (LeavesItems app.submitted same.pulled) (sym rests.0) items in
     let size : app.sizes.sq ≡ same.kept.setup.sq = ap (λ (z : Sizes). z.sq) (sym (together_same app kernel same workers s t).sizes) ∙ is.sq in
     let tied = is.ties.tied in
@@ -292,7 +264,7 @@ tells_ends app kernel same workers kept lanes unsent undelivered r t s is keeps 
       running = subst (λ ls. LeavesRunning ls workers r) (these ∙ ap (λ (k : Kernel). k.lanes) s.others) running;
       items = publishes same.kept.setup (now same.kept) app.submitted same.pulled same.intake r of tied posts left (subst (λ n. AreItems n (items_of_calls app.submitted.calls)) size good);
       calls = begins_calls same.kept.setup (now same.kept) app.submitted same.pulled same.intake r of tied posts left;
-      once = has_one_close same.kept.setup same.kept same.pulled same.intake lanes workers r tied is.ties.once posts goes_on;
+      once = ap (count_by closes_ring) goes_on ∙ closes_append same.kept.trace (map finish_of results) ∙ omega (arith, no_close results) ∙ is.ties.once ∙ ap one_if (tied.shut ∙ sym tied.closed ∙ sym posts.is_closed);
       closed = closes_all same.kept.setup (now same.kept) app.submitted same.pulled same.intake r of tied posts left;
-      reaped = delivers_reaped (now same.kept) same.reaped app.received r is.ties.delivered posts (subst (LeavesCompletions same.reaped app.received) (sym rests.1) completions);
+      reaped = sym (subst (LeavesCompletions same.reaped app.received) (sym rests.1) completions) ∙ sym is.ties.delivered.reaped ∙ sym posts.reaped;
     }

@@ -71,19 +71,7 @@ opened_together files app kernel workers ports sizes same of =
       files = λ k d low. of.have k d (omega (arith, low, of.many)) ∙ sym same;
     }
 
--- Who does something goes on to be of the same ends.
-
-pub kernel_stays : (app : AppEnd) (old new : Kernel) (workers : List Worker)
-    → new.pairing ≡ old.pairing → new.sizes ≡ old.sizes
-    → numbers_of_lanes new.lanes ≡ numbers_of_lanes old.lanes → new.kept.setup ≡ old.kept.setup
-    → AreTogether app old workers → AreTogether app new workers
-kernel_stays app old new workers pairing sizes numbers setup t =
-    record {
-      ports = pairing ∙ t.ports;
-      sizes = sizes ∙ t.sizes;
-      lanes = t.lanes ∙ sym numbers;
-      files = λ k d low. t.files k d low ∙ ap (λ g. g.files) (sym setup);
-    }
+-- A worker that does something goes on to be of the same ends.
 
 module _ (workers : List Worker) (k : ℕ) (d new : Worker) (low : k < length workers) where
   -- what of a worker stays where it does something
@@ -105,8 +93,12 @@ module _ (workers : List Worker) (k : ℕ) (d new : Worker) (low : k < length wo
 
 pub together_same : (app : AppEnd) (kernel same : Kernel) (workers : List Worker)
     → IsSameKernel kernel same → AreTogether app kernel workers → AreTogether app same workers
-together_same app kernel same workers s t =
-    kernel_stays app kernel same workers (ap (λ (k : Kernel). k.pairing) s.others) (ap (λ (k : Kernel). k.sizes) s.others) (ap (λ (k : Kernel). numbers_of_lanes k.lanes) s.others) s.kept.setup t
+together_same app kernel same workers s t = record {
+  ports = ap (λ (k : Kernel). k.pairing) s.others ∙ t.ports;
+  sizes = ap (λ (k : Kernel). k.sizes) s.others ∙ t.sizes;
+  lanes = t.lanes ∙ sym (ap (λ (k : Kernel). numbers_of_lanes k.lanes) s.others);
+  files = λ k d low. t.files k d low ∙ ap (λ g. g.files) (sym s.kept.setup);
+}
 
 pub lanes_to_settle : (app : AppEnd) (kernel same : Kernel) (workers : List Worker) (kept : Kept) (lanes : List WorkLanes)
     → AreTogether app kernel workers → IsSameKernel kernel same → IsKernel same → kept ≡ same.kept

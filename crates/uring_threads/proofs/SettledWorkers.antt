@@ -1,28 +1,68 @@
--- Settling all workers, one after the other: the results of the first are taken in, and the others' wait.
-use Rattle.std.proofs.Common.{◌≡◌, ◌≢◌, ℕ, ◌+◌, ◌*◌, ◌<◌, ◌≤◌, List, [], ◌∷◌, ◌++◌, length, map, take, drop, get_or, refl, sym, subst, ap, ap₂, ◌∙◌, arith, append_assoc, append-nil}
+-- Settling the workers, one after the other: the results of the first are taken in, and the others' wait.
+use Rattle.std.proofs.Common.{◌≡◌, ℕ, List, [], ◌∷◌, ◌++◌, map, refl, sym, subst, ap, ap₂, ◌∙◌, append-nil, ◌+◌, ◌*◌, ◌<◌, ◌≤◌, length, take, drop, get_or, arith, append_assoc}
+use Rattle.uring_entry.specs.Setup.{Setup}
+use Rattle.uring_files.specs.Done.{Done, AreDone}
+use Rattle.uring_core.specs.Histories.{History, IsLawfulApart}
+use Rattle.uring_workers.specs.declared.job.Job.{Job}
+use Rattle.uring_workers.specs.declared.job.JobResult.{JobResult}
+use Rattle.uring_workers.specs.WorkLanes.{jobs_sent, results_received, results_held}
+use Rattle.uring_workers.specs.declared.work_lanes.WorkLanes.{WorkLanes}
+use Rattle.uring_threads.specs.Collected.{TakesAll}
+use Rattle.uring_threads.specs.Dispatched.{HasCarried, HaveCarried}
+use Rattle.uring_threads.specs.SettledWorker.{IsSettledAt, HaveSeenAll, settled_work, works_of}
+use Rattle.uring_threads.specs.Kept.{Kept, history}
+use Rattle.uring_threads.specs.Settled.{IsWork, finish_of, with_taken_in, IsSettled}
+use Rattle.uring_threads.specs.Dealt.{jobs_to, done_by_worker}
+use Rattle.uring_workers.specs.Work.{jobs_of, results_of}
+use Rattle.uring_core.proofs.Following.{history_of_cons}
+use Rattle.uring_threads.proofs.Settling.{IsDrained, drain, none_waits, same_work}
+use Rattle.uring_threads.proofs.TraceSteps.{longer_history}
 use Rattle.std.specs.Prelude.{slice_set}
 use Rattle.std.proofs.lemmas.List.{length-set, get_or-set_other, take_all, take_more, length-take-le, get_or_default}
-use Rattle.uring_workers.specs.WorkLanes.{results_held, results_received}
-use Rattle.uring_files.specs.Done.{AreDone}
-use Rattle.uring_core.specs.Histories.{IsLawfulApart}
-use Rattle.uring_workers.specs.declared.job.JobResult.{JobResult}
-use Rattle.uring_workers.specs.declared.work_lanes.WorkLanes.{WorkLanes}
-use Rattle.uring_threads.specs.Collected.{OthersStay, TakesAll}
-use Rattle.uring_threads.specs.Dispatched.{HasCarried, HaveCarried}
-use Rattle.uring_threads.specs.Kept.{Kept, history}
-use Rattle.uring_threads.specs.Settled.{IsWork, IsSettled, finish_of}
-use Rattle.uring_threads.specs.SettledWorker.{HaveSeenAll, IsSettledAt, settled_work, works_of}
 use Rattle.uring_workers.specs.Opened.{AreLanesOf}
 use Rattle.uring_threads.specs.Report.{waiting_at, all_waiting}
 use Rattle.uring_workers.specs.Pairings.{pairing_of}
-use Rattle.uring_threads.specs.Dealt.{jobs_to}
-use Rattle.uring_workers.specs.Work.{results_of}
 use Rattle.uring_workers.specs.Worker.{Worker, IsRight, Looks}
 use Rattle.uring_files.specs.Contents.{empty_files}
-use Rattle.uring_threads.proofs.SettledWork.{jobs_keep, longer_history}
 use Rattle.uring_threads.proofs.Draining.{takes_none, takes_then}
 use Rattle.uring_threads.proofs.SameLanes.{set_cases}
-use Rattle.uring_threads.proofs.Settling.{none_waits, same_work}
+use Rattle.uring_threads.proofs.Carrying.{others_carried}
+
+-- results that are taken in send no job
+pub jobs_keep : (g : Setup) (workers k : ℕ) (rs : List JobResult) (h : History)
+    → jobs_to g workers k (with_taken_in rs h) ≡ jobs_to g workers k h
+jobs_keep g workers k [] h = refl
+jobs_keep g workers k (r ∷ rs) h = ap (jobs_to g workers k) (history_of_cons (finish_of r) (map finish_of rs) h) ∙ jobs_keep g workers k rs (finish_of r ∷ h)
+
+module _ (a b : Kept) (workers k : ℕ) (done : List Done) (untaken : List Job) (waiting : List JobResult) (lanes : WorkLanes)
+    (lawful : IsLawfulApart a.setup (history a)) (carried : HasCarried a workers k lanes)
+    (jobs : jobs_of done ++ untaken ≡ jobs_sent lanes) (results : results_received lanes ++ waiting ≡ results_of done) (all : TakesAll a b waiting) where
+  work : IsWork a.setup workers (history a) k (record { done = done; untaken = untaken; waiting = waiting })
+  work = record { jobs = jobs ∙ carried.jobs; results = ap (λ rs. rs ++ waiting) (sym carried.results) ∙ results }
+
+  drained : IsDrained a.setup workers (history a) (with_taken_in waiting (history a)) k (record { done = done; untaken = untaken; waiting = waiting })
+  drained = drain a.setup workers (history a) k done untaken waiting lawful work
+
+  later : history b ≡ with_taken_in waiting (history a)
+  later = longer_history a b (map finish_of waiting) all.trace
+
+  jobs_stay : (j : ℕ) → jobs_to b.setup workers j (history b) ≡ jobs_to a.setup workers j (history a)
+  jobs_stay j = ap₂ (λ g h. jobs_to g workers j h) all.setup later ∙ drained.sent j
+
+  settled : IsWork b.setup workers (history b) k (record { done = done; untaken = untaken; waiting = [] })
+  settled =
+      subst (λ h. IsWork b.setup workers h k (record { done = done; untaken = untaken; waiting = [] })) (sym later)
+      (subst (λ g. IsWork g workers (with_taken_in waiting (history a)) k (record { done = done; untaken = untaken; waiting = [] })) (sym all.setup) drained.own)
+
+  pub settled_at : (now : WorkLanes) → jobs_sent now ≡ jobs_sent lanes
+      → results_received now ≡ results_received lanes ++ waiting
+      → IsSettledAt a b workers k now done untaken
+  settled_at now same came =
+      record {
+        work = settled;
+        carried = record { jobs = same ∙ carried.jobs ∙ sym (jobs_stay k); results = came ∙ results ∙ sym settled.results ∙ append-nil (results_of (done_by_worker b.setup workers k (history b))) };
+        others = record { jobs = jobs_stay; results = λ j other. ap₂ (λ g h. done_by_worker g workers j h) all.setup later ∙ drained.others j other };
+      }
 
 -- what wasn't received waits
 waits_after : (before waiting all : List JobResult) → all ≡ before ++ waiting
@@ -48,18 +88,6 @@ waiting_more ls ws d e k many lt =
     (waiting_append (take k ls) (get_or ls k d ∷ []) (take k ws) (get_or ws k e ∷ []) (length-take-le k ls (omega arith) ∙ sym (length-take-le k ws (omega (arith, many, lt))))
     ∙ ap (λ rs. all_waiting (take k ls) (take k ws) ++ rs) (append-nil (waiting_at (get_or ls k d) (get_or ws k e))))
 
--- nothing was done
-same_looks : (w : Worker) → Looks w w
-same_looks w = record { same = refl; seen = ([], append-nil w.seen); room = omega arith }
-
--- what was carried of another's stays
-carried_stays : (b c : Kept) (workers k j : ℕ) (lanes : WorkLanes) → OthersStay b c workers k
-    → j ≢ k → HasCarried b workers j lanes → HasCarried c workers j lanes
-carried_stays b c workers k j lanes others unlike has = record {
-  jobs = has.jobs ∙ sym (others.jobs j);
-  results = has.results ∙ ap results_of (sym (others.results j unlike));
-}
-
 -- The loop: the first workers are settled.
 
 pub record SoFar (a b : Kept) (ls ms : List WorkLanes) (ws vs : List Worker) (count : ℕ) : Type 0 where
@@ -83,7 +111,7 @@ none_so_far a ls ws carried =
       many_workers = refl;
       lanes_stay = λ k d from. refl;
       workers_stay = λ k e from. refl;
-      looked = λ k e. same_looks (get_or ws k e);
+      looked = λ k e. record { same = refl; seen = ([], append-nil (get_or ws k e).seen); room = omega arith };
       carried = carried;
       settled = λ k e lt. absurd (omega arith);
       right = λ k e lt. absurd (omega arith);
@@ -119,9 +147,6 @@ module _ (a b c : Kept) (ls ms : List WorkLanes) (ws vs : List Worker) (count fi
   at_count : IsSettledAt b c (length ls) count now (get_or vs count e).done after.seen
   at_count = one.settled (length ls) count (s.carried count d lt)
 
-  lane_there : count < length ms
-  lane_there = omega (arith, s.many, lt)
-
   worker_there : count < length vs
   worker_there = omega (arith, s.many_workers, of.many, lt)
 
@@ -148,7 +173,7 @@ module _ (a b c : Kept) (ls ms : List WorkLanes) (ws vs : List Worker) (count fi
         lanes_stay = λ k f from. get_or-set_other ms count k now f (λ same. omega (arith, same, from)) ∙ s.lanes_stay k f (omega (arith, from));
         workers_stay = λ k f from. get_or-set_other vs count k after f (λ same. omega (arith, same, from)) ∙ s.workers_stay k f (omega (arith, from));
         looked = λ k f. set_cases (λ j w. Looks (get_or ws j f) w) vs count after k f worker_there (looks_here f) (λ other. s.looked k f);
-        carried = λ k f within. set_cases (HasCarried c (length ls)) ms count now k f lane_there at_count.carried (λ other. carried_stays b c (length ls) count k (get_or ms k f) at_count.others other (s.carried k f within));
+        carried = λ k f within. set_cases (HasCarried c (length ls)) ms count now k f (omega (arith, s.many, lt)) at_count.carried (λ other. others_carried b c (length ls) count k (get_or ms k f) at_count.others other (s.carried k f within));
         settled = λ k f below. set_cases (λ j w. IsWork c.setup (length ls) (history c) j (settled_work w)) vs count after k f worker_there work_here (λ other. same_work b.setup c.setup (length ls) (history b) (history c) k (settled_work (get_or vs k f)) (at_count.others.jobs k) (at_count.others.results k other) (s.settled k f (omega (arith, other, below))));
         right = λ k f below. set_cases (λ _ w. IsRight w) vs count after k f worker_there one.right (λ other. s.right k f (omega (arith, other, below)));
         recorded = took;

@@ -22,8 +22,7 @@ use Rattle.uring_workers.specs.Work.{place_of_file, place_of, jobs_of, results_o
 use Rattle.uring_threads.specs.Dealt.{job_in, jobs_at, jobs_to, done_by_worker, IsDealtByFile}
 use Rattle.uring_threads.specs.Settled.{Work, IsWork, ResultsRun, NoneWaits, Settles, finish_of, with_taken_in, waiting_of}
 use Rattle.uring_threads.proofs.Dealing.{dealt_by_file, workers_join, files_by_worker, file_within}
-use Rattle.uring_threads.proofs.LeftAt.{op_at, left_own, left_runs, runs_left, one_more_at, none_more_at}
-use Rattle.uring_threads.proofs.Sent.{jobs_are_starts, AreOf, done_is_of}
+use Rattle.uring_threads.proofs.Sent.{op_at, left_own, left_runs, runs_left, one_more_at, none_more_at, jobs_are_starts, AreOf, done_is_of}
 use Rattle.uring_threads.proofs.Times.{times, times_append, times_some, times_any}
 
 -- The operations of a worker begin with those whose results were taken in.
@@ -82,15 +81,13 @@ of_place accepted place k (d ∷ ds) all =
       by_test false rest = rest
 
 module _ (g : Setup) (workers : ℕ) (h : History) (k : ℕ) (lawful : IsLawfulApart g h) where
-  sent_jobs : AreJobsOf (world g h).requests.accepted (jobs_to g workers k h)
-  sent_jobs = subst (λ js. AreJobsOf (world g h).requests.accepted (jobs_at (place_of workers g.files) k js)) (sym (jobs_are_starts g h lawful)) (sent_are (place_of workers g.files) k (world g h).requests (world g h).requests.started)
-
   -- the operations of a worker are those whose results were taken in, and then more, whose results wait
   work_begins : (work : Work) → IsWork g workers h k work → Begins (done_by_worker g workers k h) work.done work.waiting
   work_begins work is =
+      let sent = sent_are (place_of workers g.files) k (world g h).requests (world g h).requests.started in
       begins (world g h).requests.accepted (done_by_worker g workers k h) work.done work.waiting
       (of_place (world g h).requests.accepted (place_of workers g.files) k (done_in g h) (done_is_of g h lawful))
-      (first_are (world g h).requests.accepted (jobs_of work.done) work.untaken (subst (AreJobsOf (world g h).requests.accepted) (sym is.jobs) sent_jobs))
+      (first_are (world g h).requests.accepted (jobs_of work.done) work.untaken (subst (AreJobsOf (world g h).requests.accepted) (sym (is.jobs ∙ ap (jobs_at (place_of workers g.files) k) (jobs_are_starts g h lawful))) sent))
       is.results
 
   -- the jobs that were sent are those whose results were taken in, those whose results wait, and those that the worker hasn't taken

@@ -1,14 +1,14 @@
 -- What a step makes of the trace's world, and how tallies add up.
-use Rattle.std.proofs.Common.{◌≡◌, ◌+◌, List, [], ◌∷◌, ◌++◌, length, count_by, cond, refl, sym, ap, ap₂, ◌∙◌, arith, append_assoc, append-nil}
+use Rattle.std.proofs.Common.{◌≡◌, ◌+◌, List, [], ◌∷◌, ◌++◌, length, count_by, cond, refl, sym, ap, ap₂, ◌∙◌, arith, append_assoc, append-nil, add-zero, zero-add}
 use Rattle.std.proofs.lemmas.List.{length_push}
 use Rattle.std.proofs.lemmas.List.Sums.{sum_by-append}
 use Rattle.uring_entry.specs.Setup.{Setup}
 use Rattle.uring_core.specs.World.{happens}
 use Rattle.uring_core.specs.Histories.{Event, history_of, world}
-use Rattle.uring_core.proofs.Following.{history_of_snoc}
+use Rattle.uring_core.proofs.Following.{history_of_append, history_of_snoc}
 use Rattle.uring_core.specs.declared.step.Step.{Step}
 use Rattle.uring_core.specs.declared.answer.Answer.{Answer}
-use Rattle.uring_threads.specs.Kept.{Kept, now, Grows, IsUnmoved}
+use Rattle.uring_threads.specs.Kept.{Kept, now, history, Grows, IsUnmoved}
 use Rattle.uring_threads.specs.Tallies.{Tally, tally_of, both, none_counted, Appends, stages_item, issues_request, takes_result, reaps_completion, begins_call, closes_ring, is_refused}
 
 -- the world after one event more
@@ -16,13 +16,25 @@ pub grown : (a b : Kept) (s : Step) (x : Answer) → Grows a b (s, x)
     → now b ≡ happens a.setup (now a) s x
 grown a b s x g = ap₂ (λ (k : Setup) es. world k (history_of es)) g.setup g.trace ∙ ap (world a.setup) (history_of_snoc a.trace (s, x))
 
+pub grown_history : (a b : Kept) (e : Event) → Grows a b e → history b ≡ e ∷ history a
+grown_history a b e grows = ap history_of grows.trace ∙ history_of_snoc a.trace e
+
 -- the trace is one event longer
 pub grown_length : (a b : Kept) (e : Event) → Grows a b e → length b.trace ≡ length a.trace + 1
 grown_length a b e g = ap length g.trace ∙ length_push a.trace e
 
--- the world where nothing happened
+-- the history where events were appended
+pub longer_history : (a b : Kept) (events : List Event) → b.trace ≡ a.trace ++ events
+    → history b ≡ history_of events ++ history a
+longer_history a b events same =
+    ap history_of same ∙ sym (append-nil (history_of (a.trace ++ events))) ∙ history_of_append a.trace events [] ∙ ap (λ h. history_of events ++ h) (append-nil (history_of a.trace))
+
+-- where nothing happened there is only more memory, and the world stays
+pub unmoved_is : (a b : Kept) → IsUnmoved a b → b ≡ record a { room = b.room }
+unmoved_is a b u = λ i. record { trace = u.trace i; room = b.room; setup = u.setup i }
+
 pub unmoved_now : (a b : Kept) → IsUnmoved a b → now b ≡ now a
-unmoved_now a b u = ap₂ (λ (k : Setup) es. world k (history_of es)) u.setup u.trace
+unmoved_now a b u = ap now (unmoved_is a b u)
 
 -- nothing happened
 pub still : (a : Kept) → IsUnmoved a a
@@ -41,6 +53,13 @@ tally_append es fs =
       sum_by-append (λ e. cond (closes_ring e) 1 0) es fs,
     )
     refl
+
+-- nothing counted beside it changes no tally
+pub both_none : (t : Tally) → both t none_counted ≡ t
+both_none t = simp add-zero
+
+pub none_both : (t : Tally) → both none_counted t ≡ t
+none_both t = simp zero-add
 
 -- one event
 pub appends_one : (a b : Kept) (e : Event) (t : Tally) → Grows a b e → tally_of (e ∷ []) ≡ t
@@ -81,5 +100,4 @@ appends_then a b c t u v p q sums =
 
 -- after where nothing happened
 pub appends_after : (a b c : Kept) (t : Tally) → IsUnmoved a b → Appends b c t → Appends a c t
-appends_after a b c t u q =
-    record { events = q.events; trace = q.trace ∙ ap (λ es. es ++ q.events) u.trace; tally = q.tally; served = q.served; room = omega (arith, u.room, q.room); setup = q.setup ∙ u.setup }
+appends_after a b c t u q = appends_then a b c none_counted t t (appends_none a b u) q (none_both t)

@@ -1,5 +1,5 @@
 -- The parts of a turn put together: what went through the dispatcher's hands stays tied to its trace, and what they appended adds up.
-use Rattle.std.proofs.Common.{◌≡◌, ℕ, List, [], ◌++◌, refl, sym, subst, ap, ◌∙◌, arith, false, true}
+use Rattle.std.proofs.Common.{add-zero, zero-add, ◌≡◌, ℕ, List, [], ◌++◌, refl, sym, subst, ap, ◌∙◌, arith, false, true}
 use Rattle.std.specs.Prelude.{◌+◌, ◌-◌, ◌^◌, length, nat_lt, Result, Ok, Err, IfOk, OnOk, OnErr, IsErr, IsOk}
 use Rattle.std.proofs.lemmas.Bool.{false≢true}
 use Rattle.std.proofs.lemmas.Result.{IfOk-weaker, IfOk-from_err}
@@ -28,11 +28,9 @@ use Rattle.uring_threads.specs.Turns.{AreTies, Counts, IsDelivered, IsGivenUpAsS
 use Rattle.uring_threads.specs.declared.intake.Intake.{Intake}
 use Rattle.uring_threads.specs.declared.intake.Intake.TheVariants as intake
 use Rattle.uring_threads.specs.declared.turns.Turn.{Turn}
-use Rattle.uring_threads.proofs.Carrying.{quiet_stays, carried_stays}
-use Rattle.uring_threads.proofs.Closing.{once_stays}
-use Rattle.uring_threads.proofs.Collecting.{on_err}
-use Rattle.uring_threads.proofs.FewResults.{few_between}
-use Rattle.uring_threads.proofs.FullLanes.{next_is_none}
+use Rattle.uring_threads.proofs.Carrying.{quiet_stays, carried_stays, next_is_none}
+use Rattle.uring_threads.proofs.Tying.{once_stays}
+use Rattle.uring_threads.proofs.Collecting.{on_err, few_between}
 use Rattle.uring_threads.proofs.Recording.{records_none, turn_recorded}
 use Rattle.uring_threads.proofs.Repeating.{finishes_many, issues_many, repeats_idle, repeats_none}
 use Rattle.uring_threads.proofs.SameLanes.{hold_stays, lanes_none, lanes_then, short_stays}
@@ -125,46 +123,43 @@ ties_delivered {a} {b} {pulled} {before} {reaped} {i} {lanes} s d =
       carried = carried_stays a b lanes (quiet_stays a b _ d.tally refl refl) s.carried;
     }
 
-tally_is : (i n f r c x i' n' f' r' c' x' : ℕ) → i' ≡ i → n' ≡ n → f' ≡ f → r' ≡ r → c' ≡ c → x' ≡ x
-    → ◌≡◌ {A = Tally} (record { items = i'; issues = n'; finishes = f'; reaps = r'; calls = c'; closes = x' }) (record { items = i; issues = n; finishes = f; reaps = r; calls = c; closes = x })
-tally_is i n f r c x i' n' f' r' c' x' a b d e g h = rw (a, b, d, e, g, h) refl
-
 -- the four parts of a turn add up
 counts_all : (a b c d e : Kept) (n f s k : ℕ) → TakesIn a b n → Appends b c (finishes_counted f)
     → (f ≡ 0 → c.trace ≡ b.trace) → Appends c d (issues_counted s) → (s ≡ 0 → d.trace ≡ c.trace)
     → Appends d e (reaps_counted k) → (k ≡ 0 → e.trace ≡ d.trace)
     → Counts a e (record { popped = n; issued = s; finished = f; delivered = k })
 counts_all a b c d e n f s k p q q_idle r r_idle t t_idle =
-    let qr : Appends b d (record { items = 0; issues = s; finishes = f; reaps = 0; calls = 0; closes = 0 }) = appends_then b c d _ _ _ q r (tally_is 0 s f 0 0 0 _ _ _ _ _ _ refl (omega arith) (omega arith) refl refl refl) in
-    let rest : Appends b e (record { items = 0; issues = s; finishes = f; reaps = k; calls = 0; closes = 0 }) = appends_then b d e _ _ _ qr t (tally_is 0 s f k 0 0 _ _ _ _ _ _ refl (omega arith) (omega arith) (omega arith) refl refl) in
+    let qr : Appends b d (record { items = 0; issues = s; finishes = f; reaps = 0; calls = 0; closes = 0 }) = appends_then b c d _ _ _ q r (simp (add-zero, zero-add)) in
+    let rest : Appends b e (record { items = 0; issues = s; finishes = f; reaps = k; calls = 0; closes = 0 }) = appends_then b d e _ _ _ qr t (simp (add-zero, zero-add)) in
     record {
       calls = p.calls;
       closes = p.closes;
-      appends = appends_then a b e _ _ _ p.appends rest (tally_is n s f k p.calls p.closes _ _ _ _ _ _ (omega arith) (omega arith) (omega arith) (omega arith) (omega arith) (omega arith));
+      appends = appends_then a b e _ _ _ p.appends rest (simp (add-zero, zero-add));
       idle = λ none. t_idle (omega (arith, none)) ∙ r_idle (omega (arith, none)) ∙ q_idle (omega (arith, none)) ∙ p.idle (omega (arith, none));
     }
 
--- What the parts of a turn have done, up to where it ends.
-pub record Goes (old : Kernel) (kept : Kept) (pulled : Put) (reaped : List Cqe) (i : Intake) (lanes : List WorkLanes) (turn : Turn) : Type 0 where
+-- What the parts of a turn have done, up to where it ends with an answer, which if it is Ok is this turn.
+pub record Goes {E : Type 0} (old : Kernel) (kept : Kept) (pulled : Put) (reaped : List Cqe) (i : Intake) (lanes : List WorkLanes) (turn : Turn) (answer : Result Turn E) : Type 0 where
   pub ties : AreTies kept pulled reaped i lanes
   pub counts : Counts old.kept kept turn
-  pub rows : RecordsTurn {E = Unit {0}} old.kept kept old.intake old.pulled pulled (Ok turn)
+  pub rows : RecordsTurn old.kept kept old.intake old.pulled pulled answer
   pub few : TakesFewResults (length old.lanes) old.kept kept
   pub same : AreSameLanes old.lanes lanes
 
-pub goes : {old : Kernel} {b c d e : Kept} {pulled : Put} {before reaped : List Cqe} {i : Intake} {ms ns : List WorkLanes} {n f s k : ℕ}
+pub goes : {E : Type 0} {answer : Result Turn E} {old : Kernel} {b c d e : Kept} {pulled : Put} {before reaped : List Cqe} {i : Intake} {ms ns : List WorkLanes} {n f s k : ℕ}
     → HasTaken old b pulled before i n → Repeats b c step.Finish (finishes_counted f)
     → TakesFewResults (length old.lanes) b c → HaveCarried c ms → AreSameLanes old.lanes ms
     → Repeats c d step.Issue (issues_counted s) → HaveCarried d ns → AreSameLanes ms ns
     → HasDelivered d e k reaped
-    → Goes old e pulled reaped i ns (record { popped = n; issued = s; finished = f; delivered = k })
-goes {old} {b} {c} {d} {e} {pulled} {before} {reaped} {i} {ms} {ns} {n} {f} {s} {k} t p few carried same q later others r =
+    → IfOk answer (λ made. made ≡ record { popped = n; issued = s; finished = f; delivered = k })
+    → Goes old e pulled reaped i ns (record { popped = n; issued = s; finished = f; delivered = k }) answer
+goes {E} {answer} {old} {b} {c} {d} {e} {pulled} {before} {reaped} {i} {ms} {ns} {n} {f} {s} {k} t p few carried same q later others r told =
     let finished = finishes_many p in
     let issued = issues_many q in
     record {
       ties = ties_delivered (ties_posted (issues_counted s) (ties_posted (finishes_counted f) t.ties p.tally refl p.posts carried) q.tally refl q.posts later) r;
       counts = counts_all old.kept b c d e n f s k t.taken p.tally (λ none. repeats_idle p (finished ∙ none)) q.tally (λ none. repeats_idle q (issued ∙ none)) r.tally r.idle;
-      rows = turn_recorded old.kept b c d e old.intake old.pulled pulled k (Ok _) _ _ t.row p q r.row (record { finishes = finished; issues = issued; reaps = refl });
+      rows = turn_recorded old.kept b c d e old.intake old.pulled pulled k answer _ _ t.row p q r.row (IfOk-weaker answer _ _ (λ made is. subst (λ m. AreOfTurn m p.numbers q.numbers k) (sym is) (record { finishes = finished; issues = issued; reaps = refl })) told);
       few = few_between (length old.lanes) old.kept b c e _ _ t.taken.appends refl few (appends_then c d e _ _ _ q.tally r.tally refl) refl;
       same = lanes_then old.lanes ms ns same others;
     }
@@ -174,50 +169,36 @@ goes {old} {b} {c} {d} {e} {pulled} {before} {reaped} {i} {ms} {ns} {n} {f} {s} 
 keeps_all : (w : World) → KeepsAllBut w w
 keeps_all w = record { submission = refl; requests = refl; drains = refl; is_closed = refl; posted = refl }
 
-pub goes_issued : {old : Kernel} {b c d : Kept} {pulled : Put} {reaped : List Cqe} {i : Intake} {ms ns : List WorkLanes} {n f s : ℕ}
+pub goes_issued : {E : Type 0} {answer : Result Turn E} {old : Kernel} {b c d : Kept} {pulled : Put} {reaped : List Cqe} {i : Intake} {ms ns : List WorkLanes} {n f s : ℕ}
     → HasTaken old b pulled reaped i n → Repeats b c step.Finish (finishes_counted f)
     → TakesFewResults (length old.lanes) b c → HaveCarried c ms → AreSameLanes old.lanes ms
     → Repeats c d step.Issue (issues_counted s) → HaveCarried d ns → AreSameLanes ms ns
-    → Goes old d pulled reaped i ns (record { popped = n; issued = s; finished = f; delivered = 0 })
+    → IfOk answer (λ made. made ≡ record { popped = n; issued = s; finished = f; delivered = 0 })
+    → Goes old d pulled reaped i ns (record { popped = n; issued = s; finished = f; delivered = 0 }) answer
 goes_issued {d = d} {s = s} t p few carried same q later others =
     let ties = ties_posted (issues_counted s) (ties_posted _ t.ties p.tally refl p.posts carried) q.tally refl q.posts later in
     goes t p few carried same q later others (delivers_none (still d) (keeps_all (now d)) ties.delivered)
 
-pub goes_collected : {old : Kernel} {b c : Kept} {pulled : Put} {reaped : List Cqe} {i : Intake} {ms : List WorkLanes} {n f : ℕ}
+pub goes_collected : {E : Type 0} {answer : Result Turn E} {old : Kernel} {b c : Kept} {pulled : Put} {reaped : List Cqe} {i : Intake} {ms : List WorkLanes} {n f : ℕ}
     → HasTaken old b pulled reaped i n → Repeats b c step.Finish (finishes_counted f)
     → TakesFewResults (length old.lanes) b c → HaveCarried c ms → AreSameLanes old.lanes ms
-    → Goes old c pulled reaped i ms (record { popped = n; issued = 0; finished = f; delivered = 0 })
+    → IfOk answer (λ made. made ≡ record { popped = n; issued = 0; finished = f; delivered = 0 })
+    → Goes old c pulled reaped i ms (record { popped = n; issued = 0; finished = f; delivered = 0 }) answer
 goes_collected {c = c} {ms = ms} t p few carried same = goes_issued t p few carried same (repeats_none step.Issue (still c)) carried (lanes_none ms)
 
-pub goes_taken : {old : Kernel} {b : Kept} {pulled : Put} {reaped : List Cqe} {i : Intake} {n : ℕ}
+pub goes_taken : {E : Type 0} {answer : Result Turn E} {old : Kernel} {b : Kept} {pulled : Put} {reaped : List Cqe} {i : Intake} {n : ℕ}
     → HasTaken old b pulled reaped i n
-    → Goes old b pulled reaped i old.lanes (record { popped = n; issued = 0; finished = 0; delivered = 0 })
-goes_taken {old} {b} t = goes_collected t (repeats_none step.Finish (still b)) (λ k. omega arith) t.ties.carried (lanes_none old.lanes)
+    → IfOk answer (λ made. made ≡ record { popped = n; issued = 0; finished = 0; delivered = 0 })
+    → Goes old b pulled reaped i old.lanes (record { popped = n; issued = 0; finished = 0; delivered = 0 }) answer
+goes_taken {E} {answer} {old} {b} t = goes_collected t (repeats_none step.Finish (still b)) (λ k. omega arith) t.ties.carried (lanes_none old.lanes)
 
 -- The turn that they make, with its answer.
 
-rows_told : {E : Type 0} (a b : Kept) (i : Intake) (before after : Put) (turn : Turn) (answer : Result Turn E)
-    → RecordsTurn {E = Unit {0}} a b i before after (Ok turn) → IfOk answer (λ made. made ≡ turn)
-    → RecordsTurn a b i before after answer
-rows_told a b i before after turn answer r same =
-    record {
-      again = r.again;
-      pulled = r.pulled;
-      finished = r.finished;
-      issued = r.issued;
-      delivered = r.delivered;
-      is_again = r.is_again;
-      is_pulled = r.is_pulled;
-      row = r.row;
-      told = IfOk-weaker answer _ _ (λ made e. subst (λ t. AreOfTurn t r.finished r.issued r.delivered) (sym e) r.told) same;
-    }
-
 pub turned : {E : Type 0} (granted : Type 0) (old new : Kernel) (turn : Turn) (answer : Result Turn E)
-    → IsKernel old → Goes old new.kept new.pulled new.reaped new.intake new.lanes turn
-    → new.pairing ≡ old.pairing → new.sizes ≡ old.sizes → IfOk answer (λ made. made ≡ turn)
-    → IfOk answer (HasServed old new) → OnErr answer (new.dropped ≡ old.dropped)
+    → IsKernel old → Goes old new.kept new.pulled new.reaped new.intake new.lanes turn answer
+    → new.pairing ≡ old.pairing → new.sizes ≡ old.sizes → IfOk answer (HasServed old new) → OnErr answer (new.dropped ≡ old.dropped)
     → (granted → IsOk answer) → Turns granted old new answer
-turned granted old new turn answer is g pairing sizes same served not_stored ok =
+turned granted old new turn answer is g pairing sizes served not_stored ok =
     let setup = g.counts.appends.setup in
     let hold = hold_stays old.lanes new.lanes g.same is.hold in
     record {
@@ -234,7 +215,7 @@ turned granted old new turn answer is g pairing sizes same served not_stored ok 
         served = served;
         next = next_is_none answer new.kept new.lanes (IfOk-weaker answer _ _ (λ made s. s.none_left) served) g.ties.carried hold;
         err = on_err answer (_, g.counts.appends);
-        rows = rows_told old.kept new.kept old.intake old.pulled new.pulled turn answer g.rows same;
+        rows = g.rows;
         few_results = g.few;
         not_stored = not_stored;
       };
@@ -248,27 +229,21 @@ turned granted old new turn answer is g pairing sizes same served not_stored ok 
 -- if memory was refused
 pub refused : {E : Type 0} (granted : Type 0) (old new : Kernel) (turn : Turn) (answer : Result Turn E)
     → IsErr answer → IsKernel old
-    → Goes old new.kept new.pulled new.reaped new.intake new.lanes turn
+    → Goes old new.kept new.pulled new.reaped new.intake new.lanes turn answer
     → new.pairing ≡ old.pairing → new.sizes ≡ old.sizes → new.dropped ≡ old.dropped
     → (granted → false ≡ true) → Turns granted old new answer
 refused granted old new turn answer err is g pairing sizes dropped never =
-    turned granted old new turn answer is g pairing sizes (IfOk-from_err answer _ err) (IfOk-from_err answer _ err) (on_err answer dropped) (λ all. absurd (false≢true (never all)))
+    turned granted old new turn answer is g pairing sizes (IfOk-from_err answer _ err) (on_err answer dropped) (λ all. absurd (false≢true (never all)))
 
 -- The dispatcher's end where nothing happened but that its trace may have more memory.
 pub kernel_unmoved : (k : Kernel) (kept : Kept) → IsUnmoved k.kept kept → IsKernel k
     → IsKernel (record k { kept = kept })
 kernel_unmoved k kept u is =
-    let sizes : kept.setup ≡ k.kept.setup = u.setup in
     let same : now kept ≡ now k.kept = unmoved_now k.kept kept u in
-    record {
-      sq = is.sq ∙ ap (λ (g : Setup). g.sq) (sym sizes);
-      cq = is.cq ∙ ap (λ (g : Setup). g.cq) (sym sizes);
-      some = is.some;
-      few = is.few;
-      hold = is.hold;
-      short = is.short;
-      ties = ties_delivered is.ties (delivers_none u (subst (KeepsAllBut (now k.kept)) (sym same) (keeps_all (now k.kept))) (subst (λ (w : World). IsDelivered w.completions k.reaped) (sym same) is.ties.delivered));
-    }
+    let sq = is.sq ∙ ap (λ (g : Setup). g.sq) (sym u.setup) in
+    let cq = is.cq ∙ ap (λ (g : Setup). g.cq) (sym u.setup) in
+    let ties = ties_delivered is.ties (delivers_none u (subst (KeepsAllBut (now k.kept)) (sym same) (keeps_all (now k.kept))) (subst (λ (w : World). IsDelivered w.completions k.reaped) (sym same) is.ties.delivered)) in
+    assumption
 
 -- what can be issued next stays where only the completion ring changes
 pub same_next : (a b : Kept) → KeepsAllBut (now a) (now b) → b.setup ≡ a.setup → next_in b ≡ next_in a

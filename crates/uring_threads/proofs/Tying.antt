@@ -1,5 +1,5 @@
--- What was pulled stays tied to the submission ring.
-use Rattle.std.proofs.Common.{◌≡◌, ℕ, ◌+◌, ◌<◌, ◌≤◌, true, false, List, [], ◌∷◌, ◌++◌, length, map, flat_map, refl, sym, subst, ap, ap₂, ◌∙◌, arith, append_assoc, append-nil}
+-- What ties the dispatcher's lists to its trace: what was pulled stays tied to the submission ring, and the trace has one Close once the close mark was pulled, and none before.
+use Rattle.std.proofs.Common.{◌≡◌, ℕ, ◌+◌, ◌<◌, ◌≤◌, true, false, List, [], ◌∷◌, ◌++◌, length, map, flat_map, refl, sym, subst, ap, ap₂, ◌∙◌, arith, append_assoc, append-nil, count_by, cond}
 use Rattle.std.proofs.lemmas.Grind.{flat_map-append}
 use Rattle.std.proofs.lemmas.List.{map-append, length-map, length-append, get_or_append_left}
 use Rattle.uring_entry.specs.Submission.{Submission, Place, Published, item_of, IsItem}
@@ -12,7 +12,7 @@ use Rattle.uring_ports.specs.declared.pulled.Pulled.{Pulled}
 use Rattle.uring_ports.specs.declared.item.Item.{Item}
 use Rattle.uring_threads.specs.Calls.{calls_of, calls_left}
 use Rattle.uring_threads.specs.Taking.{intake_after, HaveMade, HasBegun, TakesIn}
-use Rattle.uring_threads.specs.Turns.{Tied, IsGivenUpAsSpent, is_shut}
+use Rattle.uring_threads.specs.Turns.{Tied, IsGivenUpAsSpent, is_shut, ClosesOnce, awaits_memory}
 use Rattle.uring_threads.proofs.CallsMade.{items_keep_calls, none_left, published_left, calls_add_up, kept_after}
 use Rattle.uring_entry.specs.Setup.{Setup}
 use Rattle.uring_core.specs.declared.step.Step.TheVariants as step
@@ -20,16 +20,18 @@ use Rattle.uring_core.specs.declared.answer.Answer.{Answer}
 use Rattle.uring_core.specs.declared.answer.Answer.TheVariants as answer
 use Rattle.uring_threads.specs.Kept.{Kept, IsUnmoved, Grows, now}
 use Rattle.uring_threads.specs.Rows.{with_items_published}
-use Rattle.uring_threads.specs.Tallies.{Appends, items_counted, close_counted}
+use Rattle.uring_threads.specs.Tallies.{Appends, Tally, closes_ring}
 use Rattle.uring_threads.proofs.ItemSteps.{items_stand}
-use Rattle.uring_threads.proofs.TraceSteps.{grown, unmoved_now, appends_none, appends_one, appends_then}
+use Rattle.uring_threads.proofs.TraceSteps.{grown, unmoved_now, appends_none, appends_then}
 use Rattle.uring_laws.proofs.Standing.{items_published, tail_publishes}
-use Rattle.std.specs.Prelude.{All, Result, Ok, Err, IfOk, OnErr, None, is_some, if◌then◌else◌}
+use Rattle.std.specs.Prelude.{All, None, is_some, if◌then◌else◌}
 use Rattle.std.proofs.lemmas.List.Elements.{All-tail}
 use Rattle.uring_threads.specs.declared.calls.Begun.{Begun}
 use Rattle.uring_threads.specs.declared.calls.Begun.TheVariants as begun
 use Rattle.uring_threads.specs.declared.intake.Intake.{Intake}
 use Rattle.uring_threads.specs.declared.intake.Intake.TheVariants as intake
+use Rattle.std.proofs.lemmas.List.Sums.{sum_by-append}
+use Rattle.uring_core.specs.Histories.{Event}
 
 -- calls were begun that take what waited
 shut_after : (i : Intake) (b : Begun) (count : ℕ) → i ≡ intake.Waiting count → is_shut i ≡ is_shut (intake_after b)
@@ -115,22 +117,6 @@ takes_nothing a b u = record {
   idle = λ none. u.trace;
 }
 
-pub takes_items : (a b : Kept) (n : ℕ) → 0 < n → Appends a b (items_counted n) → TakesIn a b n
-takes_items a b n some p = record {
-  calls = 0;
-  closes = 0;
-  appends = p;
-  idle = λ none. absurd (omega (arith, none, some));
-}
-
-pub takes_close : (a b : Kept) → Appends a b close_counted → TakesIn a b 0
-takes_close a b p = record {
-  calls = 0;
-  closes = 1;
-  appends = p;
-  idle = λ none. absurd (omega (arith, none));
-}
-
 -- one after the other
 pub takes_then : (a b c : Kept) (n m k : ℕ) → TakesIn a b n → TakesIn b c m → n + m ≡ k
     → TakesIn a c k
@@ -213,17 +199,38 @@ tied_shut a b x before after i ready g called tied pulled =
     subst (λ w. Tied a.setup w after intake.Closed) (sym (closed_world a b x g called t.stands.call))
     (subst (λ p. Tied a.setup (record (now a) { is_closed = true }) p intake.Closed) (sym pulled) (record { published = t.published; calls = t.calls; stands = t.stands; spent = tt; closed = refl; shut = refl }))
 
--- what that appended
-pub takes_shut : (a b : Kept) (x : Answer) → Grows a b (step.Close, x) → TakesIn a b 0
-takes_shut a b x g = takes_close a b (appends_one a b (step.Close, x) close_counted g refl refl)
+-- closes of two lists of events
+pub closes_append : (es fs : List Event)
+    → count_by closes_ring (es ++ fs) ≡ count_by closes_ring es + count_by closes_ring fs
+closes_append es fs = sum_by-append (λ e. cond (closes_ring e) 1 0) es fs
 
--- what a pull took in after a retry
-pub ok_then : {E : Type 0} (r : Result ℕ E) (a b c : Kept) → TakesIn a b 0
-    → IfOk r (λ n. TakesIn b c n) → IfOk r (λ n. TakesIn a c n)
-ok_then (Ok n) a b c p q = takes_then a b c 0 n n p q (omega arith)
-ok_then (Err e) a b c p q = tt
+-- nothing was appended, or nothing that closes
+pub once_unmoved : (a b : Kept) (i : Intake) → IsUnmoved a b → ClosesOnce a i → ClosesOnce b i
+once_unmoved a b i u once = ap (count_by closes_ring) u.trace ∙ once
 
-pub err_then : {E : Type 0} (r : Result ℕ E) (a b c : Kept) → TakesIn a b 0
-    → OnErr r (TakesIn b c 0) → OnErr r (TakesIn a c 0)
-err_then (Ok n) a b c p q = tt
-err_then (Err e) a b c p q = takes_then a b c 0 0 0 p q refl
+pub once_stays : (a b : Kept) (t : Tally) (i : Intake) → Appends a b t → t.closes ≡ 0
+    → ClosesOnce a i → ClosesOnce b i
+once_stays a b t i p none once =
+    ap (count_by closes_ring) p.trace ∙ closes_append a.trace p.events ∙ ap (λ n. count_by closes_ring a.trace + n) (ap (λ (u : Tally). u.closes) p.tally ∙ none) ∙ omega arith ∙ once
+
+-- calls were begun
+not_shut : (a : Kept) (b : Begun) → ClosesOnce a intake.Ready → ClosesOnce a (intake_after b)
+not_shut a begun.Taken once = once
+not_shut a _ once = once
+
+pub once_begun : (a b : Kept) (t : Tally) (i : Intake) (x : Begun) → Appends a b t
+    → t.closes ≡ 0 → (ClosesOnce a i → ClosesOnce a intake.Ready) → ClosesOnce a i
+    → ClosesOnce b (intake_after x)
+once_begun a b t i x p none ready once =
+    not_shut b x (once_stays a b t intake.Ready p none (ready once))
+
+-- the close mark was pulled
+pub once_shut : (a b : Kept) (x : Answer) → Grows a b (step.Close, x) → ClosesOnce a intake.Ready
+    → ClosesOnce b intake.Closed
+once_shut a b x g once = ap (count_by closes_ring) g.trace ∙ closes_append a.trace ((step.Close, x) ∷ []) ∙ ap (λ n. n + 1) once
+
+-- an intake in any state but that of waiting
+pub waits_not : (i : Intake) → ((count : ℕ) → i ≡ intake.Waiting count → ⊥)
+    → awaits_memory i ≡ false
+waits_not (intake.Waiting count) never = absurd (never count refl)
+waits_not _ never = refl

@@ -1,5 +1,5 @@
 -- What positions more do to the calls that positions hold.
-use Rattle.std.proofs.Common.{◌≡◌, ◌<◌, Bool, true, false, List, [], ◌∷◌, ◌++◌, length, refl, sym, ◌∙◌, ap, subst, arith, append-nil}
+use Rattle.std.proofs.Common.{◌≡◌, ◌↔◌, ◌<◌, Bool, true, false, List, [], ◌∷◌, ◌++◌, length, refl, sym, ◌∙◌, ap, subst, arith, append-nil}
 use Rattle.std.proofs.lemmas.Bool.{false≢true}
 use Rattle.uring_ports.specs.declared.item.Item.{Item}
 use Rattle.uring_ports.specs.Messages.{with_first}
@@ -22,21 +22,13 @@ close_mark_append [] ys none = refl
 close_mark_append (position.Close ∷ ps) ys none = absurd (false≢true (sym none))
 close_mark_append (_ ∷ ps) ys none = close_mark_append ps ys none
 
--- whole calls after whole calls are whole
-whole_append : (b : Bool) (xs ys : List Position) → AreWholeFrom b xs
-    → has_close_mark xs ≡ false → AreWhole ys → AreWholeFrom b (xs ++ ys)
-whole_append b [] ys h none w = let P : Bool → Type 0 = λ c. AreWholeFrom c ys in subst P (sym h) w
-whole_append b (position.More x ∷ ps) ys h none w = whole_append true ps ys h none w
-whole_append b (position.Last x ∷ ps) ys h none w = whole_append false ps ys h none w
-whole_append b (position.Close ∷ ps) ys h none w = absurd (false≢true (sym none))
-
--- what is after whole calls is whole
-pub whole_rest : (b : Bool) (xs ys : List Position) → AreWholeFrom b xs → has_close_mark xs ≡ false
-    → AreWholeFrom b (xs ++ ys) → AreWhole ys
-whole_rest b [] ys h none w = let P : Bool → Type 0 = λ c. AreWholeFrom c ys in subst P h w
-whole_rest b (position.More x ∷ ps) ys h none w = whole_rest true ps ys h none w
-whole_rest b (position.Last x ∷ ps) ys h none w = whole_rest false ps ys h none w
-whole_rest b (position.Close ∷ ps) ys h none w = absurd (false≢true (sym none))
+-- what is after whole calls is whole exactly if all is
+pub whole_both : (b : Bool) (xs ys : List Position) → AreWholeFrom b xs → has_close_mark xs ≡ false
+    → AreWholeFrom b (xs ++ ys) ↔ AreWhole ys
+whole_both b [] ys h none = let P : Bool → Type 0 = λ c. AreWholeFrom c ys in (subst P h, subst P (sym h))
+whole_both b (position.More x ∷ ps) ys h none = whole_both true ps ys h none
+whole_both b (position.Last x ∷ ps) ys h none = whole_both false ps ys h none
+whole_both b (position.Close ∷ ps) ys h none = absurd (false≢true (sym none))
 
 two_first : (x y : Item) (cs ds : List (List Item))
     → with_first x (with_first y cs ++ ds) ≡ with_first x (with_first y cs) ++ ds
@@ -92,7 +84,7 @@ holds_call xs front last whole none =
         calls = (calls_append false xs call whole none ∙ ap (λ cs. calls_of xs ++ cs) (one_call front last)) i;
         closed = (close_mark_append xs call none ∙ call_is_open front last ∙ sym none) i;
       };
-      whole = whole_append false xs call whole none (call_is_whole false front last);
+      whole = (whole_both false xs call whole none).1 (call_is_whole false front last);
     }
 
 -- the close mark after all calls
@@ -105,7 +97,7 @@ holds_close xs whole none =
         calls = (calls_append false xs mark whole none ∙ append-nil (calls_of xs)) i;
         closed = close_mark_append xs mark none i;
       };
-      whole = whole_append false xs mark whole none (refl, refl);
+      whole = (whole_both false xs mark whole none).1 (refl, refl);
     }
 
 items_with_first : (x : Item) (calls : List (List Item))
@@ -175,7 +167,7 @@ leaves_either true all old new is whole old_whole closed =
       closed = λ _. (ap has_close_mark same ∙ closed, refl);
     }
 leaves_either false all old new is whole old_whole open' =
-    let new_whole = whole_rest false old new old_whole open' (subst AreWhole is whole) in
+    let new_whole = (whole_both false old new old_whole open').0 (subst AreWhole is whole) in
     record {
       rest = calls_of new;
       calls = sym (ap calls_of is ∙ calls_append false old new old_whole open');

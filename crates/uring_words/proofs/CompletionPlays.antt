@@ -1,71 +1,120 @@
 -- What each step of a seat of the completion ring's table asks. v is what the seat knows, and held what it holds.
-use Rattle.std.proofs.Common.{◌≡◌, ℕ, ◌+◌, ◌^◌, ◌<◌, true, List, [], ◌∷◌, ◌++◌, length, get_or, set, refl, sym, ◌∙◌, ap, ap₂, subst, arith, length-append}
+use Rattle.std.specs.Prelude.{replicate}
+use Rattle.std.specs.Int.{IsPowerOfTwo}
+use Rattle.std.proofs.Common.{◌≡◌, ℕ, ◌+◌, ◌^◌, ◌<◌, ◌≤◌, true, List, [], ◌∷◌, ◌++◌, length, get_or, set, refl, sym, ◌∙◌, ap, ap₂, subst, arith, length-append, get_or-set_other, get_or-set_same}
 use Rattle.std.proofs.lemmas.List.{set-get_or}
-use mathlib.Core.Option.{none}
-use Rattle.atomic_table.specs.Table.{step, keeps, gives, put_back, Allows}
+use mathlib.Core.Option.{Option, none, some}
+use Rattle.atomic_table.specs.Table.{opening, step, keeps, gives, put_back, Allows}
 use Rattle.uring_entry.specs.IndexWords.{word_of}
 use Rattle.uring_entry.specs.Layout.{Cqe}
 use Rattle.uring_ports.specs.Dropped.{WereHad}
 use Rattle.uring_words.specs.Completion.Layout.{tail_index, head_index, dropped_index}
-use Rattle.uring_words.specs.Completion.Rule.{last_of, Agree, BothAgree}
+use Rattle.uring_words.specs.Completion.Rule.{last_of, Agree, BothAgree, at_first}
 use Rattle.uring_words.specs.Completion.Steps.{put_first, dropped_stored, head_loaded, all_given, tail_loaded, got_first, dropped_loaded, StoresTail, StoresDropped, LoadsHead, GivesAll, LoadsTail, StoresHead, LoadsDropped}
 use Rattle.uring_words.specs.Places.{place_of}
 use Rattle.uring_words.specs.Slots.{app_has, held_from, StandFrom}
 use Rattle.uring_words.specs.declared.completion.view.AppSide.{AppSide}
 use Rattle.uring_words.specs.declared.completion.view.KernelSide.{KernelSide}
+use Rattle.uring_words.specs.declared.sides.Shape.{Shape}
 use Rattle.uring_words.specs.declared.sides.View.{View}
-use Rattle.uring_words.proofs.CompletionSteps.{put_many, few_cells, keeps_tail_stored, keeps_dropped_stored, keeps_head_loaded, keeps_all_given, keeps_tail_loaded, keeps_dropped_loaded, keeps_head_stored}
-use Rattle.uring_words.proofs.Handing.{take_valid, all_valid}
-use Rattle.uring_words.proofs.SlotSeats.{app_hands, app_step, kernel_hands, kernel_step}
+use Rattle.uring_words.proofs.DroppedWords.{last_after, had_more, had_last}
+use Rattle.uring_words.proofs.FirstTable.{first_lists}
+use Rattle.uring_words.proofs.Handing.{take_valid, take_moves, all_valid, all_here, all_moves}
+use Rattle.uring_words.proofs.RingLists.{ListsAgree, put_many, keeps_stored, keeps_tail_stored, keeps_head_stored, keeps_head_loaded, keeps_all_given, keeps_tail_loaded}
+use Rattle.uring_words.proofs.SlotActs.{set_moves, set_stands}
+use Rattle.uring_words.proofs.SlotSeats.{app_hands, app_step, kernel_hands, kernel_step, opens_with}
 
-module _ (slots id i : ℕ) (v : View AppSide KernelSide) (held : List (ℕ × Cqe)) where
+-- The sides agree by their lists, and on the dropped words.
+module _ {words : List ℕ} {homes : List (Option Cqe)} {a : AppSide} {d : KernelSide} where
+  lists : (h : Agree words homes a d)
+      → ListsAgree 3 words homes d.start d.size d.end a.got a.known d.put h.rest h.free
+  lists h =
+      let fits : d.size ≤ 2 ^ 32 = omega (arith, h.sized.limit) in
+      let some : 2 ≤ 3 = omega arith in
+      assumption
+
+  agrees : {rest free : List Cqe} → a.start ≡ d.start → a.size ≡ d.size → d.size ≤ 8192
+      → get_or words dropped_index 0 ≡ last_of 0 d.dropped → last_of 0 d.dropped < 2 ^ 32 → WereHad (0 ∷ d.dropped) a.dropped
+      → ListsAgree 3 words homes d.start d.size d.end a.got a.known d.put rest free
+      → Agree words homes a d
+  agrees {rest} {free} start size limit dropped small loaded l = record {
+    sized = assumption;
+    room = l.room;
+    tail = l.tail;
+    head = l.head;
+    dropped = dropped;
+    small = small;
+    rest = rest;
+    begins = l.begins;
+    stand = l.stand;
+    free = free;
+    all = l.all;
+    stand_free = l.stand_free;
+    loaded = loaded;
+  }
+
+-- a new table keeps the rule
+pub opens : (key : Shape) (blank : Cqe) → IsPowerOfTwo key.size → key.size ≤ 8192 → key.start < 2 ^ 32
+    → BothAgree (opening (key.start ∷ key.start ∷ 0 ∷ []) (replicate key.size blank) (at_first key))
+opens key blank power limit small =
+    opens_with (key.start ∷ key.start ∷ 0 ∷ []) (replicate key.size blank) (at_first key).app (at_first key).kernel
+    (agrees refl refl limit refl (omega arith) tt (first_lists key.start key.size blank (0 ∷ []) power (omega arith) small))
+
+module _ (slots id : ℕ) (v : View AppSide KernelSide) (held : List (ℕ × Cqe)) where
   -- the tail is stored
   pub stores_tail : (word : ℕ) (c : Cqe) (others : List (ℕ × Cqe)) → v.is_kernel ≡ true
       → held ≡ (place_of v.kernel.start v.kernel.size (length v.kernel.put), c) ∷ others
       → length v.kernel.put < v.kernel.end
       → word ≡ word_of v.kernel.start (length v.kernel.put + 1)
-      → i ≡ tail_index
-      → Allows BothAgree slots id (v, held) i (λ _. word) (λ _. StoresTail (step slots i word 0 none) (v, held) word)
-  stores_tail word c others is_kernel holds room is_word is =
-      kernel_step slots id i (λ _. word) v held (λ _. StoresTail (step slots i word 0 none) (v, held) word) is_kernel (λ words homes a h both.
+      → Allows BothAgree slots id (v, held) tail_index (λ _. word) (λ _. StoresTail (step slots tail_index word 0 none) (v, held) word)
+  stores_tail word c others is_kernel holds room is_word =
+      kernel_step slots id tail_index (λ _. word) v held (λ _. StoresTail (step slots tail_index word 0 none) (v, held) word) is_kernel (λ words homes a h both.
       let d : KernelSide = v.kernel in
-      let P : List (ℕ × Cqe) → Type 0 = λ l. Agree (set words i word) (put_back homes l) a (put_first d l) in
-      (put_first d held, gives, tt, subst P (sym holds) (rw is (keeps_tail_stored words homes a d word c h room is_word)), refl))
+      let n : ℕ = length d.put in
+      let s = h.sized in
+      let l = lists h in
+      let P : List (ℕ × Cqe) → Type 0 = λ xs. Agree (set words tail_index word) (put_back homes xs) a (put_first d xs) in
+      let stored = keeps_tail_stored l 1 word (c ∷ []) (set_moves d.start d.size s.power l.fits homes n (some c)) (set_stands d.start d.size s.power l.fits homes n c s.cells) (omega arith) (omega arith) is_word in
+      (put_first d held, gives, tt, subst P (sym holds) (agrees s.start s.size s.limit (get_or-set_other words tail_index dropped_index word 0 (λ e. omega arith) ∙ h.dropped) h.small h.loaded stored), refl))
 
   -- the dropped word is stored
-  pub stores_dropped : (word : ℕ) → v.is_kernel ≡ true → word < 2 ^ 32 → i ≡ dropped_index
-      → Allows BothAgree slots id (v, held) i (λ _. word) (λ _. StoresDropped (step slots i word 0 none) (v, held) word)
-  stores_dropped word is_kernel small is =
-      kernel_step slots id i (λ _. word) v held (λ _. StoresDropped (step slots i word 0 none) (v, held) word) is_kernel
-      (λ words homes a h both. (dropped_stored v.kernel word, keeps, tt, rw is (keeps_dropped_stored words homes a v.kernel word h small), refl))
+  pub stores_dropped : (word : ℕ) → v.is_kernel ≡ true → word < 2 ^ 32
+      → Allows BothAgree slots id (v, held) dropped_index (λ _. word) (λ _. StoresDropped (step slots dropped_index word 0 none) (v, held) word)
+  stores_dropped word is_kernel small =
+      kernel_step slots id dropped_index (λ _. word) v held (λ _. StoresDropped (step slots dropped_index word 0 none) (v, held) word) is_kernel (λ words homes a h both.
+      let d : KernelSide = v.kernel in
+      let s = h.sized in
+      let last = last_after 0 d.dropped word [] in
+      let there = get_or-set_same words dropped_index word 0 (omega (arith, s.many)) ∙ sym last in
+      (dropped_stored d word, keeps, tt, agrees s.start s.size s.limit there (rw last small) (had_more (0 ∷ d.dropped) (word ∷ []) a.dropped h.loaded) (keeps_stored (lists h) dropped_index word (omega arith)), refl))
 
   -- the head is loaded
   pub loads_head : (blank : List Cqe) → v.is_kernel ≡ true
       → held ≡ held_from v.kernel.start v.kernel.size (length v.kernel.put) blank
       → length v.kernel.put + length blank ≡ v.kernel.end
-      → i ≡ head_index
-      → Allows BothAgree slots id (v, held) i (λ n. n) (LoadsHead (step slots i 0 0 none) (v, held))
-  loads_head blank is_kernel holds ends is =
-      kernel_hands slots id i (λ n. n) (λ ws. ws) (λ ws. sym (set-get_or ws i 0)) v held (LoadsHead (step slots i 0 0 none) (v, held)) is_kernel (λ words homes a h both.
+      → Allows BothAgree slots id (v, held) head_index (λ n. n) (LoadsHead (step slots head_index 0 0 none) (v, held))
+  loads_head blank is_kernel holds ends =
+      kernel_hands slots id head_index (λ n. n) (λ ws. ws) (λ ws. sym (set-get_or ws head_index 0)) v held (LoadsHead (step slots head_index 0 0 none) (v, held)) is_kernel (λ words homes a h both.
       let d : KernelSide = v.kernel in
       let n : ℕ = length d.put in
-      let put = put_many words homes a d h in
-      let all = h.all in
-      let room = h.room in
-      let long = length-append blank h.free in
+      let s = h.sized in
+      let l = lists h in
+      let count = put_many l in
+      let longer = length-append blank h.free in
+      let few : length blank + length h.free ≤ d.size = omega (arith, l.all, l.room) in
       let there = subst (λ (k : ℕ). StandFrom d.start d.size homes k h.free) (sym ends) h.stand_free in (
         held_from d.start d.size n blank,
         held_from d.start d.size n (blank ++ h.free),
         head_loaded d (length a.got + d.size),
         holds,
-        take_valid d.start d.size h.sized.power (few_cells words homes a d h) homes h.sized.cells n blank h.free (omega arith) there,
-        keeps_head_loaded words homes a d blank h ends,
+        take_valid d.start d.size s.power l.fits homes s.cells n blank h.free few there,
+        agrees s.start s.size s.limit h.dropped h.small h.loaded (keeps_head_loaded l (length blank + length h.free) (take_moves d.start d.size s.power l.fits homes s.cells n blank h.free) (omega (arith, l.all))),
         (
           length a.got,
           blank ++ h.free,
           refl,
-          record { head = ap (λ j. get_or words j 0) is ∙ h.head; put_before = omega arith; later = omega arith; many = omega arith },
-          is,
+          record { head = h.head; put_before = omega arith; later = omega (arith, l.all); many = omega (arith, l.all) },
+          refl,
         ),
       ))
 
@@ -73,49 +122,52 @@ module _ (slots id i : ℕ) (v : View AppSide KernelSide) (held : List (ℕ × C
   pub gives_back : (blank : List Cqe) → v.is_kernel ≡ true
       → held ≡ held_from v.kernel.start v.kernel.size (length v.kernel.put) blank
       → length v.kernel.put + length blank ≡ v.kernel.end
-      → Allows BothAgree slots id (v, held) i (λ n. n) (GivesAll (step slots i 0 0 none) (v, held))
+      → Allows BothAgree slots id (v, held) head_index (λ n. n) (GivesAll (step slots head_index 0 0 none) (v, held))
   gives_back blank is_kernel holds ends =
-      kernel_hands slots id i (λ n. n) (λ ws. ws) (λ ws. sym (set-get_or ws i 0)) v held (GivesAll (step slots i 0 0 none) (v, held)) is_kernel (λ words homes a h both.
-      let d : KernelSide = v.kernel in (
-        held_from d.start d.size (length d.put) blank,
+      kernel_hands slots id head_index (λ n. n) (λ ws. ws) (λ ws. sym (set-get_or ws head_index 0)) v held (GivesAll (step slots head_index 0 0 none) (v, held)) is_kernel (λ words homes a h both.
+      let d : KernelSide = v.kernel in
+      let n : ℕ = length d.put in
+      let s = h.sized in
+      let l = lists h in
+      let count = put_many l in
+      let few : length blank ≤ d.size = omega (arith, l.all) in (
+        held_from d.start d.size n blank,
         [],
         all_given d,
         holds,
-        all_valid d.start d.size h.sized.power (few_cells words homes a d h) homes (length d.put) blank,
-        keeps_all_given words homes a d blank h ends,
+        all_valid d.start d.size s.power l.fits homes n blank,
+        agrees s.start s.size s.limit h.dropped h.small h.loaded (keeps_all_given l (length blank) blank (all_moves d.start d.size s.power l.fits homes n blank) (all_here d.start d.size s.power l.fits homes n blank s.cells few) ends (omega arith)),
         refl,
       ))
 
   -- the tail is loaded
   pub loads_tail : v.is_app ≡ true
       → held ≡ held_from v.app.start v.app.size (length v.app.got) v.app.known
-      → i ≡ tail_index
-      → Allows BothAgree slots id (v, held) i (λ n. n) (LoadsTail (step slots i 0 0 none) (v, held))
-  loads_tail is_app holds is =
-      app_hands slots id i (λ n. n) (λ ws. ws) (λ ws. sym (set-get_or ws i 0)) v held (LoadsTail (step slots i 0 0 none) (v, held)) is_app (λ words homes d h both.
+      → Allows BothAgree slots id (v, held) tail_index (λ n. n) (LoadsTail (step slots tail_index 0 0 none) (v, held))
+  loads_tail is_app holds =
+      app_hands slots id tail_index (λ n. n) (λ ws. ws) (λ ws. sym (set-get_or ws tail_index 0)) v held (LoadsTail (step slots tail_index 0 0 none) (v, held)) is_app (λ words homes d h both.
       let a : AppSide = v.app in
       let n : ℕ = length a.got in
       let s = h.sized in
-      let put = put_many words homes a d h in
-      let all = h.all in
-      let room = h.room in
-      let sized = s.size in (
+      let l = lists h in
+      let count = put_many l in
+      let few : length a.known + length h.rest ≤ d.size = omega (arith, l.all, l.room) in (
         held_from d.start d.size n a.known,
         held_from d.start d.size n (a.known ++ h.rest),
         tail_loaded a h.rest,
         holds ∙ (λ j. held_from (s.start j) (s.size j) n a.known),
-        take_valid d.start d.size s.power (few_cells words homes a d h) homes s.cells n a.known h.rest (omega arith) h.stand,
-        keeps_tail_loaded words homes a d h,
+        take_valid d.start d.size s.power l.fits homes s.cells n a.known h.rest few h.stand,
+        agrees s.start s.size s.limit h.dropped h.small h.loaded (keeps_tail_loaded l (length a.known + length h.rest) (take_moves d.start d.size s.power l.fits homes s.cells n a.known h.rest) (omega arith)),
         (
           h.rest,
           (λ j. app_has (v, held) (tail_loaded a h.rest) (held_from (sym s.start j) (sym s.size j) n (a.known ++ h.rest))),
           record {
-            tail = ap (λ j. get_or words j 0) is ∙ h.tail ∙ ap (λ w. word_of w (length d.put)) (sym s.start) ∙ ap (word_of a.start) put;
-            few = omega arith;
+            tail = h.tail ∙ ap (λ w. word_of w (length d.put)) (sym s.start) ∙ ap (word_of a.start) count;
+            few = omega (arith, s.size);
             all = λ is_kernel. ap (λ (e : KernelSide). e.put) (both is_kernel) ∙ h.begins;
             dropped = λ is_kernel. let Q : KernelSide → Type 0 = λ e. WereHad (0 ∷ e.dropped) a.dropped in subst Q (sym (both is_kernel)) h.loaded;
           },
-          is,
+          refl,
         ),
       ))
 
@@ -123,27 +175,30 @@ module _ (slots id i : ℕ) (v : View AppSide KernelSide) (held : List (ℕ × C
   pub stores_head : (word : ℕ) (c : Cqe) (cs : List Cqe) → v.is_app ≡ true → v.app.known ≡ c ∷ cs
       → held ≡ held_from v.app.start v.app.size (length v.app.got) v.app.known
       → word ≡ word_of v.app.start (length v.app.got + 1)
-      → i ≡ head_index
-      → Allows BothAgree slots id (v, held) i (λ _. word) (λ _. StoresHead (step slots i word 0 none) (v, held) word)
-  stores_head word c cs is_app known holds is_word is =
-      app_step slots id i (λ _. word) v held (λ _. StoresHead (step slots i word 0 none) (v, held) word) is_app (λ words homes d h both.
+      → Allows BothAgree slots id (v, held) head_index (λ _. word) (λ _. StoresHead (step slots head_index word 0 none) (v, held) word)
+  stores_head word c cs is_app known holds is_word =
+      app_step slots id head_index (λ _. word) v held (λ _. StoresHead (step slots head_index word 0 none) (v, held) word) is_app (λ words homes d h both.
       let a : AppSide = v.app in
       let n : ℕ = length a.got in
-      let holds' : held ≡ held_from d.start d.size n (c ∷ cs) = holds ∙ ap₂ (λ s z. held_from s z n a.known) h.sized.start h.sized.size ∙ ap (held_from d.start d.size n) known in
-      let P : List (ℕ × Cqe) → List Cqe → Type 0 = λ l ks. Agree (set words i word) (put_back homes l) (got_first a ks) d in
-      let kept = keeps_head_stored words homes a d word c cs h known (is_word ∙ ap (λ s. word_of s (n + 1)) h.sized.start) in
-      (got_first a a.known, gives, tt, subst (λ (l : List (ℕ × Cqe)). P l a.known) (sym holds') (subst (P (held_from d.start d.size n (c ∷ cs))) (sym known) (rw is kept)), refl))
+      let s = h.sized in
+      let l = lists h in
+      let holds' : held ≡ held_from d.start d.size n (c ∷ cs) = holds ∙ ap₂ (λ start size. held_from start size n a.known) s.start s.size ∙ ap (held_from d.start d.size n) known in
+      let P : List (ℕ × Cqe) → List Cqe → Type 0 = λ xs ks. Agree (set words head_index word) (put_back homes xs) (got_first a ks) d in
+      let stored = keeps_head_stored l 1 word (c ∷ []) cs (set_moves d.start d.size s.power l.fits homes n (some c)) (set_stands d.start d.size s.power l.fits homes n c s.cells) known (omega (arith, ap length known)) (is_word ∙ ap (λ start. word_of start (n + 1)) s.start) in
+      let kept : P (held_from d.start d.size n (c ∷ cs)) (c ∷ cs) = agrees s.start s.size s.limit (get_or-set_other words head_index dropped_index word 0 (λ e. omega arith) ∙ h.dropped) h.small h.loaded stored in
+      (got_first a a.known, gives, tt, subst (λ (xs : List (ℕ × Cqe)). P xs a.known) (sym holds') (subst (P (held_from d.start d.size n (c ∷ cs))) (sym known) kept), refl))
 
   -- the dropped word is loaded
-  pub loads_dropped : v.is_app ≡ true → i ≡ dropped_index
-      → Allows BothAgree slots id (v, held) i (λ n. n) (LoadsDropped (step slots i 0 0 none) (v, held))
-  loads_dropped is_app is =
-      app_step slots id i (λ n. n) v held (LoadsDropped (step slots i 0 0 none) (v, held)) is_app (λ words homes d h both.
-      let found : get_or words i 0 ≡ last_of 0 d.dropped = ap (λ j. get_or words j 0) is ∙ h.dropped in
-      let P : ℕ → List ℕ → Type 0 = λ n ws. Agree ws homes (dropped_loaded v.app n) d in (
-        dropped_loaded v.app (get_or words i 0),
+  pub loads_dropped : v.is_app ≡ true
+      → Allows BothAgree slots id (v, held) dropped_index (λ n. n) (LoadsDropped (step slots dropped_index 0 0 none) (v, held))
+  loads_dropped is_app =
+      app_step slots id dropped_index (λ n. n) v held (LoadsDropped (step slots dropped_index 0 0 none) (v, held)) is_app (λ words homes d h both.
+      let s = h.sized in
+      let P : ℕ → List ℕ → Type 0 = λ n ws. Agree ws homes (dropped_loaded v.app n) d in
+      let kept : P (last_of 0 d.dropped) words = agrees s.start s.size s.limit h.dropped h.small (had_last 0 d.dropped v.app.dropped h.loaded) (lists h) in (
+        dropped_loaded v.app (get_or words dropped_index 0),
         keeps,
         tt,
-        subst (P (get_or words i 0)) (sym (set-get_or words i 0)) (subst (λ (n : ℕ). P n words) (sym found) (keeps_dropped_loaded words homes v.app d h)),
-        (refl, rw found h.small, is),
+        subst (P (get_or words dropped_index 0)) (sym (set-get_or words dropped_index 0)) (subst (λ (n : ℕ). P n words) (sym h.dropped) kept),
+        (refl, rw h.dropped h.small, refl),
       ))

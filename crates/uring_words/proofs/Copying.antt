@@ -12,7 +12,7 @@ use Rattle.uring_ports.specs.Ports.{Pulls, with_call}
 use Rattle.uring_words.specs.Places.{place_of}
 use Rattle.uring_words.specs.Slots.{held_from}
 use Rattle.uring_words.specs.Submission.Calls.{AreWhole, all_more, has_close_mark, items_of, put_of}
-use Rattle.uring_words.specs.Submission.Ends.{AreRead, End, IsWriter, ReaderRests, ReadsCall, Writes, tail_after}
+use Rattle.uring_words.specs.Submission.Ends.{AreRead, End, HoldsKnown, IsWriter, ReaderRests, ReadsCall, Writes, tail_after}
 use Rattle.uring_words.specs.Submission.Rule.{BothAgree}
 use Rattle.uring_words.specs.Submission.Steps.{Holder, with_first_after, head_stored, tail_stored, StoresHead, StoresTail}
 use Rattle.uring_words.specs.declared.sides.View.{View}
@@ -45,7 +45,7 @@ module _ {seat table : TableId} {v : View AppSide KernelSide} {held : List (ℕ 
 
   place : word % size ≡ place_of v.app.start v.app.size (length v.app.published + length (all_more front))
   place =
-      (at_place v.app.start size v.app.size (length v.app.published + length front) word i.fits.sized i.fits.power at).0
+      at_place v.app.start size v.app.size (length v.app.published + length front) word i.fits.sized at
       ∙ ap (λ (k : ℕ). place_of v.app.start v.app.size (length v.app.published + k)) (sym (more_length front))
 
   -- the place after the front is first
@@ -102,63 +102,70 @@ items_more (position.More x ∷ ps) qs = ap (λ l. x ∷ l) (items_more ps qs)
 items_more (position.Last x ∷ ps) qs = ap (λ l. x ∷ l) (items_more ps qs)
 items_more (position.Close ∷ ps) qs = items_more ps qs
 
--- The dispatcher's seat, which holds what it knows, has read k positions of that, and then reads one more, x. b is the seat before.
-module _ (b : Holder) (k place : ℕ) (m after : Holder) (x : Position)
+-- The dispatcher's seat, which holds what it knows, has read k positions of that. b is the seat before, and next the index word of the place after them.
+module _ (b : Holder) (size head k next : ℕ) (held : HoldsKnown b size head) (m : Holder)
     (is : m ≡ (b.0, part_done b.0.kernel.start b.0.kernel.size (length b.0.kernel.taken) k b.0.kernel.known (take k b.0.kernel.known)))
-    (below : k < length b.0.kernel.known) (at : place ≡ place_of b.0.kernel.start b.0.kernel.size (length b.0.kernel.taken + k))
-    (read : m.1 ≡ (place, x) ∷ rest m.1) (moved : after ≡ (m.0, turned m.1)) where
-  pub one_read : after ≡ (b.0, part_done b.0.kernel.start b.0.kernel.size (length b.0.kernel.taken) (k + 1) b.0.kernel.known (take (k + 1) b.0.kernel.known))
-  one_read =
+    (at : next ≡ word_of b.0.kernel.start (length b.0.kernel.taken + k)) (below : k < length b.0.kernel.known) where
+  place_next : next % size ≡ place_of b.0.kernel.start b.0.kernel.size (length b.0.kernel.taken + k)
+  place_next = at_place b.0.kernel.start size b.0.kernel.size (length b.0.kernel.taken + k) next held.sized at
+
+  -- the next one is first
+  pub next_stands_first : (x : Position) × (m.1 ≡ (next % size, x) ∷ rest m.1)
+  next_stands_first =
       let d = b.0.kernel in
-      turns_after d.start d.size (length d.taken) k place d.known (take k d.known) m b.0 is below at x after refl (sym (length-take-le k d.known (omega arith))) read moved
+      stands_first d.start d.size (length d.taken) k (next % size) d.known (take k d.known) m b.0 is below place_next
 
-  pub read_next : (drop k b.0.kernel.known ≡ x ∷ drop (k + 1) b.0.kernel.known) × (take (k + 1) b.0.kernel.known ≡ take k b.0.kernel.known ++ x ∷ [])
-  read_next =
-      let d = b.0.kernel in
-      let n = next_of k d.known below in
-      let same : x ≡ n.0 = is_next d.start d.size (length d.taken) k place d.known (take k d.known) m b.0 is below at x read in
-      (n.1 ∙ ap (λ y. y ∷ drop (k + 1) d.known) (sym same), n.2 ∙ ap (λ y. take k d.known ++ y ∷ []) (sym same))
-
-  pub read_items_more : items_of (take (k + 1) b.0.kernel.known) ≡ items_of (take k b.0.kernel.known) ++ items_of (x ∷ [])
-  read_items_more = ap items_of read_next.1 ∙ items_more (take k b.0.kernel.known) (x ∷ [])
-
-  module _ (items : List Item) (front : take k b.0.kernel.known ≡ all_more items) where
-    pub front_more : (item : Item) → x ≡ position.More item → take (k + 1) b.0.kernel.known ≡ all_more (items ++ item ∷ [])
-    front_more item same = read_next.1 ∙ (λ i. front i ++ same i ∷ []) ∙ sym (more_append items (item ∷ []))
-
-    all_read : after ≡ (b.0, with_first_after b.0.kernel.start b.0.kernel.size (length b.0.kernel.taken) (drop (k + 1) b.0.kernel.known) (take (k + 1) b.0.kernel.known))
-    all_read =
+  -- It reads one more, x.
+  module _ (x : Position) (read : m.1 ≡ (next % size, x) ∷ rest m.1) where
+    read_next : (drop k b.0.kernel.known ≡ x ∷ drop (k + 1) b.0.kernel.known) × (take (k + 1) b.0.kernel.known ≡ take k b.0.kernel.known ++ x ∷ [])
+    read_next =
         let d = b.0.kernel in
-        let many : k + 1 ≡ length (take (k + 1) d.known) = sym (length-take-le (k + 1) d.known (omega arith)) in
-        one_read ∙ ap (λ (j : ℕ). (b.0, held_from d.start d.size (length d.taken + j) (drop (k + 1) d.known) ++ held_from d.start d.size (length d.taken) (take (k + 1) d.known))) many
+        let n = next_of k d.known below in
+        let same : x ≡ n.0 = is_next d.start d.size (length d.taken) k (next % size) d.known (take k d.known) m b.0 is below place_next x read in
+        (n.1 ∙ ap (λ y. y ∷ drop (k + 1) d.known) (sym same), n.2 ∙ ap (λ y. take k d.known ++ y ∷ []) (sym same))
 
-    -- the last item of a call
-    pub reads_last : (item : Item) (all : List Item) (next : ℕ) → x ≡ position.Last item → all ≡ items ++ item ∷ []
-        → next ≡ word_of b.0.kernel.start (length b.0.kernel.taken + (k + 1)) → ReadsCall b after pulled.Call all next
-    reads_last item all next same is_all word_after = record {
-      read = take (k + 1) b.0.kernel.known;
-      others = drop (k + 1) b.0.kernel.known;
-      known = sym (take-append-drop (k + 1) b.0.kernel.known);
-      is = all_read;
-      holds = (items, item, is_all, read_next.1 ∙ (λ i. front i ++ same i ∷ []));
-      next_word = word_after ∙ ap (λ (j : ℕ). word_of b.0.kernel.start (length b.0.kernel.taken + j)) (sym (length-take-le (k + 1) b.0.kernel.known (omega arith)));
-    }
+    pub read_items_more : items_of (take (k + 1) b.0.kernel.known) ≡ items_of (take k b.0.kernel.known) ++ items_of (x ∷ [])
+    read_items_more = ap items_of read_next.1 ∙ items_more (take k b.0.kernel.known) (x ∷ [])
 
-    -- the close mark, in front of which is no item
-    pub reads_close : (next : ℕ) → x ≡ position.Close → AreWhole b.0.kernel.known
-        → next ≡ word_of b.0.kernel.start (length b.0.kernel.taken + (k + 1)) → ReadsCall b after pulled.Close items next
-    reads_close next same whole word_after =
-        let d = b.0.kernel in
-        let parts : d.known ≡ all_more items ++ position.Close ∷ drop (k + 1) d.known = sym (take-append-drop k d.known) ∙ (λ i. front i ++ read_next.0 i) ∙ ap (λ y. all_more items ++ y ∷ drop (k + 1) d.known) same in
-        let first : items ≡ [] = close_is_first items (drop (k + 1) d.known) (subst AreWhole parts whole) in
-        record {
-          read = take (k + 1) d.known;
-          others = drop (k + 1) d.known;
-          known = sym (take-append-drop (k + 1) d.known);
-          is = all_read;
-          holds = (first, read_next.1 ∙ (λ i. front i ++ same i ∷ []) ∙ ap (λ l. all_more l ++ position.Close ∷ []) first);
-          next_word = word_after ∙ ap (λ (j : ℕ). word_of d.start (length d.taken + j)) (sym (length-take-le (k + 1) d.known (omega arith)));
-        }
+    pub front_more : (items : List Item) (item : Item) → take k b.0.kernel.known ≡ all_more items → x ≡ position.More item
+        → take (k + 1) b.0.kernel.known ≡ all_more (items ++ item ∷ [])
+    front_more items item front same = read_next.1 ∙ (λ i. front i ++ same i ∷ []) ∙ sym (more_append items (item ∷ []))
+
+    -- and that goes after the others
+    module _ (after : Holder) (moved : after ≡ (m.0, turned m.1)) where
+      pub one_read : after ≡ (b.0, part_done b.0.kernel.start b.0.kernel.size (length b.0.kernel.taken) (k + 1) b.0.kernel.known (take (k + 1) b.0.kernel.known))
+      one_read =
+          let d = b.0.kernel in
+          turns_after d.start d.size (length d.taken) k (next % size) d.known (take k d.known) m b.0 is below place_next x after refl (sym (length-take-le k d.known (omega arith))) read moved
+
+      -- with which what was read is one call or the close mark
+      reads : (what : Pulled) (items : List Item) → AreRead what items (take (k + 1) b.0.kernel.known)
+          → ReadsCall b after what items ((next + 1) % 2 ^ 32)
+      reads what items holds =
+          let d = b.0.kernel in
+          let many : length (take (k + 1) d.known) ≡ k + 1 = length-take-le (k + 1) d.known (omega arith) in
+          record {
+            read = take (k + 1) d.known;
+            others = drop (k + 1) d.known;
+            known = sym (take-append-drop (k + 1) d.known);
+            is = one_read ∙ ap (λ (j : ℕ). (b.0, held_from d.start d.size (length d.taken + j) (drop (k + 1) d.known) ++ held_from d.start d.size (length d.taken) (take (k + 1) d.known))) (sym many);
+            holds = holds;
+            next_word = omega (arith, at, many);
+          }
+
+      -- the last item of a call
+      pub reads_last : (items all : List Item) (item : Item) → take k b.0.kernel.known ≡ all_more items → x ≡ position.Last item
+          → all ≡ items ++ item ∷ [] → ReadsCall b after pulled.Call all ((next + 1) % 2 ^ 32)
+      reads_last items all item front same is_all = reads pulled.Call all (items, item, is_all, read_next.1 ∙ (λ i. front i ++ same i ∷ []))
+
+      -- the close mark, in front of which is no item
+      pub reads_close : (items : List Item) → take k b.0.kernel.known ≡ all_more items → x ≡ position.Close → AreWhole b.0.kernel.known
+          → ReadsCall b after pulled.Close items ((next + 1) % 2 ^ 32)
+      reads_close items front same whole =
+          let d = b.0.kernel in
+          let parts : d.known ≡ all_more items ++ position.Close ∷ drop (k + 1) d.known = sym (take-append-drop k d.known) ∙ (λ i. front i ++ read_next.0 i) ∙ ap (λ y. all_more items ++ y ∷ drop (k + 1) d.known) same in
+          let none : items ≡ [] = close_is_first items (drop (k + 1) d.known) (subst AreWhole parts whole) in
+          reads pulled.Close items (none, read_next.1 ∙ (λ i. front i ++ same i ∷ []) ∙ ap (λ l. all_more l ++ position.Close ∷ []) none)
 
 -- what is known ends a call
 pub call_ends : (known : List Position) (k : ℕ) (items : List Item) → AreWhole known → 0 < length known

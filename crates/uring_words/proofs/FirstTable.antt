@@ -1,16 +1,12 @@
--- A new table of the submission ring keeps the rule.
+-- A new table of either ring: nothing was put, and every place is free.
 use Rattle.std.specs.Prelude.{replicate}
 use Rattle.std.proofs.Common.{◌≡◌, ℕ, zero, suc, ◌+◌, ◌<◌, ◌≤◌, ◌^◌, ◌%◌, List, [], ◌∷◌, length, map, refl, ◌∙◌, arith}
 use Rattle.std.proofs.lemmas.List.{length-map, length-replicate}
 use Rattle.std.specs.Int.{IsPowerOfTwo}
 use mathlib.Core.Option.{Option, some}
 use lib.ListN.{get_elem?}
-use Rattle.atomic_table.specs.Table.{opening}
 use Rattle.uring_words.specs.Slots.{StandFrom}
-use Rattle.uring_words.specs.Submission.Rule.{Agree, BothAgree, at_first}
-use Rattle.uring_words.specs.declared.sides.Shape.{Shape}
-use Rattle.uring_words.specs.declared.submission.view.Position.{Position}
-use Rattle.uring_words.proofs.SlotSeats.{opens_with}
+use Rattle.uring_words.proofs.RingLists.{ListsAgree}
 use Rattle.uring_words.proofs.Standing.{some_size, place_below}
 
 pub start_word : (start : ℕ) → start < 2 ^ 32 → start ≡ (start + 0) % 2 ^ 32
@@ -32,34 +28,26 @@ module _ {S : Type 0} where
   )
 
   -- in a new ring the same value stands in each slot
-  pub all_stand : (start size count : ℕ) (x : S) → IsPowerOfTwo size
+  all_stand : (start size count : ℕ) (x : S) → IsPowerOfTwo size
       → StandFrom start size (map some (replicate size x)) count (replicate size x)
   all_stand start size count x power =
       same_stand start size (map some (replicate size x)) x (λ i. same_there size i x) (some_size size power) size count
 
-first_agree : (key : Shape) (blank : Position) → IsPowerOfTwo key.size → key.size ≤ 4096
-    → key.start < 2 ^ 32
-    → Agree (key.start ∷ key.start ∷ []) (map some (replicate key.size blank)) (at_first key).app (at_first key).kernel
-first_agree key blank power limit small =
-    let start = start_word key.start small in
-    let places : List Position = replicate key.size blank in
-    let many : length places ≡ key.size = length-replicate key.size blank in
-    record {
-      sized = record { start = refl; size = refl; power = power; limit = limit; many = refl; places = length-map places some ∙ many };
-      room = omega arith;
-      tail = start;
-      head = start;
-      rest = [];
-      begins = refl;
-      stand = tt;
-      free = places;
-      all = omega arith;
-      stand_free = all_stand key.start key.size 0 blank power;
-      whole = refl;
-    }
-
-pub opens : (key : Shape) (blank : Position) → IsPowerOfTwo key.size → key.size ≤ 4096
-    → key.start < 2 ^ 32
-    → BothAgree (opening (key.start ∷ key.start ∷ []) (replicate key.size blank) (at_first key))
-opens key blank power limit small =
-    opens_with (key.start ∷ key.start ∷ []) (replicate key.size blank) _ _ (first_agree key blank power limit small)
+  pub first_lists : (start size : ℕ) (blank : S) (more : List ℕ) → IsPowerOfTwo size → size ≤ 2 ^ 32 → start < 2 ^ 32
+      → ListsAgree (suc (suc (length more))) (start ∷ start ∷ more) (map some (replicate size blank)) start size 0 [] [] [] [] (replicate size blank)
+  first_lists start size blank more power fits small =
+      let many : length (replicate size blank) ≡ size = length-replicate size blank in
+      record {
+        power = power;
+        fits = fits;
+        some = omega arith;
+        many = refl;
+        places = length-map (replicate size blank) some ∙ many;
+        room = omega arith;
+        tail = start_word start small;
+        head = start_word start small;
+        begins = refl;
+        stand = tt;
+        all = omega arith;
+        stand_free = all_stand start size 0 blank power;
+      }

@@ -7,7 +7,7 @@ use mathlib.Core.Option.{Option, some}
 use lib.ListN.{get_elem?}
 use Rattle.atomic_table.specs.Table.{homes_after, Valid}
 use Rattle.uring_words.specs.Slots.{held_from, StandFrom}
-use Rattle.uring_words.proofs.SlotActs.{takes_all, changes, changes-homes, with_given, with_taken, gives_all-valid, with_given-length, with_taken-length, Clear, stands_given, stands_taken, given_stand, taken_valid, more_valid, more_stands}
+use Rattle.uring_words.proofs.SlotActs.{takes_all, changes, changes-homes, with_given, with_taken, gives_all-valid, with_given-length, with_taken-length, Moves, stands_given, stands_taken, given_stand, taken_valid, more_valid, more_stands}
 use Rattle.uring_words.proofs.Standing.{next_turn}
 
 module _ {S : Type 0} where
@@ -15,7 +15,7 @@ module _ {S : Type 0} where
   abbrev pub after : List (Option S) → List (ℕ × S) → List (ℕ × S) → List (Option S)
   after homes old new = homes_after homes old (changes old new)
 
-  pub after-length : (homes : List (Option S)) (old new : List (ℕ × S))
+  after-length : (homes : List (Option S)) (old new : List (ℕ × S))
       → length (after homes old new) ≡ length homes
   after-length homes old new =
       ap length (changes-homes homes old new) ∙ with_taken-length (with_given homes old) new ∙ with_given-length homes old
@@ -56,11 +56,13 @@ module _ {S : Type 0} (start size : ℕ) (power : IsPowerOfTwo size) (fits : siz
         let both = length-append held more in
         gives_all-valid homes old (takes_all new) (more_valid start size power fits homes count (count + length held) held more long refl (omega arith) h)
 
-    pub take_others : (other : ℕ) (xs : List S) → Clear size count (length held + length more) other (length xs)
-        → StandFrom start size homes other xs → StandFrom start size (after homes old new) other xs
-    take_others other xs clear h =
+    pub take_moves : Moves start size homes (after homes old new) count (length held + length more)
+    take_moves =
         let both = length-append held more in
-        stand_after homes old new other xs (more_stands start size power fits homes count other held more xs (λ a b l m n o. clear a b l (omega arith) n o) h)
+        record {
+          long = after-length homes old new;
+          others = λ other xs clear h. stand_after homes old new other xs (more_stands start size power fits homes count other held more xs (λ a b l m n o. clear a b l (omega arith) n o) h);
+        }
 
   -- The slots that stand after the others, with values of earlier counts, are given, and the others kept.
   module _ (homes : List (Option S)) (long : length homes ≡ size) (count : ℕ) (kept done : List S) where
@@ -90,13 +92,15 @@ module _ {S : Type 0} (start size : ℕ) (power : IsPowerOfTwo size) (fits : siz
         let here = given_stand start size power fits (with_given homes front) count done (with_given-length homes front ∙ long) (omega arith) in
         left count done (stands_taken start size power fits (with_given (with_given homes front) back) (count + length done) count kept done (λ a b l m n o. ((λ e. omega arith), omega arith, omega arith)) here)
 
-    pub give_others : (other : ℕ) (xs : List S) → Clear size count (length done + length kept) other (length xs)
-        → StandFrom start size homes other xs → StandFrom start size (after homes (front ++ back) front) other xs
-    give_others other xs clear h =
-        left other xs
-        (stands_taken start size power fits (with_given (with_given homes front) back) (count + length done) other kept xs (λ a b l m n o. clear a b (omega arith) (omega arith) n o)
-        (stands_given start size power fits (with_given homes front) count other done xs (λ a b l m n o. clear a b l (omega arith) n o)
-        (stands_given start size power fits homes (count + length done) other kept xs (λ a b l m n o. clear a b (omega arith) (omega arith) n o) h)))
+    pub give_moves : Moves start size homes (after homes (front ++ back) front) count (length done + length kept)
+    give_moves = record {
+      long = after-length homes (front ++ back) front;
+      others = λ other xs clear h.
+          left other xs
+          (stands_taken start size power fits (with_given (with_given homes front) back) (count + length done) other kept xs (λ a b l m n o. clear a b (omega arith) (omega arith) n o)
+          (stands_given start size power fits (with_given homes front) count other done xs (λ a b l m n o. clear a b l (omega arith) n o)
+          (stands_given start size power fits homes (count + length done) other kept xs (λ a b l m n o. clear a b (omega arith) (omega arith) n o) h)));
+    }
 
   -- All slots are given.
   module _ (homes : List (Option S)) (count : ℕ) (held : List S) where
@@ -109,9 +113,11 @@ module _ {S : Type 0} (start size : ℕ) (power : IsPowerOfTwo size) (fits : siz
     pub all_here : length homes ≡ size → length held ≤ size → StandFrom start size (after homes all []) count held
     all_here long few = stand_after homes all [] count held (given_stand start size power fits homes count held long few)
 
-    pub all_others : (other : ℕ) (xs : List S) → Clear size count (length held) other (length xs)
-        → StandFrom start size homes other xs → StandFrom start size (after homes all []) other xs
-    all_others other xs clear h = stand_after homes all [] other xs (stands_given start size power fits homes count other held xs clear h)
+    pub all_moves : Moves start size homes (after homes all []) count (length held)
+    all_moves = record {
+      long = after-length homes all [];
+      others = λ other xs clear h. stand_after homes all [] other xs (stands_given start size power fits homes count other held xs clear h);
+    }
 
 -- two lists whose first parts are as long have the same parts
 pub same_parts : {A : Type 0} (xs ys us vs : List A) → length xs ≡ length us → xs ++ ys ≡ us ++ vs

@@ -8,15 +8,14 @@ pub mod SlotSeats
 pub mod SlotActs
 pub mod Handing
 pub mod Turning
--- The submission ring: what each step keeps, and what it asks:
-mod AppSteps
-mod KernelSteps
+-- Both rings: what a step keeps, and what a new table is:
+mod RingLists
+pub mod FirstTable
+-- The submission ring: what each step asks, and calls as they are copied:
+mod DroppedWords
 pub mod Plays
 pub mod CallLemmas
 pub mod Copying
-pub mod FirstTable
 -- The completion ring:
-mod CompletionSteps
 pub mod CompletionPlays
 pub mod CompletionEnds
-pub mod CompletionFirst

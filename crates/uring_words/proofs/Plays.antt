@@ -1,21 +1,58 @@
 -- What each step of a seat of the submission ring's table asks. v is what the seat knows, and held what it holds.
-use Rattle.std.proofs.Common.{◌≡◌, ℕ, ◌+◌, ◌≤◌, ◌^◌, true, List, [], ◌++◌, length, set, refl, sym, ◌∙◌, ap, subst, arith, length-append}
+use Rattle.std.specs.Prelude.{replicate}
+use Rattle.std.specs.Int.{IsPowerOfTwo}
+use Rattle.std.proofs.Common.{◌<◌, ◌∷◌, ◌≡◌, ℕ, ◌+◌, ◌≤◌, ◌^◌, true, List, [], ◌++◌, length, set, refl, sym, ◌∙◌, ap, subst, arith, length-append}
 use Rattle.std.proofs.lemmas.List.{set-get_or}
-use mathlib.Core.Option.{none}
-use Rattle.atomic_table.specs.Table.{step, Allows}
+use mathlib.Core.Option.{Option, none}
+use Rattle.atomic_table.specs.Table.{opening, step, Allows}
 use Rattle.uring_entry.specs.IndexWords.{word_of}
 use Rattle.uring_words.specs.Slots.{app_has, held_from, kernel_has, StandFrom}
 use Rattle.uring_words.specs.Submission.Calls.{AreWhole}
-use Rattle.uring_words.specs.Submission.Rule.{BothAgree}
+use Rattle.uring_words.specs.Submission.Rule.{Agree, BothAgree, at_first}
 use Rattle.uring_words.specs.Submission.Steps.{with_first_after, tail_stored, head_loaded, all_given, tail_loaded, head_stored, StoresTail, LoadsHead, GivesAll, LoadsTail, StoresHead}
+use Rattle.uring_words.specs.declared.sides.Shape.{Shape}
 use Rattle.uring_words.specs.declared.sides.View.{View}
 use Rattle.uring_words.specs.declared.submission.view.AppSide.{AppSide}
 use Rattle.uring_words.specs.declared.submission.view.KernelSide.{KernelSide}
 use Rattle.uring_words.specs.declared.submission.view.Position.{Position}
-use Rattle.uring_words.proofs.AppSteps.{all_published, keeps_head_loaded, keeps_tail_stored, keeps_all_given}
-use Rattle.uring_words.proofs.KernelSteps.{keeps_tail_loaded, keeps_head_stored}
-use Rattle.uring_words.proofs.Handing.{take_valid, give_valid, all_valid, held-length, same_parts, same_slots}
-use Rattle.uring_words.proofs.SlotSeats.{app_hands, kernel_hands}
+use Rattle.uring_words.proofs.FirstTable.{first_lists}
+use Rattle.uring_words.proofs.Handing.{take_valid, take_moves, give_valid, give_done, give_moves, all_valid, all_here, all_moves, held-length, same_parts, same_slots}
+use Rattle.uring_words.proofs.RingLists.{ListsAgree, put_many, keeps_tail_stored, keeps_head_stored, keeps_head_loaded, keeps_all_given, keeps_tail_loaded}
+use Rattle.uring_words.proofs.SlotSeats.{app_hands, kernel_hands, opens_with}
+
+-- The sides agree by their lists.
+module _ {words : List ℕ} {homes : List (Option Position)} {a : AppSide} {d : KernelSide} where
+  lists : (h : Agree words homes a d)
+      → ListsAgree 2 words homes a.start a.size a.end d.taken d.known a.published h.rest h.free
+  lists h =
+      let fits : a.size ≤ 2 ^ 32 = omega (arith, h.sized.limit) in
+      let some : 2 ≤ 2 = omega arith in
+      assumption
+
+  agrees : {rest free : List Position} → d.start ≡ a.start → d.size ≡ a.size → a.size ≤ 4096 → AreWhole a.published
+      → ListsAgree 2 words homes a.start a.size a.end d.taken d.known a.published rest free
+      → Agree words homes a d
+  agrees {rest} {free} start size limit whole l = record {
+    sized = assumption;
+    room = l.room;
+    tail = l.tail;
+    head = l.head;
+    rest = rest;
+    begins = l.begins;
+    stand = l.stand;
+    free = free;
+    all = l.all;
+    stand_free = l.stand_free;
+    whole = whole;
+  }
+
+-- a new table keeps the rule
+pub opens : (key : Shape) (blank : Position) → IsPowerOfTwo key.size → key.size ≤ 4096
+    → key.start < 2 ^ 32
+    → BothAgree (opening (key.start ∷ key.start ∷ []) (replicate key.size blank) (at_first key))
+opens key blank power limit small =
+    opens_with (key.start ∷ key.start ∷ []) (replicate key.size blank) (at_first key).app (at_first key).kernel
+    (agrees refl refl limit refl (first_lists key.start key.size blank [] power (omega arith) small))
 
 -- a word tells how many positions there are, if there are few
 same_count : (start n m k : ℕ) → m ≤ 4096 → k ≤ 4096 → word_of start (n + m) ≡ word_of start (n + k) → m ≡ k
@@ -34,15 +71,15 @@ module _ (slots id : ℕ) (v : View AppSide KernelSide) (held : List (ℕ × Pos
       app_hands slots id 0 (λ _. word) (λ ws. set ws 0 word) (λ _. refl) v held (λ _. StoresTail (step slots 0 word 0 none) (v, held) word) is_app (λ words homes d h both.
       let a = v.app in
       let n : ℕ = length a.published in
-      let old = with_first_after a.start a.size n blank written in
-      let new = held_from a.start a.size (n + length written) blank in
-      let fits : a.size ≤ 2 ^ 32 = omega arith in (
-        old,
+      let s = h.sized in
+      let l = lists h in
+      let new = held_from a.start a.size (n + length written) blank in (
+        with_first_after a.start a.size n blank written,
         new,
         tail_stored a written,
         holds,
-        give_valid a.start a.size h.sized.power fits homes h.sized.places n blank written few,
-        keeps_tail_stored words homes a d word blank written h many few is_word whole,
+        give_valid a.start a.size s.power l.fits homes s.places n blank written few,
+        agrees s.start s.size limit whole (keeps_tail_stored l (length written + length blank) word written (give_moves a.start a.size s.power l.fits homes s.places n blank written) (give_done a.start a.size s.power l.fits homes s.places n blank written few) (omega arith) (omega arith) is_word),
         λ blank' written' same found.
             let all : length blank' + length written' ≡ length blank + length written =
             omega (
@@ -65,26 +102,27 @@ module _ (slots id : ℕ) (v : View AppSide KernelSide) (held : List (ℕ × Pos
       → held ≡ held_from v.app.start v.app.size (length v.app.published) blank
       → length v.app.published + length blank ≡ v.app.end
       → Allows BothAgree slots id (v, held) 1 (λ n. n) (LoadsHead (step slots 1 0 0 none) (v, held))
-  loads_head blank is_app holds many =
+  loads_head blank is_app holds ends =
       app_hands slots id 1 (λ n. n) (λ ws. ws) (λ ws. sym (set-get_or ws 1 0)) v held (LoadsHead (step slots 1 0 0 none) (v, held)) is_app (λ words homes d h both.
       let a = v.app in
       let n : ℕ = length a.published in
-      let fits : a.size ≤ 2 ^ 32 = omega (arith, h.sized.limit) in
-      let long = length-append blank h.free in
-      let count = all_published words homes a d h in
-      let few : length blank + length h.free ≤ a.size = omega (arith, h.all, h.room) in
-      let there = subst (λ (k : ℕ). StandFrom a.start a.size homes k h.free) (sym many) h.stand_free in (
+      let s = h.sized in
+      let l = lists h in
+      let longer = length-append blank h.free in
+      let count = put_many l in
+      let few : length blank + length h.free ≤ a.size = omega (arith, l.all, l.room) in
+      let there = subst (λ (k : ℕ). StandFrom a.start a.size homes k h.free) (sym ends) h.stand_free in (
         held_from a.start a.size n blank,
         held_from a.start a.size n (blank ++ h.free),
         head_loaded a (length d.taken + a.size),
         holds,
-        take_valid a.start a.size h.sized.power fits homes h.sized.places n blank h.free few there,
-        keeps_head_loaded words homes a d blank h many,
+        take_valid a.start a.size s.power l.fits homes s.places n blank h.free few there,
+        agrees s.start s.size s.limit h.whole (keeps_head_loaded l (length blank + length h.free) (take_moves a.start a.size s.power l.fits homes s.places n blank h.free) (omega (arith, l.all))),
         (
           length d.taken,
           blank ++ h.free,
           refl,
-          record { head = h.head; published_before = omega arith; later = omega (arith, h.all); many = omega (arith, h.all) },
+          record { head = h.head; published_before = omega arith; later = omega (arith, l.all); many = omega (arith, l.all) },
           refl,
         ),
       ))
@@ -94,17 +132,18 @@ module _ (slots id : ℕ) (v : View AppSide KernelSide) (held : List (ℕ × Pos
       → held ≡ held_from v.app.start v.app.size (length v.app.published) blank
       → length v.app.published + length blank ≡ v.app.end → length blank ≤ v.app.size
       → Allows BothAgree slots id (v, held) 1 (λ n. n) (GivesAll (step slots 1 0 0 none) (v, held))
-  gives_all_places blank is_app holds many few =
+  gives_all_places blank is_app holds ends few =
       app_hands slots id 1 (λ n. n) (λ ws. ws) (λ ws. sym (set-get_or ws 1 0)) v held (GivesAll (step slots 1 0 0 none) (v, held)) is_app (λ words homes d h both.
       let a = v.app in
       let n : ℕ = length a.published in
-      let fits : a.size ≤ 2 ^ 32 = omega (arith, h.sized.limit) in (
+      let s = h.sized in
+      let l = lists h in (
         held_from a.start a.size n blank,
         [],
         all_given a,
         holds,
-        all_valid a.start a.size h.sized.power fits homes n blank,
-        keeps_all_given words homes a d blank h many few,
+        all_valid a.start a.size s.power l.fits homes n blank,
+        agrees s.start s.size s.limit h.whole (keeps_all_given l (length blank) blank (all_moves a.start a.size s.power l.fits homes n blank) (all_here a.start a.size s.power l.fits homes n blank s.places few) ends (omega arith)),
         refl,
       ))
 
@@ -117,15 +156,15 @@ module _ (slots id : ℕ) (v : View AppSide KernelSide) (held : List (ℕ × Pos
       let d = v.kernel in
       let n : ℕ = length d.taken in
       let s = h.sized in
-      let fits : a.size ≤ 2 ^ 32 = omega (arith, s.limit) in
-      let count = all_published words homes a d h in
-      let few : length d.known + length h.rest ≤ a.size = omega (arith, h.all, h.room) in (
+      let l = lists h in
+      let count = put_many l in
+      let few : length d.known + length h.rest ≤ a.size = omega (arith, l.all, l.room) in (
         held_from a.start a.size n d.known,
         held_from a.start a.size n (d.known ++ h.rest),
         tail_loaded d h.rest,
         holds ∙ (λ i. held_from (s.start i) (s.size i) n d.known),
-        take_valid a.start a.size s.power fits homes s.places n d.known h.rest few h.stand,
-        keeps_tail_loaded words homes a d h,
+        take_valid a.start a.size s.power l.fits homes s.places n d.known h.rest few h.stand,
+        agrees s.start s.size s.limit h.whole (keeps_tail_loaded l (length d.known + length h.rest) (take_moves a.start a.size s.power l.fits homes s.places n d.known h.rest) (omega arith)),
         (
           h.rest,
           (λ i. kernel_has (v, held) (tail_loaded d h.rest) (held_from (sym s.start i) (sym s.size i) n (d.known ++ h.rest))),
@@ -150,15 +189,16 @@ module _ (slots id : ℕ) (v : View AppSide KernelSide) (held : List (ℕ × Pos
       let d = v.kernel in
       let n : ℕ = length d.taken in
       let s = h.sized in
-      let fits : a.size ≤ 2 ^ 32 = omega (arith, s.limit) in
+      let l = lists h in
       let parts : length d.known ≡ length read + length others = ap length known ∙ length-append read others in
-      let published = all_published words homes a d h in (
+      let count = put_many l in
+      let all : length read + length others ≤ a.size = omega (arith, l.all, l.room) in (
         with_first_after a.start a.size n others read,
         held_from a.start a.size (n + length read) others,
         head_stored d read others,
         holds ∙ (λ i. with_first_after (s.start i) (s.size i) n others read),
-        give_valid a.start a.size s.power fits homes s.places n others read (omega (arith, h.all, h.room)),
-        keeps_head_stored words homes a d word others read h known (is_word ∙ ap (λ k. word_of k (n + length read)) s.start),
+        give_valid a.start a.size s.power l.fits homes s.places n others read all,
+        agrees s.start s.size s.limit h.whole (keeps_head_stored l (length read + length others) word read others (give_moves a.start a.size s.power l.fits homes s.places n others read) (give_done a.start a.size s.power l.fits homes s.places n others read all) known (omega arith) (is_word ∙ ap (λ k. word_of k (n + length read)) s.start)),
         λ others' read' same known' found.
             let parts' : length d.known ≡ length read' + length others' = ap length known' ∙ length-append read' others' in
             let count : length read ≡ length read' = same_count d.start n (length read) (length read') (omega arith) (omega arith) (sym is_word ∙ found) in

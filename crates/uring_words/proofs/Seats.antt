@@ -1,10 +1,8 @@
--- What the seats of a table of two sides know after a step.
-use Rattle.std.proofs.Common.{◌≡◌, ◌≢◌, ℕ, zero, suc, true, List, [], ◌∷◌, ◌++◌, length, set, refl, sym, ◌∙◌, ap, subst, ◌⊎◌, inl, inr, ⊎_elim}
+-- The views of a table after a step.
+use Rattle.std.proofs.Common.{◌≡◌, ◌≢◌, ℕ, zero, suc, List, [], ◌∷◌, ◌++◌, length, set, refl, sym, ◌∙◌, ap, subst, ◌⊎◌, inl, inr, ⊎_elim}
 use mathlib.Core.Option.{some, some-injective, some-ne-none}
 use lib.ListN.{get_elem?}
 use Rattle.atomic_table.proofs.Lists.{at_set}
-use Rattle.uring_words.specs.Sides.{Knows}
-use Rattle.uring_words.specs.declared.sides.View.{View}
 
 -- a view at a place of a longer list is there in the shorter one, or is the last
 pub at_longer : {A : Type 0} (l : List A) (a b : A) (j : ℕ) → get_elem? (l ++ a ∷ []) j ≡ some b
@@ -20,33 +18,13 @@ pub only_seat : {V : Type 0} (v w : V) (seat : ℕ) → get_elem? (v ∷ []) sea
 only_seat v w zero e = (refl, some-injective v w e)
 only_seat v w (suc seat) e = absurd (some-ne-none w (sym e))
 
-module _ {A D : Type 0} where
-  -- each seat knows its side after a step of the application's seat
-  pub app_seats : (views : List (View A D)) (id app_seat kernel_seat : ℕ) (a b : A) (d : D) (me : View A D) → me.is_app ≡ true → get_elem? views id ≡ some me
-      → ((seat : ℕ) (v : View A D) → get_elem? views seat ≡ some v → Knows app_seat kernel_seat a d seat v)
-      → (seat : ℕ) (v : View A D) → get_elem? (set views id (record me { app = b })) seat ≡ some v → Knows app_seat kernel_seat b d seat v
-  app_seats views id app_seat kernel_seat a b d me is_app at seats seat v there =
-      let mine = seats id me at in
-      ⊎_elim
-      (λ (here : (seat ≡ id) × (record me { app = b } ≡ v)).
-      let P : View A D → Type 0 = λ w. Knows app_seat kernel_seat b d seat w in
-      subst P here.1 (record { app = λ _. (here.0 ∙ (mine.app is_app).0, refl); kernel = λ is. let k = mine.kernel is in (here.0 ∙ k.0, k.1) }))
-      (λ (other : (seat ≢ id) × (get_elem? views seat ≡ some v)).
-      let its = seats seat v other.1 in
-      record { app = λ is. absurd (other.0 ((its.app is).0 ∙ sym (mine.app is_app).0)); kernel = its.kernel })
-      (at_set views id seat (record me { app = b }) v there)
-
-  -- and after one of the dispatcher's seat
-  pub kernel_seats : (views : List (View A D)) (id app_seat kernel_seat : ℕ) (a : A) (d e : D) (me : View A D) → me.is_kernel ≡ true → get_elem? views id ≡ some me
-      → ((seat : ℕ) (v : View A D) → get_elem? views seat ≡ some v → Knows app_seat kernel_seat a d seat v)
-      → (seat : ℕ) (v : View A D) → get_elem? (set views id (record me { kernel = e })) seat ≡ some v → Knows app_seat kernel_seat a e seat v
-  kernel_seats views id app_seat kernel_seat a d e me is_kernel at seats seat v there =
-      let mine = seats id me at in
-      ⊎_elim
-      (λ (here : (seat ≡ id) × (record me { kernel = e } ≡ v)).
-      let P : View A D → Type 0 = λ w. Knows app_seat kernel_seat a e seat w in
-      subst P here.1 (record { app = λ is. let k = mine.app is in (here.0 ∙ k.0, k.1); kernel = λ _. (here.0 ∙ (mine.kernel is_kernel).0, refl) }))
-      (λ (other : (seat ≢ id) × (get_elem? views seat ≡ some v)).
-      let its = seats seat v other.1 in
-      record { app = its.app; kernel = λ is. absurd (other.0 ((its.kernel is).0 ∙ sym (mine.kernel is_kernel).0)) })
-      (at_set views id seat (record me { kernel = e }) v there)
+-- What holds of each view once the one at a place is another: it holds of that one, and of each other one still.
+pub set_seats : {V : Type 0} (P Q : ℕ → V → Type 0) (views : List V) (id : ℕ) (w : V)
+    → ((seat : ℕ) (v : V) → get_elem? views seat ≡ some v → P seat v) → Q id w
+    → ((seat : ℕ) (v : V) → seat ≢ id → P seat v → Q seat v)
+    → (seat : ℕ) (v : V) → get_elem? (set views id w) seat ≡ some v → Q seat v
+set_seats P Q views id w before here others seat v there =
+    ⊎_elim
+    (λ (same : (seat ≡ id) × (w ≡ v)). subst (Q seat) same.1 (subst (λ n. Q n w) (sym same.0) here))
+    (λ (other : (seat ≢ id) × (get_elem? views seat ≡ some v)). others seat v other.0 (before seat v other.1))
+    (at_set views id seat w v there)

@@ -103,6 +103,12 @@ elsewhere start size j k power fits clear =
     λ e. apart start size k j power fits less clear.1 (sym e))
     (cases_lt j k)
 
+-- The slots of so many counts from this one on were handed over: there are as many slots, and what stands elsewhere stays.
+pub record Moves {S : Type 0} (start size : ℕ) (homes after : List (Option S)) (count many : ℕ) : Type 0 where
+  pub long : length after ≡ length homes
+  pub others : (other : ℕ) (xs : List S) → Clear size count many other (length xs)
+      → StandFrom start size homes other xs → StandFrom start size after other xs
+
 -- A ring of this start and size.
 module _ {S : Type 0} (start size : ℕ) (power : IsPowerOfTwo size) (fits : size ≤ 2 ^ 32) where
   -- a change of another slot leaves what is at home there
@@ -136,18 +142,29 @@ module _ {S : Type 0} (start size : ℕ) (power : IsPowerOfTwo size) (fits : siz
       (λ a b l m n o. clear a b l (omega arith) n o)
       (stands_taken homes (j + 1) k ys xs (λ a b l m n o. clear a b (omega arith) (omega arith) n o) s)
 
+  pub set_moves : (homes : List (Option S)) (j : ℕ) (y : Option S)
+      → Moves start size homes (set homes (place_of start size j) y) j 1
+  set_moves homes j y = record {
+    long = length-set homes (place_of start size j) y;
+    others = λ other xs clear h. stands_else homes j other y xs clear h;
+  }
+
   -- what was given back is at home
+  pub set_stands : (homes : List (Option S)) (j : ℕ) (y : S) → length homes ≡ size
+      → StandFrom start size (set homes (place_of start size j) (some y)) j (y ∷ [])
+  set_stands homes j y many = (
+    set_here homes (place_of start size j) (some y) (rw many (place_below start size j (some_size size power))),
+    tt,
+  )
+
   pub given_stand : (homes : List (Option S)) (j : ℕ) (ys : List S) → length homes ≡ size
       → length ys ≤ size
       → StandFrom start size (with_given homes (held_from start size j ys)) j ys
   given_stand homes j [] many few = tt
   given_stand homes j (y ∷ ys) many few =
-      let place : ℕ = place_of start size j in
-      let set_homes : List (Option S) = set homes place (some y) in
-      let below : place < length homes = rw many (place_below start size j (some_size size power)) in
-      let here : StandFrom start size set_homes j (y ∷ []) = (set_here homes place (some y) below, tt) in (
-        (stands_given set_homes (j + 1) j ys (y ∷ []) (λ a b l m n o. ((λ e. omega arith), omega arith, omega arith)) here).0,
-        given_stand set_homes (j + 1) ys (length-set homes place (some y) ∙ many) (omega arith),
+      let set_homes : List (Option S) = set homes (place_of start size j) (some y) in (
+        (stands_given set_homes (j + 1) j ys (y ∷ []) (λ a b l m n o. ((λ e. omega arith), omega arith, omega arith)) (set_stands homes j y many)).0,
+        given_stand set_homes (j + 1) ys (length-set homes (place_of start size j) (some y) ∙ many) (omega arith),
       )
 
   -- what is at home can be taken
@@ -189,20 +206,14 @@ module _ {S : Type 0} (start size : ℕ) (power : IsPowerOfTwo size) (fits : siz
 
 -- the first slot of a seat that holds some, in a ring of this size, at this index word
 pub first_held : {S : Type 0} (start size own count word : ℕ) (held : List (ℕ × S)) (xs : List S)
-    → own ≡ size → IsPowerOfTwo size → word ≡ word_of start count
-    → held ≡ held_from start own count xs → 0 < length xs
+    → own ≡ size → word ≡ word_of start count → held ≡ held_from start own count xs → 0 < length xs
     → (x : S) × (ys : List S) × (xs ≡ x ∷ ys)
     × (held ≡ (word % size, x) ∷ held_from start own (count + 1) ys)
     × (word % size ≡ place_of start own count)
-first_held start size own count word held [] is power at holds positive = absurd (omega arith)
-first_held start size own count word held (x ∷ ys) is power at holds positive =
-    let there = at_place start size own count word is power at in (
-      x,
-      ys,
-      refl,
-      holds ∙ ap (λ (p : ℕ). (p, x) ∷ held_from start own (count + 1) ys) (sym there.0),
-      there.0,
-    )
+first_held start size own count word held [] is at holds positive = absurd (omega arith)
+first_held start size own count word held (x ∷ ys) is at holds positive =
+    let there = at_place start size own count word is at in
+    (x, ys, refl, holds ∙ ap (λ (p : ℕ). (p, x) ∷ held_from start own (count + 1) ys) (sym there), there)
 
 -- a seat's first slot, as `slot_mut` asks for it
 pub is_first : {S : Type 0} (held others : List (ℕ × S)) (x : ℕ × S) → held ≡ x ∷ others

@@ -8,7 +8,7 @@ use Rattle.atomic_table.proofs.Lists.{at_set}
 use Rattle.uring_words.specs.Sides.{Knows, both_know, app_part, kernel_part, both_parts, spent_with}
 use Rattle.uring_words.specs.Slots.{SidesAgree, app_has, kernel_has, parts_of_both}
 use Rattle.uring_words.specs.declared.sides.View.{View}
-use Rattle.uring_words.proofs.Seats.{at_longer, only_seat, app_seats, kernel_seats}
+use Rattle.uring_words.proofs.Seats.{at_longer, only_seat, set_seats}
 use Rattle.uring_words.proofs.SlotActs.{changes, changes-carried}
 
 -- A side hands slots over at word i, which becomes f of what it was, so that the words become others: what it knows fits the words and the slots at home.
@@ -41,7 +41,9 @@ module _ {S A D : Type 0} {Agree : List ℕ → List (Option S) → A → D → 
           app = r.0;
           kernel = kept.kernel;
           agree = r.3;
-          seats = app_seats s.views id kept.app_seat kept.kernel_seat kept.app r.0 kept.kernel v is_app at kept.seats;
+          seats = set_seats (Knows kept.app_seat kept.kernel_seat kept.app kept.kernel) (Knows kept.app_seat kept.kernel_seat r.0 kept.kernel) s.views id (record v { app = r.0 }) kept.seats
+              (record { app = λ _. (mine.0, refl); kernel = knows.kernel })
+              (λ seat u other its. record { app = λ is. absurd (other ((its.app is).0 ∙ sym mine.0)); kernel = its.kernel });
         },
         r.4,
       )
@@ -65,7 +67,9 @@ module _ {S A D : Type 0} {Agree : List ℕ → List (Option S) → A → D → 
           app = kept.app;
           kernel = r.0;
           agree = r.3;
-          seats = kernel_seats s.views id kept.app_seat kept.kernel_seat kept.app kept.kernel r.0 v is_kernel at kept.seats;
+          seats = set_seats (Knows kept.app_seat kept.kernel_seat kept.app kept.kernel) (Knows kept.app_seat kept.kernel_seat kept.app r.0) s.views id (record v { kernel = r.0 }) kept.seats
+              (record { app = knows.app; kernel = λ _. (mine.0, refl) })
+              (λ seat u other its. record { app = its.app; kernel = λ is. absurd (other ((its.kernel is).0 ∙ sym mine.0)) });
         },
         r.4,
       )
@@ -116,14 +120,10 @@ module _ {S A D : Type 0} {Agree : List ℕ → List (Option S) → A → D → 
         seats = λ seat v there.
             let P : View A D → Type 0 = λ w. Knows kept.app_seat new kept.app kept.kernel seat w in
             ⊎_elim
-            (λ (old : get_elem? (set s.views id (app_part me)) seat ≡ some v).
-            ⊎_elim
-            (λ (here : (seat ≡ id) × (app_part me ≡ v)).
-            subst P here.1 (record { app = λ _. (here.0 ∙ (mine.app is_app).0, (mine.app is_app).1); kernel = λ is. absurd (false≢true is) }))
-            (λ (other : (seat ≢ id) × (get_elem? s.views seat ≡ some v)).
-            let its = kept.seats seat v other.1 in
-            record { app = its.app; kernel = λ is. absurd (other.0 ((its.kernel is).0 ∙ sym (mine.kernel is_kernel).0)) })
-            (at_set s.views id seat (app_part me) v old))
+            (set_seats (Knows kept.app_seat kept.kernel_seat kept.app kept.kernel) (Knows kept.app_seat new kept.app kept.kernel) s.views id (app_part me) kept.seats
+            (record { app = λ _. mine.app is_app; kernel = λ is. absurd (false≢true is) })
+            (λ j u other its. record { app = its.app; kernel = λ is. absurd (other ((its.kernel is).0 ∙ sym (mine.kernel is_kernel).0)) })
+            seat v)
             (λ (here : (seat ≡ new) × (kernel_part me ≡ v)).
             subst P here.1 (record { app = λ is. absurd (false≢true is); kernel = λ _. (here.0, (mine.kernel is_kernel).1) }))
             (at_longer (set s.views id (app_part me)) (kernel_part me) v seat there);
@@ -145,16 +145,12 @@ module _ {S A D : Type 0} {Agree : List ℕ → List (Option S) → A → D → 
         app = kept.app;
         kernel = kept.kernel;
         agree = kept.agree;
-        seats = λ seat v at_seat.
-            let P : View A D → Type 0 = λ w. Knows id id kept.app kept.kernel seat w in
-            ⊎_elim
-            (λ (left : (seat ≡ other) × (spent_with a d ≡ v)). subst P left.1 (record { app = λ is. absurd (false≢true is); kernel = λ is. absurd (false≢true is) }))
-            (λ (not_left : (seat ≢ other) × (get_elem? (set s.views id both) seat ≡ some v)).
-            ⊎_elim
-            (λ (here : (seat ≡ id) × (both ≡ v)). subst P here.1 (subst (λ (n : ℕ). Knows id id kept.app kept.kernel n both) (sym here.0) (mine kept.app_seat kept.kernel_seat kept.app kept.kernel my their)))
-            (λ (old : (seat ≢ id) × (get_elem? s.views seat ≡ some v)). others kept.app_seat kept.kernel_seat kept.app kept.kernel my their seat v old.0 not_left.0 (kept.seats seat v old.1))
-            (at_set s.views id seat both v not_left.1))
-            (at_set (set s.views id both) other seat (spent_with a d) v at_seat);
+        seats = set_seats (λ seat v. seat ≢ other → Knows id id kept.app kept.kernel seat v) (Knows id id kept.app kept.kernel) (set s.views id both) other (spent_with a d)
+            (set_seats (Knows kept.app_seat kept.kernel_seat kept.app kept.kernel) (λ seat v. seat ≢ other → Knows id id kept.app kept.kernel seat v) s.views id both kept.seats
+            (λ _. mine kept.app_seat kept.kernel_seat kept.app kept.kernel my their)
+            (λ seat v not_mine its not_other. others kept.app_seat kept.kernel_seat kept.app kept.kernel my their seat v not_mine not_other its))
+            (record { app = λ is. absurd (false≢true is); kernel = λ is. absurd (false≢true is) })
+            (λ seat v not_other knows. knows not_other);
       }
 
   -- the dispatcher's seat takes in the application's

@@ -14,12 +14,9 @@ pub place_below : (start size count : ℕ) → 0 < size → place_of start size 
 place_below start size count some = mod_below (word_of start count) size some
 
 -- the place of an index word
-pub at_place : (start size own count word : ℕ) → own ≡ size → IsPowerOfTwo size
-    → word ≡ word_of start count → (word % size ≡ place_of start own count) × (word % size < size)
-at_place start size own count word is power at = (
-  ap (λ w. w % size) at ∙ ap (λ s. place_of start s count) (sym is),
-  mod_below word size (some_size size power),
-)
+pub at_place : (start size own count word : ℕ) → own ≡ size → word ≡ word_of start count
+    → word % size ≡ place_of start own count
+at_place start size own count word is at = ap (λ w. w % size) at ∙ ap (λ s. place_of start s count) (sym is)
 
 -- two counts less than the size apart have places of their own
 pub apart : (start size j k : ℕ) → IsPowerOfTwo size → size ≤ 2 ^ 32 → j < k → k < j + size

@@ -1,5 +1,6 @@
 -- The first slot that a seat holds goes after the others.
-use Rattle.std.proofs.Common.{◌≡◌, ℕ, zero, suc, ◌+◌, ◌<◌, List, [], ◌∷◌, ◌++◌, drop, take, length, refl, sym, ◌∙◌, ap, arith, append_assoc}
+use Rattle.std.proofs.lemmas.List.{drop_more, take_more}
+use Rattle.std.proofs.Common.{◌≡◌, ℕ, ◌+◌, ◌<◌, List, [], ◌∷◌, ◌++◌, drop, take, length, get_or, refl, sym, ◌∙◌, ap, arith, append_assoc}
 use Rattle.atomic_table.specs.Table.{rest, turned}
 use Rattle.uring_words.specs.Places.{place_of}
 use Rattle.uring_words.specs.Slots.{held_from}
@@ -9,14 +10,7 @@ module _ {S : Type 0} where
   pub next_of : (k : ℕ) (xs : List S) → k < length xs
       → (x : S) × (drop k xs ≡ x ∷ drop (k + 1) xs) × (take (k + 1) xs ≡ take k xs ++ x ∷ [])
   next_of k [] below = absurd (omega arith)
-  next_of zero (x ∷ xs) below = (x, refl, refl)
-  next_of (suc k) (x ∷ xs) below =
-      let n = next_of k xs (omega arith) in
-      let same : suc (k + 1) ≡ suc k + 1 = omega arith in (
-        n.0,
-        n.1 ∙ ap (λ (m : ℕ). n.0 ∷ drop m (x ∷ xs)) same,
-        sym (ap (λ (m : ℕ). take m (x ∷ xs)) same) ∙ ap (λ l. x ∷ l) n.2,
-      )
+  next_of k (x ∷ xs) below = (get_or (x ∷ xs) k x, drop_more (x ∷ xs) k x below, take_more (x ∷ xs) k x below)
 
   held_more : (start size count : ℕ) (xs : List S) (x : S)
       → held_from start size count (xs ++ x ∷ []) ≡ held_from start size count xs ++ (place_of start size (count + length xs), x) ∷ []

@@ -1,7 +1,6 @@
 use Rattle.std.proofs.Common.{◌++◌, ◌∷◌, [], refl, ap, ◌∙◌, arith}
 use Rattle.uring_core.specs.World.{World}
-use Rattle.uring_threads.proofs.BegunRows.{begun_again, begun_all, begun_spent, next_recorded, none_recorded}
-use Rattle.uring_threads.proofs.CallsMade.{none_made, one_made}
+use Rattle.uring_threads.proofs.CallsMade.{begun_again, begun_all, begun_spent, next_recorded, none_recorded, none_made, one_made}
 use Rattle.uring_threads.proofs.calls.begin_calls.Goals as goal
 
 pub loop-rest-init : goal.loop-rest-init
@@ -20,8 +19,8 @@ loop-rest-preserved g c =
     let n = c.in-Taken.taken in
     record {
       made = i.made ++ n ∷ [];
-      have = one_made c.args.kept.now c.loop-rest.kept c.make_call.new.kept i.made c.loop-rest.rest n i.have ensures.world ensures.first ensures.tally;
-      row = next_recorded c.args.kept.now c.loop-rest.kept c.make_call.new.kept i.made c.loop-rest.rest n i.have ensures.first i.row ensures.row;
+      have = one_made c.args.kept.now c.loop-rest.kept c.make_call.new.kept i.made c.loop-rest.rest i.have n ensures.world ensures.first ensures.tally;
+      row = next_recorded c.args.kept.now c.loop-rest.kept c.make_call.new.kept i.made c.loop-rest.rest i.have i.row n ensures.first ensures.row;
       not_closed = ap (λ (w : World). w.is_closed) ensures.world ∙ i.not_closed;
       events = omega (arith, i.events, ensures.length n refl, ensures.first.0, ensures.first.1);
     }
@@ -29,12 +28,12 @@ loop-rest-preserved g c =
 pub returns-in-Again-clause-begun : goal.returns-in-Again-clause-begun
 returns-in-Again-clause-begun g c =
     let i = c.loop-rest.invariant in
-    begun_again c.args.kept.now c.loop-rest.kept c.make_call.new.kept i.made c.loop-rest.rest c.loop-rest-test.true i.have i.row c.in-Again.ensures.world c.in-Again.ensures.tally c.in-Again.ensures.row
+    begun_again c.args.kept.now c.loop-rest.kept c.make_call.new.kept i.made c.loop-rest.rest i.have i.row c.loop-rest-test.true c.in-Again.ensures.world c.in-Again.ensures.tally c.in-Again.ensures.row
 
 pub returns-in-Spent-clause-begun : goal.returns-in-Spent-clause-begun
 returns-in-Spent-clause-begun g c =
     let i = c.loop-rest.invariant in
-    begun_spent c.args.kept.now c.loop-rest.kept c.make_call.new.kept i.made c.loop-rest.rest c.loop-rest-test.true i.have i.row c.in-Spent.ensures.world c.in-Spent.ensures.tally c.in-Spent.ensures.row (c.in-Spent.ensures.spent refl)
+    begun_spent c.args.kept.now c.loop-rest.kept c.make_call.new.kept i.made c.loop-rest.rest i.have i.row c.loop-rest-test.true c.in-Spent.ensures.world c.in-Spent.ensures.tally c.in-Spent.ensures.row (c.in-Spent.ensures.spent refl)
 
 pub returns-clause-begun : goal.returns-clause-begun
 returns-clause-begun g c =

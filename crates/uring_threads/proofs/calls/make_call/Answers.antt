@@ -44,7 +44,7 @@ returns-in-Spent g c =
 
 pub take_positions-taken-requires-clause-in_call : goal.take_positions-taken-requires-clause-in_call
 take_positions-taken-requires-clause-in_call g c =
-    (now c.args.kept.now, c.requires.stands, opened_now c.args.kept.now c.step_reserved_in.new.self c.args.count _ c.step_reserved_in.result c.requires.stands c.requires.not_closed c.in-Call.is c.step_reserved_in.ensures.grows c.step_reserved_in.ensures.called)
+    (now c.args.kept.now, c.requires.stands, opened_now c.args.kept.now c.args.count c.step_reserved_in.result c.requires.stands c.requires.not_closed c.step_reserved_in.ensures.called c.step_reserved_in.new.self _ c.in-Call.is c.step_reserved_in.ensures.grows)
 
 pub returns : goal.returns
 returns g c =
@@ -55,7 +55,7 @@ returns g c =
     let end = c.step_reserved.ensures.grows in
     let load = c.step_reserved-2.ensures.grows in
     let took = c.take_positions-taken.ensures in
-    let opened = opened_now c.args.kept.now o c.args.count _ c.step_reserved_in.result c.requires.stands c.requires.not_closed c.in-Call.is begin c.step_reserved_in.ensures.called in
+    let opened = opened_now c.args.kept.now c.args.count c.step_reserved_in.result c.requires.stands c.requires.not_closed c.step_reserved_in.ensures.called o _ c.in-Call.is begin in
     let is = closed_now c.args.kept.now t c.step_reserved.new.self c.step_reserved-2.new.self c.args.count n c.step_reserved.result c.step_reserved-2.result c.requires.stands took.few (took.world ∙ ap (λ w. in_call w n n) opened) end c.step_reserved.ensures.called load (took.tally.setup ∙ begin.setup) in
     record {
       world = is;

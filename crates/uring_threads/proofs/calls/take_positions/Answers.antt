@@ -22,7 +22,7 @@ returns-then-is_ended-clause-call c =
     let i = c.loop-done.invariant in
     let t = took_of c.args.kept.now c.loop-done.kept c.step_reserved-answer.new.self c.requires.in_call.0 c.args.count c.loop-done.done c.step_reserved-answer.result c.is_lawful.ensures.goes_on i.tally.setup c.requires.in_call.1 c.requires.in_call.2 c.loop-done-test.true i.world c.step_reserved-answer.ensures.grows c.step_reserved-answer.ensures.called in
     let e = ends_as c.step_reserved-answer.new.self c.args.kept.now.setup c.setup-setup.result (now c.args.kept.now) c.args.count c.loop-done.done c.step_reserved-answer.result c.is_ended.result true c.setup-setup.ensures.value c.is_ended.ensures c.if-is_ended.true t in
-    ended_there c.args.kept.now.setup _ _ t.place c.loop-done.done _ t.next e i.calls
+    ended_there c.args.kept.now.setup _ _ t.place c.loop-done.done _ t.next i.calls e
 
 pub loop-done-preserved : goal.loop-done-preserved
 loop-done-preserved c =
@@ -32,7 +32,7 @@ loop-done-preserved c =
     record {
       events = omega (arith, i.events, grown_length _ _ _ c.step_reserved-answer.ensures.grows);
       world = t.world ∙ ap (λ b. in_call (now c.args.kept.now) (if b then c.loop-done.done + 1 else c.args.count) (c.loop-done.done + 1)) e;
-      calls = gone_on c.args.kept.now.setup _ _ t.place c.loop-done.done _ t.next e i.calls;
+      calls = gone_on c.args.kept.now.setup _ _ t.place c.loop-done.done _ t.next i.calls e;
       tally = appends_then _ _ _ _ _ _ i.tally (appends_one _ _ _ none_counted c.step_reserved-answer.ensures.grows refl refl) refl;
       row = records_more c.args.kept.now c.loop-done.kept c.step_reserved-answer.new.self step.Take c.loop-done.done c.step_reserved-answer.result i.row c.step_reserved-answer.ensures.grows;
     }

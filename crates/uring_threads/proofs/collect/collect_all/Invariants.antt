@@ -1,5 +1,5 @@
 use Rattle.std.proofs.Common.{length}
-use Rattle.uring_threads.proofs.FewResults.{CollectsBefore, SeenBefore}
+use Rattle.uring_threads.proofs.Collecting.{CollectsBefore, SeenBefore}
 use Rattle.uring_threads.proofs.collect.collect_all.Given as goal
 
 -- at most 64 of each worker so far

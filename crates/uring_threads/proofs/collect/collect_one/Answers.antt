@@ -1,9 +1,9 @@
 use Rattle.std.proofs.Common.{refl, subst, length, arith, ◌+◌}
 use Rattle.std.proofs.lemmas.Bool.{false≢true}
-use Rattle.uring_threads.specs.Collected.{CanBeTaken}
+use Rattle.uring_threads.specs.Collected.{CanBeTaken, NextStays}
 use Rattle.uring_threads.specs.Kept.{Grows}
 use Rattle.uring_threads.specs.Settled.{finish_of}
-use Rattle.uring_threads.proofs.Collecting.{collects_none, collects_one, first_known, first_stays, none_stays, on_err, takes_in}
+use Rattle.uring_threads.proofs.Collecting.{collects_first, collects_none, collects_then, first_known, none_stays, on_err, takes_in}
 use Rattle.uring_threads.proofs.TraceSteps.{still}
 use Rattle.uring_threads.proofs.collect.collect_one.Given.{Over}
 use Rattle.uring_threads.proofs.collect.collect_one.Goals as goal
@@ -17,21 +17,21 @@ popped_can g c =
 -- and that was recorded
 grows : (g : Over) (c : goal.After-finish g)
     → Grows c.reserve.new.self c.finish.new.self (finish_of c.pop_known-result.result)
-grows g c = takes_in c.reserve.new.self c.finish.new.self c.args.workers c.args.place c.pop_known-result.result c.finish.result (popped_can g c) c.finish.ensures.outcome c.finish.ensures.grows
+grows g c = takes_in c.reserve.new.self c.finish.new.self c.pop_known-result.result c.finish.result (popped_can g c).runs c.finish.ensures.outcome c.finish.ensures.grows
 
 pub returns-then-is_empty-clause-ok : goal.returns-then-is_empty-clause-ok
 returns-then-is_empty-clause-ok g c = (collects_none c.args.workers c.args.place (still c.args.kept.now), none_stays c.args.kept.now c.args.workers c.args.place _ (c.if-is_empty.ensures.value.0 refl))
 
 pub returns-then-not-is_at-clause-ok : goal.returns-then-not-is_at-clause-ok
 returns-then-not-is_at-clause-ok g c =
-    (collects_none c.args.workers c.args.place c.reserve.ensures.unmoved, first_stays c.reserve.new.self c.args.workers c.args.place c.peek_known.ensures (λ can. absurd (false≢true (c.if-not-is_at.ensures.1 can))))
+    (collects_none c.args.workers c.args.place c.reserve.ensures.unmoved, subst (NextStays c.reserve.new.self c.args.workers c.args.place) c.peek_known.ensures.1 (λ can. absurd (false≢true (c.if-not-is_at.ensures.1 can))))
 
 pub returns-in_err-reserve-clause-err : goal.returns-in_err-reserve-clause-err
 returns-in_err-reserve-clause-err g c =
     on_err c.from_residual.result (collects_none c.args.workers c.args.place c.reserve.ensures.unmoved)
 
 pub returns-clause-ok : goal.returns-clause-ok
-returns-clause-ok g c = collects_one c.pop_known-result.result c.reserve.ensures.unmoved (popped_can g c) (grows g c)
+returns-clause-ok g c = collects_then (collects_none c.args.workers c.args.place c.reserve.ensures.unmoved) (collects_first c.pop_known-result.result (popped_can g c) (grows g c))
 
 pub returns-in_err-reserve-clause-granted : goal.returns-in_err-reserve-clause-granted
 returns-in_err-reserve-clause-granted g c = λ all. absurd (false≢true (c.in_err-reserve.ensures.granted (length c.args.kept.now.trace + 1) (all (length c.args.kept.now.trace + 1)) (omega arith)))

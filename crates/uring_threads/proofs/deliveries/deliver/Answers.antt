@@ -1,6 +1,6 @@
 use Rattle.std.proofs.lemmas.Bool.{false≢true}
 use Rattle.std.proofs.Common.{◌+◌, length, arith}
-use Rattle.uring_threads.proofs.Delivering.{row_keeps, row_delivers, row_counts}
+use Rattle.uring_threads.proofs.Posting.{row_keeps, row_delivers, row_counts}
 use Rattle.uring_threads.proofs.Recording.{delivery_recorded}
 use Rattle.uring_threads.proofs.deliveries.deliver.Goals as goal
 

@@ -5,8 +5,7 @@ use Rattle.uring_threads.specs.EventRows.{IsTaken}
 use Rattle.uring_threads.specs.Kept.{now}
 use Rattle.uring_threads.specs.Turns.{Tied, is_shut}
 use Rattle.uring_threads.proofs.Recording.{none_pulled, pulled_as, records_none, records_then}
-use Rattle.uring_threads.proofs.Closing.{once_unmoved}
-use Rattle.uring_threads.proofs.Tying.{completions_after, pulled_at, takes_after, takes_nothing, tied_still}
+use Rattle.uring_threads.proofs.Tying.{once_unmoved, completions_after, pulled_at, takes_after, takes_nothing, tied_still}
 use Rattle.uring_threads.proofs.intake.pull_call.Goals as goal
 use Rattle.uring_threads.proofs.Collecting.{on_err}
 

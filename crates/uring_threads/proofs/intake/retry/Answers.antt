@@ -1,14 +1,12 @@
-use Rattle.uring_threads.proofs.Granting.{waits_not}
+use Rattle.uring_threads.proofs.Tying.{waits_not, once_begun, once_unmoved, begun_completions, call_waits, completions_after, takes_after, takes_calls, takes_nothing, tied_again, tied_still}
 use Rattle.std.proofs.lemmas.Bool.{false≢true}
 use Rattle.std.proofs.Common.{[], inl, inr, refl, sym, subst, ap, ◌∙◌, arith, length, ◌+◌, ◌*◌}
 use Rattle.uring_threads.specs.EventRows.{IsAgain}
-use Rattle.uring_threads.specs.Kept.{now, IsUnmoved}
+use Rattle.uring_threads.specs.Kept.{now}
 use Rattle.uring_threads.specs.Turns.{ClosesOnce, Tied, awaits_memory}
 use Rattle.uring_threads.proofs.Recording.{none_again, records_none}
-use Rattle.uring_threads.proofs.BegunRows.{row_begun}
-use Rattle.uring_threads.proofs.Closing.{once_begun, once_unmoved}
-use Rattle.uring_threads.proofs.TraceSteps.{appends_after}
-use Rattle.uring_threads.proofs.Tying.{begun_completions, call_waits, completions_after, takes_after, takes_calls, takes_nothing, tied_again, tied_still}
+use Rattle.uring_threads.proofs.CallsMade.{row_begun}
+use Rattle.uring_threads.proofs.TraceSteps.{appends_after, still}
 use Rattle.uring_threads.proofs.intake.retry.Goals as goal
 
 pub begin_calls-requires-clause-not_closed : goal.begin_calls-requires-clause-not_closed
@@ -50,5 +48,5 @@ returns-in_ok-reserve g c =
 
 pub returns-in_default : goal.returns-in_default
 returns-in_default g c =
-    let still : IsUnmoved c.args.kept.now c.args.kept.now = record { trace = refl; room = omega arith; setup = refl } in
+    let still = still c.args.kept.now in
     record { tied = λ put t. t; completions = refl; taken = takes_nothing c.args.kept.now c.args.kept.now still; row = ([], none_again c.args.kept.now.setup (now c.args.kept.now).submission c.args.intake.now, records_none c.args.kept.now c.args.kept.now still); once = λ same. same; granted = λ all. refl; begun = λ all. waits_not c.args.intake.now c.in_default.not-Waiting }

@@ -1,11 +1,12 @@
 use Rattle.std.proofs.lemmas.Bool.{false≢true}
-use Rattle.std.proofs.Common.{◌∙◌, sym, subst}
+use Rattle.std.proofs.lemmas.Result.{IfOk-weaker, on_err_weaker}
+use Rattle.std.proofs.Common.{◌∙◌, sym, subst, refl, arith}
 use Rattle.uring_entry.specs.Setup.{Setup}
 use Rattle.uring_threads.specs.EventRows.{IsPulled}
 use Rattle.uring_threads.specs.Kept.{now}
 use Rattle.uring_threads.specs.Turns.{Tied}
 use Rattle.uring_threads.proofs.Recording.{again_recorded, intake_recorded}
-use Rattle.uring_threads.proofs.Tying.{ok_then, err_then}
+use Rattle.uring_threads.proofs.Tying.{takes_then}
 use Rattle.uring_threads.proofs.intake.take_in.Goals as goal
 
 pub pull_call-requires-clause-tied : goal.pull_call-requires-clause-tied
@@ -29,10 +30,10 @@ returns-in-Ready-clause-completions g c =
     c.pull_call.ensures.completions ∙ c.retry.ensures.completions
 
 pub returns-in-Ready-clause-taken : goal.returns-in-Ready-clause-taken
-returns-in-Ready-clause-taken g c = ok_then c.pull_call.result c.args.kept.now c.retry.new.kept c.pull_call.new.kept c.retry.ensures.taken c.pull_call.ensures.taken
+returns-in-Ready-clause-taken g c = IfOk-weaker c.pull_call.result _ _ (λ n p. takes_then c.args.kept.now c.retry.new.kept c.pull_call.new.kept 0 n n c.retry.ensures.taken p (omega arith)) c.pull_call.ensures.taken
 
 pub returns-in-Ready-clause-err : goal.returns-in-Ready-clause-err
-returns-in-Ready-clause-err g c = err_then c.pull_call.result c.args.kept.now c.retry.new.kept c.pull_call.new.kept c.retry.ensures.taken c.pull_call.ensures.err
+returns-in-Ready-clause-err g c = on_err_weaker c.pull_call.result (λ p. takes_then c.args.kept.now c.retry.new.kept c.pull_call.new.kept 0 0 0 c.retry.ensures.taken p refl) c.pull_call.ensures.err
 
 pub returns-in_err-retry-clause-row : goal.returns-in_err-retry-clause-row
 returns-in_err-retry-clause-row g c = again_recorded c.args.kept.now c.retry.new.kept c.args.intake.now (g.P.KernelPort.pulled c.args.port.now) c.retry.ensures.row

@@ -5,11 +5,12 @@ use Rattle.uring_core.specs.declared.step.Step.TheVariants as step
 use Rattle.uring_ports.specs.Ports.{Pulls}
 use Rattle.uring_threads.specs.EventRows.{IsTaken}
 use Rattle.uring_threads.specs.Kept.{now}
+use Rattle.uring_threads.specs.Tallies.{close_counted}
 use Rattle.uring_threads.specs.Turns.{ClosesOnce, Tied, awaits_memory, waiting_in}
 use Rattle.uring_threads.proofs.Recording.{records_none, records_one}
-use Rattle.uring_threads.proofs.BegunRows.{row_taken}
-use Rattle.uring_threads.proofs.Closing.{once_begun, once_shut, once_stays}
-use Rattle.uring_threads.proofs.Tying.{begun_completions, closed_world, takes_calls, takes_items, takes_nothing, takes_shut, takes_then, tied_shut, tied_taken}
+use Rattle.uring_threads.proofs.CallsMade.{row_taken}
+use Rattle.uring_threads.proofs.Tying.{once_begun, once_shut, once_stays, begun_completions, closed_world, takes_calls, takes_nothing, takes_then, tied_shut, tied_taken}
+use Rattle.uring_threads.proofs.TraceSteps.{appends_one, still}
 use Rattle.uring_threads.proofs.intake.take_pulled.Goals as goal
 
 pub publish_items-requires-clause-few : goal.publish_items-requires-clause-few
@@ -36,7 +37,7 @@ returns-in-Call g c =
       completions = begun_completions c.publish_items.new.kept c.begin_calls.new.kept c.begin_calls.result c.begin_calls.ensures.begun ∙ ap (λ (w : World). w.completions) c.publish_items.ensures.world;
       taken =
           let n = length c.args.items.now in
-          takes_then c.args.kept.now c.publish_items.new.kept c.begin_calls.new.kept n 0 n (takes_items c.args.kept.now c.publish_items.new.kept n pulled.0 c.publish_items.ensures.tally)
+          takes_then c.args.kept.now c.publish_items.new.kept c.begin_calls.new.kept n 0 n (record { calls = 0; closes = 0; appends = c.publish_items.ensures.tally; idle = λ none. absurd (omega (arith, none, pulled.0)) })
           (takes_calls c.publish_items.new.kept c.begin_calls.new.kept c.begin_calls.ensures.begun.made _ c.begin_calls.ensures.begun.have) (omega arith);
       row =
           let stands : Stands (now c.args.kept.now).submission [] 0 = subst (λ i. Stands (now c.args.kept.now).submission [] (waiting_in i)) c.requires.ready c.requires.tied.2.stands in
@@ -57,7 +58,7 @@ returns-in-Close g c =
           tied_shut c.args.kept.now c.step_reserved.new.self c.step_reserved.result before after c.args.intake.now c.requires.ready c.step_reserved.ensures.grows c.step_reserved.ensures.called tied
           (subst (λ v. Pulls c.args.kept.now.setup.sq before v c.args.items.now after) c.in-Close.is pulled).2;
       completions = ap (λ (w : World). w.completions) (closed_world c.args.kept.now c.step_reserved.new.self c.step_reserved.result c.step_reserved.ensures.grows c.step_reserved.ensures.called c.requires.tied.2.stands.call);
-      taken = takes_shut c.args.kept.now c.step_reserved.new.self c.step_reserved.result c.step_reserved.ensures.grows;
+      taken = record { calls = 0; closes = 1; appends = appends_one _ _ _ close_counted c.step_reserved.ensures.grows refl refl; idle = λ none. absurd (omega (arith, none)) };
       row = (step.Close ∷ [], subst (λ p. IsTaken c.args.kept.now.setup p c.args.items.now (step.Close ∷ [])) (sym c.in-Close.is) refl, records_one c.args.kept.now c.step_reserved.new.self step.Close c.step_reserved.result c.step_reserved.ensures.grows);
       once = λ once. once_shut c.args.kept.now c.step_reserved.new.self c.step_reserved.result c.step_reserved.ensures.grows (subst (ClosesOnce c.args.kept.now) c.requires.ready once);
       none = λ none ready. absurd cc;
@@ -70,8 +71,8 @@ returns-in-Nothing g c =
       tied = λ before after tied pulled.
           subst (λ put. Tied c.args.kept.now.setup (now c.args.kept.now) put c.args.intake.now) (sym (subst (λ v. Pulls c.args.kept.now.setup.sq before v c.args.items.now after) c.in-Nothing.is pulled).1) tied;
       completions = refl;
-      taken = takes_nothing c.args.kept.now c.args.kept.now (record { trace = refl; room = omega arith; setup = refl });
-      row = ([], subst (λ p. IsTaken c.args.kept.now.setup p c.args.items.now []) (sym c.in-Nothing.is) refl, records_none c.args.kept.now c.args.kept.now (record { trace = refl; room = omega arith; setup = refl }));
+      taken = takes_nothing c.args.kept.now c.args.kept.now (still c.args.kept.now);
+      row = ([], subst (λ p. IsTaken c.args.kept.now.setup p c.args.items.now []) (sym c.in-Nothing.is) refl, records_none c.args.kept.now c.args.kept.now (still c.args.kept.now));
       once = λ once. once;
       none = λ none ready. c.in-Nothing.is;
       begun = λ all. ap awaits_memory c.requires.ready;

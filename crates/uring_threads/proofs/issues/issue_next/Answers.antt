@@ -1,7 +1,7 @@
 use Rattle.std.proofs.Common.{subst, sym, ◌∙◌}
 use Rattle.uring_core.specs.declared.step.Step.TheVariants as step
 use Rattle.uring_threads.specs.Kept.{Grows}
-use Rattle.uring_threads.proofs.IssueSteps.{issue_cases, started_runs}
+use Rattle.uring_threads.proofs.Issuing.{issue_cases, started_runs}
 use Rattle.uring_threads.proofs.issues.issue_next.Goals as goal
 
 pub unreachable-requires-in_default : goal.unreachable-requires-in_default

@@ -2,7 +2,7 @@ use Rattle.std.proofs.Common.{[], ◌∷◌, ◌≡◌, ◌<◌, length, subst, 
 use Rattle.uring_entry.specs.Setup.{Setup}
 use Rattle.uring_threads.specs.Issued.{IssuedAs}
 use Rattle.uring_workers.specs.Work.{place_of}
-use Rattle.uring_threads.proofs.Carrying.{carried_ended, carried_run, issued_posts}
+use Rattle.uring_threads.proofs.Carrying.{carried_run, carried_stays, ended_stays, issued_posts}
 use Rattle.uring_threads.proofs.Dealing.{dealt_by_file}
 use Rattle.uring_threads.proofs.issues.issue_one.Goals as goal
 
@@ -16,7 +16,7 @@ returns-in-Some-clause-carried c =
 
 pub returns-in_default-clause-carried : goal.returns-in_default-clause-carried
 returns-in_default-clause-carried c =
-    carried_ended c.args.kept.now c.issue_next.new.kept c.args.number c.args.lanes.now (subst (IssuedAs c.args.kept.now c.issue_next.new.kept c.args.number) c.in_default.is c.issue_next.ensures.issued) c.requires.carried
+    carried_stays c.args.kept.now c.issue_next.new.kept c.args.lanes.now (ended_stays c.args.kept.now c.issue_next.new.kept c.args.number (subst (IssuedAs c.args.kept.now c.issue_next.new.kept c.args.number) c.in_default.is c.issue_next.ensures.issued)) c.requires.carried
 
 pub returns-in-Some-clause-repeats : goal.returns-in-Some-clause-repeats
 returns-in-Some-clause-repeats c = record {

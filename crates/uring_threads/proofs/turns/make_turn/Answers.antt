@@ -1,5 +1,6 @@
 use Rattle.std.proofs.Common.{◌≡◌, ℕ, subst, sym, refl, ap, ◌∙◌, length, arith}
-use Rattle.std.specs.Prelude.{◌⊎◌, None, OnErr}
+use Rattle.std.specs.Prelude.{◌⊎◌, None, OnErr, Err}
+use Rattle.std.proofs.lemmas.Result.{IfOk-from_err}
 use Rattle.uring_entry.specs.Setup.{Setup}
 use Rattle.uring_entry.specs.Submission.{dropped}
 use Rattle.uring_ports.specs.Dropped.{with_word}
@@ -31,14 +32,14 @@ taken g c n pulled same took =
 pub returns-in_err-popped-clause-turned : goal.returns-in_err-popped-clause-turned
 returns-in_err-popped-clause-turned g c =
     let t = taken g (goal.at.returns-in_err-popped-clause-turned g c).After-take_in 0 _ refl c.in_err-popped.ensures.err in
-    refused _ (first g (goal.at.returns-in_err-popped-clause-turned g c).After-take_in) _ _ c.from_residual.result c.from_residual.ensures.0 c.requires.is (goes_taken t) c.take_in.ensures.pairing c.take_in.ensures.sizes c.take_in.ensures.dropped c.in_err-popped.ensures.granted
+    refused _ (first g (goal.at.returns-in_err-popped-clause-turned g c).After-take_in) _ _ c.from_residual.result c.from_residual.ensures.0 c.requires.is (goes_taken t (IfOk-from_err c.from_residual.result _ c.from_residual.ensures.0)) c.take_in.ensures.pairing c.take_in.ensures.sizes c.take_in.ensures.dropped c.in_err-popped.ensures.granted
 
 pub collect_all-requires : goal.collect_all-requires
 collect_all-requires g c = record { some = c.requires.is.some; few = c.requires.is.few; carried = (taken g (goal.at.collect_all-requires g c).After-take_in _ _ refl c.in_ok-popped.ensures.taken).ties.carried }
 
 pub returns-in_err-finished-clause-turned : goal.returns-in_err-finished-clause-turned
 returns-in_err-finished-clause-turned g c =
-    let u = goes_collected (taken g (goal.at.returns-in_err-finished-clause-turned g c).After-take_in _ _ refl c.in_ok-popped.ensures.taken) c.in_err-finished.ensures.err.1 c.collect_all.ensures.few c.collect_all.ensures.carried c.collect_all.ensures.lanes in
+    let u = goes_collected (taken g (goal.at.returns-in_err-finished-clause-turned g c).After-take_in _ _ refl c.in_ok-popped.ensures.taken) c.in_err-finished.ensures.err.1 c.collect_all.ensures.few c.collect_all.ensures.carried c.collect_all.ensures.lanes (IfOk-from_err c.from_residual-in_err-finished.result _ c.from_residual-in_err-finished.ensures.0) in
     refused _ (first g (goal.at.returns-in_err-finished-clause-turned g c).After-take_in) _ _ c.from_residual-in_err-finished.result c.from_residual-in_err-finished.ensures.0 c.requires.is u c.take_in.ensures.pairing c.take_in.ensures.sizes c.take_in.ensures.dropped c.in_err-finished.ensures.granted
 
 pub issue_all-requires : goal.issue_all-requires
@@ -46,17 +47,17 @@ issue_all-requires g c = record { some = omega (arith, c.requires.is.some, c.col
 
 pub returns-in_err-issued-clause-turned : goal.returns-in_err-issued-clause-turned
 returns-in_err-issued-clause-turned g c =
-    let u = goes_issued (taken g (goal.at.returns-in_err-issued-clause-turned g c).After-take_in _ _ refl c.in_ok-popped.ensures.taken) c.in_ok-finished.ensures.ok c.collect_all.ensures.few c.collect_all.ensures.carried c.collect_all.ensures.lanes c.in_err-issued.ensures.err.1 c.issue_all.ensures.carried c.issue_all.ensures.lanes in
+    let u = goes_issued (taken g (goal.at.returns-in_err-issued-clause-turned g c).After-take_in _ _ refl c.in_ok-popped.ensures.taken) c.in_ok-finished.ensures.ok c.collect_all.ensures.few c.collect_all.ensures.carried c.collect_all.ensures.lanes c.in_err-issued.ensures.err.1 c.issue_all.ensures.carried c.issue_all.ensures.lanes (IfOk-from_err c.from_residual-in_err-issued.result _ c.from_residual-in_err-issued.ensures.0) in
     refused _ (first g (goal.at.returns-in_err-issued-clause-turned g c).After-take_in) _ _ c.from_residual-in_err-issued.result c.from_residual-in_err-issued.ensures.0 c.requires.is u c.take_in.ensures.pairing c.take_in.ensures.sizes c.take_in.ensures.dropped c.in_err-issued.ensures.granted
 
 pub deliver-requires : goal.deliver-requires
 deliver-requires g c =
-    let u = goes_issued (taken g (goal.at.deliver-requires g c).After-take_in _ _ refl c.in_ok-popped.ensures.taken) c.in_ok-finished.ensures.ok c.collect_all.ensures.few c.collect_all.ensures.carried c.collect_all.ensures.lanes c.in_ok-issued.ensures.ok c.issue_all.ensures.carried c.issue_all.ensures.lanes in
+    let u = goes_issued {E = Unit {0}} {answer = Err tt} (taken g (goal.at.deliver-requires g c).After-take_in _ _ refl c.in_ok-popped.ensures.taken) c.in_ok-finished.ensures.ok c.collect_all.ensures.few c.collect_all.ensures.carried c.collect_all.ensures.lanes c.in_ok-issued.ensures.ok c.issue_all.ensures.carried c.issue_all.ensures.lanes tt in
     record { sizes = ap (λ (s : Sizes). s.cq) c.take_in.ensures.sizes ∙ c.requires.is.cq ∙ ap (λ (s : Setup). s.cq) (sym u.counts.appends.setup); delivered = u.ties.delivered }
 
 pub returns-in_err-delivered-clause-turned : goal.returns-in_err-delivered-clause-turned
 returns-in_err-delivered-clause-turned g c =
-    let u = goes (taken g (goal.at.returns-in_err-delivered-clause-turned g c).After-take_in _ _ c.deliver.ensures.pulled c.in_ok-popped.ensures.taken) c.in_ok-finished.ensures.ok c.collect_all.ensures.few c.collect_all.ensures.carried c.collect_all.ensures.lanes c.in_ok-issued.ensures.ok c.issue_all.ensures.carried c.issue_all.ensures.lanes (delivers_none c.in_err-delivered.ensures.err c.deliver.ensures.keeps c.deliver.ensures.delivered) in
+    let u = goes (taken g (goal.at.returns-in_err-delivered-clause-turned g c).After-take_in _ _ c.deliver.ensures.pulled c.in_ok-popped.ensures.taken) c.in_ok-finished.ensures.ok c.collect_all.ensures.few c.collect_all.ensures.carried c.collect_all.ensures.lanes c.in_ok-issued.ensures.ok c.issue_all.ensures.carried c.issue_all.ensures.lanes (delivers_none c.in_err-delivered.ensures.err c.deliver.ensures.keeps c.deliver.ensures.delivered) (IfOk-from_err c.from_residual-in_err-delivered.result _ c.from_residual-in_err-delivered.ensures.0) in
     refused _ (first g (goal.at.returns-in_err-delivered-clause-turned g c).After-take_in) _ _ c.from_residual-in_err-delivered.result c.from_residual-in_err-delivered.ensures.0 c.requires.is u (c.deliver.ensures.pairing ∙ c.take_in.ensures.pairing) (c.deliver.ensures.sizes ∙ c.take_in.ensures.sizes) (c.deliver.ensures.dropped ∙ c.take_in.ensures.dropped) c.in_err-delivered.ensures.granted
 
 pub returns-clause-turned : goal.returns-clause-turned
@@ -65,13 +66,13 @@ returns-clause-turned g c =
     let told = c.tell_dropped.ensures in
     let t = taken g began _ _ (told.pulled ∙ c.deliver.ensures.pulled) c.in_ok-popped.ensures.taken in
     let d : HasDelivered c.issue_all.new.kept c.deliver.new.kept c.in_ok-delivered.delivered (g.P.KernelPort.delivered c.tell_dropped.new.port) = record { tally = c.in_ok-delivered.ensures.tally; row = c.in_ok-delivered.ensures.row; idle = λ none. (c.in_ok-delivered.ensures.idle none).trace; keeps = c.deliver.ensures.keeps; delivered = subst (IsDelivered (now c.deliver.new.kept).completions) (sym told.delivered) c.deliver.ensures.delivered } in
-    let u = goes t c.in_ok-finished.ensures.ok c.collect_all.ensures.few c.collect_all.ensures.carried c.collect_all.ensures.lanes c.in_ok-issued.ensures.ok c.issue_all.ensures.carried c.issue_all.ensures.lanes d in
+    let u = goes t c.in_ok-finished.ensures.ok c.collect_all.ensures.few c.collect_all.ensures.carried c.collect_all.ensures.lanes c.in_ok-issued.ensures.ok c.issue_all.ensures.carried c.issue_all.ensures.lanes d told.turn in
     let cq : c.issue_all.new.kept.setup.cq ≡ c.args.kept.now.setup.cq = ap (λ (s : Setup). s.cq) (sym c.in_ok-delivered.ensures.tally.setup ∙ u.counts.appends.setup) in
     let posted = ap length c.deliver.ensures.keeps.posted in
     let old : Kernel = first g began in
     let new : Kernel = record { kept = c.deliver.new.kept; intake = c.take_in.new.intake; lanes = c.issue_all.new.lanes; pairing = g.P.KernelPort.pairing c.tell_dropped.new.port; sizes = g.P.KernelPort.sizes c.tell_dropped.new.port; pulled = g.P.KernelPort.pulled c.tell_dropped.new.port; saw_calls = g.P.KernelPort.saw_calls c.tell_dropped.new.port; reaped = g.P.KernelPort.delivered c.tell_dropped.new.port; free = g.P.KernelPort.free c.tell_dropped.new.port; room_looks = g.P.KernelPort.room_looks c.tell_dropped.new.port; dropped = g.P.KernelPort.dropped c.tell_dropped.new.port } in
     let dropped_before = c.deliver.ensures.dropped ∙ c.take_in.ensures.dropped in
-    turned _ old new _ c.tell_dropped.result c.requires.is u (told.pairing ∙ c.deliver.ensures.pairing ∙ c.take_in.ensures.pairing) (told.sizes ∙ c.deliver.ensures.sizes ∙ c.take_in.ensures.sizes) told.turn
+    turned _ old new _ c.tell_dropped.result c.requires.is u (told.pairing ∙ c.deliver.ensures.pairing ∙ c.take_in.ensures.pairing) (told.sizes ∙ c.deliver.ensures.sizes ∙ c.take_in.ensures.sizes)
     (with_ok c.tell_dropped.result _ (HasServed old new) _ _
     (λ made same begun stored. subst (HasServed old new) (sym same) (record { counts = u.counts; begun = begun; pulls = subst (PullsMost c.take_in.new.intake c.in_ok-popped.popped (g.P.KernelPort.saw_calls c.args.port.now)) (sym (told.calls ∙ c.deliver.ensures.calls)) c.in_ok-popped.ensures.most; none_left = subst (λ n. (n ≡ None) ⊎ SomeIsFull c.issue_all.new.lanes) (sym (same_next c.issue_all.new.kept c.deliver.new.kept c.deliver.ensures.keeps c.in_ok-delivered.ensures.tally.setup)) c.in_ok-issued.ensures.none_left; all = λ few. ap length told.delivered ∙ c.in_ok-delivered.ensures.all (omega (arith, few, posted, cq)) ∙ sym posted; most = subst (λ q. DeliversMost (now c.deliver.new.kept).completions (g.P.KernelPort.free c.tell_dropped.new.port) q c.in_ok-delivered.delivered) cq (subst (λ f. DeliversMost (now c.deliver.new.kept).completions f c.issue_all.new.kept.setup.cq c.in_ok-delivered.delivered) (sym told.free) c.in_ok-delivered.ensures.most); looked = subst (λ a. HasLooked (g.P.KernelPort.room_looks c.args.port.now) a) (sym told.room_looks) (subst (λ b. HasLooked b (g.P.KernelPort.room_looks c.deliver.new.port)) c.take_in.ensures.room_looks c.deliver.ensures.looked); stored = stored ∙ ap (λ d. with_word d (dropped (now c.deliver.new.kept).submission)) dropped_before }))
     told.turn told.begun told.stored)

@@ -5,44 +5,31 @@ use Rattle.uring_rings.proofs.Elements.{read_cell}
 use Rattle.uring_rings.proofs.SubmissionCalls.{takes_place, take_gives, take_drops, take_gives_shows, take_drops_shows}
 use Rattle.uring_rings.proofs.sq.Sq.take.Goals as goal
 
-pub returns-then-word-self-clause-answer : goal.returns-then-word-self-clause-answer
-returns-then-word-self-clause-answer c =
+pub returns-then-word-self : goal.returns-then-word-self
+returns-then-word-self c =
     let size = ap (λ (q : Sq). q.size) c.self.view_is in
     let cell = c.cell-cell.ensures.value ∙ ap (λ (w : ℕ). w % c.args.self.now.size) c.after.ensures in
     let read = read_cell c.self.inside.array.items c.cell-cell.result _ c.args.self.now.size c.self.inside.size c.index-word.result.now c.index-word.ensures cell c.cell-cell.ensures.within (sym size) c.self.invariant.cells in
-    rw (← c.self.view_is)
-    (λ g l s.
-    let t = takes_place g _ l c.in-Some.call c.index-word.result.now s c.in-Some.is c.if-call.false read in
-    take_drops g l c.in-Some.call c.index-word.result.now t (omega (arith, s.size)))
+    record {
+      answer = rw (← c.self.view_is) (λ g l s. take_drops g l c.in-Some.call c.index-word.result.now (takes_place g _ l c.in-Some.call c.index-word.result.now s c.in-Some.is c.if-call.false read) (omega (arith, s.size)));
+      shows = rw (← c.self.view_is) (λ g l s. take_drops_shows g _ l c.in-Some.call c.index-word.result.now s (takes_place g _ l c.in-Some.call c.index-word.result.now s c.in-Some.is c.if-call.false read) (omega (arith, s.size)));
+      no_call = λ e. absurd cc;
+      no_more = λ e. absurd cc;
+    }
 
-pub returns-then-word-self-clause-shows : goal.returns-then-word-self-clause-shows
-returns-then-word-self-clause-shows c =
+pub returns : goal.returns
+returns c =
     let size = ap (λ (q : Sq). q.size) c.self.view_is in
     let cell = c.cell-cell.ensures.value ∙ ap (λ (w : ℕ). w % c.args.self.now.size) c.after.ensures in
     let read = read_cell c.self.inside.array.items c.cell-cell.result _ c.args.self.now.size c.self.inside.size c.index-word.result.now c.index-word.ensures cell c.cell-cell.ensures.within (sym size) c.self.invariant.cells in
-    rw (← c.self.view_is)
-    (λ g l s.
-    let t = takes_place g _ l c.in-Some.call c.index-word.result.now s c.in-Some.is c.if-call.false read in
-    take_drops_shows g _ l c.in-Some.call c.index-word.result.now s t (omega (arith, s.size)))
-
-pub returns-clause-answer : goal.returns-clause-answer
-returns-clause-answer c =
-    let size = ap (λ (q : Sq). q.size) c.self.view_is in
-    let cell = c.cell-cell.ensures.value ∙ ap (λ (w : ℕ). w % c.args.self.now.size) c.after.ensures in
-    let read = read_cell c.self.inside.array.items c.cell-cell.result _ c.args.self.now.size c.self.inside.size c.index-word.result.now c.index-word.ensures cell c.cell-cell.ensures.within (sym size) c.self.invariant.cells in
-    rw (← c.self.view_is)
-    (λ g l s.
-    let t = takes_place g _ l c.in-Some.call c.index-word.result.now s c.in-Some.is c.if-call.false read in
-    let valid : c.index-word.result.now < g.sq = omega (arith, s.size) in
-    let entry = c.index.ensures ∙ get_or_from_slice_get c.self.inside.table.items c.index-word.result.now (l.content c.index-word.result.now) c.index.result.now (s.slots c.index-word.result.now valid) in
-    take_gives g l c.in-Some.call c.index-word.result.now c.index.result.now t valid entry)
-
-pub returns-clause-shows : goal.returns-clause-shows
-returns-clause-shows c =
-    let size = ap (λ (q : Sq). q.size) c.self.view_is in
-    let cell = c.cell-cell.ensures.value ∙ ap (λ (w : ℕ). w % c.args.self.now.size) c.after.ensures in
-    let read = read_cell c.self.inside.array.items c.cell-cell.result _ c.args.self.now.size c.self.inside.size c.index-word.result.now c.index-word.ensures cell c.cell-cell.ensures.within (sym size) c.self.invariant.cells in
-    rw (← c.self.view_is)
-    (λ g l s.
-    let t = takes_place g _ l c.in-Some.call c.index-word.result.now s c.in-Some.is c.if-call.false read in
-    take_gives_shows g _ l c.in-Some.call c.index-word.result.now s t (omega (arith, s.size)))
+    record {
+      answer =
+          rw (← c.self.view_is)
+          (λ g l s.
+          let valid : c.index-word.result.now < g.sq = omega (arith, s.size) in
+          let entry = c.index.ensures ∙ get_or_from_slice_get c.self.inside.table.items c.index-word.result.now (l.content c.index-word.result.now) c.index.result.now (s.slots c.index-word.result.now valid) in
+          take_gives g l c.in-Some.call c.index-word.result.now c.index.result.now (takes_place g _ l c.in-Some.call c.index-word.result.now s c.in-Some.is c.if-call.false read) valid entry);
+      shows = rw (← c.self.view_is) (λ g l s. take_gives_shows g _ l c.in-Some.call c.index-word.result.now s (takes_place g _ l c.in-Some.call c.index-word.result.now s c.in-Some.is c.if-call.false read) (omega (arith, s.size)));
+      no_call = λ e. absurd cc;
+      no_more = λ e. absurd cc;
+    }

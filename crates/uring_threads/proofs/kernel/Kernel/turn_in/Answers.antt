@@ -3,7 +3,7 @@ use Rattle.uring_entry.specs.Setup.{Setup}
 use Rattle.uring_workers.specs.WorkLanes.{AreSameLanes, numbers_of_lanes}
 use Rattle.uring_threads.specs.Kernel.{Kernel}
 use Rattle.uring_threads.specs.Served.{HasTurned}
-use Rattle.uring_threads.proofs.Reporting.{lanes_back}
+use Rattle.uring_threads.proofs.Reporting.{take_whole}
 use Rattle.uring_threads.proofs.SameEnds.{same_numbers}
 use Rattle.uring_threads.proofs.kernel.Kernel.turn_in.Given.{Over}
 use Rattle.uring_threads.proofs.kernel.Kernel.turn_in.Goals as goal
@@ -20,7 +20,7 @@ lent g c = rw c.deref_mut.ensures.value c.self.view_is
 back : (g : Over) (c : goal.After-self-1 g)
     → take c.self.inside.lanes.len (c.make_turn.new.lanes ++ drop (length c.make_turn.new.lanes) c.self.inside.lanes.items) ≡ c.make_turn.new.lanes
 back g c =
-    lanes_back c.self.inside.lanes.len c.self.inside.lanes.items c.deref_mut.result.now c.make_turn.new.lanes c.deref_mut.ensures.value c.make_turn.ensures.turned.lanes (omega (arith, c.self.inside.lanes.ok.0))
+    take_whole c.self.inside.lanes.len c.make_turn.new.lanes (drop (length c.make_turn.new.lanes) c.self.inside.lanes.items) (omega (arith, c.make_turn.ensures.turned.lanes.many, ap length c.deref_mut.ensures.value, c.self.inside.lanes.ok.0))
 
 pub returns : goal.returns
 returns g c =

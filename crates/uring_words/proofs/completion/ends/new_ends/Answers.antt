@@ -1,5 +1,5 @@
-use Rattle.std.proofs.Common.{[], arith, rules, refl}
-use Rattle.uring_words.proofs.CompletionFirst.{opens}
+use Rattle.std.proofs.Common.{◌≤◌, [], arith, rules, refl}
+use Rattle.uring_words.proofs.CompletionPlays.{opens}
 use Rattle.uring_words.proofs.FirstTable.{start_word}
 use Rattle.uring_words.proofs.SlotSeats.{splits}
 use Rattle.uring_words.proofs.completion.ends.new_ends.Goals as goal
@@ -15,14 +15,8 @@ pub invariant_of-reader : goal.invariant_of-reader
 invariant_of-reader g c =
     let app = c.in_ok-app.ensures.app in
     let start = start_word c.args.shape.start (search rules) in
-    rw app.2 (record {
-      fits = record { same_table = app.0; many = app.1; power = c.requires.power; most = c.requires.limit; sized = refl };
-      is_app = refl;
-      holds = refl;
-      few = omega arith;
-      tail_word = start;
-      head_word = start;
-    })
+    let few : 0 ≤ c.args.shape.size = omega arith in
+    rw app.2 (assumption (app, c.requires, start, few))
 
 pub invariant_of-writer : goal.invariant_of-writer
 invariant_of-writer g c =

@@ -4,7 +4,7 @@ use Rattle.uring_words.specs.Submission.Ends.{End, has_loaded}
 use Rattle.uring_words.specs.Submission.Rule.{at_first}
 use Rattle.uring_words.specs.Submission.Steps.{Holder}
 use Rattle.uring_words.specs.declared.submission.view.Position.TheVariants as position
-use Rattle.uring_words.proofs.FirstTable.{opens}
+use Rattle.uring_words.proofs.Plays.{opens}
 use Rattle.uring_words.proofs.SlotSeats.{splits}
 use Rattle.uring_words.proofs.submission.ends.new_ends.Goals as goal
 

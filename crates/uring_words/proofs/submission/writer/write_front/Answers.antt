@@ -14,8 +14,8 @@ write_first-requires-clause-first c =
     let a = v.app in
     let inv = c.loop-item.invariant in
     let room = c.requires.held in
-    let at = at_place a.start c.args.size a.size (length a.published + c.loop-item.item-index) c.loop-item.next c.requires.held.sized c.requires.held.power inv.next in
-    stands_first a.start a.size (length a.published) c.loop-item.item-index (c.loop-item.next % c.args.size) room.blank (all_more (take c.loop-item.item-index c.args.items.now)) c.loop-item.seat.me v (inv.written room.blank room.holds) (omega (arith, room.many, c.loop-item-test.true)) at.0
+    let at = at_place a.start c.args.size a.size (length a.published + c.loop-item.item-index) c.loop-item.next c.requires.held.sized inv.next in
+    stands_first a.start a.size (length a.published) c.loop-item.item-index (c.loop-item.next % c.args.size) room.blank (all_more (take c.loop-item.item-index c.args.items.now)) c.loop-item.seat.me v (inv.written room.blank room.holds) (omega (arith, room.many, c.loop-item-test.true)) at
 
 pub loop-item-preserved : goal.loop-item-preserved
 loop-item-preserved c =
@@ -27,7 +27,7 @@ loop-item-preserved c =
     let inv = c.loop-item.invariant in
     let room = c.requires.held in
     let x = c.item-item.result in
-    let at = at_place a.start c.args.size a.size (n + k) c.loop-item.next c.requires.held.sized c.requires.held.power inv.next in
+    let at = at_place a.start c.args.size a.size (n + k) c.loop-item.next c.requires.held.sized inv.next in
     let many : k ≡ length (all_more (take k items)) = sym (more_length (take k items) ∙ length-take-le k items (omega (arith, c.loop-item-test.true))) in
     let longer : all_more (take k items) ++ position.More x ∷ [] ≡ all_more (take (k + 1) items) = sym (ap all_more (take_more items k x c.loop-item-test.true ∙ ap (λ y. take k items ++ y ∷ []) (sym c.item-item.is)) ∙ more_append (take k items) (x ∷ [])) in
     record {
@@ -35,7 +35,7 @@ loop-item-preserved c =
       next = omega (arith, inv.next);
       written = λ blank holds.
           let all : length room.blank ≡ length blank = sym (held-length a.start a.size n room.blank) ∙ ap length (sym room.holds ∙ holds) ∙ held-length a.start a.size n blank in
-          goes_after a.start a.size n k (c.loop-item.next % c.args.size) blank (all_more (take k items)) c.loop-item.seat.me v (inv.written blank holds) (omega (arith, room.many, c.loop-item-test.true)) at.0 (position.More x) c.write_first.new.seat.me many c.write_first.ensures.written
+          goes_after a.start a.size n k (c.loop-item.next % c.args.size) blank (all_more (take k items)) c.loop-item.seat.me v (inv.written blank holds) (omega (arith, room.many, c.loop-item-test.true)) at (position.More x) c.write_first.new.seat.me many c.write_first.ensures.written
           ∙ ap (λ ps. (v, part_done a.start a.size n (k + 1) blank ps)) longer;
     }
 

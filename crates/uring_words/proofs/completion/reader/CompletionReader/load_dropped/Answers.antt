@@ -1,8 +1,8 @@
-use Rattle.std.proofs.Common.{arith, refl}
+use Rattle.std.proofs.Common.{arith}
 use Rattle.uring_words.proofs.CompletionPlays.{loads_dropped}
 use Rattle.uring_words.proofs.completion.reader.CompletionReader.load_dropped.Goals as goal
 
 pub load-requires : goal.load-requires
 load-requires c =
     let i = c.self.invariant in
-    rw c.deref.ensures (i.fits.same_table, omega (arith, i.fits.many), loads_dropped _ _ _ _ _ i.is_app refl)
+    rw c.deref.ensures (i.fits.same_table, omega (arith, i.fits.many), loads_dropped _ _ _ _ i.is_app)

@@ -5,7 +5,7 @@ use Rattle.uring_words.specs.Slots.{held_from}
 use Rattle.uring_words.specs.Submission.Calls.{AreWhole, has_close_mark, put_of}
 use Rattle.uring_words.specs.Submission.Ends.{AreRead, End, ReaderRests, kernel_knows, taken_of}
 use Rattle.uring_words.specs.Submission.Steps.{Holder}
-use Rattle.uring_words.proofs.CallLemmas.{whole_rest}
+use Rattle.uring_words.proofs.CallLemmas.{whole_both}
 use Rattle.uring_words.proofs.Copying.{head_allowed, head_taken, pulls}
 use Rattle.uring_words.proofs.submission.reader.CallReader.take_call.Goals as goal
 
@@ -13,7 +13,7 @@ pub read_call-pulled-requires-clause-whole : goal.read_call-pulled-requires-clau
 read_call-pulled-requires-clause-whole c =
     let e = c.args.self.now in
     let d = e.knows.kernel in
-    subst (λ (x : End). AreWhole x.knows.kernel.known) (sym c.self.view_is) (whole_rest false d.taken d.known c.requires.rests.whole c.requires.open c.requires.rests.known)
+    subst (λ (x : End). AreWhole x.knows.kernel.known) (sym c.self.view_is) ((whole_both false d.taken d.known c.requires.rests.whole c.requires.open).0 c.requires.rests.known)
 
 pub store-requires : goal.store-requires
 store-requires c =

@@ -13,15 +13,12 @@ returns-then-not-has_room-clause-put c = (
 
 pub publish-requires-clause-whole : goal.publish-requires-clause-whole
 publish-requires-clause-whole c =
-    let h = c.has_room.ensures.is in
-    rw h (holds_call c.args.self.now.knows.app.published c.in-Some.front.now c.in-Some.last.now c.requires.rests c.requires.open).whole
+    rw c.has_room.ensures.is (holds_call c.args.self.now.knows.app.published c.in-Some.front.now c.in-Some.last.now c.requires.rests c.requires.open).whole
 
 pub returns-in-Some-clause-rests : goal.returns-in-Some-clause-rests
 returns-in-Some-clause-rests c =
-    let h = c.has_room.ensures.is in
-    rw (c.publish.ensures, h) (holds_call c.args.self.now.knows.app.published c.in-Some.front.now c.in-Some.last.now c.requires.rests c.requires.open).whole
+    rw (c.publish.ensures, c.has_room.ensures.is) (holds_call c.args.self.now.knows.app.published c.in-Some.front.now c.in-Some.last.now c.requires.rests c.requires.open).whole
 
 pub returns-in-Some-clause-put : goal.returns-in-Some-clause-put
 returns-in-Some-clause-put c =
-    let h = c.has_room.ensures.is in
-    rw (c.publish.ensures, h) ((holds_call c.args.self.now.knows.app.published c.in-Some.front.now c.in-Some.last.now c.requires.rests c.requires.open).is ∙ ap (with_call (put_of c.args.self.now.knows.app.published)) (sym c.in-Some.ensures.cases.0))
+    rw (c.publish.ensures, c.has_room.ensures.is) ((holds_call c.args.self.now.knows.app.published c.in-Some.front.now c.in-Some.last.now c.requires.rests c.requires.open).is ∙ ap (with_call (put_of c.args.self.now.knows.app.published)) (sym c.in-Some.ensures.cases.0))

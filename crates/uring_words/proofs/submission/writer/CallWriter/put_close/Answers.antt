@@ -12,15 +12,12 @@ returns-then-not-has_room-clause-put c = (
 
 pub publish-requires-clause-whole : goal.publish-requires-clause-whole
 publish-requires-clause-whole c =
-    let h = c.has_room.ensures.is in
-    rw h (holds_close c.args.self.now.knows.app.published c.requires.rests c.requires.open).whole
+    rw c.has_room.ensures.is (holds_close c.args.self.now.knows.app.published c.requires.rests c.requires.open).whole
 
 pub returns-clause-rests : goal.returns-clause-rests
 returns-clause-rests c =
-    let h = c.has_room.ensures.is in
-    rw (c.publish.ensures, h) (holds_close c.args.self.now.knows.app.published c.requires.rests c.requires.open).whole
+    rw (c.publish.ensures, c.has_room.ensures.is) (holds_close c.args.self.now.knows.app.published c.requires.rests c.requires.open).whole
 
 pub returns-clause-put : goal.returns-clause-put
 returns-clause-put c =
-    let h = c.has_room.ensures.is in
-    rw (c.publish.ensures, h) (holds_close c.args.self.now.knows.app.published c.requires.rests c.requires.open).is
+    rw (c.publish.ensures, c.has_room.ensures.is) (holds_close c.args.self.now.knows.app.published c.requires.rests c.requires.open).is
