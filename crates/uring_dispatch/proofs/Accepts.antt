@@ -163,7 +163,8 @@ not_linked : (b : Bool) (key : ℕ) → not (is_some (if b then Some key else No
 not_linked true key = refl
 not_linked false key = refl
 
-module _ {w v : Window} {g h : Groups} {r : Requests} {entry : Sqe} {request : Request} (s : IsSound w g) (a : AreHeld w g r) (c : Accepts w v g h entry request) where
+module _ {w v : Window} {g h : Groups} {r : Requests} {entry : Sqe} {request : Request} (s : IsSound w g) (a : AreHeld w g r)
+    (c : Accepts w v g h entry request) where
   -- the group that was joined, or the new one
   joined_shown : (o : Option Group) → last_group g.records g.last ≡ o
       → IsShownGroup (with_accepted r entry) (with_member o (length r.accepted) (is_drain entry) (is_faulty entry))

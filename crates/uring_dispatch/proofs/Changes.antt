@@ -1,5 +1,5 @@
 -- One request is touched: what is said of each other number by its request stands; and what a start and a choice leave of what is held.
-use Rattle.std.proofs.Common.{◌≡◌, ◌≢◌, ℕ, ◌+◌, ◌≤◌, [], ◌∷◌, length, false, ◌==◌, Some, None, is_some, refl, sym, ◌∙◌, ap, arith, inl, inr, ◌⊎◌, true}
+use Rattle.std.proofs.Common.{◌≡◌, ◌≢◌, ℕ, ◌+◌, ◌≤◌, [], ◌∷◌, length, false, ◌==◌, Some, None, is_some, refl, sym, ◌∙◌, ap, arith, inl, inr, ◌⊎◌, true, Option, Bool}
 use Rattle.std.proofs.lemmas.Bool.{cases_eq, eq-eqb, ne_eqb}
 use Rattle.std.proofs.lemmas.Option.{same_Some}
 use Rattle.uring_entry.specs.Preparation.{is_faulty}
@@ -33,12 +33,16 @@ module _ {w v : Window} {n : ℕ} {now : Request} (c : Changes w v n (Some now))
         | inr other ↦ inr (other, sym (c.others k other) ∙ e)
       ]
 
-  pub still_there : is_some (at w n) ≡ true → (k : ℕ) → is_some (at v k) ≡ is_some (at w k)
-  still_there there k =
+  -- what is the same of both is so of each number
+  pub still_as : (f : Option Request → Bool) → f (Some now) ≡ f (at w n) → (k : ℕ) → f (at v k) ≡ f (at w k)
+  still_as f same k =
       elim (cases_eq k n) [
-        | inl same ↦ ap (λ j. is_some (at v j)) same ∙ ap is_some c.here ∙ sym (ap (λ j. is_some (at w j)) same ∙ there)
-        | inr other ↦ ap is_some (c.others k other)
+        | inl here ↦ ap (λ j. f (at v j)) here ∙ ap f c.here ∙ same ∙ ap (λ j. f (at w j)) (sym here)
+        | inr other ↦ ap f (c.others k other)
       ]
+
+  pub still_there : is_some (at w n) ≡ true → (k : ℕ) → is_some (at v k) ≡ is_some (at w k)
+  still_there there = still_as is_some (sym there)
 
 -- The lists say of k what they said before.
 pub record IsSameAt (r s : Requests) (k : ℕ) : Type 0 where

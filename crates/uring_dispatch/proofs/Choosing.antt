@@ -1,11 +1,10 @@
 -- What cancels make of the lists: the end of a request as it is issued, with those that it dooms, and the search for all targets of a cancel.
-use Rattle.std.proofs.Common.{◌≡◌, ℕ, suc, ◌+◌, ◌<◌, ◌≤◌, pos, negsuc, List, [], ◌∷◌, ◌++◌, length, length-append, Bool, true, false, not, ◌&&◌, ◌||◌, ◌==◌, Option, Some, None, is_some, cond, refl, sym, ◌∙◌, ap, subst, arith, inl, inr}
+use Rattle.std.proofs.Common.{◌≡◌, ℕ, suc, ◌+◌, ◌<◌, ◌≤◌, pos, negsuc, List, [], ◌∷◌, ◌++◌, length, length-append, Bool, true, false, not, ◌&&◌, ◌||◌, ◌==◌, Option, Some, None, is_some, cond, refl, sym, ◌∙◌, ap, subst, arith}
 use Rattle.std.specs.Prelude.{if◌then◌else◌, int_le}
 use Rattle.std.specs.List.{list_any}
 use Rattle.std.specs.Option.{option_to_list}
 use Rattle.std.proofs.lemmas.List.{append-nil, append_assoc}
 use Rattle.std.proofs.lemmas.List.Folds.{list_any-append}
-use Rattle.std.proofs.lemmas.Bool.{cases_eq}
 use Rattle.std.proofs.Math.Bool.{or-false, and-false}
 use Rattle.uring_entry.specs.Layout.{Sqe, addr_of, user_data_of}
 use Rattle.uring_entry.specs.Preparation.{is_cancel, is_cancel_all}
@@ -26,7 +25,7 @@ use Rattle.uring_dispatch.specs.declared.waiting.Waiting.{Waiting}
 use Rattle.uring_dispatch.proofs.HeldLemmas.{running_none, running_some}
 use Rattle.uring_dispatch.specs.ByUserData.{KeepsPlaces}
 use Rattle.uring_dispatch.specs.declared.by_user_data.ByUserData.{ByUserData}
-use Rattle.uring_dispatch.proofs.Changes.{still_there}
+use Rattle.uring_dispatch.proofs.Changes.{still_there, still_as}
 
 -- What the end of a request as it is issued dooms.
 
@@ -86,21 +85,13 @@ cancel_succeeds r n is = by_all (is_cancel_all (entry_of r n)) refl
 
 -- A cancel chooses one.
 
-runs_still : (w v : Window) (m k : ℕ) (p : Request) → at w m ≡ Some p
-    → Changes w v m (Some (chosen p)) → runs (at v k) ≡ runs (at w k)
-runs_still w v m k p there c =
-    elim (cases_eq k m) [
-      | inl same ↦ ap (λ j. runs (at v j)) same ∙ ap runs c.here ∙ sym (ap runs there) ∙ ap (λ j. runs (at w j)) (sym same)
-      | inr other ↦ ap runs (c.others k other)
-    ]
-
 pub choose_same : (w v : Window) (m : ℕ) (p : Request) → at w m ≡ Some p
     → Changes w v m (Some (chosen p)) → IsAsBefore w v → v.running ≡ w.running → HasSameRequests w v
 choose_same w v m p there c as_before running = record {
   as_before = as_before;
   running = running;
   there = still_there c (ap is_some there);
-  runs_on = λ k. runs_still w v m k p there c;
+  runs_on = still_as c runs (sym (ap runs there));
 }
 
 same_none : (w : Window) → HasSameRequests w w

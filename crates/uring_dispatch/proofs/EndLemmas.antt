@@ -33,7 +33,9 @@ pub record Ends (w v : Window) (g h : Groups) (n : ℕ) (request : Request) (q :
   pub none : q.end ≤ least → left ≡ None
   pub closed : h.last ≡ None
 
-module _ {w v : Window} {g h : Groups} {n : ℕ} {request : Request} {q : Group} {least : ℕ} (broken : Option ℕ) (there : at w n ≡ Some request) (changes : Changes w v n None) (end : end_of v ≡ end_of w) (group : group_at g request.group ≡ Some q) (next : IsNext v q.least q.end least) where
+module _ {w v : Window} {g h : Groups} {n : ℕ} {request : Request} {q : Group} {least : ℕ} (broken : Option ℕ)
+    (there : at w n ≡ Some request) (changes : Changes w v n None) (end : end_of v ≡ end_of w) (group : group_at g request.group ≡ Some q)
+    (next : IsNext v q.least q.end least) where
   -- the group's last member has ended
   pub ends_last : q.end ≤ least → Exchanges g h request.group None → h.last ≡ None
       → Ends w v g h n request q least broken
@@ -46,7 +48,8 @@ module _ {w v : Window} {g h : Groups} {n : ℕ} {request : Request} {q : Group}
   ends_more lt exchange closed =
       record { there = there; changes = changes; end = end; group = group; next = next; left = Some (left_with q least broken); exchange = exchange; some = λ more. refl; none = λ past. absurd (omega arith); closed = closed }
 
-module _ {w v : Window} {g h : Groups} {n : ℕ} {request : Request} {q : Group} {least : ℕ} {broken : Option ℕ} (s : IsSound w g) (e : Ends w v g h n request q least broken) where
+module _ {w v : Window} {g h : Groups} {n : ℕ} {request : Request} {q : Group} {least : ℕ} {broken : Option ℕ} (s : IsSound w g)
+    (e : Ends w v g h n request q least broken) where
   -- a group of another key hasn't n
   apart : {key : ℕ} {p : Group} → group_at g key ≡ Some p → key ≢ request.group → p.from ≤ n → n < p.end → ⊥
   apart {key} {p} is ne from to = ne (sym (s.members key p n request is from to e.there))
@@ -125,7 +128,8 @@ module _ {w v : Window} {g h : Groups} {n : ℕ} {request : Request} {q : Group}
 
 -- The lists.
 
-module _ {w : Window} {g : Groups} {r : Requests} (n : ℕ) {request : Request} (res : ℤ) (bytes : List ℕ) (s : IsSound w g) (h : AreHeld w g r) (e : at w n ≡ Some request) where
+module _ {w : Window} {g : Groups} {r : Requests} (n : ℕ) {request : Request} (res : ℤ) (bytes : List ℕ) (s : IsSound w g)
+    (h : AreHeld w g r) (e : at w n ≡ Some request) where
   outstanding_less : outstanding_in (with_ended r n res bytes) + 1 ≡ outstanding_in r
   outstanding_less =
       let was : one_if (is_outstanding r n) ≡ 1 = ap one_if (outstanding_some s h _ e) in
@@ -142,7 +146,8 @@ module _ {w : Window} {g : Groups} {r : Requests} (n : ℕ) {request : Request} 
       let change = count_below_changed (is_running r) (is_running (with_ended r n res bytes)) (length r.accepted) n (shown_within s h e) (λ k ne. is_running_ended_other r n res bytes k ne) in
       omega (arith, change)
 
-module _ {w v : Window} {g h : Groups} {r : Requests} {n : ℕ} {request : Request} {q : Group} {least : ℕ} {broken : Option ℕ} (res : ℤ) (bytes : List ℕ) (s : IsSound w g) (e : Ends w v g h n request q least broken) (a : AreHeld w g r) where
+module _ {w v : Window} {g h : Groups} {r : Requests} {n : ℕ} {request : Request} {q : Group} {least : ℕ} {broken : Option ℕ} (res : ℤ)
+    (bytes : List ℕ) (s : IsSound w g) (e : Ends w v g h n request q least broken) (a : AreHeld w g r) where
   shown_left : broken ≡ earlier_of q.broken (is_soft (entry_of r n) && not (is_success (entry_of r n) res)) n
       → IsShownGroup (with_ended r n res bytes) (left_with q least broken)
   shown_left breaks =

@@ -191,7 +191,8 @@ can_go_gone : {w : Window} {g : Groups} {s : Waiting} (limit n : ℕ) → IsList
 can_go_gone {g = g} limit n l e =
     or_from _ _ ((l.told n).doomed ∙ ap (λ o. waits_doomed g o n) e) (and_left _ _ ((l.told n).head ∙ ap (λ o. waits_at_head g o n) e))
 
-module _ {w : Window} {g : Groups} {r : Requests} {s : Waiting} (limit : ℕ) (sound : IsSound w g) (h : AreHeld w g r) (l : IsListed w g s) (limits : IsLimit w g r limit) where
+module _ {w : Window} {g : Groups} {r : Requests} {s : Waiting} (limit : ℕ) (sound : IsSound w g) (h : AreHeld w g r) (l : IsListed w g s)
+    (limits : IsLimit w g r limit) where
   -- Told is exactly who can be issued.
   can_go_is : (n : ℕ) → can_go s limit n ≡ is_issuable r n
   can_go_is n = go (at w n) refl

@@ -24,7 +24,8 @@ use Rattle.uring_dispatch.proofs.HeldLemmas.{InGroup, its_group, shown_within, o
 
 -- What a request waits for.
 
-module _ {w : Window} {g : Groups} {r : Requests} {n m : ℕ} {request other : Request} (s : IsSound w g) (h : AreHeld w g r) (e : at w n ≡ Some request) (f : at w m ≡ Some other) (low : m < n) where
+module _ {w : Window} {g : Groups} {r : Requests} {n m : ℕ} {request other : Request} (s : IsSound w g) (h : AreHeld w g r)
+    (e : at w n ≡ Some request) (f : at w m ≡ Some other) (low : m < n) where
   -- an earlier outstanding request is a member of the group if it has its key
   pub joined_held : other.group ≡ request.group → is_joined r m n ≡ true
   joined_held same =
@@ -68,12 +69,13 @@ pub doom_own : (r : Requests) (n : ℕ) (fault : Fault) → fault_of (entry_of r
     → doom_of r n ≡ OwnFault fault
 doom_own r n fault e = ap (λ o. first_doom o (faulty_member_of r n) (failed_member_of r n)) e
 
-module _ {w : Window} {g : Groups} {r : Requests} {n : ℕ} {request : Request} {q : Group} (i : InGroup w g r n request q) (right : fault_of (entry_of r n) ≡ None) where
+module _ {w : Window} {g : Groups} {r : Requests} {n : ℕ} {request : Request} {q : Group} (i : InGroup w g r n request q)
+    (right : fault_of request.entry ≡ None) where
   doom_by : (fault failed : Option ℕ) → q.fault ≡ fault → failed_member_of r n ≡ failed
       → doom_of r n ≡ first_doom None fault failed
   doom_by fault failed own after =
       let member : faulty_member_of r n ≡ fault = faulty_member_is r q.from q.end n i.shown.group i.from i.to ∙ sym i.shown.fault ∙ own in
-      ap (λ o. first_doom o (faulty_member_of r n) (failed_member_of r n)) right
+      ap (λ o. first_doom o (faulty_member_of r n) (failed_member_of r n)) (ap fault_of (sym (i.held.shown n request i.there).entry) ∙ right)
       ∙ ap (λ o. first_doom None o (failed_member_of r n)) member ∙ ap (first_doom None fault) after
 
   pub doom_member : {m : ℕ} → q.fault ≡ Some m → doom_of r n ≡ FaultOf m
@@ -98,7 +100,7 @@ module _ {w : Window} {g : Groups} {r : Requests} {n : ℕ} {request : Request} 
   }
 
   -- one of an earlier group keeps nobody whose group doesn't drain, if no group drains from a number before a later group on
-  early_free : q.drain ≡ None → (from end : ℕ) → IsGroup r from end → from ≤ q.from
+  early_free : is_some q.drain ≡ false → (from end : ℕ) → IsGroup r from end → from ≤ q.from
       → ((key number : ℕ) → drain_of (group_at g key) ≡ Some number → from ≤ number)
       → (k : ℕ) → k < from → holds_back r n k ≡ false
   early_free plain from end group le free k low = go (at w k) refl
@@ -109,11 +111,11 @@ module _ {w : Window} {g : Groups} {r : Requests} {n : ℕ} {request : Request} 
           let after = i.from in
           let joined : is_joined r k n ≡ false = joined_member r q.from q.end k n i.shown.group after i.to (omega arith) ∙ lt-leb q.from k (omega arith) in
           let its = plain_before i.sound i.held group free e low in
-          let own : is_draining r n ≡ false = draining_held i ∙ ap is_some plain in
+          let own : is_draining r n ≡ false = draining_held i ∙ plain in
           and_right _ _ (or_from _ _ (or_from _ _ joined its) own)
 
   -- an earlier group is the first that drains
-  pub first_draining_is : {b : Group} → q.drain ≡ None → IsFirstDraining g b → b.from < q.from
+  pub first_draining_is : {b : Group} → is_some q.drain ≡ false → IsFirstDraining g b → b.from < q.from
       → IsFirstHolder r n b.least
   first_draining_is {b} plain f low =
       let kept = i.sound.kept f.key b f.here in
@@ -132,7 +134,7 @@ module _ {w : Window} {g : Groups} {r : Requests} {n : ℕ} {request : Request} 
       }
 
   -- none is, and so it waits for its own group alone
-  pub first_own : q.drain ≡ None
+  pub first_own : is_some q.drain ≡ false
       → ((key number : ℕ) → drain_of (group_at g key) ≡ Some number → q.from ≤ number)
       → IsFirstHolder r n q.least
   first_own plain free = record {

@@ -1,12 +1,12 @@
 -- The first number of the window, and what the calls of the window ask of the others.
-use Rattle.std.proofs.Common.{◌≡◌, ◌≢◌, ℕ, ◌+◌, ◌-◌, ◌^◌, ◌<◌, ◌≤◌, List, [], ◌∷◌, ◌++◌, length, get_or, true, false, Option, Some, None, is_some, refl, sym, ◌∙◌, ap, arith, inl, inr}
+use Rattle.std.proofs.Common.{◌≡◌, ℕ, ◌+◌, ◌-◌, ◌^◌, ◌<◌, ◌≤◌, List, [], ◌∷◌, ◌++◌, length, get_or, true, false, Option, Some, None, is_some, refl, sym, ◌∙◌, ap, arith, inl, inr}
 use Rattle.std.proofs.lemmas.Bool.{cases_lt, cases_Bool, both_ways, false≢true}
 use Rattle.uring_entry.proofs.BelowLemmas.{is_some_value}
 use Rattle.uring_dispatch.specs.declared.request.Request.{Request}
 use Rattle.uring_dispatch.specs.Window.{Window, key_at, found_by, at, end_of, runs, one_if, IsWindow, IsTrimmed, IsFirst, HasBefore, started, chosen}
 use Rattle.std.specs.Prelude.{IfSome}
 use Rattle.uring_dispatch.proofs.Counting.{count_below_some, count_below_within}
-use Rattle.uring_dispatch.proofs.WindowLemmas.{key_at_low, key_at_high, key_at_past, key_at_within, at_keyed, write_window}
+use Rattle.uring_dispatch.proofs.WindowLemmas.{IsSameBut, key_at_low, key_at_high, key_at_past, key_at_within, at_keyed, write_window}
 use Rattle.uring_dispatch.proofs.HeldLemmas.{some_none}
 
 -- The front.
@@ -79,25 +79,23 @@ running_fits w i =
     let few = count_below_within (λ n. runs (at w n)) (end_of w) in omega (arith, i.counted, i.fits)
 
 -- request n was started, or chosen
-module _ (w : Window) (requests : List (Option Request)) (n key outstanding : ℕ) (i : IsWindow w) (e : key_at w.first w.keys n ≡ Some key) (there : is_some (at w n) ≡ true) where
+module _ (w : Window) (requests : List (Option Request)) (n key outstanding : ℕ) (i : IsWindow w) (e : key_at w.first w.keys n ≡ Some key)
+    (there : is_some (at w n) ≡ true) where
   write_by : (f : Request → Request) (running : ℕ)
       → ((q : Request) → at w n ≡ Some q → running + one_if (runs (at w n)) ≡ w.running + one_if (f q).is_running)
       → ((q : Request) → get_or w.requests key None ≡ Some q → get_or requests key None ≡ Some (f q))
-      → ((k : ℕ) → k ≢ key → get_or requests k None ≡ get_or w.requests k None)
-      → IsWindow (record w { requests = requests; outstanding = outstanding; running = running })
+      → IsSameBut w.requests requests key → IsWindow (record w { requests = requests; outstanding = outstanding; running = running })
   write_by f running counts here others =
       let found = is_some_value (at w n) there in
       write_window w requests n key outstanding running (f found.0) i e (here found.0 (sym (by_key w n key e) ∙ found.1)) others (counts found.0 found.1)
 
   pub start_window : runs (at w n) ≡ false
       → ((q : Request) → get_or w.requests key None ≡ Some q → get_or requests key None ≡ Some (started q))
-      → ((k : ℕ) → k ≢ key → get_or requests k None ≡ get_or w.requests k None)
-      → IsWindow (record w { requests = requests; outstanding = outstanding; running = w.running + 1 })
+      → IsSameBut w.requests requests key → IsWindow (record w { requests = requests; outstanding = outstanding; running = w.running + 1 })
   start_window waits = write_by started (w.running + 1) (λ q is. let one : one_if (runs (at w n)) ≡ 0 = ap one_if waits in omega arith)
 
   pub choose_window : ((q : Request) → get_or w.requests key None ≡ Some q → get_or requests key None ≡ Some (chosen q))
-      → ((k : ℕ) → k ≢ key → get_or requests k None ≡ get_or w.requests k None)
-      → IsWindow (record w { requests = requests; outstanding = outstanding })
+      → IsSameBut w.requests requests key → IsWindow (record w { requests = requests; outstanding = outstanding })
   choose_window = write_by chosen w.running (λ q is. ap (λ o. w.running + one_if (runs o)) is)
 
 -- who runs is counted

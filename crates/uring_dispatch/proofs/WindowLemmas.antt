@@ -108,15 +108,19 @@ at_key w n = refl
 
 -- What the changes of the window keep.
 
-found_other : (was now : List (Option Request)) (key : ℕ) (o : Option ℕ)
-    → ((k : ℕ) → k ≢ key → get_or now k None ≡ get_or was k None) → ((k : ℕ) → o ≡ Some k → k ≢ key)
+-- the same is found under every key but this one
+abbrev pub IsSameBut : List (Option Request) → List (Option Request) → ℕ → Type 0
+IsSameBut was now key = (k : ℕ) → k ≢ key → get_or now k None ≡ get_or was k None
+
+found_other : (was now : List (Option Request)) (key : ℕ) (o : Option ℕ) → IsSameBut was now key → ((k : ℕ) → o ≡ Some k → k ≢ key)
     → found_by now o ≡ found_by was o
 found_other was now key None h ne = refl
 found_other was now key (Some k) h ne = h k (ne k refl)
 
 -- A request of a new key is pushed.
 
-module _ (w : Window) (requests : List (Option Request)) (key outstanding room : ℕ) (q : Request) (i : IsWindow w) (vacant : get_or w.requests key None ≡ None) (here : get_or requests key None ≡ Some q) (others : (k : ℕ) → k ≢ key → get_or requests k None ≡ get_or w.requests k None) where
+module _ (w : Window) (requests : List (Option Request)) (key outstanding room : ℕ) (q : Request) (i : IsWindow w)
+    (vacant : get_or w.requests key None ≡ None) (here : get_or requests key None ≡ Some q) (others : IsSameBut w.requests requests key) where
   abbrev pushed : Window
   pushed = record { first = w.first; keys = w.keys ++ Some key ∷ []; requests = requests; outstanding = outstanding; running = w.running; room = room }
 
@@ -173,7 +177,8 @@ other_key w n k key i e ne j is same = ne (i.distinct k n key (is ∙ ap Some sa
 
 -- A request is written under the key of its number.
 
-module _ (w : Window) (requests : List (Option Request)) (n key outstanding running : ℕ) (q : Request) (i : IsWindow w) (e : key_at w.first w.keys n ≡ Some key) (here : get_or requests key None ≡ Some q) (others : (k : ℕ) → k ≢ key → get_or requests k None ≡ get_or w.requests k None) where
+module _ (w : Window) (requests : List (Option Request)) (n key outstanding running : ℕ) (q : Request) (i : IsWindow w)
+    (e : key_at w.first w.keys n ≡ Some key) (here : get_or requests key None ≡ Some q) (others : IsSameBut w.requests requests key) where
   abbrev rewritten : Window
   rewritten = record w { requests = requests; outstanding = outstanding; running = running }
 
@@ -205,7 +210,8 @@ module _ (w : Window) (requests : List (Option Request)) (n key outstanding runn
 
 -- The request of a number ends.
 
-module _ (w : Window) (requests : List (Option Request)) (n key outstanding running : ℕ) (i : IsWindow w) (e : key_at w.first w.keys n ≡ Some key) (others : (k : ℕ) → k ≢ key → get_or requests k None ≡ get_or w.requests k None) where
+module _ (w : Window) (requests : List (Option Request)) (n key outstanding running : ℕ) (i : IsWindow w)
+    (e : key_at w.first w.keys n ≡ Some key) (others : IsSameBut w.requests requests key) where
   abbrev without : Window
   without = record w { keys = set w.keys (n - w.first) None; requests = requests; outstanding = outstanding; running = running }
 

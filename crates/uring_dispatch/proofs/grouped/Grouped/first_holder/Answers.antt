@@ -1,5 +1,4 @@
-use Rattle.std.proofs.Common.{◌≡◌, ◌≤◌, ◌∙◌, sym, refl, is_some, Option, Some, None, false, arith, ℕ}
-use Rattle.std.proofs.lemmas.Bool.{both_ways}
+use Rattle.std.proofs.Common.{◌≡◌, ◌≤◌, ◌∙◌, sym, Some, arith, ℕ}
 use Rattle.uring_dispatch.specs.declared.group.Group.{Group}
 use Rattle.uring_dispatch.specs.Window.{Window}
 use Rattle.uring_entry.specs.Requests.{Requests}
@@ -9,10 +8,6 @@ use Rattle.uring_entry.proofs.GroupLemmas.{first_member_inside}
 use Rattle.uring_dispatch.proofs.WhyHeld.{first_of_all, first_draining_is, first_own}
 use Rattle.uring_dispatch.proofs.HeldLemmas.{in_group}
 use Rattle.uring_dispatch.proofs.grouped.Grouped.first_holder.Goals as goal
-
-plain : (o : Option ℕ) → is_some o ≡ false → o ≡ None
-plain None e = refl
-plain (Some x) e = absurd (both_ways (is_some (Some x)) e refl)
 
 -- no group drains from a number before this one on, if the first that drains doesn't begin before it
 first-after : (w : Window) (g : Groups) (r : Requests) (b : Group) (from : ℕ) → AreHeld w g r
@@ -30,12 +25,16 @@ returns-in-Some-clause-holds c = λ r h.
 
 pub returns-in-Some-first_draining-clause-holds : goal.returns-in-Some-first_draining-clause-holds
 returns-in-Some-first_draining-clause-holds c = λ r h.
-    first_draining_is (in_group c.args.self.now.sound h c.requires c.group_of-group.ensures.group) (plain c.group_of-group.result.drain (sym c.is_some.ensures ∙ c.if-is_some.false)) c.in-Some-first_draining.ensures c.if-first-group.true
+    let i = in_group c.args.self.now.sound h c.requires c.group_of-group.ensures.group in
+    first_draining_is i (sym c.is_some.ensures ∙ c.if-is_some.false) c.in-Some-first_draining.ensures c.if-first-group.true
 
 pub returns-in-Some-2-clause-holds : goal.returns-in-Some-2-clause-holds
 returns-in-Some-2-clause-holds c = λ r h.
-    first_own (in_group c.args.self.now.sound h c.requires c.group_of-group.ensures.group) (plain c.group_of-group.result.drain (sym c.is_some.ensures ∙ c.if-is_some.false)) (first-after _ _ r c.in-Some-first_draining.first c.group_of-group.result.from h c.in-Some-first_draining.ensures c.if-first-group.false)
+    let i = in_group c.args.self.now.sound h c.requires c.group_of-group.ensures.group in
+    first_own i (sym c.is_some.ensures ∙ c.if-is_some.false)
+    (first-after _ _ r c.in-Some-first_draining.first c.group_of-group.result.from h c.in-Some-first_draining.ensures c.if-first-group.false)
 
 pub returns-in-None-first_draining-clause-holds : goal.returns-in-None-first_draining-clause-holds
 returns-in-None-first_draining-clause-holds c = λ r h.
-    first_own (in_group c.args.self.now.sound h c.requires c.group_of-group.ensures.group) (plain c.group_of-group.result.drain (sym c.is_some.ensures ∙ c.if-is_some.false)) (λ key number d. absurd (c.in-None-first_draining.ensures key number d))
+    let i = in_group c.args.self.now.sound h c.requires c.group_of-group.ensures.group in
+    first_own i (sym c.is_some.ensures ∙ c.if-is_some.false) (λ key number d. absurd (c.in-None-first_draining.ensures key number d))
