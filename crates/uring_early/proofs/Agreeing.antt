@@ -60,9 +60,9 @@ agree_same (x ∷ known) more = (refl, agree_same known more)
 
 agree_place : (before : List (List ℕ)) (x : List ℕ) (later ps : List (List ℕ)) (b : List ℕ)
     → Agree (before ++ x ∷ later) ps → slice_get ps (length before) ≡ Some b → x ≡ b
-agree_place [] x later [] b agree there = absurd (let f : None ≡ Some b = there in cc)
+agree_place [] x later [] b agree there = absurd cc
 agree_place [] x later (p ∷ ps) b agree there = agree.0 ∙ same_Some p b there
-agree_place (y ∷ before) x later [] b agree there = absurd (let f : None ≡ Some b = there in cc)
+agree_place (y ∷ before) x later [] b agree there = absurd cc
 agree_place (y ∷ before) x later (p ∷ ps) b agree there = agree_place before x later ps b agree.1 there
 
 -- ---- what is posted
@@ -158,8 +158,7 @@ reaped_after g s a h lawful =
 -- the next completion to be reaped has the bytes that are known of it
 posted_at : (l : Completions) (d : Cqe) (none : Bool) → (if none then None else slice_get l.posted (length l.reaped)) ≡ Some d
     → slice_get l.posted (length l.reaped) ≡ Some d
-posted_at l d true next = absurd (let f : None ≡ Some d = next in cc)
-posted_at l d false next = next
+posted_at l d none next = grind arith
 
 pub next_has : (l : Completions) (c d : Cqe) (later : List (List ℕ)) → Agree (payloads l.reaped ++ c.payload ∷ later) (payloads l.posted)
     → next_to_reap l ≡ Some d → c.payload ≡ d.payload

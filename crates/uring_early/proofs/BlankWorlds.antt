@@ -1,5 +1,5 @@
 -- A history without its bytes makes the world without them, and is lawful apart if the history is; and back, if what is reaped has the bytes that were posted.
-use Rattle.std.proofs.Common.{◌≡◌, ℕ, ℤ, ◌+◌, ◌-◌, ◌==◌, ◌&&◌, nat_lt, pos, Bool, true, false, min, List, [], ◌∷◌, length, map, Option, Some, None, if◌then◌else◌, refl, sym, ap, subst, ◌∙◌}
+use Rattle.std.proofs.Common.{◌≡◌, ℕ, ℤ, ◌+◌, ◌-◌, ◌==◌, ◌&&◌, nat_lt, pos, Bool, true, false, min, List, [], ◌∷◌, length, map, Option, Some, None, if◌then◌else◌, refl, sym, ap, subst, ◌∙◌, arith}
 use Rattle.std.specs.Prelude.{slice_get}
 use Rattle.std.specs.Option.{option_map}
 use Rattle.std.proofs.lemmas.List.{length-map, map-append}
@@ -14,7 +14,7 @@ use Rattle.uring_linux.specs.Drains.{Drains}
 use Rattle.uring_rules.specs.Rules.{posts}
 use Rattle.uring_core.specs.Histories.{History, world, IsLawfulApart}
 use Rattle.uring_core.specs.StepAnswers.{CalledForApart, FinishesApart, next_answer_of, reap_answer_of}
-use Rattle.uring_core.specs.World.{World, requests_of, with_end_of, happens, taking, taking_of, taking_entry_of, ending, ending_of}
+use Rattle.uring_core.specs.World.{World, requests_of, with_end_of, happens, taking, ending, ending_of}
 use Rattle.uring_core.specs.declared.step.Step.{Step}
 use Rattle.uring_core.specs.declared.step.Step.TheVariants as step
 use Rattle.uring_core.specs.declared.answer.Answer.{Answer}
@@ -62,23 +62,11 @@ reap_same : (l : Completions) → next_to_reap (blank_completions l) ≡ option_
 reap_same l =
     ap (λ (n : ℕ). if n == l.seen_tail then None else slice_get (map blank_completion l.posted) n) (length-map l.reaped blank_completion)
     ∙ ap (λ (o : Option Cqe). if length l.reaped == l.seen_tail then None else o) (slice_get-map blank_completion l.posted (length l.reaped))
-    ∙ by (length l.reaped == l.seen_tail)
-  where
-    by : (b : Bool) → (if b then None else option_map blank_completion (slice_get l.posted (length l.reaped))) ≡ option_map blank_completion (if b then None else slice_get l.posted (length l.reaped))
-    by true = refl
-    by false = refl
-
-taking_made : (g : Setup) (w : World) (call : Option Call) → taking_of g (blank_world w) call ≡ blank_world (taking_of g w call)
-taking_made g w None = refl
-taking_made g w (Some call) = refl
-
-entry_made : (g : Setup) (w : World) (entry : Sqe) (call : Option Call) → taking_entry_of g (blank_world w) entry call ≡ blank_world (taking_entry_of g w entry call)
-entry_made g w entry None = refl
-entry_made g w entry (Some call) = refl
+    ∙ grind arith
 
 take_made : (g : Setup) (w : World) (a : Answer) → taking g (blank_world w) a ≡ blank_world (taking g w a)
-take_made g w (answer.Entry entry) = entry_made g w entry w.submission.call
-take_made g w answer.Dropped = taking_made g w w.submission.call
+take_made g w (answer.Entry entry) = grind arith
+take_made g w answer.Dropped = grind arith
 take_made g w _ = refl
 
 ending_made : (g : Setup) (w : World) (call : Option Call) → ending_of g (blank_world w) call ≡ blank_world (ending_of g w call)
@@ -138,8 +126,7 @@ ReapMeets w step.Reap (answer.Reaped c) =
 ReapMeets w s a = Unit {0}
 
 reaped_blank : (o : Option Cqe) → blank_answer step.Reap (reap_answer_of o) ≡ reap_answer_of (option_map blank_completion o)
-reaped_blank None = refl
-reaped_blank (Some c) = refl
+reaped_blank o = grind arith
 
 finish_blank : (b : Bool) (n : ℕ) (a : Answer) → FinishesApart b a → FinishesApart b (blank_answer (step.Finish n) a)
 finish_blank true n (answer.Ended res bytes) called = called
@@ -169,7 +156,7 @@ called_blank g w _ a called = called
 finish_back : (b : Bool) (n : ℕ) (a : Answer) → FinishesApart b (blank_answer (step.Finish n) a) → FinishesApart b a
 finish_back true n (answer.Ended res bytes) called = called
 finish_back true n _ called = absurd called
-finish_back false n (answer.Ended res bytes) called = let f : answer.Ended res no_bytes ≡ answer.NotRunning = called in absurd cc
+finish_back false n (answer.Ended res bytes) called = absurd cc
 finish_back false n _ called = called
 
 abbrev completion_of : Answer → Cqe
@@ -182,12 +169,9 @@ reap_back : (o : Option Cqe) (w : World) (a : Answer) → next_to_reap w.complet
 reap_back (Some d) w (answer.Reaped c) next called meets =
     let same : blank_completion c ≡ blank_completion d = ap completion_of called in
     λ i. answer.Reaped (record { user_data = (ap (λ (x : Cqe). x.user_data) same) i; res = (ap (λ (x : Cqe). x.res) same) i; payload = meets d next i })
-reap_back None w (answer.Reaped c) next called meets = let f : answer.Reaped (blank_completion c) ≡ answer.Nothing = called in absurd cc
+reap_back None w (answer.Reaped c) next called meets = absurd cc
 reap_back None w _ next called meets = called
-reap_back (Some d) w a next called meets = absurd (none_such a d called)
-  where
-    none_such : (a : Answer) (d : Cqe) → blank_answer step.Reap a ≡ answer.Reaped (blank_completion d) → ⊥
-    none_such a d e = cc
+reap_back (Some d) w _ next called meets = absurd cc
 
 pub called_back : (g : Setup) (w : World) (s : Step) (a : Answer)
     → CalledForApart g (blank_world w) s (blank_answer s a) → ReapMeets w s a → CalledForApart g w s a

@@ -1,12 +1,12 @@
 -- Which operations run after an event, by its mark.
-use Rattle.std.proofs.Common.{◌≡◌, ◌==◌, ◌||◌, ◌&&◌, ℕ, ℤ, Bool, true, false, not, List, Some, None, if◌then◌else◌, refl, sym, ap, subst, ◌∙◌}
+use Rattle.std.proofs.Common.{◌≡◌, ◌==◌, ◌||◌, ◌&&◌, ℕ, ℤ, Bool, true, false, not, List, Some, None, if◌then◌else◌, refl, sym, ap, ◌∙◌, arith}
 use Rattle.std.proofs.lemmas.Bool.{eq-eqb, eqb-true}
 use Rattle.uring_entry.specs.Preparation.{operation_of}
 use Rattle.uring_entry.specs.Requests.{Ending, Requests, entry_of, has_ended, has_started, is_running, no_bytes, chosen_by, with_cancelled, with_started, with_ended}
 use Rattle.uring_entry.specs.Setup.{Setup}
 use Rattle.uring_rules.specs.Rules.{cancel_result, doomed_result, with_issued_end}
 use Rattle.uring_entry.proofs.RequestLemmas.{list_any_push}
-use Rattle.uring_core.specs.World.{World, happens, taking_of, taking_entry_of, ending_of}
+use Rattle.uring_core.specs.World.{World, happens}
 use Rattle.uring_core.specs.declared.step.Step.{Step}
 use Rattle.uring_core.specs.declared.step.Step.TheVariants as step
 use Rattle.uring_core.specs.declared.answer.Answer.{Answer}
@@ -27,22 +27,13 @@ runs_after Idle b n = b
 -- ---- of Bools
 
 started_more : (s k e : Bool) → (k ≡ true → e ≡ false) → ((s || k) && not e) ≡ ((s && not e) || k)
-started_more true k false none = refl
-started_more true true true none = let f : true ≡ false = none refl in absurd cc
-started_more true false true none = refl
-started_more false true e none = ap not (none refl)
-started_more false false e none = refl
+started_more s k e none = grind arith
 
 ended_idle : (s e k : Bool) → (k ≡ true → (s && not e) ≡ false) → (s && not (e || k)) ≡ (s && not e)
-ended_idle false e k idle = refl
-ended_idle true true k idle = refl
-ended_idle true false true idle = sym (idle refl)
-ended_idle true false false idle = refl
+ended_idle s e k idle = grind arith
 
 ended_run : (s e k : Bool) → (s && not (e || k)) ≡ ((s && not e) && not k)
-ended_run false e k = refl
-ended_run true true k = refl
-ended_run true false k = refl
+ended_run s e k = grind arith
 
 -- ---- of requests
 
@@ -70,13 +61,9 @@ issued_idle false r m n res idle =
 
 -- ---- of events
 
-none_some : {X : Type 0} (x : X) → Some x ≡ None → ⊥
-none_some x e = absurd cc
-
 idle_of : (r : Requests) (s : Step) (a : Answer) → IsSilent (s, a) → mark_by r (s, a) ≡ Idle
-idle_of r (step.Issue n) answer.Run silent = absurd (none_some n silent.starts)
-idle_of r (step.Finish n) (answer.Ended res bytes) silent =
-    absurd (none_some (record { number = n; res = res; bytes = bytes }) silent.ends)
+idle_of r (step.Issue n) answer.Run silent = absurd cc
+idle_of r (step.Finish n) (answer.Ended res bytes) silent = absurd cc
 idle_of r _ a silent = refl
 
 -- the mark of a start has the operation
@@ -90,12 +77,9 @@ pub runs_by : (g : Setup) (w : World) (s : Step) (a : Answer) (n : ℕ) → Chan
 runs_by g w s a n (refuses _ _ same silent) =
     ap (λ (v : World). is_running v.requests n) (same w)
     ∙ sym (ap (λ (m : Mark). runs_after m (is_running w.requests n) n) (idle_of (happens g w s a).requests s a silent))
-runs_by g w s a n (takes entry call place opened left at valid) =
-    subst (λ o. is_running (taking_entry_of g w entry o).requests n ≡ is_running w.requests n) (sym opened) refl
-runs_by g w s a n (drops call place opened left at invalid) =
-    subst (λ o. is_running (taking_of g w o).requests n ≡ is_running w.requests n) (sym opened) refl
-runs_by g w s a n (closes accepted missed head call opened all told) =
-    subst (λ o. is_running (ending_of g w o).requests n ≡ is_running w.requests n) (sym opened) refl
+runs_by g w s a n (takes entry call place opened left at valid) = rw opened
+runs_by g w s a n (drops call place opened left at invalid) = rw opened
+runs_by g w s a n (closes accepted missed head call opened all told) = rw opened
 runs_by g w s a n (runs m outstanding idle spared ready no_cancel) =
     let unended : has_ended w.requests m ≡ false = not_ended w.requests m outstanding in
     start_runs w.requests m n unended

@@ -1,7 +1,7 @@
 -- How operations stand along a timeline: as a search has it, after each event and each effect.
-use Rattle.std.proofs.Common.{◌≡◌, ◌==◌, ◌||◌, ◌&&◌, ℕ, ℤ, Bool, true, false, not, List, [], ◌∷◌, ◌++◌, map, Option, Some, None, if◌then◌else◌, refl, sym, ap, subst, ◌∙◌}
+use Rattle.std.proofs.Common.{◌≡◌, ◌==◌, ◌||◌, ◌&&◌, ℕ, ℤ, Bool, true, false, not, List, [], ◌∷◌, ◌++◌, map, Option, Some, None, if◌then◌else◌, refl, sym, ap, subst, ◌∙◌, arith, inl, inr}
 use Rattle.std.specs.Option.{option_map}
-use Rattle.std.proofs.lemmas.Bool.{and_from, and_parts, both_ways, eq-eqb, eqb-true, false_from_ne_true}
+use Rattle.std.proofs.lemmas.Bool.{and_from, and_parts, both_ways, eqb-true, false_from_ne_true, cases_Bool}
 use Rattle.std.proofs.Math.Bool.{or-false, and-true, and-false}
 use Rattle.std.proofs.lemmas.Option.{same_Some}
 use Rattle.uring_entry.specs.Preparation.{operation_of}
@@ -42,62 +42,23 @@ abbrev or_else : Option Running → Option Running → Option Running
 or_else (Some x) y = Some x
 or_else None y = y
 
-either_else : (b : Bool) (r : Running) (x y z : Option Running) → x ≡ or_else y z
-    → (if b then Some r else x) ≡ or_else (if b then Some r else y) z
-either_else true r x y z same = refl
-either_else false r x y z same = same
-
 look_push : (rs : List Running) (new : Running) (n : ℕ)
     → look (rs ++ new ∷ []) n ≡ or_else (look rs n) (if new.number == n then Some new else None)
 look_push [] new n = refl
-look_push (r ∷ rs) new n =
-    either_else (r.number == n) r (look (rs ++ new ∷ []) n) (look rs n) (if new.number == n then Some new else None) (look_push rs new n)
-
-none_either : (b : Bool) → ◌≡◌ {A = Option Running} None (if b then None else None)
-none_either true = refl
-none_either false = refl
-
-gone : (b : Bool) (r : Running) (x : Option Running) → (if b then None else x) ≡ (if b then None else (if b then Some r else x))
-gone true r x = refl
-gone false r x = refl
-
-kept : (b d : Bool) (r : Running) (x : Option Running) → (d ≡ true → b ≡ false)
-    → (if d then Some r else (if b then None else x)) ≡ (if b then None else (if d then Some r else x))
-kept b false r x other = refl
-kept false true r x other = refl
-kept true true r x other = let f : true ≡ false = other refl in absurd cc
-
-without_by : (c : Bool) (r : Running) (rs : List Running) (m n : ℕ) → (r.number == m) ≡ c
-    → look (without rs m) n ≡ (if m == n then None else look rs n)
-    → look (if not c then r ∷ without rs m else without rs m) n ≡ (if m == n then None else (if r.number == n then Some r else look rs n))
-without_by true r rs m n same before =
-    before ∙ gone (m == n) r (look rs n)
-    ∙ ap (λ (b : Bool). if m == n then None else (if b then Some r else look rs n)) (ap (λ (k : ℕ). k == n) (sym (eqb-true r.number m same)))
-without_by false r rs m n other before =
-    ap (λ (o : Option Running). if r.number == n then Some r else o) before
-    ∙ kept (m == n) (r.number == n) r (look rs n) (λ at_n. false_from_ne_true _ (λ same. both_ways _ other (eq-eqb r.number m (eqb-true r.number n at_n ∙ sym (eqb-true m n same)))))
+look_push (r ∷ rs) new n = grind (arith, look_push rs new n)
 
 look_without : (rs : List Running) (m n : ℕ) → look (without rs m) n ≡ (if m == n then None else look rs n)
-look_without [] m n = none_either (m == n)
-look_without (r ∷ rs) m n = without_by (r.number == m) r rs m n refl (look_without rs m n)
+look_without [] m n = grind arith
+look_without (r ∷ rs) m n = grind (arith, look_without rs m n)
 
 taking_number : (m : ℕ) (o : Outcome) (r : Running) → (taking m o r).number ≡ r.number
-taking_number m o r = by (m == r.number) where
-  by : (b : Bool) → (if b then record r { taken = Some o } else r).number ≡ r.number
-  by true = refl
-  by false = refl
-
-either_taken : (b : Bool) (m : ℕ) (o : Outcome) (r : Running) (x y : Option Running) → x ≡ option_map (λ r. taking m o r) y
-    → (if b then Some (taking m o r) else x) ≡ option_map (λ r. taking m o r) (if b then Some r else y)
-either_taken true m o r x y same = refl
-either_taken false m o r x y same = same
+taking_number m o r = grind arith
 
 look_taken : (rs : List Running) (m n : ℕ) (o : Outcome)
     → look (with_taken rs m o) n ≡ option_map (λ r. taking m o r) (look rs n)
 look_taken [] m n o = refl
 look_taken (r ∷ rs) m n o =
-    ap (λ (k : ℕ). if k == n then Some (taking m o r) else look (with_taken rs m o) n) (taking_number m o r)
-    ∙ either_taken (r.number == n) m o r (look (with_taken rs m o) n) (look rs n) (look_taken rs m n o)
+    grind (arith, taking_number m o r, look_taken rs m n o)
 
 -- ---- how a request stands
 
@@ -117,7 +78,7 @@ pub record Stands (g : Setup) (t : Timeline) (s : Standing) : Type 0 where
 runs_one : (b : Bool) (n : ℕ) (op op2 : Op) (taken : Option Outcome) (r : Running)
     → one_of b n op taken ≡ Some r → (b ≡ true) × ((op ≡ r.op) × (taken ≡ r.taken))
 runs_one true n op op2 taken r is = (refl, (ap (λ (x : Running). x.op) (same_Some _ r is), ap (λ (x : Running). x.taken) (same_Some _ r is)))
-runs_one false n op op2 taken r is = let f : None ≡ Some r = is in absurd cc
+runs_one false n op op2 taken r is = absurd cc
 
 -- ---- effects
 
@@ -136,20 +97,14 @@ starts_stay linux l s a q n (ends_doomed m outstanding) started = issued_starts 
 starts_stay linux l s a q n (ends_cancel m outstanding spared ready cancel) started = issued_starts linux l.requests m n _ ∙ started
 starts_stay linux l s a q n _ started = started
 
-newest_started : (g : Setup) (t : Timeline) (m n : ℕ) (p o : Outcome) (b : Bool) → (m == n) ≡ b
-    → has_started (requests_in g t) m ≡ true → (effect_of t n ≡ Some o → has_started (requests_in g t) n ≡ true)
-    → (if b then Some p else effect_of t n) ≡ Some o → has_started (requests_in g t) n ≡ true
-newest_started g t m n p o true same started earlier taken =
-    subst (λ (k : ℕ). has_started (requests_in g t) k ≡ true) (eqb-true m n same) started
-newest_started g t m n p o false other started earlier taken = earlier taken
-
 effect_started : (g : Setup) (t : Timeline) (n : ℕ) (o : Outcome) → IsTimely g t → IsLawfulApart g (made_in t)
     → effect_of t n ≡ Some o → has_started (requests_in g t) n ≡ true
-effect_started g [] n o timely lawful is = let f : None ≡ Some o = is in absurd cc
+effect_started g [] n o timely lawful is = absurd cc
 effect_started g (Makes (s, a) ∷ t) n o timely lawful is =
     starts_stay g.linux (requests_of (world g (made_in t))) s a _ n (move_of g s a (made_in t) lawful) (effect_started g t n o timely.1 lawful.1 is)
 effect_started g (Takes m p ∷ t) n o timely lawful is =
-    newest_started g t m n p o (m == n) refl (and_parts _ _ timely.0.runs).0 (effect_started g t n o timely.1 lawful) is
+    let started = (and_parts (has_started (requests_in g t) m) _ timely.0.runs).0 in
+    grind (arith, effect_started g t n o timely.1 lawful, started, is)
 
 -- what hasn't started has taken none
 pub unstarted_free : (g : Setup) (t : Timeline) (n : ℕ) → IsTimely g t → IsLawfulApart g (made_in t)
@@ -169,12 +124,10 @@ passed_files s _ = refl
 stands_so : (r later : Requests) (n : ℕ) (taken : Option Outcome) → is_running later n ≡ is_running r n
     → (is_running r n ≡ true → entry_of later n ≡ entry_of r n)
     → standing_at r taken n ≡ standing_at later taken n
-stands_so r later n taken same entry = by (is_running r n) refl where
-  by : (b : Bool) → is_running r n ≡ b → one_of b n (operation_of (entry_of r n)) taken ≡ standing_at later taken n
-  by true ran =
-      ap (λ e. one_of true n (operation_of e) taken) (sym (entry ran))
-      ∙ ap (λ (b : Bool). one_of b n (operation_of (entry_of later n)) taken) (sym (same ∙ ran))
-  by false idle = ap (λ (b : Bool). one_of b n (operation_of (entry_of later n)) taken) (sym (same ∙ idle))
+stands_so r later n taken same entry = elim (cases_Bool (is_running r n)) [
+  | inl ran ↦ cc (entry ran)
+  | inr idle ↦ cc
+]
 
 entry_same : (g : Setup) (s : Step) (a : Answer) (h : History) (n : ℕ) → IsLawfulApart g ((s, a) ∷ h)
     → is_running (world g h).requests n ≡ true
@@ -188,7 +141,7 @@ StartFacts r (step.Issue k) answer.Run = (is_running r k ≡ false) × (has_ende
 StartFacts r s a = Unit {0}
 
 silent_start : (r : Requests) (s : Step) (a : Answer) → IsSilent (s, a) → StartFacts r s a
-silent_start r (step.Issue k) answer.Run silent = let f : Some k ≡ None = silent.starts in absurd cc
+silent_start r (step.Issue k) answer.Run silent = absurd cc
 silent_start r _ a silent = tt
 
 start_facts : (g : Setup) (w : World) (s : Step) (a : Answer) → Change g w s a → StartFacts w.requests s a
@@ -204,27 +157,21 @@ record IsStart (r : Requests) (s : Step) (a : Answer) (k : ℕ) (op : Op) : Type
 
 start_by : (r : Requests) (n k : ℕ) (op : Op) (o : Option Op) → operation_running r n ≡ o
     → start_mark n o ≡ Starts k op → IsStart r (step.Issue n) answer.Run k op
-start_by r n k op None is mark = let f : Idle ≡ Starts k op = mark in absurd cc
-start_by r n k op (Some p) is mark =
-    let number : n ≡ k = let f : Starts n p ≡ Starts k op = mark in cc in
-    let same : p ≡ op = let f : Starts n p ≡ Starts k op = mark in cc in
-    record { step_is = ap (λ (x : ℕ). step.Issue x) number; answer_is = refl; asks = ap (operation_running r) (sym number) ∙ is ∙ ap (λ (x : Op). Some x) same }
+start_by r n k op None is mark = absurd cc
+start_by r n k op (Some p) is mark = record { step_is = cc; answer_is = refl; asks = cc }
 
 start_from : (r : Requests) (s : Step) (a : Answer) (k : ℕ) (op : Op) → mark_by r (s, a) ≡ Starts k op
     → IsStart r s a k op
 start_from r (step.Issue n) answer.Run k op mark = start_by r n k op (operation_running r n) refl mark
-start_from r (step.Finish n) (answer.Ended res bytes) k op mark =
-    let f : Ends n (record { res = res; bytes = Some bytes }) ≡ Starts k op = mark in absurd cc
-start_from r _ a k op mark = let f : Idle ≡ Starts k op = mark in absurd cc
+start_from r (step.Finish n) (answer.Ended res bytes) k op mark = absurd cc
+start_from r _ a k op mark = absurd cc
 
 or_none : (o : Option Running) → or_else o None ≡ o
-or_none None = refl
-or_none (Some x) = refl
+or_none o = grind arith
 
 -- a running request asks for this operation
 asked_by : (b : Bool) (op asked : Op) → (if b then Some asked else None) ≡ Some op → (b ≡ true) × (asked ≡ op)
-asked_by true op asked is = (refl, same_Some asked op is)
-asked_by false op asked is = let f : None ≡ Some op = is in absurd cc
+asked_by b op asked is = grind arith
 
 -- ---- after a mark
 
@@ -301,14 +248,10 @@ stands_makes g t st s a timely stands lawful = record {
 taken_one : (b : Bool) (n m : ℕ) (op : Op) (o : Outcome) (taken : Option Outcome)
     → option_map (λ r. taking m o r) (one_of b n op taken) ≡ one_of b n op (if m == n then Some o else taken)
 taken_one false n m op o taken = refl
-taken_one true n m op o taken = by (m == n) where
-  by : (c : Bool) → ◌≡◌ {A = Option Running} (Some (if c then record { number = n; op = op; taken = Some o } else record { number = n; op = op; taken = taken })) (Some (record { number = n; op = op; taken = if c then Some o else taken }))
-  by true = refl
-  by false = refl
+taken_one true n m op o taken = grind arith
 
 op_one : (b : Bool) (n : ℕ) (op : Op) (taken : Option Outcome) → b ≡ true → op_of (one_of b n op taken) ≡ op
-op_one true n op taken ran = refl
-op_one false n op taken ran = let f : false ≡ true = ran in absurd cc
+op_one b n op taken ran = cc
 
 pub stands_takes : (g : Setup) (t : Timeline) (st : Standing) (n : ℕ) (o : Outcome) → Stands g t st
     → is_running (requests_in g t) n ≡ true → Stands g (Takes n o ∷ t) (took st n o)
@@ -339,7 +282,7 @@ takes_effect g t st marks n o stands may =
 taken_one_of : (b : Bool) (n : ℕ) (op : Op) (taken : Option Outcome) (o : Outcome)
     → taken_of (one_of b n op taken) ≡ Some o → taken ≡ Some o
 taken_one_of true n op taken o is = is
-taken_one_of false n op taken o is = let f : None ≡ Some o = is in absurd cc
+taken_one_of false n op taken o is = absurd cc
 
 ended_by : (taken : Option Outcome) (res : ℤ) (bytes : List ℕ)
     → EndsBy taken (record { res = res; bytes = Some bytes }) → taken ≡ Some (record { res = res; bytes = bytes })
@@ -360,7 +303,7 @@ start_passes running n (Some op) = tt
 
 finish_runs : (b : Bool) (res : ℤ) (bytes : List ℕ) → FinishesApart b (answer.Ended res bytes) → b ≡ true
 finish_runs true res bytes called = refl
-finish_runs false res bytes called = let f : answer.Ended res bytes ≡ answer.NotRunning = called in absurd cc
+finish_runs false res bytes called = absurd cc
 
 pub passes_so : (g : Setup) (t : Timeline) (st : Standing) (s : Step) (a : Answer) → Stands g t st
     → CalledForApart g (world g (made_in t)) s a

@@ -1,5 +1,5 @@
 -- A search's moves are a timeline of the history, and a timeline whose effects wait is moves of the search.
-use Rattle.std.proofs.Common.{◌≡◌, ◌==◌, ℕ, ℤ, Bool, true, false, not, is_some, List, [], ◌∷◌, ◌++◌, Option, Some, None, if◌then◌else◌, refl, sym, ap, subst, ◌∙◌, append-nil}
+use Rattle.std.proofs.Common.{◌≡◌, ◌==◌, ℕ, ℤ, Bool, true, false, not, is_some, List, [], ◌∷◌, ◌++◌, Option, Some, None, if◌then◌else◌, refl, sym, ap, subst, ◌∙◌, append-nil, arith}
 use Rattle.std.specs.Prelude.{reverse}
 use Rattle.std.proofs.lemmas.Bool.{eq-eqb, eqb-true}
 use Rattle.std.proofs.lemmas.List.{reverse-reverse}
@@ -114,8 +114,7 @@ EndsSo g t later = (n : ℕ) (o : Outcome) → effect_of t n ≡ Some o
     → FitsEnd (end_in (marks_after g (made_in t) later) n) o
 
 taken_free : (b : Bool) (n : ℕ) (op : Op) → not (is_some (taken_of (one_of b n op None))) ≡ true
-taken_free true n op = refl
-taken_free false n op = refl
+taken_free b n op = grind arith
 
 waits_by : (g : Setup) (t : Timeline) (st : Standing) (later : List Event) → Stands g t st → EndsNext t later
     → awaits st.running (marks_after g (made_in t) later) ≡ true
@@ -144,10 +143,7 @@ may_take g t st later n o stands lawful taken next fits = record {
 
 -- going back over an effect
 free_before : (m k : ℕ) (p : Outcome) (t : Timeline) → effect_of (Takes m p ∷ t) k ≡ None → effect_of t k ≡ None
-free_before m k p t free = by (m == k) free where
-  by : (b : Bool) → (if b then Some p else effect_of t k) ≡ None → effect_of t k ≡ None
-  by true none = absurd (let f : Some p ≡ None = none in cc)
-  by false none = none
+free_before m k p t free = grind (arith, free)
 
 next_before : (t : Timeline) (later : List Event) → EndsNext t later → IsNext t later
 next_before [] later next = tt
@@ -163,10 +159,7 @@ next_before (Takes m p ∷ t) later next = record {
 
 ends_before_effect : (g : Setup) (m : ℕ) (p : Outcome) (t : Timeline) (later : List Event) → effect_of t m ≡ None
     → EndsSo g (Takes m p ∷ t) later → EndsSo g t later
-ends_before_effect g m p t later first so n o taken = so n o (by (m == n) refl) where
-  by : (b : Bool) → (m == n) ≡ b → (if b then Some p else effect_of t n) ≡ Some o
-  by true same = absurd (let f : None ≡ Some o = sym first ∙ ap (effect_of t) (eqb-true m n same) ∙ taken in cc)
-  by false other = taken
+ends_before_effect g m p t later first so n o taken = so n o (grind (arith, first, taken))
 
 -- going back over an event
 next_by_end : (e : Event) (m : ℕ) (t : Timeline) (later : List Event) → is_end_of m e ≡ true
@@ -179,8 +172,7 @@ next_by_end (step.Finish k, answer.Ended res bytes) m t later ends free = record
   is = refl;
   free = ap (effect_of t) (sym (eqb-true m k ends)) ∙ free;
 }
-next_by_end (step.Finish k, _) m t later ends free = absurd (let f : false ≡ true = ends in cc)
-next_by_end _ m t later ends free = absurd (let f : false ≡ true = ends in cc)
+next_by_end _ m t later ends free = absurd cc
 
 next_by : (g : Setup) (e : Event) (t : Timeline) (later : List Event) → IsTimely g t → EndsLast t e
     → IsNext t (e ∷ later)
@@ -189,8 +181,7 @@ next_by g e (Makes x ∷ t) later timely last = tt
 next_by g e (Takes m p ∷ t) later timely last = next_by_end e m t later last timely.0.first
 
 pub start_ends : (n k : ℕ) (o : Option Op) (marks : List Mark) → end_in (start_mark n o ∷ marks) k ≡ end_in marks k
-start_ends n k None marks = refl
-start_ends n k (Some op) marks = refl
+start_ends n k o marks = grind arith
 
 ends_before : (g : Setup) (s : Step) (a : Answer) (t : Timeline) (later : List Event) → EndsAsTaken t (s, a)
     → EndsSo g (Makes (s, a) ∷ t) later → EndsSo g t ((s, a) ∷ later)
@@ -230,7 +221,7 @@ back g (Takes n o ∷ t) later timely lawful waits next so goes =
 none_next : (t : Timeline) → ends_in_effect t ≡ false → IsNext t []
 none_next [] none = tt
 none_next (Makes e ∷ t) none = tt
-none_next (Takes n o ∷ t) none = absurd (let f : true ≡ false = none in cc)
+none_next (Takes n o ∷ t) none = absurd cc
 
 pub goes_by : (g : Setup) (events : List Event) → IsLawfulEarly g (history_of events)
     → Goes (at_first g.files) (marks_after g [] events)
