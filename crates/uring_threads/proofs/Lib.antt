@@ -8,7 +8,6 @@ mod Times
 mod Sent
 pub mod Settling
 mod Collecting
-mod Draining
 mod SettledWorkers
 pub mod Carrying
 pub mod Posting
