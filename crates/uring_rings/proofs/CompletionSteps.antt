@@ -1,5 +1,5 @@
 -- What each call of the completion ring leaves shows the lists after its event.
-use Rattle.std.proofs.Common.{◌≡◌, ◌≢◌, ℕ, ◌+◌, ◌-◌, ◌%◌, ◌^◌, ◌<◌, ◌≤◌, Bool, true, false, eqb, ltb, List, [], ◌∷◌, ◌++◌, length, take, drop, set, get_or, cond, min, Some, None, sym, ap, ◌∙◌, subst, ⊎_elim, arith, ne_eqb, ltb-false, ltb-true, eqb-true}
+use Rattle.std.proofs.Common.{◌≡◌, ◌≢◌, ℕ, ◌+◌, ◌-◌, ◌%◌, ◌^◌, ◌<◌, ◌≤◌, Bool, true, false, eqb, ltb, List, [], ◌∷◌, ◌++◌, length, take, drop, set, get_or, cond, min, Some, None, sym, ap, ◌∙◌, subst, inl, inr, arith, ne_eqb, ltb-false, ltb-true, eqb-true}
 use Rattle.std.proofs.lemmas.Bool.{cases_lt, and_parts}
 use Rattle.std.proofs.lemmas.List.{nil_from_length, length_push, length-drop, take-append-le, drop-append-le, take_more, drop_more, get_or_append_left, get_or_default}
 use Rattle.std.proofs.lemmas.Option.{slice_get-get_or}
@@ -99,12 +99,10 @@ pub more_to_reap : (g : Setup) (q : Cq) (l : Completions) → IsCq q.size q.cell
     → ShowsCompletions g q l
     → (q.next ≡ q.seen_tail → ⊥) → length l.reaped < l.seen_tail
 more_to_reap g q l i s apart =
-    ⊎_elim
-    (λ (less : length l.reaped < l.seen_tail). less)
-    (λ (all : l.seen_tail ≤ length l.reaped).
-    let same : length l.reaped ≡ l.seen_tail = omega (arith, s.reaped_first) in
-    absurd (apart (s.next ∙ ap (word_of g.start) same ∙ sym s.seen_tail)))
-    (cases_lt (length l.reaped) l.seen_tail)
+    elim (cases_lt (length l.reaped) l.seen_tail) [
+      | inl less ↦ less
+      | inr all ↦ let same : length l.reaped ≡ l.seen_tail = omega (arith, s.reaped_first) in absurd (apart (s.next ∙ ap (word_of g.start) same ∙ sym s.seen_tail))
+    ]
 
 -- what is read from the next cell is the next of the posted
 pub reaps : (g : Setup) (q : Cq) (l : Completions) (cell : ℕ) (x : Cqe) → IsCq q.size q.cells

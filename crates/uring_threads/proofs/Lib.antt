@@ -20,7 +20,6 @@ mod SameLanes
 pub mod SameEnds
 -- Settling: what waits is taken in, worker after worker, and reported:
 mod Collecting
-mod Draining
 pub mod Settling
 mod SettledWorkers
 mod WorkerFiles

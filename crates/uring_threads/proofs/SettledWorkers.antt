@@ -1,32 +1,103 @@
--- Settling the workers, one after the other: the results of the first are taken in, and the others' wait.
-use Rattle.std.proofs.Common.{◌≡◌, ℕ, List, [], ◌∷◌, ◌++◌, map, refl, sym, subst, ap, ap₂, ◌∙◌, append-nil, ◌+◌, ◌*◌, ◌<◌, ◌≤◌, length, take, drop, get_or, arith, append_assoc}
+-- Settling the workers: all results that wait at one are taken in, one after the other, and then those of the next, while the others' wait.
+use Rattle.std.proofs.Common.{◌≡◌, ℕ, ◌+◌, ◌<◌, ◌≤◌, List, [], ◌∷◌, ◌++◌, length, map, refl, sym, subst, ap, ◌∙◌, arith, append_assoc, append-nil, ap₂, ◌*◌, take, drop, get_or}
+use Rattle.std.proofs.lemmas.List.{length-append, length-map, map-append, nil_from_length, length-set, get_or-set_other, take_all, take_more, length-take-le, get_or_default}
+use Rattle.uring_workers.specs.declared.job.JobResult.{JobResult}
+use Rattle.uring_threads.specs.Collected.{TakesAll, Wait}
+use Rattle.uring_threads.specs.Kept.{Kept, Grows, history}
+use Rattle.uring_threads.specs.Settled.{finish_of, IsWork, with_taken_in, IsSettled}
 use Rattle.uring_entry.specs.Setup.{Setup}
 use Rattle.uring_files.specs.Done.{Done, AreDone}
 use Rattle.uring_core.specs.Histories.{History, IsLawfulApart}
 use Rattle.uring_workers.specs.declared.job.Job.{Job}
-use Rattle.uring_workers.specs.declared.job.JobResult.{JobResult}
 use Rattle.uring_workers.specs.WorkLanes.{jobs_sent, results_received, results_held}
 use Rattle.uring_workers.specs.declared.work_lanes.WorkLanes.{WorkLanes}
-use Rattle.uring_threads.specs.Collected.{TakesAll}
 use Rattle.uring_threads.specs.Dispatched.{HasCarried, HaveCarried}
 use Rattle.uring_threads.specs.SettledWorker.{IsSettledAt, HaveSeenAll, settled_work, works_of}
-use Rattle.uring_threads.specs.Kept.{Kept, history}
-use Rattle.uring_threads.specs.Settled.{IsWork, finish_of, with_taken_in, IsSettled}
 use Rattle.uring_threads.specs.Dealt.{jobs_to, done_by_worker}
 use Rattle.uring_workers.specs.Work.{jobs_of, results_of}
 use Rattle.uring_core.proofs.Following.{history_of_cons}
 use Rattle.uring_threads.proofs.Settling.{IsDrained, drain, none_waits, same_work}
 use Rattle.uring_threads.proofs.TraceSteps.{longer_history}
 use Rattle.std.specs.Prelude.{slice_set}
-use Rattle.std.proofs.lemmas.List.{length-set, get_or-set_other, take_all, take_more, length-take-le, get_or_default}
 use Rattle.uring_workers.specs.Opened.{AreLanesOf}
 use Rattle.uring_threads.specs.Report.{waiting_at, all_waiting}
 use Rattle.uring_workers.specs.Pairings.{pairing_of}
 use Rattle.uring_workers.specs.Worker.{Worker, IsRight, Looks}
 use Rattle.uring_files.specs.Contents.{empty_files}
-use Rattle.uring_threads.proofs.Draining.{takes_none, takes_then}
 use Rattle.uring_threads.proofs.SameLanes.{set_cases}
 use Rattle.uring_threads.proofs.Carrying.{others_carried}
+
+-- Results taken in one after the other.
+
+pub takes_none : (a : Kept) → TakesAll a a []
+takes_none a = record { trace = sym (append-nil a.trace); setup = refl; room = omega arith }
+
+pub takes_then : (a b c : Kept) (first second : List JobResult) → TakesAll a b first
+    → TakesAll b c second → TakesAll a c (first ++ second)
+takes_then a b c first second p q =
+    record {
+      trace = q.trace ∙ ap (λ es. es ++ map finish_of second) p.trace ∙ append_assoc a.trace (map finish_of first) (map finish_of second) ∙ ap (λ es. a.trace ++ es) (sym (map-append finish_of first second));
+      setup = q.setup ∙ p.setup;
+      room = omega (arith, p.room, q.room);
+    }
+
+-- The loop.
+
+pub record Drains (first now : Kept) (seen known before received : List JobResult) (count : ℕ) : Type 0 where
+  pub taken : List JobResult
+  pub all : seen ≡ taken ++ known
+  pub came : received ≡ before ++ taken
+  pub recorded : TakesAll first now taken
+  pub counted : length taken ≡ count
+  pub left : Wait now known
+
+pub drains_none : (first : Kept) (seen before : List JobResult) → Wait first seen
+    → Drains first first seen seen before before 0
+drains_none first seen before left =
+    record { taken = []; all = refl; came = sym (append-nil before); recorded = takes_none first; counted = refl; left = left }
+
+-- the next one
+abbrev pub OneMore : Kept → Kept → List JobResult → List JobResult → List JobResult → List JobResult
+    → Type 0
+OneMore a b known later received now =
+    (r : JobResult) × (known ≡ r ∷ later) × (now ≡ received ++ r ∷ []) × Grows a b (finish_of r)
+
+pub drains_one : (first a b : Kept) (seen known later before received now : List JobResult) (count : ℕ)
+    → Drains first a seen known before received count → OneMore a b known later received now
+    → Wait b later
+    → Drains first b seen later before now (count + 1)
+drains_one first a b seen known later before received now count d (r, next, came, grows) left =
+    record {
+      taken = d.taken ++ r ∷ [];
+      all = d.all ∙ ap (λ rs. d.taken ++ rs) next ∙ sym (append_assoc d.taken (r ∷ []) later);
+      came = came ∙ ap (λ rs. rs ++ r ∷ []) d.came ∙ append_assoc before d.taken (r ∷ []);
+      recorded = takes_then first a b d.taken (r ∷ []) d.recorded (record { trace = grows.trace; setup = grows.setup; room = omega (arith, grows.room) });
+      counted = omega (arith, d.counted, length-append d.taken (r ∷ []));
+      left = left;
+    }
+
+-- there is room for one more, and there is one, while there are some
+pub room_left : (first a : Kept) (seen known before received : List JobResult) (count : ℕ)
+    → Drains first a seen known before received count
+    → length first.trace + length seen ≤ first.room → count < length seen
+    → (length a.trace < a.room) × (0 < length known)
+room_left first a seen known before received count d room some =
+    let events = ap length d.recorded.trace ∙ length-append first.trace (map finish_of d.taken) in
+    let taken = length-map d.taken finish_of in
+    let all = ap length d.all ∙ length-append d.taken known in
+    let more = d.recorded.room in
+    let counted = d.counted in (omega arith, omega arith)
+
+-- at the end all were taken in
+pub drained : (first a : Kept) (seen known before received : List JobResult) (count : ℕ)
+    → Drains first a seen known before received count → length seen ≤ count
+    → TakesAll first a seen × (received ≡ before ++ seen) × (known ≡ [])
+drained first a seen known before received count d all_counted =
+    let all = ap length d.all ∙ length-append d.taken known in
+    let counted = d.counted in
+    let none : known ≡ [] = nil_from_length known (omega arith) in
+    let whole : d.taken ≡ seen = sym (d.all ∙ ap (λ rs. d.taken ++ rs) none ∙ append-nil d.taken) in
+    (subst (TakesAll first a) whole d.recorded, d.came ∙ ap (λ rs. before ++ rs) whole, none)
 
 -- results that are taken in send no job
 pub jobs_keep : (g : Setup) (workers k : ℕ) (rs : List JobResult) (h : History)
@@ -40,19 +111,19 @@ module _ (a b : Kept) (workers k : ℕ) (done : List Done) (untaken : List Job) 
   work : IsWork a.setup workers (history a) k (record { done = done; untaken = untaken; waiting = waiting })
   work = record { jobs = jobs ∙ carried.jobs; results = ap (λ rs. rs ++ waiting) (sym carried.results) ∙ results }
 
-  drained : IsDrained a.setup workers (history a) (with_taken_in waiting (history a)) k (record { done = done; untaken = untaken; waiting = waiting })
-  drained = drain a.setup workers (history a) k done untaken waiting lawful work
+  one_drained : IsDrained a.setup workers (history a) (with_taken_in waiting (history a)) k (record { done = done; untaken = untaken; waiting = waiting })
+  one_drained = drain a.setup workers (history a) k done untaken waiting lawful work
 
   later : history b ≡ with_taken_in waiting (history a)
   later = longer_history a b (map finish_of waiting) all.trace
 
   jobs_stay : (j : ℕ) → jobs_to b.setup workers j (history b) ≡ jobs_to a.setup workers j (history a)
-  jobs_stay j = ap₂ (λ g h. jobs_to g workers j h) all.setup later ∙ drained.sent j
+  jobs_stay j = ap₂ (λ g h. jobs_to g workers j h) all.setup later ∙ one_drained.sent j
 
   settled : IsWork b.setup workers (history b) k (record { done = done; untaken = untaken; waiting = [] })
   settled =
       subst (λ h. IsWork b.setup workers h k (record { done = done; untaken = untaken; waiting = [] })) (sym later)
-      (subst (λ g. IsWork g workers (with_taken_in waiting (history a)) k (record { done = done; untaken = untaken; waiting = [] })) (sym all.setup) drained.own)
+      (subst (λ g. IsWork g workers (with_taken_in waiting (history a)) k (record { done = done; untaken = untaken; waiting = [] })) (sym all.setup) one_drained.own)
 
   pub settled_at : (now : WorkLanes) → jobs_sent now ≡ jobs_sent lanes
       → results_received now ≡ results_received lanes ++ waiting
@@ -61,7 +132,7 @@ module _ (a b : Kept) (workers k : ℕ) (done : List Done) (untaken : List Job) 
       record {
         work = settled;
         carried = record { jobs = same ∙ carried.jobs ∙ sym (jobs_stay k); results = came ∙ results ∙ sym settled.results ∙ append-nil (results_of (done_by_worker b.setup workers k (history b))) };
-        others = record { jobs = jobs_stay; results = λ j other. ap₂ (λ g h. done_by_worker g workers j h) all.setup later ∙ drained.others j other };
+        others = record { jobs = jobs_stay; results = λ j other. ap₂ (λ g h. done_by_worker g workers j h) all.setup later ∙ one_drained.others j other };
       }
 
 -- what wasn't received waits
@@ -155,9 +226,6 @@ module _ (a b c : Kept) (ls ms : List WorkLanes) (ws vs : List Worker) (count fi
       let v : get_or vs count e ≡ get_or ws count f = s.workers_stay count e (omega arith) ∙ get_or_default ws count e f (omega (arith, of.many, lt)) in
       subst (λ w. Looks w after) v one.looks
 
-  work_here : IsWork c.setup (length ls) (history c) count (settled_work after)
-  work_here = subst (λ ds. IsWork c.setup (length ls) (history c) count (record { done = ds; untaken = after.seen; waiting = [] })) (sym (ap (λ w. w.done) one.looks.same)) at_count.work
-
   took : TakesAll a c (all_waiting (take (count + 1) ls) (take (count + 1) ws))
   took =
       let waits : waiting_at (get_or ls count d) (get_or ws count e) ≡ one.trace.0 =
@@ -174,7 +242,7 @@ module _ (a b c : Kept) (ls ms : List WorkLanes) (ws vs : List Worker) (count fi
         workers_stay = λ k f from. get_or-set_other vs count k after f (λ same. omega (arith, same, from)) ∙ s.workers_stay k f (omega (arith, from));
         looked = λ k f. set_cases (λ j w. Looks (get_or ws j f) w) vs count after k f worker_there (looks_here f) (λ other. s.looked k f);
         carried = λ k f within. set_cases (HasCarried c (length ls)) ms count now k f (omega (arith, s.many, lt)) at_count.carried (λ other. others_carried b c (length ls) count k (get_or ms k f) at_count.others other (s.carried k f within));
-        settled = λ k f below. set_cases (λ j w. IsWork c.setup (length ls) (history c) j (settled_work w)) vs count after k f worker_there work_here (λ other. same_work b.setup c.setup (length ls) (history b) (history c) k (settled_work (get_or vs k f)) (at_count.others.jobs k) (at_count.others.results k other) (s.settled k f (omega (arith, other, below))));
+        settled = λ k f below. set_cases (λ j w. IsWork c.setup (length ls) (history c) j (settled_work w)) vs count after k f worker_there (subst (λ ds. IsWork c.setup (length ls) (history c) count (record { done = ds; untaken = after.seen; waiting = [] })) (sym (ap (λ w. w.done) one.looks.same)) at_count.work) (λ other. same_work b.setup c.setup (length ls) (history b) (history c) k (settled_work (get_or vs k f)) (at_count.others.jobs k) (at_count.others.results k other) (s.settled k f (omega (arith, other, below))));
         right = λ k f below. set_cases (λ _ w. IsRight w) vs count after k f worker_there one.right (λ other. s.right k f (omega (arith, other, below)));
         recorded = took;
         few = omega (arith, s.few, one.few, next_short a b ls ms ws vs count files d e s lt of);

@@ -222,11 +222,6 @@ record AreDrained (g : Setup) (workers : ℕ) (h : History) (works : ℕ → Wor
   before : (k : ℕ) → k < count → IsWork g workers h k (drained (works k))
   after : (k : ℕ) → count ≤ k → k < workers → IsWork g workers h k (works k)
 
-taken_in_append : (earlier later : List JobResult) (h : History)
-    → with_taken_in (earlier ++ later) h ≡ with_taken_in later (with_taken_in earlier h)
-taken_in_append earlier later h =
-    ap (λ events. history_of events ++ h) (map-append finish_of earlier later) ∙ history_of_append (map finish_of earlier) (map finish_of later) h
-
 drain_first : (g : Setup) (workers : ℕ) (h : History) (works : ℕ → Work) → IsLawfulApart g h
     → ((k : ℕ) → k < workers → IsWork g workers h k (works k)) → (count : ℕ) → count ≤ workers
     → AreDrained g workers (with_taken_in (waiting_of works count) h) works count
@@ -241,7 +236,8 @@ drain_first g workers h works lawful are (suc count) le =
     let there : History = with_taken_in (waiting_of works count) h in
     let work : Work = works count in
     let one = drain g workers there count work.done work.untaken work.waiting so_far.lawful (so_far.after count (omega arith) (omega arith)) in
-    subst (λ last. AreDrained g workers last works (suc count)) (sym (taken_in_append (waiting_of works count) work.waiting h))
+    let both = ap (λ events. history_of events ++ h) (map-append finish_of (waiting_of works count) work.waiting) ∙ history_of_append (map finish_of (waiting_of works count)) (map finish_of work.waiting) h in
+    subst (λ last. AreDrained g workers last works (suc count)) (sym both)
     (record {
       lawful = one.lawful;
       before = λ k lt. elim (cases_eq k count) [

@@ -146,45 +146,36 @@ pub record Goes {E : Type 0} (old : Kernel) (kept : Kept) (pulled : Put) (reaped
   pub few : TakesFewResults (length old.lanes) old.kept kept
   pub same : AreSameLanes old.lanes lanes
 
-pub goes : {E : Type 0} {answer : Result Turn E} {old : Kernel} {b c d e : Kept} {pulled : Put} {before reaped : List Cqe} {i : Intake} {ms ns : List WorkLanes} {n f s k : ℕ}
-    → HasTaken old b pulled before i n → Repeats b c step.Finish (finishes_counted f)
-    → TakesFewResults (length old.lanes) b c → HaveCarried c ms → AreSameLanes old.lanes ms
-    → Repeats c d step.Issue (issues_counted s) → HaveCarried d ns → AreSameLanes ms ns
-    → HasDelivered d e k reaped
-    → IfOk answer (λ made. made ≡ record { popped = n; issued = s; finished = f; delivered = k })
-    → Goes old e pulled reaped i ns (record { popped = n; issued = s; finished = f; delivered = k }) answer
-goes {E} {answer} {old} {b} {c} {d} {e} {pulled} {before} {reaped} {i} {ms} {ns} {n} {f} {s} {k} t p few carried same q later others r told =
-    let finished = finishes_many p in
-    let issued = issues_many q in
-    record {
-      ties = ties_delivered (ties_posted (issues_counted s) (ties_posted (finishes_counted f) t.ties p.tally refl p.posts carried) q.tally refl q.posts later) r;
-      counts = counts_all old.kept b c d e n f s k t.taken p.tally (λ none. repeats_idle p (finished ∙ none)) q.tally (λ none. repeats_idle q (issued ∙ none)) r.tally r.idle;
-      rows = turn_recorded old.kept b c d e old.intake old.pulled pulled k answer _ _ t.row p q r.row (IfOk-weaker answer _ _ (λ made is. subst (λ m. AreOfTurn m p.numbers q.numbers k) (sym is) (record { finishes = finished; issues = issued; reaps = refl })) told);
-      few = few_between (length old.lanes) old.kept b c e _ _ t.taken.appends refl few (appends_then c d e _ _ _ q.tally r.tally refl) refl;
-      same = lanes_then old.lanes ms ns same others;
-    }
-
--- Up to an earlier end.
-
 keeps_all : (w : World) → KeepsAllBut w w
 keeps_all w = record { submission = refl; requests = refl; drains = refl; is_closed = refl; posted = refl }
 
-pub goes_issued : {E : Type 0} {answer : Result Turn E} {old : Kernel} {b c d : Kept} {pulled : Put} {reaped : List Cqe} {i : Intake} {ms ns : List WorkLanes} {n f s : ℕ}
-    → HasTaken old b pulled reaped i n → Repeats b c step.Finish (finishes_counted f)
-    → TakesFewResults (length old.lanes) b c → HaveCarried c ms → AreSameLanes old.lanes ms
-    → Repeats c d step.Issue (issues_counted s) → HaveCarried d ns → AreSameLanes ms ns
-    → IfOk answer (λ made. made ≡ record { popped = n; issued = s; finished = f; delivered = 0 })
-    → Goes old d pulled reaped i ns (record { popped = n; issued = s; finished = f; delivered = 0 }) answer
-goes_issued {d = d} {s = s} t p few carried same q later others =
-    let ties = ties_posted (issues_counted s) (ties_posted _ t.ties p.tally refl p.posts carried) q.tally refl q.posts later in
-    goes t p few carried same q later others (delivers_none (still d) (keeps_all (now d)) ties.delivered)
+module _ {E : Type 0} {answer : Result Turn E} {old : Kernel} {b c : Kept} {pulled : Put} {before : List Cqe} {i : Intake} {ms : List WorkLanes} {n f : ℕ}
+    (t : HasTaken old b pulled before i n) (p : Repeats b c step.Finish (finishes_counted f)) (few : TakesFewResults (length old.lanes) b c) (carried : HaveCarried c ms) (same : AreSameLanes old.lanes ms) where
+  module _ {d : Kept} {ns : List WorkLanes} {s : ℕ} (q : Repeats c d step.Issue (issues_counted s)) (later : HaveCarried d ns) (others : AreSameLanes ms ns) where
+    pub goes : {e : Kept} {reaped : List Cqe} {k : ℕ} → HasDelivered d e k reaped
+        → IfOk answer (λ made. made ≡ record { popped = n; issued = s; finished = f; delivered = k })
+        → Goes old e pulled reaped i ns (record { popped = n; issued = s; finished = f; delivered = k }) answer
+    goes {e} {reaped} {k} r told =
+        let finished = finishes_many p in
+        let issued = issues_many q in
+        record {
+          ties = ties_delivered (ties_posted (issues_counted s) (ties_posted (finishes_counted f) t.ties p.tally refl p.posts carried) q.tally refl q.posts later) r;
+          counts = counts_all old.kept b c d e n f s k t.taken p.tally (λ none. repeats_idle p (finished ∙ none)) q.tally (λ none. repeats_idle q (issued ∙ none)) r.tally r.idle;
+          rows = turn_recorded old.kept b c d e old.intake old.pulled pulled k answer _ _ t.row p q r.row (IfOk-weaker answer _ _ (λ made is. subst (λ m. AreOfTurn m p.numbers q.numbers k) (sym is) (record { finishes = finished; issues = issued; reaps = refl })) told);
+          few = few_between (length old.lanes) old.kept b c e _ _ t.taken.appends refl few (appends_then c d e _ _ _ q.tally r.tally refl) refl;
+          same = lanes_then old.lanes ms ns same others;
+        }
 
-pub goes_collected : {E : Type 0} {answer : Result Turn E} {old : Kernel} {b c : Kept} {pulled : Put} {reaped : List Cqe} {i : Intake} {ms : List WorkLanes} {n f : ℕ}
-    → HasTaken old b pulled reaped i n → Repeats b c step.Finish (finishes_counted f)
-    → TakesFewResults (length old.lanes) b c → HaveCarried c ms → AreSameLanes old.lanes ms
-    → IfOk answer (λ made. made ≡ record { popped = n; issued = 0; finished = f; delivered = 0 })
-    → Goes old c pulled reaped i ms (record { popped = n; issued = 0; finished = f; delivered = 0 }) answer
-goes_collected {c = c} {ms = ms} t p few carried same = goes_issued t p few carried same (repeats_none step.Issue (still c)) carried (lanes_none ms)
+    -- or up to an earlier end
+    pub goes_issued : IfOk answer (λ made. made ≡ record { popped = n; issued = s; finished = f; delivered = 0 })
+        → Goes old d pulled before i ns (record { popped = n; issued = s; finished = f; delivered = 0 }) answer
+    goes_issued =
+        let ties = ties_posted (issues_counted s) (ties_posted (finishes_counted f) t.ties p.tally refl p.posts carried) q.tally refl q.posts later in
+        goes (delivers_none (still d) (keeps_all (now d)) ties.delivered)
+
+  pub goes_collected : IfOk answer (λ made. made ≡ record { popped = n; issued = 0; finished = f; delivered = 0 })
+      → Goes old c pulled before i ms (record { popped = n; issued = 0; finished = f; delivered = 0 }) answer
+  goes_collected = goes_issued (repeats_none step.Issue (still c)) carried (lanes_none ms)
 
 pub goes_taken : {E : Type 0} {answer : Result Turn E} {old : Kernel} {b : Kept} {pulled : Put} {reaped : List Cqe} {i : Intake} {n : ℕ}
     → HasTaken old b pulled reaped i n

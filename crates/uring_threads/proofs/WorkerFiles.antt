@@ -13,19 +13,6 @@ use Rattle.uring_threads.specs.SettledWorker.{AreSettled, HaveFiles}
 use Rattle.uring_workers.specs.Work.{place_of_file}
 use Rattle.uring_workers.specs.Worker.{Worker, IsRight}
 
-pub own_file : (kept : Kept) (files : ℕ) (workers : List Worker) (fd : ℤ) (e : Worker)
-    → kept.setup.files ≡ files → AreSettled kept workers
-    → length (get_or workers (place_of_file (length workers) files fd) e).files ≡ files
-    → IsRight (get_or workers (place_of_file (length workers) files fd) e)
-    → AgreeAt fd (files_of kept.setup (now kept)) (get_or workers (place_of_file (length workers) files fd) e).files
-own_file kept files workers fd e same settled many right =
-    let w : ℕ → Worker = λ n. get_or workers (place_of_file (length workers) n fd) e in
-    (settled e).files fd
-    ∙ ap (λ n. file_of (files_left (empty_files kept.setup.files) (w n).done) fd) same
-    ∙ ap (λ n. file_of (files_left (empty_files n) (w files).done) fd) (same ∙ sym many)
-    ∙ ap (λ fs. file_of fs fd) (sym right.files)
-
--- the same at a place that was looked up
 pub file_at : (kept : Kept) (files : ℕ) (workers : List Worker) (fd : ℤ) (place : ℕ) (d e : Worker)
     → kept.setup.files ≡ files → AreSettled kept workers
     → place ≡ place_of_file (length workers) files fd → place < length workers
@@ -34,7 +21,13 @@ pub file_at : (kept : Kept) (files : ℕ) (workers : List Worker) (fd : ℤ) (pl
     → AgreeAt fd (files_of kept.setup (now kept)) (get_or workers place e).files
 file_at kept files workers fd place d e same settled here within have right =
     let k : ℕ = place_of_file (length workers) files fd in
-    own_file kept files workers fd e same settled (have.each k e (subst (λ n. n < length workers) here within)) (subst (λ n. IsRight (get_or workers n e)) here (subst IsRight (get_or_default workers place d e within) right))
+    let w : ℕ → Worker = λ n. get_or workers (place_of_file (length workers) n fd) e in
+    let many : length (get_or workers k e).files ≡ files = have.each k e (subst (λ n. n < length workers) here within) in
+    let own : IsRight (get_or workers k e) = subst (λ n. IsRight (get_or workers n e)) here (subst IsRight (get_or_default workers place d e within) right) in
+    (settled e).files fd
+    ∙ ap (λ n. file_of (files_left (empty_files kept.setup.files) (w n).done) fd) same
+    ∙ ap (λ n. file_of (files_left (empty_files n) (w files).done) fd) (same ∙ sym many)
+    ∙ ap (λ fs. file_of fs fd) (sym own.files)
     ∙ ap (λ n. file_of (get_or workers n e).files fd) (sym here)
 
 pub state_same : (fd : ℤ) (files others : List FileContents) → AgreeAt fd files others

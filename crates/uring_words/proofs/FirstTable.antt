@@ -36,18 +36,11 @@ module _ {S : Type 0} where
   pub first_lists : (start size : ℕ) (blank : S) (more : List ℕ) → IsPowerOfTwo size → size ≤ 2 ^ 32 → start < 2 ^ 32
       → ListsAgree (suc (suc (length more))) (start ∷ start ∷ more) (map some (replicate size blank)) start size 0 [] [] [] [] (replicate size blank)
   first_lists start size blank more power fits small =
+      let words : 2 ≤ suc (suc (length more)) = omega arith in
       let many : length (replicate size blank) ≡ size = length-replicate size blank in
-      record {
-        power = power;
-        fits = fits;
-        some = omega arith;
-        many = refl;
-        places = length-map (replicate size blank) some ∙ many;
-        room = omega arith;
-        tail = start_word start small;
-        head = start_word start small;
-        begins = refl;
-        stand = tt;
-        all = omega arith;
-        stand_free = all_stand start size 0 blank power;
-      }
+      let places = length-map (replicate size blank) some ∙ many in
+      let room : length {A = S} [] ≤ 0 = omega arith in
+      let word = start_word start small in
+      let all : 0 + length (replicate size blank) ≡ length {A = S} [] + size = omega arith in
+      let stand_free = all_stand start size 0 blank power in
+      assumption tt

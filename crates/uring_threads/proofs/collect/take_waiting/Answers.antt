@@ -1,7 +1,7 @@
 use Rattle.std.proofs.Common.{rules, ◌≡◌, [], ◌++◌, arith}
 use Rattle.uring_workers.specs.WorkLanes.{results_received, results_seen}
 use Rattle.uring_threads.specs.Collected.{TakesAll}
-use Rattle.uring_threads.proofs.Draining.{drains_none, drains_one, room_left, drained}
+use Rattle.uring_threads.proofs.SettledWorkers.{drains_none, drains_one, room_left, drained}
 use Rattle.uring_threads.proofs.collect.take_waiting.Goals as goal
 
 pub loop-taken-init : goal.loop-taken-init

@@ -1,5 +1,5 @@
 use Rattle.uring_workers.specs.WorkLanes.{OnlyReceives, results_received, results_seen}
-use Rattle.uring_threads.proofs.Draining.{Drains}
+use Rattle.uring_threads.proofs.SettledWorkers.{Drains}
 use Rattle.uring_threads.proofs.collect.take_waiting.Given as goal
 
 abbrev pub invariant-loop-taken : goal.invariant-loop-taken
