@@ -7,7 +7,7 @@ ghost use Rattle.uring_dispatch.specs.IssueAndFinish.{posts_of};
 use uring_entry::{Op, Sqe, posts_completion};
 
 /// What the issue of a request is answered. The refusals are our own rule.
-#[derive(Clone, Copy, Debug, PartialEq, Eq)]
+#[derive(Clone, Copy, PartialEq, Eq)]
 pub enum Issued {
     /// It was started, with this operation.
     Run(Op),
@@ -26,7 +26,7 @@ pub enum Issued {
 }
 
 /// What the finish of a request is answered. Our own rule.
-#[derive(Clone, Copy, Debug, PartialEq, Eq)]
+#[derive(Clone, Copy, PartialEq, Eq)]
 pub enum Finished {
     /// It ended.
     Ended,
@@ -36,7 +36,7 @@ pub enum Finished {
 }
 
 /// What the end of a request posts. io_uring_enter(2), IOSQE_CQE_SKIP_SUCCESS.
-#[derive(Clone, Copy, Debug, PartialEq, Eq)]
+#[derive(Clone, Copy)]
 pub enum Posts {
     /// A completion with this user data, which is that of its entry.
     Completion(u64),
@@ -60,7 +60,7 @@ impl Posts {
 }
 
 /// What a cancel of one request finds. io_uring_enter(2), IORING_OP_ASYNC_CANCEL. Which request it may choose is our own rule.
-#[derive(Clone, Copy, Debug, PartialEq, Eq)]
+#[derive(Clone, Copy, PartialEq, Eq)]
 pub enum Found {
     /// No request that it may choose. It ends with -2 (ENOENT).
     Nobody,

@@ -11,7 +11,7 @@ use uring_core::{Answer, Core, Setup, Step};
 use uring_timelines::{Fate, Mark, explain};
 
 /// What was found of a history.
-#[derive(Clone, Copy, Debug, PartialEq, Eq)]
+#[derive(Clone, Copy)]
 pub enum Found {
     /// It is lawful by early effects.
     Lawful,

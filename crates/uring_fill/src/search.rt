@@ -34,7 +34,7 @@ pub enum Filled {
 }
 
 /// Where a search is.
-#[derive(Clone, Copy, Debug, PartialEq, Eq)]
+#[derive(Clone, Copy)]
 enum Fate {
     /// A history was found.
     Found,

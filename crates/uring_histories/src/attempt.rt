@@ -8,7 +8,7 @@ use uring_moves::Move;
 use uring_outcomes::{Ending, Files};
 
 /// How an attempt stands.
-#[derive(Clone, Copy, PartialEq, Eq)]
+#[derive(Clone, Copy)]
 pub(crate) enum Standing {
     /// What it has posted isn't the beginning of what is wanted, or a move can't be made.
     Strays,

@@ -4,7 +4,7 @@ use uring_dispatch::Posts;
 use uring_entry::Op;
 
 /// What the issue of a request is answered. The refusals are our own rule.
-#[derive(Clone, Copy, Debug, PartialEq, Eq)]
+#[derive(Clone, Copy)]
 pub enum Issued {
     /// It was started, with this operation.
     Run(Op),

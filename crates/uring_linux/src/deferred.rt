@@ -1,7 +1,7 @@
 //! A group that is deferred.
 
 /// A group that is deferred: its members are the numbers from its first on and below its end. docs/PROTOCOL.md, Drains.
-#[derive(Clone, Copy, Debug, PartialEq, Eq)]
+#[derive(Clone, Copy)]
 pub(crate) struct Deferred {
     pub(crate) from: u64,
     pub(crate) end: u64,

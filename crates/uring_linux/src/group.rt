@@ -6,7 +6,7 @@ ghost use Rattle.uring_entry.specs.Groups.{earlier_of};
 ghost use Rattle.uring_linux.specs.Groups as spec;
 
 /// What is to be known of a group, also of its members that have ended. It's kept with the first member.
-#[derive(Clone, Copy, Debug, PartialEq, Eq)]
+#[derive(Clone, Copy)]
 pub(crate) struct Group {
     /// The number of its first member.
     pub(crate) from: u64,

@@ -4,7 +4,7 @@ use crate::group::Group;
 use uring_entry::Sqe;
 
 /// What is kept of one request.
-#[derive(Clone, Copy, Debug, PartialEq, Eq)]
+#[derive(Clone, Copy)]
 pub(crate) struct Request {
     pub(crate) entry: Sqe,
     /// Whether its entry is faulty by itself.
@@ -22,7 +22,7 @@ pub(crate) struct Request {
 }
 
 /// What a request is looked at for.
-#[derive(Clone, Copy, Debug, PartialEq, Eq)]
+#[derive(Clone, Copy)]
 pub(crate) enum Test {
     /// It hasn't ended.
     Unended,

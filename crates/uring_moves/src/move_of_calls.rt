@@ -1,7 +1,7 @@
 //! The moves by which calls come to an outcome.
 
 /// A move: what changes anything of what calls come to. Any number may stand in one.
-#[derive(Clone, Copy, Debug, PartialEq, Eq)]
+#[derive(Clone, Copy)]
 pub enum Move {
     /// The next call is accepted.
     Accept,

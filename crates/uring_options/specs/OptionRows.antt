@@ -1,6 +1,6 @@
 -- Glue. What the rows of commands and options are to clap, and what clap's matches give a reader of them.
 use Rattle.std.specs.Prelude.{◌≡◌, ◌⊎◌, ℕ, ℤ, pos, Bool, List, [], ◌∷◌, Option, Some, None, Result, Ok, Err}
-use Rattle.clap.specs.Simple.{App, new_app, with_rule}
+use Rattle.clap.specs.Simple.{App, new_app, with_rule, with_subcommand}
 use Rattle.clap.specs.Values.{Accepts, read_as, reading_of}
 use Rattle.clap.specs.Walk.{Row, Rule, Text, one_of}
 use Rattle.clap.specs.declared.builder.value_parser.ValueParser.{ValueParser}
@@ -30,6 +30,11 @@ with_rows_of app (row ∷ rows) = with_rows_of (with_rule app (rule_of_row row))
 -- the command of a row
 abbrev pub app_of_row : CommandRow → App
 app_of_row row = with_rows_of (new_app row.name.now) row.options.now
+
+-- a command with the commands of these rows, in their order
+abbrev pub with_command_rows : App → List CommandRow → App
+with_command_rows app [] = app
+with_command_rows app (row ∷ rows) = with_command_rows (with_subcommand app (app_of_row row).top) rows
 
 -- the parser of an option
 abbrev pub parser_for : Option (ℕ × ℕ) → ValueParser

@@ -4,8 +4,8 @@ ghost use Rattle.std.specs.Prelude.{◌≡◌, IfOk, codes, false};
 ghost use Rattle.clap.specs.Words.{app_of, rule_of, with_rule};
 ghost use Rattle.clap.specs.Simple.{new_app, with_subcommand};
 ghost use Rattle.clap.specs.declared.builder.command.Command.TheViews.{out-Command};
-ghost use Rattle.uring_options.specs.OptionRows.{app_of_row, rule_of_row, with_rows_of};
-ghost use Rattle.uring_options.specs.CommandLine.{option_rule, flag_rule, uring};
+ghost use Rattle.uring_options.specs.OptionRows.{app_of_row, rule_of_row, with_command_rows, with_rows_of};
+ghost use Rattle.uring_options.specs.CommandLine.{Run, app_for, option_rule, flag_rule, uring};
 
 use crate::helps::{CLAIMS, IMAGES, ITEMS, REASONS, RECORDS, SEEN, STEPS};
 use crate::option_rows::{
@@ -17,7 +17,7 @@ use clap::builder::ValueParser;
 use clap::{Arg, ArgAction, Command};
 use std::alloc::{AllocError, Global};
 
-/// A command under `uring`.
+/// A command under `uring`. A function makes each: where a text stands, each step of a table has it, so none stands beside a command line.
 #[derive(Clone, Copy)]
 pub(crate) struct CommandRow {
     name: &'static str,
@@ -27,81 +27,112 @@ pub(crate) struct CommandRow {
 }
 
 /// `uring trace`.
-static TRACE: CommandRow = CommandRow {
-    name: "trace",
-    about: "Read steps from standard input, a line each, and write the answer to each",
-    after_help: STEPS,
-    options: &[SQ, CQ, FILES, START, STOP, LINUX, ECHO, STRICT],
-};
+fn trace() -> CommandRow
+    ensures { app_of_row result ≡ app_for Run.Traces }
+{
+    CommandRow {
+        name: "trace",
+        about: "Read steps from standard input, a line each, and write the answer to each",
+        after_help: STEPS,
+        options: &[SQ, CQ, FILES, START, STOP, LINUX, ECHO, STRICT],
+    }
+}
 
 /// `uring explain`.
-static EXPLAIN: CommandRow = CommandRow {
-    name: "explain",
-    about: "Do as trace does, and write the reason after each answer",
-    after_help: REASONS,
-    options: &[
-        SQ, CQ, FILES, START, STOP, LINUX, GRAPH, GRAPH_AT, TIMELINE, PAGE, JSON,
-    ],
-};
+fn explain() -> CommandRow
+    ensures { app_of_row result ≡ app_for Run.Explains }
+{
+    CommandRow {
+        name: "explain",
+        about: "Do as trace does, and write the reason after each answer",
+        after_help: REASONS,
+        options: &[
+            SQ, CQ, FILES, START, STOP, LINUX, GRAPH, GRAPH_AT, TIMELINE, PAGE, JSON,
+        ],
+    }
+}
 
 /// `uring check`.
-static CHECK: CommandRow = CommandRow {
-    name: "check",
-    about: "Read a recorded trace, a step with its answer on each line, and tell whether it is lawful",
-    after_help: RECORDS,
-    options: &[
-        SQ, CQ, FILES, START, STOP, LINUX, ALL, APART, ALLOWED, PAGE, JSON, EARLY, MOVES,
-    ],
-};
+fn check() -> CommandRow
+    ensures { app_of_row result ≡ app_for Run.Checks }
+{
+    CommandRow {
+        name: "check",
+        about: "Read a recorded trace, a step with its answer on each line, and tell whether it is lawful",
+        after_help: RECORDS,
+        options: &[
+            SQ, CQ, FILES, START, STOP, LINUX, ALL, APART, ALLOWED, PAGE, JSON, EARLY, MOVES,
+        ],
+    }
+}
 
 /// `uring play`.
-static PLAY: CommandRow = CommandRow {
-    name: "play",
-    about: "Read calls from standard input, play them in threads, and write their completions",
-    after_help: ITEMS,
-    options: &[SQ, CQ, FILES, START, LINUX, WORKERS, SHARED],
-};
+fn play() -> CommandRow
+    ensures { app_of_row result ≡ app_for Run.Plays }
+{
+    CommandRow {
+        name: "play",
+        about: "Read calls from standard input, play them in threads, and write their completions",
+        after_help: ITEMS,
+        options: &[SQ, CQ, FILES, START, LINUX, WORKERS, SHARED],
+    }
+}
 
 /// `uring crash`.
-static CRASH: CommandRow = CommandRow {
-    name: "crash",
-    about: "Read steps as trace does, let the power fail, and write what is left of a file",
-    after_help: IMAGES,
-    options: &[
-        SQ, CQ, FILES, START, STOP, LINUX, FILE, UNIT, AT, SEED, COUNT, LIST, LISTED, HOLDS, EACH,
-    ],
-};
+fn crash() -> CommandRow
+    ensures { app_of_row result ≡ app_for Run.Crashes }
+{
+    CommandRow {
+        name: "crash",
+        about: "Read steps as trace does, let the power fail, and write what is left of a file",
+        after_help: IMAGES,
+        options: &[
+            SQ, CQ, FILES, START, STOP, LINUX, FILE, UNIT, AT, SEED, COUNT, LIST, LISTED, HOLDS,
+            EACH,
+        ],
+    }
+}
 
 /// `uring outcomes`.
-static OUTCOMES: CommandRow = CommandRow {
-    name: "outcomes",
-    about: "Read calls as play does, and write everything that they may come to",
-    after_help: CLAIMS,
-    options: &[
-        SQ, CQ, FILES, START, RESULTS, CONTENTS, POWER, UNIT, MOST, NUMBER, NEVER, ALWAYS,
-    ],
-};
+fn outcomes() -> CommandRow
+    ensures { app_of_row result ≡ app_for Run.Lists }
+{
+    CommandRow {
+        name: "outcomes",
+        about: "Read calls as play does, and write everything that they may come to",
+        after_help: CLAIMS,
+        options: &[
+            SQ, CQ, FILES, START, RESULTS, CONTENTS, POWER, UNIT, MOST, NUMBER, NEVER, ALWAYS,
+        ],
+    }
+}
 
 /// `uring fill`.
-static FILL: CommandRow = CommandRow {
-    name: "fill",
-    about: "Read what was seen of a ring, and write a history that shows it",
-    after_help: SEEN,
-    options: &[SQ, CQ, FILES, START, STOP, LINUX, HISTORIES],
-};
+fn fill() -> CommandRow
+    ensures { app_of_row result ≡ app_for Run.Fills }
+{
+    CommandRow {
+        name: "fill",
+        about: "Read what was seen of a ring, and write a history that shows it",
+        after_help: SEEN,
+        options: &[SQ, CQ, FILES, START, STOP, LINUX, HISTORIES],
+    }
+}
 
 /// The program's command line.
 pub(crate) fn uring_command<'a>(alloc: Global) -> Result<Command<'a>, AllocError>
     ensures { IfOk result (λ command. app_of command ≡ uring) }
 {
-    let command = bare_command(alloc);
-    let command = with_command(alloc, command, &TRACE)?;
-    let command = with_command(alloc, command, &EXPLAIN)?;
-    let command = with_command(alloc, command, &CHECK)?;
-    let command = with_command(alloc, command, &PLAY)?;
-    let command = with_command(alloc, command, &CRASH)?;
-    let command = with_command(alloc, command, &OUTCOMES)?;
-    with_command(alloc, command, &FILL)
+    let rows = [
+        trace(),
+        explain(),
+        check(),
+        play(),
+        crash(),
+        outcomes(),
+        fill(),
+    ];
+    with_commands(alloc, bare_command(alloc), &rows)
 }
 
 /// The program's command line without its commands.
@@ -113,6 +144,20 @@ fn bare_command<'a>(alloc: Global) -> Command<'a>
         .long_about(
             "The rings of io_uring, step by step. Without a command it does `trace` with the defaults.",
         )
+}
+
+/// The command with these commands, in their order.
+fn with_commands<'a>(
+    alloc: Global,
+    mut command: Command<'a>,
+    rows: &[CommandRow],
+) -> Result<Command<'a>, AllocError>
+    ensures { IfOk result (λ more. app_of more ≡ with_command_rows (app_of command.entry) rows.now) }
+{
+    for row in rows {
+        command = with_command(alloc, command, row)?;
+    }
+    Ok(command)
 }
 
 /// The command with one command more.

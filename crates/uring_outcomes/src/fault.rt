@@ -4,7 +4,7 @@ use std::alloc::AllocError;
 use uring_dispatch::ReserveError;
 
 /// Why not all was found.
-#[derive(Clone, Copy, Debug, Drop, PartialEq, Eq)]
+#[derive(Clone, Copy, Drop)]
 pub enum WalkFault {
     /// Memory was refused.
     Memory,

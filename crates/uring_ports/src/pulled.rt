@@ -4,7 +4,7 @@ use crate::item::Item;
 use uring_entry::Cqe;
 
 /// What a pull took.
-#[derive(Clone, Copy, Debug, PartialEq, Eq)]
+#[derive(Clone, Copy)]
 pub enum Pulled {
     /// The items of one call, all of them.
     Call,

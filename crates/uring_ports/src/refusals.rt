@@ -1,7 +1,7 @@
 //! Why the application's end refuses. A refusal changes nothing.
 
 /// Why a call wasn't submitted.
-#[derive(Clone, Copy, Debug, PartialEq, Eq)]
+#[derive(Clone, Copy, PartialEq, Eq)]
 pub enum SubmitRefusal {
     /// The end was closed before.
     Closed,
@@ -20,7 +20,7 @@ pub enum SubmitRefusal {
 }
 
 /// Why the end wasn't closed.
-#[derive(Clone, Copy, Debug, PartialEq, Eq)]
+#[derive(Clone, Copy, PartialEq, Eq)]
 pub enum CloseRefusal {
     /// It was closed before.
     Closed,

@@ -5,7 +5,7 @@ use uring_outcomes::WalkFault;
 use uring_volume::ImagesError;
 
 /// Why not all was found.
-#[derive(Clone, Copy, Debug, Drop, PartialEq, Eq)]
+#[derive(Clone, Copy, Drop)]
 pub enum CrashFault {
     /// Memory was refused.
     Memory,

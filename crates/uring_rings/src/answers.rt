@@ -3,7 +3,7 @@
 use uring_entry::Sqe;
 
 /// What `Sq::fill` returns. The refusals, in this order, are our own rule.
-#[derive(Clone, Copy, Debug, PartialEq, Eq)]
+#[derive(Clone, Copy)]
 pub enum FillAnswer {
     /// The slot isn't below the ring's size.
     NoSlot,
@@ -16,7 +16,7 @@ pub enum FillAnswer {
 }
 
 /// What `Sq::index` returns. Our own rule: io_uring(7) leaves it to the application not to fill the ring too far.
-#[derive(Clone, Copy, Debug, PartialEq, Eq)]
+#[derive(Clone, Copy)]
 pub enum IndexAnswer {
     /// As many positions as the ring's size are staged or published at or after the head that the application last loaded.
     Full,
@@ -26,7 +26,7 @@ pub enum IndexAnswer {
 }
 
 /// What `Sq::begin` returns. The number of positions is that of io_uring_enter(2), to_submit; the refusal is our own rule.
-#[derive(Clone, Copy, Debug, PartialEq, Eq)]
+#[derive(Clone, Copy, PartialEq, Eq)]
 pub enum BeginAnswer {
     /// A call is open.
     InCall,
@@ -36,7 +36,7 @@ pub enum BeginAnswer {
 }
 
 /// What `Sq::take` returns. The refusals, in this order, are our own rule.
-#[derive(Clone, Copy, Debug, PartialEq, Eq)]
+#[derive(Clone, Copy, PartialEq, Eq)]
 pub enum TakeAnswer {
     /// No call is open.
     NoCall,
@@ -52,7 +52,7 @@ pub enum TakeAnswer {
 }
 
 /// What a call took, once it is closed.
-#[derive(Clone, Copy, Debug, PartialEq, Eq)]
+#[derive(Clone, Copy, PartialEq, Eq)]
 pub struct Taken {
     /// The entries accepted in this call, 0 to 4,096. io_uring_enter(2), RETURN VALUE.
     pub accepted: u32,
@@ -65,7 +65,7 @@ pub struct Taken {
 }
 
 /// What `Sq::end` returns. The refusals, in this order, are our own rule.
-#[derive(Clone, Copy, Debug, PartialEq, Eq)]
+#[derive(Clone, Copy, PartialEq, Eq)]
 pub enum EndAnswer {
     /// No call is open.
     NoCall,

@@ -16,7 +16,7 @@ use uring_memory::Memory;
 /// The completion ring, with the overflow list of the completions that don't fit it: io_uring(7), Reading completion events, and io_uring_setup(2), IORING_FEAT_NODROP. The dispatcher posts completions and stores the tail; the application reaps them and stores the head.
 ///
 /// No calls but `new` and `reserve`, and those that do the same by any memory, take memory.
-#[derive(Debug, Drop)]
+#[derive(Drop)]
 pub struct Cq {
     size: u32,
     // One past the last completion put into the ring.

@@ -4,7 +4,7 @@ ghost use Rattle.std.specs.Prelude.{◌≡◌, ◌+◌, ◌%◌, ◌^◌};
 ghost use Rattle.std.specs.Int.RustNames.{bit_and};
 
 /// An index word of a ring: a head or a tail, which runs freely and wraps at 32 bits. io_uring(7), Submitting I/O requests.
-#[derive(Clone, Copy, Debug, PartialEq, Eq)]
+#[derive(Clone, Copy, PartialEq, Eq)]
 pub struct Index(pub u32);
 
 impl Index {

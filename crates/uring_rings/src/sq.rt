@@ -17,7 +17,7 @@ use uring_memory::Memory;
 /// The submission ring: an array of index words that name slots of a table of entries, as in io_uring(7), Submitting I/O requests. The application fills slots, stages words and stores the tail; the dispatcher takes positions in calls and stores the head.
 ///
 /// No calls but `new` and `new_in` take memory. A refusal changes nothing.
-#[derive(Debug, Drop)]
+#[derive(Drop)]
 pub struct Sq {
     size: u32,
     // One past the last staged position. Not yet visible to the dispatcher: see `published`.
@@ -35,7 +35,7 @@ pub struct Sq {
 }
 
 /// How far the open submission call has come.
-#[derive(Clone, Copy, Debug, PartialEq, Eq)]
+#[derive(Clone, Copy)]
 pub struct OpenCall {
     /// The positions that it takes: once it is stopped, those that it took.
     pub count: u32,

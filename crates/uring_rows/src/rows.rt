@@ -7,7 +7,7 @@ use uring_entry::Setup;
 use uring_trace::{TraceFault, trace};
 
 /// What is said of a row.
-#[derive(Clone, Copy, Debug, Drop, PartialEq, Eq)]
+#[derive(Clone, Copy, Drop)]
 pub(crate) enum Verdict {
     /// The answers are the wanted ones.
     Same,

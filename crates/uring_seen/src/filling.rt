@@ -20,7 +20,7 @@ use uring_text::{KeptLine, push_bytes, push_number, push_text};
 use uring_trace::{Language, push_line_flaw};
 
 /// What was found of what was seen.
-#[derive(Clone, Copy, PartialEq, Eq)]
+#[derive(Clone, Copy)]
 pub enum Verdict {
     /// A history that shows it.
     Found,

@@ -22,7 +22,7 @@ pub(crate) fn names_text() -> &'static str
 }
 
 /// The name of a form.
-#[derive(Clone, Copy, Debug, PartialEq, Eq)]
+#[derive(Clone, Copy)]
 pub enum Name {
     /// A no-op.
     Nop,

@@ -9,7 +9,7 @@ use crate::forms::names_text;
 use crate::number_tokens::{file, number, operation, small_number};
 
 /// A kind of token that stands for a value.
-#[derive(Clone, Copy, Debug, PartialEq, Eq)]
+#[derive(Clone, Copy)]
 pub enum Kind {
     /// A slot's number.
     Slot,
@@ -52,7 +52,7 @@ pub enum Kind {
 }
 
 /// What may stand at a place of a line.
-#[derive(Clone, Copy, Debug, PartialEq, Eq)]
+#[derive(Clone, Copy)]
 pub enum Place {
     /// The name of a step.
     Step,

@@ -8,7 +8,7 @@ use crate::place::{Kind, Place, is_of_kind};
 use crate::tokens::is_name;
 
 /// How many tokens of a line fit, from the first on, and what may stand after them.
-#[derive(Clone, Copy, Debug, PartialEq, Eq)]
+#[derive(Clone, Copy)]
 pub struct Reach {
     /// How many tokens fit.
     pub tokens: usize,

@@ -18,7 +18,7 @@ use uring_words::{AppWords, KernelWords, TableMemory, word_ports_in};
 use uring_workers::{Gate, WorkLanes, Worker, open_all_in};
 
 /// Why there are no ends.
-#[derive(Clone, Copy, Debug, PartialEq, Eq)]
+#[derive(Clone, Copy, Debug)]
 pub enum LanesFault {
     /// A call of the set-up stops after an entry with a fault, so that it wouldn't take all that was submitted as one: our own rule.
     Stops,

@@ -18,7 +18,7 @@ use uring_ports::{Item, KernelPort};
 use uring_workers::WorkLanes;
 
 /// What the dispatcher did in a turn.
-#[derive(Clone, Copy, Debug, PartialEq, Eq)]
+#[derive(Clone, Copy, PartialEq, Eq)]
 pub struct Turn {
     /// How many items it pulled.
     pub popped: u64,

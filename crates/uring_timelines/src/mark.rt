@@ -6,14 +6,14 @@ ghost use Rattle.uring_timelines.specs.Moves.{Meets};
 use uring_entry::{Op, Outcome};
 
 /// The end of an operation: its result, and its bytes if they are known.
-#[derive(Clone, Copy, Debug, PartialEq, Eq)]
+#[derive(Clone, Copy)]
 pub struct End {
     pub res: i32,
     pub bytes: Option<[u8; 64]>,
 }
 
 /// What an event has of operations.
-#[derive(Clone, Copy, Debug, PartialEq, Eq)]
+#[derive(Clone, Copy)]
 pub enum Mark {
     /// The operation of this request starts.
     Starts { number: u64, op: Op },

@@ -8,7 +8,7 @@ use std::alloc::{AllocError, Global};
 use uring_entry::{Op, Outcome};
 
 /// An operation that runs, and its outcome if it has taken effect.
-#[derive(Clone, Copy, Debug, PartialEq, Eq)]
+#[derive(Clone, Copy)]
 pub struct Running {
     pub number: u64,
     pub op: Op,

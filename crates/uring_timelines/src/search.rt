@@ -10,7 +10,7 @@ use crate::takers::Taker;
 use std::alloc::{AllocError, Global};
 
 /// Where a search is.
-#[derive(Clone, Copy, Debug, PartialEq, Eq)]
+#[derive(Clone, Copy)]
 pub enum Fate {
     /// Moments were found.
     Explained,

@@ -12,7 +12,7 @@ use uring_entry::{Outcome, errno};
 use uring_files::{Files, is_for_files};
 
 /// An operation that takes effect, and its outcome.
-#[derive(Clone, Copy, Debug, PartialEq, Eq)]
+#[derive(Clone, Copy)]
 pub(crate) struct Taker {
     pub(crate) number: u64,
     pub(crate) outcome: Outcome,

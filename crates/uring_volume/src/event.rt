@@ -24,7 +24,7 @@ impl Model for Piece {
 }
 
 /// The bytes of a file that a sync is of. An fdatasync is a sync like any other: it leaves out what no read of the file needs.
-#[derive(Debug, Clone, Copy, PartialEq, Drop)]
+#[derive(Clone, Copy, Drop)]
 pub enum SyncRange {
     /// The whole file.
     Whole,

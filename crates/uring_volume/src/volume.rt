@@ -41,7 +41,7 @@ impl Model for Volume {
 }
 
 /// Why a write or a sync can't begin.
-#[derive(Debug, Clone, Copy, PartialEq, Drop)]
+#[derive(Clone, Copy, Drop)]
 pub enum BeginError {
     /// Memory was refused.
     OutOfMemory,
@@ -50,7 +50,7 @@ pub enum BeginError {
 }
 
 /// Why the images of a volume aren't listed.
-#[derive(Debug, Clone, Copy, PartialEq, Drop)]
+#[derive(Clone, Copy, Drop)]
 pub enum ImagesError {
     /// Memory was refused.
     OutOfMemory,

@@ -16,7 +16,7 @@ pub trait Gate: Drop {
 }
 
 /// A gate that lets each job pass at once.
-#[derive(Clone, Copy, Debug)]
+#[derive(Clone, Copy)]
 pub struct Open;
 
 impl Gate for Open {

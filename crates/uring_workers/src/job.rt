@@ -3,7 +3,7 @@
 use uring_entry::{Op, Outcome};
 
 /// A request that was started, for the worker that carries its operation out.
-#[derive(Clone, Copy, Debug, PartialEq, Eq)]
+#[derive(Clone, Copy)]
 pub struct Job {
     /// The request's number.
     pub number: u64,
@@ -13,7 +13,7 @@ pub struct Job {
 }
 
 /// How a worker has carried out the operation of a request.
-#[derive(Clone, Copy, Debug, PartialEq, Eq)]
+#[derive(Clone, Copy)]
 pub struct JobResult {
     /// The request's number.
     pub number: u64,

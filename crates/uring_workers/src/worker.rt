@@ -28,7 +28,7 @@ impl Protocol<Job> for ForFiles {
 }
 
 /// What a worker did in a turn.
-#[derive(Clone, Copy, Debug, PartialEq, Eq)]
+#[derive(Clone, Copy, PartialEq, Eq)]
 pub enum Worked {
     /// It carried out the job of the request of this number, and sent the result.
     Done(u64),

@@ -1,15 +1,14 @@
-use Rattle.std.proofs.Common.{◌∙◌, ap}
+use Rattle.std.proofs.Common.{◌∙◌, [], ◌∷◌, ap}
 use Rattle.std.proofs.lemmas.Result.{IfOk-weaker}
-use Rattle.clap.specs.Simple.{App, with_subcommand}
-use Rattle.uring_options.specs.CommandLine.{Traces, Explains, Checks, Plays, Crashes, Lists, Fills, app_for}
+use Rattle.clap.specs.Simple.{App, app_of}
+use Rattle.uring_options.specs.CommandLine.{Traces, Explains, Checks, Plays, Crashes, Lists, Fills, with_commands_of}
+use Rattle.uring_options.proofs.CommandRows.{Stand, rows_stand}
 use Rattle.uring_options.proofs.commands.uring_command.Goals as goal
 
 pub returns : goal.returns
 returns c =
-    let trace = c.in_ok-command.ensures ∙ ap (λ (a : App). with_subcommand a (app_for Traces).top) c.bare_command-command.ensures in
-    let explain = c.in_ok-command-2.ensures ∙ ap (λ (a : App). with_subcommand a (app_for Explains).top) trace in
-    let check = c.in_ok-command-3.ensures ∙ ap (λ (a : App). with_subcommand a (app_for Checks).top) explain in
-    let play = c.in_ok-command-4.ensures ∙ ap (λ (a : App). with_subcommand a (app_for Plays).top) check in
-    let crash = c.in_ok-command-5.ensures ∙ ap (λ (a : App). with_subcommand a (app_for Crashes).top) play in
-    let list = c.in_ok-command-6.ensures ∙ ap (λ (a : App). with_subcommand a (app_for Lists).top) crash in
-    IfOk-weaker c.with_command-7.result _ _ (λ more h. h ∙ ap (λ (a : App). with_subcommand a (app_for Fills).top) list) c.with_command-7.ensures
+    let rows = c.trace.result ∷ c.explain.result ∷ c.check.result ∷ c.play.result ∷ c.crash.result ∷ c.outcomes.result ∷ c.fill.result ∷ [] in
+    let runs = Traces ∷ Explains ∷ Checks ∷ Plays ∷ Crashes ∷ Lists ∷ Fills ∷ [] in
+    let stand : Stand rows runs = (c.trace.ensures, (c.explain.ensures, (c.check.ensures, (c.play.ensures, (c.crash.ensures, (c.outcomes.ensures, (c.fill.ensures, tt))))))) in
+    let all = rows_stand rows runs stand (app_of c.bare_command.result) ∙ ap (λ (a : App). with_commands_of a runs) c.bare_command.ensures in
+    IfOk-weaker c.with_commands.result _ _ (λ more made. made ∙ all) c.with_commands.ensures
