@@ -1,5 +1,6 @@
 pub mod LogBytes
 pub mod LogNumbers
+pub mod LogLengths
 pub mod LogStands
 pub mod LogFiles
 pub mod LogLaws
