@@ -7,8 +7,8 @@
  * any size and what a power failure may leave of it; it stands apart from both. A crash machine is a machine whose power may
  * fail: it keeps a volume of each of its files. Outcomes are everything that calls may come to.
  *
- * The types are in wulgach_types.h, volumes and crash machines in wulgach_crashes.h, outcomes in wulgach_outcomes.h, and makers of
- * entries in wulgach_entries.h. This header includes them.
+ * The types are in wulgach_types.h, volumes and crash machines in wulgach_crashes.h, outcomes in wulgach_outcomes.h, and the operations,
+ * with makers of their entries, in wulgach_entries.h. This header includes them.
  *
  * What is proved, and what isn't. Each function is proved to do what the contracts of the library say: after
  * any calls in any order, each answer is the one that the definitions of the protocol give for the calls before it.

@@ -1,4 +1,4 @@
-/* Wulgach: makers of entries. They aren't part of what is proved. wulgach.h includes it.
+/* Wulgach: the operations, and makers of their entries, which aren't part of what is proved. wulgach.h includes it.
  */
 #ifndef WULGACH_ENTRIES_H
 #define WULGACH_ENTRIES_H
@@ -8,6 +8,20 @@
 #ifdef __cplusplus
 extern "C" {
 #endif
+
+/* The operations, with the numbers of <linux/io_uring.h>. */
+enum wulgach_code {
+    WULGACH_OP_NOP = 0,
+    WULGACH_OP_FSYNC = 3,
+    WULGACH_OP_CANCEL = 14,
+    WULGACH_OP_READ = 22,
+    WULGACH_OP_WRITE = 23
+};
+
+/* The one operation flag that is served: a cancel of all. */
+enum wulgach_operation_flag {
+    WULGACH_CANCEL_ALL = 1
+};
 
 static inline void wulgach_entry(uint64_t entry[16], uint8_t code, uint64_t user_data, uint8_t flags, int32_t fd)
 {

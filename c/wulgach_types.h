@@ -158,13 +158,13 @@ struct wulgach_completion {
 
 /* What a running request asks for. A field that an operation hasn't is 0. */
 struct wulgach_operation {
-    uint32_t code;     /* enum wulgach_code */
-    int32_t fd;        /* READ, WRITE, FSYNC: the descriptor, whether there is such a file or not */
-    uint64_t off;      /* READ, WRITE: the offset in bytes, below 2^64 - 1 */
-    uint64_t target;   /* CANCEL: the user data (a cancel never runs: it ends as it is issued) */
-    uint32_t len;      /* READ, WRITE: how many bytes, 0 to 64 */
-    uint32_t all;      /* CANCEL: 1 if it is one of all, else 0 */
-    uint8_t bytes[64]; /* WRITE: the data */
+    uint32_t code;     /* enum wulgach_code, of wulgach_entries.h */
+    int32_t fd;        /* the descriptor of its file, whether there is such a file or not */
+    uint64_t off;      /* the offset in bytes, below 2^64 - 1 */
+    uint64_t target;   /* of a cancel: the user data (a cancel never runs: it ends as it is issued) */
+    uint32_t len;      /* how many bytes, 0 to 64 */
+    uint32_t all;      /* of a cancel: 1 if it is one of all, else 0 */
+    uint8_t bytes[64]; /* the data */
 };
 
 /* Which case of why a request stands as it does: exactly one. */
@@ -220,20 +220,7 @@ struct wulgach_file {
     uint32_t len;    /* its length in bytes: at most 65,536 */
 };
 
-/* Operations and flags of an entry, with the numbers of <linux/io_uring.h>. */
-enum wulgach_code {
-    WULGACH_OP_NOP = 0,
-    WULGACH_OP_FSYNC = 3,
-    WULGACH_OP_CANCEL = 14,
-    WULGACH_OP_READ = 22,
-    WULGACH_OP_WRITE = 23
-};
-
-/* The one operation flag that is served: a cancel of all. */
-enum wulgach_operation_flag {
-    WULGACH_CANCEL_ALL = 1
-};
-
+/* Flags of an entry, with the numbers of <linux/io_uring.h>. */
 enum wulgach_flag {
     WULGACH_IO_DRAIN = 2,
     WULGACH_IO_LINK = 4,

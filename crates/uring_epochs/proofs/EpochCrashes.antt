@@ -9,7 +9,9 @@ use Rattle.uring_volume.proofs.Painting.{below_or_from}
 use Rattle.uring_entry.specs.Setup.{Setup}
 use Rattle.uring_entry.specs.Requests.{Requests, operation_running}
 use Rattle.uring_entry.specs.declared.operation.Op.{Op}
-use Rattle.uring_entry.specs.declared.operation.Op.TheVariants.{Write, Fsync}
+use Rattle.uring_files.specs.Operations.{change_by}
+use Rattle.uring_files.specs.declared.change.Change.{Change}
+use Rattle.uring_files.specs.declared.change.Change.TheVariants.{Nothing, Put, Sync}
 use Rattle.std.proofs.Math.ListN.{get_or-eq_default}
 use Rattle.uring_files.specs.Contents.{FileContents, file_of_bytes, empty_files, max_len}
 use Rattle.uring_volume.specs.Images.{IsImage}
@@ -22,7 +24,7 @@ use Rattle.uring_core.specs.declared.step.Step.{Step}
 use Rattle.uring_core.specs.declared.step.Step.TheVariants as step
 use Rattle.uring_core.specs.declared.answer.Answer.{Answer}
 use Rattle.uring_core.specs.declared.answer.Answer.TheVariants as answer
-use Rattle.uring_epochs.specs.Logs.{Log, log_on, log_from, logged, begun, begun_of, finished, finished_of}
+use Rattle.uring_epochs.specs.Logs.{Log, log_on, log_from, logged, shown_length, change_begun, change_ended, begun, begun_of, finished, finished_of}
 use Rattle.uring_epochs.specs.Epochs.{CrashMachine, Epoch, FitsRun, IsRun, AreLeft, AreImages, IsImageBy, IsLeftAt, begun_on, first_files, file_at, logs_on, volume_of}
 use Rattle.uring_epochs.proofs.Noted.{map_same, first_many, first_empty, first_at, logs_at}
 
@@ -39,15 +41,21 @@ event_if : (b : Bool) (e : Event) (v : Volume)
 event_if true e v = (refl, refl)
 event_if false e v = (refl, refl)
 
+change_begun_keeps : (n : ℕ) (c : Change) (log : Log) → Keeps log (change_begun n c log)
+change_begun_keeps n (Put fd off len bytes given) log = keeps_if _ log _ (refl, refl)
+change_begun_keeps n (Sync fd) log = keeps_if _ log _ (refl, refl)
+change_begun_keeps n Nothing log = (refl, refl)
+
+change_ended_keeps : (n : ℕ) (c : Change) (res : ℤ) (log : Log) → Keeps log (change_ended n c res log)
+change_ended_keeps n (Put fd off len bytes given) res log = keeps_if _ log _ (event_if _ _ log.volume)
+change_ended_keeps n (Sync fd) res log = keeps_if _ log _ (event_if _ _ log.volume)
+change_ended_keeps n Nothing res log = (refl, refl)
+
 pub begun_keeps : (n : ℕ) (op : Op) (log : Log) → Keeps log (begun n op log)
-begun_keeps n (Write fd off len bytes) log = keeps_if _ log _ (refl, refl)
-begun_keeps n (Fsync fd) log = keeps_if _ log _ (refl, refl)
-begun_keeps n _ log = (refl, refl)
+begun_keeps n op log = change_begun_keeps n (change_by op (shown_length log.volume)) log
 
 pub finished_keeps : (n : ℕ) (op : Op) (res : ℤ) (log : Log) → Keeps log (finished n op res log)
-finished_keeps n (Write fd off len bytes) res log = keeps_if _ log _ (event_if _ _ log.volume)
-finished_keeps n (Fsync fd) res log = keeps_if _ log _ (event_if _ _ log.volume)
-finished_keeps n _ res log = (refl, refl)
+finished_keeps n op res log = change_ended_keeps n (change_by op (shown_length log.volume)) res log
 
 begun_of_keeps : (n : ℕ) (op : Option Op) (log : Log) → Keeps log (begun_of n op log)
 begun_of_keeps n None log = (refl, refl)

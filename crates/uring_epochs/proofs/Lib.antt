@@ -1,6 +1,7 @@
 -- In the order in which they are best read.
 -- A log of the requests on one file, and the volume beside it:
 pub mod LogNumbers
+pub mod LogLengths
 pub mod LogBytes
 pub mod LogStands
 pub mod LogFiles

@@ -1,7 +1,7 @@
 -- What a read of the volume shows is the file of the machine.
-use Rattle.std.proofs.Common.{◌≡◌, ◌+◌, ◌==◌, ◌&&◌, ◌⊎◌, ℕ, zero, suc, ℤ, Bool, true, false, not, cond, List, [], ◌∷◌, ◌++◌, take, Option, Some, None, refl, sym, subst, ap, ◌∙◌, inl, inr, leb, ltb}
+use Rattle.std.proofs.Common.{◌≡◌, ◌+◌, ◌==◌, ◌&&◌, ◌⊎◌, ℕ, zero, suc, ℤ, Bool, true, false, not, cond, List, [], ◌∷◌, ◌++◌, length, take, Option, Some, None, refl, sym, subst, ap, ◌∙◌, inl, inr, leb, ltb}
 use Rattle.std.specs.Prelude.{pos, negsuc, neg_ℤ, replicate, slice_get}
-use Rattle.std.specs.Option.{option_map}
+use Rattle.std.specs.Option.{option_map_or}
 use Rattle.std.specs.Ordering.{int_eq}
 use Rattle.std.proofs.lemmas.Option.{get_or_from_slice_get}
 use Rattle.std.proofs.lemmas.Bool.{cases_Bool, both_ways, cond-true, cond-false, and_parts, and_from, eqb-true, leb-false, lt-ltb}
@@ -9,14 +9,15 @@ use Rattle.std.proofs.lemmas.Bool.Decides.{Decides-int_eq}
 use Rattle.uring_entry.specs.Setup.{Setup}
 use Rattle.uring_entry.specs.Preparation.{operation_of}
 use Rattle.uring_entry.specs.Requests.{Requests, entry_of, is_running, operation_running}
-use Rattle.uring_entry.specs.declared.errno.TheConstants.{EFBIG, ENOMEM}
 use Rattle.uring_entry.specs.declared.operation.Op.{Op}
-use Rattle.uring_entry.specs.declared.operation.Op.TheVariants.{Write, Fsync}
 use Rattle.uring_entry.specs.declared.operation.Outcome.{Outcome}
-use Rattle.uring_files.specs.Contents.{FileContents, empty_file, empty_files, max_len, is_too_long, overwritten, written, with_writes_synced}
-use Rattle.uring_files.specs.Operations.{file_of, with_changed, after, IsOutcome, on_file, ended_with}
-use Rattle.uring_files.specs.Laws.{WritesOver}
-use Rattle.uring_files.proofs.StandAlone.{changed_same, others_stay}
+use Rattle.uring_files.specs.Contents.{FileContents, empty_file, empty_files, overwritten}
+use Rattle.uring_files.specs.Operations.{file_of, after, file_asked, change_by, bytes_after, IsOutcome}
+use Rattle.uring_files.specs.declared.change.Change.{Change}
+use Rattle.uring_files.specs.declared.change.Change.TheVariants.{Nothing, Put, Sync}
+use Rattle.uring_files.specs.Laws.{is_on, file_changed, WritesOver}
+use Rattle.uring_files.proofs.Changes.{there_before, changes_tell_bytes, changes_are_asked}
+use Rattle.uring_volume.specs.Images.{length_over}
 use Rattle.uring_volume.specs.Volume.{Volume, ended, IsShown, is_one_of, running_writes, running_syncs, with_event, with_write, with_sync}
 use Rattle.uring_volume.specs.declared.event.SyncRange.TheVariants.{Whole}
 use Rattle.uring_volume.specs.declared.event.Event.TheVariants.{WriteEnded, SyncEnded, SyncFailed}
@@ -32,11 +33,12 @@ use Rattle.uring_core.specs.declared.answer.Answer.{Answer}
 use Rattle.uring_core.specs.declared.answer.Answer.TheVariants as answer
 use Rattle.uring_core.proofs.FileHistory.{files_ended, files_kept_from}
 use Rattle.uring_core.proofs.Moves.{Move, stays, accepts, starts, ends_doomed, ends_cancel, ends_run, move_of}
-use Rattle.uring_epochs.specs.Logs.{Log, log_on, log_from, log_of, logged, number_of, has_effect, begun, begun_of, finished, finished_of, write_ended, sync_with}
+use Rattle.uring_epochs.specs.Logs.{Log, log_on, log_from, log_of, logged, number_of, shown_length, change_begun, change_ended, begun_of, finished_of, write_ended, sync_with}
 use Rattle.uring_epochs.specs.Epochs.{Epoch, IsLawfulFrom, files_from, file_at}
 use Rattle.uring_epochs.proofs.LawfulFrom.{lawful_new, apart_from}
 use Rattle.uring_epochs.proofs.LogBytes.{shown_more, shown_same}
-use Rattle.uring_epochs.proofs.LogStands.{Stands, stands_from, quiet}
+use Rattle.uring_epochs.proofs.EpochCrashes.{from_keeps}
+use Rattle.uring_epochs.proofs.LogStands.{Stands, change_of, stands_from, quiet}
 
 -- what the log shows of the file of its descriptor, if there is one
 abbrev Shows : List ℕ → ℤ → List FileContents → Log → Type 0
@@ -69,28 +71,28 @@ shows_same : (first : List ℕ) (fd : ℤ) (files : List FileContents) (log now 
     → ended now.volume.history ≡ ended log.volume.history → Shows first fd files log → Shows first fd files now
 shows_same first fd files log now same shows = λ file is. shown_same first log.volume.history now.volume.history file.bytes same (shows file is)
 
-begun_same : (n : ℕ) (op : Op) (log : Log)
-    → ended (begun n op log).volume.history ≡ ended log.volume.history
-begun_same n (Write own off len bytes) log =
-    let test : Bool = int_eq log.fd own && has_effect off len in
+begun_same : (n : ℕ) (c : Change) (log : Log)
+    → ended (change_begun n c log).volume.history ≡ ended log.volume.history
+begun_same n (Put own off len bytes given) log =
+    let test : Bool = int_eq log.fd own in
     let more : Log = record log { volume = with_write off (take len bytes) log.volume; requests = n ∷ log.requests } in
     elim (cases_Bool test) [
       | inl sure ↦ ap (λ (l : Log). ended l.volume.history) (cond-true test more log sure)
       | inr fails ↦ ap (λ (l : Log). ended l.volume.history) (cond-false test more log fails)
     ]
-begun_same n (Fsync own) log =
+begun_same n (Sync own) log =
     let test : Bool = int_eq log.fd own in
     let more : Log = record log { volume = with_sync Whole log.volume; requests = n ∷ log.requests } in
     elim (cases_Bool test) [
       | inl sure ↦ ap (λ (l : Log). ended l.volume.history) (cond-true test more log sure)
       | inr fails ↦ ap (λ (l : Log). ended l.volume.history) (cond-false test more log fails)
     ]
-begun_same n _ log = refl
+begun_same n Nothing log = refl
 
 begun_of_same : (n : ℕ) (op : Option Op) (log : Log)
     → ended (begun_of n op log).volume.history ≡ ended log.volume.history
 begun_of_same n None log = refl
-begun_of_same n (Some op) log = begun_same n op log
+begun_of_same n (Some op) log = begun_same n (change_by op (shown_length log.volume)) log
 
 sync_same : (res : ℤ) (k : ℕ) (v : Volume) (good runs : Bool)
     → ended (cond runs (with_event (cond good (SyncEnded k) (SyncFailed k)) v) v).history ≡ ended v.history
@@ -98,142 +100,100 @@ sync_same res k v true true = refl
 sync_same res k v false true = refl
 sync_same res k v good false = refl
 
--- A file that a change has made.
+-- A change that ended.
 
-changed_is : (files : List FileContents) (fd : ℤ) (change : FileContents → FileContents) (old : Option FileContents) (file : FileContents)
-    → file_of files fd ≡ old → option_map change old ≡ Some file
-    → (was : FileContents) × (file_of files fd ≡ Some was) × (change was ≡ file)
-changed_is files fd change None file is e = let f : None ≡ Some file = e in absurd cc
-changed_is files fd change (Some was) file is e =
-    let f : Some (change was) ≡ Some file = e in
-    let same : change was ≡ file = cc in
-    (was, is, same)
-
--- a write that is too long can't have ended well
-too_long : (files : List FileContents) (own : ℤ) (off len : ℕ) (given : List ℕ) (was : FileContents) (res : ℤ) (bytes : List ℕ)
-    → file_of files own ≡ Some was → is_too_long off len ≡ true
-    → IsOutcome files (Write own off len given) (record { res = res; bytes = bytes })
-    → res ≡ pos len → ⊥
-too_long files own off len given was res bytes is long (inl called) good =
-    let outcome : record { res = res; bytes = bytes } ≡ ended_with (neg_ℤ EFBIG) = called ∙ ap (λ (o : Option FileContents). on_file o (λ file. ended_with (cond (is_too_long off len) (neg_ℤ EFBIG) (pos len)))) is ∙ ap ended_with (cond-true (is_too_long off len) (neg_ℤ EFBIG) (pos len) long) in
-    let e : pos len ≡ neg_ℤ EFBIG = sym good ∙ ap (λ (o : Outcome). o.res) outcome in
-    absurd cc
-too_long files own off len given was res bytes is long (inr (longer, refused)) good =
-    let e : pos len ≡ neg_ℤ ENOMEM = sym good ∙ ap (λ (o : Outcome). o.res) refused in
-    absurd cc
-
--- without an effect a write has no bytes, or is too long
-no_effect : (off len : ℕ) → has_effect off len ≡ false → (len ≡ 0) ⊎ (is_too_long off len ≡ true)
-no_effect off len none = elim (cases_Bool (len == 0)) [
-  | inl zero_long ↦ inl (eqb-true len 0 zero_long)
-  | inr other ↦
-      let some : not (len == 0) ≡ true = ap not other in
-      let past : leb (off + len) max_len ≡ false = elim (cases_Bool (leb (off + len) max_len)) [
-        | inl fits ↦ absurd (both_ways (has_effect off len) none (and_from (not (len == 0)) (leb (off + len) max_len) some fits))
-        | inr out ↦ out
-      ] in
-      inr (and_from (not (len == 0)) (ltb max_len (off + len)) some (lt-ltb max_len (off + len) (leb-false (off + len) max_len past)))
-]
-
--- A write that ended.
-
-write_shown : WritesOver → (first : List ℕ) (fd : ℤ) (r : Requests) (n : ℕ) (files : List FileContents) (log : Log) (off len : ℕ) (given : List ℕ) (res : ℤ) (bytes : List ℕ)
-    → Stands fd r log → is_running r n ≡ true → operation_of (entry_of r n) ≡ Write fd off len given
-    → IsOutcome files (Write fd off len given) (record { res = res; bytes = bytes })
-    → int_eq res (pos len) ≡ true → Shows first fd files log
-    → (was : FileContents) → file_of files fd ≡ Some was
-    → IsShown first (finished n (Write fd off len given) res log).volume.history (overwritten was.bytes off (take len given))
-write_shown over first fd r n files log off len given res bytes s running is called good shows was here =
+-- bytes that were put
+put_shown : WritesOver → (first : List ℕ) (fd : ℤ) (r : Requests) (n : ℕ) (log : Log) (off len : ℕ) (put : List ℕ) (given res : ℤ) (old : List ℕ)
+    → Stands fd r log → is_running r n ≡ true → change_of r n log ≡ Put fd off len put given
+    → IsShown first log.volume.history old
+    → IsShown first (change_ended n (Put fd off len put given) res log).volume.history (bytes_after (Put fd off len put given) res old)
+put_shown over first fd r n log off len put given res old s running is shown =
     let k : ℕ = number_of n log.requests in
     let on : int_eq log.fd fd ≡ true = (Decides-int_eq log.fd fd).1 s.file in
-    let test : Bool = int_eq log.fd fd && has_effect off len && int_eq res (pos len) in
+    let test : Bool = int_eq log.fd fd && int_eq res given in
     let more : Log = record log { volume = write_ended k log.volume } in
-    let of : Log → Type 0 = λ l. IsShown first l.volume.history (overwritten was.bytes off (take len given)) in
-    elim (cases_Bool (has_effect off len)) [
-      | inl sure ↦
-          let passed : test ≡ true = and_from (int_eq log.fd fd && has_effect off len) (int_eq res (pos len)) (and_from (int_eq log.fd fd) (has_effect off len) on sure) good in
-          let runs = s.writes n fd off len given running is on sure in
+    let left : List ℕ = overwritten old off (take len put) in
+    elim (cases_Bool (int_eq res given)) [
+      | inl good ↦
+          let passed : test ≡ true = and_from (int_eq log.fd fd) (int_eq res given) on good in
+          let runs = s.writes n fd off len put given running is on in
           let ends : write_ended k log.volume ≡ with_event (WriteEnded k) log.volume = cond-true (is_one_of k (running_writes log.volume.history)) (with_event (WriteEnded k) log.volume) log.volume runs.running in
-          let last : ended (with_event (WriteEnded k) log.volume).history ≡ ended log.volume.history ++ record { number = k; off = off; bytes = take len given } ∷ [] = ap (λ ws. ended log.volume.history ++ ws) runs.is in
-          subst of (sym (cond-true test more log passed)) (subst (λ (v : Volume). of (record log { volume = v })) (sym ends)
-          (shown_more over first log.volume.history (with_event (WriteEnded k) log.volume).history was.bytes (take len given) k off last (shows was here)))
-      | inr none ↦
-          let failed : test ≡ false = ap (λ (b : Bool). (int_eq log.fd fd && b) && int_eq res (pos len)) none ∙ ap (λ (b : Bool). (b && false) && int_eq res (pos len)) on in
-          let short : len ≡ 0 = elim (no_effect off len none) [
-            | inl zero_long ↦ zero_long
-            | inr long ↦ absurd (too_long files fd off len given was res bytes here long called ((Decides-int_eq res (pos len)).0 good))
-          ] in
-          let same : overwritten was.bytes off (take len given) ≡ was.bytes = ap (λ (l : ℕ). overwritten was.bytes off (take l given)) short in
-          subst of (sym (cond-false test more log failed)) (subst (λ (bs : List ℕ). IsShown first log.volume.history bs) (sym same) (shows was here))
+          let last : ended (with_event (WriteEnded k) log.volume).history ≡ ended log.volume.history ++ record { number = k; off = off; bytes = take len put } ∷ [] = ap (λ ws. ended log.volume.history ++ ws) runs.is in
+          subst (λ (l : Log). IsShown first l.volume.history (cond (int_eq res given) left old)) (sym (cond-true test more log passed))
+          (subst (λ (bs : List ℕ). IsShown first more.volume.history bs) (sym (cond-true (int_eq res given) left old good))
+          (subst (λ (v : Volume). IsShown first v.history left) (sym ends)
+          (shown_more over first log.volume.history (with_event (WriteEnded k) log.volume).history old (take len put) k off last shown)))
+      | inr bad ↦
+          let failed : test ≡ false = ap (λ (b : Bool). b && int_eq res given) on ∙ bad in
+          subst (λ (l : Log). IsShown first l.volume.history (cond (int_eq res given) left old)) (sym (cond-false test more log failed))
+          (subst (λ (bs : List ℕ). IsShown first log.volume.history bs) (sym (cond-false (int_eq res given) left old bad)) shown)
     ]
 
--- a write of another file, or one that failed
-write_unlogged : (n : ℕ) (log : Log) (own : ℤ) (off len : ℕ) (given : List ℕ) (res : ℤ)
-    → (int_eq log.fd own ≡ false) ⊎ (int_eq res (pos len) ≡ false)
-    → finished n (Write own off len given) res log ≡ log
-write_unlogged n log own off len given res why =
-    let test : Bool = int_eq log.fd own && has_effect off len && int_eq res (pos len) in
-    elim (cases_Bool test) [
-      | inl sure ↦
-          let parts = and_parts (int_eq log.fd own && has_effect off len) (int_eq res (pos len)) sure in
-          elim why [
-            | inl other ↦ absurd (both_ways (int_eq log.fd own) other (and_parts (int_eq log.fd own) (has_effect off len) parts.0).0)
-            | inr bad ↦ absurd (both_ways (int_eq res (pos len)) bad parts.1)
-          ]
-      | inr fails ↦ cond-false test (record log { volume = write_ended (number_of n log.requests) log.volume }) log fails
-    ]
+-- bytes that were put into another file
+put_apart : (n : ℕ) (log : Log) (own : ℤ) (off len : ℕ) (put : List ℕ) (given res : ℤ)
+    → int_eq log.fd own ≡ false → change_ended n (Put own off len put given) res log ≡ log
+put_apart n log own off len put given res other =
+    cond-false (int_eq log.fd own && int_eq res given) (record log { volume = write_ended (number_of n log.requests) log.volume }) log (ap (λ (b : Bool). b && int_eq res given) other)
 
-shows_finished : WritesOver → (first : List ℕ) (fd : ℤ) (r : Requests) (n : ℕ) (files : List FileContents) (log : Log) (op : Op) (res : ℤ) (bytes : List ℕ)
-    → Stands fd r log → is_running r n ≡ true → operation_of (entry_of r n) ≡ op
-    → IsOutcome files op (record { res = res; bytes = bytes }) → Shows first fd files log
-    → Shows first fd (after files op res) (finished n op res log)
-shows_finished over first fd r n files log (Write own off len given) res bytes s running is called shows =
-    elim (cases_Bool (int_eq fd own)) [
-      | inl here ↦
-          let at : fd ≡ own = (Decides-int_eq fd own).0 here in
-          elim (cases_Bool (int_eq res (pos len))) [
-            | inl good ↦ λ file there.
-                let went : file_of (with_changed files own (written off (take len given))) fd ≡ Some file = ap (λ fs. file_of fs fd) (sym (cond-true (int_eq res (pos len)) (with_changed files own (written off (take len given))) files good)) ∙ there in
-                let moved : file_of (with_changed files fd (written off (take len given))) fd ≡ Some file = ap (λ (k : ℤ). file_of (with_changed files k (written off (take len given))) fd) at ∙ went in
-                let found = changed_is files fd (written off (take len given)) (file_of files fd) file refl (sym (changed_same files fd (written off (take len given))) ∙ moved) in
-                let data_same : overwritten found.0.bytes off (take len given) ≡ file.bytes = ap (λ (f : FileContents). f.bytes) found.2 in
-                let shown = write_shown over first fd r n files log off len given res bytes s running (is ∙ ap (λ (k : ℤ). Write k off len given) (sym at)) (subst (λ (k : ℤ). IsOutcome files (Write k off len given) (record { res = res; bytes = bytes })) (sym at) called) good shows found.0 found.1 in
-                subst (λ (bs : List ℕ). IsShown first (finished n (Write own off len given) res log).volume.history bs) data_same
-                (subst (λ (k : ℤ). IsShown first (finished n (Write k off len given) res log).volume.history (overwritten found.0.bytes off (take len given))) at shown)
-            | inr bad ↦ λ file there.
-                subst (λ (l : Log). IsShown first l.volume.history file.bytes) (sym (write_unlogged n log own off len given res (inr bad)))
-                (shows file (ap (λ fs. file_of fs fd) (sym (cond-false (int_eq res (pos len)) (with_changed files own (written off (take len given))) files bad)) ∙ there))
-          ]
-      | inr other ↦ λ file there.
-          let apart : int_eq log.fd own ≡ false = ap (λ (k : ℤ). int_eq k own) s.file ∙ other in
-          subst (λ (l : Log). IsShown first l.volume.history file.bytes) (sym (write_unlogged n log own off len given res (inl apart)))
-          (shows file (sym (others_stay files (Write own off len given) res fd other) ∙ there))
-    ]
-shows_finished over first fd r n files log (Fsync own) res bytes s running is called shows =
+-- a sync puts none
+sync_shown : (n : ℕ) (own res : ℤ) (log : Log)
+    → ended (change_ended n (Sync own) res log).volume.history ≡ ended log.volume.history
+sync_shown n own res log =
     let k : ℕ = number_of n log.requests in
     let test : Bool = int_eq log.fd own in
-    let same : ended (finished n (Fsync own) res log).volume.history ≡ ended log.volume.history = elim (cases_Bool test) [
+    elim (cases_Bool test) [
       | inl sure ↦
           ap (λ (l : Log). ended l.volume.history) (cond-true test (record log { volume = sync_with res k log.volume }) log sure)
           ∙ sync_same res k log.volume (int_eq res (pos 0)) (is_one_of k (running_syncs log.volume.history))
       | inr fails ↦ ap (λ (l : Log). ended l.volume.history) (cond-false test (record log { volume = sync_with res k log.volume }) log fails)
-    ] in
-    λ file there.
-    shown_same first log.volume.history (finished n (Fsync own) res log).volume.history file.bytes same
-    (elim (cases_Bool (int_eq fd own)) [
-      | inl here ↦
-          let at : fd ≡ own = (Decides-int_eq fd own).0 here in
-          elim (cases_Bool (int_eq res (pos 0))) [
-            | inl good ↦
-                let went : file_of (with_changed files own with_writes_synced) fd ≡ Some file = ap (λ fs. file_of fs fd) (sym (cond-true (int_eq res (pos 0)) (with_changed files own with_writes_synced) files good)) ∙ there in
-                let moved : file_of (with_changed files fd with_writes_synced) fd ≡ Some file = ap (λ (k : ℤ). file_of (with_changed files k with_writes_synced) fd) at ∙ went in
-                let found = changed_is files fd with_writes_synced (file_of files fd) file refl (sym (changed_same files fd with_writes_synced) ∙ moved) in
-                subst (λ (bs : List ℕ). IsShown first log.volume.history bs) (ap (λ (f : FileContents). f.bytes) found.2) (shows found.0 found.1)
-            | inr bad ↦ shows file (ap (λ fs. file_of fs fd) (sym (cond-false (int_eq res (pos 0)) (with_changed files own with_writes_synced) files bad)) ∙ there)
-          ]
-      | inr other ↦ shows file (sym (others_stay files (Fsync own) res fd other) ∙ there)
-    ])
-shows_finished over first fd r n files log _ res bytes s running is called shows = shows
+    ]
+
+-- the bytes of a file, whether the operation is on it or not, if it puts none
+unput : (on : Bool) (old now : List ℕ) → now ≡ (cond on old old) → now ≡ old
+unput true old now is = is
+unput false old now is = is
+
+-- what a change leaves of the file of the log
+change_shown : WritesOver → (first : List ℕ) (fd : ℤ) (r : Requests) (n : ℕ) (log : Log) (op : Op) (c : Change) (res : ℤ) (old now : List ℕ)
+    → Stands fd r log → is_running r n ≡ true → change_of r n log ≡ c → change_by op (shown_length log.volume) ≡ c
+    → now ≡ cond (is_on fd op) (bytes_after c res old) old
+    → IsShown first log.volume.history old
+    → IsShown first (change_ended n c res log).volume.history now
+change_shown over first fd r n log op (Put own off len put given) res old now s running is by left shown =
+    let asked : file_asked op ≡ Some own = changes_are_asked op (shown_length log.volume) own (ap file_changed by) in
+    let here : is_on fd op ≡ int_eq fd own = ap (λ o. option_map_or (int_eq fd) o false) asked in
+    let put_all : List ℕ = bytes_after (Put own off len put given) res old in
+    elim (cases_Bool (int_eq fd own)) [
+      | inl on ↦
+          let at : fd ≡ own = (Decides-int_eq fd own).0 on in
+          let same : now ≡ put_all = left ∙ cond-true (is_on fd op) put_all old (here ∙ on) in
+          subst (λ (bs : List ℕ). IsShown first (change_ended n (Put own off len put given) res log).volume.history bs) (sym same)
+          (subst (λ (k : ℤ). IsShown first (change_ended n (Put k off len put given) res log).volume.history (bytes_after (Put k off len put given) res old)) at
+          (put_shown over first fd r n log off len put given res old s running (is ∙ ap (λ (k : ℤ). Put k off len put given) (sym at)) shown))
+      | inr other ↦
+          let apart : int_eq log.fd own ≡ false = ap (λ (k : ℤ). int_eq k own) s.file ∙ other in
+          let same : now ≡ old = left ∙ cond-false (is_on fd op) put_all old (here ∙ other) in
+          subst (λ (l : Log). IsShown first l.volume.history now) (sym (put_apart n log own off len put given res apart))
+          (subst (λ (bs : List ℕ). IsShown first log.volume.history bs) (sym same) shown)
+    ]
+change_shown over first fd r n log op (Sync own) res old now s running is by left shown =
+    shown_same first log.volume.history (change_ended n (Sync own) res log).volume.history now (sync_shown n own res log)
+    (subst (λ (bs : List ℕ). IsShown first log.volume.history bs) (sym (unput (is_on fd op) old now left)) shown)
+change_shown over first fd r n log op Nothing res old now s running is by left shown =
+    subst (λ (bs : List ℕ). IsShown first log.volume.history bs) (sym (unput (is_on fd op) old now left)) shown
+
+shows_finished : WritesOver → (first : List ℕ) (fd : ℤ) (r : Requests) (n : ℕ) (files : List FileContents) (log : Log) (op : Op) (res : ℤ) (bytes : List ℕ)
+    → Stands fd r log → is_running r n ≡ true → operation_of (entry_of r n) ≡ op
+    → IsOutcome files op (record { res = res; bytes = bytes }) → log.volume.first ≡ first → Shows first fd files log
+    → Shows first fd (after files op res) (finished_of n (Some op) res log)
+shows_finished over first fd r n files log op res bytes s running is called begins shows = λ now there.
+    let was = there_before files op res fd now there in
+    let old : List ℕ = was.0.bytes in
+    let long : length old ≡ shown_length log.volume = (shows was.0 was.1).len ∙ ap (λ (bs : List ℕ). length_over (length bs) (ended log.volume.history)) (sym begins) in
+    let left = changes_tell_bytes files op (record { res = res; bytes = bytes }) fd was.0 now called was.1 there in
+    change_shown over first fd r n log op (change_by op (shown_length log.volume)) res old now.bytes s running (ap (λ (o : Op). change_by o (shown_length log.volume)) is) refl
+    (left ∙ ap (λ (l : ℕ). cond (is_on fd op) (bytes_after (change_by op l) res old) old) long)
+    (shows was.0 was.1)
 
 -- An event.
 
@@ -251,24 +211,25 @@ shows_move : WritesOver → (firsts : List FileContents) (first : List ℕ) (fd 
     → Move linux l s a q
     → ((n : ℕ) → s ≡ step.Finish n → EndsOn (files_by firsts l.requests) l.requests n (is_running l.requests n) a)
     → (IsNoFinish s → files_by firsts q ≡ files_by firsts l.requests) → Stands fd l.requests log
+    → log.volume.first ≡ first
     → Shows first fd (files_by firsts l.requests) log
     → Shows first fd (files_by firsts q) (logged l.requests q s a log)
-shows_move over firsts first fd linux l q s a log (stays _ _ no_start no_end) called kept st shows =
+shows_move over firsts first fd linux l q s a log (stays _ _ no_start no_end) called kept st begins shows =
     subst (Shows first fd (files_by firsts l.requests)) (sym (quiet l.requests l.requests s a log no_start no_end)) shows
-shows_move over firsts first fd linux l q s a log (accepts accepted missed head entries) called kept st shows =
+shows_move over firsts first fd linux l q s a log (accepts accepted missed head entries) called kept st begins shows =
     subst (λ fs. Shows first fd fs log) (sym (kept tt)) shows
-shows_move over firsts first fd linux l q s a log (starts n outstanding idle spared ready no_cancel) called kept st shows =
+shows_move over firsts first fd linux l q s a log (starts n outstanding idle spared ready no_cancel) called kept st begins shows =
     subst (λ fs. Shows first fd fs (begun_of n (operation_running q n) log)) (sym (kept tt))
     (shows_same first fd (files_by firsts l.requests) log (begun_of n (operation_running q n) log) (begun_of_same n (operation_running q n) log) shows)
-shows_move over firsts first fd linux l q s a log (ends_doomed n outstanding) called kept st shows =
+shows_move over firsts first fd linux l q s a log (ends_doomed n outstanding) called kept st begins shows =
     subst (λ fs. Shows first fd fs log) (sym (kept tt)) shows
-shows_move over firsts first fd linux l q s a log (ends_cancel n outstanding spared ready cancel) called kept st shows =
+shows_move over firsts first fd linux l q s a log (ends_cancel n outstanding spared ready cancel) called kept st begins shows =
     subst (λ fs. Shows first fd fs log) (sym (kept tt)) shows
-shows_move over firsts first fd linux l q s a log (ends_run n res bytes running) called kept st shows =
+shows_move over firsts first fd linux l q s a log (ends_run n res bytes running) called kept st begins shows =
     let op : Op = operation_of (entry_of l.requests n) in
     subst (λ fs. Shows first fd fs (finished_of n (operation_running l.requests n) res log)) (sym (files_ended l.requests n res bytes firsts))
     (subst (λ (o : Option Op). Shows first fd (after (files_by firsts l.requests) op res) (finished_of n o res log)) (sym (cond-true (is_running l.requests n) (Some op) None running))
-    (shows_finished over first fd l.requests n (files_by firsts l.requests) log op res bytes st running refl (ends_called (files_by firsts l.requests) l.requests n (is_running l.requests n) res bytes running (called n refl)) shows))
+    (shows_finished over first fd l.requests n (files_by firsts l.requests) log op res bytes st running refl (ends_called (files_by firsts l.requests) l.requests n (is_running l.requests n) res bytes running (called n refl)) begins shows))
 
 -- a Finish is called for
 finish_called : (firsts : List FileContents) (g : Setup) (s : Step) (a : Answer) (before : core.History) → IsLawfulFrom firsts g ((s, a) ∷ before)
@@ -287,7 +248,7 @@ shows_from over unit firsts first g fd ((s, a) ∷ before) start lawful =
     let apart = apart_from firsts g ((s, a) ∷ before) lawful in
     shows_move over firsts first fd g.linux (requests_of (world g before)) (world g ((s, a) ∷ before)).requests s a (log_from (log_on unit first fd) g before)
     (move_of g s a before apart) (finish_called firsts g s a before lawful) (files_kept_from firsts g s a before apart)
-    (stands_from unit first g fd before apart.1) (shows_from over unit firsts first g fd before start lawful.1)
+    (stands_from unit first g fd before apart.1) (from_keeps (log_on unit first fd) g before).1 (shows_from over unit firsts first g fd before start lawful.1)
 
 -- the same of a file that was empty
 pub shows_of : WritesOver → (unit : ℕ) (g : Setup) (fd : ℤ) (h : core.History) → IsLawful g h

@@ -1,5 +1,5 @@
 -- The laws of logs.
-use Rattle.std.proofs.Common.{◌≡◌, ℕ, true, Some, None, sym, ◌∙◌, inl, inr}
+use Rattle.std.proofs.Common.{◌≡◌, ℕ, true, Some, None, sym, ap, ◌∙◌, inl, inr}
 use Rattle.std.proofs.lemmas.Bool.{cases_Bool, cond-true, cond-false}
 use Rattle.std.proofs.lemmas.Bool.Decides.{Decides-int_eq}
 use Rattle.uring_entry.specs.Preparation.{operation_of}
@@ -7,9 +7,10 @@ use Rattle.uring_entry.specs.Requests.{Requests, entry_of, is_running, operation
 use Rattle.uring_entry.specs.declared.operation.Op.{Op}
 use Rattle.uring_files.specs.Contents.{empty_files}
 use Rattle.uring_files.specs.Laws.{WritesOver}
+use Rattle.uring_files.specs.Operations.{change_by}
 use Rattle.uring_core.specs.Histories.{world}
 use Rattle.uring_epochs.proofs.LawfulFrom.{lawful_new, apart_from}
-use Rattle.uring_epochs.specs.Logs.{log_of}
+use Rattle.uring_epochs.specs.Logs.{log_of, shown_length}
 use Rattle.uring_epochs.specs.Laws.{RunningWritesRun, RunningSyncsRun, VolumeShowsTheFile, VolumesShowTheFiles}
 use Rattle.uring_epochs.proofs.LogStands.{stands_of}
 use Rattle.uring_epochs.proofs.LogFiles.{shows_of, shows_at}
@@ -28,16 +29,16 @@ runs_as r n op is = elim (cases_Bool (is_running r n)) [
 ]
 
 pub running_writes_run : RunningWritesRun
-running_writes_run unit g fd h n off len bytes lawful is sure =
+running_writes_run unit g fd h n off len bytes given op lawful is puts =
     let s = stands_of unit g fd h (apart_from (empty_files g.files) g h (lawful_new g h lawful)) in
     let runs = runs_as (world g h).requests n _ is in
-    (s.writes n fd off len bytes runs.0 runs.1 ((Decides-int_eq (log_of unit g fd h).fd fd).1 s.file) sure).running
+    (s.writes n fd off len bytes given runs.0 (ap (λ (o : Op). change_by o (shown_length (log_of unit g fd h).volume)) runs.1 ∙ puts) ((Decides-int_eq (log_of unit g fd h).fd fd).1 s.file)).running
 
 pub running_syncs_run : RunningSyncsRun
-running_syncs_run unit g fd h n lawful is =
+running_syncs_run unit g fd h n op lawful is syncs =
     let s = stands_of unit g fd h (apart_from (empty_files g.files) g h (lawful_new g h lawful)) in
     let runs = runs_as (world g h).requests n _ is in
-    (s.syncs n fd runs.0 runs.1 ((Decides-int_eq (log_of unit g fd h).fd fd).1 s.file)).1
+    (s.syncs n fd runs.0 (ap (λ (o : Op). change_by o (shown_length (log_of unit g fd h).volume)) runs.1 ∙ syncs) ((Decides-int_eq (log_of unit g fd h).fd fd).1 s.file)).1
 
 pub volume_shows_the_file : WritesOver → VolumeShowsTheFile
 volume_shows_the_file over unit g fd h file lawful is = shows_of over unit g fd h lawful file is

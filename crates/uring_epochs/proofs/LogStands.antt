@@ -13,7 +13,10 @@ use Rattle.uring_linux.specs.LinuxRequests.{LinuxRequests}
 use Rattle.uring_rules.specs.Rules.{with_issued_end}
 use Rattle.uring_core.specs.World.{requests_of}
 use Rattle.uring_entry.specs.declared.operation.Op.{Op}
-use Rattle.uring_entry.specs.declared.operation.Op.TheVariants.{Write, Fsync}
+use Rattle.uring_files.specs.Operations.{change_by}
+use Rattle.uring_files.specs.declared.change.Change.{Change}
+use Rattle.uring_files.proofs.Changes.{change_before}
+use Rattle.uring_files.specs.declared.change.Change.TheVariants.{Nothing, Put, Sync}
 use Rattle.uring_volume.specs.Writes as piece
 use Rattle.uring_volume.specs.Events.{History}
 use Rattle.uring_volume.specs.Choices.{issued, named}
@@ -32,7 +35,8 @@ use Rattle.uring_core.proofs.Moves.{Move, stays, accepts, starts, ends_doomed, e
 use Rattle.uring_core.proofs.Running.{entry_stays}
 use Rattle.uring_core.proofs.Sound.{sound_of}
 use Rattle.uring_core.proofs.SoundRequests.{IsSoundRequests}
-use Rattle.uring_epochs.specs.Logs.{Log, log_on, log_from, log_of, logged, number_of, has_effect, begun, begun_of, finished, finished_of, write_ended, sync_with}
+use Rattle.uring_epochs.specs.Logs.{Log, log_on, log_from, log_of, logged, number_of, shown_length, change_begun, change_ended, begun, begun_of, finished, finished_of, write_ended, sync_with}
+use Rattle.uring_epochs.proofs.LogLengths.{shown_grows}
 use Rattle.uring_epochs.proofs.LogNumbers.{number_short, number_old, number_once, in_more, in_new, in_but}
 
 -- a write runs on the volume under a number
@@ -41,17 +45,21 @@ pub record Runs (h : History) (k off : ℕ) (bytes : List ℕ) : Type 0 where
   pub running : is_one_of k (running_writes h) ≡ true
   pub is : named k (issued h) ≡ record { number = k; off = off; bytes = bytes } ∷ []
 
+-- what the operation of a request changes of the file, as a log shows it
+abbrev pub change_of : Requests → ℕ → Log → Change
+change_of r n log = change_by (operation_of (entry_of r n)) (shown_length log.volume)
+
 -- what runs of the file, as the requests stand, runs in the log
 pub record Stands (fd : ℤ) (r : Requests) (log : Log) : Type 0 where
   pub file : log.fd ≡ fd
   pub next : log.volume.next ≡ suc (length log.requests)
   pub fresh : (k : ℕ) → log.volume.next ≤ k → named k (issued log.volume.history) ≡ []
-  pub writes : (m : ℕ) (own : ℤ) (off len : ℕ) (bytes : List ℕ) → is_running r m ≡ true
-      → operation_of (entry_of r m) ≡ Write own off len bytes → int_eq log.fd own ≡ true
-      → has_effect off len ≡ true
+  pub writes : (m : ℕ) (own : ℤ) (off len : ℕ) (bytes : List ℕ) (given : ℤ)
+      → is_running r m ≡ true
+      → change_of r m log ≡ Put own off len bytes given → int_eq log.fd own ≡ true
       → Runs log.volume.history (number_of m log.requests) off (take len bytes)
   pub syncs : (m : ℕ) (own : ℤ) → is_running r m ≡ true
-      → operation_of (entry_of r m) ≡ Fsync own → int_eq log.fd own ≡ true
+      → change_of r m log ≡ Sync own → int_eq log.fd own ≡ true
       → (0 < number_of m log.requests)
       × (is_one_of (number_of m log.requests) (running_syncs log.volume.history) ≡ true)
 
@@ -60,7 +68,7 @@ stands_first unit first fd = record {
   file = refl;
   next = refl;
   fresh = λ k next. refl;
-  writes = λ m own off len bytes runs is on sure. absurd (both_ways false refl runs);
+  writes = λ m own off len bytes given runs is on. absurd (both_ways false refl runs);
   syncs = λ m own runs is on. absurd (both_ways false refl runs);
 }
 
@@ -101,34 +109,34 @@ stands_less fd r q log less s = record {
   file = s.file;
   next = s.next;
   fresh = s.fresh;
-  writes = λ m own off len bytes runs is on sure. let old = less m runs in s.writes m own off len bytes old.0 (sym old.1 ∙ is) on sure;
-  syncs = λ m own runs is on. let old = less m runs in s.syncs m own old.0 (sym old.1 ∙ is) on;
+  writes = λ m own off len bytes given runs is on. let old = less m runs in s.writes m own off len bytes given old.0 (ap (λ (o : Op). change_by o (shown_length log.volume)) (sym old.1) ∙ is) on;
+  syncs = λ m own runs is on. let old = less m runs in s.syncs m own old.0 (ap (λ (o : Op). change_by o (shown_length log.volume)) (sym old.1) ∙ is) on;
 }
 
 -- A request begins to run.
 
--- the same operation
-as_of : (r : Requests) (n m : ℕ) (op other : Op) → n ≡ m → operation_of (entry_of r n) ≡ op
-    → operation_of (entry_of r m) ≡ other → op ≡ other
-as_of r n m op other same a b =
-    sym a ∙ ap (λ (k : ℕ). operation_of (entry_of r k)) same ∙ b
+-- the same change
+as_of : (r : Requests) (n m : ℕ) (log : Log) (c other : Change) → n ≡ m → change_of r n log ≡ c
+    → change_of r m log ≡ other
+    → c ≡ other
+as_of r n m log c other same a b = sym a ∙ ap (λ (k : ℕ). change_of r k log) same ∙ b
 
 -- one that isn't logged
 stands_unlogged : (fd : ℤ) (r : Requests) (n : ℕ) (log : Log)
-    → ((own : ℤ) (off len : ℕ) (bytes : List ℕ) → operation_of (entry_of r n) ≡ Write own off len bytes → int_eq log.fd own ≡ true → has_effect off len ≡ true → ⊥)
-    → ((own : ℤ) → operation_of (entry_of r n) ≡ Fsync own → int_eq log.fd own ≡ true → ⊥)
+    → ((own : ℤ) (off len : ℕ) (bytes : List ℕ) (given : ℤ) → change_of r n log ≡ Put own off len bytes given → int_eq log.fd own ≡ true → ⊥)
+    → ((own : ℤ) → change_of r n log ≡ Sync own → int_eq log.fd own ≡ true → ⊥)
     → Stands fd r log → Stands fd (with_started r n) log
 stands_unlogged fd r n log no_write no_sync s = record {
   file = s.file;
   next = s.next;
   fresh = s.fresh;
-  writes = λ m own off len bytes runs is on sure. elim (run_or r n m runs) [
-    | inl old ↦ s.writes m own off len bytes old is on sure
-    | inr new ↦ absurd (no_write own off len bytes (ap (λ (k : ℕ). operation_of (entry_of r k)) new ∙ is) on sure)
+  writes = λ m own off len bytes given runs is on. elim (run_or r n m runs) [
+    | inl old ↦ s.writes m own off len bytes given old is on
+    | inr new ↦ absurd (no_write own off len bytes given (ap (λ (k : ℕ). change_of r k log) new ∙ is) on)
   ];
   syncs = λ m own runs is on. elim (run_or r n m runs) [
     | inl old ↦ s.syncs m own old is on
-    | inr new ↦ absurd (no_sync own (ap (λ (k : ℕ). operation_of (entry_of r k)) new ∙ is) on)
+    | inr new ↦ absurd (no_sync own (ap (λ (k : ℕ). change_of r k log) new ∙ is) on)
   ];
 }
 
@@ -156,10 +164,10 @@ named_new k ws w same none =
     ∙ cond-true (w.number == k) (w ∷ []) [] (eq-eqb w.number k same)
 
 -- a write that begins
-stands_write : (fd : ℤ) (r : Requests) (n : ℕ) (log : Log) (own : ℤ) (off len : ℕ) (bytes : List ℕ)
-    → operation_of (entry_of r n) ≡ Write own off len bytes → Stands fd r log
+stands_write : (fd : ℤ) (r : Requests) (n : ℕ) (log : Log) (own : ℤ) (off len : ℕ) (bytes : List ℕ) (given : ℤ)
+    → change_of r n log ≡ Put own off len bytes given → Stands fd r log
     → Stands fd (with_started r n) (record log { volume = with_write off (take len bytes) log.volume; requests = n ∷ log.requests })
-stands_write fd r n log own off len bytes is s =
+stands_write fd r n log own off len bytes given is s =
     let h : History = log.volume.history in
     let next : ℕ = log.volume.next in
     let w : piece.Write = record { number = next; off = off; bytes = take len bytes } in
@@ -170,18 +178,18 @@ stands_write fd r n log own off len bytes is s =
       fresh = λ k from.
           named_old k (issued h) w (false_from_ne_true (next == k) (λ e. omega (arith, eqb-true next k e, from)))
           ∙ s.fresh k (omega (arith, from));
-      writes = λ m own' off' len' bytes' runs is' on sure. elim (cases_Bool (n == m)) [
+      writes = λ m own' off' len' bytes' given' runs is' on. elim (cases_Bool (n == m)) [
         | inl same ↦
-            let at : Write own off len bytes ≡ Write own' off' len' bytes' = as_of r n m _ _ (eqb-true n m same) is is' in
+            let at : Put own off len bytes given ≡ Put own' off' len' bytes' given' = as_of r n m log _ _ (eqb-true n m same) is is' in
             let offs : off ≡ off' = cc in
             let lens : len ≡ len' = cc in
             let all : bytes ≡ bytes' = cc in
-            let given : take len bytes ≡ take len' bytes' = ap (λ (l : ℕ). take l bytes) lens ∙ ap (take len') all in
+            let put : take len bytes ≡ take len' bytes' = ap (λ (l : ℕ). take l bytes) lens ∙ ap (take len') all in
             let number : next ≡ number_of m (n ∷ log.requests) = s.next ∙ sym (cond-true (n == m) (suc (length log.requests)) (number_of m log.requests) same) in
             let runs_now : Runs now next off (take len bytes) = record { positive = omega (arith, s.next); running = in_new next (running_writes h); is = named_new next (issued h) w refl (s.fresh next (omega arith)) } in
-            subst (λ (k : ℕ). Runs now k off' (take len' bytes')) number (subst (λ (o : ℕ). Runs now next o (take len' bytes')) offs (subst (λ (bs : List ℕ). Runs now next off bs) given runs_now))
+            subst (λ (k : ℕ). Runs now k off' (take len' bytes')) number (subst (λ (o : ℕ). Runs now next o (take len' bytes')) offs (subst (λ (bs : List ℕ). Runs now next off bs) put runs_now))
         | inr other ↦
-            let old = s.writes m own' off' len' bytes' (ran r n m other runs) is' on sure in
+            let old = s.writes m own' off' len' bytes' given' (ran r n m other runs) is' on in
             let k : ℕ = number_of m log.requests in
             let differs : (next == k) ≡ false = false_from_ne_true (next == k) (λ e. omega (arith, eqb-true next k e, s.next, number_short m log.requests)) in
             subst (λ (j : ℕ). Runs now j off' (take len' bytes')) (sym (number_old n m log.requests other))
@@ -189,7 +197,7 @@ stands_write fd r n log own off len bytes is s =
       ];
       syncs = λ m own' runs is' on. elim (cases_Bool (n == m)) [
         | inl same ↦
-            let at : Write own off len bytes ≡ Fsync own' = as_of r n m _ _ (eqb-true n m same) is is' in
+            let at : Put own off len bytes given ≡ Sync own' = as_of r n m log _ _ (eqb-true n m same) is is' in
             absurd cc
         | inr other ↦
             subst (λ (j : ℕ). (0 < j) × (is_one_of j (running_syncs now) ≡ true)) (sym (number_old n m log.requests other))
@@ -199,7 +207,7 @@ stands_write fd r n log own off len bytes is s =
 
 -- a sync that begins
 stands_sync : (fd : ℤ) (r : Requests) (n : ℕ) (log : Log) (own : ℤ)
-    → operation_of (entry_of r n) ≡ Fsync own → Stands fd r log
+    → change_of r n log ≡ Sync own → Stands fd r log
     → Stands fd (with_started r n) (record log { volume = with_sync Whole log.volume; requests = n ∷ log.requests })
 stands_sync fd r n log own is s =
     let h : History = log.volume.history in
@@ -209,12 +217,12 @@ stands_sync fd r n log own is s =
       file = s.file;
       next = omega (arith, s.next);
       fresh = λ k from. s.fresh k (omega (arith, from));
-      writes = λ m own' off' len' bytes' runs is' on sure. elim (cases_Bool (n == m)) [
+      writes = λ m own' off' len' bytes' given' runs is' on. elim (cases_Bool (n == m)) [
         | inl same ↦
-            let at : Fsync own ≡ Write own' off' len' bytes' = as_of r n m _ _ (eqb-true n m same) is is' in
+            let at : Sync own ≡ Put own' off' len' bytes' given' = as_of r n m log _ _ (eqb-true n m same) is is' in
             absurd cc
         | inr other ↦
-            let old = s.writes m own' off' len' bytes' (ran r n m other runs) is' on sure in
+            let old = s.writes m own' off' len' bytes' given' (ran r n m other runs) is' on in
             subst (λ (j : ℕ). Runs now j off' (take len' bytes')) (sym (number_old n m log.requests other))
             (record { positive = old.positive; running = old.running; is = old.is })
       ];
@@ -229,44 +237,42 @@ stands_sync fd r n log own is s =
       ];
     }
 
--- any operation that begins
-stands_begun : (fd : ℤ) (r : Requests) (n : ℕ) (log : Log) (op : Op) → operation_of (entry_of r n) ≡ op
-    → Stands fd r log → Stands fd (with_started r n) (begun n op log)
-stands_begun fd r n log (Write own off len bytes) is s =
-    let test : Bool = int_eq log.fd own && has_effect off len in
+-- any change that begins
+stands_begun : (fd : ℤ) (r : Requests) (n : ℕ) (log : Log) (c : Change) → change_of r n log ≡ c → Stands fd r log
+    → Stands fd (with_started r n) (change_begun n c log)
+stands_begun fd r n log (Put own off len bytes given) is s =
+    let test : Bool = int_eq log.fd own in
     let more : Log = record log { volume = with_write off (take len bytes) log.volume; requests = n ∷ log.requests } in
     elim (cases_Bool test) [
-      | inl sure ↦ subst (Stands fd (with_started r n)) (sym (cond-true test more log sure)) (stands_write fd r n log own off len bytes is s)
+      | inl sure ↦ subst (Stands fd (with_started r n)) (sym (cond-true test more log sure)) (stands_write fd r n log own off len bytes given is s)
       | inr fails ↦
-          let no_write : (own' : ℤ) (off' len' : ℕ) (bytes' : List ℕ) → operation_of (entry_of r n) ≡ Write own' off' len' bytes' → int_eq log.fd own' ≡ true → has_effect off' len' ≡ true → ⊥ =
-          λ own' off' len' bytes' is' on sure.
-          let at : Write own off len bytes ≡ Write own' off' len' bytes' = sym is ∙ is' in
+          let no_write : (own' : ℤ) (off' len' : ℕ) (bytes' : List ℕ) (given' : ℤ) → change_of r n log ≡ Put own' off' len' bytes' given' → int_eq log.fd own' ≡ true → ⊥ =
+          λ own' off' len' bytes' given' is' on.
+          let at : Put own off len bytes given ≡ Put own' off' len' bytes' given' = sym is ∙ is' in
           let owns : own ≡ own' = cc in
-          let offs : off ≡ off' = cc in
-          let lens : len ≡ len' = cc in
-          both_ways test fails (and_from (int_eq log.fd own) (has_effect off len) (ap (int_eq log.fd) owns ∙ on) (ap (λ (o : ℕ). has_effect o len) offs ∙ ap (has_effect off') lens ∙ sure)) in
-          let no_sync : (own' : ℤ) → operation_of (entry_of r n) ≡ Fsync own' → int_eq log.fd own' ≡ true → ⊥ =
-          λ own' is' on. let at : Write own off len bytes ≡ Fsync own' = sym is ∙ is' in absurd cc in
+          both_ways test fails (ap (int_eq log.fd) owns ∙ on) in
+          let no_sync : (own' : ℤ) → change_of r n log ≡ Sync own' → int_eq log.fd own' ≡ true → ⊥ =
+          λ own' is' on. let at : Put own off len bytes given ≡ Sync own' = sym is ∙ is' in absurd cc in
           subst (Stands fd (with_started r n)) (sym (cond-false test more log fails)) (stands_unlogged fd r n log no_write no_sync s)
     ]
-stands_begun fd r n log (Fsync own) is s =
+stands_begun fd r n log (Sync own) is s =
     let test : Bool = int_eq log.fd own in
     let more : Log = record log { volume = with_sync Whole log.volume; requests = n ∷ log.requests } in
     elim (cases_Bool test) [
       | inl sure ↦ subst (Stands fd (with_started r n)) (sym (cond-true test more log sure)) (stands_sync fd r n log own is s)
       | inr fails ↦
-          let no_write : (own' : ℤ) (off' len' : ℕ) (bytes' : List ℕ) → operation_of (entry_of r n) ≡ Write own' off' len' bytes' → int_eq log.fd own' ≡ true → has_effect off' len' ≡ true → ⊥ =
-          λ own' off' len' bytes' is' on sure. let at : Fsync own ≡ Write own' off' len' bytes' = sym is ∙ is' in absurd cc in
-          let no_sync : (own' : ℤ) → operation_of (entry_of r n) ≡ Fsync own' → int_eq log.fd own' ≡ true → ⊥ =
+          let no_write : (own' : ℤ) (off' len' : ℕ) (bytes' : List ℕ) (given' : ℤ) → change_of r n log ≡ Put own' off' len' bytes' given' → int_eq log.fd own' ≡ true → ⊥ =
+          λ own' off' len' bytes' given' is' on. let at : Sync own ≡ Put own' off' len' bytes' given' = sym is ∙ is' in absurd cc in
+          let no_sync : (own' : ℤ) → change_of r n log ≡ Sync own' → int_eq log.fd own' ≡ true → ⊥ =
           λ own' is' on.
-          let at : Fsync own ≡ Fsync own' = sym is ∙ is' in
+          let at : Sync own ≡ Sync own' = sym is ∙ is' in
           let owns : own ≡ own' = cc in
           both_ways test fails (ap (int_eq log.fd) owns ∙ on) in
           subst (Stands fd (with_started r n)) (sym (cond-false test more log fails)) (stands_unlogged fd r n log no_write no_sync s)
     ]
-stands_begun fd r n log op is s = stands_unlogged fd r n log
-    (λ own off len bytes is' on sure. let at : op ≡ Write own off len bytes = sym is ∙ is' in absurd cc)
-    (λ own is' on. let at : op ≡ Fsync own = sym is ∙ is' in absurd cc) s
+stands_begun fd r n log Nothing is s = stands_unlogged fd r n log
+    (λ own off len bytes given is' on. let at : Nothing ≡ Put own off len bytes given = sym is ∙ is' in absurd cc)
+    (λ own is' on. let at : Nothing ≡ Sync own = sym is ∙ is' in absurd cc) s
 
 -- A request that ran ends.
 
@@ -280,19 +286,22 @@ stands_write_end : (fd : ℤ) (r : Requests) (n : ℕ) (res : ℤ) (bytes : List
     → Stands fd (with_ended r n res bytes) (record log { volume = with_event (WriteEnded (number_of n log.requests)) log.volume })
 stands_write_end fd r n res bytes log s =
     let k : ℕ = number_of n log.requests in
+    let longer = shown_grows k log.volume in
     record {
       file = s.file;
       next = s.next;
       fresh = s.fresh;
-      writes = λ m own off len given runs is on sure.
+      writes = λ m own off len put given runs is on.
           let less = run_less r n res bytes m runs in
-          let old = s.writes m own off len given less.0 is on sure in
+          let before = change_before (operation_of (entry_of r m)) (shown_length log.volume) _ (Put own off len put given) longer (λ e. absurd cc) is in
+          let old = s.writes m own off len put given less.0 before on in
           record {
             positive = old.positive;
             running = in_but k (number_of m log.requests) (running_writes log.volume.history) (λ same. less.1 (number_once m n log.requests old.positive same)) old.running;
             is = old.is;
           };
-      syncs = λ m own runs is on. s.syncs m own (run_less r n res bytes m runs).0 is on;
+      syncs = λ m own runs is on.
+          s.syncs m own (run_less r n res bytes m runs).0 (change_before (operation_of (entry_of r m)) (shown_length log.volume) _ (Sync own) longer (λ e. absurd cc) is) on;
     }
 
 -- its sync ends there, with success or without
@@ -304,8 +313,8 @@ stands_sync_end fd r n res bytes log true s =
       file = s.file;
       next = s.next;
       fresh = s.fresh;
-      writes = λ m own off len given runs is on sure.
-          let old = s.writes m own off len given (run_less r n res bytes m runs).0 is on sure in
+      writes = λ m own off len put given runs is on.
+          let old = s.writes m own off len put given (run_less r n res bytes m runs).0 is on in
           record { positive = old.positive; running = old.running; is = old.is };
       syncs = λ m own runs is on.
           let less = run_less r n res bytes m runs in
@@ -318,8 +327,8 @@ stands_sync_end fd r n res bytes log false s =
       file = s.file;
       next = s.next;
       fresh = s.fresh;
-      writes = λ m own off len given runs is on sure.
-          let old = s.writes m own off len given (run_less r n res bytes m runs).0 is on sure in
+      writes = λ m own off len put given runs is on.
+          let old = s.writes m own off len put given (run_less r n res bytes m runs).0 is on in
           record { positive = old.positive; running = old.running; is = old.is };
       syncs = λ m own runs is on.
           let less = run_less r n res bytes m runs in
@@ -327,12 +336,12 @@ stands_sync_end fd r n res bytes log false s =
           (old.0, in_but k (number_of m log.requests) (running_syncs log.volume.history) (λ same. less.1 (number_once m n log.requests old.0 same)) old.1);
     }
 
-stands_finished : (fd : ℤ) (r : Requests) (n : ℕ) (res : ℤ) (bytes : List ℕ) (log : Log) (op : Op) → Stands fd r log
-    → Stands fd (with_ended r n res bytes) (finished n op res log)
-stands_finished fd r n res bytes log (Write own off len given) s =
+stands_finished : (fd : ℤ) (r : Requests) (n : ℕ) (res : ℤ) (bytes : List ℕ) (log : Log) (c : Change) → Stands fd r log
+    → Stands fd (with_ended r n res bytes) (change_ended n c res log)
+stands_finished fd r n res bytes log (Put own off len put given) s =
     let k : ℕ = number_of n log.requests in
     let q : Requests = with_ended r n res bytes in
-    let test : Bool = int_eq log.fd own && has_effect off len && int_eq res (pos len) in
+    let test : Bool = int_eq log.fd own && int_eq res given in
     let more : Log = record log { volume = write_ended k log.volume } in
     let runs : Bool = is_one_of k (running_writes log.volume.history) in
     elim (cases_Bool test) [
@@ -342,7 +351,7 @@ stands_finished fd r n res bytes log (Write own off len given) s =
       ])
       | inr fails ↦ subst (Stands fd q) (sym (cond-false test more log fails)) (stands_after fd r n res bytes log s)
     ]
-stands_finished fd r n res bytes log (Fsync own) s =
+stands_finished fd r n res bytes log (Sync own) s =
     let k : ℕ = number_of n log.requests in
     let q : Requests = with_ended r n res bytes in
     let test : Bool = int_eq log.fd own in
@@ -356,7 +365,7 @@ stands_finished fd r n res bytes log (Fsync own) s =
       ])
       | inr fails ↦ subst (Stands fd q) (sym (cond-false test more log fails)) (stands_after fd r n res bytes log s)
     ]
-stands_finished fd r n res bytes log _ s = stands_after fd r n res bytes log s
+stands_finished fd r n res bytes log Nothing s = stands_after fd r n res bytes log s
 
 -- An event.
 
@@ -397,7 +406,7 @@ stands_move fd linux l q s a log (starts n outstanding idle spared ready no_canc
     let r = l.requests in
     let going : has_ended r n ≡ false = not_ended (has_ended r n) (and_parts _ (not (has_ended r n)) outstanding).1 in
     subst (λ (o : Option Op). Stands fd (with_started r n) (begun_of n o log)) (sym (runs_now r n going))
-    (stands_begun fd r n log (operation_of (entry_of r n)) refl st)
+    (stands_begun fd r n log (change_of r n log) refl st)
 stands_move fd linux l q s a log (ends_doomed n outstanding) i st =
     stands_less fd l.requests q log (issued_less linux l.requests n _) st
 stands_move fd linux l q s a log (ends_cancel n outstanding spared ready cancel) i st =
@@ -405,7 +414,7 @@ stands_move fd linux l q s a log (ends_cancel n outstanding spared ready cancel)
 stands_move fd linux l q s a log (ends_run n res bytes running) i st =
     let r = l.requests in
     subst (λ (o : Option Op). Stands fd (with_ended r n res bytes) (finished_of n o res log)) (sym (cond-true (is_running r n) (Some (operation_of (entry_of r n))) None running))
-    (stands_finished fd r n res bytes log (operation_of (entry_of r n)) st)
+    (stands_finished fd r n res bytes log (change_of r n log) st)
 
 pub stands_from : (unit : ℕ) (first : List ℕ) (g : Setup) (fd : ℤ) (h : core.History) → IsLawfulApart g h
     → Stands fd (world g h).requests (log_from (log_on unit first fd) g h)

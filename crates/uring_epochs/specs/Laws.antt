@@ -2,28 +2,30 @@
 use Rattle.std.specs.Prelude.{◌≡◌, ◌↔◌, ℕ, ℤ, true, List, [], Some, slice_get}
 use Rattle.uring_entry.specs.Setup.{Setup}
 use Rattle.uring_entry.specs.Requests.{operation_running}
-use Rattle.uring_entry.specs.declared.operation.Op.TheVariants.{Write, Fsync}
+use Rattle.uring_entry.specs.declared.operation.Op.{Op}
+use Rattle.uring_files.specs.declared.change.Change.TheVariants.{Put, Sync}
 use Rattle.uring_files.specs.Contents.{FileContents, empty_files}
-use Rattle.uring_files.specs.Operations.{file_of}
+use Rattle.uring_files.specs.Operations.{file_of, change_by}
 use Rattle.uring_volume.specs.Volume.{IsShown, is_one_of, running_writes, running_syncs}
 use Rattle.uring_core.specs.Histories.{History, world}
 use Rattle.uring_core.specs.CalledFor.{IsLawful, files_of}
 use Rattle.uring_epochs.specs.Epochs.{Epoch, IsLawfulFrom, files_from, file_at, volume_of}
-use Rattle.uring_epochs.specs.Logs.{log_of, number_of, has_effect}
+use Rattle.uring_epochs.specs.Logs.{log_of, number_of, shown_length}
 
--- a write of the file that runs on the machine runs on the volume
+-- an operation that puts bytes into the file, as a write that has an effect, runs on the volume if it runs on the machine
 abbrev pub RunningWritesRun : Type 0
 RunningWritesRun =
-    (unit : ℕ) (g : Setup) (fd : ℤ) (h : History) (n off len : ℕ) (bytes : List ℕ) → IsLawful g h
-    → operation_running (world g h).requests n ≡ Some (Write fd off len bytes)
-    → has_effect off len ≡ true
+    (unit : ℕ) (g : Setup) (fd : ℤ) (h : History) (n off len : ℕ) (bytes : List ℕ) (given : ℤ) (op : Op)
+    → IsLawful g h → operation_running (world g h).requests n ≡ Some op
+    → change_by op (shown_length (log_of unit g fd h).volume) ≡ Put fd off len bytes given
     → is_one_of (number_of n (log_of unit g fd h).requests) (running_writes (log_of unit g fd h).volume.history)
     ≡ true
 
 -- and so does a sync
 abbrev pub RunningSyncsRun : Type 0
-RunningSyncsRun = (unit : ℕ) (g : Setup) (fd : ℤ) (h : History) (n : ℕ) → IsLawful g h
-    → operation_running (world g h).requests n ≡ Some (Fsync fd)
+RunningSyncsRun = (unit : ℕ) (g : Setup) (fd : ℤ) (h : History) (n : ℕ) (op : Op)
+    → IsLawful g h → operation_running (world g h).requests n ≡ Some op
+    → change_by op (shown_length (log_of unit g fd h).volume) ≡ Sync fd
     → is_one_of (number_of n (log_of unit g fd h).requests) (running_syncs (log_of unit g fd h).volume.history)
     ≡ true
 

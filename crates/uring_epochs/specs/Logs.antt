@@ -1,12 +1,14 @@
 -- The volume of a file of a machine: its writes and syncs as a history issued and ended them, so that what a crash leaves of a volume is what it leaves of the file. All of it is our own rule.
-use Rattle.std.specs.Prelude.{ℕ, ℤ, pos, ◌+◌, ◌-◌, Bool, not, ◌&&◌, ◌==◌, nat_le, List, [], ◌∷◌, length, take, suc, reverse, slice_get, Option, Some, None, if◌then◌else◌}
+use Rattle.std.specs.Prelude.{ℕ, ℤ, pos, ◌+◌, ◌-◌, Bool, ◌&&◌, ◌==◌, List, [], ◌∷◌, length, take, suc, reverse, slice_get, Option, Some, None, if◌then◌else◌}
 use Rattle.std.specs.Ordering.{int_eq}
 use Rattle.uring_entry.specs.Setup.{Setup}
 use Rattle.uring_entry.specs.Requests.{Requests, operation_running}
 use Rattle.uring_entry.specs.declared.operation.Op.{Op}
-use Rattle.uring_entry.specs.declared.operation.Op.TheVariants.{Write, Fsync}
-use Rattle.uring_files.specs.Contents.{max_len}
-use Rattle.uring_volume.specs.Volume.{Volume, with_event, with_write, with_sync, is_one_of, running_writes, running_syncs}
+use Rattle.uring_files.specs.Operations.{change_by}
+use Rattle.uring_files.specs.declared.change.Change.{Change}
+use Rattle.uring_files.specs.declared.change.Change.TheVariants.{Nothing, Put, Sync}
+use Rattle.uring_volume.specs.Volume.{Volume, ended, with_event, with_write, with_sync, is_one_of, running_writes, running_syncs}
+use Rattle.uring_volume.specs.Images.{length_over}
 use Rattle.uring_volume.specs.declared.event.SyncRange.TheVariants.{Whole}
 use Rattle.uring_volume.specs.declared.event.Event.TheVariants.{WriteEnded, SyncEnded, SyncFailed}
 use Rattle.uring_core.specs.Histories.{History, world}
@@ -45,21 +47,25 @@ abbrev pub request_of : ℕ → List ℕ → Option ℕ
 request_of number requests =
     if number == 0 then None else slice_get (reverse requests) (number - 1)
 
--- whether a write changes bytes when it is carried out: it has some, and doesn't pass the largest size of a file. Any other leaves its file as it is
-abbrev pub has_effect : ℕ → ℕ → Bool
-has_effect off len = not (len == 0) && nat_le (off + len) max_len
+-- how long the file is that a read of the volume shows
+abbrev pub shown_length : Volume → ℕ
+shown_length v = length_over (length v.first) (ended v.history)
 
--- request n begins: a write or a sync of the file is issued on the volume
-abbrev pub begun : ℕ → Op → Log → Log
-begun n (Write fd off len bytes) log =
-    if int_eq log.fd fd && has_effect off len then
+-- a change of the file begins as request n: it is issued on the volume
+abbrev pub change_begun : ℕ → Change → Log → Log
+change_begun n (Put fd off len bytes given) log =
+    if int_eq log.fd fd then
     record log { volume = with_write off (take len bytes) log.volume; requests = n ∷ log.requests }
     else log
-begun n (Fsync fd) log =
+change_begun n (Sync fd) log =
     if int_eq log.fd fd then
     record log { volume = with_sync Whole log.volume; requests = n ∷ log.requests }
     else log
-begun n other log = log
+change_begun n Nothing log = log
+
+-- request n begins, with what it changes of the file as it is shown now
+abbrev pub begun : ℕ → Op → Log → Log
+begun n op log = change_begun n (change_by op (shown_length log.volume)) log
 
 -- the write of this number ends on the volume, if it runs there
 abbrev pub write_ended : ℕ → Volume → Volume
@@ -73,17 +79,21 @@ sync_with res k v =
     with_event (if int_eq res (pos 0) then SyncEnded k else SyncFailed k) v
     else v
 
--- Request n ends with this result. A write that failed stays as one that runs, so that any part of it may be left
-abbrev pub finished : ℕ → Op → ℤ → Log → Log
-finished n (Write fd off len bytes) res log =
-    if int_eq log.fd fd && has_effect off len && int_eq res (pos len) then
+-- The change that request n makes of the file ends with this result. What was put and failed stays as a write that runs, so that any part of it may be left
+abbrev pub change_ended : ℕ → Change → ℤ → Log → Log
+change_ended n (Put fd off len bytes given) res log =
+    if int_eq log.fd fd && int_eq res given then
     record log { volume = write_ended (number_of n log.requests) log.volume }
     else log
-finished n (Fsync fd) res log =
+change_ended n (Sync fd) res log =
     if int_eq log.fd fd then
     record log { volume = sync_with res (number_of n log.requests) log.volume }
     else log
-finished n other res log = log
+change_ended n Nothing res log = log
+
+-- request n ends with this result, with what it changes of the file as it is shown now
+abbrev pub finished : ℕ → Op → ℤ → Log → Log
+finished n op res log = change_ended n (change_by op (shown_length log.volume)) res log
 
 -- the same of the operation that ran, if one did
 abbrev pub begun_of : ℕ → Option Op → Log → Log

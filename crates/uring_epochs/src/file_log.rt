@@ -1,10 +1,11 @@
 //! The log of a file: its writes and syncs, as the requests that are these begin and end.
 
-ghost use Rattle.std.specs.Prelude.{◌≡◌, ℕ, ◌+◌, ◌∷◌, ◌++◌, [], ◌<◌, ◌≤◌, ℤ, pos, true, false, reverse, length, IfOk, IsOk, OnOk, IfSome};
+ghost use Rattle.std.specs.Prelude.{◌≡◌, ℕ, ◌+◌, ◌∷◌, ◌++◌, [], ◌<◌, ◌≤◌, ℤ, pos, true, false, reverse, length, IfOk, IsOk, OnOk, OnErr, IfSome};
 ghost use Rattle.std.specs.Ordering.{int_eq};
 ghost use Rattle.uring_files.specs.Operations.{IsForFiles};
 ghost use Rattle.uring_files.specs.Contents.{max_len};
-ghost use Rattle.uring_volume.specs.Images.{IsImage};
+ghost use Rattle.uring_volume.specs.Events.{History};
+ghost use Rattle.uring_volume.specs.Images.{IsImage, length_over};
 ghost use Rattle.uring_volume.specs.Choices.{IsLeftBy, issued, named, has_safe};
 ghost use Rattle.uring_volume.specs.Volume.{with_write, with_sync};
 ghost use Rattle.uring_volume.specs.declared.event.SyncRange.TheVariants.{Whole};
@@ -17,11 +18,9 @@ mod readings;
 use std::alloc::{AllocError, Global};
 use std::marker::Model;
 use uring_core::{Answer, Op};
+use uring_files::{Change, change_by};
 use uring_memory::Memory;
 use uring_volume::{Event, Piece, SyncRange, Volume};
-
-/// The most bytes that a file may have.
-const MAX_LEN: u64 = 65_536;
 
 /// A file as a volume, and the requests that its writes and syncs are.
 #[derive(Drop)]
@@ -31,6 +30,8 @@ pub struct FileLog {
     volume: Volume,
     // The oldest first: that of number 1 on the volume, and so on.
     requests: Vec<u64>,
+    // How long the file is that a read of the volume shows.
+    shown: u64,
     // What has happened on the volume, the oldest first, and whether memory was refused for the end of a write or a sync, so that it isn't all.
     events: Vec<Event>,
     is_cut: bool,
@@ -43,6 +44,8 @@ impl Model for FileLog {
     ghost Value = { Log };
 
     ghost use Rattle.uring_epochs.specs.Epochs.{IsShort};
+    ghost use Rattle.uring_epochs.specs.Logs.{shown_length};
+    ghost use Rattle.uring_volume.specs.Choices.{issued};
 
     ghost view = { λ l. record { fd = l.fd; volume = l.volume; requests = reverse l.requests.items } };
 
@@ -51,6 +54,8 @@ impl Model for FileLog {
     ghost invariant = { λ l. record {
       short : IsShort l.volume;
       told : l.is_cut ≡ false → reverse l.events.items ≡ l.volume.history;
+      issued : issued (reverse l.events.items) ≡ issued l.volume.history;
+      long : l.shown ≡ shown_length l.volume;
       numbered : l.volume.next ≡ length l.requests.items + 1;
     } };
 }
@@ -68,12 +73,29 @@ fn number_of(requests: &[u64], n: u64) -> u64
     found
 }
 
-/// Whether a write changes bytes when it is carried out.
-fn has_effect(off: u64, len: u32) -> bool
-    ensures value { result ≡ spec.has_effect off len }
-    ensures bound { result ≡ true → off + len ≤ max_len }
+/// Where the writes of a number end that these events issue, the oldest first: 0 if there are none.
+fn end_of_number(events: &[Event], n: u64) -> u64
+    ensures { result ≡ length_over 0 (named n (issued (reverse events.now))) }
 {
-    len != 0 && off <= MAX_LEN && off + u64::from(len) <= MAX_LEN
+    let mut end = 0;
+    for i in 0..events.len() {
+        end = end_with(end, &events[i], n);
+    }
+    end
+}
+
+/// Where they end with one event more.
+#[tactic(auto, using(crate::proofs::LogLengths::ends_with, crate::proofs::LogLengths::ends_without, crate::proofs::LogLengths::ends_empty))]
+fn end_with(end: u64, event: &Event, n: u64) -> u64
+    ensures { (earlier : History) → end ≡ length_over 0 (named n (issued earlier))
+        → result ≡ length_over 0 (named n (issued (event.now ∷ earlier))) }
+{
+    match event {
+        Event::WriteIssued(piece) if piece.number() == n && !piece.bytes().is_empty() => {
+            end.max(piece.end())
+        }
+        _ => end,
+    }
 }
 
 impl FileLog {
@@ -86,6 +108,7 @@ impl FileLog {
         FileLog {
             alloc,
             fd,
+            shown: first.len() as u64,
             volume: Volume::new(alloc, unit, first),
             requests: Vec::new(alloc),
             events: Vec::new(alloc),
@@ -185,26 +208,15 @@ impl FileLog {
         ensures first { self.new.volume.first ≡ self.old.volume.first }
         ensures granted { ((k : ℕ) → M.grants memory.now k) → IsOk result }
     {
-        match op {
-            Op::Write {
+        match change_by(op, self.shown) {
+            Change::Put {
                 fd,
                 off,
                 len,
                 bytes,
-            } => {
-                if self.fd == *fd && has_effect(*off, *len) {
-                    self.begin_write(memory, n, *off, &bytes[..*len as usize])
-                } else {
-                    Ok(())
-                }
-            }
-            Op::Fsync { fd } => {
-                if self.fd == *fd {
-                    self.begin_sync(memory, n)
-                } else {
-                    Ok(())
-                }
-            }
+                ..
+            } if self.fd == fd => self.begin_write(memory, n, off, &bytes[..len as usize]),
+            Change::Sync { fd } if self.fd == fd => self.begin_sync(memory, n),
             _ => Ok(()),
         }
     }
@@ -262,22 +274,17 @@ impl FileLog {
         ensures unit { self.new.volume.unit ≡ self.old.volume.unit }
         ensures first { self.new.volume.first ≡ self.old.volume.first }
     {
-        match op {
-            Op::Write { fd, off, len, .. } => {
-                if self.fd == *fd && has_effect(*off, *len) && i64::from(res) == i64::from(*len) {
-                    self.end_write(memory, n);
-                }
+        match change_by(op, self.shown) {
+            Change::Put { fd, given, .. } if self.fd == fd && res == given => {
+                self.end_write(memory, n);
             }
-            Op::Fsync { fd } => {
-                if self.fd == *fd {
-                    self.end_sync(memory, n, res);
-                }
-            }
+            Change::Sync { fd } if self.fd == fd => self.end_sync(memory, n, res),
             _ => {}
         }
     }
 
     /// The write that a request is ends.
+    #[tactic(auto, using(crate::proofs::LogLengths::shown_longer))]
     fn end_write<M: Memory>(&mut self, memory: &M, n: u64)
         ensures log { self.new
             ≡ record self.old { volume = write_ended (spec.number_of n self.old.requests) self.old.volume } }
@@ -285,10 +292,11 @@ impl FileLog {
         ensures first { self.new.volume.first ≡ self.old.volume.first }
     {
         let number = number_of(&self.requests, n);
-        if self.volume.end_write(number)
-            && add_event(memory, &mut self.events, Event::WriteEnded(number)).is_err()
-        {
-            self.is_cut = true;
+        if self.volume.end_write(number) {
+            self.shown = self.shown.max(end_of_number(&self.events, number));
+            if add_event(memory, &mut self.events, Event::WriteEnded(number)).is_err() {
+                self.is_cut = true;
+            }
         }
     }
 
@@ -338,7 +346,8 @@ impl FileLog {
 
 /// Puts an event after the others, by this memory.
 fn add_event<M: Memory>(memory: &M, events: &mut Vec<Event>, event: Event) -> Result<(), AllocError>
-    ensures { OnOk result (events.new.items ≡ events.old.items ++ event ∷ []) }
+    ensures ok { OnOk result (events.new.items ≡ events.old.items ++ event ∷ []) }
+    ensures err { OnErr result (events.new.items ≡ events.old.items) }
 {
     memory.reserve(events, 1)?;
     events.push_reserved(event);

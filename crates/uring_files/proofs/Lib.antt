@@ -1,5 +1,7 @@
 pub mod DoneLemmas
+pub mod Effects
 pub mod OperationCases
+pub mod Changes
 pub mod Overwrites
 pub mod Prepared
 pub mod StandAlone

@@ -11,9 +11,11 @@ use Rattle.uring_entry.specs.declared.errno.TheConstants.{EBADF, ECANCELED, EFBI
 use Rattle.uring_entry.specs.declared.operation.Op.{Op}
 use Rattle.uring_entry.specs.declared.operation.Op.TheVariants.{Nop, Read, Write, Fsync, Cancel}
 use Rattle.uring_entry.specs.declared.operation.Outcome.{Outcome}
-use Rattle.uring_files.specs.Contents.{FileContents, overwritten, read_outcome, is_too_long, is_past_end, max_len, written, with_writes_synced}
-use Rattle.uring_files.specs.Operations.{after, with_changed, file_asked, file_of, on_file, ended_with, result_of, is_lengthening, IsForFiles, IsOutcome}
-use Rattle.uring_files.specs.Laws.{FailureChangesNothing}
+use Rattle.uring_files.specs.Contents.{FileContents, overwritten, read_outcome, is_too_long, is_past_end, has_effect, max_len, written, with_writes_synced}
+use Rattle.uring_files.specs.declared.change.Change.TheVariants.{Nothing, Put}
+use Rattle.uring_files.specs.Operations.{after, with_changed, file_asked, file_of, on_file, ended_with, result_of, is_lengthening, change_by, bytes_after, IsForFiles, IsOutcome}
+use Rattle.uring_files.specs.Laws.{FailureChangesNothing, file_changed}
+use Rattle.uring_files.proofs.Effects.{on_its_file, short_one, write_leaves, put_on}
 
 -- an end with a number of bytes, which is no great one
 abbrev pub IsGrowth : Outcome → Type 0
@@ -61,6 +63,7 @@ pub record IsIdle (op : Op) : Type 0 where
   pub ends : (files : List FileContents) → result_of files op ≡ ended_with (pos 0)
   pub lengthens : (files : List FileContents) → is_lengthening files op ≡ false
   pub after : (files : List FileContents) (res : ℤ) → after files op res ≡ files
+  pub changed : (len : ℕ) → change_by op len ≡ Nothing
 
 -- the operation does this task
 pub record Does (op : Op) (t : Task) : Type 0 where
@@ -71,6 +74,14 @@ pub record Does (op : Op) (t : Task) : Type 0 where
       → is_lengthening files op ≡ option_map_or t.lengthens (file_of files t.fd) false
   pub after : (files : List FileContents) (res : ℤ)
       → after files op res ≡ cond (t.changes res) (with_changed files t.fd t.change) files
+  -- what it changes tells what it leaves of its file
+  pub bytes : (files : List FileContents) (outcome : Outcome) (was : FileContents)
+      → file_of files t.fd ≡ Some was → IsOutcome files op outcome
+      → bytes_after (change_by op (length was.bytes)) outcome.res was.bytes
+      ≡ (cond (t.changes outcome.res) (t.change was) was).bytes
+  pub changed : (len : ℕ) (fd : ℤ) → file_changed (change_by op len) ≡ Some fd → t.fd ≡ fd
+  pub stays : (shorter longer : ℕ) → shorter ≤ longer
+      → (change_by op longer ≡ Nothing) ⊎ (change_by op shorter ≡ change_by op longer)
 
 -- ---- a read
 
@@ -99,6 +110,9 @@ read_does fd off len = record {
   ends = λ files. refl;
   lengthens = λ files. never (file_of files fd);
   after = λ files res. refl;
+  bytes = λ files outcome was here called. refl;
+  changed = λ size other is. let e : None ≡ Some other = is in absurd cc;
+  stays = λ shorter longer within. inl refl;
 }
 
 read_is : (fd : ℤ) (off len : ℕ) → IsTask (read_task fd off len)
@@ -154,6 +168,11 @@ write_does fd off len bytes = record {
   ends = λ files. refl;
   lengthens = λ files. refl;
   after = λ files res. refl;
+  bytes = λ files outcome was here called.
+      write_leaves (has_effect off len) (int_eq outcome.res (pos len)) fd off len bytes outcome.res was refl
+      (λ none good. short_one off len len was outcome none good (on_its_file files (Write fd off len bytes) fd was (write_task fd off len bytes).ends outcome refl here called));
+  changed = λ size other is. put_on (has_effect off len) (Put fd off len bytes (pos len)) fd other is refl;
+  stays = λ shorter longer within. inr refl;
 }
 
 write_is : (fd : ℤ) (off len : ℕ) (bytes : List ℕ) → IsTask (write_task fd off len bytes)
@@ -178,6 +197,11 @@ sync_task fd = record {
   change = with_writes_synced;
 }
 
+synced_bytes : (good : Bool) (was : FileContents)
+    → was.bytes ≡ (cond good (with_writes_synced was) was).bytes
+synced_bytes true was = refl
+synced_bytes false was = refl
+
 sync_does : (fd : ℤ) → Does (Fsync fd) (sync_task fd)
 sync_does fd = record {
   asked = refl;
@@ -185,6 +209,9 @@ sync_does fd = record {
   ends = λ files. refl;
   lengthens = λ files. never (file_of files fd);
   after = λ files res. refl;
+  bytes = λ files outcome was here called. synced_bytes (int_eq outcome.res (pos 0)) was;
+  changed = λ size other is. let e : Some fd ≡ Some other = is in cc;
+  stays = λ shorter longer within. inr refl;
 }
 
 sync_is : (fd : ℤ) → IsTask (sync_task fd)
@@ -204,10 +231,20 @@ cases (Read fd off len) = inr (read_task fd off len, read_does fd off len, read_
 cases (Write fd off len bytes) =
     inr (write_task fd off len bytes, write_does fd off len bytes, write_is fd off len bytes)
 cases (Fsync fd) = inr (sync_task fd, sync_does fd, sync_is fd)
-cases Nop =
-    inl (record { asked = refl; ends = λ files. refl; lengthens = λ files. refl; after = λ files res. refl })
-cases (Cancel target all) =
-    inl (record { asked = refl; ends = λ files. refl; lengthens = λ files. refl; after = λ files res. refl })
+cases Nop = inl (record {
+  asked = refl;
+  ends = λ files. refl;
+  lengthens = λ files. refl;
+  after = λ files res. refl;
+  changed = λ size. refl;
+})
+cases (Cancel target all) = inl (record {
+  asked = refl;
+  ends = λ files. refl;
+  lengthens = λ files. refl;
+  after = λ files res. refl;
+  changed = λ size. refl;
+})
 
 -- what can be asked of files: whatever is no cancel, and gives no great result
 pub for_files : (op : Op) → ((target : ℕ) (all : Bool) → op ≡ Cancel target all → ⊥) → most_of op ≤ 64

@@ -1,5 +1,5 @@
 -- A file in memory, and what reads, writes and syncs make of it. io_uring_enter(2), IORING_OP_READ, IORING_OP_WRITE and IORING_OP_FSYNC; that files are in memory, their largest size and the counts are our own rule.
-use Rattle.std.specs.Prelude.{ℕ, ◌+◌, ◌-◌, ◌%◌, ◌^◌, pos, Bool, not, ◌&&◌, ◌==◌, nat_lt, min, List, [], ◌++◌, length, take, drop, replicate, if◌then◌else◌}
+use Rattle.std.specs.Prelude.{ℕ, ◌+◌, ◌-◌, ◌%◌, ◌^◌, pos, Bool, not, ◌&&◌, ◌==◌, nat_le, nat_lt, min, List, [], ◌++◌, length, take, drop, replicate, if◌then◌else◌}
 use Rattle.uring_entry.specs.Layout.{padded}
 use Rattle.uring_entry.specs.declared.operation.Outcome.{Outcome}
 
@@ -44,6 +44,10 @@ is_too_long off len = not (len == 0) && nat_lt max_len (off + len)
 -- whether a write of len bytes at off makes a file longer
 abbrev pub is_past_end : ℕ → ℕ → FileContents → Bool
 is_past_end off len file = not (len == 0) && nat_lt (length file.bytes) (off + len)
+
+-- whether a write of len bytes at off changes bytes when it is carried out: it has some, and doesn't pass the largest size. Any other leaves its file as it is
+abbrev pub has_effect : ℕ → ℕ → Bool
+has_effect off len = not (len == 0) && nat_le (off + len) max_len
 
 -- bytes with others written over them from off on: what lies before, zeros if that ends before off, the new bytes, and what lies after them. No bytes change nothing. io_uring_enter(2), IORING_OP_WRITE
 abbrev pub overwritten : List ℕ → ℕ → List ℕ → List ℕ

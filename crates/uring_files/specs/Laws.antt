@@ -1,10 +1,13 @@
 -- What follows from the definitions of files and their operations.
-use Rattle.std.specs.Prelude.{◌≡◌, ℕ, ℤ, negsuc, Bool, true, false, ◌+◌, ◌-◌, ◌≤◌, ◌&&◌, nat_le, nat_lt, max, List, length, slice_index, if◌then◌else◌}
+use Rattle.std.specs.Prelude.{◌≡◌, ℕ, ℤ, negsuc, Bool, true, false, Option, Some, None, ◌+◌, ◌-◌, ◌≤◌, ◌⊎◌, ◌&&◌, nat_le, nat_lt, max, List, length, slice_index, if◌then◌else◌}
 use Rattle.uring_files.specs.Contents.{FileContents, overwritten, written, bytes_at}
 use Rattle.std.specs.Option.{option_map_or}
 use Rattle.std.specs.Ordering.{int_eq}
 use Rattle.uring_entry.specs.declared.operation.Op.{Op}
-use Rattle.uring_files.specs.Operations.{file_asked, file_of, result_of, is_lengthening, after}
+use Rattle.uring_entry.specs.declared.operation.Outcome.{Outcome}
+use Rattle.uring_files.specs.declared.change.Change.{Change}
+use Rattle.uring_files.specs.declared.change.Change.TheVariants.{Nothing, Put, Sync}
+use Rattle.uring_files.specs.Operations.{file_asked, file_of, result_of, is_lengthening, after, change_by, bytes_after, IsOutcome}
 
 -- Bytes that were written over: each offset under the write has the new byte, and each other the old one. Past the end of the old bytes each counts as 0
 pub record IsWrittenOver (old new : List ℕ) (off : ℕ) (now : List ℕ) : Type 0 where
@@ -52,3 +55,27 @@ EndsStandAlone = (files others : List FileContents) (op : Op)
     → ((fd : ℤ) → is_on fd op ≡ true → AgreeAt fd files others)
     → (result_of files op ≡ result_of others op)
     × (is_lengthening files op ≡ is_lengthening others op)
+
+-- What an operation that ended changes tells what has become of the bytes of a file that it is on; those of another stay.
+abbrev pub ChangesTellBytes : Type 0
+ChangesTellBytes = (files : List FileContents) (op : Op) (outcome : Outcome) (fd : ℤ) (was now : FileContents)
+    → IsOutcome files op outcome → file_of files fd ≡ Some was
+    → file_of (after files op outcome.res) fd ≡ Some now
+    → now.bytes
+    ≡ (if is_on fd op then bytes_after (change_by op (length was.bytes)) outcome.res was.bytes else was.bytes)
+
+-- the descriptor of the file that a change is on
+abbrev pub file_changed : Change → Option ℤ
+file_changed (Put fd off len bytes given) = Some fd
+file_changed (Sync fd) = Some fd
+file_changed Nothing = None
+
+-- a change is on the file that its operation is on
+abbrev pub ChangesAreAsked : Type 0
+ChangesAreAsked = (op : Op) (len : ℕ) (fd : ℤ) → file_changed (change_by op len) ≡ Some fd
+    → file_asked op ≡ Some fd
+
+-- what is changed of a longer file is changed of a shorter one too
+abbrev pub ChangesStay : Type 0
+ChangesStay = (op : Op) (shorter longer : ℕ) → shorter ≤ longer
+    → (change_by op longer ≡ Nothing) ⊎ (change_by op shorter ≡ change_by op longer)

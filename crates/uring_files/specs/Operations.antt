@@ -1,5 +1,5 @@
 -- What the operations do on the files, and how they end. A file's descriptor is its place in the list: our own rule.
-use Rattle.std.specs.Prelude.{◌≡◌, ℕ, ℤ, pos, negsuc, neg_ℤ, Bool, true, false, not, ◌&&◌, ◌≤◌, ◌⊎◌, List, length, take, Option, slice_get, slice_set, slice_index_or, if◌then◌else◌, Some, None}
+use Rattle.std.specs.Prelude.{◌≡◌, ℕ, ℤ, ◌+◌, pos, negsuc, neg_ℤ, Bool, true, false, not, ◌&&◌, ◌≤◌, ◌⊎◌, List, length, take, Option, slice_get, slice_set, slice_index_or, if◌then◌else◌, Some, None}
 use Rattle.std.specs.Option.{option_map, option_map_or, option_and_then}
 use Rattle.std.specs.Ordering.{int_eq}
 use Rattle.uring_entry.specs.Requests.{no_bytes}
@@ -7,7 +7,9 @@ use Rattle.uring_entry.specs.declared.errno.TheConstants.{EBADF, ENOMEM, EFBIG}
 use Rattle.uring_entry.specs.declared.operation.Op.{Op}
 use Rattle.uring_entry.specs.declared.operation.Op.TheVariants.{Nop, Read, Write, Fsync, Cancel}
 use Rattle.uring_entry.specs.declared.operation.Outcome.{Outcome}
-use Rattle.uring_files.specs.Contents.{FileContents, empty_file, read_outcome, is_too_long, is_past_end, written, with_writes_synced}
+use Rattle.uring_files.specs.Contents.{FileContents, empty_file, max_len, read_outcome, is_too_long, is_past_end, has_effect, overwritten, written, with_writes_synced}
+use Rattle.uring_files.specs.declared.change.Change.{Change}
+use Rattle.uring_files.specs.declared.change.Change.TheVariants.{Nothing, Put, Sync}
 use Rattle.uring_files.specs.declared.file.FileState.{FileState}
 
 -- the file of a descriptor: none if it is negative, or not below the number of files
@@ -71,6 +73,24 @@ after files (Write fd off len bytes) res =
 after files (Fsync fd) res =
     if int_eq res (pos 0) then with_changed files fd with_writes_synced else files
 after files other res = files
+
+-- What an operation changes of its file, if that has so many bytes and the operation ends with success: a write that has an effect the bytes under it. io_uring_enter(2), IORING_OP_WRITE and IORING_OP_FSYNC
+abbrev pub change_by : Op → ℕ → Change
+change_by (Write fd off len bytes) length =
+    if has_effect off len then Put fd off len bytes (pos len) else Nothing
+change_by (Fsync fd) length = Sync fd
+change_by other length = Nothing
+
+-- the bytes that a change leaves of the file that it is on, if the operation ended with this result
+abbrev pub bytes_after : Change → ℤ → List ℕ → List ℕ
+bytes_after (Put fd off len bytes given) res old =
+    if int_eq res given then overwritten old off (take len bytes) else old
+bytes_after other res old = old
+
+-- what is put has at most 64 bytes, and doesn't pass the largest size
+abbrev pub IsShortPut : Change → Type 0
+IsShortPut (Put fd off len bytes given) = (len ≤ 64) × (off + len ≤ max_len)
+IsShortPut other = Unit {0}
 
 -- what is told of the file of a descriptor
 abbrev pub state_of : List FileContents → ℤ → Option FileState

@@ -1,6 +1,6 @@
 //! What follows from the definitions of files and their operations. The functions do nothing: their contracts are the laws.
 
-ghost use Rattle.uring_files.specs.Laws.{WritesOver, ReadsBack, FailureChangesNothing, OthersStay, FilesStandAlone, EndsStandAlone};
+ghost use Rattle.uring_files.specs.Laws.{WritesOver, ReadsBack, FailureChangesNothing, OthersStay, FilesStandAlone, EndsStandAlone, ChangesTellBytes, ChangesAreAsked, ChangesStay};
 
 /// A write changes the bytes under it and no others. A gap before it has zeros.
 pub fn write_changes_what_lies_under_it()
@@ -22,4 +22,11 @@ pub fn files_stand_alone()
     ensures others { OthersStay }
     ensures files { FilesStandAlone }
     ensures ends { EndsStandAlone }
+{}
+
+/// What an operation changes tells all that becomes of the bytes of its file, and is on no other. What it changes of a longer file it changes of a shorter one too.
+pub fn changes_tell_all()
+    ensures bytes { ChangesTellBytes }
+    ensures asked { ChangesAreAsked }
+    ensures longer { ChangesStay }
 {}

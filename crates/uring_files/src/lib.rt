@@ -2,12 +2,14 @@
 #![tactic(auto)]
 
 mod bytes;
+mod change;
 mod file;
 mod files;
 pub mod laws;
 mod operations;
 
+pub use change::Change;
 pub use file::FileState;
 pub use files::Files;
-pub use operations::{file_asked, is_for_files, written_length};
+pub use operations::{change_by, file_asked, is_for_files, written_length};
 pub use uring_entry::{BadSetup, Cqe, Fault, Op, Outcome, Setup, Sqe, SqeFlags};

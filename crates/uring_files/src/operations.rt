@@ -5,9 +5,10 @@ ghost use Rattle.uring_entry.specs.Layout.{padded};
 ghost use Rattle.uring_files.specs.Contents as contents;
 ghost use Rattle.uring_files.specs.Contents.{FileContents};
 ghost use Rattle.uring_files.specs.Operations as spec;
-ghost use Rattle.uring_files.specs.Operations.{IsForFiles, ended_with, is_lengthening, result_of};
+ghost use Rattle.uring_files.specs.Operations.{IsForFiles, IsShortPut, ended_with, is_lengthening, result_of};
 
 use crate::bytes::overwrite;
+use crate::change::{Change, has_effect};
 use crate::file::File;
 use crate::files::Files;
 use uring_entry::{Op, Outcome, errno};
@@ -45,6 +46,29 @@ pub fn is_for_files(op: &Op) -> bool
         Op::Nop | Op::Fsync { .. } => true,
         Op::Read { len, .. } | Op::Write { len, .. } => *len <= 64,
         Op::Cancel { .. } => false,
+    }
+}
+
+/// What an operation changes of its file, if that has so many bytes and the operation ends with success. No operation changes of a longer file what it doesn't change of a shorter one.
+pub fn change_by(op: &Op, _length: u64) -> Change
+    ensures value { result ≡ spec.change_by op.now _length }
+    ensures short { IsForFiles op.now → IsShortPut result }
+{
+    match op {
+        Op::Write {
+            fd,
+            off,
+            len,
+            bytes,
+        } if has_effect(*off, *len) => Change::Put {
+            fd: *fd,
+            off: *off,
+            len: *len,
+            bytes: *bytes,
+            given: *len as i32,
+        },
+        Op::Fsync { fd } => Change::Sync { fd: *fd },
+        _ => Change::Nothing,
     }
 }
 

@@ -111,7 +111,7 @@ impl Name {
     }
 
     /// What the tokens after it say, one each.
-    pub(crate) fn kinds(self) -> &'static [Kind]
+    pub fn kinds(self) -> &'static [Kind]
         ensures { result.now ≡ spec.kinds_of self }
     {
         match self {

@@ -10,7 +10,7 @@ use std::alloc::{AllocError, Global};
 use uring_core::StepWords;
 use uring_entry::{Sqe, errno};
 use uring_machine::{Answer, Step};
-use uring_text::{Name, TextMemory, push_named, push_operation, push_signed, push_text};
+use uring_text::{Kind, Name, TextMemory, push_named, push_operation, push_signed, push_text};
 use uring_trace::{push_answer_in, spells_in, step_name};
 
 /// What `wulgach_trace_line` does, by this memory. If it grants whatever is asked for, -12 isn't returned.
@@ -103,22 +103,33 @@ fn push_fill<M: TextMemory>(
 fn push_fields<M: TextMemory>(memory: &M, text: &mut String, entry: &Sqe) -> Result<(), AllocError>
     ensures granted { ((n : ℕ) → M.grants memory.now n) → IsOk result }
 {
-    match Name::of_code(entry.opcode()) {
-        Some(Name::Cancel) => push_named(memory, text, " ", entry.addr()),
-        Some(Name::Fsync) => push_file(memory, text, entry),
-        Some(Name::Read) => {
-            push_file(memory, text, entry)?;
-            push_named(memory, text, " ", entry.off())?;
-            push_named(memory, text, " ", u64::from(entry.len()))
-        }
-        _ => Ok(()),
+    let Some(name) = Name::of_code(entry.opcode()) else {
+        return Ok(());
+    };
+    let kinds = name.kinds();
+    for i in 0..kinds.len() {
+        push_field(memory, text, entry, kinds[i])?;
     }
+    Ok(())
 }
 
-/// Appends the file of an entry.
-fn push_file<M: TextMemory>(memory: &M, text: &mut String, entry: &Sqe) -> Result<(), AllocError>
+/// Appends the field of an entry that a token of this kind says: none of the data of a write.
+fn push_field<M: TextMemory>(
+    memory: &M,
+    text: &mut String,
+    entry: &Sqe,
+    kind: Kind,
+) -> Result<(), AllocError>
     ensures granted { ((n : ℕ) → M.grants memory.now n) → IsOk result }
 {
-    push_text(memory, text, " ")?;
-    push_signed(memory, text, entry.fd())
+    match kind {
+        Kind::File => {
+            push_text(memory, text, " ")?;
+            push_signed(memory, text, entry.fd())
+        }
+        Kind::Offset => push_named(memory, text, " ", entry.off()),
+        Kind::Length => push_named(memory, text, " ", u64::from(entry.len())),
+        Kind::Target => push_named(memory, text, " ", entry.addr()),
+        _ => Ok(()),
+    }
 }

@@ -1,0 +1,79 @@
+-- How long the file is that a volume shows, and which events a log has, as writes end.
+use Rattle.std.proofs.Common.{◌≡◌, ◌≤◌, ◌+◌, ◌==◌, ℕ, true, false, max, List, [], ◌∷◌, ◌++◌, length, reverse, Result, Ok, Err, refl, ap, ◌∙◌, inl, inr, arith}
+use Rattle.std.proofs.lemmas.Bool.{cases_Bool, cond-true, cond-false}
+use Rattle.std.proofs.lemmas.List.{reverse-append}
+use Rattle.std.proofs.lemmas.List.Elements.{filter-append}
+use Rattle.std.specs.Prelude.{OnOk}
+use Rattle.std.specs.Result.{is_err}
+use Rattle.uring_volume.specs.Writes.{Write}
+use Rattle.uring_volume.specs.Images.{end_of, length_over}
+use Rattle.uring_volume.specs.Choices.{issued, named}
+use Rattle.uring_volume.specs.Volume.{Volume, ended, with_event}
+use Rattle.uring_volume.specs.declared.event.Event.{Event}
+use Rattle.uring_volume.specs.declared.event.Event.TheVariants.{WriteEnded}
+use Rattle.uring_epochs.specs.Logs.{shown_length}
+
+-- some writes, and then others
+over_both : (len : ℕ) (ws vs : List Write) → length_over len (ws ++ vs) ≡ length_over (length_over len ws) vs
+over_both len [] vs = refl
+over_both len (w ∷ ws) vs = over_both (max len (end_of w)) ws vs
+
+-- where some writes end, whatever lies before
+over_from : (len : ℕ) (ws : List Write) → length_over len ws ≡ max len (length_over 0 ws)
+over_from len [] = omega arith
+over_from len (w ∷ ws) =
+    let e : ℕ = end_of w in
+    let above = over_from (max len e) ws in
+    let alone = over_from (max 0 e) ws in
+    omega (arith, above, alone)
+
+-- the write of a number ends
+pub shown_longer : (k : ℕ) (v : Volume)
+    → shown_length (with_event (WriteEnded k) v)
+    ≡ max (shown_length v) (length_over 0 (named k (issued v.history)))
+shown_longer k v =
+    over_both (length v.first) (ended v.history) (named k (issued v.history))
+    ∙ over_from (shown_length v) (named k (issued v.history))
+
+pub shown_grows : (k : ℕ) (v : Volume) → shown_length v ≤ shown_length (with_event (WriteEnded k) v)
+shown_grows k v = omega (arith, shown_longer k v)
+
+-- Where the writes of a number end, with one more.
+
+named_more : (n : ℕ) (ws : List Write) (w : Write)
+    → length_over 0 (named n (ws ++ w ∷ [])) ≡ length_over (length_over 0 (named n ws)) (named n (w ∷ []))
+named_more n ws w =
+    ap (length_over 0) (filter-append (λ m. m.number == n) ws (w ∷ [])) ∙ over_both 0 (named n ws) (named n (w ∷ []))
+
+pub ends_with : (n : ℕ) (ws : List Write) (w : Write) → (w.number == n) ≡ true → (length w.bytes == 0) ≡ false
+    → length_over 0 (named n (ws ++ w ∷ [])) ≡ max (length_over 0 (named n ws)) (w.off + length w.bytes)
+ends_with n ws w is some =
+    named_more n ws w
+    ∙ ap (length_over (length_over 0 (named n ws))) (cond-true (w.number == n) (w ∷ []) [] is)
+    ∙ ap (max (length_over 0 (named n ws))) (cond-false (length w.bytes == 0) 0 (w.off + length w.bytes) some)
+
+pub ends_empty : (n : ℕ) (ws : List Write) (w : Write) → (length w.bytes == 0) ≡ true
+    → length_over 0 (named n (ws ++ w ∷ [])) ≡ length_over 0 (named n ws)
+ends_empty n ws w none = named_more n ws w ∙ elim (cases_Bool (w.number == n)) [
+  | inl is ↦
+      ap (length_over (length_over 0 (named n ws))) (cond-true (w.number == n) (w ∷ []) [] is)
+      ∙ ap (max (length_over 0 (named n ws))) (cond-true (length w.bytes == 0) 0 (w.off + length w.bytes) none)
+      ∙ (let it : max (length_over 0 (named n ws)) 0 ≡ length_over 0 (named n ws) = omega arith in it)
+  | inr other ↦ ap (length_over (length_over 0 (named n ws))) (cond-false (w.number == n) (w ∷ []) [] other)
+]
+
+pub ends_without : (n : ℕ) (ws : List Write) (w : Write) → (w.number == n) ≡ false
+    → length_over 0 (named n (ws ++ w ∷ [])) ≡ length_over 0 (named n ws)
+ends_without n ws w other =
+    named_more n ws w ∙ ap (length_over (length_over 0 (named n ws))) (cond-false (w.number == n) (w ∷ []) [] other)
+
+-- The events of a log, with the end of a write after them.
+
+put_there : {E : Type 0} (r : Result (Unit {0}) E) (P : Type 0) → is_err r ≡ false → OnOk r P → P
+put_there (Ok x) P good on = on
+put_there (Err e) P good on = absurd cc
+
+pub turned_more : {E : Type 0} (r : Result (Unit {0}) E) (events now : List Event) (k : ℕ) → is_err r ≡ false
+    → OnOk r (now ≡ events ++ WriteEnded k ∷ []) → reverse now ≡ WriteEnded k ∷ reverse events
+turned_more r events now k good put =
+    ap reverse (put_there r (now ≡ events ++ WriteEnded k ∷ []) good put) ∙ reverse-append events (WriteEnded k ∷ [])
