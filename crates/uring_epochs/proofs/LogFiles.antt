@@ -1,16 +1,15 @@
 -- What a read of the volume shows is the file of the machine.
-use Rattle.std.proofs.Common.{◌≡◌, ◌+◌, ◌==◌, ◌&&◌, ◌⊎◌, ℕ, zero, suc, ℤ, Bool, true, false, not, cond, List, [], ◌∷◌, ◌++◌, length, take, Option, Some, None, refl, sym, subst, ap, ◌∙◌, inl, inr, leb, ltb}
-use Rattle.std.specs.Prelude.{pos, negsuc, neg_ℤ, replicate, slice_get}
+use Rattle.std.proofs.Common.{◌≡◌, ◌+◌, ◌==◌, ◌&&◌, ◌⊎◌, ℕ, zero, suc, ℤ, Bool, true, false, cond, List, [], ◌∷◌, ◌++◌, length, take, Option, Some, None, refl, sym, subst, ap, ◌∙◌, inl, inr}
+use Rattle.std.specs.Prelude.{pos, negsuc, replicate, slice_get}
 use Rattle.std.specs.Option.{option_map_or}
 use Rattle.std.specs.Ordering.{int_eq}
 use Rattle.std.proofs.lemmas.Option.{get_or_from_slice_get}
-use Rattle.std.proofs.lemmas.Bool.{cases_Bool, both_ways, cond-true, cond-false, and_parts, and_from, eqb-true, leb-false, lt-ltb}
+use Rattle.std.proofs.lemmas.Bool.{cases_Bool, both_ways, cond-true, cond-false, and_from}
 use Rattle.std.proofs.lemmas.Bool.Decides.{Decides-int_eq}
 use Rattle.uring_entry.specs.Setup.{Setup}
 use Rattle.uring_entry.specs.Preparation.{operation_of}
 use Rattle.uring_entry.specs.Requests.{Requests, entry_of, is_running, operation_running}
 use Rattle.uring_entry.specs.declared.operation.Op.{Op}
-use Rattle.uring_entry.specs.declared.operation.Outcome.{Outcome}
 use Rattle.uring_files.specs.Contents.{FileContents, empty_file, empty_files, overwritten}
 use Rattle.uring_files.specs.Operations.{file_of, after, file_asked, change_by, bytes_after, IsOutcome}
 use Rattle.uring_files.specs.declared.change.Change.{Change}

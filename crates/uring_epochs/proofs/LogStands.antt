@@ -35,7 +35,7 @@ use Rattle.uring_core.proofs.Moves.{Move, stays, accepts, starts, ends_doomed, e
 use Rattle.uring_core.proofs.Running.{entry_stays}
 use Rattle.uring_core.proofs.Sound.{sound_of}
 use Rattle.uring_core.proofs.SoundRequests.{IsSoundRequests}
-use Rattle.uring_epochs.specs.Logs.{Log, log_on, log_from, log_of, logged, number_of, shown_length, change_begun, change_ended, begun, begun_of, finished, finished_of, write_ended, sync_with}
+use Rattle.uring_epochs.specs.Logs.{Log, log_on, log_from, log_of, logged, number_of, shown_length, change_begun, change_ended, begun_of, finished_of, write_ended, sync_with}
 use Rattle.uring_epochs.proofs.LogLengths.{shown_grows}
 use Rattle.uring_epochs.proofs.LogNumbers.{number_short, number_old, number_once, in_more, in_new, in_but}
 
