@@ -1,5 +1,5 @@
 -- The form that is read of tokens is the one that they spell.
-use Rattle.std.proofs.Common.{◌≡◌, ℕ, ◌^◌, ◌≤◌, cond, List, [], ◌∷◌, Option, Some, refl, sym, ap, subst, ◌∙◌, arith, inl, inr}
+use Rattle.std.proofs.Common.{◌≡◌, ℕ, ◌^◌, ◌≤◌, List, [], ◌∷◌, Option, Some, refl, sym, ap, subst, ◌∙◌, arith, inl, inr}
 use Rattle.std.specs.Prelude.{find}
 use Rattle.std.specs.Option.{option_map}
 use Rattle.std.specs.Str.{bytes_eq}
@@ -15,16 +15,6 @@ use Rattle.uring_text.proofs.Options.{bind_some, chosen, mapped}
 use Rattle.uring_text.proofs.NumberLaws.{number_found, number_again, file_found, file_again}
 use Rattle.uring_text.proofs.FlagLaws.{flags_found, flags_again}
 use Rattle.uring_text.proofs.HexLaws.{hex_found, hex_again, data_found, data_again}
-
--- a token that is this name, or another
-pub named : {A : Type 0} (name text : List ℕ) (P : List ℕ → Type 0) (a other : Option A) (y : A)
-    → cond (bytes_eq name text) a other ≡ Some y → (a ≡ Some y → P text) → (other ≡ Some y → P name)
-    → P name
-named name text P a other y e here there =
-    elim (chosen (bytes_eq name text) a other (Some y) e) [
-      | inl p ↦ subst P (sym ((bytes_eq-Decides name text).0 p.0)) (here p.1)
-      | inr p ↦ there p.1
-    ]
 
 -- One part: what is read is said, and the other way round.
 
