@@ -1,5 +1,5 @@
 -- What bytes are put leave of a file, and when nothing is put.
-use Rattle.std.proofs.Common.{◌≡◌, ℕ, ◌+◌, ℤ, pos, neg_ℤ, Bool, true, false, not, ◌&&◌, cond, Option, Some, None, List, take, refl, sym, ap, ◌∙◌, inl, inr, ◌⊎◌, leb, ltb}
+use Rattle.std.proofs.Common.{◌≡◌, ℕ, ◌+◌, ℤ, pos, neg_ℤ, Bool, true, false, not, cond, Option, Some, None, List, take, refl, sym, ap, ◌∙◌, inl, inr, ◌⊎◌, leb, ltb}
 use Rattle.std.specs.Prelude.{◌==◌}
 use Rattle.std.specs.Ordering.{int_eq}
 use Rattle.std.proofs.lemmas.Bool.{cases_Bool, both_ways, cond-true, and_from, eqb-true, leb-false, lt-ltb}
