@@ -1,5 +1,5 @@
 -- What may be left of files, with one file more; and what is shown after moves, by the logs that they make.
-use Rattle.std.proofs.Common.{◌≡◌, ℕ, suc, ◌+◌, ◌<◌, pos, Bool, true, false, inl, inr, List, [], ◌∷◌, ◌++◌, length, get_or, map, Option, Some, None, Result, Ok, Err, if◌then◌else◌, refl, sym, subst, ap, ap₂, ◌∙◌, arith}
+use Rattle.std.proofs.Common.{◌≡◌, ℕ, suc, ◌+◌, ◌<◌, pos, Bool, true, false, ◌||◌, inl, inr, List, [], ◌∷◌, ◌++◌, length, get_or, map, Option, Some, None, Result, Ok, Err, if◌then◌else◌, refl, sym, subst, ap, ap₂, ◌∙◌, arith}
 use Rattle.std.specs.Prelude.{Contains, slice_get, slice_index_or, IfErr, IsErrAnd}
 use Rattle.std.specs.Option.{option_map}
 use Rattle.std.proofs.lemmas.List.{length-append, length-map, get_or_append_left}
@@ -7,7 +7,11 @@ use Rattle.std.proofs.Math.Seq.{get_or-append_seam}
 use Rattle.std.proofs.lemmas.Option.{slice_get-map, slice_get_within, slice_get_read}
 use Rattle.uring_entry.specs.Setup.{Setup}
 use Rattle.uring_entry.specs.Layout.{Sqe, Cqe}
+use Rattle.uring_entry.specs.Requests.{entry_of, is_doomed}
+use Rattle.uring_entry.specs.Preparation.{is_cancel, operation_of}
+use Rattle.uring_entry.specs.declared.operation.Op.{Op}
 use Rattle.uring_files.specs.Contents.{FileContents}
+use Rattle.uring_files.specs.Operations.{result_of}
 use Rattle.uring_volume.specs.Images.{IsImage, IsIn}
 use Rattle.uring_volume.specs.Listing.{AreTheImages}
 use Rattle.uring_epochs.specs.Epochs.{first_files, logs_on, file_at}
@@ -119,8 +123,11 @@ later_keeps false old new k = k
 
 moved_keeps : (m : Moment) (x : Move) (log : Log) → Keeps log (log_moved m x log)
 moved_keeps m move.Accept log = (refl, refl)
-moved_keeps m (move.Issue n) log = later_keeps _ log _ (begun_keeps n _ log)
-moved_keeps m (move.Finish n) log = finished_keeps n _ _ log
+moved_keeps m (move.Issue n) log =
+    later_keeps (is_doomed m.requests n || is_cancel (entry_of m.requests n)) log _ (begun_keeps n (operation_of (entry_of m.requests n)) log)
+moved_keeps m (move.Finish n) log =
+    let op : Op = operation_of (entry_of m.requests n) in
+    finished_keeps n op (result_of m.files op).res log
 
 along_keeps : (moves : List Move) (m : Moment) (log : Log) → Keeps log (log_along moves m log)
 along_keeps [] m log = (refl, refl)
