@@ -2,7 +2,7 @@
 use Rattle.std.specs.Prelude.{◌≡◌, ℕ, Bool, true, false, List, [], ◌∷◌, Option, Some, None}
 use Rattle.uring_entry.specs.Layout.{Sqe}
 use Rattle.uring_entry.specs.Requests.{Requests, entry_outstanding, no_bytes}
-use Rattle.uring_results.specs.Results.{may_end}
+use Rattle.uring_entry.specs.Results.{may_end}
 use Rattle.uring_entry.specs.Setup.{Setup}
 use Rattle.uring_core.specs.CalledFor.{CalledFor, IsLawful}
 use Rattle.uring_core.specs.Histories.{History, world, IsLawfulApart}

@@ -19,7 +19,7 @@ use uring_text::{Calls, TextMemory, TraceFault, write_all};
 ///
 /// The first line may say the set-up, which then counts in place of the one that is given: `# setup --sq N --cq N --files N --start N`, with `--stop` after it for a ring that stops. One that begins with `# setup` and is no such line is `Bad`, and no other line is looked at.
 ///
-/// With `Ends::Any` the trace is judged apart from what operations give, as that of a ring without files: a running request may end with any result of 32 bits with a sign, and gives no bytes, so that the data of each completion is `-`. With `Ends::Allowed` it is judged so too, but a running request ends with a result that its operation may give (`uring_results::may_end`), and `wanted: ` says of which one. That is our own rule.
+/// With `Ends::Any` the trace is judged apart from what operations give, as that of a ring without files: a running request may end with any result of 32 bits with a sign, and gives no bytes, so that the data of each completion is `-`. With `Ends::Allowed` it is judged so too, but a running request ends with a result that its operation may give (`uring_entry::may_end`), and `wanted: ` says of which one. That is our own rule.
 ///
 /// An interrupted read or write is made again. Nothing is written before the end of the input.
 ///

@@ -9,6 +9,6 @@ pub enum Ends {
     /// Any result of 32 bits with a sign, and no bytes, as of a ring without files.
     Any,
 
-    /// A result that its operation may give, whatever its file has (`uring_results::may_end`), and no bytes.
+    /// A result that its operation may give, whatever its file has (`uring_entry::may_end`), and no bytes.
     Allowed,
 }

@@ -17,7 +17,7 @@ use crate::telling::push_wanted;
 use std::alloc::{AllocError, Global};
 use uring_entry::{Sqe, errno};
 use uring_machine::{Answer, Refusal, Step, Wanted};
-use uring_results::may_end;
+use uring_entry::may_end;
 use uring_text::{TextMemory, push_bytes, spelled_signed};
 
 /// What is told of the answers that are called for.

@@ -18,7 +18,7 @@ use Rattle.uring_core.specs.declared.answer.Answer.{Answer}
 use Rattle.uring_core.proofs.CompletionMoves.{CompletionMove, stays, ends, reaps, completion_move}
 use Rattle.uring_core.proofs.Sound.{sound_of}
 use Rattle.uring_laws.proofs.RingLaws.{begin_posted}
-use Rattle.uring_timelines.specs.Moves.{MeetsBytes}
+use Rattle.uring_early.specs.Moves.{MeetsBytes}
 use Rattle.uring_early.specs.Bare.{bytes_at, bytes_of, bytes_reaped, bytes_told, known_by}
 use Rattle.uring_early.proofs.Timelines.{lawful_below, onto}
 

@@ -14,11 +14,11 @@ use Rattle.uring_core.specs.declared.step.Step.{Step}
 use Rattle.uring_core.specs.declared.step.Step.TheVariants as step
 use Rattle.uring_core.specs.declared.answer.Answer.{Answer}
 use Rattle.uring_core.specs.declared.answer.Answer.TheVariants as answer
-use Rattle.uring_effects.specs.Effects.{Makes, Takes, Timeline, made_in, requests_in, operation_at, effect_of, TakesEffect, EndsAsTaken, IsTimely}
-use Rattle.uring_timelines.specs.declared.mark.End.{End}
-use Rattle.uring_timelines.specs.declared.mark.Mark.{Mark}
-use Rattle.uring_timelines.specs.declared.running.Running.{Running}
-use Rattle.uring_timelines.specs.Moves.{EndsBy, Goes, IsWalk, Move, Pass, Take, Passes, Standing, at_first, passed, taken_of, took}
+use Rattle.uring_early.specs.Effects.{Makes, Takes, Timeline, made_in, requests_in, operation_at, effect_of, TakesEffect, EndsAsTaken, IsTimely}
+use Rattle.uring_early.specs.declared.mark.End.{End}
+use Rattle.uring_early.specs.declared.mark.Mark.{Mark}
+use Rattle.uring_early.specs.declared.running.Running.{Running}
+use Rattle.uring_early.specs.Moves.{EndsBy, Goes, IsWalk, Move, Pass, Take, Passes, Standing, at_first, passed, taken_of, took}
 use Rattle.uring_early.specs.Bare.{AreSameButBytes, IssueMeets, IssuesMeet, IsFoundBare, bare, blank, blank_answer, bytes_at, bytes_reaped, bytes_told, known_by, known_marks, known_mark, posted_in}
 use Rattle.uring_early.specs.Marks.{mark_by, start_mark}
 use Rattle.uring_early.specs.declared.decision.Found.TheVariants as found

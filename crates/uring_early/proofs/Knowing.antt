@@ -6,7 +6,7 @@ use Rattle.uring_core.specs.StepAnswers.{CalledForApart}
 use Rattle.uring_core.specs.Histories.{Event, History, world, history_of, IsLawfulApart}
 use Rattle.uring_core.proofs.Following.{history_of_cons}
 use Rattle.uring_entry.specs.Setup.{Setup}
-use Rattle.uring_timelines.specs.declared.mark.Mark.{Mark}
+use Rattle.uring_early.specs.declared.mark.Mark.{Mark}
 use Rattle.uring_early.specs.Bare.{IssueMeets, IssuesMeet, bytes_at, bytes_reaped, bytes_told, known_by, known_mark, known_marks}
 use Rattle.uring_early.proofs.Marking.{wrong_from}
 

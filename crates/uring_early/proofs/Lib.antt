@@ -1,6 +1,17 @@
 -- In the order in which they are best read.
+-- The laws of early effects:
+mod AtFinishes
+mod AllowedResults
+mod EarlyResults
+pub mod Waiting
+-- Files without their counts:
+pub mod Plain
+-- What may take effect before an end:
+pub mod Adding
+-- What is left of a search:
+pub mod Searching
 -- What runs after an event:
-pub mod Running
+pub mod RunningAfter
 -- How operations stand along a timeline:
 pub mod Standings
 -- A timeline of moves, and moves of a timeline:

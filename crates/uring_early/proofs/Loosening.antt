@@ -10,11 +10,11 @@ use Rattle.uring_core.specs.Events.{end_told_by}
 use Rattle.uring_core.specs.Histories.{Event, History, world, history_of, IsLawfulApart}
 use Rattle.uring_core.specs.declared.step.Step.TheVariants as step
 use Rattle.uring_core.specs.declared.answer.Answer.TheVariants as answer
-use Rattle.uring_effects.specs.Effects.{IsLawfulEarly}
-use Rattle.uring_timelines.specs.declared.mark.End.{End}
-use Rattle.uring_timelines.specs.declared.mark.Mark.{Mark}
-use Rattle.uring_timelines.specs.declared.running.Running.{Running}
-use Rattle.uring_timelines.specs.Moves.{EndsBy, FitsEnd, Goes, IsWalk, MayTake, Meets, MeetsBytes, Move, Pass, Take, Passes, Standing, at_first, awaits, end_in, passed, taken_by, took}
+use Rattle.uring_early.specs.Effects.{IsLawfulEarly}
+use Rattle.uring_early.specs.declared.mark.End.{End}
+use Rattle.uring_early.specs.declared.mark.Mark.{Mark}
+use Rattle.uring_early.specs.declared.running.Running.{Running}
+use Rattle.uring_early.specs.Moves.{EndsBy, FitsEnd, Goes, IsWalk, MayTake, Meets, MeetsBytes, Move, Pass, Take, Passes, Standing, at_first, awaits, end_in, passed, taken_by, took}
 use Rattle.uring_early.specs.Bare.{AreSameButBytes, IssueMeets, IssuesMeet, bare, blank, bytes_reaped, bytes_told, known_by, known_marks, known_mark}
 use Rattle.uring_early.specs.Marks.{mark_by, marks_after, start_mark}
 use Rattle.uring_early.proofs.Agreeing.{Agree, EndMeets, met_after, posted_bytes, told_agree}

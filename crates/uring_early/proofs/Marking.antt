@@ -7,7 +7,7 @@ use Rattle.uring_laws.proofs.Growth.{lawful_before}
 use Rattle.uring_entry.specs.Setup.{Setup}
 use Rattle.uring_core.specs.Histories.{Event, History, world, history_of, IsLawfulApart}
 use Rattle.uring_core.proofs.Following.{history_of_append, history_of_cons}
-use Rattle.uring_timelines.specs.declared.mark.Mark.{Mark}
+use Rattle.uring_early.specs.declared.mark.Mark.{Mark}
 use Rattle.uring_early.specs.Marks.{mark_by, marks_after}
 
 marks_snoc : (g : Setup) (events : List Event) (before : History) (e : Event)

@@ -26,14 +26,14 @@ use Rattle.uring_core.proofs.Moves.{Move, starts, ends_doomed, ends_cancel, move
 use Rattle.uring_core.proofs.Changes.{Change, IsSilent, change_of, refuses, runs}
 use Rattle.uring_core.proofs.Sound.{sound_of}
 use Rattle.uring_laws.proofs.Growth.{event_grows}
-use Rattle.uring_effects.specs.Effects.{Makes, Takes, Timeline, made_in, requests_in, operation_at, effects_in, files_at, effect_of, TakesEffect, EndsAsTaken, IsTimely}
-use Rattle.uring_timelines.specs.declared.mark.Mark.{Mark}
-use Rattle.uring_timelines.specs.declared.mark.Mark.TheVariants.{Starts, Ends, Idle}
-use Rattle.uring_timelines.specs.declared.running.Running.{Running}
-use Rattle.uring_timelines.specs.Moves.{EndsBy, MayTake, Passes, Standing, look, op_of, passed, plain, taken_by, taken_of, taking, took, with_taken, without}
-use Rattle.uring_timelines.proofs.Plain.{after_plain, outcome_back}
+use Rattle.uring_early.specs.Effects.{Makes, Takes, Timeline, made_in, requests_in, operation_at, effects_in, files_at, effect_of, TakesEffect, EndsAsTaken, IsTimely}
+use Rattle.uring_early.specs.declared.mark.Mark.{Mark}
+use Rattle.uring_early.specs.declared.mark.Mark.TheVariants.{Starts, Ends, Idle}
+use Rattle.uring_early.specs.declared.running.Running.{Running}
+use Rattle.uring_early.specs.Moves.{EndsBy, MayTake, Passes, Standing, look, op_of, passed, plain, taken_by, taken_of, taking, took, with_taken, without}
+use Rattle.uring_early.proofs.Plain.{after_plain, outcome_back}
 use Rattle.uring_early.specs.Marks.{mark_by, start_mark}
-use Rattle.uring_early.proofs.Running.{runs_after, runs_by}
+use Rattle.uring_early.proofs.RunningAfter.{runs_after, runs_by}
 use Rattle.uring_laws.proofs.EndedRequests.{not_ended}
 
 -- ---- the list of what runs

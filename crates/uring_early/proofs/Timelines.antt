@@ -17,17 +17,17 @@ use Rattle.uring_core.specs.declared.answer.Answer.{Answer}
 use Rattle.uring_core.specs.declared.answer.Answer.TheVariants as answer
 use Rattle.uring_core.proofs.Following.{history_of_cons}
 use Rattle.uring_core.proofs.Running.{running_asks}
-use Rattle.uring_effects.specs.Effects.{Makes, Takes, Timeline, made_in, requests_in, operation_at, files_at, effect_of, TakesEffect, EndsAsTaken, IsTimely, IsLawfulEarly, is_end_of, ends_in_effect, EndsLast, EffectsWait}
-use Rattle.uring_effects.specs.Laws.{IsLawfulLate}
-use Rattle.uring_effects.proofs.Waiting.{early_effects_can_wait}
-use Rattle.uring_timelines.specs.declared.mark.End.{End}
-use Rattle.uring_timelines.specs.declared.mark.Mark.{Mark}
-use Rattle.uring_timelines.specs.declared.running.Running.{Running}
-use Rattle.uring_timelines.specs.Moves.{FitsEnd, Goes, IsWalk, MayTake, Move, Pass, Take, Passes, Standing, at_first, awaits, end_in, passed, taken_of, took}
-use Rattle.uring_timelines.proofs.Plain.{outcome_plain, plain_new}
-use Rattle.uring_timelines.specs.declared.search.Fate.{Fate}
-use Rattle.uring_timelines.specs.declared.search.Fate.TheVariants as fate
-use Rattle.uring_timelines.specs.Search.{IsFated}
+use Rattle.uring_early.specs.Effects.{Makes, Takes, Timeline, made_in, requests_in, operation_at, files_at, effect_of, TakesEffect, EndsAsTaken, IsTimely, IsLawfulEarly, is_end_of, ends_in_effect, EndsLast, EffectsWait}
+use Rattle.uring_early.specs.Laws.{IsLawfulLate}
+use Rattle.uring_early.proofs.Waiting.{early_effects_can_wait}
+use Rattle.uring_early.specs.declared.mark.End.{End}
+use Rattle.uring_early.specs.declared.mark.Mark.{Mark}
+use Rattle.uring_early.specs.declared.running.Running.{Running}
+use Rattle.uring_early.specs.Moves.{FitsEnd, Goes, IsWalk, MayTake, Move, Pass, Take, Passes, Standing, at_first, awaits, end_in, passed, taken_of, took}
+use Rattle.uring_early.proofs.Plain.{outcome_plain, plain_new}
+use Rattle.uring_early.specs.declared.search.Fate.{Fate}
+use Rattle.uring_early.specs.declared.search.Fate.TheVariants as fate
+use Rattle.uring_early.specs.Search.{IsFated}
 use Rattle.uring_early.specs.Decided.{IsFound, found_by}
 use Rattle.uring_early.specs.Marks.{mark_by, marks_after, start_mark}
 use Rattle.uring_early.proofs.Standings.{Stands, ends_so, one_of, passes_so, stands_makes, stands_takes, takes_effect}

@@ -9,10 +9,10 @@ use Rattle.uring_core.specs.declared.step.Step.{Step}
 use Rattle.uring_core.specs.declared.step.Step.TheVariants as step
 use Rattle.uring_core.specs.declared.answer.Answer.{Answer}
 use Rattle.uring_core.specs.declared.answer.Answer.TheVariants as answer
-use Rattle.uring_effects.specs.Effects.{IsLawfulEarly}
-use Rattle.uring_timelines.specs.Moves.{MeetsBytes}
-use Rattle.uring_timelines.specs.declared.mark.Mark.{Mark}
-use Rattle.uring_timelines.specs.declared.mark.Mark.TheVariants.{Ends}
+use Rattle.uring_early.specs.Effects.{IsLawfulEarly}
+use Rattle.uring_early.specs.Moves.{MeetsBytes}
+use Rattle.uring_early.specs.declared.mark.Mark.{Mark}
+use Rattle.uring_early.specs.declared.mark.Mark.TheVariants.{Ends}
 use Rattle.uring_early.specs.Marks.{mark_by}
 use Rattle.uring_early.specs.declared.decision.Found.{Found}
 use Rattle.uring_early.specs.declared.decision.Found.TheVariants.{Lawful, Unlawful, Unexplained, GaveUp}

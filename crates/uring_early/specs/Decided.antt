@@ -1,9 +1,9 @@
 -- What a search for the moments of effects comes to.
 use Rattle.uring_entry.specs.Setup.{Setup}
 use Rattle.uring_core.specs.Histories.{History, IsLawfulApart}
-use Rattle.uring_effects.specs.Effects.{IsLawfulEarly}
-use Rattle.uring_timelines.specs.declared.search.Fate.{Fate}
-use Rattle.uring_timelines.specs.declared.search.Fate.TheVariants as fate
+use Rattle.uring_early.specs.Effects.{IsLawfulEarly}
+use Rattle.uring_early.specs.declared.search.Fate.{Fate}
+use Rattle.uring_early.specs.declared.search.Fate.TheVariants as fate
 use Rattle.uring_early.specs.declared.decision.Found.{Found}
 use Rattle.uring_early.specs.declared.decision.Found.TheVariants.{Lawful, Unlawful, Unexplained, GaveUp}
 

@@ -6,8 +6,8 @@ use Rattle.uring_entry.specs.declared.operation.Op.{Op}
 use Rattle.uring_core.specs.Histories.{Event, History, world}
 use Rattle.uring_core.specs.declared.step.Step.TheVariants as step
 use Rattle.uring_core.specs.declared.answer.Answer.TheVariants as answer
-use Rattle.uring_timelines.specs.declared.mark.Mark.{Mark}
-use Rattle.uring_timelines.specs.declared.mark.Mark.TheVariants.{Starts, Ends, Idle}
+use Rattle.uring_early.specs.declared.mark.Mark.{Mark}
+use Rattle.uring_early.specs.declared.mark.Mark.TheVariants.{Starts, Ends, Idle}
 
 -- the start of this operation, if there is one
 abbrev pub start_mark : ℕ → Option Op → Mark

@@ -7,9 +7,10 @@ ghost use Rattle.uring_early.specs.Bare.{IsFoundBare, blank};
 
 use crate::decision::{Found, found_by};
 use crate::known::{add_known, blanks_of, bytes_told};
+use crate::mark::Mark;
+use crate::search::explain;
 use std::alloc::{AllocError, Global};
 use uring_core::{Answer, Core, Setup, Step};
-use uring_timelines::{Mark, explain};
 
 /// Whether the history of these steps with their answers, the oldest first, on new rings of this set-up is lawful by early effects if its finishes have some bytes or other: those that they have count for nothing, as the text of a trace tells none of them. The bytes of the completions that are reaped count. It makes so many moves at most, one for each event and for each effect that it tries, and gives up if some are left to be tried then.
 ///

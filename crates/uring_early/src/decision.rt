@@ -5,10 +5,11 @@ ghost use Rattle.uring_core.specs.Histories.{history_of};
 ghost use Rattle.uring_early.specs.Decided as decided;
 ghost use Rattle.uring_early.specs.Decided.{IsFound};
 
+use crate::mark::Mark;
 use crate::marks::add_marks;
+use crate::search::{Fate, explain};
 use std::alloc::{AllocError, Global};
 use uring_core::{Answer, Core, Setup, Step};
-use uring_timelines::{Fate, Mark, explain};
 
 /// What was found of a history.
 #[derive(Clone, Copy)]

@@ -4,14 +4,14 @@ ghost use Rattle.std.specs.Prelude.{◌≡◌, ◌↔◌, ◌++◌, ◌∷◌, [
 ghost use Rattle.uring_core.specs.Core.{FitsApart};
 ghost use Rattle.uring_core.specs.Histories.{History, history_of, world, IsLawfulApart};
 ghost use Rattle.uring_core.specs.StepAnswers.{CalledForApart};
-ghost use Rattle.uring_timelines.specs.Moves.{MeetsBytes};
+ghost use Rattle.uring_early.specs.Moves.{MeetsBytes};
 ghost use Rattle.uring_early.specs.Bare as bare;
 ghost use Rattle.uring_early.specs.Bare.{IssueMeets, IssuesMeet, blank, bytes_reaped, known_by, known_mark, known_marks, posted_in};
 
+use crate::mark::{End, Mark};
 use crate::marks::{follow_one, mark_of};
 use std::alloc::{AllocError, Global};
 use uring_core::{Answer, Core, Cqe, Step};
-use uring_timelines::{End, Mark};
 
 /// The events without their bytes.
 pub(crate) fn blanks_of(

@@ -1,6 +1,19 @@
 //! Whether a history is lawful by early effects: a search for the moments at which its operations took effect, between issue and finish, so that each result and its bytes are what the files gave then.
 #![tactic(auto)]
 
+// what is lawful where effects come early
+pub mod laws;
+
+// a search for the moments at which operations took effect
+mod apply;
+mod copies;
+mod mark;
+mod running;
+mod search;
+mod state;
+mod takers;
+
+// a history's moments, and the bytes that some of its operations gave
 mod bytes;
 mod decision;
 mod known;
@@ -8,4 +21,7 @@ mod marks;
 
 pub use bytes::find_bytes;
 pub use decision::{Found, find_effects};
+pub use mark::{End, Mark};
+pub use running::Running;
+pub use search::{Fate, explain};
 pub use uring_core::Setup;

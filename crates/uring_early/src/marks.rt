@@ -6,9 +6,9 @@ ghost use Rattle.uring_core.specs.Histories.{History, history_of, world, IsLawfu
 ghost use Rattle.uring_core.specs.StepAnswers.{CalledForApart};
 ghost use Rattle.uring_early.specs.Marks.{mark_by, marks_after};
 
+use crate::mark::{End, Mark};
 use std::alloc::AllocError;
 use uring_core::{Answer, Core, Refusal, Step};
-use uring_timelines::{End, Mark};
 
 /// Follows these events on a new core, as far as each is called for, with the mark of each, and tells whether all were: then they are a lawful history apart from what operations gave.
 pub(crate) fn add_marks(

@@ -6,6 +6,7 @@ pub mod Numbers
 pub mod Layout
 pub mod Preparation
 pub mod Success
+pub mod Results
 pub mod Below
 pub mod IndexWords
 pub mod Submission

@@ -9,9 +9,10 @@ mod payload;
 mod preparation;
 mod sqe;
 
-// a completion, and what an end is
+// a completion, what an end is, and which results an operation may give
 mod cqe;
 pub mod errno;
+mod results;
 mod success;
 mod why;
 
@@ -28,6 +29,7 @@ pub use fault::Fault;
 pub use flags::SqeFlags;
 pub use operation::{Fields, Op, Outcome, opcode};
 pub use preparation::prepare;
+pub use results::{greatest_result, may_end};
 pub use setup::Setup;
 pub use sqe::Sqe;
 pub use success::{posts_completion, succeeded};

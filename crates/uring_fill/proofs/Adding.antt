@@ -21,7 +21,7 @@ use Rattle.uring_core.specs.declared.answer.Answer.{Answer}
 use Rattle.uring_core.specs.declared.answer.Answer.TheVariants as answer
 use Rattle.uring_fill.specs.Filling.{is_hidden, seen_in, IsPart}
 use Rattle.uring_fill.specs.Parts.{is_asked, is_stale, StandsAt, Adds, HasEndsOf, IsIdle, AreNext, AreAllNext, FinishFits, TellsNext, IsErrorOf, QuietResult, with_none, with_count, with_error}
-use Rattle.uring_results.specs.Results.{may_end}
+use Rattle.uring_entry.specs.Results.{may_end}
 use Rattle.uring_fill.proofs.Events.{HiddenEvent, idle_one, start, issue_end, finish_end, flush, hidden_event, flush_idle, few_moved, issued_end, part_issue, part_finish, finish_runs, quiet_end, seen_part, part_seen}
 use Rattle.uring_fill.proofs.Issuing.{outstanding_accepted}
 use Rattle.uring_core.proofs.Sound.{sound_of}

@@ -5,7 +5,7 @@ use Rattle.uring_entry.specs.Setup.{Setup}
 use Rattle.uring_entry.specs.Layout.{Cqe}
 use Rattle.uring_rules.specs.Rules.{posts}
 use Rattle.uring_entry.specs.Requests.{Requests, entry_of, no_bytes, outstanding_in}
-use Rattle.uring_results.specs.Results.{may_end}
+use Rattle.uring_entry.specs.Results.{may_end}
 use Rattle.uring_core.specs.Histories.{Event, History, world, IsLawfulApart}
 use Rattle.uring_core.specs.Events.{reaped_by}
 use Rattle.uring_core.specs.declared.step.Step.{Step}

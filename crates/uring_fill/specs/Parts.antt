@@ -8,7 +8,7 @@ use Rattle.uring_entry.specs.Success.{posts_completion}
 use Rattle.uring_entry.specs.declared.errno.TheConstants.{EINVAL, EOPNOTSUPP, ECANCELED}
 use Rattle.uring_entry.specs.Preparation.{is_faulty, is_cancel_all}
 use Rattle.uring_entry.specs.Requests.{is_drain, outstanding_in, no_bytes, count_result}
-use Rattle.uring_results.specs.Results.{may_end}
+use Rattle.uring_entry.specs.Results.{may_end}
 use Rattle.uring_entry.specs.Completions.{completion_for}
 use Rattle.uring_core.specs.Core.{Core, FitsApart}
 use Rattle.uring_core.specs.Histories.{Event, History, world, history_of, IsLawfulApart}

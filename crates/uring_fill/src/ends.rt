@@ -2,7 +2,7 @@
 
 ghost use Rattle.std.specs.Prelude.{◌≡◌, ◌↔◌, ◌<◌, ℕ, ℤ, true, false, List, Option, IsTrue, OnOk, Some, Contains, length};
 ghost use Rattle.uring_entry.specs.Success as success;
-ghost use Rattle.uring_results.specs.Results as results;
+ghost use Rattle.uring_entry.specs.Results as results;
 ghost use Rattle.uring_entry.specs.Layout.{Sqe, Cqe};
 ghost use Rattle.uring_entry.specs.Requests.{entry_of, is_running, no_bytes};
 ghost use Rattle.uring_core.specs.Core.{FitsApart};
@@ -16,7 +16,7 @@ use crate::seen::accepted_of;
 use std::alloc::AllocError;
 use uring_core::{Answer, Core, Cqe, Sqe, SqeFlags, Step};
 use uring_entry::{posts_completion, succeeded};
-use uring_results::{greatest_result, may_end};
+use uring_entry::{greatest_result, may_end};
 
 /// The bytes of an end that gives none.
 pub(crate) const NO_BYTES: [u8; 64] = [0; 64];

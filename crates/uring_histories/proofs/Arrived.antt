@@ -13,8 +13,8 @@ use Rattle.uring_core.specs.Histories.{History, world}
 use Rattle.uring_core.specs.declared.step.Step.{Step}
 use Rattle.uring_core.specs.declared.step.Step.TheVariants as step
 use Rattle.uring_machine.specs.Machine.{Fits}
-use Rattle.uring_moves.specs.Outcomes.{CallsOutcome, ComesTo}
-use Rattle.uring_moves.specs.Laws.{GoesThrough}
+use Rattle.uring_outcomes.specs.CallOutcomes.{CallsOutcome, ComesTo}
+use Rattle.uring_outcomes.specs.MoveLaws.{GoesThrough}
 use Rattle.uring_outcomes.specs.Outcomes.{Ending}
 use Rattle.uring_ports.specs.declared.item.Item.{Item}
 use Rattle.uring_ports.specs.Items.{all_published_as}

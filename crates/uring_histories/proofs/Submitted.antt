@@ -1,5 +1,5 @@
 -- What the steps of calls, and the moves between them, make of a world.
--- By the laws of single steps, with the answers that are called for, as in the proofs of `uring_moves`.
+-- By the laws of single steps, with the answers that are called for, as in the proofs of moves.
 use Rattle.std.proofs.Common.{◌≡◌, ◌⊎◌, ◌+◌, ◌≤◌, ℕ, zero, suc, ℤ, Bool, true, false, List, [], ◌∷◌, ◌++◌, length, if◌then◌else◌, refl, sym, subst, ap, ◌∙◌, arith, inl, inr}
 use Rattle.std.proofs.lemmas.List.{length_push, map-append}
 use Rattle.uring_entry.specs.Setup.{Setup}
@@ -17,9 +17,9 @@ use Rattle.uring_core.specs.declared.answer.Answer.{Answer}
 use Rattle.uring_core.specs.declared.answer.Answer.TheVariants as answer
 use Rattle.uring_laws.specs.Standing.{Stands, with_item, with_items, in_call, after_call, item_steps}
 use Rattle.uring_laws.proofs.Standing.{slot_filled, word_staged, tail_publishes, items_published, call_opens, next_taken, call_closes}
-use Rattle.uring_moves.specs.Outcomes.{items_in}
-use Rattle.uring_moves.specs.Laws.{GoesThrough}
-use Rattle.uring_moves.proofs.ItemLists.{items_more}
+use Rattle.uring_outcomes.specs.CallOutcomes.{items_in}
+use Rattle.uring_outcomes.specs.MoveLaws.{GoesThrough}
+use Rattle.uring_outcomes.proofs.ItemLists.{items_more}
 use Rattle.uring_histories.specs.Recordings.{IsPlain, MadeAfter, Between, Over, ShowsOnly, call_steps, take_steps}
 
 split_made : (g : Setup) (h after : History) (ss ts : List Step) → MadeAfter g h (ss ++ ts) after

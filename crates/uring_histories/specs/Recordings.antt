@@ -16,7 +16,7 @@ use Rattle.uring_core.specs.declared.answer.Answer.{Answer}
 use Rattle.uring_core.specs.declared.answer.Answer.TheVariants as answer
 use Rattle.uring_machine.specs.Machine.{Fits}
 use Rattle.uring_laws.specs.Standing.{Stands, item_steps}
-use Rattle.uring_moves.specs.Outcomes.{RefusesNone, items_in}
+use Rattle.uring_outcomes.specs.CallOutcomes.{RefusesNone, items_in}
 use Rattle.uring_ports.specs.declared.item.Item.{Item}
 use Rattle.uring_ports.specs.Items.{all_published_as}
 use Rattle.uring_text.specs.Lines.{joined}

@@ -13,7 +13,7 @@ use Rattle.uring_check.specs.Checks.{IsVerdict}
 use Rattle.uring_check.specs.SetupLines.{setup_text}
 use Rattle.uring_check.specs.declared.ends.Ends.TheVariants.{Given}
 use Rattle.uring_check.specs.declared.verdict.Verdict.TheVariants as verdict
-use Rattle.uring_moves.specs.Outcomes.{CallsOutcome, ComesTo}
+use Rattle.uring_outcomes.specs.CallOutcomes.{CallsOutcome, ComesTo}
 use Rattle.uring_outcomes.specs.Outcomes.{Ending}
 use Rattle.uring_play_text.specs.Inputs.{IsTold}
 use Rattle.uring_litmus.specs.declared.form.Form.{Form}

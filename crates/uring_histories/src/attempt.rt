@@ -4,7 +4,7 @@ use std::alloc::{AllocError, Global};
 use uring_core::{Answer, Step};
 use uring_entry::Setup;
 use uring_machine::Machine;
-use uring_moves::Move;
+use uring_outcomes::Move;
 use uring_outcomes::{Ending, Files};
 
 /// How an attempt stands.

@@ -16,7 +16,7 @@ use std::alloc::Global;
 use std::cmp::min;
 use uring_core::Step;
 use uring_entry::Setup;
-use uring_moves::Move;
+use uring_outcomes::Move;
 use uring_outcomes::Ending;
 use uring_play_text::Item;
 

@@ -8,12 +8,12 @@ use Rattle.std.proofs.lemmas.List.Elements.{Contains-append_left, Contains-appen
 use Rattle.std.proofs.lemmas.List.Quantifiers.{all_pairs_push}
 use Rattle.uring_entry.specs.Setup.{Setup}
 use Rattle.uring_entry.specs.Layout.{Sqe}
-use Rattle.uring_moves.specs.Moments.{Moment, starting, moved, after_moves}
-use Rattle.uring_moves.specs.Outcomes.{IsOver}
-use Rattle.uring_moves.specs.Prompt.{AreNamed}
-use Rattle.uring_moves.specs.Direct.{IsDirect, AreDirect}
-use Rattle.uring_moves.specs.declared.move_of_calls.Move.{Move}
-use Rattle.uring_moves.proofs.Directing.{direct_moves_lead}
+use Rattle.uring_outcomes.specs.Moments.{Moment, starting, moved, after_moves}
+use Rattle.uring_outcomes.specs.CallOutcomes.{IsOver}
+use Rattle.uring_outcomes.specs.Prompt.{AreNamed}
+use Rattle.uring_outcomes.specs.Direct.{IsDirect, AreDirect}
+use Rattle.uring_outcomes.specs.declared.move_of_calls.Move.{Move}
+use Rattle.uring_outcomes.proofs.Directing.{direct_moves_lead}
 use Rattle.uring_outcomes.specs.Outcomes.{Ending, CanEnd, AreEndings, AreAllEndings, AreOnce}
 use Rattle.uring_outcomes.specs.Runs.{among}
 use Rattle.uring_outcomes.specs.Walks.{ending_of, BeginsIn, IsCovered, HasNoted, AddsOnce, IsWalk, TakesPath, HasLonger}

@@ -1,7 +1,7 @@
--- The law of `laws.rt`, by those of `uring_moves`.
+-- The law of `laws.rt`, by those of moves.
 use Rattle.std.proofs.Common.{refl}
 use Rattle.uring_entry.specs.Setup.{Setup}
-use Rattle.uring_moves.proofs.OutcomeLaws.{histories_are_moves, moves_are_histories}
+use Rattle.uring_outcomes.proofs.OutcomeLaws.{histories_are_moves, moves_are_histories}
 use Rattle.uring_outcomes.specs.Laws.{outcome_of, EndingsAreOutcomes}
 
 pub endings_are_outcomes : (g : Setup) → EndingsAreOutcomes g

@@ -8,9 +8,9 @@ use Rattle.std.specs.declared.alloc.Global.{Global}
 use Rattle.uring_entry.specs.Layout.{Sqe}
 use Rattle.uring_entry.specs.Requests.{entry_of, is_doomed, is_issuable, doomed_result, cancel_result, with_call}
 use Rattle.uring_entry.specs.Preparation.{is_cancel}
-use Rattle.uring_moves.specs.Moments.{Moment, starting, accepted, started, ended_at_once, issued, finished, is_finishable, moved, after_moves}
-use Rattle.uring_moves.specs.declared.move_of_calls.Move.{Move}
-use Rattle.uring_moves.specs.declared.move_of_calls.Move.TheVariants as move
+use Rattle.uring_outcomes.specs.Moments.{Moment, starting, accepted, started, ended_at_once, issued, finished, is_finishable, moved, after_moves}
+use Rattle.uring_outcomes.specs.declared.move_of_calls.Move.{Move}
+use Rattle.uring_outcomes.specs.declared.move_of_calls.Move.TheVariants as move
 use Rattle.uring_dispatch.specs.declared.errors.ReserveError.{ReserveError}
 use Rattle.uring_dispatch.specs.declared.errors.ReserveError.TheVariants as refused
 use Rattle.uring_outcomes.specs.Faults.{entry_count, IsReason, fault_of}

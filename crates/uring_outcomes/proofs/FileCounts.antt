@@ -9,9 +9,9 @@ use Rattle.uring_entry.specs.Requests.{entry_of, is_doomed, is_issuable, doomed_
 use Rattle.uring_files.specs.Contents.{empty_file, empty_files}
 use Rattle.uring_files.proofs.OperationCases.{many_after}
 use Rattle.uring_files.specs.Operations.{result_of}
-use Rattle.uring_moves.specs.Moments.{Moment, starting, accepted, started, ended_at_once, issued, finished, is_finishable, moved, after_moves}
-use Rattle.uring_moves.specs.declared.move_of_calls.Move.{Move}
-use Rattle.uring_moves.specs.declared.move_of_calls.Move.TheVariants as move
+use Rattle.uring_outcomes.specs.Moments.{Moment, starting, accepted, started, ended_at_once, issued, finished, is_finishable, moved, after_moves}
+use Rattle.uring_outcomes.specs.declared.move_of_calls.Move.{Move}
+use Rattle.uring_outcomes.specs.declared.move_of_calls.Move.TheVariants as move
 use Rattle.uring_outcomes.specs.Runs.{IsReached}
 
 issue_count : (m : Moment) (n : ℕ) (doomed cancel : Bool) (as_doomed as_cancel : ℤ)

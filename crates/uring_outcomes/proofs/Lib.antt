@@ -1,4 +1,21 @@
 -- In the order in which they are best read.
+pub mod ItemLists
+-- Moves are made by histories:
+pub mod Reaching
+pub mod CallsTaken
+pub mod MovesMade
+pub mod Reaping
+-- Histories are moves:
+pub mod MovesLead
+-- What is so of each moment:
+pub mod SoundMoments
+pub mod Prompting
+pub mod CallsAhead
+pub mod Directing
+-- The laws of moves:
+pub mod OutcomeLaws
+-- The definitions of moves, computed on small cases:
+mod WorkedMoves
 -- What the dispatcher answers, and the moves:
 pub mod Moving
 -- What the run stands at after a move:
@@ -17,5 +34,5 @@ pub mod Indexing
 pub mod Faulting
 -- How many files there are:
 pub mod FileCounts
--- The law:
+-- The law of the walk:
 pub mod EndingLaws

@@ -21,11 +21,11 @@ use Rattle.uring_dispatch.specs.Issuable.{issuable_from}
 use Rattle.uring_dispatch.specs.IssueAndFinish as asked
 use Rattle.uring_dispatch.specs.declared.answers.Issued.{Issued}
 use Rattle.uring_dispatch.specs.declared.answers.Issued.TheVariants.{Run, Ended, NotReady, Running, Unknown}
-use Rattle.uring_moves.specs.Moments.{Moment, starting, accepted, started, ended_at_once, issued, finished, is_finishable, moved}
-use Rattle.uring_moves.specs.declared.move_of_calls.Move.{Move}
-use Rattle.uring_moves.specs.declared.move_of_calls.Move.TheVariants as move
-use Rattle.uring_moves.proofs.MovesLead.{one_move_more, can_then}
-use Rattle.uring_moves.proofs.SoundMoments.{IsSoundMoment, moment_sound}
+use Rattle.uring_outcomes.specs.Moments.{Moment, starting, accepted, started, ended_at_once, issued, finished, is_finishable, moved}
+use Rattle.uring_outcomes.specs.declared.move_of_calls.Move.{Move}
+use Rattle.uring_outcomes.specs.declared.move_of_calls.Move.TheVariants as move
+use Rattle.uring_outcomes.proofs.MovesLead.{one_move_more, can_then}
+use Rattle.uring_outcomes.proofs.SoundMoments.{IsSoundMoment, moment_sound}
 use Rattle.uring_outcomes.specs.Runs.{entries_of, IsReached, MadeAs}
 
 -- What was made.

@@ -5,8 +5,8 @@ use Rattle.std.specs.declared.alloc.Global.{Global}
 use Rattle.std.proofs.lemmas.Bool.{both_ways}
 use Rattle.std.proofs.lemmas.List.Elements.{All-more}
 use Rattle.uring_entry.specs.Layout.{Sqe, user_data_of}
-use Rattle.uring_moves.specs.Moments.{Moment}
-use Rattle.uring_moves.specs.Direct.{AreUnnamed, IsNextUnnamed}
+use Rattle.uring_outcomes.specs.Moments.{Moment}
+use Rattle.uring_outcomes.specs.Direct.{AreUnnamed, IsNextUnnamed}
 use Rattle.uring_outcomes.specs.Runs.{among, entries_of}
 use Rattle.uring_outcomes.proofs.Moving.{next_left, none_left}
 

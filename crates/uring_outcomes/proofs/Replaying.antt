@@ -7,11 +7,11 @@ use Rattle.std.proofs.Math.Seq.{drop-cons}
 use Rattle.std.proofs.lemmas.Bool.{cases_lt}
 use Rattle.uring_entry.specs.Layout.{Sqe}
 use Rattle.uring_entry.specs.Requests.{is_issuable}
-use Rattle.uring_moves.specs.Moments.{Moment, is_finishable, moved, after_moves}
-use Rattle.uring_moves.specs.declared.move_of_calls.Move.{Move}
-use Rattle.uring_moves.specs.declared.move_of_calls.Move.TheVariants as move
-use Rattle.uring_moves.proofs.MovesLead.{one_move_more}
-use Rattle.uring_moves.specs.Direct.{IsNextUnnamed}
+use Rattle.uring_outcomes.specs.Moments.{Moment, is_finishable, moved, after_moves}
+use Rattle.uring_outcomes.specs.declared.move_of_calls.Move.{Move}
+use Rattle.uring_outcomes.specs.declared.move_of_calls.Move.TheVariants as move
+use Rattle.uring_outcomes.proofs.MovesLead.{one_move_more}
+use Rattle.uring_outcomes.specs.Direct.{IsNextUnnamed}
 use Rattle.uring_outcomes.specs.Runs.{among, StandsAt, Stands, MadeAs, LedTo, HasNext, IsQuiet, HasBelow}
 use Rattle.uring_outcomes.specs.declared.run.Run.{Run}
 use Rattle.uring_outcomes.proofs.Covering.{moves_after}

@@ -20,10 +20,10 @@ use Rattle.uring_dispatch.specs.declared.answers.Issued.{Issued}
 use Rattle.uring_dispatch.specs.declared.answers.Issued.TheVariants as answer
 use Rattle.uring_dispatch.specs.declared.answers.Finished.{Finished}
 use Rattle.uring_dispatch.specs.declared.answers.Finished.TheVariants as finish
-use Rattle.uring_moves.specs.Moments.{Moment, starting, started, ended_at_once, finished, posted_with, moved}
-use Rattle.uring_moves.specs.declared.move_of_calls.Move.{Move}
-use Rattle.uring_moves.specs.declared.move_of_calls.Move.TheVariants as move
-use Rattle.uring_moves.proofs.SoundMoments.{asks_files}
+use Rattle.uring_outcomes.specs.Moments.{Moment, starting, started, ended_at_once, finished, posted_with, moved}
+use Rattle.uring_outcomes.specs.declared.move_of_calls.Move.{Move}
+use Rattle.uring_outcomes.specs.declared.move_of_calls.Move.TheVariants as move
+use Rattle.uring_outcomes.proofs.SoundMoments.{asks_files}
 use Rattle.uring_outcomes.specs.Runs.{entries_of, StandsAt, MadeAs}
 use Rattle.uring_outcomes.specs.declared.run.Run.{Run}
 use Rattle.uring_outcomes.proofs.Moving.{made_so, reached_on, sound_at, issue_moves, entry_told, told_if_outstanding, accept_moves, runs_told, running_outstanding, finish_moves}

@@ -13,11 +13,11 @@ use Rattle.uring_entry.proofs.RequestLemmas.{list_any_push}
 use Rattle.uring_entry.specs.Preparation.{is_cancel}
 use Rattle.uring_entry.specs.Requests.{has_started, has_ended, is_outstanding, is_running, is_doomed, is_ready, is_issuable, outstanding_in}
 use Rattle.uring_dispatch.proofs.Counting.{count_below_some}
-use Rattle.uring_moves.specs.Moments.{Moment, starting, moved, after_moves}
-use Rattle.uring_moves.specs.Outcomes.{IsOver}
-use Rattle.uring_moves.specs.Prompt.{NamesAll, AreNamed}
-use Rattle.uring_moves.specs.declared.move_of_calls.Move.{Move}
-use Rattle.uring_moves.specs.declared.move_of_calls.Move.TheVariants as move
+use Rattle.uring_outcomes.specs.Moments.{Moment, starting, moved, after_moves}
+use Rattle.uring_outcomes.specs.CallOutcomes.{IsOver}
+use Rattle.uring_outcomes.specs.Prompt.{NamesAll, AreNamed}
+use Rattle.uring_outcomes.specs.declared.move_of_calls.Move.{Move}
+use Rattle.uring_outcomes.specs.declared.move_of_calls.Move.TheVariants as move
 use Rattle.uring_outcomes.specs.Outcomes.{Ending, AreAllEndings}
 use Rattle.uring_outcomes.specs.Index.{IsIndexed}
 use Rattle.uring_outcomes.specs.Runs.{among, entries_of, StandsAt, MadeAs, LedTo}

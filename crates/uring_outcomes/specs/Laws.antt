@@ -2,8 +2,8 @@
 use Rattle.std.specs.Prelude.{◌↔◌, ◌%◌, ◌^◌, Contains, List, map}
 use Rattle.uring_entry.specs.Setup.{Setup}
 use Rattle.uring_entry.specs.Submission.{Published}
-use Rattle.uring_moves.specs.Outcomes.{CallsOutcome, IsOutcomeOf, entries_in, bad_in, items_in}
-use Rattle.uring_moves.specs.Laws.{AreTakenWhole}
+use Rattle.uring_outcomes.specs.CallOutcomes.{CallsOutcome, IsOutcomeOf, entries_in, bad_in, items_in}
+use Rattle.uring_outcomes.specs.MoveLaws.{AreTakenWhole}
 use Rattle.uring_outcomes.specs.Outcomes.{Ending, AreAllEndings}
 
 -- the outcome of these calls that has this ending: every bad word was dropped

@@ -3,8 +3,8 @@ use Rattle.std.specs.Prelude.{◌≡◌, ◌↔◌, Contains, AllPairs, List}
 use Rattle.uring_entry.specs.Setup.{Setup}
 use Rattle.uring_entry.specs.Layout.{Sqe, Cqe}
 use Rattle.uring_files.specs.Contents.{FileContents}
-use Rattle.uring_moves.specs.Moments.{starting}
-use Rattle.uring_moves.specs.Outcomes.{LeadsTo}
+use Rattle.uring_outcomes.specs.Moments.{starting}
+use Rattle.uring_outcomes.specs.CallOutcomes.{LeadsTo}
 
 -- What calls came to: the completions posted, in order, and the files that are left.
 pub record Ending : Type 0 where

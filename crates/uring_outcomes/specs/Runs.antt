@@ -10,11 +10,11 @@ use Rattle.uring_entry.specs.Requests.{entry_of, is_issuable, is_running}
 use Rattle.uring_entry.specs.declared.operation.Outcome.{Outcome}
 use Rattle.uring_files.specs.Operations.{result_of}
 use Rattle.uring_dispatch.specs.Dispatch.{ShowsRequests}
-use Rattle.uring_moves.specs.Moments.{Moment, starting, is_finishable, moved, after_moves}
-use Rattle.uring_moves.specs.Prompt.{is_named}
-use Rattle.uring_moves.specs.Direct.{IsDirect}
-use Rattle.uring_moves.specs.declared.move_of_calls.Move.{Move}
-use Rattle.uring_moves.specs.declared.move_of_calls.Move.TheVariants as move
+use Rattle.uring_outcomes.specs.Moments.{Moment, starting, is_finishable, moved, after_moves}
+use Rattle.uring_outcomes.specs.Prompt.{is_named}
+use Rattle.uring_outcomes.specs.Direct.{IsDirect}
+use Rattle.uring_outcomes.specs.declared.move_of_calls.Move.{Move}
+use Rattle.uring_outcomes.specs.declared.move_of_calls.Move.TheVariants as move
 use Rattle.uring_outcomes.specs.declared.run.Run.{Run}
 
 -- the entries of calls that vectors hold

@@ -5,10 +5,10 @@ use Rattle.std.specs.declared.vec.Vec.{Vec}
 use Rattle.std.specs.declared.alloc.Global.{Global}
 use Rattle.uring_entry.specs.Setup.{Setup}
 use Rattle.uring_entry.specs.Layout.{Sqe}
-use Rattle.uring_moves.specs.Moments.{Moment, starting, after_moves}
-use Rattle.uring_moves.specs.Outcomes.{IsOver}
-use Rattle.uring_moves.specs.Direct.{AreDirect}
-use Rattle.uring_moves.specs.declared.move_of_calls.Move.{Move}
+use Rattle.uring_outcomes.specs.Moments.{Moment, starting, after_moves}
+use Rattle.uring_outcomes.specs.CallOutcomes.{IsOver}
+use Rattle.uring_outcomes.specs.Direct.{AreDirect}
+use Rattle.uring_outcomes.specs.declared.move_of_calls.Move.{Move}
 use Rattle.uring_outcomes.specs.Outcomes.{Ending, AreEndings, AreOnce}
 use Rattle.uring_outcomes.specs.Runs.{among, HasNext, LedTo}
 use Rattle.uring_outcomes.specs.Index.{IsIndexed}

@@ -2,8 +2,8 @@
 
 ghost use Rattle.std.specs.Prelude.{◌≡◌, ◌↔◌, ◌<◌, ◌≤◌, ℕ, List, IsOk, IsTrue, OnOk, length};
 ghost use Rattle.uring_entry.specs.Layout.{Sqe};
-ghost use Rattle.uring_moves.specs.Moments.{Moment};
-ghost use Rattle.uring_moves.specs.Outcomes.{IsOver};
+ghost use Rattle.uring_outcomes.specs.Moments.{Moment};
+ghost use Rattle.uring_outcomes.specs.CallOutcomes.{IsOver};
 ghost use Rattle.uring_files.specs.Operations.{file_of, byte_of};
 ghost use Rattle.uring_outcomes.specs.Runs.{StandsAt, Stands};
 ghost use Rattle.uring_outcomes.specs.Index.{IsIndexed};

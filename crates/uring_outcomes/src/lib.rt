@@ -1,6 +1,11 @@
-//! Everything that calls may come to: a walk over all lists of moves, which finds each outcome that they give.
+//! Everything that calls may come to: lists of moves, which give calls exactly the outcomes that lawful histories give them, and a walk over all of them, which finds each outcome.
 #![tactic(auto)]
 
+// the moves, and what they lead to
+pub mod move_laws;
+mod move_of_calls;
+
+// the walk
 mod ending;
 mod endings;
 mod fault;
@@ -15,6 +20,7 @@ mod walk;
 pub use ending::Ending;
 pub use fault::WalkFault;
 pub use map_memory::MapMemory;
+pub use move_of_calls::Move;
 pub use next::all_next;
 pub use paths::push_longer;
 pub use run::Run;

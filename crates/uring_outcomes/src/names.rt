@@ -1,7 +1,7 @@
 //! The user data that cancels name.
 
 ghost use Rattle.std.specs.Prelude.{◌≡◌, ◌++◌, ◌∷◌, [], ℕ, true, IsOk, OnOk};
-ghost use Rattle.uring_moves.specs.Prompt.{NamesAll, AreNamed};
+ghost use Rattle.uring_outcomes.specs.Prompt.{NamesAll, AreNamed};
 ghost use Rattle.uring_outcomes.specs.Runs.{among, entries_of};
 
 use std::alloc::AllocError;

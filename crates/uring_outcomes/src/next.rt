@@ -3,17 +3,17 @@
 ghost use Rattle.std.specs.Prelude.{◌≡◌, ◌↔◌, ◌∷◌, ◌++◌, [], true, ℕ, List, IfOk, IsOk, IsTrue, OnOk, MatchOption, Contains, Some};
 ghost use Rattle.uring_entry.specs.Layout.{Sqe};
 ghost use Rattle.uring_entry.specs.Requests.{is_issuable, is_running};
-ghost use Rattle.uring_moves.specs.Moments.{Moment, moved, is_finishable};
-ghost use Rattle.uring_moves.specs.Direct.{AreUnnamed, IsNextUnnamed};
-ghost use Rattle.uring_moves.specs.declared.move_of_calls.Move.TheVariants as move;
-ghost use Rattle.uring_moves.specs.declared.move_of_calls.Move.{Move};
+ghost use Rattle.uring_outcomes.specs.Moments.{Moment, moved, is_finishable};
+ghost use Rattle.uring_outcomes.specs.Direct.{AreUnnamed, IsNextUnnamed};
+ghost use Rattle.uring_outcomes.specs.declared.move_of_calls.Move.TheVariants as move;
+ghost use Rattle.uring_outcomes.specs.declared.move_of_calls.Move.{Move};
 ghost use Rattle.uring_outcomes.specs.Runs.{among, entries_of, Stands, StandsAt, HasNext, IsQuiet, HasBelow};
 
+use crate::move_of_calls::Move;
 use crate::run::Run;
 use std::alloc::{AllocError, Global};
 use uring_entry::Sqe;
 use uring_memory::Memory;
-use uring_moves::Move;
 
 /// The direct moves that can be made next, with others, if cancels name these user data: the acceptance of the next call alone, if none names an entry of it; and else, while a request runs that none names, its finish alone.
 pub(crate) fn next_moves<M: Memory>(

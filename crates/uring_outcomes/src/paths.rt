@@ -1,16 +1,16 @@
 //! The paths that are still to be taken.
 
 ghost use Rattle.std.specs.Prelude.{◌≡◌, ◌++◌, ◌∷◌, [], ℕ, map, IfOk, IsOk, OnOk};
-ghost use Rattle.uring_moves.specs.Moments.{Moment};
+ghost use Rattle.uring_outcomes.specs.Moments.{Moment};
 ghost use Rattle.uring_outcomes.specs.Runs.{entries_of, Stands, StandsAt};
 ghost use Rattle.uring_outcomes.specs.Walks.{paths_of, longer_by, HasLonger};
 
+use crate::move_of_calls::Move;
 use crate::next::next_moves;
 use crate::run::Run;
 use std::alloc::{AllocError, Global};
 use uring_entry::Sqe;
 use uring_memory::Memory;
-use uring_moves::Move;
 
 /// Returns one of the moves that can be made next, if there is any, and puts this path with each of the others after it among those to be taken.
 pub(crate) fn fork<M: Memory>(

@@ -5,16 +5,16 @@ ghost use Rattle.uring_entry.specs.Setup.{Setup};
 ghost use Rattle.uring_entry.specs.Layout.{Sqe};
 ghost use Rattle.uring_entry.specs.Requests.{Requests, with_call};
 ghost use Rattle.uring_dispatch.specs.Dispatch.{ShowsRequests};
-ghost use Rattle.uring_moves.specs.Moments.{Moment, starting, moved, after_moves, posted_with};
-ghost use Rattle.uring_moves.specs.declared.move_of_calls.Move.TheVariants as move;
+ghost use Rattle.uring_outcomes.specs.Moments.{Moment, starting, moved, after_moves, posted_with};
+ghost use Rattle.uring_outcomes.specs.declared.move_of_calls.Move.TheVariants as move;
 
 use crate::fault::WalkFault;
+use crate::move_of_calls::Move;
 use std::alloc::{AllocError, Global};
 use uring_dispatch::{Dispatch, Issued};
 use uring_entry::{Cqe, Sqe, errno, posts_completion, succeeded};
 use uring_files::Files;
 use uring_memory::Memory;
-use uring_moves::Move;
 
 /// What moves made of calls.
 #[derive(Drop)]

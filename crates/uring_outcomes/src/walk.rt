@@ -3,9 +3,9 @@
 ghost use Rattle.std.specs.Prelude.{◌≡◌, ◌↔◌, ◌≤◌, ◌^◌, [], ℕ, List, Some, Err, true, false, map, IfOk, IfErr, IsOk, OnOk, IsTrue};
 ghost use Rattle.uring_entry.specs.Setup.{Setup};
 ghost use Rattle.uring_entry.specs.Layout.{Sqe};
-ghost use Rattle.uring_moves.specs.Moments.{Moment};
-ghost use Rattle.uring_moves.specs.Outcomes.{IsOver};
-ghost use Rattle.uring_moves.specs.Prompt.{NamesAll, AreNamed};
+ghost use Rattle.uring_outcomes.specs.Moments.{Moment};
+ghost use Rattle.uring_outcomes.specs.CallOutcomes.{IsOver};
+ghost use Rattle.uring_outcomes.specs.Prompt.{NamesAll, AreNamed};
 ghost use Rattle.uring_outcomes.specs.Outcomes.{AreAllEndings, AreEndings, AreOnce};
 ghost use Rattle.uring_outcomes.specs.Faults.{entry_count, IsReason};
 ghost use Rattle.uring_outcomes.specs.Runs.{among, entries_of, Stands, StandsAt};
@@ -15,13 +15,13 @@ use crate::ending::{Ending, note};
 use crate::endings::Endings;
 use crate::fault::WalkFault;
 use crate::map_memory::MapMemory;
+use crate::move_of_calls::Move;
 use crate::names::add_names;
 use crate::paths::fork;
 use crate::run::Run;
 use std::alloc::{AllocError, Global};
 use uring_entry::{Setup, Sqe};
 use uring_memory::Memory;
-use uring_moves::Move;
 
 /// What was found of all that calls may come to.
 #[derive(Drop)]

@@ -13,12 +13,12 @@ use Rattle.uring_core.specs.Histories.{History, world, by_manual}
 use Rattle.uring_core.proofs.ByRules.{of_manual}
 use Rattle.uring_volume.specs.Images.{IsImage}
 use Rattle.uring_epochs.specs.Logs.{Log, empty_log, log_of}
-use Rattle.uring_moves.specs.Moments.{Moment, starting, after_moves}
-use Rattle.uring_moves.specs.Outcomes.{items_in, entries_in}
-use Rattle.uring_moves.specs.Recorded.{moves_in}
-use Rattle.uring_moves.proofs.MovesMade.{moment_of, moves_made}
-use Rattle.uring_moves.proofs.Reaping.{AllReaped, all_reaped}
-use Rattle.uring_moves.proofs.OutcomeLaws.{same_cut, all_taken, first_between, some_size}
+use Rattle.uring_outcomes.specs.Moments.{Moment, starting, after_moves}
+use Rattle.uring_outcomes.specs.CallOutcomes.{items_in, entries_in}
+use Rattle.uring_outcomes.specs.Recorded.{moves_in}
+use Rattle.uring_outcomes.proofs.MovesMade.{moment_of, moves_made}
+use Rattle.uring_outcomes.proofs.Reaping.{AllReaped, all_reaped}
+use Rattle.uring_outcomes.proofs.OutcomeLaws.{same_cut, all_taken, first_between, some_size}
 use Rattle.uring_power.specs.Shown.{Crash, HasBegun, AreLeft}
 use Rattle.uring_power.specs.Moves.{log_along, CanShow}
 use Rattle.uring_power.specs.Laws.{HistoriesShowMoves, MovesShowHistories, IsSeen}

@@ -24,13 +24,13 @@ use Rattle.uring_core.proofs.Changes.{Change, IsSilent, refuses, closes, runs, d
 use Rattle.uring_laws.proofs.WholeLaws.{lawful_apart}
 use Rattle.uring_machine.specs.Machine.{IsUnrefused}
 use Rattle.uring_epochs.specs.Logs.{Log, empty_log, log_of, logged, begun, begun_of, finished, finished_of}
-use Rattle.uring_moves.specs.Moments.{Moment, starting, moved, after_moves}
-use Rattle.uring_moves.specs.Outcomes.{entries_in, RefusesNone}
-use Rattle.uring_moves.specs.Recorded.{with_event, moves_in}
-use Rattle.uring_moves.specs.declared.move_of_calls.Move.{Move}
-use Rattle.uring_moves.specs.declared.move_of_calls.Move.TheVariants as move
-use Rattle.uring_moves.proofs.MovesMade.{moment_of}
-use Rattle.uring_moves.proofs.MovesLead.{HasCome, come_at_first, comes_after, one_move_more, silent_makes_none}
+use Rattle.uring_outcomes.specs.Moments.{Moment, starting, moved, after_moves}
+use Rattle.uring_outcomes.specs.CallOutcomes.{entries_in, RefusesNone}
+use Rattle.uring_outcomes.specs.Recorded.{with_event, moves_in}
+use Rattle.uring_outcomes.specs.declared.move_of_calls.Move.{Move}
+use Rattle.uring_outcomes.specs.declared.move_of_calls.Move.TheVariants as move
+use Rattle.uring_outcomes.proofs.MovesMade.{moment_of}
+use Rattle.uring_outcomes.proofs.MovesLead.{HasCome, come_at_first, comes_after, one_move_more, silent_makes_none}
 use Rattle.uring_power.specs.Moves.{log_moved, log_past, log_along}
 
 -- One move more.

@@ -18,9 +18,9 @@ use Rattle.uring_epochs.specs.Epochs.{first_files, logs_on, file_at}
 use Rattle.uring_epochs.specs.Logs.{Log, empty_log, log_on}
 use Rattle.uring_epochs.proofs.EpochCrashes.{Keeps, begun_keeps, finished_keeps}
 use Rattle.uring_epochs.proofs.Noted.{first_many, first_at, logs_at}
-use Rattle.uring_moves.specs.Moments.{Moment, starting, moved}
-use Rattle.uring_moves.specs.declared.move_of_calls.Move.{Move}
-use Rattle.uring_moves.specs.declared.move_of_calls.Move.TheVariants as move
+use Rattle.uring_outcomes.specs.Moments.{Moment, starting, moved}
+use Rattle.uring_outcomes.specs.declared.move_of_calls.Move.{Move}
+use Rattle.uring_outcomes.specs.declared.move_of_calls.Move.TheVariants as move
 use Rattle.uring_power.specs.Shown.{Crash}
 use Rattle.uring_power.specs.Moves.{log_moved, log_past, log_along}
 use Rattle.uring_outcomes.specs.declared.run.Run.{Run}

@@ -5,8 +5,8 @@ use Rattle.std.specs.Option.{option_and_then}
 use Rattle.std.proofs.lemmas.List.Elements.{Contains-append_left, Contains-append_right, Contains-append_cases, Contains-push_cases}
 use Rattle.uring_entry.specs.Setup.{Setup}
 use Rattle.uring_entry.specs.Layout.{Sqe}
-use Rattle.uring_moves.specs.Moments.{Moment, starting, moved, after_moves}
-use Rattle.uring_moves.specs.declared.move_of_calls.Move.{Move}
+use Rattle.uring_outcomes.specs.Moments.{Moment, starting, moved, after_moves}
+use Rattle.uring_outcomes.specs.declared.move_of_calls.Move.{Move}
 use Rattle.uring_outcomes.specs.Walks.{BeginsIn}
 use Rattle.uring_outcomes.proofs.Covering.{moves_after}
 use Rattle.uring_power.specs.Shown.{Crash}

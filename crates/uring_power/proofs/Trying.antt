@@ -14,10 +14,10 @@ use Rattle.uring_files.specs.Operations.{IsForFiles}
 use Rattle.uring_epochs.specs.Epochs.{first_files, logs_on}
 use Rattle.uring_epochs.specs.Logs.{Log, begun, begun_of, finished_of}
 use Rattle.uring_epochs.proofs.Noted.{map_same, map_twice, map_alike}
-use Rattle.uring_moves.specs.Moments.{Moment, starting, issued, ended_at_once, started, moved, after_moves}
-use Rattle.uring_moves.specs.declared.move_of_calls.Move.{Move}
-use Rattle.uring_moves.specs.declared.move_of_calls.Move.TheVariants as move
-use Rattle.uring_moves.proofs.MovesLead.{one_move_more}
+use Rattle.uring_outcomes.specs.Moments.{Moment, starting, issued, ended_at_once, started, moved, after_moves}
+use Rattle.uring_outcomes.specs.declared.move_of_calls.Move.{Move}
+use Rattle.uring_outcomes.specs.declared.move_of_calls.Move.TheVariants as move
+use Rattle.uring_outcomes.proofs.MovesLead.{one_move_more}
 use Rattle.uring_outcomes.specs.Runs.{StandsAt, MadeAs, called_in}
 use Rattle.uring_outcomes.proofs.Moving.{issue_can, finish_can, finishable_tells}
 use Rattle.uring_outcomes.specs.declared.run.Run.{Run}

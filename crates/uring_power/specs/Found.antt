@@ -4,8 +4,8 @@ use Rattle.uring_entry.specs.Setup.{Setup}
 use Rattle.uring_entry.specs.Layout.{Sqe}
 use Rattle.uring_volume.specs.Listing.{AreTheImages}
 use Rattle.uring_epochs.specs.Logs.{empty_log}
-use Rattle.uring_moves.specs.Moments.{Moment, starting, after_moves}
-use Rattle.uring_moves.specs.declared.move_of_calls.Move.{Move}
+use Rattle.uring_outcomes.specs.Moments.{Moment, starting, after_moves}
+use Rattle.uring_outcomes.specs.declared.move_of_calls.Move.{Move}
 use Rattle.uring_outcomes.specs.Faults.{entry_count}
 use Rattle.uring_power.specs.Shown.{Crash}
 use Rattle.uring_power.specs.Moves.{log_along, CanShow}

@@ -3,8 +3,8 @@ use Rattle.std.specs.Prelude.{◌≡◌, ℕ, List, map}
 use Rattle.uring_entry.specs.Setup.{Setup}
 use Rattle.uring_entry.specs.Submission.{Published}
 use Rattle.uring_core.specs.Histories.{world}
-use Rattle.uring_moves.specs.Outcomes.{entries_in}
-use Rattle.uring_moves.specs.Laws.{AreTakenWhole}
+use Rattle.uring_outcomes.specs.CallOutcomes.{entries_in}
+use Rattle.uring_outcomes.specs.MoveLaws.{AreTakenWhole}
 use Rattle.uring_power.specs.Shown.{Crash, MayShow}
 use Rattle.uring_power.specs.Moves.{CanShow}
 

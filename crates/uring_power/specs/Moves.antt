@@ -6,9 +6,9 @@ use Rattle.uring_entry.specs.Preparation.{is_cancel, operation_of}
 use Rattle.uring_entry.specs.Requests.{entry_of, is_doomed}
 use Rattle.uring_files.specs.Operations.{result_of}
 use Rattle.uring_epochs.specs.Logs.{Log, empty_log, begun, finished}
-use Rattle.uring_moves.specs.Moments.{Moment, starting, moved, after_moves}
-use Rattle.uring_moves.specs.declared.move_of_calls.Move.{Move}
-use Rattle.uring_moves.specs.declared.move_of_calls.Move.TheVariants as move
+use Rattle.uring_outcomes.specs.Moments.{Moment, starting, moved, after_moves}
+use Rattle.uring_outcomes.specs.declared.move_of_calls.Move.{Move}
+use Rattle.uring_outcomes.specs.declared.move_of_calls.Move.TheVariants as move
 use Rattle.uring_power.specs.Shown.{Crash, AreLeft}
 
 -- what a move makes of the log of a file: a request that starts begins there, and one that is finished ends there

@@ -7,7 +7,7 @@ use Rattle.uring_volume.specs.Images.{IsImage}
 use Rattle.uring_core.specs.CalledFor.{IsLawful}
 use Rattle.uring_core.specs.Histories.{History, world}
 use Rattle.uring_epochs.specs.Logs.{Log, log_of}
-use Rattle.uring_moves.specs.Outcomes.{items_in, RefusesNone}
+use Rattle.uring_outcomes.specs.CallOutcomes.{items_in, RefusesNone}
 
 -- What a power failure shows: the completions that were posted by then, in order, and the bytes that are left of each file, from descriptor 0 on.
 pub record Crash : Type 0 where

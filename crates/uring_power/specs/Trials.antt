@@ -7,8 +7,8 @@ use Rattle.uring_volume.specs.Images.{IsImage}
 use Rattle.uring_volume.specs.Listing.{AreTheImages}
 use Rattle.uring_epochs.specs.Epochs.{first_files, logs_on}
 use Rattle.uring_epochs.specs.Logs.{Log, empty_log}
-use Rattle.uring_moves.specs.Moments.{Moment, starting, after_moves}
-use Rattle.uring_moves.specs.declared.move_of_calls.Move.{Move}
+use Rattle.uring_outcomes.specs.Moments.{Moment, starting, after_moves}
+use Rattle.uring_outcomes.specs.declared.move_of_calls.Move.{Move}
 use Rattle.uring_outcomes.specs.Runs.{StandsAt}
 use Rattle.uring_outcomes.specs.Walks.{BeginsIn}
 use Rattle.uring_outcomes.specs.declared.run.Run.{Run}

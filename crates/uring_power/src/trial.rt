@@ -5,8 +5,8 @@ ghost use Rattle.uring_entry.specs.Setup.{Setup};
 ghost use Rattle.uring_entry.specs.Layout.{Sqe};
 ghost use Rattle.uring_entry.specs.Requests.{no_bytes};
 ghost use Rattle.uring_core.specs.declared.answer.Answer.TheVariants as answer;
-ghost use Rattle.uring_moves.specs.declared.move_of_calls.Move.{Move};
-ghost use Rattle.uring_moves.specs.declared.move_of_calls.Move.TheVariants as move;
+ghost use Rattle.uring_outcomes.specs.declared.move_of_calls.Move.{Move};
+ghost use Rattle.uring_outcomes.specs.declared.move_of_calls.Move.TheVariants as move;
 ghost use Rattle.uring_outcomes.specs.Runs.{entries_of, Stands};
 ghost use Rattle.uring_power.specs.Trials.{HasMade, HasTried};
 ghost use Rattle.uring_power.specs.Faults.{IsSpent};
@@ -14,7 +14,7 @@ ghost use Rattle.uring_power.specs.Faults.{IsSpent};
 use std::alloc::{AllocError, Global};
 use uring_entry::Sqe;
 use uring_epochs::{Answer, FileLog, Setup, make_logs, note_finish, note_issue};
-use uring_moves::Move;
+use uring_outcomes::Move;
 use uring_outcomes::{Run, WalkFault};
 
 /// A run of calls, and what has happened to each file.

@@ -1,7 +1,7 @@
 //! The walk over all lists of moves, with what a power failure may show after each.
 
 ghost use Rattle.std.specs.Prelude.{◌≡◌, ◌<◌, ◌++◌, ◌∷◌, [], ℕ, List, true, false, IfOk, IfErr, OnOk};
-ghost use Rattle.uring_moves.specs.declared.move_of_calls.Move.{Move};
+ghost use Rattle.uring_outcomes.specs.declared.move_of_calls.Move.{Move};
 ghost use Rattle.uring_outcomes.specs.Runs.{entries_of};
 ghost use Rattle.uring_outcomes.specs.Walks.{paths_of};
 ghost use Rattle.uring_power.specs.Found.{AreCrashes, AreAllCrashes, IsReason};
@@ -13,7 +13,7 @@ use crate::trial::Trial;
 use std::alloc::{AllocError, Global};
 use uring_entry::Sqe;
 use uring_epochs::Setup;
-use uring_moves::Move;
+use uring_outcomes::Move;
 use uring_outcomes::{all_next, push_longer};
 
 /// What was found of all that a power failure may show.

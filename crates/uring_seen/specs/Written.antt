@@ -11,7 +11,7 @@ use Rattle.uring_core.specs.declared.answer.Answer.{Answer}
 use Rattle.uring_core.specs.declared.answer.Answer.TheVariants as answer
 use Rattle.uring_core.specs.declared.step.Step.{Step}
 use Rattle.uring_core.specs.declared.step.Step.TheVariants as step
-use Rattle.uring_effects.specs.Effects.{IsLawfulEarly}
+use Rattle.uring_early.specs.Effects.{IsLawfulEarly}
 use Rattle.uring_text.specs.Completions.{completion_text}
 use Rattle.uring_text.specs.Remarks.{is_remark}
 use Rattle.uring_text.specs.Spelling.{AreBytes, IsFile}

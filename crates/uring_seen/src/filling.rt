@@ -51,7 +51,7 @@ struct Seen<'a> {
 
 /// Looks for a history that shows what was seen of new rings of this set-up. `input` has it: a recorded trace, as `uring_check::check` reads one apart from what operations give, but without the steps that can't be seen from outside, which are issues, finishes and flushes. The first line may say the set-up. It looks at so many histories at most.
 ///
-/// - `Found`: the text is the line of the set-up, and each step of the history with its answer. The history is lawful apart from what operations give, each of these gives what it may give (`uring_results::may_end`), each request has ended, and each completion has been reaped.
+/// - `Found`: the text is the line of the set-up, and each step of the history with its answer. The history is lawful apart from what operations give, each of these gives what it may give (`uring_entry::may_end`), each request has ended, and each completion has been reaped.
 /// - `Nothing`: there is none. The text is a lawful history that comes far, and after it a remark with the first line that it doesn't show.
 /// - `GaveUp`: some were left. The text is as of `Nothing`.
 /// - `Bad`: a line is no step with ` = ` and a text after it, or a step that can't be seen, or the first line misses its set-up. The text names it by its number, from 1 on, and says what is wrong with it.

@@ -1,4 +1,6 @@
 -- In the order in which they are best read.
+-- Events in few bytes:
+pub mod Keeping
 -- What steps of the trace make, one by one and so many times:
 pub mod TraceSteps
 pub mod Recording

@@ -11,11 +11,11 @@ ghost use Rattle.uring_core.specs.StepAnswers.{CalledForApart};
 ghost use Rattle.uring_core.specs.declared.answer.Answer.TheVariants as answer;
 ghost use Rattle.uring_core.specs.declared.step.Step.TheVariants as step;
 
+use crate::events::Events;
 use crate::take_result::take_result;
 use std::alloc::{AllocError, Global};
 use std::marker::Model;
 use uring_core::{Answer, Core, Counts, Cqe, Op, Outcome, Setup, Step};
-use uring_events::Events;
 use uring_memory::Memory;
 
 /// A core with the trace of all its steps and their answers, the oldest first. The core always fits this trace: no step is left out, and none made up. Its calls don't stop after an entry with a fault.

@@ -3,6 +3,11 @@
 
 pub mod laws;
 
+// events in few bytes, of which the trace is made
+mod brief;
+mod events;
+mod store;
+
 // the dispatcher's side
 mod calls;
 mod collect;
@@ -22,13 +27,13 @@ mod settle_ends;
 mod settle_work;
 mod worker_files;
 
+pub use events::Events;
 pub use kernel::Kernel;
 pub use opening::{LanesFault, check_ends, ends, ends_in, lanes, lanes_in, words, words_in};
 pub use report::Report;
 pub use settle_ends::{NotSettled, settle, settle_in};
 pub use turns::Turn;
 pub use uring_core::{Answer, Core, Counts, Cqe, Fault, Op, Outcome, Setup, Sqe, SqeFlags, Step};
-pub use uring_events::Events;
 pub use uring_memory::Memory;
 pub use uring_ports::{
     AppEnd, AppLanes, AppPort, CloseRefusal, Item, KernelLanes, KernelPort, LaneMemory, Pulled,

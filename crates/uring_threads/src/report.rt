@@ -11,13 +11,13 @@ ghost use Rattle.uring_threads.specs.Kept.{now, IsUnmoved};
 ghost use Rattle.uring_threads.specs.Report.{left_by, FinishesAll, LeavesRunning, ReapsPosted};
 ghost use Rattle.uring_workers.specs.Opened.{AreLanesOf};
 
+use crate::events::Events;
 use crate::kept::Kept;
 use crate::settle_work::settle_workers;
 use crate::worker_files;
 use std::alloc::{AllocError, Global};
 use std::marker::Model;
 use uring_core::{Counts, Cqe, Setup};
-use uring_events::Events;
 use uring_files::FileState;
 use uring_laws::reaped_begin_posted;
 use uring_memory::Memory;

@@ -5,9 +5,9 @@ ghost use Rattle.uring_core.specs.Histories.{History, world};
 ghost use Rattle.uring_core.specs.declared.answer.Answer.TheVariants as answer;
 ghost use Rattle.uring_core.specs.declared.step.Step.TheVariants as step;
 
+use crate::events::Events;
 use std::alloc::AllocError;
 use uring_core::{Answer, Core, Outcome, Step};
-use uring_events::Events;
 use uring_memory::Memory;
 
 /// Ends the request of this number with this outcome, and records that after the trace: answers as `Core::finish`.

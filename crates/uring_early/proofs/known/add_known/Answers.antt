@@ -4,7 +4,7 @@ use Rattle.uring_entry.specs.Setup.{Setup}
 use Rattle.uring_core.specs.Core.{FitsApart}
 use Rattle.uring_core.specs.Histories.{history_of, world}
 use Rattle.uring_core.proofs.Following.{history_of_snoc}
-use Rattle.uring_timelines.specs.declared.mark.Mark.{Mark}
+use Rattle.uring_early.specs.declared.mark.Mark.{Mark}
 use Rattle.uring_early.specs.Bare.{IssueMeets, IssuesMeet, known_by, known_mark, known_marks}
 use Rattle.uring_early.proofs.Knowing.{issues_more, known_more, wrong_known}
 use Rattle.uring_early.proofs.Marking.{taken_next}

@@ -2,7 +2,7 @@ use Rattle.std.proofs.Common.{◌≡◌, ◌∷◌, [], ◌++◌, false, true, �
 use Rattle.std.proofs.lemmas.Bool.{both_ways, not-true, not-false}
 use Rattle.uring_entry.specs.Setup.{Setup}
 use Rattle.uring_core.specs.Histories.{world}
-use Rattle.uring_timelines.specs.declared.mark.Mark.{Mark}
+use Rattle.uring_early.specs.declared.mark.Mark.{Mark}
 use Rattle.uring_early.specs.Bare.{IssueMeets, known_by, known_mark, posted_in}
 use Rattle.uring_early.proofs.Knowing.{known_is}
 use Rattle.uring_early.proofs.known.add_one.Goals as goal

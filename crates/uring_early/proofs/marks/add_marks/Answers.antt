@@ -4,7 +4,7 @@ use Rattle.uring_entry.specs.Setup.{Setup}
 use Rattle.uring_core.specs.Core.{FitsApart}
 use Rattle.uring_core.specs.Histories.{history_of, world}
 use Rattle.uring_core.proofs.Following.{history_of_snoc}
-use Rattle.uring_timelines.specs.declared.mark.Mark.{Mark}
+use Rattle.uring_early.specs.declared.mark.Mark.{Mark}
 use Rattle.uring_early.specs.Marks.{mark_by, marks_after}
 use Rattle.uring_early.proofs.Marking.{marks_more, taken_next, wrong_from}
 use Rattle.uring_early.proofs.marks.add_marks.Goals as goal

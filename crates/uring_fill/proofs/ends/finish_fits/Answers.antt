@@ -5,7 +5,7 @@ use Rattle.std.proofs.lemmas.Bool.{not-false}
 use Rattle.uring_entry.specs.Success as success
 use Rattle.uring_entry.specs.Completions.{completion_for}
 use Rattle.uring_entry.specs.Layout.{Cqe}
-use Rattle.uring_results.specs.Results as results
+use Rattle.uring_entry.specs.Results as results
 use Rattle.uring_fill.proofs.Adding.{fits_told, fits_quiet}
 use Rattle.uring_fill.proofs.ends.finish_fits.Goals as goal
 

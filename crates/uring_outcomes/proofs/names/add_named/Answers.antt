@@ -5,7 +5,7 @@ use Rattle.std.proofs.lemmas.Bool.{ne_eqb, both_ways}
 use Rattle.std.proofs.lemmas.List.{take_all}
 use Rattle.uring_entry.specs.Layout.{addr_of}
 use Rattle.uring_entry.specs.Preparation.{is_cancel}
-use Rattle.uring_moves.specs.Prompt.{NamesAll}
+use Rattle.uring_outcomes.specs.Prompt.{NamesAll}
 use Rattle.uring_outcomes.specs.Runs.{among}
 use Rattle.uring_outcomes.proofs.Walking.{among_kept, among_pushed, names_kept, names_more}
 use Rattle.uring_outcomes.proofs.names.add_named.Goals as goal

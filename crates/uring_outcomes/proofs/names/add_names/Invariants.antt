@@ -1,5 +1,5 @@
 use Rattle.std.proofs.Common.{take}
-use Rattle.uring_moves.specs.Prompt.{AreNamed}
+use Rattle.uring_outcomes.specs.Prompt.{AreNamed}
 use Rattle.uring_outcomes.specs.Runs.{among, entries_of}
 use Rattle.uring_outcomes.proofs.names.add_names.Given as goal
 

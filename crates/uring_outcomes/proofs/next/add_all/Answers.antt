@@ -1,4 +1,4 @@
-use Rattle.uring_moves.specs.declared.move_of_calls.Move.TheVariants as move
+use Rattle.uring_outcomes.specs.declared.move_of_calls.Move.TheVariants as move
 use Rattle.uring_outcomes.specs.Runs.{entries_of}
 use Rattle.uring_outcomes.proofs.Replaying.{more_below}
 use Rattle.uring_outcomes.proofs.next.add_all.Goals as goal

@@ -4,8 +4,8 @@ use Rattle.std.specs.declared.vec.Vec.{Vec}
 use Rattle.std.specs.declared.alloc.Global.{Global}
 use Rattle.std.proofs.lemmas.Bool.{both_ways}
 use Rattle.std.proofs.lemmas.List.Elements.{Contains-append_left, Contains-push}
-use Rattle.uring_moves.specs.declared.move_of_calls.Move.{Move}
-use Rattle.uring_moves.specs.declared.move_of_calls.Move.TheVariants as move
+use Rattle.uring_outcomes.specs.declared.move_of_calls.Move.{Move}
+use Rattle.uring_outcomes.specs.declared.move_of_calls.Move.TheVariants as move
 use Rattle.uring_outcomes.proofs.Moving.{finishable_tells}
 use Rattle.uring_outcomes.proofs.next.add_of.Goals as goal
 use Rattle.uring_outcomes.proofs.next.add_of.Goals.{then-can_issue+in_ok-push_move, else-can_issue}

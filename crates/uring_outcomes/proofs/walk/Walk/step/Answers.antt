@@ -1,7 +1,7 @@
 use Rattle.std.proofs.Common.{[], ◌∷◌, ◌++◌, refl, sym, subst, ap, ◌∙◌}
 use Rattle.std.specs.Option.{option_and_then}
-use Rattle.uring_moves.specs.Moments.{starting, moved}
-use Rattle.uring_moves.proofs.MovesLead.{one_move_more}
+use Rattle.uring_outcomes.specs.Moments.{starting, moved}
+use Rattle.uring_outcomes.proofs.MovesLead.{one_move_more}
 use Rattle.uring_outcomes.specs.Runs.{entries_of, StandsAt, MadeAs}
 use Rattle.uring_outcomes.specs.Walks.{paths_of}
 use Rattle.uring_outcomes.proofs.Walking.{gone}

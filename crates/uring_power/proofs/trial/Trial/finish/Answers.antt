@@ -8,8 +8,8 @@ use Rattle.uring_entry.specs.Requests.{no_bytes}
 use Rattle.uring_core.specs.declared.answer.Answer.{Answer}
 use Rattle.uring_core.specs.declared.answer.Answer.TheVariants as answer
 use Rattle.uring_epochs.specs.Logs.{Log, finished_of, finished_as}
-use Rattle.uring_moves.specs.Moments.{moved}
-use Rattle.uring_moves.specs.declared.move_of_calls.Move.TheVariants as move
+use Rattle.uring_outcomes.specs.Moments.{moved}
+use Rattle.uring_outcomes.specs.declared.move_of_calls.Move.TheVariants as move
 use Rattle.uring_outcomes.specs.Runs.{StandsAt, MadeAs, called_in}
 use Rattle.uring_power.proofs.Trying.{not_tried, tried, finish_logs}
 use Rattle.uring_power.proofs.trial.Trial.finish.Goals as goal

@@ -3,8 +3,8 @@ use Rattle.std.specs.Vec.{with_items}
 use Rattle.std.proofs.lemmas.List.{with_items_is}
 use Rattle.uring_epochs.specs.Logs.{Log, begun_of}
 use Rattle.uring_entry.specs.Requests.{operation_running}
-use Rattle.uring_moves.specs.Moments.{Moment, moved}
-use Rattle.uring_moves.specs.declared.move_of_calls.Move.TheVariants as move
+use Rattle.uring_outcomes.specs.Moments.{Moment, moved}
+use Rattle.uring_outcomes.specs.declared.move_of_calls.Move.TheVariants as move
 use Rattle.uring_outcomes.specs.Runs.{StandsAt, MadeAs}
 use Rattle.uring_power.proofs.Trying.{not_tried, tried, issue_logs, stands_made, asks_all}
 use Rattle.uring_power.proofs.trial.Trial.issue.Goals as goal

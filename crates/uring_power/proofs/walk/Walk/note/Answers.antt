@@ -1,7 +1,7 @@
 use Rattle.std.proofs.Common.{◌≡◌, List, ◌∷◌, ◌++◌, [], map, sym, subst, ap, ◌∙◌}
 use Rattle.uring_entry.specs.Layout.{Cqe}
 use Rattle.uring_epochs.specs.Logs.{Log}
-use Rattle.uring_moves.specs.declared.move_of_calls.Move.{Move}
+use Rattle.uring_outcomes.specs.declared.move_of_calls.Move.{Move}
 use Rattle.uring_outcomes.specs.Runs.{entries_of}
 use Rattle.uring_outcomes.specs.Walks.{paths_of}
 use Rattle.uring_power.specs.Found.{IsReason}

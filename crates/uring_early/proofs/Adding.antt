@@ -1,0 +1,243 @@
+-- The operations that may take effect before an end are those that are added for each that runs.
+use Rattle.std.proofs.Common.{◌≡◌, ◌==◌, ◌<◌, ◌+◌, ℕ, Bool, true, false, List, [], ◌∷◌, ◌++◌, Option, Some, None, if◌then◌else◌, refl, sym, ap, subst, ◌∙◌, ◌⊎◌, inl, inr, arith, negsuc, map}
+use Rattle.std.specs.Prelude.{Contains, is_some}
+use Rattle.std.proofs.lemmas.Bool.{eq-eqb, eqb-true, both_ways}
+use Rattle.std.proofs.lemmas.Option.{same_Some}
+use Rattle.std.proofs.lemmas.List.Elements.{Contains-append_left, Contains-append_right, Contains-push, Contains-push_cases}
+use Rattle.uring_entry.specs.declared.operation.Op.{Op}
+use Rattle.uring_entry.specs.declared.operation.Outcome.{Outcome}
+use Rattle.uring_files.specs.Contents.{FileContents}
+use Rattle.uring_files.specs.Operations.{IsForFiles, IsOutcome, ended_with, is_lengthening, result_of}
+use Rattle.uring_early.specs.declared.mark.End.{End}
+use Rattle.uring_early.specs.declared.mark.Mark.{Mark}
+use Rattle.uring_early.specs.declared.running.Running.{Running}
+use Rattle.uring_early.specs.declared.takers.Taker.{Taker}
+use Rattle.uring_early.specs.Moves.{FitsEnd, MayTake, awaits, end_in, look, plain}
+use Rattle.uring_early.specs.Search.{Adds, AreTakers}
+use Rattle.uring_early.proofs.Plain.{outcome_back, outcome_plain}
+
+-- nothing was added, as nothing has the property
+pub adds_none : (P : Taker → Type 0) (old : List Taker) → ((x : Taker) → P x → ⊥) → Adds P old old
+adds_none P old none = record {
+  kept = λ x there. there;
+  right = λ x there. inl there;
+  all = λ x has. absurd (none x has);
+}
+
+-- one was added
+pub adds_one : (P : Taker → Type 0) (old new : List Taker) (one : Taker) → new ≡ old ++ one ∷ [] → P one
+    → ((x : Taker) → P x → one ≡ x) → Adds P old new
+adds_one P old new one is has alone = record {
+  kept = λ x there. subst (λ (xs : List Taker). Contains xs x) (sym is) (Contains-append_left old (one ∷ []) x there);
+  right = λ x there. elim (Contains-push_cases old one x (subst (λ (xs : List Taker). Contains xs x) is there)) [
+    | inl before ↦ inl before
+    | inr same ↦ inr (subst P same has)
+  ];
+  all = λ x has_it. subst (λ (xs : List Taker). Contains xs x) (sym is) (subst (Contains (old ++ one ∷ [])) (alone x has_it) (Contains-push old one));
+}
+
+-- those of one kind were added, and then those of another
+pub adds_both : (P Q R : Taker → Type 0) (old mid new : List Taker) → Adds P old mid → Adds Q mid new
+    → ((x : Taker) → P x → R x) → ((x : Taker) → Q x → R x) → ((x : Taker) → R x → P x ⊎ Q x)
+    → Adds R old new
+adds_both P Q R old mid new first second left right cases = record {
+  kept = λ x there. second.kept x (first.kept x there);
+  right = λ x there. elim (second.right x there) [
+    | inl before ↦ (elim (first.right x before) [ inl there ↦ inl there | inr has ↦ inr (left x has) ])
+    | inr has ↦ inr (right x has)
+  ];
+  all = λ x has. elim (cases x has) [ inl p ↦ second.kept x (first.all x p) | inr q ↦ second.all x q ];
+}
+
+pub adds_same : (P Q : Taker → Type 0) (old new : List Taker) → Adds P old new → ((x : Taker) → P x → Q x)
+    → ((x : Taker) → Q x → P x) → Adds Q old new
+adds_same P Q old new adds to from = record {
+  kept = adds.kept;
+  right = λ x there. elim (adds.right x there) [ inl before ↦ inl before | inr has ↦ inr (to x has) ];
+  all = λ x has. adds.all x (from x has);
+}
+
+-- what is found stands at a place, and has the number
+pub record StandsIn (running : List Running) (n : ℕ) : Type 0 where
+  pub one : Running
+  pub there : Contains running one
+  pub number : one.number ≡ n
+
+in_rest : (r : Running) (rs : List Running) (n : ℕ) → StandsIn rs n → StandsIn (r ∷ rs) n
+in_rest r rs n later = record {
+  one = later.one;
+  there = Contains-append_right (r ∷ []) rs later.one later.there;
+  number = later.number;
+}
+
+found_by : (r : Running) (rs : List Running) (n : ℕ) (b : Bool) (one : Running) → (r.number == n) ≡ b
+    → (look rs n ≡ Some one → StandsIn rs n)
+    → (if b then Some r else look rs n) ≡ Some one → StandsIn (r ∷ rs) n
+found_by r rs n true one same later found = record {
+  one = r;
+  there = Contains-append_left (r ∷ []) rs r (0, omega arith, refl);
+  number = eqb-true r.number n same;
+}
+found_by r rs n false one other later found = in_rest r rs n (later found)
+
+pub stands_in : (running : List Running) (n : ℕ) (one : Running) → look running n ≡ Some one → StandsIn running n
+stands_in [] n one found = absurd (let f : None ≡ Some one = found in cc)
+stands_in (r ∷ rs) n one found =
+    found_by r rs n (r.number == n) one refl (λ later. stands_in rs n one later) found
+
+number_by : (r : Running) (rs : List Running) (n : ℕ) (b : Bool) (one : Running) → (r.number == n) ≡ b
+    → (look rs n ≡ Some one → one.number ≡ n)
+    → (if b then Some r else look rs n) ≡ Some one → one.number ≡ n
+number_by r rs n true one same later found =
+    ap (λ (x : Running). x.number) (sym (same_Some r one found)) ∙ eqb-true r.number n same
+number_by r rs n false one other later found = later found
+
+found_number : (running : List Running) (n : ℕ) (one : Running) → look running n ≡ Some one → one.number ≡ n
+found_number [] n one found = absurd (let f : None ≡ Some one = found in cc)
+found_number (r ∷ rs) n one found =
+    number_by r rs n (r.number == n) one refl (λ later. found_number rs n one later) found
+
+-- ---- the outcomes of one that runs
+
+-- the operation of a request runs, has taken no effect, and may take one here
+pub record IsReady (running : List Running) (left : List Mark) (n : ℕ) (op : Op) : Type 0 where
+  pub runs : look running n ≡ Some (record { number = n; op = op; taken = None })
+  pub asks : IsForFiles op
+  pub waits : awaits running left ≡ true
+
+none_taken : (o : Option Outcome) → is_some o ≡ false → o ≡ None
+none_taken None e = refl
+none_taken (Some x) e = let f : true ≡ false = e in absurd cc
+
+pub ready_by : (running : List Running) (left : List Mark) (n : ℕ) (one : Running) → Some one ≡ look running n
+    → is_some one.taken ≡ false → IsForFiles one.op → awaits running left ≡ true
+    → IsReady running left n one.op
+ready_by running left n one found idle asks waits = record {
+  runs =
+      sym found ∙ ap (λ (k : ℕ). Some (record { number = k; op = one.op; taken = one.taken })) (found_number running n one (sym found))
+      ∙ ap (λ (o : Option Outcome). Some (record { number = n; op = one.op; taken = o })) (none_taken one.taken idle);
+  asks = asks;
+  waits = waits;
+}
+
+-- it may take effect, of this number
+abbrev pub MayBe : List FileContents → List Running → List Mark → ℕ → Taker → Type 0
+MayBe files running left n x =
+    (x.number ≡ n) × MayTake (record { files = map plain files; running = running }) left x.number x.outcome
+
+abbrev pub IsWith : List Mark → ℕ → Outcome → Taker → Type 0
+IsWith left n o x = (x ≡ record { number = n; outcome = o }) × FitsEnd (end_in left n) o
+
+with_may : (files : List FileContents) (running : List Running) (left : List Mark) (n : ℕ) (op : Op) (o : Outcome) (x : Taker)
+    → IsReady running left n op → IsOutcome files op o → IsWith left n o x → MayBe files running left n x
+with_may files running left n op o x ready gives is =
+    subst (MayBe files running left n) (sym is.0) (
+      refl,
+      record {
+        op = op;
+        runs = ready.runs;
+        asks = ready.asks;
+        gives = outcome_plain files op o gives;
+        ends = is.1;
+        waits = ready.waits;
+      },
+    )
+
+may_with : (files : List FileContents) (running : List Running) (left : List Mark) (n : ℕ) (op : Op) (x : Taker)
+    → IsReady running left n op → MayBe files running left n x
+    → IsWith left n (result_of files op) x ⊎ ((is_lengthening files op ≡ true) × IsWith left n (ended_with (negsuc 11)) x)
+may_with files running left n op x ready may = by x.outcome refl (outcome_back files op x.outcome gives) where
+  same_op : may.1.op ≡ op
+  same_op = ap (λ (r : Running). r.op) (same_Some _ _ (sym may.1.runs ∙ ap (look running) may.0 ∙ ready.runs))
+
+  gives : IsOutcome (map plain files) op x.outcome
+  gives = subst (λ (y : Op). IsOutcome (map plain files) y x.outcome) same_op may.1.gives
+
+  ends : FitsEnd (end_in left n) x.outcome
+  ends = subst (λ (k : ℕ). FitsEnd (end_in left k) x.outcome) may.0 may.1.ends
+
+  is_with : (o : Outcome) → x.outcome ≡ o → IsWith left n o x
+  is_with o same = (ap (λ (k : ℕ). record { number = k; outcome = x.outcome }) may.0 ∙ ap (λ (p : Outcome). record { number = n; outcome = p }) same, subst (FitsEnd (end_in left n)) same ends)
+
+  by : (o : Outcome) → x.outcome ≡ o → IsOutcome files op o → IsWith left n (result_of files op) x ⊎ ((is_lengthening files op ≡ true) × IsWith left n (ended_with (negsuc 11)) x)
+  by o is (inl e) = inl (is_with (result_of files op) (is ∙ e))
+  by o is (inr e) = inr (e.0, is_with (ended_with (negsuc 11)) (is ∙ e.1))
+
+-- what was added by an end that was looked up
+pub adds_for : (left : List Mark) (n : ℕ) (wanted : Option End) (o p : Outcome) (old new : List Taker)
+    → wanted ≡ end_in left n → o ≡ p
+    → Adds (λ x. (x ≡ record { number = n; outcome = o }) × FitsEnd wanted o) old new
+    → Adds (IsWith left n p) old new
+adds_for left n wanted o p old new is same adds =
+    subst (λ (q : Outcome). Adds (IsWith left n q) old new) same
+    (subst (λ (w : Option End). Adds (λ x. (x ≡ record { number = n; outcome = o }) × FitsEnd w o) old new) is adds)
+
+pub adds_called : (files : List FileContents) (running : List Running) (left : List Mark) (n : ℕ) (op : Op) (old new : List Taker)
+    → IsReady running left n op → is_lengthening files op ≡ false
+    → Adds (IsWith left n (result_of files op)) old new → Adds (MayBe files running left n) old new
+adds_called files running left n op old new ready short adds =
+    adds_same (IsWith left n (result_of files op)) (MayBe files running left n) old new adds (λ x is. with_may files running left n op (result_of files op) x ready (inl refl) is) (λ x may. elim (may_with files running left n op x ready may) [
+      | inl is ↦ is
+      | inr longer ↦ absurd (let f : false ≡ true = sym short ∙ longer.0 in cc)
+    ])
+
+pub adds_refused : (files : List FileContents) (running : List Running) (left : List Mark) (n : ℕ) (op : Op) (old mid new : List Taker)
+    → IsReady running left n op → is_lengthening files op ≡ true
+    → Adds (IsWith left n (result_of files op)) old mid → Adds (IsWith left n (ended_with (negsuc 11))) mid new
+    → Adds (MayBe files running left n) old new
+adds_refused files running left n op old mid new ready longer first second =
+    adds_both (IsWith left n (result_of files op)) (IsWith left n (ended_with (negsuc 11))) (MayBe files running left n) old mid new first second (λ x is. with_may files running left n op (result_of files op) x ready (inl refl) is) (λ x is. with_may files running left n op (ended_with (negsuc 11)) x ready (inr (longer, refl)) is) (λ x may. elim (may_with files running left n op x ready may) [
+      | inl is ↦ inl is
+      | inr refused ↦ inr refused.1
+    ])
+
+-- ---- all that run
+
+-- the operations of those so far that may take effect, but for that of one request
+pub record SoFar (files : List FileContents) (running : List Running) (left : List Mark) (awaited : ℕ) (some : List Running) (takers : List Taker) : Type 0 where
+  pub right : (x : Taker) → Contains takers x → MayTake (record { files = map plain files; running = running }) left x.number x.outcome
+  pub all : (x : Taker) → MayTake (record { files = map plain files; running = running }) left x.number x.outcome → (one : Running) → Contains some one → one.number ≡ x.number → (x.number ≡ awaited → ⊥) → Contains takers x
+
+none_there : {X : Type 0} (x : X) → Contains [] x → ⊥
+none_there x there = let low : there.0 < 0 = there.1 in omega (arith, low)
+
+adds_right : (files : List FileContents) (running : List Running) (left : List Mark) (n : ℕ) (old new : List Taker)
+    → Adds (MayBe files running left n) old new
+    → ((x : Taker) → Contains old x → MayTake (record { files = map plain files; running = running }) left x.number x.outcome)
+    → (x : Taker) → Contains new x → MayTake (record { files = map plain files; running = running }) left x.number x.outcome
+adds_right files running left n old new adds before x there = elim (adds.right x there) [ inl old_one ↦ before x old_one | inr may ↦ may.1 ]
+
+pub so_far_more : (files : List FileContents) (running : List Running) (left : List Mark) (awaited : ℕ) (some : List Running) (old new : List Taker) (one : Running)
+    → SoFar files running left awaited some old → Adds (MayBe files running left one.number) old new
+    → SoFar files running left awaited (some ++ one ∷ []) new
+so_far_more files running left awaited some old new one before adds = record {
+  right = adds_right files running left one.number old new adds before.right;
+  all = λ x may other there same others. elim (Contains-push_cases some one other there) [
+    | inl earlier ↦ adds.kept x (before.all x may other earlier same others)
+    | inr this ↦ adds.all x (sym same ∙ ap (λ (r : Running). r.number) (sym this), may)
+  ];
+}
+
+pub so_far_same : (files : List FileContents) (running : List Running) (left : List Mark) (awaited : ℕ) (some : List Running) (takers : List Taker) (one : Running)
+    → SoFar files running left awaited some takers → one.number ≡ awaited
+    → SoFar files running left awaited (some ++ one ∷ []) takers
+so_far_same files running left awaited some takers one before own = record {
+  right = before.right;
+  all = λ x may other there same others. elim (Contains-push_cases some one other there) [
+    | inl earlier ↦ before.all x may other earlier same others
+    | inr this ↦ absurd (others (sym same ∙ ap (λ (r : Running). r.number) (sym this) ∙ own))
+  ];
+}
+
+pub so_far_all : (files : List FileContents) (running : List Running) (left : List Mark) (awaited : ℕ) (old new : List Taker)
+    → SoFar files running left awaited running old → Adds (MayBe files running left awaited) old new
+    → AreTakers (record { files = map plain files; running = running }) left new
+so_far_all files running left awaited old new before adds = record {
+  right = adds_right files running left awaited old new adds before.right;
+  all = λ x may. by x may (x.number == awaited) refl;
+} where
+  by : (x : Taker) → MayTake (record { files = map plain files; running = running }) left x.number x.outcome → (b : Bool) → (x.number == awaited) ≡ b → Contains new x
+  by x may true same = adds.all x (eqb-true x.number awaited same, may)
+  by x may false other =
+      let in_list : StandsIn running x.number = stands_in running x.number _ may.runs in
+      adds.kept x (before.all x may in_list.one in_list.there in_list.number (λ same. both_ways _ other (eq-eqb x.number awaited same)))

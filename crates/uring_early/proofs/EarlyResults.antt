@@ -1,0 +1,78 @@
+-- Results of early effects are allowed: an effect's was when it was taken, and its request's entry stays.
+use Rattle.std.proofs.Common.{◌≡◌, ◌==◌, ◌<◌, ℕ, Bool, true, false, [], ◌∷◌, length, Some, if◌then◌else◌, refl, sym, subst, arith}
+use Rattle.std.proofs.lemmas.Bool.{and_parts, eqb-true}
+use Rattle.std.proofs.lemmas.Option.{same_Some}
+use Rattle.uring_entry.specs.Layout.{Sqe}
+use Rattle.uring_entry.specs.Preparation.{fault_of}
+use Rattle.uring_entry.specs.Requests.{Requests, entry_of, has_started}
+use Rattle.uring_entry.specs.Setup.{Setup}
+use Rattle.uring_entry.specs.declared.operation.Outcome.{Outcome}
+use Rattle.uring_entry.specs.Results.{may_end}
+use Rattle.uring_core.specs.Histories.{Event, History, IsLawfulApart}
+use Rattle.uring_core.specs.declared.step.Step.TheVariants as step
+use Rattle.uring_core.specs.declared.answer.Answer.TheVariants as answer
+use Rattle.uring_core.proofs.Changes.{not_some}
+use Rattle.uring_core.proofs.Running.{no_cancel, running_asks}
+use Rattle.uring_core.proofs.Sound.{sound_of}
+use Rattle.uring_core.proofs.SoundRequests.{IsSoundRequests}
+use Rattle.uring_laws.proofs.Growth.{Grows, event_grows}
+use Rattle.uring_early.specs.Effects.{Makes, Takes, Timeline, made_in, requests_in, files_at, effect_of, TakesEffect, EndsAsTaken, IsTimely, IsLawfulEarly}
+use Rattle.uring_early.specs.Laws.{GivesAllowed, GiveAllowed}
+use Rattle.uring_early.proofs.AllowedResults.{outcome_allowed}
+
+-- this result is one that the operation of the request may give, which was accepted
+record Allows (r : Requests) (n : ℕ) (o : Outcome) : Type 0 where
+  accepted : n < length r.accepted
+  may : may_end (entry_of r n) o.res ≡ true
+
+taken_allowed : (g : Setup) (before : Timeline) (n : ℕ) (o : Outcome) → IsLawfulApart g (made_in before)
+    → TakesEffect g before n o → Allows (requests_in g before) n o
+taken_allowed g before n o lawful takes =
+    let r : Requests = requests_in g before in
+    let i : IsSoundRequests r = (sound_of g (made_in before) lawful).requests in
+    let started : has_started r n ≡ true = (and_parts _ _ takes.runs).0 in
+    record {
+      accepted = i.started_accepted n started;
+      may = outcome_allowed (files_at g before) (entry_of r n) o (not_some (fault_of (entry_of r n)) (i.started_right n started)) (no_cancel g (made_in before) lawful n started) (running_asks g (made_in before) n lawful takes.runs) takes.gives;
+    }
+
+allows_then : (r later : Requests) (n : ℕ) (o : Outcome) → Grows r later → Allows r n o → Allows later n o
+allows_then r later n o more a = record {
+  accepted = let low = a.accepted in let longer = more.longer_then in omega (arith, low, longer);
+  may = subst (λ (e : Sqe). may_end e o.res ≡ true) (sym (more.same_entry n a.accepted)) a.may;
+}
+
+-- the newest effect, or one before it
+newest_allowed : (g : Setup) (before : Timeline) (m n : ℕ) (outcome o : Outcome) (b : Bool) → (m == n) ≡ b
+    → IsLawfulApart g (made_in before) → TakesEffect g before m outcome
+    → (effect_of before n ≡ Some o → Allows (requests_in g before) n o)
+    → (if b then Some outcome else effect_of before n) ≡ Some o → Allows (requests_in g before) n o
+newest_allowed g before m n outcome o true same lawful takes earlier is =
+    subst (λ (k : ℕ). Allows (requests_in g before) k o) (eqb-true m n same)
+    (subst (λ (x : Outcome). Allows (requests_in g before) m x) (same_Some outcome o is) (taken_allowed g before m outcome lawful takes))
+newest_allowed g before m n outcome o false other lawful takes earlier is = earlier is
+
+effect_allowed : (g : Setup) (t : Timeline) → IsTimely g t → IsLawfulApart g (made_in t) → (n : ℕ)
+    → (o : Outcome) → effect_of t n ≡ Some o → Allows (requests_in g t) n o
+effect_allowed g [] timely lawful n o is = absurd cc
+effect_allowed g (Makes (s, a) ∷ before) timely lawful n o is =
+    allows_then (requests_in g before) (requests_in g (Makes (s, a) ∷ before)) n o (event_grows g s a (made_in before) lawful) (effect_allowed g before timely.1 lawful.1 n o is)
+effect_allowed g (Takes m outcome ∷ before) timely lawful n o is =
+    newest_allowed g before m n outcome o (m == n) refl lawful timely.0 (effect_allowed g before timely.1 lawful n o) is
+
+event_allowed : (g : Setup) (e : Event) (before : Timeline) → IsTimely g before
+    → IsLawfulApart g (made_in before) → EndsAsTaken before e → GivesAllowed (requests_in g before) e
+event_allowed g (step.Finish n, answer.Ended res bytes) before timely lawful ends =
+    (effect_allowed g before timely lawful n (record { res = res; bytes = bytes }) ends).may
+event_allowed g _ before timely lawful ends = tt
+
+all_allowed : (g : Setup) (t : Timeline) → IsTimely g t → IsLawfulApart g (made_in t)
+    → GiveAllowed g (made_in t)
+all_allowed g [] timely lawful = tt
+all_allowed g (Makes (s, a) ∷ before) timely lawful =
+    (event_allowed g (s, a) before timely.1 lawful.1 timely.0, all_allowed g before timely.1 lawful.1)
+all_allowed g (Takes n outcome ∷ before) timely lawful = all_allowed g before timely.1 lawful
+
+pub early_effects_give_allowed : (g : Setup) (h : History) → IsLawfulEarly g h → GiveAllowed g h
+early_effects_give_allowed g h early =
+    subst (GiveAllowed g) early.made (all_allowed g early.timeline early.timely (subst (IsLawfulApart g) (sym early.made) early.lawful))

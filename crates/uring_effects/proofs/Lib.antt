@@ -1,4 +1,0 @@
-mod AtFinishes
-mod AllowedResults
-mod EarlyResults
-pub mod Waiting

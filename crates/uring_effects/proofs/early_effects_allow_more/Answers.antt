@@ -1,5 +1,0 @@
-use Rattle.uring_effects.proofs.AtFinishes.{early_effects_allow_more}
-use Rattle.uring_effects.proofs.early_effects_allow_more.Goals as goal
-
-pub returns : goal.returns
-returns c = early_effects_allow_more

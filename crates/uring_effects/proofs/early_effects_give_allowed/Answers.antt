@@ -1,5 +1,0 @@
-use Rattle.uring_effects.proofs.EarlyResults.{early_effects_give_allowed}
-use Rattle.uring_effects.proofs.early_effects_give_allowed.Goals as goal
-
-pub returns : goal.returns
-returns c = early_effects_give_allowed

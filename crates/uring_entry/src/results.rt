@@ -1,0 +1,72 @@
+//! The results that an operation may give on files that nobody knows.
+
+ghost use Rattle.std.specs.Prelude.{◌≡◌, int_le, pos, min, ◌-◌, ◌^◌};
+ghost use Rattle.std.specs.Ordering.{int_eq};
+ghost use Rattle.uring_entry.specs.Results as spec;
+
+use crate::errno;
+use crate::sqe::Sqe;
+
+/// The negative of the greatest error number that a system call may return. errno(3).
+const LEAST_ERROR: i32 = -4095;
+
+/// The greatest result.
+const MAX_RESULT: u32 = 0x7fff_ffff;
+
+/// Whether a running request of this entry may end with this result, whatever its file has: a read or a write with 0 to its length or an error, an fsync with 0 or an error, and a no-op with 0. -125 (ECANCELED) is no operation's own error. read(2), write(2), fsync(2).
+pub fn may_end(entry: &Sqe, res: i32) -> bool
+    ensures { result ≡ spec.may_end entry.now res }
+{
+    if is_own_error(res) {
+        return entry.is_on_file();
+    }
+    if !is_at_most(0, res) {
+        return false;
+    }
+    is_at_most(res, greatest_result(entry))
+}
+
+/// The greatest result of a request of this entry.
+pub fn greatest_result(entry: &Sqe) -> i32
+    ensures { result ≡ pos (spec.greatest_result entry.now) }
+{
+    if entry.is_transfer() {
+        as_result(entry.len())
+    } else {
+        0
+    }
+}
+
+/// A length as a result, as far as it can tell it.
+fn as_result(len: u32) -> i32
+    ensures { result ≡ pos (min len (2 ^ 31 - 1)) }
+{
+    len.min(MAX_RESULT) as i32
+}
+
+/// Whether a result is an error that an operation gives by itself.
+fn is_own_error(res: i32) -> bool
+    ensures { result ≡ spec.is_own_error res }
+{
+    if !is_at_most(LEAST_ERROR, res) {
+        return false;
+    }
+    if !is_at_most(res, -1) {
+        return false;
+    }
+    !is_same(res, -errno::ECANCELED)
+}
+
+/// Whether a number is at most another.
+fn is_at_most(a: i32, b: i32) -> bool
+    ensures { result ≡ int_le a b }
+{
+    a <= b
+}
+
+/// Whether a number is another.
+fn is_same(a: i32, b: i32) -> bool
+    ensures { result ≡ int_eq a b }
+{
+    i64::from(a) == i64::from(b)
+}

@@ -1,5 +1,0 @@
-use Rattle.uring_moves.proofs.Directing.{direct_moves_lead}
-use Rattle.uring_moves.proofs.laws.direct_moves_lead.Goals as goal
-
-pub returns : goal.returns
-returns c = direct_moves_lead

@@ -1,5 +1,0 @@
-use Rattle.uring_moves.proofs.OutcomeLaws.{histories_are_moves}
-use Rattle.uring_moves.proofs.laws.histories_are_moves.Goals as goal
-
-pub returns : goal.returns
-returns c = histories_are_moves

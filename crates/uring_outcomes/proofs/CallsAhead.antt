@@ -1,0 +1,197 @@
+-- A call that is accepted before another move is made: the move can be made as well, and leads to the same, if no cancel names an entry of the call.
+use Rattle.std.proofs.Common.{◌≡◌, ℕ, zero, suc, ◌-◌, ◌<◌, ◌≤◌, ℤ, Bool, true, false, not, ◌&&◌, ◌||◌, ◌==◌, nat_lt, List, [], ◌∷◌, ◌++◌, length, Option, Some, if◌then◌else◌, refl, sym, ap, ap₂, ◌∙◌, inl, inr, arith, append-nil}
+use Rattle.std.specs.Prelude.{neg_ℤ}
+use Rattle.std.specs.Option.{option_to_list}
+use Rattle.std.proofs.lemmas.Bool.{and_parts, both_ways, cases_lt, lt-ltb, ltb-true, false_from_ne_true, cond-true, cond-false, cases_Bool}
+use Rattle.std.proofs.lemmas.List.{length-append, get_or-append_right}
+use Rattle.uring_laws.proofs.Growth.{IsCut}
+use Rattle.uring_entry.specs.Layout.{Sqe, zero_entry, addr_of, user_data_of}
+use Rattle.uring_entry.specs.Preparation.{is_cancel, is_cancel_all, is_faulty, operation_of}
+use Rattle.uring_entry.specs.Below.{least_below, all_below, found_or}
+use Rattle.uring_entry.specs.Success.{is_success}
+use Rattle.uring_entry.specs.declared.errno.TheConstants.{EINVAL, ECANCELED}
+use Rattle.uring_entry.specs.Requests.{Requests, entry_of, has_ended, is_outstanding, is_running, is_doomed, is_ready, is_issuable, is_candidate, target_of, is_target, targets_of, result_for, count_result, cancel_result, chosen_by, doomed_result, no_bytes, with_call, with_ended}
+use Rattle.uring_entry.proofs.BelowLemmas.{least_below_same}
+use Rattle.uring_files.specs.Operations.{after, result_of}
+use Rattle.uring_core.proofs.Groups.{longer, entry_kept, doom_kept}
+use Rattle.uring_outcomes.specs.Moments.{Moment, started, ended_at_once, issued, finished, is_finishable, moved, posted_with}
+use Rattle.uring_outcomes.specs.Direct.{AreUnnamed}
+use Rattle.uring_outcomes.specs.declared.move_of_calls.Move.TheVariants as move
+use Rattle.uring_laws.proofs.AlikeRequests.{all_below_same}
+use Rattle.uring_laws.proofs.CalledRequests.{outstanding_kept, ready_kept}
+use Rattle.uring_outcomes.proofs.MovesLead.{can_of, can_then}
+use Rattle.uring_outcomes.proofs.Prompting.{candidate_names}
+
+-- Bounds that go further, over numbers at which a test fails.
+
+none_more : (o : Option ℕ) (n : ℕ) → found_or o false n ≡ o
+none_more o n = grind arith
+
+least_between : (p : ℕ → Bool) (n m : ℕ) → n ≤ m → ((k : ℕ) → n ≤ k → k < m → p k ≡ false)
+    → least_below p m ≡ least_below p n
+least_between p n zero le h = let same : 0 ≡ n = omega arith in ap (least_below p) same
+least_between p n (suc m) le h =
+    elim (cases_lt n (suc m)) [
+      | inl low ↦
+          ap₂ (λ o b. found_or o b m) (least_between p n m (omega arith) (λ k a b. h k a (omega arith))) (h m (omega arith) (omega arith))
+          ∙ none_more (least_below p n) m
+      | inr high ↦ let same : suc m ≡ n = omega arith in ap (least_below p) same
+    ]
+
+all_between : (p : ℕ → Bool) (n m : ℕ) → n ≤ m → ((k : ℕ) → n ≤ k → k < m → p k ≡ false)
+    → all_below p m ≡ all_below p n
+all_between p n zero le h = let same : 0 ≡ n = omega arith in ap (all_below p) same
+all_between p n (suc m) le h =
+    elim (cases_lt n (suc m)) [
+      | inl low ↦
+          ap₂ (λ xs b. xs ++ (if b then m ∷ [] else [])) (all_between p n m (omega arith) (λ k a b. h k a (omega arith))) (h m (omega arith) (omega arith))
+          ∙ append-nil (all_below p n)
+      | inr high ↦ let same : suc m ≡ n = omega arith in ap (all_below p) same
+    ]
+
+result_same : (r : Requests) (call : List Sqe) (o : Option ℕ)
+    → result_for (with_call r call) o ≡ result_for r o
+result_same r call o = grind arith
+
+-- What a call leaves as it was.
+
+module _ (named : ℕ → Bool) (r : Requests) (call : List Sqe) (cut : IsCut r) (unnamed : AreUnnamed named call) where
+  candidate_kept : (n k : ℕ) → n < length r.accepted → k < length r.accepted
+      → is_candidate (with_call r call) n k ≡ is_candidate r n k
+  candidate_kept n k low less =
+      ap (λ b. b && not (k == n) && (user_data_of (entry_of (with_call r call) k) == addr_of (entry_of (with_call r call) n)) && not (is_doomed (with_call r call) k)) (outstanding_kept r call cut k less)
+      ∙ ap₂ (λ e f. is_outstanding r k && not (k == n) && (user_data_of e == addr_of f) && not (is_doomed (with_call r call) k)) (entry_kept r call cut k less) (entry_kept r call cut n low)
+      ∙ ap (λ b. is_outstanding r k && not (k == n) && (user_data_of (entry_of r k) == addr_of (entry_of r n)) && not b) (doom_kept r call cut k less)
+
+  -- a cancel chooses none of the call's
+  none_there : (n k : ℕ) → named (addr_of (entry_of r n)) ≡ true → n < length r.accepted
+      → length r.accepted ≤ k → k < length (with_call r call).accepted
+      → is_candidate (with_call r call) n k ≡ false
+  none_there n k names low high within =
+      false_from_ne_true (is_candidate (with_call r call) n k) (λ can.
+      (let is = candidate_names (with_call r call) n k can in
+      both_ways (named (user_data_of (entry_of (with_call r call) k)))
+      (ap (λ e. named (user_data_of e)) (get_or-append_right r.accepted call (length r.accepted) k zero_entry refl high) ∙ unnamed (k - length r.accepted) zero_entry (omega (arith, length-append r.accepted call)))
+      (ap named is ∙ ap (λ e. named (addr_of e)) (entry_kept r call cut n low) ∙ names)))
+
+  target_kept : (n : ℕ) → named (addr_of (entry_of r n)) ≡ true → n < length r.accepted
+      → target_of (with_call r call) n ≡ target_of r n
+  unfolding target_of
+  target_kept n names low =
+      least_between (is_candidate (with_call r call) n) (length r.accepted) (length (with_call r call).accepted) (longer r call cut) (λ k high within. none_there n k names low high within)
+      ∙ least_below_same (is_candidate (with_call r call) n) (is_candidate r n) (length r.accepted) (λ k less. candidate_kept n k low less)
+
+  targets_kept : (n : ℕ) → named (addr_of (entry_of r n)) ≡ true → n < length r.accepted
+      → targets_of (with_call r call) n ≡ targets_of r n
+  unfolding targets_of
+  targets_kept n names low =
+      all_between (is_target (with_call r call) n) (length r.accepted) (length (with_call r call).accepted) (longer r call cut) (λ k high within. ap (λ b. b && not (is_running r k)) (none_there n k names low high within))
+      ∙ all_below_same (is_target (with_call r call) n) (is_target r n) (length r.accepted) (λ k less. ap (λ b. b && not (is_running r k)) (candidate_kept n k low less))
+
+  pub result_kept : (n : ℕ) → named (addr_of (entry_of r n)) ≡ true → n < length r.accepted
+      → cancel_result (with_call r call) n ≡ cancel_result r n
+  result_kept n names low =
+      ap (λ e. if is_cancel_all e then count_result (length (targets_of (with_call r call) n)) else result_for (with_call r call) (target_of (with_call r call) n)) (entry_kept r call cut n low)
+      ∙ ap₂ (λ ts res. if is_cancel_all (entry_of r n) then count_result (length ts) else res) (targets_kept n names low)
+      (ap (result_for (with_call r call)) (target_kept n names low) ∙ result_same r call (target_of r n))
+
+  chosen_kept : (n : ℕ) (res : ℤ) → (is_cancel (entry_of r n) ≡ true → named (addr_of (entry_of r n)) ≡ true)
+      → n < length r.accepted → chosen_by (with_call r call) n res ≡ chosen_by r n res
+  chosen_kept n res names low =
+      ap (λ e. if is_cancel e && is_success e res then (if is_cancel_all e then targets_of (with_call r call) n else option_to_list (target_of (with_call r call) n)) else []) (entry_kept r call cut n low)
+      ∙ elim (cases_Bool (is_cancel (entry_of r n))) [
+        | inl is ↦ rw (targets_kept n (names is) low, target_kept n (names is) low)
+        | inr other ↦ rw other
+      ]
+
+-- A move after the call.
+
+-- the moment once this call is accepted, and these are left
+abbrev pub called : Moment → List Sqe → List (List Sqe) → Moment
+called m call later = record m { requests = with_call m.requests call; left = later }
+
+module _ (named : ℕ → Bool) (m : Moment) (call : List Sqe) (later : List (List Sqe)) (cut : IsCut m.requests) (unnamed : AreUnnamed named call) where
+  ended_after : (n : ℕ) (res : ℤ) → (is_cancel (entry_of m.requests n) ≡ true → named (addr_of (entry_of m.requests n)) ≡ true)
+      → n < length m.requests.accepted
+      → ended_at_once (called m call later) n res ≡ called (ended_at_once m n res) call later
+  ended_after n res names low =
+      ap₂ (λ chosen posted. record (called m call later) {
+        requests = with_ended (record (with_call m.requests call) { cancelled = m.requests.cancelled ++ chosen }) n res no_bytes;
+        posted = posted;
+      })
+      (chosen_kept named m.requests call cut unnamed n res names low)
+      (ap (λ e. posted_with m.posted e res no_bytes) (entry_kept m.requests call cut n low))
+
+  finished_after : (n : ℕ) → n < length m.requests.accepted
+      → finished (called m call later) n ≡ called (finished m n) call later
+  finished_after n low =
+      ap (λ e. record (called m call later) {
+        requests = with_ended (with_call m.requests call) n (result_of m.files (operation_of e)).res (result_of m.files (operation_of e)).bytes;
+        posted = posted_with m.posted e (result_of m.files (operation_of e)).res (result_of m.files (operation_of e)).bytes;
+        files = after m.files (operation_of e) (result_of m.files (operation_of e)).res;
+      })
+      (entry_kept m.requests call cut n low)
+
+  issued_after : (n : ℕ) → (is_cancel (entry_of m.requests n) ≡ true → named (addr_of (entry_of m.requests n)) ≡ true)
+      → n < length m.requests.accepted
+      → issued (called m call later) n ≡ called (issued m n) call later
+  issued_after n names low = by_doom (is_doomed m.requests n) refl where
+    r : Requests
+    r = m.requests
+
+    q : Requests
+    q = with_call m.requests call
+
+    entry : entry_of q n ≡ entry_of r n
+    entry = entry_kept r call cut n low
+
+    doom : is_doomed q n ≡ is_doomed r n
+    doom = doom_kept r call cut n low
+
+    back : (x : Moment) → issued m n ≡ x → called x call later ≡ called (issued m n) call later
+    back x is = ap (λ y. called y call later) (sym is)
+
+    by_cancel : (cancels : Bool) → is_cancel (entry_of r n) ≡ cancels → is_doomed r n ≡ false → issued (called m call later) n ≡ called (issued m n) call later
+    by_cancel true is spared =
+        cond-false (is_doomed q n) _ _ (doom ∙ spared)
+        ∙ cond-true (is_cancel (entry_of q n)) _ _ (ap is_cancel entry ∙ is)
+        ∙ ap (ended_at_once (called m call later) n) (result_kept named r call cut unnamed n (names is) low)
+        ∙ ended_after n (cancel_result r n) names low
+        ∙ back (ended_at_once m n (cancel_result r n)) (cond-false (is_doomed r n) _ _ spared ∙ cond-true (is_cancel (entry_of r n)) _ _ is)
+    by_cancel false is spared =
+        cond-false (is_doomed q n) _ _ (doom ∙ spared)
+        ∙ cond-false (is_cancel (entry_of q n)) _ _ (ap is_cancel entry ∙ is)
+        ∙ back (started m n) (cond-false (is_doomed r n) _ _ spared ∙ cond-false (is_cancel (entry_of r n)) _ _ is)
+
+    by_doom : (doomed : Bool) → is_doomed r n ≡ doomed → issued (called m call later) n ≡ called (issued m n) call later
+    by_doom true is =
+        cond-true (is_doomed q n) _ _ (doom ∙ is)
+        ∙ ap (λ e. ended_at_once (called m call later) n (if is_faulty e then neg_ℤ EINVAL else neg_ℤ ECANCELED)) entry
+        ∙ ended_after n (doomed_result r n) names low
+        ∙ back (ended_at_once m n (doomed_result r n)) (cond-true (is_doomed r n) _ _ is)
+    by_doom false is = by_cancel (is_cancel (entry_of r n)) refl is
+
+  pub issue_after : (n : ℕ) (next : Moment) → (is_cancel (entry_of m.requests n) ≡ true → named (addr_of (entry_of m.requests n)) ≡ true)
+      → moved m (move.Issue n) ≡ Some next
+      → moved (called m call later) (move.Issue n) ≡ Some (called next call later)
+  issue_after n next names e =
+      let r : Requests = m.requests in
+      let q : Requests = with_call m.requests call in
+      let c = can_of (is_issuable r n) (issued m n) next e in
+      let p = and_parts (is_outstanding r n && not (is_running r n)) (is_doomed r n || is_ready r n) c.0 in
+      let o = and_parts (is_outstanding r n) (not (is_running r n)) p.0 in
+      let low : n < length r.accepted = ltb-true n (length r.accepted) (and_parts (nat_lt n (length r.accepted)) (not (has_ended r n)) o.0).0 in
+      let same : is_issuable q n ≡ is_issuable r n = ap (λ b. b && not (is_running r n) && (is_doomed q n || is_ready q n)) (outstanding_kept r call cut n low) ∙ ap₂ (λ d s. is_outstanding r n && not (is_running r n) && (d || s)) (doom_kept r call cut n low) (ready_kept r call cut n low) in
+      can_then (is_issuable q n) (issued (called m call later) n) (called next call later) (same ∙ c.0) (issued_after n names low ∙ ap (λ y. called y call later) c.1)
+
+  pub finish_after : (n : ℕ) (next : Moment) → moved m (move.Finish n) ≡ Some next
+      → moved (called m call later) (move.Finish n) ≡ Some (called next call later)
+  finish_after n next e =
+      let r : Requests = m.requests in
+      let q : Requests = with_call m.requests call in
+      let c = can_of (is_finishable r n) (finished m n) next e in
+      let p = and_parts (nat_lt n (length r.accepted)) (is_running r n) c.0 in
+      let low : n < length r.accepted = ltb-true n (length r.accepted) p.0 in
+      let l = longer r call cut in
+      let can : is_finishable q n ≡ true = ap (λ b. b && is_running r n) (lt-ltb n (length q.accepted) (omega arith)) ∙ p.1 in
+      can_then (is_finishable q n) (finished (called m call later) n) (called next call later) can (finished_after n low ∙ ap (λ y. called y call later) c.1)
