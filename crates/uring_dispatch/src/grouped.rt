@@ -25,21 +25,6 @@ impl Grouped {
     ghost use Rattle.uring_dispatch.specs.Accepts.{Accepts, new_request};
     ghost use Rattle.uring_dispatch.specs.Grouped.{Shows, HasSameRecords};
 
-    /// Nothing yet. It takes no memory.
-    pub(crate) fn new(alloc: Global) -> Grouped
-        ensures none { (n : ℕ) → at result.window n ≡ None }
-        ensures end { end_of result.window ≡ 0 }
-        ensures window_room { result.window.room ≡ 0 }
-        ensures groups_room { result.groups.room ≡ 0 }
-        ensures last { result.groups.last ≡ None }
-        ensures shows { Shows result no_request }
-    {
-        Grouped {
-            window: Window::new(alloc),
-            groups: Groups::new(alloc),
-        }
-    }
-
     /// Makes room for `count` requests more. Where memory is refused, there is room for no fewer of these than before.
     pub(crate) fn reserve_in<M: Memory>(&mut self, memory: &M, count: u64) -> Result<(), AllocError>
         requires { end_of self.old.window + count < 2 ^ 63 }
@@ -82,15 +67,6 @@ impl Grouped {
         group
     }
 
-    /// Ends a submission call: nothing joins the last group any more.
-    pub(crate) fn close(&mut self)
-        ensures window { self.new.window ≡ self.old.window }
-        ensures groups { self.new.groups ≡ record self.old.groups { last = None } }
-        ensures shows { (r : Requests) → Shows self.old r → Shows self.new (with_cut r) }
-    {
-        self.groups.close();
-    }
-
     /// Starts request `n`, which has this key and waits.
     pub(crate) fn start(&mut self, n: u64, key: usize)
         requires found { key_at self.old.window.first self.old.window.keys n ≡ Some key }
@@ -105,19 +81,5 @@ impl Grouped {
         ensures groups { self.new.groups ≡ self.old.groups }
     {
         self.window.start(n, key);
-    }
-
-    /// Notes that a cancel chose request `n`.
-    pub(crate) fn choose(&mut self, n: u64)
-        requires { is_some (at self.old.window n) ≡ true }
-        ensures changes { (q : Request) → at self.old.window n ≡ Some q
-            → Changes self.old.window self.new.window n (Some (chosen q)) }
-        ensures shows { (r : Requests) → Shows self.old r
-            → Shows self.new (with_cancelled r (n ∷ [])) }
-        ensures running { self.new.window.running ≡ self.old.window.running }
-        ensures same { IsAsBefore self.old.window self.new.window }
-        ensures groups { self.new.groups ≡ self.old.groups }
-    {
-        self.window.choose(n);
     }
 }

@@ -28,21 +28,6 @@ struct Standing {
 }
 
 impl Waiting {
-    /// Nothing yet. It takes no memory.
-    pub(crate) fn new(alloc: Global) -> Waiting
-        ensures heads { (n : ℕ) → holds result.heads n ≡ false }
-        ensures heads_start { start_of result.heads ≡ 0 }
-        ensures heads_stop { stop_of result.heads ≡ 0 }
-        ensures doomed { (n : ℕ) → holds result.doomed n ≡ false }
-        ensures doomed_start { start_of result.doomed ≡ 0 }
-        ensures doomed_stop { stop_of result.doomed ≡ 0 }
-    {
-        Waiting {
-            heads: NumberSet::new(alloc),
-            doomed: NumberSet::new(alloc),
-        }
-    }
-
     /// Asks for the memory of `count` numbers more.
     pub(crate) fn reserve_in<M: Memory>(&mut self, memory: &M, count: u64) -> Result<(), AllocError>
         requires { count < 2 ^ 63 }
@@ -98,19 +83,6 @@ impl Waiting {
     {
         self.heads.put(n, false);
         self.doomed.put(n, false);
-    }
-
-    /// Tells anew of request `m`, unless it is `n`, of which it was told.
-    pub(crate) fn relist_other(&mut self, grouped: &Grouped, m: u64, n: u64)
-        requires { CanTell self.old m }
-        ensures here { IsListedAt grouped.now.window grouped.now.groups self.old n
-            → IsListedAt grouped.now.window grouped.now.groups self.new m }
-        ensures keeps { Keeps grouped.now.window grouped.now.groups self.old self.new }
-    {
-        if m == n {
-            return;
-        }
-        self.relist(grouped, m);
     }
 
     /// Tells anew of the requests from one number on and below another.
