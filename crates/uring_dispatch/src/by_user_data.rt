@@ -76,7 +76,9 @@ impl ByUserData {
         ensures granted { (n : ℕ) → M.grants memory.now n → end ≤ n → IsOk result }
     {
         let mut ends = HashMap::new(alloc);
-        memory.reserve_keys(&mut ends, (end - first) as usize)?;
+        if let Err(refused) = memory.reserve_keys(&mut ends, (end - first) as usize) {
+            return Err(refused);
+        }
         self.ends = ends;
         self.stop = first;
         Ok(())

@@ -74,7 +74,7 @@ impl Outstanding {
             let user_data = request.entry.addr();
             return Issued::Ended(self.cancel(n, user_data, all));
         }
-        self.grouped.start(n, key);
+        self.grouped.window.start(n, key);
         self.waiting.forget(n);
         Issued::Run(op)
     }

@@ -70,8 +70,12 @@ impl Groups {
         ensures granted { (n end : ℕ) → M.grants memory.now n → IsBeyond self.old.barriers end
             → count_by is_some self.old.records + count ≤ n → end + count ≤ n → IsOk result }
     {
-        memory.reserve_slab(&mut self.groups, count as usize)?;
-        memory.reserve_queue(&mut self.barriers, count as usize)?;
+        if let Err(refused) = memory.reserve_slab(&mut self.groups, count as usize) {
+            return Err(refused);
+        }
+        if let Err(refused) = memory.reserve_queue(&mut self.barriers, count as usize) {
+            return Err(refused);
+        }
         self.room = count;
         Ok(())
     }

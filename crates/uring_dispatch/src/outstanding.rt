@@ -63,8 +63,12 @@ impl Outstanding {
         ensures granted { (r : Requests) (n : ℕ) → Shows self.old.grouped r → M.grants memory.now n
             → end_of self.old.grouped.window + count < n → IsOk result }
     {
-        self.grouped.reserve_in(memory, count)?;
-        self.waiting.reserve_in(memory, count)?;
+        if let Err(refused) = self.grouped.reserve_in(memory, count) {
+            return Err(refused);
+        }
+        if let Err(refused) = self.waiting.reserve_in(memory, count) {
+            return Err(refused);
+        }
         let alloc = self.grouped.window.allocator();
         let first = self.grouped.window.first();
         let end = self.grouped.window.end() + count;

@@ -1,7 +1,7 @@
 //! Which of the outstanding requests wait at the head of their group, and which are doomed: among these is the next to be issued.
 
 ghost use Rattle.std.specs.Prelude.{◌≡◌, ℕ, ◌+◌, ◌/◌, ◌^◌, ◌<◌, ◌≤◌, false, Some, IsOk, OnOk};
-ghost use Rattle.uring_number_set.specs.NumberSet.{holds, start_of, stop_of, Puts, HasSame, HasMoved};
+ghost use Rattle.uring_number_set.specs.NumberSet.{stop_of, Puts, HasSame, HasMoved};
 ghost use Rattle.uring_dispatch.specs.Window.{at};
 ghost use Rattle.uring_dispatch.specs.Groups.{group_at};
 ghost use Rattle.uring_dispatch.specs.Waiting.{waits_at_head, waits_doomed, dooms, IsListedAt, CanTell, Keeps, CanGrow, GrowsTo, Starts, IsFirstTold};
@@ -9,7 +9,7 @@ ghost use Rattle.uring_dispatch.specs.Waiting.{waits_at_head, waits_doomed, doom
 use crate::group::{Group, is_before};
 use crate::grouped::Grouped;
 use crate::groups::Groups;
-use std::alloc::{AllocError, Global};
+use std::alloc::AllocError;
 use uring_memory::Memory;
 use uring_number_set::NumberSet;
 
@@ -39,7 +39,9 @@ impl Waiting {
             → (stop_of self.old.heads + count) / 64 + 1 ≤ n
             → (stop_of self.old.doomed + count) / 64 + 1 ≤ n → IsOk result }
     {
-        self.heads.reserve_in(memory, count)?;
+        if let Err(refused) = self.heads.reserve_in(memory, count) {
+            return Err(refused);
+        }
         self.doomed.reserve_in(memory, count)
     }
 

@@ -2,7 +2,7 @@
 
 ghost use Rattle.std.specs.Prelude.{◌≡◌, ◌≢◌, ℕ, ◌+◌, ◌-◌, ◌^◌, ◌<◌, ◌≤◌, length, true, false, Some, None, IsOk, OnOk, OnErr, IfSome, MatchOption, is_some, option_copied, slice_set};
 ghost use Rattle.std.specs.VecDeque.{deque_len, deque_capacity};
-ghost use Rattle.slab.specs.Slab.{get, slab_len, ContainsKey};
+ghost use Rattle.slab.specs.Slab.{slab_len};
 ghost use Rattle.uring_dispatch.specs.Window.{key_at, found_by, at, end_of, runs, one_if, started, chosen, Changes, IsFirst, IsTrimmed, IsAsBefore, HasBefore};
 
 use crate::request::Request;
@@ -116,8 +116,12 @@ impl Window {
         ensures granted { (n : ℕ) → M.grants memory.now n → length self.old.keys + count ≤ n
             → self.old.outstanding + count ≤ n → IsOk result }
     {
-        memory.reserve_slab(&mut self.requests, count as usize)?;
-        memory.reserve_queue(&mut self.keys, count as usize)?;
+        if let Err(refused) = memory.reserve_slab(&mut self.requests, count as usize) {
+            return Err(refused);
+        }
+        if let Err(refused) = memory.reserve_queue(&mut self.keys, count as usize) {
+            return Err(refused);
+        }
         self.room = count;
         Ok(())
     }
