@@ -7,7 +7,7 @@ ghost use Rattle.uring_dispatch.specs.IssueAndFinish.{posts_of};
 use uring_entry::{Op, Sqe, posts_completion};
 
 /// What the issue of a request is answered. The refusals are our own rule.
-#[derive(Clone, Copy, PartialEq, Eq)]
+#[derive(Clone, Copy)]
 pub enum Issued {
     /// It was started, with this operation.
     Run(Op),
@@ -26,7 +26,7 @@ pub enum Issued {
 }
 
 /// What the finish of a request is answered. Our own rule.
-#[derive(Clone, Copy, PartialEq, Eq)]
+#[derive(Clone, Copy)]
 pub enum Finished {
     /// It ended.
     Ended,

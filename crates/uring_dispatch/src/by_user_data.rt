@@ -36,16 +36,6 @@ pub(crate) struct ByUserData {
 impl ByUserData {
     ghost use Rattle.uring_dispatch.specs.ByUserData.{limit_of, HasPlaces, KeepsPlaces, AreFound, KeepsFrom, Spans};
 
-    /// Nothing yet. It takes no memory.
-    pub(crate) fn new(alloc: Global) -> ByUserData
-        ensures { result.stop ≡ 0 }
-    {
-        ByUserData {
-            stop: 0,
-            ends: HashMap::new(alloc),
-        }
-    }
-
     /// Asks for the memory of the numbers below `end`, where none before `first` is outstanding. If more than half of what is kept is of requests that have ended, it begins anew.
     pub(crate) fn reserve_in<M: Memory>(
         &mut self,
@@ -86,7 +76,9 @@ impl ByUserData {
         ensures granted { (n : ℕ) → M.grants memory.now n → end ≤ n → IsOk result }
     {
         let mut ends = HashMap::new(alloc);
-        memory.reserve_keys(&mut ends, (end - first) as usize)?;
+        if let Err(refused) = memory.reserve_keys(&mut ends, (end - first) as usize) {
+            return Err(refused);
+        }
         self.ends = ends;
         self.stop = first;
         Ok(())

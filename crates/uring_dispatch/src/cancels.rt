@@ -30,7 +30,12 @@ impl Outstanding {
         ensures counts { HasLost self.old.grouped.window self.new.grouped.window 0 }
     {
         let res = self.make_choices(n, user_data, all);
-        self.end(n, res >= 0);
+        let Some(key) = self.grouped.window.key(n) else {
+            unreachable!()
+        };
+        let grouped = &self.grouped;
+        let group = grouped.group_of(n, grouped.window.by_key(key));
+        self.end_by_key(n, key, &group, res >= 0);
         res
     }
 
@@ -101,7 +106,7 @@ impl Outstanding {
         ensures shows { (r : Requests) → Shows self.old.grouped r
             → Shows self.new.grouped (with_cancelled r (m ∷ [])) }
     {
-        self.grouped.choose(m);
+        self.grouped.window.choose(m);
         self.waiting.relist(&self.grouped, m);
     }
 }

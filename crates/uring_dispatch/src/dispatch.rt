@@ -169,7 +169,9 @@ impl Dispatch {
         requires { IsTrue self.now.is_between_calls }
         ensures { (r : Requests) → ShowsRequests self.now r → result ≡ operation_running r n }
     {
-        let request = self.outstanding.grouped.window.get(n)?;
+        let Some(request) = self.outstanding.grouped.window.get(n) else {
+            return None;
+        };
         if request.is_running { request.op } else { None }
     }
 

@@ -74,7 +74,7 @@ impl Outstanding {
             let user_data = request.entry.addr();
             return Issued::Ended(self.cancel(n, user_data, all));
         }
-        self.grouped.start(n, key);
+        self.grouped.window.start(n, key);
         self.waiting.forget(n);
         Issued::Run(op)
     }
@@ -105,28 +105,9 @@ impl Outstanding {
         Some(posts)
     }
 
-    /// Ends request `n`, which is outstanding.
-    pub(crate) fn end(&mut self, n: u64, is_success: bool)
-        requires there { is_some (at self.old.grouped.window n) ≡ true }
-        requires last { self.old.grouped.groups.last ≡ None }
-        ensures stays { Stays self.old self.new }
-        ensures shows { (r : Requests) (res : ℤ) (bytes : List ℕ) → Shows self.old.grouped r
-            → is_success ≡ success.is_success (entry_of r n) res
-            → Shows self.new.grouped (with_ended r n res bytes) }
-        ensures counts { HasLost self.old.grouped.window self.new.grouped.window
-            (one_if (runs (at self.old.grouped.window n))) }
-    {
-        let Some(key) = self.grouped.window.key(n) else {
-            unreachable!()
-        };
-        let grouped = &self.grouped;
-        let group = grouped.group_of(n, grouped.window.by_key(key));
-        self.end_by_key(n, key, &group, is_success);
-    }
-
     /// Ends request `n`, which has this key and is of this group, lets go what was kept of it, and tells anew who waits.
     #[inline(always)]
-    fn end_by_key(&mut self, n: u64, key: usize, group: &Group, is_success: bool)
+    pub(crate) fn end_by_key(&mut self, n: u64, key: usize, group: &Group, is_success: bool)
         requires found { key_at self.old.grouped.window.first self.old.grouped.window.keys n ≡ Some key }
         requires group { IsGroupOf self.old.grouped n group.now }
         requires last { self.old.grouped.groups.last ≡ None }
@@ -140,7 +121,7 @@ impl Outstanding {
     {
         let others = self.grouped.take_out(n, key, group, is_success);
         self.waiting.forget(n);
-        self.waiting.relist_other(&self.grouped, others.head, n);
+        self.waiting.relist(&self.grouped, others.head);
         self.waiting
             .relist_range(&self.grouped, n, others.doomed_end);
         let first = self.grouped.window.first();

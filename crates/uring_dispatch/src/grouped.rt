@@ -5,7 +5,7 @@ ghost use Rattle.uring_dispatch.specs.Held.{IsSound};
 use crate::groups::Groups;
 use crate::request::Request;
 use crate::window::Window;
-use std::alloc::{AllocError, Global};
+use std::alloc::AllocError;
 use uring_entry::{Sqe, prepare};
 use uring_memory::Memory;
 
@@ -18,27 +18,11 @@ pub(crate) struct Grouped {
 }
 
 impl Grouped {
-    ghost use Rattle.std.specs.Prelude.{◌≡◌, ℕ, [], ◌∷◌, ◌+◌, ◌^◌, ◌<◌, ◌≤◌, true, false, Some, None, is_some, IsOk, OnOk};
-    ghost use Rattle.uring_entry.specs.Preparation.{is_faulty};
-    ghost use Rattle.uring_entry.specs.Requests.{Requests, no_request, entry_of, with_accepted, with_cut, with_started, with_cancelled};
-    ghost use Rattle.uring_dispatch.specs.Window.{key_at, at, end_of, runs, started, chosen, Changes, IsAsBefore};
+    ghost use Rattle.std.specs.Prelude.{◌≡◌, ℕ, ◌+◌, ◌^◌, ◌<◌, ◌≤◌, IsOk, OnOk};
+    ghost use Rattle.uring_entry.specs.Requests.{Requests, with_accepted};
+    ghost use Rattle.uring_dispatch.specs.Window.{end_of};
     ghost use Rattle.uring_dispatch.specs.Accepts.{Accepts, new_request};
     ghost use Rattle.uring_dispatch.specs.Grouped.{Shows, HasSameRecords};
-
-    /// Nothing yet. It takes no memory.
-    pub(crate) fn new(alloc: Global) -> Grouped
-        ensures none { (n : ℕ) → at result.window n ≡ None }
-        ensures end { end_of result.window ≡ 0 }
-        ensures window_room { result.window.room ≡ 0 }
-        ensures groups_room { result.groups.room ≡ 0 }
-        ensures last { result.groups.last ≡ None }
-        ensures shows { Shows result no_request }
-    {
-        Grouped {
-            window: Window::new(alloc),
-            groups: Groups::new(alloc),
-        }
-    }
 
     /// Makes room for `count` requests more. Where memory is refused, there is room for no fewer of these than before.
     pub(crate) fn reserve_in<M: Memory>(&mut self, memory: &M, count: u64) -> Result<(), AllocError>
@@ -53,7 +37,9 @@ impl Grouped {
         ensures granted { (r : Requests) (n : ℕ) → Shows self.old r → M.grants memory.now n
             → end_of self.old.window + count < n → IsOk result }
     {
-        self.window.reserve_in(memory, count)?;
+        if let Err(refused) = self.window.reserve_in(memory, count) {
+            return Err(refused);
+        }
         self.groups.reserve_in(memory, count)
     }
 
@@ -80,44 +66,5 @@ impl Grouped {
             is_running: false,
         });
         group
-    }
-
-    /// Ends a submission call: nothing joins the last group any more.
-    pub(crate) fn close(&mut self)
-        ensures window { self.new.window ≡ self.old.window }
-        ensures groups { self.new.groups ≡ record self.old.groups { last = None } }
-        ensures shows { (r : Requests) → Shows self.old r → Shows self.new (with_cut r) }
-    {
-        self.groups.close();
-    }
-
-    /// Starts request `n`, which has this key and waits.
-    pub(crate) fn start(&mut self, n: u64, key: usize)
-        requires found { key_at self.old.window.first self.old.window.keys n ≡ Some key }
-        requires there { is_some (at self.old.window n) ≡ true }
-        requires waits { runs (at self.old.window n) ≡ false }
-        ensures changes { (q : Request) → at self.old.window n ≡ Some q
-            → Changes self.old.window self.new.window n (Some (started q)) }
-        ensures shows { (r : Requests) → Shows self.old r → is_faulty (entry_of r n) ≡ false
-            → Shows self.new (with_started r n) }
-        ensures running { self.new.window.running ≡ self.old.window.running + 1 }
-        ensures same { IsAsBefore self.old.window self.new.window }
-        ensures groups { self.new.groups ≡ self.old.groups }
-    {
-        self.window.start(n, key);
-    }
-
-    /// Notes that a cancel chose request `n`.
-    pub(crate) fn choose(&mut self, n: u64)
-        requires { is_some (at self.old.window n) ≡ true }
-        ensures changes { (q : Request) → at self.old.window n ≡ Some q
-            → Changes self.old.window self.new.window n (Some (chosen q)) }
-        ensures shows { (r : Requests) → Shows self.old r
-            → Shows self.new (with_cancelled r (n ∷ [])) }
-        ensures running { self.new.window.running ≡ self.old.window.running }
-        ensures same { IsAsBefore self.old.window self.new.window }
-        ensures groups { self.new.groups ≡ self.old.groups }
-    {
-        self.window.choose(n);
     }
 }

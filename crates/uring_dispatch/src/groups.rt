@@ -8,6 +8,7 @@ ghost use Rattle.uring_entry.specs.Requests.{is_linked, is_drain};
 ghost use Rattle.uring_dispatch.specs.Groups.{group_at, last_group, drain_of, with_member, with_barrier, starts_at, covers, IsSorted, IsBeyond, IsLiveFront, Exchanges, HasBarrierBefore, IsFirstDraining};
 
 use crate::group::{Barrier, Group, found_or};
+use crate::slabs::write;
 use slab::Slab;
 use std::alloc::{AllocError, Global};
 use std::collections::VecDeque;
@@ -69,8 +70,12 @@ impl Groups {
         ensures granted { (n end : ℕ) → M.grants memory.now n → IsBeyond self.old.barriers end
             → count_by is_some self.old.records + count ≤ n → end + count ≤ n → IsOk result }
     {
-        memory.reserve_slab(&mut self.groups, count as usize)?;
-        memory.reserve_queue(&mut self.barriers, count as usize)?;
+        if let Err(refused) = memory.reserve_slab(&mut self.groups, count as usize) {
+            return Err(refused);
+        }
+        if let Err(refused) = memory.reserve_queue(&mut self.barriers, count as usize) {
+            return Err(refused);
+        }
         self.room = count;
         Ok(())
     }
@@ -96,9 +101,8 @@ impl Groups {
         ensures last { self.new.last ≡ (if is_linked entry.now then Some result else None) }
         ensures room { self.new.room + 1 ≡ self.old.room }
     {
-        let group = joined(&self.groups, self.last, n, entry.is_drain(), is_faulty);
-        let key = put(&mut self.groups, self.last, group);
-        note_barrier(&mut self.barriers, &group, n, key);
+        let key = put(&mut self.groups, self.last, n, entry.is_drain(), is_faulty);
+        note_barrier(&mut self.barriers, &self.groups[key], n, key);
         self.last = joinable(entry, key);
         self.room -= 1;
         key
@@ -147,69 +151,64 @@ impl Groups {
     }
 
     /// The group that drains from the least number on, if any drains.
-    pub(crate) fn first_draining(&self) -> Option<Group>
-        ensures { MatchOption result ((key number : ℕ)
+    pub(crate) fn first_draining(&self) -> Option<&Group>
+        ensures { MatchOption (option_copied result) ((key number : ℕ)
             → drain_of (group_at self.now key) ≡ Some number → ⊥) (IsFirstDraining self.now) }
     {
         match self.barriers.front() {
-            Some(barrier) => self.groups.get(barrier.key).copied(),
+            Some(barrier) => self.groups.get(barrier.key),
             None => None,
         }
     }
 }
 
-/// The last group with one more member, or a new one.
-fn joined(groups: &Slab<Group>, last: Option<usize>, n: u64, drains: bool, is_faulty: bool) -> Group
-    requires { n + 1 < 2 ^ 64 }
-    ensures { result ≡ with_member (last_group groups.now.slots last) n drains is_faulty }
-{
-    match last.and_then(|key| groups.get(key)) {
-        Some(group) => Group {
-            end: n + 1,
-            fault: found_or(group.fault, is_faulty, n),
-            drain: found_or(group.drain, drains, n),
-            ..*group
-        },
-        None => Group {
-            from: n,
-            end: n + 1,
-            least: n,
-            fault: found_or(None, is_faulty, n),
-            drain: found_or(None, drains, n),
-            broken: None,
-        },
-    }
-}
-
-/// Keeps a group: in the place of the last one, or under a new key.
-fn put(groups: &mut Slab<Group>, last: Option<usize>, group: Group) -> usize
+/// Puts member `n` into the last group, or into a new one. Returns the group's key.
+fn put(
+    groups: &mut Slab<Group>,
+    last: Option<usize>,
+    n: u64,
+    drains: bool,
+    is_faulty: bool,
+) -> usize
     requires room { HasRoomFor groups.old 1 }
     requires there { (key : ℕ) → last ≡ Some key → ContainsKey groups.old key }
+    requires fits { n + 1 < 2 ^ 64 }
     ensures was { get groups.old result ≡ last_group groups.old.slots last }
     ensures key { (k : ℕ) → last ≡ Some k → result ≡ k }
-    ensures here { get groups.new result ≡ Some group }
+    ensures here { get groups.new result
+        ≡ Some (with_member (last_group groups.old.slots last) n drains is_faulty) }
     ensures others { (other : ℕ) → other ≢ result → get groups.new other ≡ get groups.old other }
     ensures len { slab_len groups.new ≤ slab_len groups.old + 1 }
     ensures capacity { groups.new.capacity ≡ groups.old.capacity }
 {
     match last {
         Some(key) => {
+            let group = joined(&groups[key], n, drains, is_faulty);
             write(groups, key, group);
             key
         }
-        None => groups.insert_reserved(group),
+        None => groups.insert_reserved(Group {
+            from: n,
+            end: n + 1,
+            least: n,
+            fault: found_or(None, is_faulty, n),
+            drain: found_or(None, drains, n),
+            broken: None,
+        }),
     }
 }
 
-/// Writes a group in the place of the one of this key.
-fn write(groups: &mut Slab<Group>, key: usize, group: Group)
-    requires { ContainsKey groups.old key }
-    ensures here { get groups.new key ≡ Some group }
-    ensures others { (other : ℕ) → other ≢ key → get groups.new other ≡ get groups.old other }
-    ensures len { slab_len groups.new ≡ slab_len groups.old }
-    ensures capacity { groups.new.capacity ≡ groups.old.capacity }
+/// A group with one more member.
+fn joined(group: &Group, n: u64, drains: bool, is_faulty: bool) -> Group
+    requires { n + 1 < 2 ^ 64 }
+    ensures { result ≡ with_member (Some group.now) n drains is_faulty }
 {
-    groups[key] = group;
+    Group {
+        end: n + 1,
+        fault: found_or(group.fault, is_faulty, n),
+        drain: found_or(group.drain, drains, n),
+        ..*group
+    }
 }
 
 /// Notes the barrier of a group that drains from its new member `n` on.

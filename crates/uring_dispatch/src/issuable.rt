@@ -118,7 +118,9 @@ fn least_below(set: &NumberSet, n: u64, limit: u64) -> Option<u64>
     ensures { MatchOption result ((k : ℕ) → n ≤ k → k < limit → holds set.now k ≡ false)
         (IsLeastBelow set.now n limit) }
 {
-    let m = set.least_from(n)?;
+    let Some(m) = set.least_from(n) else {
+        return None;
+    };
     if m < limit { Some(m) } else { None }
 }
 

@@ -8,6 +8,7 @@ mod grouped;
 mod groups;
 mod outstanding;
 mod request;
+mod slabs;
 mod waiting;
 mod window;
 

@@ -5,10 +5,14 @@ ghost use Rattle.uring_dispatch.specs.ByUserData.{AreFound};
 
 use crate::by_user_data::ByUserData;
 use crate::grouped::Grouped;
+use crate::groups::Groups;
 use crate::waiting::Waiting;
+use crate::window::Window;
 use std::alloc::{AllocError, Global};
+use std::collections::HashMap;
 use uring_entry::Sqe;
 use uring_memory::Memory;
+use uring_number_set::NumberSet;
 
 /// The outstanding requests and their groups, who of them waits at the head of its group or is doomed, and between which numbers those with the same user data are.
 #[derive(Drop)]
@@ -34,9 +38,18 @@ impl Outstanding {
         ensures last { result.grouped.groups.last ≡ None }
     {
         Outstanding {
-            grouped: Grouped::new(alloc),
-            waiting: Waiting::new(alloc),
-            by_user_data: ByUserData::new(alloc),
+            grouped: Grouped {
+                window: Window::new(alloc),
+                groups: Groups::new(alloc),
+            },
+            waiting: Waiting {
+                heads: NumberSet::new(alloc),
+                doomed: NumberSet::new(alloc),
+            },
+            by_user_data: ByUserData {
+                stop: 0,
+                ends: HashMap::new(alloc),
+            },
         }
     }
 
@@ -50,8 +63,12 @@ impl Outstanding {
         ensures granted { (r : Requests) (n : ℕ) → Shows self.old.grouped r → M.grants memory.now n
             → end_of self.old.grouped.window + count < n → IsOk result }
     {
-        self.grouped.reserve_in(memory, count)?;
-        self.waiting.reserve_in(memory, count)?;
+        if let Err(refused) = self.grouped.reserve_in(memory, count) {
+            return Err(refused);
+        }
+        if let Err(refused) = self.waiting.reserve_in(memory, count) {
+            return Err(refused);
+        }
         let alloc = self.grouped.window.allocator();
         let first = self.grouped.window.first();
         let end = self.grouped.window.end() + count;
@@ -82,6 +99,6 @@ impl Outstanding {
         ensures room { (k : ℕ) → HasRoom self.old k → HasRoom self.new k }
         ensures last { self.new.grouped.groups.last ≡ None }
     {
-        self.grouped.close();
+        self.grouped.groups.close();
     }
 }

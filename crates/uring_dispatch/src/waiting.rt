@@ -1,7 +1,7 @@
 //! Which of the outstanding requests wait at the head of their group, and which are doomed: among these is the next to be issued.
 
 ghost use Rattle.std.specs.Prelude.{◌≡◌, ℕ, ◌+◌, ◌/◌, ◌^◌, ◌<◌, ◌≤◌, false, Some, IsOk, OnOk};
-ghost use Rattle.uring_number_set.specs.NumberSet.{holds, start_of, stop_of, Puts, HasSame, HasMoved};
+ghost use Rattle.uring_number_set.specs.NumberSet.{stop_of, Puts, HasSame, HasMoved};
 ghost use Rattle.uring_dispatch.specs.Window.{at};
 ghost use Rattle.uring_dispatch.specs.Groups.{group_at};
 ghost use Rattle.uring_dispatch.specs.Waiting.{waits_at_head, waits_doomed, dooms, IsListedAt, CanTell, Keeps, CanGrow, GrowsTo, Starts, IsFirstTold};
@@ -9,7 +9,7 @@ ghost use Rattle.uring_dispatch.specs.Waiting.{waits_at_head, waits_doomed, doom
 use crate::group::{Group, is_before};
 use crate::grouped::Grouped;
 use crate::groups::Groups;
-use std::alloc::{AllocError, Global};
+use std::alloc::AllocError;
 use uring_memory::Memory;
 use uring_number_set::NumberSet;
 
@@ -28,21 +28,6 @@ struct Standing {
 }
 
 impl Waiting {
-    /// Nothing yet. It takes no memory.
-    pub(crate) fn new(alloc: Global) -> Waiting
-        ensures heads { (n : ℕ) → holds result.heads n ≡ false }
-        ensures heads_start { start_of result.heads ≡ 0 }
-        ensures heads_stop { stop_of result.heads ≡ 0 }
-        ensures doomed { (n : ℕ) → holds result.doomed n ≡ false }
-        ensures doomed_start { start_of result.doomed ≡ 0 }
-        ensures doomed_stop { stop_of result.doomed ≡ 0 }
-    {
-        Waiting {
-            heads: NumberSet::new(alloc),
-            doomed: NumberSet::new(alloc),
-        }
-    }
-
     /// Asks for the memory of `count` numbers more.
     pub(crate) fn reserve_in<M: Memory>(&mut self, memory: &M, count: u64) -> Result<(), AllocError>
         requires { count < 2 ^ 63 }
@@ -54,7 +39,9 @@ impl Waiting {
             → (stop_of self.old.heads + count) / 64 + 1 ≤ n
             → (stop_of self.old.doomed + count) / 64 + 1 ≤ n → IsOk result }
     {
-        self.heads.reserve_in(memory, count)?;
+        if let Err(refused) = self.heads.reserve_in(memory, count) {
+            return Err(refused);
+        }
         self.doomed.reserve_in(memory, count)
     }
 
@@ -98,19 +85,6 @@ impl Waiting {
     {
         self.heads.put(n, false);
         self.doomed.put(n, false);
-    }
-
-    /// Tells anew of request `m`, unless it is `n`, of which it was told.
-    pub(crate) fn relist_other(&mut self, grouped: &Grouped, m: u64, n: u64)
-        requires { CanTell self.old m }
-        ensures here { IsListedAt grouped.now.window grouped.now.groups self.old n
-            → IsListedAt grouped.now.window grouped.now.groups self.new m }
-        ensures keeps { Keeps grouped.now.window grouped.now.groups self.old self.new }
-    {
-        if m == n {
-            return;
-        }
-        self.relist(grouped, m);
     }
 
     /// Tells anew of the requests from one number on and below another.

@@ -2,10 +2,11 @@
 
 ghost use Rattle.std.specs.Prelude.{◌≡◌, ◌≢◌, ℕ, ◌+◌, ◌-◌, ◌^◌, ◌<◌, ◌≤◌, length, true, false, Some, None, IsOk, OnOk, OnErr, IfSome, MatchOption, is_some, option_copied, slice_set};
 ghost use Rattle.std.specs.VecDeque.{deque_len, deque_capacity};
-ghost use Rattle.slab.specs.Slab.{get, slab_len, ContainsKey};
+ghost use Rattle.slab.specs.Slab.{slab_len};
 ghost use Rattle.uring_dispatch.specs.Window.{key_at, found_by, at, end_of, runs, one_if, started, chosen, Changes, IsFirst, IsTrimmed, IsAsBefore, HasBefore};
 
 use crate::request::Request;
+use crate::slabs::write;
 use slab::Slab;
 use std::alloc::{AllocError, Global};
 use std::collections::VecDeque;
@@ -115,8 +116,12 @@ impl Window {
         ensures granted { (n : ℕ) → M.grants memory.now n → length self.old.keys + count ≤ n
             → self.old.outstanding + count ≤ n → IsOk result }
     {
-        memory.reserve_slab(&mut self.requests, count as usize)?;
-        memory.reserve_queue(&mut self.keys, count as usize)?;
+        if let Err(refused) = memory.reserve_slab(&mut self.requests, count as usize) {
+            return Err(refused);
+        }
+        if let Err(refused) = memory.reserve_queue(&mut self.keys, count as usize) {
+            return Err(refused);
+        }
         self.room = count;
         Ok(())
     }
@@ -142,7 +147,13 @@ impl Window {
         ensures there { IfSome result
             (λ key. is_some (found_by self.now.requests (Some key)) ≡ true) }
     {
-        key_of(self.first, &self.keys, n)
+        if n < self.first {
+            return None;
+        }
+        match self.keys.get((n - self.first) as usize) {
+            Some(key) => *key,
+            None => None,
+        }
     }
 
     /// The request of this key.
@@ -160,8 +171,10 @@ impl Window {
     pub(crate) fn get(&self, n: u64) -> Option<&Request>
         ensures { option_copied result ≡ at self.now n }
     {
-        let key = key_of(self.first, &self.keys, n)?;
-        self.requests.get(key)
+        match self.key(n) {
+            Some(key) => self.requests.get(key),
+            None => None,
+        }
     }
 
     /// Whether request `n` is running.
@@ -202,7 +215,11 @@ impl Window {
         ensures running { self.new.running ≡ self.old.running + 1 }
         ensures same { IsAsBefore self.old self.new }
     {
-        mark_running(&mut self.requests, key);
+        let request = Request {
+            is_running: true,
+            ..*self.by_key(key)
+        };
+        write(&mut self.requests, key, request);
         self.running += 1;
     }
 
@@ -214,10 +231,14 @@ impl Window {
         ensures running { self.new.running ≡ self.old.running }
         ensures same { IsAsBefore self.old self.new }
     {
-        let Some(key) = key_of(self.first, &self.keys, n) else {
+        let Some(key) = self.key(n) else {
             unreachable!()
         };
-        mark_cancelled(&mut self.requests, key);
+        let request = Request {
+            is_cancelled: true,
+            ..*self.by_key(key)
+        };
+        write(&mut self.requests, key, request);
     }
 
     /// Ends request `n`, which has this key, and lets go what was kept of it.
@@ -236,30 +257,6 @@ impl Window {
         trim(&mut self.first, &mut self.keys);
         request
     }
-}
-
-/// Notes that the request of this key was started.
-fn mark_running(requests: &mut Slab<Request>, key: usize)
-    requires { ContainsKey requests.old key }
-    ensures here { (q : Request) → get requests.old key ≡ Some q
-        → get requests.new key ≡ Some (started q) }
-    ensures others { (other : ℕ) → other ≢ key → get requests.new other ≡ get requests.old other }
-    ensures len { slab_len requests.new ≡ slab_len requests.old }
-    ensures capacity { requests.new.capacity ≡ requests.old.capacity }
-{
-    requests[key].is_running = true;
-}
-
-/// Notes that a cancel chose the request of this key.
-fn mark_cancelled(requests: &mut Slab<Request>, key: usize)
-    requires { ContainsKey requests.old key }
-    ensures here { (q : Request) → get requests.old key ≡ Some q
-        → get requests.new key ≡ Some (chosen q) }
-    ensures others { (other : ℕ) → other ≢ key → get requests.new other ≡ get requests.old other }
-    ensures len { slab_len requests.new ≡ slab_len requests.old }
-    ensures capacity { requests.new.capacity ≡ requests.old.capacity }
-{
-    requests[key].is_cancelled = true;
 }
 
 /// Forgets the key at this place.
@@ -292,18 +289,5 @@ fn trim(first: &mut u64, keys: &mut VecDeque<Option<usize>>)
     while let Some(None) = keys.front() {
         keys.pop_front();
         *first += 1;
-    }
-}
-
-/// The key of the request of this number, if it is outstanding.
-fn key_of(first: u64, keys: &VecDeque<Option<usize>>, n: u64) -> Option<usize>
-    ensures { result ≡ key_at first keys.now.items n }
-{
-    if n < first {
-        return None;
-    }
-    match keys.get((n - first) as usize) {
-        Some(key) => *key,
-        None => None,
     }
 }

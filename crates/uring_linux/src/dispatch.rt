@@ -113,10 +113,10 @@ impl LinuxDispatch {
         if count <= self.room {
             return Ok(());
         }
-        if self.window.reserve_in(memory, count).is_err() {
+        if let Err(_) = self.window.reserve_in(memory, count) {
             return Err(ReserveError::NoMemory);
         }
-        if self.drains.reserve_in(memory, count).is_err() {
+        if let Err(_) = self.drains.reserve_in(memory, count) {
             return Err(ReserveError::NoMemory);
         }
         self.room = count;
@@ -210,7 +210,7 @@ impl LinuxDispatch {
         ensures { (l : LinuxRequests) → ShowsRequests self.now l
             → result ≡ operation_running l.requests n }
     {
-        let Some(request) = self.window.copy(n) else {
+        let Some(request) = self.window.get(n) else {
             return None;
         };
         if !request.is_running {
@@ -225,7 +225,7 @@ impl LinuxDispatch {
         ensures { (l : LinuxRequests) → ShowsRequests self.now l
             → result ≡ entry_outstanding l.requests n }
     {
-        let Some(request) = self.window.copy(n) else {
+        let Some(request) = self.window.get(n) else {
             return None;
         };
         if request.has_ended {
@@ -280,7 +280,13 @@ impl LinuxDispatch {
         ensures counts { HasStarted self.old self.new }
     {
         if let Some(request) = self.window.copy(n) {
-            self.window.note_start(n);
+            self.window.write(
+                n,
+                Request {
+                    is_running: true,
+                    ..request
+                },
+            );
             self.running += 1;
         }
     }

@@ -68,7 +68,9 @@ impl Drains {
         ensures granted { (n : ℕ) → M.grants memory.now n
             → length self.old.drains.deferred + count ≤ n → IsOk result }
     {
-        memory.reserve_queue(&mut self.deferred, count as usize)?;
+        if let Err(refused) = memory.reserve_queue(&mut self.deferred, count as usize) {
+            return Err(refused);
+        }
         self.room = count;
         Ok(())
     }

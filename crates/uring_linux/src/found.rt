@@ -29,7 +29,7 @@ impl Window {
     fn would_find(&self, n: u64) -> Option<Found>
         ensures { (r : Requests) → Shows self.now r → result ≡ told_of r n }
     {
-        let Some(request) = self.copy(n) else {
+        let Some(request) = self.get(n) else {
             return None;
         };
         if request.has_ended {

@@ -37,13 +37,13 @@ impl Window {
         if end <= self.first() {
             return None;
         }
-        let Some(last) = self.copy(end - 1) else {
+        let Some(last) = self.get(end - 1) else {
             return None;
         };
         if last.is_last {
             return None;
         }
-        Some(self.group_of(&last))
+        Some(self.group_of(last))
     }
 
     /// Adds a request, as a member of the group that is open or as the first of its own.
@@ -76,7 +76,15 @@ impl Window {
         ensures limit { end_of self.new < 2 ^ 63 }
     {
         let group = self.group_of(&request);
-        self.note_end(n, has_failed);
+        self.write(
+            n,
+            Request {
+                is_running: false,
+                has_ended: true,
+                has_failed,
+                ..request
+            },
+        );
         self.keep_group(with_end(group, n, breaks(&request, has_failed)));
     }
 
@@ -92,7 +100,7 @@ impl Window {
         ensures running { running_among self.new.items ≡ running_among self.old.items }
     {
         if let Some(first) = self.copy(group.from) {
-            self.note_group(group.from, group);
+            self.write(group.from, Request { group, ..first });
         }
     }
 
@@ -117,10 +125,10 @@ impl Window {
         ensures skipped { (r : Requests) (k : ℕ) → Shows self.now r → n < k → k < result
             → (is_outstanding r k && linux.is_in_turn r k) ≡ false }
     {
-        let Some(request) = self.copy(n) else {
+        let Some(request) = self.get(n) else {
             return n + 1;
         };
-        let group = self.group_of(&request);
+        let group = self.group_of(request);
         if n < group.least {
             return group.least;
         }

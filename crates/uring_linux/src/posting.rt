@@ -16,15 +16,15 @@ impl LinuxDispatch {
         requires { IsTrue self.now.is_between_calls }
         ensures { (l : LinuxRequests) → ShowsRequests self.now l → result ≡ would_post l.requests n res }
     {
-        let Some(request) = self.window.copy(n) else {
+        let Some(request) = self.window.get(n) else {
             return None;
         };
         if request.has_ended {
             return None;
         }
-        let group = self.window.group_of(&request);
+        let group = self.window.group_of(request);
         let breaker = group.breaker(n);
-        let posts = self.window.posts_after(breaker, &request, res);
+        let posts = self.window.posts_after(breaker, request, res);
         Some(is_completion(posts))
     }
 }

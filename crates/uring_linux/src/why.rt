@@ -32,7 +32,7 @@ impl Window {
         ensures { (l : LinuxRequests) → Shows self.now l.requests → drains.now.drains ≡ l.drains
             → result ≡ why_of l n }
     {
-        let Some(request) = self.copy(n) else {
+        let Some(request) = self.get(n) else {
             return self.gone(n);
         };
         if request.has_ended {
@@ -41,7 +41,7 @@ impl Window {
         if request.is_running {
             return Why::Runs;
         }
-        self.waiting(drains, n, &request)
+        self.waiting(drains, n, request)
     }
 
     /// Why request `n` isn't kept any more, or not yet.

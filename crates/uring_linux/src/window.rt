@@ -9,7 +9,6 @@ ghost use Rattle.uring_entry.specs.Groups.{first_member};
 ghost use Rattle.uring_linux.specs.Issues as issues;
 ghost use Rattle.uring_linux.specs.Window.{at, end_of, unended_among, running_among, passes, said, Tells, Shows, IsWithin, IsOver};
 
-use crate::group::Group;
 use crate::request::{Request, Test};
 use std::alloc::{AllocError, Global};
 use std::collections::VecDeque;
@@ -163,60 +162,18 @@ impl Window {
         self.room -= 1;
     }
 
-    /// Notes that the kept request `n` runs.
-    pub(crate) fn note_start(&mut self, n: u64)
+    /// Writes the kept request `n` anew.
+    pub(crate) fn write(&mut self, n: u64, request: Request)
         requires { IsWithin self.old n }
-        ensures written { (q : Request) → at self.old n ≡ Some q → self.new ≡ record self.old {
-          items = slice_set self.old.items (n - self.old.first) (record q { is_running = true });
+        ensures written { self.new ≡ record self.old {
+          items = slice_set self.old.items (n - self.old.first) request;
         } }
         ensures first { self.new.first ≡ self.old.first }
         ensures end { end_of self.new ≡ end_of self.old }
         ensures room { self.new.room ≡ self.old.room }
         ensures limit { end_of self.new < 2 ^ 63 }
     {
-        put_start(&mut self.items, (n - self.first) as usize);
-    }
-
-    /// Notes that it has ended, with a failure or without.
-    pub(crate) fn note_end(&mut self, n: u64, has_failed: bool)
-        requires { IsWithin self.old n }
-        ensures written { (q : Request) → at self.old n ≡ Some q → self.new ≡ record self.old {
-          items = slice_set self.old.items (n - self.old.first) (record q { is_running = false; has_ended = true; has_failed = has_failed });
-        } }
-        ensures first { self.new.first ≡ self.old.first }
-        ensures end { end_of self.new ≡ end_of self.old }
-        ensures room { self.new.room ≡ self.old.room }
-        ensures limit { end_of self.new < 2 ^ 63 }
-    {
-        put_end(&mut self.items, (n - self.first) as usize, has_failed);
-    }
-
-    /// Says anew what is kept of its group with it.
-    pub(crate) fn note_group(&mut self, n: u64, group: Group)
-        requires { IsWithin self.old n }
-        ensures written { (q : Request) → at self.old n ≡ Some q → self.new ≡ record self.old {
-          items = slice_set self.old.items (n - self.old.first) (record q { group = group });
-        } }
-        ensures first { self.new.first ≡ self.old.first }
-        ensures end { end_of self.new ≡ end_of self.old }
-        ensures room { self.new.room ≡ self.old.room }
-        ensures limit { end_of self.new < 2 ^ 63 }
-    {
-        put_group(&mut self.items, (n - self.first) as usize, group);
-    }
-
-    /// Notes that it is the last of its group.
-    fn note_last(&mut self, n: u64)
-        requires { IsWithin self.old n }
-        ensures written { (q : Request) → at self.old n ≡ Some q → self.new ≡ record self.old {
-          items = slice_set self.old.items (n - self.old.first) (record q { is_last = true });
-        } }
-        ensures first { self.new.first ≡ self.old.first }
-        ensures end { end_of self.new ≡ end_of self.old }
-        ensures room { self.new.room ≡ self.old.room }
-        ensures limit { end_of self.new < 2 ^ 63 }
-    {
-        put_last(&mut self.items, (n - self.first) as usize);
+        put(&mut self.items, (n - self.first) as usize, request);
     }
 
     /// Ends a submission call: the last request is the last of its group.
@@ -235,7 +192,13 @@ impl Window {
         let Some(request) = self.copy(end - 1) else {
             return;
         };
-        self.note_last(end - 1);
+        self.write(
+            end - 1,
+            Request {
+                is_last: true,
+                ..request
+            },
+        );
     }
 
     /// Lets go of the first groups, as far as they have ended whole. It looks at these, and at the first members of the next that have ended.
@@ -257,13 +220,13 @@ impl Window {
     {
         let mut to = self.first;
         for n in self.first..self.end() {
-            let Some(request) = self.copy(n) else {
+            let Some(request) = self.get(n) else {
                 return to;
             };
             if !request.has_ended {
                 return to;
             }
-            to = if_last(&request, n + 1, to);
+            to = if_last(request, n + 1, to);
         }
         to
     }
@@ -276,7 +239,9 @@ impl Window {
         ensures granted { (n : ℕ) → M.grants memory.now n → length self.old.items + count ≤ n
             → IsOk result }
     {
-        memory.reserve_queue(&mut self.items, count as usize)?;
+        if let Err(refused) = memory.reserve_queue(&mut self.items, count as usize) {
+            return Err(refused);
+        }
         self.room = count;
         Ok(())
     }
@@ -315,51 +280,14 @@ pub(crate) fn passes(request: &Request, test: Test) -> bool
     }
 }
 
-/// Notes that the request in this place runs.
-fn put_start(items: &mut VecDeque<Request>, place: usize)
+/// Puts a request in this place.
+fn put(items: &mut VecDeque<Request>, place: usize, request: Request)
     requires { place < deque_len items.old }
-    ensures items { (q : Request) → slice_get items.old.items place ≡ Some q
-        → items.new.items ≡ slice_set items.old.items place (record q { is_running = true }) }
+    ensures items { items.new.items ≡ slice_set items.old.items place request }
     ensures len { deque_len items.new ≡ deque_len items.old }
     ensures capacity { deque_capacity items.new ≡ deque_capacity items.old }
 {
-    items[place].is_running = true;
-}
-
-/// Notes that the request in this place has ended.
-fn put_end(items: &mut VecDeque<Request>, place: usize, has_failed: bool)
-    requires { place < deque_len items.old }
-    ensures items { (q : Request) → slice_get items.old.items place ≡ Some q
-        → items.new.items ≡ slice_set items.old.items place (record q { is_running = false; has_ended = true; has_failed = has_failed }) }
-    ensures len { deque_len items.new ≡ deque_len items.old }
-    ensures capacity { deque_capacity items.new ≡ deque_capacity items.old }
-{
-    let request = &mut items[place];
-    request.is_running = false;
-    request.has_ended = true;
-    request.has_failed = has_failed;
-}
-
-/// Says anew what is kept of a group with the request in this place.
-fn put_group(items: &mut VecDeque<Request>, place: usize, group: Group)
-    requires { place < deque_len items.old }
-    ensures items { (q : Request) → slice_get items.old.items place ≡ Some q
-        → items.new.items ≡ slice_set items.old.items place (record q { group = group }) }
-    ensures len { deque_len items.new ≡ deque_len items.old }
-    ensures capacity { deque_capacity items.new ≡ deque_capacity items.old }
-{
-    items[place].group = group;
-}
-
-/// Notes that the request in this place is the last of its group.
-fn put_last(items: &mut VecDeque<Request>, place: usize)
-    requires { place < deque_len items.old }
-    ensures items { (q : Request) → slice_get items.old.items place ≡ Some q
-        → items.new.items ≡ slice_set items.old.items place (record q { is_last = true }) }
-    ensures len { deque_len items.new ≡ deque_len items.old }
-    ensures capacity { deque_capacity items.new ≡ deque_capacity items.old }
-{
-    items[place].is_last = true;
+    items[place] = request;
 }
 
 /// The request in this place, if there is one.

@@ -32,7 +32,7 @@ pub returns-in-Some-2-clause-holds : goal.returns-in-Some-2-clause-holds
 returns-in-Some-2-clause-holds c = λ r h.
     let i = in_group c.args.self.now.sound h c.requires c.group_of-group.ensures.group in
     first_own i (sym c.is_some.ensures ∙ c.if-is_some.false)
-    (first-after _ _ r c.in-Some-first_draining.first c.group_of-group.result.from h c.in-Some-first_draining.ensures c.if-first-group.false)
+    (first-after _ _ r c.in-Some-first_draining.first.now c.group_of-group.result.from h c.in-Some-first_draining.ensures c.if-first-group.false)
 
 pub returns-in-None-first_draining-clause-holds : goal.returns-in-None-first_draining-clause-holds
 returns-in-None-first_draining-clause-holds c = λ r h.

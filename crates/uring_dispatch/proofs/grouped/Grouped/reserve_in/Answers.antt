@@ -12,19 +12,19 @@ invariant_of-self g c =
     let window = reserved_window c.reserve_in.result c.args.self.now.window c.reserve_in.new.self c.args.count c.reserve_in.ensures.ok c.reserve_in.ensures.err in
     record { sound = sound_alike _ _ _ _ (alike_from _ _ _ _ window.0 refl) c.args.self.now.sound }
 
-pub returns-in_err-reserve_in-clause-window_kept : goal.returns-in_err-reserve_in-clause-window_kept
-returns-in_err-reserve_in-clause-window_kept g c =
+pub returns-in-Err-clause-window_kept : goal.returns-in-Err-clause-window_kept
+returns-in-Err-clause-window_kept g c =
     (reserved_window c.reserve_in.result c.args.self.now.window c.reserve_in.new.self c.args.count c.reserve_in.ensures.ok c.reserve_in.ensures.err).1
 
-pub returns-in_err-reserve_in-clause-same : goal.returns-in_err-reserve_in-clause-same
-returns-in_err-reserve_in-clause-same g c =
+pub returns-in-Err-clause-same : goal.returns-in-Err-clause-same
+returns-in-Err-clause-same g c =
     let window = reserved_window c.reserve_in.result c.args.self.now.window c.reserve_in.new.self c.args.count c.reserve_in.ensures.ok c.reserve_in.ensures.err in
     record { window = window.0; groups = refl }
 
-pub returns-in_err-reserve_in-clause-granted : goal.returns-in_err-reserve_in-clause-granted
-returns-in_err-reserve_in-clause-granted g c = λ r n h grants below.
+pub returns-in-Err-clause-granted : goal.returns-in-Err-clause-granted
+returns-in-Err-clause-granted g c = λ r n h grants below.
     let few = window_few _ _ r h in
-    absurd (false≢true (c.in_err-reserve_in.ensures.granted n grants (omega arith) (omega arith)))
+    absurd (false≢true (c.in-Err.ensures.granted n grants (omega arith) (omega arith)))
 
 pub invariant_of-self-2 : goal.invariant_of-self-2
 invariant_of-self-2 g c =
@@ -34,7 +34,7 @@ invariant_of-self-2 g c =
 
 pub returns-clause-window_room : goal.returns-clause-window_room
 returns-clause-window_room g c =
-    on_ok_weaker c.reserve_in-2.result (λ e. ap (λ (w : Window). w.room) c.in_ok-reserve_in.ensures.ok) c.reserve_in-2.ensures.ok
+    on_ok_weaker c.reserve_in-2.result (λ e. ap (λ (w : Window). w.room) c.in_default.ensures.ok) c.reserve_in-2.ensures.ok
 
 pub returns-clause-groups_room : goal.returns-clause-groups_room
 returns-clause-groups_room g c =

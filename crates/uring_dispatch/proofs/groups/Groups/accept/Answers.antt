@@ -1,4 +1,5 @@
-use Rattle.std.proofs.Common.{arith, ap, ◌∙◌, Some}
+use Rattle.std.proofs.Common.{arith, ap, sym, ◌∙◌}
+use Rattle.std.proofs.lemmas.Option.{same_Some}
 use Rattle.uring_dispatch.specs.declared.group.Group.{Group}
 use Rattle.uring_dispatch.specs.Groups.{Groups, with_barrier}
 use Rattle.uring_dispatch.proofs.GroupsKept.{IsAccepted, accept_groups, accept_front, beyond_with, only_key, last_kept}
@@ -7,11 +8,11 @@ use Rattle.uring_dispatch.proofs.groups.Groups.accept.Goals as goal
 pub invariant_of-self : goal.invariant_of-self
 invariant_of-self c =
     let beyond = rw (← c.self.view_is) at c.requires.beyond in
-    let here = c.put-key.ensures.here ∙ ap Some c.joined-group.ensures in
     let accepted : IsAccepted c.self.inside.groups.slots c.put-key.new.groups.slots c.self.inside.last c.put-key.result c.args.n c.is_drain.result c.args.is_faulty =
-    record { was = c.put-key.ensures.was; here = here; others = c.put-key.ensures.others }
+    record { was = c.put-key.ensures.was; here = c.put-key.ensures.here; others = c.put-key.ensures.others }
     in
-    let items = c.note_barrier.ensures.items ∙ ap (λ (q : Group). with_barrier c.self.inside.barriers.items q.drain c.args.n c.put-key.result) c.joined-group.ensures in
+    let is = same_Some _ _ (sym c.index.ensures ∙ c.put-key.ensures.here) in
+    let items = c.note_barrier.ensures.items ∙ ap (λ (q : Group). with_barrier c.self.inside.barriers.items q.drain c.args.n c.put-key.result) is in
     let room = ap (λ (g : Groups). g.room) c.self.view_is in (
       rw items (accept_groups _ _ _ _ _ _ _ _ _ c.self.invariant.0 beyond accepted (λ k e. only_key _ _ k _ c.joinable-self-inside.ensures e)),
       rw items (accept_front _ _ _ _ _ _ _ _ c.self.invariant.1 accepted),
@@ -22,7 +23,7 @@ invariant_of-self c =
 pub returns-clause-beyond : goal.returns-clause-beyond
 returns-clause-beyond c =
     let beyond = rw (← c.self.view_is) at c.requires.beyond in
-    rw c.note_barrier.ensures.items (beyond_with c.self.inside.barriers.items c.joined-group.result.drain c.args.n c.put-key.result beyond)
+    rw c.note_barrier.ensures.items (beyond_with c.self.inside.barriers.items c.index.result.now.drain c.args.n c.put-key.result beyond)
 
 pub returns-clause-kept : goal.returns-clause-kept
 returns-clause-kept c = rw (← c.self.view_is) (last_kept _ _ _ c.self.invariant.0)

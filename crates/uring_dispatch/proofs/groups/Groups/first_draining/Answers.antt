@@ -7,7 +7,7 @@ pub returns-in-Some : goal.returns-in-Some
 returns-in-Some c =
     let some = c.in-Some.ensures.variant.0 refl in
     let lt : 0 < length c.self.inside.barriers.items = omega arith in
-    rw (← c.self.view_is) (first_draining _ c.in-Some.barrier.now c.copied.result c.self.invariant.0 c.self.invariant.1 lt c.in-Some.ensures.lookup (c.copied.ensures ∙ c.get.ensures))
+    rw (← c.self.view_is) (first_draining _ c.in-Some.barrier.now _ c.self.invariant.0 c.self.invariant.1 lt c.in-Some.ensures.lookup c.get.ensures)
 
 pub returns-in-None : goal.returns-in-None
 returns-in-None c =

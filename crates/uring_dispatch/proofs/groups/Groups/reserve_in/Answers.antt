@@ -3,9 +3,9 @@ use Rattle.std.proofs.lemmas.Bool.{false≢true}
 use Rattle.uring_dispatch.proofs.Sizes.{barriers_few}
 use Rattle.uring_dispatch.proofs.groups.Groups.reserve_in.Goals as goal
 
-pub returns-in_err-reserve_queue-clause-granted : goal.returns-in_err-reserve_queue-clause-granted
-returns-in_err-reserve_queue-clause-granted g c =
+pub returns-in-Err-reserve_queue-clause-granted : goal.returns-in-Err-reserve_queue-clause-granted
+returns-in-Err-reserve_queue-clause-granted g c =
     rw (← c.self.view_is)
     (λ n end grants beyond groups barriers.
     let few = barriers_few c.self.inside.barriers.items end c.self.invariant.0.sorted beyond in
-    absurd (false≢true (c.in_err-reserve_queue.ensures.granted n grants (omega arith))))
+    absurd (false≢true (c.in-Err-reserve_queue.ensures.granted n grants (omega arith))))

@@ -1,19 +1,18 @@
 use Rattle.std.proofs.Common.{arith, ap}
-use Rattle.uring_dispatch.specs.Window.{Window, end_of}
 use Rattle.uring_dispatch.specs.Groups.{Groups}
+use Rattle.uring_dispatch.proofs.Accepts.{cut_held, cut_sound}
 use Rattle.uring_dispatch.proofs.AcceptsListed.{cut_listed}
 use Rattle.uring_dispatch.proofs.outstanding.Outstanding.close.Goals as goal
 
 pub invariant_of-self : goal.invariant_of-self
 invariant_of-self c =
-    record {
-      listed = rw (c.close.ensures.window, c.close.ensures.groups) (cut_listed _ _ _ c.args.self.now.listed);
-      found = rw c.close.ensures.window c.args.self.now.found;
-    }
+    ((rw c.close.ensures (cut_sound _ _ c.args.self.now.grouped.sound), tt), (rw c.close.ensures (cut_listed _ _ _ c.args.self.now.listed), (c.args.self.now.found, tt)))
+
+pub returns-clause-shows : goal.returns-clause-shows
+returns-clause-shows c = λ r h.
+    rw c.close.ensures (cut_held _ _ r h)
 
 pub returns-clause-room : goal.returns-clause-room
 returns-clause-room c = λ k r.
-    let window = ap (λ (w : Window). w.room) c.close.ensures.window in
-    let end = ap (λ (w : Window). end_of w) c.close.ensures.window in
-    let groups = ap (λ (g : Groups). g.room) c.close.ensures.groups in
-    omega (arith, r, window, end, groups)
+    let groups = ap (λ (g : Groups). g.room) c.close.ensures in
+    omega (arith, r, groups)

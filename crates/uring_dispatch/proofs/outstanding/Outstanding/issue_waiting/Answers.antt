@@ -4,7 +4,7 @@ use Rattle.std.proofs.lemmas.Int.{to_z-of_z}
 use Rattle.uring_entry.specs.Layout.{addr_of}
 use Rattle.uring_entry.specs.Requests.{entry_of, no_bytes}
 use Rattle.uring_dispatch.specs.Window.{at, runs, one_if, started}
-use Rattle.uring_dispatch.specs.Groups.{Groups}
+use Rattle.uring_dispatch.proofs.Changes.{write_sound, start_held}
 use Rattle.uring_dispatch.proofs.HeldLemmas.{shown_within}
 use Rattle.uring_dispatch.proofs.WaitingLemmas.{tell_outstanding, idle_listed, forgotten_keeps, restarted_listed}
 use Rattle.uring_entry.proofs.RequestLemmas.{never_success}
@@ -70,13 +70,18 @@ forget-requires c = tell_outstanding _ _ _ c.args.n c.args.self.now.listed (ap i
 
 pub invariant_of-self : goal.invariant_of-self
 invariant_of-self c =
+    (write_sound c.args.self.now.grouped.sound c.requires.there (c.start.ensures.changes _ c.requires.there) refl c.start.ensures.same.end, tt)
+
+pub invariant_of-self-2 : goal.invariant_of-self-2
+invariant_of-self-2 c =
     let changes = c.start.ensures.changes _ c.requires.there in
-    let own = idle_listed _ c.start.new.self.groups _ _ c.args.n (Some (started c.args.request)) changes.here refl refl c.forget.ensures.heads c.forget.ensures.doomed in
+    let own = idle_listed _ c.args.self.now.grouped.groups _ _ c.args.n (Some (started c.args.request)) changes.here refl refl c.forget.ensures.heads c.forget.ensures.doomed in
+    let end = c.start.ensures.same.end in
     record {
       listed =
-          restarted_listed _ _ _ _ _ _ c.args.n (started c.args.request) c.args.self.now.listed (ap is_some c.requires.there) changes c.start.ensures.same.end c.start.ensures.groups
+          restarted_listed _ _ _ _ _ _ c.args.n (started c.args.request) c.args.self.now.listed (ap is_some c.requires.there) changes end refl
           (forgotten_keeps _ _ _ _ c.args.n own c.forget.ensures.heads c.forget.ensures.doomed) own;
-      found = let end = c.start.ensures.same.end in found_on _ _ _ c.args.self.now.found (goes_changed c.requires.there changes end refl) (omega (arith, end, c.args.self.now.found.places));
+      found = found_on _ _ _ c.args.self.now.found (goes_changed c.requires.there changes end refl) (omega (arith, end, c.args.self.now.found.places));
     }
 
 pub returns : goal.returns
@@ -84,9 +89,9 @@ returns c =
     let same = c.start.ensures.same in
     record {
       stays = record {
-        last = ap (λ (g : Groups). g.last) c.start.ensures.groups ∙ c.requires.last;
+        last = c.requires.last;
         window = same.room;
-        groups = ap (λ (g : Groups). g.room) c.start.ensures.groups;
+        groups = refl;
         memory = omega (arith, c.forget.ensures.heads.limit, c.forget.ensures.doomed.limit);
         places = omega arith;
       };
@@ -95,6 +100,6 @@ returns c =
           issued_run r c.args.n c.in-Some.op (sym (c.is_doomed_in.ensures r h) ∙ c.if-is_doomed_in.false) (sym (c.is_ready.ensures r h) ∙ c.if-not-is_ready.false) does.1 c.in_default-op.not-Cancel;
       shows = λ r h.
           let does = op_some (entry_of r c.args.n) c.in-Some.op (sym c.in-Some.is ∙ (h.shown c.args.n c.args.request c.requires.there).op) in
-          c.start.ensures.shows r h does.0;
+          start_held c.args.self.now.grouped.sound h c.requires.there c.requires.waits does.0 (c.start.ensures.changes _ c.requires.there) same c.start.ensures.running;
       counts = λ room between. record { accepted = same.end; outstanding = same.outstanding; running = c.start.ensures.running; room = omega arith; between = refl };
     }

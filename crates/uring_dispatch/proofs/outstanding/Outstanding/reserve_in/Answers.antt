@@ -15,20 +15,20 @@ invariant_of-self g c =
       found = found_on _ _ _ c.args.self.now.found (goes_alike _ _ _ _ alike) (omega (arith, alike.end, c.args.self.now.found.places));
     }
 
-pub returns-in_err-reserve_in-clause-kept : goal.returns-in_err-reserve_in-clause-kept
-returns-in_err-reserve_in-clause-kept g c = λ k le r.
+pub returns-in-Err-clause-kept : goal.returns-in-Err-clause-kept
+returns-in-Err-clause-kept g c = λ k le r.
     omega (arith, r, c.reserve_in.ensures.window_kept k le r.window, c.reserve_in.ensures.groups_kept k le r.groups, (alike_records _ _ c.reserve_in.ensures.same).end)
 
-pub returns-in_err-reserve_in-2-clause-kept : goal.returns-in_err-reserve_in-2-clause-kept
-returns-in_err-reserve_in-2-clause-kept g c = λ k le r.
+pub returns-in-Err-reserve_in-clause-kept : goal.returns-in-Err-reserve_in-clause-kept
+returns-in-Err-reserve_in-clause-kept g c = λ k le r.
     let sets = c.reserve_in-2.ensures in
     omega (arith, r, c.reserve_in.ensures.window_kept k le r.window, c.reserve_in.ensures.groups_kept k le r.groups, (alike_records _ _ c.reserve_in.ensures.same).end, sets.same_heads.same.limit, sets.same_doomed.same.limit)
 
-pub returns-in_err-reserve_in-2-clause-granted : goal.returns-in_err-reserve_in-2-clause-granted
-returns-in_err-reserve_in-2-clause-granted g c = λ r n h grants below.
+pub returns-in-Err-reserve_in-clause-granted : goal.returns-in-Err-reserve_in-clause-granted
+returns-in-Err-reserve_in-clause-granted g c = λ r n h grants below.
     let heads = c.args.self.now.listed.heads.few in
     let doomed = c.args.self.now.listed.doomed.few in
-    absurd (false≢true (c.in_err-reserve_in-2.ensures.granted n grants (omega arith) (omega arith)))
+    absurd (false≢true (c.in-Err-reserve_in.ensures.granted n grants (omega arith) (omega arith)))
 
 pub invariant_of-self-5 : goal.invariant_of-self-5
 invariant_of-self-5 g c =
@@ -42,8 +42,8 @@ invariant_of-self-5 g c =
 
 pub returns-clause-room : goal.returns-clause-room
 returns-clause-room g c =
-    reserved_room _ c.reserve_in-3.result c.args.self.now.grouped.window c.args.self.now.waiting c.args.count c.in_ok-reserve_in.ensures.window_room c.in_ok-reserve_in.ensures.groups_room
-    (alike_records _ _ c.reserve_in.ensures.same).end c.args.self.now.listed.heads.stop c.args.self.now.listed.doomed.stop c.in_ok-reserve_in-2.ensures.heads c.in_ok-reserve_in-2.ensures.doomed (rw (← c.end.ensures.value) c.reserve_in-3.ensures.places)
+    reserved_room _ c.reserve_in-3.result c.args.self.now.grouped.window c.args.self.now.waiting c.args.count c.in_default.ensures.window_room c.in_default.ensures.groups_room
+    (alike_records _ _ c.reserve_in.ensures.same).end c.args.self.now.listed.heads.stop c.args.self.now.listed.doomed.stop c.in_default-reserve_in.ensures.heads c.in_default-reserve_in.ensures.doomed (rw (← c.end.ensures.value) c.reserve_in-3.ensures.places)
 
 pub returns-clause-kept : goal.returns-clause-kept
 returns-clause-kept g c = λ k le r.
@@ -57,8 +57,8 @@ returns-clause-granted g c = λ r n h grants below.
     let end = (alike_records _ _ c.reserve_in.ensures.same).end in
     c.reserve_in-3.ensures.granted n grants (omega (arith, c.end.ensures.value, end, below))
 
-pub invariant_of-self-in-Break-branch-2 : goal.invariant_of-self-in-Break-branch-2
-invariant_of-self-in-Break-branch-2 g c =
+pub invariant_of-self-in-Err-reserve_in-2 : goal.invariant_of-self-in-Err-reserve_in-2
+invariant_of-self-in-Err-reserve_in-2 g c =
     let alike = alike_records _ _ c.reserve_in.ensures.same in
     record {
       listed = same_listed _ _ _ _ (listed_alike _ _ _ _ _ alike c.args.self.now.listed) c.reserve_in-2.ensures.same_heads c.reserve_in-2.ensures.same_doomed;

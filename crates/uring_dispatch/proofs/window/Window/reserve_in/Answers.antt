@@ -11,6 +11,6 @@ invariant_of-self-2 g c =
     let end = ap end_of c.self.view_is in (
       rw (c.reserve_queue.ensures.items, slots) (room_window _ _ c.self.invariant.0 (omega arith)),
       rw c.reserve_queue.ensures.items c.self.invariant.1,
-      c.in_ok-reserve_queue.ensures.ok,
-      c.in_ok-reserve_slab.ensures.ok,
+      c.in_default-reserve_queue.ensures.ok,
+      c.in_default.ensures.ok,
     )

@@ -19,13 +19,13 @@ returns-in_default-clause-shows c = λ r h.
 pub returns-clause-shows : goal.returns-clause-shows
 returns-clause-shows c = λ r h.
     let first = ap (λ (s : Window). s.first) c.self.view_is in
-    subst (λ (s : Window). Shows s (with_cut r)) (sym (c.note_last.ensures.written c.in-Some.request (sym c.in-Some.ensures)))
+    subst (λ (s : Window). Shows s (with_cut r)) (sym c.write.ensures.written)
     (cut_shows _ c.in-Some.request r _ h (sym c.in-Some.ensures) (omega arith))
 
 pub returns-clause-outstanding : goal.returns-clause-outstanding
 returns-clause-outstanding c =
-    ap (λ (s : Window). unended_among s.items) (c.note_last.ensures.written c.in-Some.request (sym c.in-Some.ensures)) ∙ count_same unended_counts _ _ c.in-Some.request _ (sym c.in-Some.ensures) refl
+    ap (λ (s : Window). unended_among s.items) c.write.ensures.written ∙ count_same unended_counts _ _ c.in-Some.request _ (sym c.in-Some.ensures) refl
 
 pub returns-clause-running : goal.returns-clause-running
 returns-clause-running c =
-    ap (λ (s : Window). running_among s.items) (c.note_last.ensures.written c.in-Some.request (sym c.in-Some.ensures)) ∙ count_same running_counts _ _ c.in-Some.request _ (sym c.in-Some.ensures) refl
+    ap (λ (s : Window). running_among s.items) c.write.ensures.written ∙ count_same running_counts _ _ c.in-Some.request _ (sym c.in-Some.ensures) refl

@@ -6,28 +6,28 @@ use Rattle.uring_linux.proofs.Tallies.{lessens}
 use Rattle.uring_linux.proofs.WindowEvents.{at_within}
 use Rattle.uring_linux.proofs.window.Window.finish.Goals as goal
 
-pub note_end-requires : goal.note_end-requires
-note_end-requires c = at_within _ c.args.n c.args.request c.requires
+pub write-requires : goal.write-requires
+write-requires c = at_within _ c.args.n c.args.request c.requires
 
 pub with_end-requires : goal.with_end-requires
 with_end-requires c =
     let w = at_within _ c.args.n c.args.request c.requires in
-    let long = ap (λ (s : Window). end_of s) (c.note_end.ensures.written c.args.request c.requires) in
-    omega (arith, w.high, length-set {A = Request}, c.note_end.ensures.limit)
+    let long = ap (λ (s : Window). end_of s) c.write.ensures.written in
+    omega (arith, w.high, length-set {A = Request}, c.write.ensures.limit)
 
 pub returns-clause-shows : goal.returns-clause-shows
 returns-clause-shows c = λ r res bytes h going is.
     let k = c.keep_group.ensures in
-    finished_shows _ c.note_end.new.self c.keep_group.new.self c.args.request r c.args.n res bytes c.args.has_failed _ c.group_of-group.result h c.requires going is
+    finished_shows _ c.write.new.self c.keep_group.new.self c.args.request r c.args.n res bytes c.args.has_failed _ c.group_of-group.result h c.requires going is
     c.breaks.ensures
     (c.group_of-group.ensures.member r c.args.n h c.requires) (c.group_of-group.ensures.from r c.args.n h c.requires) (c.group_of-group.ensures.kept r c.args.n h c.requires)
-    (c.note_end.ensures.written c.args.request c.requires)
-    (subst (Regroups c.note_end.new.self c.keep_group.new.self) c.with_end.ensures (record { here = k.here; others = k.others; first = k.first; end = k.end }))
+    c.write.ensures.written
+    (subst (Regroups c.write.new.self c.keep_group.new.self) c.with_end.ensures (record { here = k.here; others = k.others; first = k.first; end = k.end }))
 
 pub returns-clause-counts : goal.returns-clause-counts
 returns-clause-counts c = λ going.
     let k = c.keep_group.ensures in
-    let l = lessens _ c.note_end.new.self c.args.n c.args.request c.args.has_failed c.requires going (c.note_end.ensures.written c.args.request c.requires) in
+    let l = lessens _ c.write.new.self c.args.n c.args.request c.args.has_failed c.requires going c.write.ensures.written in
     record {
       end = k.end ∙ l.end;
       first = k.first ∙ l.first;

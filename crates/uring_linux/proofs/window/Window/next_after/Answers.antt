@@ -10,4 +10,4 @@ pub returns-clause-skipped : goal.returns-clause-skipped
 returns-clause-skipped c = λ r k h after lt.
     let here = sym c.in-Some.ensures in
     after_passed r c.args.n k c.group_of-group.result (c.group_of-group.ensures.member r c.args.n h here)
-    (sym (h.told c.args.n c.in-Some.request here).ended ∙ c.if-request.false) after (omega arith)
+    (sym (h.told c.args.n c.in-Some.request.now here).ended ∙ c.if-request.false) after (omega arith)

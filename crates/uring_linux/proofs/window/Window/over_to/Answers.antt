@@ -20,8 +20,8 @@ loop-n-preserved c =
     let i = c.loop-n.invariant in
     let low = i.low in
     let high = i.high in
-    let only : (k : ℕ) (q : Request) → k ≡ c.loop-n.n → at c.args.self.now k ≡ Some q → q ≡ c.in-Some.request =
-    λ k q same e. let f : Some q ≡ Some c.in-Some.request = sym e ∙ ap (at c.args.self.now) same ∙ sym c.in-Some.ensures in cc
+    let only : (k : ℕ) (q : Request) → k ≡ c.loop-n.n → at c.args.self.now k ≡ Some q → q ≡ c.in-Some.request.now =
+    λ k q same e. let f : Some q ≡ Some c.in-Some.request.now = sym e ∙ ap (at c.args.self.now) same ∙ sym c.in-Some.ensures in cc
     in
     let ended : (k : ℕ) (q : Request) → k < c.loop-n.n + 1 → at c.args.self.now k ≡ Some q → q.has_ended ≡ true =
     λ k q lt e.
@@ -30,7 +30,7 @@ loop-n-preserved c =
       | inr here ↦ ap (λ (x : Request). x.has_ended) (only k q (omega (arith, lt, here)) e) ∙ c.if-not-request.false
     ]
     in
-    elim (cases_Bool c.in-Some.request.is_last) [
+    elim (cases_Bool c.in-Some.request.now.is_last) [
       | inl last ↦
           let to = c.if_last-to.ensures.last last in
           record {

@@ -7,7 +7,7 @@ use Rattle.uring_linux.proofs.window.Window.why.Goals as goal
 pub returns : goal.returns
 returns c = λ l s e.
     let here = sym c.in-Some.ensures in
-    let t = s.told c.args.n c.in-Some.request here in
-    let w = at_within _ c.args.n c.in-Some.request here in
+    let t = s.told c.args.n c.in-Some.request.now here in
+    let w = at_within _ c.args.n c.in-Some.request.now here in
     c.waiting.ensures l s e
     ∙ told_why l c.args.n true false false (lt-ltb _ _ (omega (arith, w.high, s.count))) (sym t.ended ∙ c.if-request.false) (sym t.running ∙ c.if-request-2.false)
