@@ -1,6 +1,6 @@
 -- What is listed of calls, and shows what they may come to.
-use Rattle.std.proofs.Common.{◌≡◌, ℕ, zero, suc, Bool, List, [], ◌∷◌, ◌++◌, length, map, Option, Ok, sym, ap, subst, ◌∙◌, refl, arith}
-use Rattle.std.specs.Prelude.{Contains, string_bytes}
+use Rattle.std.proofs.Common.{◌≡◌, ℕ, zero, suc, Bool, List, [], ◌∷◌, ◌++◌, length, map, Option, Ok, sym, ap, subst, ◌∙◌, refl, arith, append_assoc}
+use Rattle.std.specs.Prelude.{Contains, codes, string_bytes}
 use Rattle.std.specs.List.{AllZip}
 use Rattle.std.specs.Io.KnownBytes.{Appends}
 use Rattle.std.proofs.lemmas.List.{length-map}
@@ -15,7 +15,7 @@ use Rattle.uring_litmus.specs.declared.form.Form.{Form}
 use Rattle.uring_litmus.specs.Items.{accepted_of}
 use Rattle.uring_litmus.specs.Parts.{texts_of}
 use Rattle.uring_litmus.specs.Lines.{AreLinesOf, IsLineOf, IsSortedOnce, ShowAll}
-use Rattle.uring_litmus.specs.Listings.{IsNoted, IsListOf, AreFound, Finds, Lists, lines_text, count_text, order_text}
+use Rattle.uring_litmus.specs.Listings.{IsNoted, IsListOf, AreFound, Finds, Lists, lines_text, count_text, told_count, order_text}
 
 -- each line is that of an outcome
 of_line : (form : Form) (endings : List Ending) (lines : List (List ℕ)) → AreLinesOf form endings lines
@@ -49,20 +49,20 @@ all_shown form endings each lines are once = record {
   sorted = once.sorted;
 }
 
-pub list_text : (form : Form) (endings : List Ending) (is_all : Bool) (most : ℕ) (each lines shown : List (String Global)) (count : ℕ) (none listed text : List ℕ)
+pub list_text : (form : Form) (endings : List Ending) (is_all : Bool) (most : ℕ) (each lines shown : List (String Global)) (text : List ℕ)
     → AreLinesOf form endings (texts_of each) → IsSortedOnce (texts_of each) (texts_of lines)
     → AllZip (IsNoted form.is_sorted (texts_of each) (map order_text endings)) (texts_of lines) (texts_of shown)
-    → none ≡ [] → listed ≡ none ++ lines_text (texts_of shown) → count ≡ length shown
-    → text ≡ listed ++ count_text count is_all most → IsListOf form endings is_all most text
-list_text form endings is_all most each lines shown count none listed text are once noted empty list many is = record {
+    → text ≡ lines_text (texts_of shown) ++ codes "outcomes " ++ told_count (length shown) is_all most
+    → IsListOf form endings is_all most text
+list_text form endings is_all most each lines shown text are once noted is = record {
   each = texts_of each;
   show_each = are;
   lines = texts_of lines;
   sorted = once;
   shown = texts_of shown;
   noted = noted;
-  is = is ∙ ap (λ (l : List ℕ). l ++ count_text count is_all most) (list ∙ ap (λ (l : List ℕ). l ++ lines_text (texts_of shown)) empty)
-      ∙ ap (λ (n : ℕ). lines_text (texts_of shown) ++ count_text n is_all most) (many ∙ sym (length-map shown string_bytes));
+  is = is ∙ append_assoc (lines_text (texts_of shown)) (codes "outcomes ") (told_count (length shown) is_all most)
+      ∙ ap (λ (n : ℕ). lines_text (texts_of shown) ++ count_text n is_all most) (sym (length-map shown string_bytes));
 }
 
 pub finds : (setup : Setup) (items : Vec (Vec Item Global) Global) (endings : List Ending) (is_all : Bool) (a a' : Option (List ℕ))

@@ -44,11 +44,15 @@ abbrev pub IsNoted : Bool → List (List ℕ) → List (List ℕ) → List ℕ �
 IsNoted false each orders line shown = shown ≡ line
 IsNoted true each orders line shown = IsNotedBy each orders line shown
 
--- how many lines there are; after so many paths, how many at least
+-- how many there are; after so many paths, how many at least
+abbrev pub told_count : ℕ → Bool → ℕ → List ℕ
+told_count count true most = decimal count ++ codes "\n"
+told_count count false most =
+    decimal count ++ codes " or more: stopped after " ++ decimal most ++ codes " paths\n"
+
+-- how many lines of outcomes there are
 abbrev pub count_text : ℕ → Bool → ℕ → List ℕ
-count_text count true most = codes "outcomes " ++ decimal count ++ codes "\n"
-count_text count false most =
-    codes "outcomes " ++ decimal count ++ codes " or more: stopped after " ++ decimal most ++ codes " paths\n"
+count_text count is_all most = codes "outcomes " ++ told_count count is_all most
 
 -- lines, each with its end
 abbrev pub lines_text : List (List ℕ) → List ℕ

@@ -3,7 +3,7 @@
 ghost use Rattle.std.specs.Prelude.{◌≡◌, ◌↔◌, ◌∷◌, ℕ, List, [], Some, IsTrue, IfOk, MatchOption, Contains, slice_get};
 ghost use Rattle.uring_outcomes.specs.Outcomes.{Ending};
 ghost use Rattle.uring_litmus.specs.Parts.{texts_of};
-ghost use Rattle.uring_litmus.specs.Claims.{lines_in, parts_in, AreAmong, StandsSome, IsSoOf, IsAgainst, is_so};
+ghost use Rattle.uring_litmus.specs.Claims.{lines_in, AreAmong, StandsSome, IsSoOf, IsAgainst, is_so};
 
 use crate::form::Form;
 use crate::lines::is_same_text;
@@ -56,7 +56,7 @@ fn is_so_of(
 ) -> Result<bool, AllocError>
     ensures { IfOk result (λ so. IsTrue so ↔ IsSoOf claim (lines_in lines.now) ending.now) }
 {
-    let parts = whole_parts(alloc, ending)?;
+    let parts = parts_of(alloc, ending, WHOLE)?;
     let is_shown = shows_some(parts.as_slice(), lines);
     drop(parts);
     let so = so_by(claim, is_shown);
@@ -71,13 +71,6 @@ pub(crate) fn so_by(claim: Claim, is_shown: bool) -> bool
         Claim::Never => !is_shown,
         Claim::Always => is_shown,
     }
-}
-
-/// The parts of an outcome, with its files.
-fn whole_parts(alloc: Global, ending: &Ending) -> Result<Vec<String>, AllocError>
-    ensures { IfOk result (λ parts. texts_of parts.items ≡ parts_in ending.now) }
-{
-    parts_of(alloc, ending, WHOLE)
 }
 
 /// Whether some of these lines stands among these parts of an outcome.

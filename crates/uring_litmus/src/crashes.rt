@@ -2,15 +2,14 @@
 
 use crate::calls::entries_in;
 use crate::claims::{Claim, shows_some, so_by};
-use crate::lines::{join, sorted_of};
-use crate::listing::{push_lines, write_text};
+use crate::lines::{join, push_copy, sort_once};
+use crate::listing::{listed, write_text};
 use crate::parts::{add_completions, push_hex};
 use std::alloc::{AllocError, Global};
 use std::io::{Read, Write};
 use uring_entry::Setup;
 use uring_play_text::{Item, PlayFault, read_calls};
 use uring_power::{Crash, CrashFault, FoundCrashes, crashes_within};
-use uring_text::{push_number, push_text};
 
 /// The most images that may be left of one file at one moment.
 pub const MOST_IMAGES: u32 = 1_000;
@@ -58,7 +57,7 @@ pub fn list_crashes<R: Read, W: Write>(
     let Some((lines, is_all)) = crash_lines(alloc, reader, setup, unit, most)? else {
         return Ok(CrashesListed::TooMany);
     };
-    let text = text_of(alloc, lines.as_slice(), is_all, most);
+    let text = listed(alloc, "crashes ", lines.as_slice(), is_all, most);
     drop(lines);
     let text = text?;
     write_text(writer, text.as_str())?;
@@ -109,7 +108,9 @@ fn crash_lines<R: Read>(
         Ok(FoundCrashes { crashes, is_all }) => {
             let each = each_line(alloc, crashes.as_slice());
             drop(crashes);
-            Ok(Some((sorted(alloc, each?)?, is_all)))
+            let mut lines = each?;
+            sort_once(&mut lines);
+            Ok(Some((lines, is_all)))
         }
         Err(CrashFault::Images) => Ok(None),
         Err(CrashFault::Memory | CrashFault::Spent) => Err(PlayFault::Memory),
@@ -129,13 +130,6 @@ fn crashes_of(
     let found = crashes_within(alloc, setup, unit, calls.as_slice(), most, MOST_IMAGES);
     drop(calls);
     found
-}
-
-/// These lines sorted by their bytes, each once.
-fn sorted(alloc: Global, each: Vec<String>) -> Result<Vec<String>, AllocError> {
-    let lines = sorted_of(alloc, each.as_slice());
-    drop(each);
-    lines
 }
 
 /// The line of each.
@@ -167,40 +161,10 @@ fn parts_of_crash(alloc: Global, crash: &Crash) -> Result<Vec<String>, AllocErro
 
 /// What is left of a file, as text.
 fn text_of_left(alloc: Global, fd: usize, bytes: &[u8]) -> Result<String, AllocError> {
-    let mut text = String::new(alloc);
-    push_text(&alloc, &mut text, "file ")?;
-    push_number(&alloc, &mut text, fd as u64)?;
-    push_text(&alloc, &mut text, " len ")?;
-    push_number(&alloc, &mut text, bytes.len() as u64)?;
-    push_text(&alloc, &mut text, " data ")?;
+    let len = bytes.len();
+    let mut text = format!(in alloc; "file {fd} len {len} data ")?;
     push_hex(alloc, &mut text, bytes)?;
     Ok(text)
-}
-
-/// These lines, and how many they are.
-fn text_of(alloc: Global, lines: &[String], is_all: bool, most: u64) -> Result<String, AllocError> {
-    let mut text = String::new(alloc);
-    push_lines(alloc, &mut text, lines)?;
-    push_count(alloc, &mut text, lines.len(), is_all, most)?;
-    Ok(text)
-}
-
-/// Appends how many lines there are; if the walk stopped before its end, how many at least.
-fn push_count(
-    alloc: Global,
-    text: &mut String,
-    count: usize,
-    is_all: bool,
-    most: u64,
-) -> Result<(), AllocError> {
-    push_text(&alloc, text, "crashes ")?;
-    push_number(&alloc, text, count as u64)?;
-    if is_all {
-        return push_text(&alloc, text, "\n");
-    }
-    push_text(&alloc, text, " or more: stopped after ")?;
-    push_number(&alloc, text, most)?;
-    push_text(&alloc, text, " paths\n")
 }
 
 /// The first of these lines of which the claim isn't so, if there is one.
@@ -227,7 +191,7 @@ fn is_so_of(
 ) -> Result<bool, AllocError> {
     let mut parts = Vec::new(alloc);
     for part in line.split(", ") {
-        parts.push(String::from_str(alloc, part)?)?;
+        push_copy(alloc, &mut parts, part)?;
     }
     let is_shown = shows_some(parts.as_slice(), lines);
     drop(parts);

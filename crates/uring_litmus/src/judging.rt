@@ -72,21 +72,6 @@ fn verdict_in(
         → IsVerdict g calls claim (lines_in lines.now) judged) }
 {
     let Found { endings, is_all } = found;
-    Ok(verdict_on(alloc, endings, is_all, claim, lines)?)
-}
-
-/// The verdict on a claim of these outcomes, which are all or not.
-fn verdict_on(
-    alloc: Global,
-    endings: Vec<Ending>,
-    is_all: bool,
-    claim: Claim,
-    lines: &[Vec<String>],
-) -> Result<Judged, AllocError>
-    ensures { IfOk result
-        (λ judged. (g : Setup) (calls : List (List Sqe)) → AreFound g calls endings.items is_all
-        → IsVerdict g calls claim (lines_in lines.now) judged) }
-{
     let against = first_against(alloc, endings.as_slice(), claim, lines);
     let count = endings.len();
     match against {
@@ -97,9 +82,9 @@ fn verdict_on(
             drop(endings);
             Ok(standing(count, is_all))
         }
-        Err(error) => {
+        Err(_) => {
             drop(endings);
-            Err(error)
+            Err(PlayFault::Memory)
         }
     }
 }
@@ -150,21 +135,8 @@ fn choice_in(alloc: Global, found: Found, form: Form, number: u32) -> Result<Cho
         (λ chosen. IsChosen form found.endings.items found.is_all number chosen) }
 {
     let Found { endings, is_all } = found;
-    Ok(choice_of(alloc, endings, is_all, form, number)?)
-}
-
-/// The outcome of the line of this number.
-fn choice_of(
-    alloc: Global,
-    endings: Vec<Ending>,
-    is_all: bool,
-    form: Form,
-    number: u32,
-) -> Result<Chosen, AllocError>
-    ensures { IfOk result (λ chosen. IsChosen form endings.items is_all number chosen) }
-{
-    let found = place_of(alloc, endings.as_slice(), form, number);
-    match found {
+    let place = place_of(alloc, endings.as_slice(), form, number);
+    match place {
         Ok(Ok(at)) => Ok(Chosen::Outcome {
             ending: taken(endings, at),
             is_all,
@@ -173,9 +145,9 @@ fn choice_of(
             drop(endings);
             Ok(Chosen::Missing { count, is_all })
         }
-        Err(error) => {
+        Err(_) => {
             drop(endings);
-            Err(error)
+            Err(PlayFault::Memory)
         }
     }
 }

@@ -8,7 +8,6 @@ use crate::form::Form;
 use crate::parts::parts_of;
 use std::alloc::{AllocError, Global};
 use uring_outcomes::Ending;
-use uring_text::push_text;
 
 /// The line of each outcome, in their order.
 pub(crate) fn each_line(
@@ -107,20 +106,20 @@ pub(crate) fn join(alloc: Global, parts: &[String]) -> Result<String, AllocError
 {
     let mut line = String::new(alloc);
     if let [first, rest @ ..] = parts {
-        push_text(&alloc, &mut line, first.as_str())?;
-        push_rest(alloc, &mut line, rest)?;
+        line.push_str(first.as_str())?;
+        push_rest(&mut line, rest)?;
     }
     Ok(line)
 }
 
 /// Appends these parts, each after a comma and a blank.
-fn push_rest(alloc: Global, line: &mut String, parts: &[String]) -> Result<(), AllocError>
+fn push_rest(line: &mut String, parts: &[String]) -> Result<(), AllocError>
     ensures { OnOk result
         (string_bytes line.new ≡ string_bytes line.old ++ flat_map parted (texts_of parts.now)) }
 {
     for part in parts {
-        push_text(&alloc, line, ", ")?;
-        push_text(&alloc, line, part.as_str())?;
+        line.push_str(", ")?;
+        line.push_str(part.as_str())?;
     }
     Ok(())
 }

@@ -1,23 +1,24 @@
 //! The list of all that calls may come to.
 
-ghost use Rattle.std.specs.Prelude.{◌≡◌, ◌++◌, IfOk, OnOk, List, ℕ, map, string_bytes};
+ghost use Rattle.std.specs.Prelude.{◌≡◌, ◌++◌, IfOk, OnOk, List, ℕ, length, map, string_bytes};
 ghost use Rattle.std.specs.Io.KnownBytes.{Appends};
 ghost use Rattle.uring_litmus.specs.Parts.{texts_of};
-ghost use Rattle.uring_litmus.specs.Listings.{IsListOf, AreFound, Finds, Lists, lines_text, count_text};
+ghost use Rattle.uring_litmus.specs.Listings.{IsListOf, AreFound, Finds, Lists, lines_text, told_count};
+ghost use Rattle.uring_litmus.specs.Lines.{AreLinesOf};
 ghost use Rattle.uring_litmus.specs.Items.{accepted_of};
 ghost use Rattle.uring_play_text.specs.Inputs.{lists_of};
-ghost use Rattle.uring_outcomes.specs.Runs.{entries_of};
 
 use crate::calls::entries_in;
 use crate::form::Form;
 use crate::lines::{each_line, sorted_of};
 use crate::orders::noted;
 use std::alloc::{AllocError, Global};
+use std::fmt::Write as _;
 use std::io::{Read, Write};
-use uring_entry::{Setup, Sqe};
+use uring_entry::Setup;
 use uring_outcomes::{Ending, Found, WalkFault, outcomes_within};
 use uring_play_text::{Item, PlayFault, read_calls};
-use uring_text::{Calls, push_number, push_text, write_all};
+use uring_text::{Calls, write_all};
 
 /// Reads calls, as `uring play` does, and writes what they may come to on empty files of this set-up, a line an outcome, sorted by bytes, and then how many lines these are. The walk stops after so many paths; whether it went to its end, so that these are all, is returned.
 ///
@@ -97,17 +98,9 @@ fn endings_of(
         (λ found. AreFound setup.now (map accepted_of (lists_of items.now)) found.endings.items found.is_all) }
 {
     let calls = entries_in(alloc, items)?;
-    let found = found_in(alloc, setup, calls.as_slice(), most);
+    let found = outcomes_within(alloc, setup, calls.as_slice(), most);
     drop(calls);
-    found
-}
-
-/// What these calls may come to.
-fn found_in(alloc: Global, setup: &Setup, calls: &[Vec<Sqe>], most: u64) -> Result<Found, PlayFault>
-    ensures { IfOk result
-        (λ found. AreFound setup.now (entries_of calls.now) found.endings.items found.is_all) }
-{
-    match outcomes_within(alloc, setup, calls, most) {
+    match found {
         Ok(found) => Ok(found),
         Err(WalkFault::Memory | WalkFault::Spent | WalkFault::Paths) => Err(PlayFault::Memory),
     }
@@ -124,49 +117,67 @@ fn text_of(
     ensures { IfOk result (λ text. IsListOf form endings.now is_all most (string_bytes text)) }
 {
     let each = each_line(alloc, endings, form)?;
-    let lines = sorted_of(alloc, each.as_slice())?;
-    let shown = noted(alloc, lines, each.as_slice(), endings, form)?;
-    let mut text = String::new(alloc);
-    push_lines(alloc, &mut text, shown.as_slice())?;
-    push_count(alloc, &mut text, shown.len(), is_all, most)?;
+    let text = text_by(alloc, each.as_slice(), endings, form, is_all, most);
     drop(each);
+    text
+}
+
+/// These lines of outcomes, sorted and each once, with their notes, and how many they are.
+fn text_by(
+    alloc: Global,
+    each: &[String],
+    endings: &[Ending],
+    form: Form,
+    is_all: bool,
+    most: u64,
+) -> Result<String, AllocError>
+    requires { AreLinesOf form endings.now (texts_of each.now) }
+    ensures { IfOk result (λ text. IsListOf form endings.now is_all most (string_bytes text)) }
+{
+    let lines = sorted_of(alloc, each)?;
+    let shown = noted(alloc, lines, each, endings, form)?;
+    let text = listed(alloc, "outcomes ", shown.as_slice(), is_all, most);
     drop(shown);
+    text
+}
+
+/// These lines, each with its end, and how many they are, after this word.
+pub(crate) fn listed(
+    alloc: Global,
+    what: &str,
+    lines: &[String],
+    is_all: bool,
+    most: u64,
+) -> Result<String, AllocError>
+    ensures { IfOk result
+        (λ text. string_bytes text ≡ lines_text (texts_of lines.now) ++ what.now ++ told_count (length lines.now) is_all most) }
+{
+    let mut text = String::new(alloc);
+    push_lines(&mut text, lines)?;
+    text.push_str(what)?;
+    push_count(&mut text, lines.len(), is_all, most)?;
     Ok(text)
 }
 
 /// Appends the lines, each with its end.
-pub(crate) fn push_lines(
-    alloc: Global,
-    text: &mut String,
-    lines: &[String],
-) -> Result<(), AllocError>
+fn push_lines(text: &mut String, lines: &[String]) -> Result<(), AllocError>
     ensures { OnOk result
         (string_bytes text.new ≡ string_bytes text.old ++ lines_text (texts_of lines.now)) }
 {
     for line in lines {
-        push_text(&alloc, text, line.as_str())?;
-        push_text(&alloc, text, "\n")?;
+        text.push_str(line.as_str())?;
+        text.push_str("\n")?;
     }
     Ok(())
 }
 
-/// Appends how many outcomes there are; if the walk stopped before its end, how many at least.
-pub(crate) fn push_count(
-    alloc: Global,
-    text: &mut String,
-    count: usize,
-    is_all: bool,
-    most: u64,
-) -> Result<(), AllocError>
+/// Appends how many lines there are; if the walk stopped before its end, how many at least.
+fn push_count(text: &mut String, count: usize, is_all: bool, most: u64) -> Result<(), AllocError>
     ensures { OnOk result
-        (string_bytes text.new ≡ string_bytes text.old ++ count_text count is_all most) }
+        (string_bytes text.new ≡ string_bytes text.old ++ told_count count is_all most) }
 {
-    push_text(&alloc, text, "outcomes ")?;
-    push_number(&alloc, text, count as u64)?;
     if is_all {
-        return push_text(&alloc, text, "\n");
+        return write!(text, "{count}\n");
     }
-    push_text(&alloc, text, " or more: stopped after ")?;
-    push_number(&alloc, text, most)?;
-    push_text(&alloc, text, " paths\n")
+    write!(text, "{count} or more: stopped after {most} paths\n")
 }

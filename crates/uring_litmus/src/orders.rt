@@ -10,8 +10,8 @@ ghost use Rattle.uring_litmus.specs.Listings.{CountsOrders, HasBoth, IsNoted, or
 use crate::form::Form;
 use crate::lines::{each_line, is_same_text, push_copy, sort_once};
 use std::alloc::{AllocError, Global};
+use std::fmt::Write;
 use uring_outcomes::Ending;
-use uring_text::{push_number, push_text};
 
 /// The completions alone, in their order.
 const ORDER: Form = Form {
@@ -48,17 +48,10 @@ fn noted_by(
     ensures { IfOk result
         (λ shown. AllZip (IsNoted true (texts_of each.now) (map order_text endings.now)) (texts_of lines.now) (texts_of shown.items)) }
 {
-    let orders = each_order(alloc, endings)?;
+    let orders = each_line(alloc, endings, ORDER)?;
     let shown = note_all(alloc, lines, each, orders.as_slice());
     drop(orders);
     shown
-}
-
-/// The completions of each outcome, in their order, as a line.
-fn each_order(alloc: Global, endings: &[Ending]) -> Result<Vec<String>, AllocError>
-    ensures { IfOk result (λ orders. texts_of orders.items ≡ map order_text endings.now) }
-{
-    each_line(alloc, endings, ORDER)
 }
 
 /// Each line with its note. Outcomes have these lines and these orders.
@@ -90,19 +83,17 @@ fn with_note(
         (λ text. IsNoted true (texts_of each.now) (texts_of orders.now) line.now (string_bytes text)) }
 {
     let count = count_of(alloc, line, each, orders)?;
-    note_text(alloc, line, count)
+    let mut text = String::new(alloc);
+    push_note(&mut text, line, count)?;
+    Ok(text)
 }
 
-/// A line with this number of orders after it.
-fn note_text(alloc: Global, line: &str, count: usize) -> Result<String, AllocError>
-    ensures { IfOk result
-        (λ text. string_bytes text ≡ line.now ++ codes "  # orders " ++ decimal count) }
+/// Appends a line with this number of orders after it.
+fn push_note(text: &mut String, line: &str, count: usize) -> Result<(), AllocError>
+    ensures { OnOk result
+        (string_bytes text.new ≡ string_bytes text.old ++ line.now ++ codes "  # orders " ++ decimal count) }
 {
-    let mut text = String::new(alloc);
-    push_text(&alloc, &mut text, line)?;
-    push_text(&alloc, &mut text, "  # orders ")?;
-    push_number(&alloc, &mut text, count as u64)?;
-    Ok(text)
+    write!(text, "{line}  # orders {count}")
 }
 
 /// How many orders a line has.

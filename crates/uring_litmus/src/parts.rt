@@ -1,21 +1,23 @@
 //! The parts of an outcome as text: its completions, and its files.
 
-ghost use Rattle.std.specs.Prelude.{◌≡◌, ◌++◌, ◌∷◌, [], ◌<◌, ◌≤◌, pos, codes, IfOk, OnOk, MatchOption, Some, length, string_bytes, if◌then◌else◌};
+ghost use Rattle.std.specs.Prelude.{◌≡◌, ◌++◌, ◌∷◌, [], ◌<◌, ◌≤◌, pos, IfOk, OnOk, MatchOption, Some, length, string_bytes, if◌then◌else◌};
 ghost use Rattle.uring_entry.specs.Layout.{Cqe};
 ghost use Rattle.uring_files.specs.Contents.{FileContents};
 ghost use Rattle.std.specs.Option.{option_to_list};
 ghost use Rattle.uring_files.specs.Operations.{file_of, state_of, byte_of};
 ghost use Rattle.uring_text.specs.Completions.{completion_text};
 ghost use Rattle.uring_text.specs.Tokens.{hex_or_dash};
-ghost use Rattle.uring_litmus.specs.Parts.{texts_of, IsShown, IsOrderedBy, completion_texts, completion_parts, state_text, file_text, files_texts};
+ghost use Rattle.uring_litmus.specs.Parts.{texts_of, IsShown, IsOrderedBy, completion_parts, state_text, file_text, files_texts};
 
 use crate::form::Form;
+use crate::lines::push_copy;
 use std::alloc::{AllocError, Global};
+use std::fmt::Write;
 use uring_entry::Setup;
 use uring_files::FileState;
 use uring_outcomes::{Cqe, Ending, Files};
 use uring_play_text::sort;
-use uring_text::{push_completion, push_number, push_text};
+use uring_text::push_completion;
 
 /// A descriptor that no file has.
 const PAST_FILES: u32 = Setup::MAX_FILES + 1;
@@ -56,27 +58,8 @@ pub(crate) fn add_completions(
         (texts_of parts.new.items ≡ texts_of parts.old.items ++ completion_parts completions.now) }
 {
     if completions.is_empty() {
-        return add_none(alloc, parts);
+        return push_copy(alloc, parts, "none");
     }
-    add_each(alloc, parts, completions)
-}
-
-/// Adds the part of an outcome that has posted nothing.
-fn add_none(alloc: Global, parts: &mut Vec<String>) -> Result<(), AllocError>
-    ensures { OnOk result
-        (texts_of parts.new.items ≡ texts_of parts.old.items ++ codes "none" ∷ []) }
-{
-    let mut text = String::new(alloc);
-    push_text(&alloc, &mut text, "none")?;
-    parts.push(text)?;
-    Ok(())
-}
-
-/// Adds the text of each completion.
-fn add_each(alloc: Global, parts: &mut Vec<String>, completions: &[Cqe]) -> Result<(), AllocError>
-    ensures { OnOk result
-        (texts_of parts.new.items ≡ texts_of parts.old.items ++ completion_texts completions.now) }
-{
     for completion in completions {
         add_completion(alloc, parts, completion)?;
     }
@@ -144,7 +127,9 @@ fn add_file(
         return Ok(());
     };
     let bytes = bytes_of(alloc, files, fd, state.len)?;
-    let text = text_of_file(alloc, fd, &state, bytes.as_slice())?;
+    let text = text_of_file(alloc, fd, &state, bytes.as_slice());
+    drop(bytes);
+    let text = text?;
     parts.push(text)?;
     Ok(())
 }
@@ -168,30 +153,21 @@ fn text_of_file(
         (λ text. string_bytes text ≡ state_text fd state.now ++ hex_or_dash bytes.now) }
 {
     let mut text = String::new(alloc);
-    push_state(alloc, &mut text, fd, state)?;
+    push_state(&mut text, fd, state)?;
     push_hex(alloc, &mut text, bytes)?;
     Ok(text)
 }
 
 /// Appends which file it is and how it stands.
-fn push_state(
-    alloc: Global,
-    text: &mut String,
-    fd: u32,
-    state: &FileState,
-) -> Result<(), AllocError>
+fn push_state(text: &mut String, fd: u32, state: &FileState) -> Result<(), AllocError>
     ensures { OnOk result
         (string_bytes text.new ≡ string_bytes text.old ++ state_text fd state.now) }
 {
-    push_text(&alloc, text, "file ")?;
-    push_number(&alloc, text, u64::from(fd))?;
-    push_text(&alloc, text, " len ")?;
-    push_number(&alloc, text, u64::from(state.len))?;
-    push_text(&alloc, text, " writes ")?;
-    push_number(&alloc, text, state.writes)?;
-    push_text(&alloc, text, " synced ")?;
-    push_number(&alloc, text, state.synced)?;
-    push_text(&alloc, text, " data ")
+    let (len, writes, synced) = (state.len, state.writes, state.synced);
+    write!(
+        text,
+        "file {fd} len {len} writes {writes} synced {synced} data "
+    )
 }
 
 /// The bytes of the file of this descriptor, which has so many.
@@ -213,18 +189,10 @@ fn push_byte(bytes: &mut Vec<u8>, files: &Files, fd: u32, at: u32) -> Result<(),
     ensures { OnOk result
         (bytes.new.items ≡ bytes.old.items ++ option_to_list (byte_of files.now (pos fd) at)) }
 {
-    if let Some(byte) = byte_at(files, fd, at) {
+    if let Some(byte) = files.byte(fd as i32, u64::from(at)) {
         bytes.push(byte)?;
     }
     Ok(())
-}
-
-/// The byte of a file at this offset.
-fn byte_at(files: &Files, fd: u32, at: u32) -> Option<u8>
-    requires { fd < 65 }
-    ensures { result ≡ byte_of files.now (pos fd) at }
-{
-    files.byte(fd as i32, u64::from(at))
 }
 
 /// Appends bytes as two lower case hexadecimal digits each, or `-` for none.
@@ -233,8 +201,10 @@ pub(crate) fn push_hex(alloc: Global, text: &mut String, bytes: &[u8]) -> Result
         (string_bytes text.new ≡ string_bytes text.old ++ hex_or_dash bytes.now) }
 {
     if bytes.is_empty() {
-        return push_text(&alloc, text, "-");
+        return text.push_str("-");
     }
     let digits = hex::encode(alloc, bytes)?;
-    push_text(&alloc, text, digits.as_str())
+    let pushed = text.push_str(digits.as_str());
+    drop(digits);
+    pushed
 }

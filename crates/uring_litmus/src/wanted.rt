@@ -17,37 +17,50 @@ pub fn parts_of_line(alloc: Global, line: &str) -> Result<Option<Vec<String>>, A
     Ok(Some(parts))
 }
 
+/// What a part may be: words, and values in brackets.
+const NONE: [&str; 1] = ["none"];
+
+const COMPLETION: [&str; 4] = ["cqe", "<u64>", "<i32>", "<data>"];
+
+const LEFT: [&str; 6] = ["file", "<u32>", "len", "<u32>", "data", "<data>"];
+
+const FILE: [&str; 10] = [
+    "file", "<u32>", "len", "<u32>", "writes", "<u64>", "synced", "<u64>", "data", "<data>",
+];
+
 /// Whether an outcome may have this part.
 fn is_part(alloc: Global, part: &str) -> Result<bool, AllocError> {
     let tokens = split_tokens(alloc, part.as_bytes())?;
-    Ok(match tokens.as_slice() {
-        [b"none"] => true,
-        [b"cqe", user_data, result, bytes] => {
-            spelled_long(user_data).is_some() && spelled_signed(result).is_some() && is_data(bytes)
-        }
-        [
-            b"file",
-            fd,
-            b"len",
-            len,
-            b"writes",
-            writes,
-            b"synced",
-            synced,
-            b"data",
-            bytes,
-        ] => {
-            spelled_number(fd).is_some()
-                && spelled_number(len).is_some()
-                && spelled_long(writes).is_some()
-                && spelled_long(synced).is_some()
-                && is_data(bytes)
-        }
-        [b"file", fd, b"len", len, b"data", bytes] => {
-            spelled_number(fd).is_some() && spelled_number(len).is_some() && is_data(bytes)
-        }
+    let is_part = match tokens.len() {
+        1 => fit(tokens.as_slice(), &NONE),
+        4 => fit(tokens.as_slice(), &COMPLETION),
+        6 => fit(tokens.as_slice(), &LEFT),
+        10 => fit(tokens.as_slice(), &FILE),
         _ => false,
-    })
+    };
+    drop(tokens);
+    Ok(is_part)
+}
+
+/// Whether these tokens are such words and values, each in its place.
+fn fit(tokens: &[&[u8]], wanted: &[&str]) -> bool {
+    for at in 0..tokens.len() {
+        if at >= wanted.len() || !fits(tokens[at], wanted[at]) {
+            return false;
+        }
+    }
+    true
+}
+
+/// Whether a token is this word, or a value of this kind.
+fn fits(token: &[u8], wanted: &str) -> bool {
+    match wanted {
+        "<u32>" => spelled_number(token).is_some(),
+        "<u64>" => spelled_long(token).is_some(),
+        "<i32>" => spelled_signed(token).is_some(),
+        "<data>" => is_data(token),
+        _ => token == wanted.as_bytes(),
+    }
 }
 
 /// Whether this is `-`, or two lower case hexadecimal digits for each byte of some.

@@ -1,7 +1,0 @@
-use Rattle.std.proofs.Common.{rules}
-use Rattle.uring_litmus.proofs.Listed.{list_text}
-use Rattle.uring_litmus.proofs.listing.text_of.Goals as goal
-
-pub returns : goal.returns
-returns c =
-    list_text c.args.form c.args.endings.now c.args.is_all c.args.most c.in_ok-each.each.items c.in_ok-lines.lines.items c.in_ok-shown.shown.items c.len.result _ _ _ c.in_ok-each.ensures (rw c.as_slice.ensures.value at c.in_ok-lines.ensures) (rw c.as_slice-2.ensures.value at c.in_ok-shown.ensures) c.new-text.ensures.bytes (rw c.as_slice-3.ensures.value at c.in_ok-push_lines.ensures) (search rules) c.in_ok-push_count.ensures
