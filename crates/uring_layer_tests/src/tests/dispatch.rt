@@ -138,8 +138,15 @@ impl EachCall {
                 Some(0),
             ),
             tells(&self.ended, [1, 0, 0], None, None, None, None),
-            self.issues == [Issued::Run(op), Issued::Running, Issued::Unknown],
-            self.absent == None && self.finishes == [Finished::Ended, Finished::NotRunning],
+            matches!(
+                self.issues,
+                [
+                    Issued::Run(Op::Fsync { fd: 1 }),
+                    Issued::Running,
+                    Issued::Unknown
+                ]
+            ),
+            self.absent == None && matches!(self.finishes, [Finished::Ended, Finished::NotRunning]),
         ]
     }
 }
