@@ -1,5 +1,5 @@
 -- The test tells which write can be folded.
-use Rattle.std.proofs.Common.{◌≡◌, ◌==◌, ◌+◌, ◌<◌, ◌≤◌, ◌-◌, ℕ, min, max, true, false, not, ◌&&◌, length, ap, inl, inr, arith}
+use Rattle.std.proofs.Common.{◌≡◌, ◌==◌, ◌+◌, ◌<◌, ◌≤◌, ℕ, min, max, true, false, not, ◌&&◌, length, ap, inl, inr, arith}
 use Rattle.std.specs.List.{list_any}
 use Rattle.std.proofs.lemmas.Bool.{cases_Bool, both_ways, false_from_ne_true, or_cases, or_left, or_right, and_from, and_parts, eqb-false, ne_eqb, not-true, not_from_false, lt-ltb, ltb-true, leb-true, le-leb}
 use Rattle.uring_volume.specs.Writes.{Write}

@@ -20,28 +20,25 @@ padded [] n k = zeros n k
 padded (x ∷ xs) n zero = refl
 padded (x ∷ xs) n (suc k) = padded xs n k
 
-pub left_by : (u : ℕ) (first : List ℕ) (h : History) (choice whole rest : List ℕ)
-    (pieces order : List Write) (grown now : List ℕ) (len : ℕ)
-    → pieces ≡ issued h
+pub left_by : (u : ℕ) (first : List ℕ) (h : History) (choice whole rest grown now : List ℕ)
+    (len : ℕ)
     → whole ≡ part choice 0
     → ((i : ℕ) → part rest i ≡ part choice (suc i))
-    → order ≡ chosen h (issued h) whole
-    → len ≡ length_over (length first) order
+    → len ≡ length_over (length first) (chosen h (issued h) whole)
     → grown ≡ first ++ replicate (len - length first) 0
     → length now ≡ length grown
     → ((k : ℕ) → k < length grown → get_or now k 0
-    ≡ byte_over (get_or grown k 0) (chosen h (filter (is_on u (k / u)) pieces) (part rest (k / u))) k)
+    ≡ byte_over (get_or grown k 0) (chosen h (filter (is_on u (k / u)) (issued h)) (part rest (k / u))) k)
     → IsLeftBy u first h choice now
-left_by u first h choice whole rest pieces order grown now len all begins goes_on chose long padding same left =
-    let longer : length first ≤ len = omega (arith, len_grows (length first) order) in
+left_by u first h choice whole rest grown now len begins goes_on long padding same left =
+    let longer : length first ≤ len = omega (arith, len_grows (length first) (chosen h (issued h) whole)) in
     let size : length grown ≡ length first + (len - length first) = ap length padding ∙ length-append first (replicate (len - length first) 0) ∙ ap (λ n. length first + n) (length-replicate (len - length first) 0) in
     let total : length now ≡ len = omega arith in
     record {
-      len = total ∙ long ∙ ap (length_over (length first)) (chose ∙ ap (chosen h (issued h)) begins);
+      len = total ∙ long ∙ ap (λ ns. length_over (length first) (chosen h (issued h) ns)) begins;
       bytes = λ k within.
           left k (omega arith)
-          ∙ ap (λ byte. byte_over byte (chosen h (filter (is_on u (k / u)) pieces) (part rest (k / u))) k) (ap (λ xs. get_or xs k 0) padding ∙ padded first (len - length first) k)
-          ∙ ap (λ ws. byte_over (get_or first k 0) (chosen h (filter (is_on u (k / u)) ws) (part rest (k / u))) k) all
+          ∙ ap (λ byte. byte_over byte (chosen h (filter (is_on u (k / u)) (issued h)) (part rest (k / u))) k) (ap (λ xs. get_or xs k 0) padding ∙ padded first (len - length first) k)
           ∙ ap (λ ns. byte_over (get_or first k 0) (chosen h (filter (is_on u (k / u)) (issued h)) ns) k) (goes_on (k / u));
     }
 

@@ -1,10 +1,10 @@
 -- A search through a list, and loops over lists of references.
-use Rattle.std.proofs.Common.{◌≡◌, ◌+◌, ◌*◌, ◌<◌, ◌≤◌, ℕ, zero, suc, min, max, Bool, true, false, ◌&&◌, cond, List, [], ◌∷◌, ◌++◌, length, map, get_or, take, drop, refl, sym, ap, ◌∙◌, inl, inr, arith}
+use Rattle.std.proofs.Common.{◌≡◌, ◌+◌, ◌-◌, ◌*◌, ◌<◌, ◌≤◌, ℕ, zero, suc, min, max, Bool, true, false, ◌&&◌, cond, List, [], ◌∷◌, ◌++◌, length, map, get_or, take, drop, replicate, refl, sym, ap, ◌∙◌, inl, inr, arith}
 use Rattle.std.specs.Prelude.{Result, Ok, Err, OnOk}
 use Rattle.std.specs.List.{list_any, filter}
 use Rattle.std.specs.Cmp.Lexicographic.{pointwise}
 use Rattle.std.proofs.lemmas.Bool.{cases_Bool, cond-true, cond-false, or_from, or_left, or_right}
-use Rattle.std.proofs.lemmas.List.{ext_get_or, take_more, drop_more, drop_all, map-append}
+use Rattle.std.proofs.lemmas.List.{ext_get_or, take_more, drop_more, drop_all, map-append, length-append, length-replicate, length-take, length-drop, get_or-take, get_or-drop, get_or_past}
 use Rattle.std.proofs.lemmas.List.Folds.{list_any-append}
 use Rattle.std.proofs.Math.Nat.{mul-le-mul_left}
 use Rattle.uring_volume.specs.Writes.{Write}
@@ -12,7 +12,8 @@ use Rattle.uring_volume.specs.Images.{byte_over, end_of, length_over}
 use Rattle.uring_volume.specs.Events.{History}
 use Rattle.uring_volume.specs.Ways.{bytes_over, bytes_from, put_by, unit_contents, fronts}
 use Rattle.uring_volume.proofs.Painting.{below_or_from}
-use Rattle.uring_volume.proofs.Files.{length_bytes_over, bytes_over_at, length_joined}
+use Rattle.uring_volume.proofs.Leaving.{padded}
+use Rattle.uring_volume.proofs.Files.{length_bytes_over, bytes_over_at, length_bytes_from, bytes_from_at, length_joined}
 
 holds_at : {X Y : Type 0} (f : X → Y) (p : Y → Bool) (xs : List X) (i : ℕ) (d : X)
     → i < length xs → p (f (get_or xs i d)) ≡ true → list_any p (map f xs) ≡ true
@@ -137,3 +138,20 @@ count_more u first h len i count size next most ends so_far is many made =
     ∙ ap (λ n. min (length (fronts u first h len i) * n) most) (many ∙ ap length is)
     ∙ ap (λ n. min n most) (sym (length_joined (fronts u first h len i) (unit_contents u first h len i)))
     ∙ ap (λ j. min (length (fronts u first h len j)) most) more
+
+-- what a file has of n bytes from offset k on, with zeros after it
+pub padded_from : (first xs : List ℕ) (k n a b : ℕ) → a ≡ min k (length first)
+    → b ≡ min (k + n) (length first) → xs ≡ take (b - a) (drop a first)
+    → xs ++ replicate (n - length xs) 0 ≡ bytes_from first k n
+padded_from first xs k n a b begins ends is =
+    let size : length xs ≡ b - a = omega (arith, ap length is ∙ length-take (b - a) (drop a first), length-drop a first) in
+    let long : length (xs ++ replicate (n - length xs) 0) ≡ n = omega (arith, size, length-append xs (replicate (n - length xs) 0), length-replicate {A = ℕ} (n - length xs) 0) in
+    ext_get_or 0 (xs ++ replicate (n - length xs) 0) (bytes_from first k n) (long ∙ sym (length_bytes_from first k n))
+    (λ j within. padded xs (n - length xs) j
+    ∙ elim (below_or_from j (b - a)) as (λ _. get_or xs j 0 ≡ get_or first (k + j) 0) [
+      | inl here ↦
+          let at : a + j ≡ k + j = omega arith in
+          ap (λ ys. get_or ys j 0) is ∙ get_or-take (b - a) (drop a first) j 0 here ∙ get_or-drop a first j 0 ∙ ap (λ i. get_or first i 0) at
+      | inr past ↦ get_or_past xs j 0 (omega (arith, size)) ∙ sym (get_or_past first (k + j) 0 (omega (arith, long)))
+    ]
+    ∙ sym (bytes_from_at first k n j (omega (arith, long))))

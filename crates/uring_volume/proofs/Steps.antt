@@ -1,6 +1,11 @@
 -- A list of events, the newest first, grows by one at its head.
-use Rattle.std.proofs.Common.{◌≡◌, ◌<◌, ◌+◌, ℕ, List, [], ◌∷◌, ◌++◌, length, get_or, take, reverse, sym, ap, ◌∙◌}
+use Rattle.std.proofs.Common.{◌≡◌, ◌<◌, ◌+◌, ℕ, List, [], ◌∷◌, ◌++◌, length, get_or, take, reverse, refl, sym, ap, ◌∙◌}
 use Rattle.std.proofs.lemmas.List.{take_more, reverse-append}
+use Rattle.uring_volume.specs.Writes.{Write}
+use Rattle.uring_volume.specs.declared.event.Event.{Event}
+use Rattle.uring_volume.specs.declared.event.Event.TheVariants.{WriteIssued, WriteEnded, SyncIssued, SyncEnded, SyncFailed}
+use Rattle.uring_volume.specs.Events.{History}
+use Rattle.uring_volume.specs.Choices.{issued}
 
 pub newest : {X : Type 0} (xs : List X) (i : ℕ) (d : X) → i < length xs
     → reverse (take (i + 1) xs) ≡ get_or xs i d ∷ reverse (take i xs)
@@ -15,3 +20,25 @@ pub pushed : {X : Type 0} (xs old ys : List X) (x : X) → ys ≡ old ++ x ∷ [
     → reverse ys ≡ x ∷ reverse xs
 pushed xs old ys x e same =
     ap reverse e ∙ reverse-append old (x ∷ []) ∙ ap (λ zs. x ∷ reverse zs) same
+
+-- The writes that were issued, with the event that was read at i.
+
+pub issued_more : (es : List Event) (i : ℕ) (e : Event) (w : Write) → i < length es
+    → e ≡ get_or es i e → e ≡ WriteIssued w
+    → issued (reverse (take (i + 1) es)) ≡ issued (reverse (take i es)) ++ w ∷ []
+issued_more es i e w within at is =
+    ap issued (newest_is es i e within at ∙ ap (λ d. d ∷ reverse (take i es)) is)
+
+not_issued : (e : Event) (h : History) → ((w : Write) → e ≡ WriteIssued w → ⊥)
+    → issued (e ∷ h) ≡ issued h
+not_issued (WriteIssued w) h other = absurd (other w refl)
+not_issued (WriteEnded n) h other = refl
+not_issued (SyncIssued s range) h other = refl
+not_issued (SyncEnded s) h other = refl
+not_issued (SyncFailed s) h other = refl
+
+pub issued_same : (es : List Event) (i : ℕ) (e : Event) → i < length es → e ≡ get_or es i e
+    → ((w : Write) → e ≡ WriteIssued w → ⊥)
+    → issued (reverse (take (i + 1) es)) ≡ issued (reverse (take i es))
+issued_same es i e within at other =
+    ap issued (newest_is es i e within at) ∙ not_issued e (reverse (take i es)) other

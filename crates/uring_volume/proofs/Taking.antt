@@ -1,13 +1,15 @@
 -- Lists of references, and which of their writes a choice takes.
-use Rattle.std.proofs.Common.{◌≡◌, ◌<◌, ◌≤◌, ◌+◌, ℕ, zero, suc, Bool, true, false, List, [], ◌∷◌, ◌++◌, length, get_or, map, take, drop, refl, sym, subst, ap, ◌∙◌, inl, inr, add-one, arith}
+use Rattle.std.proofs.Common.{◌≡◌, ◌<◌, ◌≤◌, ◌+◌, ◌-◌, ℕ, zero, suc, Bool, true, false, List, [], ◌∷◌, ◌++◌, length, get_or, map, take, drop, take-add, append_assoc, refl, sym, subst, ap, ◌∙◌, inl, inr, add-one, arith}
 use Rattle.std.specs.List.{filter, list_any}
-use Rattle.std.proofs.lemmas.List.{take_more, take_all, map-append, take-map, length-map}
+use Rattle.std.proofs.lemmas.List.{take_more, take_all, drop_all, append-nil, map-append, take-map, length-map, length-drop, length-take-le}
 use Rattle.std.proofs.lemmas.List.Folds.{list_any-append}
 use Rattle.std.proofs.Math.Seq.{drop-cons}
 use Rattle.std.proofs.lemmas.Bool.{cases_Bool, cond-true, cond-false, or_from, or_left, or_right}
 use Rattle.uring_volume.specs.Writes.{Write}
 use Rattle.uring_volume.specs.Events.{History, is_safe}
-use Rattle.uring_volume.specs.Choices.{has_safe, up_to_safe}
+use borrow.Rule.Slice.PartMut.{put_mid}
+use Rattle.uring_volume.specs.Choices.{has_safe, up_to_safe, waits_for_one, named, without, chosen}
+use Rattle.uring_volume.proofs.Sorting.{past_first, after_first, passes, fails}
 
 pub filter_of_map : {X Y : Type 0} (f : X → Y) (p : Y → Bool) (xs : List X)
     → filter p (map f xs) ≡ map f (filter (λ x. p (f x)) xs)
@@ -91,6 +93,28 @@ pub one_found : {X : Type 0} (f : X → Write) (p : Write → Bool) (xs : List X
 one_found f p xs i x within at is =
     any_at p (map f xs) i (f x) (omega (arith, length-map xs f)) (ap p (get_map f xs i x ∙ ap f (sym at)) ∙ is)
 
+-- A loop over references that pushes those that pass a test: one more does, or doesn't.
+
+pub one_in : {X : Type 0} (f : X → Write) (p : Write → Bool) (xs : List X) (i : ℕ) (x : X)
+    (old new : List X) → i < length xs → x ≡ get_or xs i x → p (f x) ≡ true
+    → map f old ≡ filter p (map f (take i xs)) → new ≡ old ++ x ∷ []
+    → map f new ≡ filter p (map f (take (i + 1) xs))
+one_in f p xs i x old new within at is so_far pushed =
+    ap (map f) pushed
+    ∙ map-append f old (x ∷ [])
+    ∙ ap (λ ws. ws ++ f x ∷ []) so_far
+    ∙ sym (passes p (map f (take i xs)) (f x) is)
+    ∙ ap (filter p) (sym (map-append f (take i xs) (x ∷ [])))
+    ∙ ap (λ ys. filter p (map f ys)) (sym (take_more xs i x within ∙ ap (λ y. take i xs ++ y ∷ []) (sym at)))
+
+pub one_out : {X : Type 0} (f : X → Write) (p : Write → Bool) (xs : List X) (i : ℕ) (x : X)
+    → i < length xs → x ≡ get_or xs i x → p (f x) ≡ false
+    → filter p (map f (take (i + 1) xs)) ≡ filter p (map f (take i xs))
+one_out f p xs i x within at out =
+    ap (λ ys. filter p (map f ys)) (take_more xs i x within ∙ ap (λ y. take i xs ++ y ∷ []) (sym at))
+    ∙ ap (filter p) (map-append f (take i xs) (x ∷ []))
+    ∙ fails p (map f (take i xs)) (f x) out
+
 -- what a loop over all references has pushed
 pub all_pushed : {X : Type 0} (f : X → Write) (p : Write → Bool) (old new xs ys : List X) (i : ℕ)
     → new ≡ old ++ filter (λ x. p (f x)) (take i ys) → ys ≡ xs → length ys ≤ i
@@ -101,12 +125,51 @@ all_pushed f p old new xs ys i pushed same all =
     ∙ ap (λ zs. map f old ++ map f (filter (λ x. p (f x)) zs)) (take_all i ys all ∙ same)
     ∙ ap (λ zs. map f old ++ zs) (sym (filter_of_map f p xs))
 
--- what a loop over the first n references has pushed
-pub first_pushed : {X : Type 0} (f : X → Write) (old new rest : List X) (i n : ℕ)
-    → new ≡ old ++ take i (take n rest) → length (take n rest) ≤ i
-    → map f new ≡ map f old ++ take n (map f rest)
-first_pushed f old new rest i n pushed all =
-    ap (map f) pushed
-    ∙ map-append f old (take i (take n rest))
-    ∙ ap (λ zs. map f old ++ map f zs) (take_all i (take n rest) all)
-    ∙ ap (λ zs. map f old ++ zs) (sym (take-map f n rest))
+-- A choice among references, of which the first ones have been chosen.
+
+-- all others
+pub others_of : {X : Type 0} (xs : List X) (count : ℕ) → take (length xs - count) (drop count xs) ≡ drop count xs
+others_of xs count = take_all (length xs - count) (drop count xs) (omega (arith, length-drop count xs))
+
+pub one_chosen : {X : Type 0} (f : X → Write) (h : History) (xs ys part : List X) (count m n : ℕ)
+    (more : List ℕ) → count ≤ length xs
+    → waits_for_one h (map f (take (length xs - count) (drop count xs))) n ≡ false
+    → map f (take m part) ≡ named n (map f (take (length xs - count) (drop count xs)))
+    → map f (drop m part) ≡ without n (map f (take (length xs - count) (drop count xs)))
+    → ys ≡ put_mid count (length xs - count) xs part
+    → map f (take (count + m) ys) ++ chosen h (map f (drop (count + m) ys)) more
+    ≡ map f (take count xs) ++ chosen h (map f (drop count xs)) (n ∷ more)
+one_chosen f h xs ys part count m n more within free took left is =
+    let made : ys ≡ take count xs ++ part =
+    is
+    ∙ ap (λ zs. take count xs ++ (part ++ zs)) (drop_all (length xs - count) (drop count xs) (omega (arith, length-drop count xs)))
+    ∙ ap (λ zs. take count xs ++ zs) (append-nil part) in
+    let sum : count + m ≡ length (take count xs) + m = ap (λ k. k + m) (sym (length-take-le count xs within)) in
+    ap (λ zs. map f zs ++ chosen h (map f (drop (count + m) ys)) more) (ap (take (count + m)) made ∙ ap (λ k. take k (take count xs ++ part)) sum ∙ past_first (take count xs) part m)
+    ∙ ap (λ zs. map f (take count xs ++ take m part) ++ chosen h (map f zs) more) (ap (drop (count + m)) made ∙ ap (λ k. drop k (take count xs ++ part)) sum ∙ after_first (take count xs) part m)
+    ∙ ap (λ ws. ws ++ chosen h (map f (drop m part)) more) (map-append f (take count xs) (take m part))
+    ∙ ap (λ ws. (map f (take count xs) ++ ws) ++ chosen h (map f (drop m part)) more) took
+    ∙ ap (λ ws. (map f (take count xs) ++ named n (map f (take (length xs - count) (drop count xs)))) ++ chosen h ws more) left
+    ∙ append_assoc (map f (take count xs)) (named n (map f (take (length xs - count) (drop count xs)))) (chosen h (without n (map f (take (length xs - count) (drop count xs)))) more)
+    ∙ ap (λ ws. map f (take count xs) ++ ws) (sym (cond-false (waits_for_one h (map f (take (length xs - count) (drop count xs))) n) (chosen h (map f (take (length xs - count) (drop count xs))) more) (named n (map f (take (length xs - count) (drop count xs))) ++ chosen h (without n (map f (take (length xs - count) (drop count xs)))) more) free))
+    ∙ ap (λ zs. map f (take count xs) ++ chosen h (map f zs) (n ∷ more)) (others_of xs count)
+
+pub none_chosen : {X : Type 0} (f : X → Write) (h : History) (xs : List X) (count n : ℕ)
+    (more : List ℕ) → waits_for_one h (map f (take (length xs - count) (drop count xs))) n ≡ true
+    → chosen h (map f (drop count xs)) more ≡ chosen h (map f (drop count xs)) (n ∷ more)
+none_chosen f h xs count n more waits =
+    let held : waits_for_one h (map f (drop count xs)) n ≡ true = ap (λ zs. waits_for_one h (map f zs) n) (sym (others_of xs count)) ∙ waits in
+    sym (cond-true (waits_for_one h (map f (drop count xs)) n) (chosen h (map f (drop count xs)) more) (named n (map f (drop count xs)) ++ chosen h (without n (map f (drop count xs))) more) held)
+
+pub all_chosen : {X : Type 0} (f : X → Write) (h : History) (xs : List X) (count r i : ℕ)
+    (choice : List ℕ) → length choice ≤ i
+    → take r (map f (take (length xs - count) (drop count xs))) ≡ up_to_safe h (map f (take (length xs - count) (drop count xs)))
+    → map f (take (count + r) xs) ≡ map f (take count xs) ++ chosen h (map f (drop count xs)) (drop i choice)
+all_chosen f h xs count r i choice past safe =
+    ap (map f) (take-add count r xs)
+    ∙ map-append f (take count xs) (take r (drop count xs))
+    ∙ ap (λ ws. map f (take count xs) ++ ws) (sym (take-map f r (drop count xs)))
+    ∙ ap (λ zs. map f (take count xs) ++ take r (map f zs)) (sym (others_of xs count))
+    ∙ ap (λ ws. map f (take count xs) ++ ws) safe
+    ∙ ap (λ zs. map f (take count xs) ++ up_to_safe h (map f zs)) (others_of xs count)
+    ∙ ap (λ ns. map f (take count xs) ++ chosen h (map f (drop count xs)) ns) (sym (drop_all i choice past))

@@ -1,5 +1,5 @@
 -- A history without one of its writes tells the same of all others.
-use Rattle.std.proofs.Common.{◌≡◌, ◌==◌, ◌-◌, ℕ, not, ◌&&◌, ◌||◌, [], ◌∷◌, ◌++◌, refl, sym, subst, ap, ◌∙◌, inl, inr, rules}
+use Rattle.std.proofs.Common.{◌≡◌, ◌==◌, ℕ, not, ◌&&◌, ◌||◌, [], ◌∷◌, ◌++◌, refl, sym, subst, ap, ◌∙◌, inl, inr, rules}
 use Rattle.std.specs.List.{filter}
 use Rattle.std.proofs.lemmas.Bool.{cases_Bool, cond_both, eqb-true, eqb-false, ne_eqb, not-true, not_from_false}
 use Rattle.uring_volume.specs.Writes.{Write}

@@ -8,8 +8,8 @@ ghost use Rattle.uring_volume.specs.Choices.{issued, chosen, part, IsLeftBy};
 ghost use Rattle.uring_volume.specs.Ways.{units_in};
 
 use crate::event::{Event, Piece};
-use crate::growth::{grown, push};
-use crate::order::{chosen_pieces, issued_pieces};
+use crate::growth::grown;
+use crate::order::{choose, issued_pieces};
 use std::alloc::{AllocError, Global};
 use uring_memory::Memory;
 
@@ -49,23 +49,25 @@ fn is_on(piece: &Piece, unit: u64, i: u64) -> bool
     start < piece.end() && start - from < unit
 }
 
-/// Those of these writes that write a byte of unit `i`.
+/// The writes that were issued and write a byte of unit `i`, the oldest first.
 pub fn pieces_on<'a, M: Memory>(
     memory: &M,
     alloc: Global,
-    pieces: &[&'a Piece],
+    events: &'a [Event],
     unit: u64,
     i: u64,
 ) -> Result<Vec<&'a Piece>, AllocError>
     requires { unit * i < 2 ^ 64 }
     ensures pieces { IfOk result (λ on. map (λ p. p.now) on.items
-        ≡ filter (spec.is_on unit i) (map (λ p. p.now) pieces.now)) }
+        ≡ filter (spec.is_on unit i) (issued (reverse events.now))) }
     ensures granted { ((n : ℕ) → M.grants memory.now n) → IsOk result }
 {
-    let mut on = Vec::new(alloc);
-    for piece in pieces {
-        if is_on(piece, unit, i) {
-            push(memory, &mut on, *piece)?;
+    let mut on = memory.list(alloc, events.len())?;
+    for event in events {
+        if let Event::WriteIssued(piece) = event {
+            if is_on(piece, unit, i) {
+                on.push_reserved(piece);
+            }
         }
     }
     Ok(on)
@@ -101,12 +103,11 @@ pub fn write_all(now: &mut [u8], from: usize, to: usize, order: &[&Piece])
     }
 }
 
-/// Leaves in unit `i` what a part of a choice leaves of these writes.
+/// Leaves in unit `i` what a part of a choice leaves of its writes.
 fn leave_unit<M: Memory>(
     memory: &M,
     alloc: Global,
     events: &[Event],
-    pieces: &[&Piece],
     choice: &[u64],
     unit: u64,
     i: u64,
@@ -116,16 +117,15 @@ fn leave_unit<M: Memory>(
     requires within { unit * i < length now.old }
     ensures left { OnOk result ((k : ℕ) → k < length now.old → k / unit ≡ i
         → slice_index now.new k ≡ byte_over (slice_index now.old k)
-        (chosen (reverse events.now) (filter (spec.is_on unit i) (map (λ p. p.now) pieces.now)) choice.now) k) }
+        (chosen (reverse events.now) (filter (spec.is_on unit i) (issued (reverse events.now))) choice.now) k) }
     ensures others { (k : ℕ) → k / unit ≢ i → slice_index now.new k ≡ slice_index now.old k }
     ensures granted { ((n : ℕ) → M.grants memory.now n) → IsOk result }
 {
-    let on = pieces_on(memory, alloc, pieces, unit, i)?;
-    let order = chosen_pieces(memory, alloc, events, on, choice)?;
+    let mut on = pieces_on(memory, alloc, events, unit, i)?;
+    let count = choose(events, &mut on, choice);
     let from = (unit * i) as usize;
-    let rest = now.len() - from;
-    let to = from + rest.min(unit as usize);
-    write_all(now, from, to, &order);
+    let to = from + (now.len() - from).min(unit as usize);
+    write_all(now, from, to, &on[..count]);
     Ok(())
 }
 
@@ -139,12 +139,11 @@ pub fn count_units(len: u64, unit: u64) -> u64
     if len == 0 { 0 } else { (len - 1) / unit + 1 }
 }
 
-/// Leaves in each unit what its part of a choice leaves of these writes.
+/// Leaves in each unit what its part of a choice leaves of its writes.
 fn leave_units<M: Memory>(
     memory: &M,
     alloc: Global,
     events: &[Event],
-    pieces: &[&Piece],
     choice: &[u64],
     unit: u64,
     now: &mut [u8],
@@ -152,17 +151,34 @@ fn leave_units<M: Memory>(
     requires { 0 < unit }
     ensures left { OnOk result ((k : ℕ) → k < length now.old
         → slice_index now.new k ≡ byte_over (slice_index now.old k)
-        (chosen (reverse events.now) (filter (spec.is_on unit (k / unit)) (map (λ p. p.now) pieces.now))
+        (chosen (reverse events.now) (filter (spec.is_on unit (k / unit)) (issued (reverse events.now)))
         (part choice.now (k / unit))) k) }
     ensures granted { ((n : ℕ) → M.grants memory.now n) → IsOk result }
 {
     let mut rest = choice;
     for i in 0..count_units(now.len() as u64, unit) {
         let (own, later) = first_part(rest);
-        leave_unit(memory, alloc, events, pieces, own, unit, i, now)?;
+        leave_unit(memory, alloc, events, own, unit, i, now)?;
         rest = later;
     }
     Ok(())
+}
+
+/// The length that a part of a choice leaves of a file.
+fn length_chosen<M: Memory>(
+    memory: &M,
+    alloc: Global,
+    first: u64,
+    events: &[Event],
+    choice: &[u64],
+) -> Result<u64, AllocError>
+    ensures length { IfOk result (λ len. len ≡ length_over first
+        (chosen (reverse events.now) (issued (reverse events.now)) choice.now)) }
+    ensures granted { ((n : ℕ) → M.grants memory.now n) → IsOk result }
+{
+    let mut pieces = issued_pieces(memory, alloc, events)?;
+    let count = choose(events, &mut pieces, choice);
+    Ok(length_left(first, &pieces[..count]))
 }
 
 /// What a crash leaves of a file, by a choice of numbers, by this memory. If it grants whatever is asked for, there is no error.
@@ -180,11 +196,8 @@ pub fn crash<M: Memory>(
     ensures granted { ((n : ℕ) → M.grants memory.now n) → IsOk result }
 {
     let (whole, rest) = first_part(choice);
-    let pieces = issued_pieces(memory, alloc, events)?;
-    let all = issued_pieces(memory, alloc, events)?;
-    let order = chosen_pieces(memory, alloc, events, all, whole)?;
-    let len = length_left(first.len() as u64, &order);
+    let len = length_chosen(memory, alloc, first.len() as u64, events, whole)?;
     let mut now = grown(memory, alloc, first, len as usize)?;
-    leave_units(memory, alloc, events, &pieces, rest, unit, &mut now)?;
+    leave_units(memory, alloc, events, rest, unit, &mut now)?;
     Ok(now)
 }

@@ -121,7 +121,7 @@ pub fn write_under<M: Memory>(
     let had = first.len();
     let len = had.max(piece.end() as usize);
     memory.reserve(first, len - had)?;
-    first.resize(len, 0)?;
+    let _ = first.resize(len, 0);
     write_over(first, 0, len, piece);
     Ok(())
 }

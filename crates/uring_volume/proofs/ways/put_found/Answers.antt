@@ -1,0 +1,25 @@
+use Rattle.std.proofs.Common.{◌+◌, ◌≡◌, cond, map, drop, reverse, sym, ap, ◌∙◌}
+use Rattle.std.specs.Prelude.{nat_eq}
+use Rattle.std.specs.Cmp.Lexicographic.{pointwise}
+use Rattle.std.proofs.lemmas.Bool.{cond-true, cond-false}
+use Rattle.uring_volume.specs.Choices.{has_safe}
+use Rattle.uring_volume.specs.Ways.{way, put_by, found_at}
+use Rattle.uring_volume.proofs.Seeking.{dropped}
+use Rattle.uring_volume.proofs.ways.put_found.Goals as goal
+use Rattle.uring_volume.proofs.ways.put_found.Goals.{then-not-has_safe+in_ok-put_bytes, else-not-has_safe}
+
+pub loop-way-preserved : goal.loop-way-preserved
+loop-way-preserved g c =
+    let safe = ap (λ ps. has_safe (reverse c.args.events.now) (map (λ p. p.now) ps)) (sym c.deref.ensures.value) ∙ sym c.has_safe.ensures in
+    ap (λ bs. found_at (reverse c.args.events.now) (map (λ s. way (map (λ p. p.now) s.rest.items) s.now.items) (drop (c.loop-way.way-index + 1) c.args.ways.now)) bs)
+    (elim c.if-not-has_safe.branch as (λ _. map (λ b. b.items) c.if-not-has_safe.found.items
+    ≡ cond (has_safe (reverse c.args.events.now) (map (λ p. p.now) c.way-item.result.rest.items)) (map (λ b. b.items) c.loop-way.found.items) (put_by (pointwise nat_eq) (map (λ b. b.items) c.loop-way.found.items) c.way-item.result.now.items)) [
+      | then-not-has_safe+in_ok-put_bytes w ↦
+          ap (λ v. map (λ b. b.items) v.items) w.found-is
+          ∙ w.in_ok-put_bytes.ensures.put
+          ∙ ap (put_by (pointwise nat_eq) (map (λ b. b.items) c.loop-way.found.items)) w.deref-then-not-has_safe.ensures.value
+          ∙ sym (cond-false _ _ _ (safe ∙ w.if-not-has_safe.true))
+      | else-not-has_safe w ↦ ap (λ v. map (λ b. b.items) v.items) w.found-is ∙ sym (cond-true _ _ _ (safe ∙ w.if-not-has_safe.false))
+    ])
+    ∙ sym (ap (λ ws. found_at (reverse c.args.events.now) ws (map (λ b. b.items) c.loop-way.found.items)) (dropped (λ s. way (map (λ p. p.now) s.rest.items) s.now.items) c.args.ways.now c.loop-way.way-index c.way-item.result c.loop-way-test.true c.way-item.is))
+    ∙ c.loop-way.invariant
