@@ -1,17 +1,19 @@
 -- The text of whom a cancel of all chooses.
 use Rattle.std.proofs.Common.{◌≡◌, ℕ, suc, ◌+◌, Bool, true, false, not, ◌&&◌, List, [], ◌∷◌, ◌++◌, Option, Some, None, refl, sym, ap, ◌∙◌, append_assoc, arith}
-use Rattle.std.specs.Prelude.{◌==◌, codes, length, nat_lt, if◌then◌else◌}
+use Rattle.std.specs.Prelude.{◌==◌, codes, length, nat_lt, option_map, if◌then◌else◌}
+use Rattle.std.proofs.lemmas.List.{append-nil}
 use Rattle.std.specs.Fmt.{decimal}
 use Rattle.uring_entry.specs.Below.{all_below}
 use Rattle.uring_entry.specs.Layout.{Sqe, addr_of, user_data_of}
+use Rattle.uring_entry.specs.Preparation.{is_cancel_all}
 use Rattle.uring_entry.specs.Requests.{Requests, entry_of, entry_outstanding, has_ended, is_doomed, is_outstanding, is_running, is_target, targets_of}
 use Rattle.uring_entry.specs.Why.{why_of, waiting_for, holder_of, doom_of}
 use Rattle.uring_linux.specs.LinuxRequests.{LinuxRequests}
 use Rattle.uring_rules.specs.Rules as rules
 use Rattle.uring_entry.specs.declared.why.Why.{Why}
-use Rattle.uring_entry.specs.declared.why.Why.TheVariants.{NeverAccepted, HasEnded, Runs, IsDoomed, MayStart}
+use Rattle.uring_entry.specs.declared.why.Why.TheVariants.{NeverAccepted, HasEnded, Runs, IsDoomed, Waits, MayStart}
 use Rattle.uring_entry.specs.declared.why.Doom.{Doom}
-use Rattle.uring_trace.specs.Chosen.{chose_text, is_open, spaced}
+use Rattle.uring_trace.specs.Chosen.{chose_text, chosen_for, chosen_of, is_open, said, sought_by, spaced}
 
 -- ---- numbers after spaces
 
@@ -19,23 +21,40 @@ pub spaced_more : (xs ys : List ℕ) → spaced (xs ++ ys) ≡ spaced xs ++ spac
 spaced_more [] ys = refl
 spaced_more (x ∷ xs) ys = ap (λ (l : List ℕ). codes " " ++ decimal x ++ l) (spaced_more xs ys) ∙ sym (append_assoc (codes " " ++ decimal x) (spaced xs) (spaced ys))
 
--- the numbers below the next one
-pub targets_more : (r : Requests) (n k : ℕ) (is : Bool) (so after : List ℕ)
-    → so ≡ spaced (all_below (is_target r n) k) → after ≡ so ++ spaced (if is then k ∷ [] else [])
-    → is ≡ is_target r n k → after ≡ spaced (all_below (is_target r n) (k + 1))
-targets_more r n k is so after a b same =
-    let below = all_below (is_target r n) k in
+-- a target more
+
+said_more : (xs : List ℕ) (n : ℕ) → (xs ≡ [] → ⊥)
+    → said (xs ++ n ∷ []) ≡ said xs ++ codes " " ++ decimal n
+said_more [] n some = absurd (some refl)
+said_more (x ∷ xs) n some =
+    let last : spaced (n ∷ []) ≡ codes " " ++ decimal n = append-nil (codes " " ++ decimal n) in
+    let whole : said (x ∷ xs) ++ codes " " ++ decimal n ≡ codes "chose" ++ (spaced (x ∷ xs) ++ (codes " " ++ decimal n)) = simp append_assoc refl in
+    ap (λ (l : List ℕ). codes "chose" ++ l) (spaced_more (x ∷ xs) (n ∷ []) ∙ ap (λ (l : List ℕ). spaced (x ∷ xs) ++ l) last) ∙ sym whole
+
+pub said_first : (xs old new : List ℕ) (n : ℕ) → old ≡ said xs → old ≡ []
+    → new ≡ old ++ codes "chose " ++ decimal n → new ≡ said (xs ++ n ∷ [])
+said_first [] old new n is none more = more ∙ ap (λ (l : List ℕ). l ++ codes "chose " ++ decimal n) none ∙ simp append-nil refl
+said_first (x ∷ xs) old new n is none more = absurd cc
+
+pub said_next : (xs old new : List ℕ) (n : ℕ) → old ≡ said xs → (old ≡ [] → ⊥)
+    → new ≡ old ++ codes " " ++ decimal n → new ≡ said (xs ++ n ∷ [])
+said_next xs old new n is some more =
+    more ∙ ap (λ (l : List ℕ). l ++ codes " " ++ decimal n) is ∙ sym (said_more xs n (λ none. some (is ∙ ap said none)))
+
+-- the targets below the next number
+pub targets_more : (r : Requests) (n k : ℕ) (is : Bool) (after : List ℕ) → is ≡ is_target r n k
+    → after ≡ said (all_below (is_target r n) k ++ (if is then k ∷ [] else []))
+    → after ≡ said (all_below (is_target r n) (k + 1))
+targets_more r n k is after same so =
     let next : suc k ≡ k + 1 = omega arith in
-    b ∙ ap (λ (l : List ℕ). l ++ spaced (if is then k ∷ [] else [])) a
-    ∙ ap (λ (t : Bool). spaced below ++ spaced (if t then k ∷ [] else [])) same
-    ∙ sym (spaced_more below (if is_target r n k then k ∷ [] else []))
-    ∙ ap (λ (m : ℕ). spaced (all_below (is_target r n) m)) next
+    so ∙ ap (λ (t : Bool). said (all_below (is_target r n) k ++ (if t then k ∷ [] else []))) same
+    ∙ ap (λ (m : ℕ). said (all_below (is_target r n) m)) next
 
 -- all of them
 pub targets_all : (r : Requests) (n m : ℕ) (text : List ℕ) → m ≡ length r.accepted
-    → text ≡ spaced (all_below (is_target r n) m) → text ≡ spaced (targets_of r n)
+    → text ≡ said (all_below (is_target r n) m) → text ≡ said (targets_of r n)
 unfolding targets_of
-targets_all r n m text same is = is ∙ ap (λ (k : ℕ). spaced (all_below (is_target r n) k)) same
+targets_all r n m text same is = is ∙ ap (λ (k : ℕ). said (all_below (is_target r n) k)) same
 
 -- ---- who is a target
 
@@ -81,10 +100,55 @@ told_entry : (b : Bool) (e x : Sqe) → (if b then Some e else None) ≡ Some x 
 told_entry true e x is = (refl, search is)
 told_entry false e x is = absurd cc
 
--- the entry that is told is the request's
-pub entry_is : (r : Requests) (n : ℕ) (entry : Sqe) → entry_outstanding r n ≡ Some entry
-    → entry_of r n ≡ entry
-entry_is r n entry is = (told_entry (is_outstanding r n) (entry_of r n) entry is).1
+-- the user data that one that may start looks for is read off the entry that is told
+pub sought_told : (r : Requests) (n : ℕ) (entry : Sqe) → entry_outstanding r n ≡ Some entry
+    → sought_by r n MayStart ≡ (if is_cancel_all entry then Some (addr_of entry) else None)
+sought_told r n entry is =
+    ap (λ (e : Sqe). if is_cancel_all e then Some (addr_of e) else None) (told_entry (is_outstanding r n) (entry_of r n) entry is).1
+
+sought_else : (r : Requests) (n : ℕ) (why : Why) → (why ≡ MayStart → ⊥) → sought_by r n why ≡ None
+sought_else r n MayStart other = absurd (other refl)
+sought_else r n NeverAccepted other = refl
+sought_else r n HasEnded other = refl
+sought_else r n Runs other = refl
+sought_else r n (IsDoomed doom) other = refl
+sought_else r n (Waits least since) other = refl
+
+-- one without an entry looks for nobody
+pub none_sought : (linux : Bool) (l : LinuxRequests) (n : ℕ) → entry_outstanding l.requests n ≡ None
+    → sought_by l.requests n (rules.why_of linux l n) ≡ None
+none_sought linux l n none =
+    sought_else l.requests n (rules.why_of linux l n)
+    (λ starts. let no : None ≡ Some (entry_of l.requests n) = sym none ∙ entry_told linux l n (sym starts) in absurd cc)
+
+by_test : (b : Bool) (x : ℕ) (text : List ℕ)
+    → (if b then Some text else None) ≡ option_map (λ (_ : ℕ). text) (if b then Some x else None)
+by_test true x text = refl
+by_test false x text = refl
+
+-- whom it chooses is told if it looks for somebody
+pub chosen_sought : (linux : Bool) (r : Requests) (n : ℕ) (why : Why)
+    → chosen_for linux r n why ≡ option_map (λ (_ : ℕ). chose_text (chosen_of linux r n)) (sought_by r n why)
+chosen_sought linux r n MayStart = by_test (is_cancel_all (entry_of r n)) (addr_of (entry_of r n)) (chose_text (chosen_of linux r n))
+chosen_sought linux r n NeverAccepted = refl
+chosen_sought linux r n HasEnded = refl
+chosen_sought linux r n Runs = refl
+chosen_sought linux r n (IsDoomed doom) = refl
+chosen_sought linux r n (Waits least since) = refl
+
+some_test : (b : Bool) (x y : ℕ) → Some y ≡ (if b then Some x else None) → y ≡ x
+some_test true x y is = search is
+some_test false x y is = absurd cc
+
+-- namely those of this user data
+pub is_sought : (r : Requests) (n : ℕ) (why : Why) (sought : ℕ) → Some sought ≡ sought_by r n why
+    → sought ≡ addr_of (entry_of r n)
+is_sought r n MayStart sought is = some_test (is_cancel_all (entry_of r n)) (addr_of (entry_of r n)) sought is
+is_sought r n NeverAccepted sought is = absurd cc
+is_sought r n HasEnded sought is = absurd cc
+is_sought r n Runs sought is = absurd cc
+is_sought r n (IsDoomed doom) sought is = absurd cc
+is_sought r n (Waits least since) sought is = absurd cc
 
 bools : (a b doomed running : Bool)
     → (a && b && (not doomed && not running)) ≡ ((true && a && b && not doomed) && not running)
@@ -93,27 +157,25 @@ bools true false doomed running = refl
 bools false b doomed running = refl
 
 -- a request with an entry is a target as its entry and its standing tell
-pub target_told : (r : Requests) (n m : ℕ) (entry found : Sqe) (why : Why) (is : Bool)
-    → entry_outstanding r n ≡ Some entry → entry_outstanding r m ≡ Some found → why ≡ why_of r m
-    → is ≡ (not (m == n) && (user_data_of found == addr_of entry) && is_open why)
-    → is ≡ is_target r n m
-target_told r n m entry found why is of there stands told =
-    let mine = told_entry (is_outstanding r n) (entry_of r n) entry of in
+pub target_told : (r : Requests) (n m sought : ℕ) (found : Sqe) (why : Why) (is : Bool)
+    → sought ≡ addr_of (entry_of r n) → entry_outstanding r m ≡ Some found → why ≡ why_of r m
+    → is ≡ (not (m == n) && (user_data_of found == sought) && is_open why) → is ≡ is_target r n m
+target_told r n m sought found why is of there stands told =
     let other = told_entry (is_outstanding r m) (entry_of r m) found there in
     let opens : is_open why ≡ not (is_doomed r m) && not (is_running r m) = ap is_open stands ∙ stands_open r m other.0 in
     told
-    ∙ ap (λ (b : Bool). not (m == n) && (user_data_of found == addr_of entry) && b) opens
-    ∙ ap (λ (x : Sqe). not (m == n) && (user_data_of x == addr_of entry) && (not (is_doomed r m) && not (is_running r m))) (sym other.1)
-    ∙ ap (λ (x : Sqe). not (m == n) && (user_data_of (entry_of r m) == addr_of x) && (not (is_doomed r m) && not (is_running r m))) (sym mine.1)
+    ∙ ap (λ (b : Bool). not (m == n) && (user_data_of found == sought) && b) opens
+    ∙ ap (λ (x : Sqe). not (m == n) && (user_data_of x == sought) && (not (is_doomed r m) && not (is_running r m))) (sym other.1)
+    ∙ ap (λ (x : ℕ). not (m == n) && (user_data_of (entry_of r m) == x) && (not (is_doomed r m) && not (is_running r m))) of
     ∙ bools (not (m == n)) (user_data_of (entry_of r m) == addr_of (entry_of r n)) (is_doomed r m) (is_running r m)
     ∙ ap (λ (b : Bool). (b && not (m == n) && (user_data_of (entry_of r m) == addr_of (entry_of r n)) && not (is_doomed r m)) && not (is_running r m)) (sym other.0)
 
 -- ---- the text
 
-pub empty_chose : (xs : List ℕ) → spaced xs ≡ [] → chose_text xs ≡ codes "found none"
-empty_chose [] e = refl
-empty_chose (m ∷ more) e = absurd cc
+pub none_said : (xs : List ℕ) → said xs ≡ [] → chose_text xs ≡ codes "found none"
+none_said [] none = refl
+none_said (m ∷ more) none = absurd cc
 
-pub some_chose : (xs : List ℕ) → (spaced xs ≡ [] → ⊥) → chose_text xs ≡ codes "chose" ++ spaced xs
-some_chose [] some = absurd (some refl)
-some_chose (m ∷ more) some = refl
+pub some_said : (xs : List ℕ) → (said xs ≡ [] → ⊥) → said xs ≡ chose_text xs
+some_said [] some = absurd (some refl)
+some_said (m ∷ more) some = refl

@@ -3,7 +3,7 @@
 ghost use Rattle.std.specs.Prelude.{◌≡◌, ◌++◌, ℕ, OnOk, IsOk, string_bytes, codes, decimal};
 ghost use Rattle.std.specs.Fmt.{signed_decimal};
 ghost use Rattle.uring_core.specs.declared.answer.Answer.TheVariants as answer;
-ghost use Rattle.uring_trace.specs.Text.{text_of};
+ghost use Rattle.uring_trace.specs.Text.{text_of, word_of};
 
 use std::alloc::{AllocError, Global};
 use uring_machine::Answer;
@@ -26,37 +26,47 @@ pub fn push_answer_in<M: TextMemory>(
     ensures granted { ((n : ℕ) → M.grants memory.now n) → IsOk result }
 {
     match answer {
-        Answer::Filled | Answer::Staged | Answer::Shut => push_text(memory, text, "ok"),
-        Answer::NoSlot => push_text(memory, text, "no slot"),
-        Answer::Busy => push_text(memory, text, "busy"),
-        Answer::Full => push_text(memory, text, "full"),
         Answer::Tail(word) => push_named(memory, text, "tail ", u64::from(*word)),
         Answer::Head(word) => push_named(memory, text, "head ", u64::from(*word)),
         Answer::Call(count) => push_named(memory, text, "call ", u64::from(*count)),
-        Answer::Closed => push_text(memory, text, "closed"),
-        Answer::InCall => push_text(memory, text, "in call"),
-        Answer::Spent => push_text(memory, text, "spent"),
-        Answer::Again => push_text(memory, text, "again"),
         Answer::Entry(entry) => push_named(memory, text, "entry ", entry.user_data()),
-        Answer::Dropped => push_text(memory, text, "dropped"),
-        Answer::NoMore => push_text(memory, text, "no more"),
-        Answer::NoCall => push_text(memory, text, "no call"),
         Answer::Taken {
             accepted,
             dropped,
             head,
         } => push_taken(memory, text, *accepted, *dropped, *head),
-        Answer::NotAll => push_text(memory, text, "not all"),
-        Answer::Run => push_text(memory, text, "run"),
         Answer::Ended { res, .. } => push_ended(memory, text, *res),
-        Answer::NotReady => push_text(memory, text, "not ready"),
-        Answer::Running => push_text(memory, text, "running"),
-        Answer::Unknown => push_text(memory, text, "unknown"),
-        Answer::NotRunning => push_text(memory, text, "not running"),
         Answer::Moved(count) => push_named(memory, text, "moved ", u64::from(*count)),
         Answer::Reaped(completion) => push_completion_in(memory, text, completion),
-        Answer::Nothing => push_text(memory, text, "none"),
         Answer::Next(number) => push_named(memory, text, "next ", *number),
+        _ => push_text(memory, text, word_of(answer)),
+    }
+}
+
+/// The words of an answer that says no more.
+fn word_of(answer: &Answer) -> &'static str
+    ensures { result.now ≡ word_of answer.now }
+{
+    match answer {
+        Answer::Filled | Answer::Staged | Answer::Shut => "ok",
+        Answer::NoSlot => "no slot",
+        Answer::Busy => "busy",
+        Answer::Full => "full",
+        Answer::Closed => "closed",
+        Answer::InCall => "in call",
+        Answer::Spent => "spent",
+        Answer::Again => "again",
+        Answer::Dropped => "dropped",
+        Answer::NoMore => "no more",
+        Answer::NoCall => "no call",
+        Answer::NotAll => "not all",
+        Answer::Run => "run",
+        Answer::NotReady => "not ready",
+        Answer::Running => "running",
+        Answer::Unknown => "unknown",
+        Answer::NotRunning => "not running",
+        Answer::Nothing => "none",
+        _ => "",
     }
 }
 

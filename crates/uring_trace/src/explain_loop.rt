@@ -52,7 +52,7 @@ pub fn explain_in<M: TextMemory, R: Read, W: Write, E: Write>(
 {
     let mut explainer = Explainer::new_in(memory, alloc, setup)?;
     let explained = explain_all(memory, alloc, &mut explainer, reader, writer, errors);
-    drop(explainer);
+    explainer.let_go();
     explained
 }
 

@@ -13,6 +13,7 @@ use crate::chosen::{chosen_text, push_after};
 use crate::flaws::{Language, push_line_flaw_in};
 use crate::questions::{Question, read_question};
 use crate::reason_text::{ask, keep, push_reason, seek};
+use crate::session::let_go;
 use crate::shown_text::push_shown;
 use crate::step_lines::read_line;
 use std::alloc::{AllocError, Global};
@@ -134,7 +135,11 @@ impl Explainer {
         ensures granted { ((n : ℕ) → M.grants memory.now n) → IsOk result }
     {
         for byte in bytes {
-            self.take(memory, *byte, text, notes)?;
+            if *byte == b'\n' {
+                self.end_line(memory, text, notes)?;
+            } else {
+                self.line.push(*byte);
+            }
         }
         Ok(())
     }
@@ -193,38 +198,9 @@ impl Explainer {
         Ok(self.tell_line(memory, text, notes)?)
     }
 
-    /// Takes in one byte, and appends what is told and noted of the line if the byte completes it.
-    fn take<M: TextMemory>(
-        &mut self,
-        memory: &M,
-        byte: u8,
-        text: &mut String,
-        notes: &mut String,
-    ) -> Result<(), TraceFault>
-        ensures ok { OnOk result
-            ((telling : Telling) → IsGrantedTo telling ((n : ℕ) → M.grants memory.now n)
-            → (before told noted : List ℕ)
-            → HasToldBy telling self.old before (told ++ string_bytes text.old) (noted ++ string_bytes notes.old)
-            → HasToldBy telling self.new (before ++ byte ∷ []) (told ++ string_bytes text.new) (noted ++ string_bytes notes.new)) }
-        ensures err { IfErr result (λ e. e ≡ TraceFault.Memory) }
-        ensures granted { ((n : ℕ) → M.grants memory.now n) → IsOk result }
-    {
-        if byte == b'\n' {
-            self.end_line(memory, text, notes)?;
-        } else {
-            self.keep(byte);
-        }
-        Ok(())
-    }
-
-    /// Takes in one byte of a line, which isn't its end.
-    fn keep(&mut self, byte: u8)
-        requires { byte ≢ 10 }
-        ensures { (telling : Telling) (before told noted : List ℕ)
-            → HasToldBy telling self.old before told noted
-            → HasToldBy telling self.new (before ++ byte ∷ []) told noted }
-    {
-        self.line.push(byte);
+    /// Lets it go.
+    pub(crate) fn let_go(self) {
+        let_go(self.machine);
     }
 
     /// Appends what is told and noted of the line, and begins the next line.
@@ -243,7 +219,7 @@ impl Explainer {
     {
         self.tell_line(memory, text, notes)?;
         self.line.clear();
-        self.number = next_number(self.number);
+        self.number = self.number.saturating_add(1);
         Ok(())
     }
 
@@ -264,24 +240,16 @@ impl Explainer {
             Some(step) => tell_step(memory, self.alloc, &mut self.machine, &step, text),
             None if self.line.is_remark() => Ok(()),
             None => match read_question(&self.line) {
-                Some(question) => tell_shown(memory, &self.machine, question, text),
+                Some(question) => {
+                    push_shown(memory, text, &self.machine, question)?;
+                    push_text(memory, text, "\n")
+                }
                 None => {
                     self.has_bad = true;
                     tell_bad(memory, self.alloc, self.number, &self.line, text, notes)
                 }
             },
         }
-    }
-}
-
-/// The number of the next line: 2^64 - 1 is that of every later one too.
-fn next_number(number: u64) -> u64
-    ensures { result ≡ min (number + 1) (2 ^ 64 - 1) }
-{
-    if number == u64::MAX {
-        number
-    } else {
-        number + 1
     }
 }
 
@@ -307,21 +275,6 @@ fn tell_step<M: TextMemory>(
     push_text(memory, text, "\n")
 }
 
-/// Appends what a question asks for.
-fn tell_shown<M: TextMemory>(
-    memory: &M,
-    machine: &Machine,
-    question: Question,
-    text: &mut String,
-) -> Result<(), AllocError>
-    ensures told { OnOk result
-        (TellsShown machine.now question (string_bytes text.old) (string_bytes text.new)) }
-    ensures granted { ((n : ℕ) → M.grants memory.now n) → IsOk result }
-{
-    push_shown(memory, text, machine, question)?;
-    push_text(memory, text, "\n")
-}
-
 /// Appends that a line is bad, to what is told and with its number and what is wrong with it to the notes.
 fn tell_bad<M: TextMemory>(
     memory: &M,
@@ -339,34 +292,8 @@ fn tell_bad<M: TextMemory>(
     ensures granted { ((n : ℕ) → M.grants memory.now n) → IsOk result }
 {
     push_text(memory, text, "bad line\n")?;
-    begin_note(memory, number, notes)?;
-    note_flaw(memory, alloc, line, notes)
-}
-
-/// Appends the beginning of the note on a bad line.
-fn begin_note<M: TextMemory>(memory: &M, number: u64, notes: &mut String) -> Result<(), AllocError>
-    ensures noted { OnOk result
-        (string_bytes notes.new
-        ≡ string_bytes notes.old ++ (codes "uring: line " ++ decimal number ++ codes ": bad line: ")) }
-    ensures granted { ((n : ℕ) → M.grants memory.now n) → IsOk result }
-{
     push_named(memory, notes, "uring: line ", number)?;
-    push_text(memory, notes, ": bad line: ")
-}
-
-/// Appends what is wrong with a line, and the end of the note.
-fn note_flaw<M: TextMemory>(
-    memory: &M,
-    alloc: Global,
-    line: &KeptLine,
-    notes: &mut String,
-) -> Result<(), AllocError>
-    ensures noted { OnOk result
-        ((bytes : List ℕ) → line.now ≡ kept_of bytes
-        → string_bytes notes.new
-        ≡ string_bytes notes.old ++ ended (line_flaw Language.Questions bytes)) }
-    ensures granted { ((n : ℕ) → M.grants memory.now n) → IsOk result }
-{
+    push_text(memory, notes, ": bad line: ")?;
     push_line_flaw_in(memory, alloc, notes, line, Language::Questions)?;
     push_text(memory, notes, "\n")
 }

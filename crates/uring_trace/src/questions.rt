@@ -1,6 +1,6 @@
 //! The lines of an explanation that ask to be shown something.
 
-ghost use Rattle.std.specs.Prelude.{◌≡◌, ◌≤◌, ℕ, ℤ, List, MatchOption, length};
+ghost use Rattle.std.specs.Prelude.{◌≡◌, ℕ, ℤ, List, MatchOption};
 ghost use Rattle.uring_text.specs.KeptLine.{kept_of};
 ghost use Rattle.uring_trace.specs.Questions.{Asks, IsQuestion, IsNoQuestion};
 ghost use Rattle.uring_trace.specs.declared.questions.Question.TheVariants as question;
@@ -34,32 +34,16 @@ pub(crate) fn read_question(line: &KeptLine) -> Option<Question>
     ensures { (bytes : List ℕ) → line.now ≡ kept_of bytes
         → MatchOption result (IsNoQuestion bytes) (IsQuestion bytes) }
 {
-    question_of(line.whole()?)
-}
-
-/// What a line of at most 300 bytes asks to be shown.
-fn question_of(line: &[u8]) -> Option<Question>
-    requires { length line.now ≤ 300 }
-    ensures { MatchOption result (IsNoQuestion line.now) (IsQuestion line.now) }
-{
+    let line = line.whole()?;
     match line {
         _ if is_name(line, "show counts") => Some(Question::Counts),
         _ if is_name(line, "show sizes") => Some(Question::Sizes),
         _ if is_name(line, "show overflow") => Some(Question::Overflow),
         _ if is_name(line, "show requests") => Some(Question::Requests),
-        _ => numbered_question(line),
-    }
-}
-
-/// What a line asks to be shown by a number, a request's or a file's.
-fn numbered_question(line: &[u8]) -> Option<Question>
-    ensures { MatchOption result
-        (((n : ℕ) → ¬ Asks line.now (question.Why n)) × ((fd : ℤ) → ¬ Asks line.now (question.File fd)))
-        (Asks line.now) }
-{
-    match why_asked(line) {
-        Some(number) => Some(Question::Why(number)),
-        None => Some(Question::File(file_asked(line)?)),
+        _ => match why_asked(line) {
+            Some(number) => Some(Question::Why(number)),
+            None => Some(Question::File(file_asked(line)?)),
+        },
     }
 }
 

@@ -5,7 +5,7 @@ ghost use Rattle.uring_entry.specs.Texts.{fault_text};
 ghost use Rattle.uring_core.specs.Histories.{History, world};
 ghost use Rattle.uring_core.specs.World.{requests_of};
 ghost use Rattle.uring_machine.specs.Machine.{Fits};
-ghost use Rattle.uring_trace.specs.Reasons.{asked, sought, end_reason, finding, standing, kept_reason, reason_text, why_text, found_text, doom_text, since_text, numbered};
+ghost use Rattle.uring_trace.specs.Reasons.{asked, sought, kept_reason, reason_text, why_text, found_text, doom_text, since_text, numbered};
 
 use std::alloc::AllocError;
 use uring_machine::{Answer, Doom, Fault, Found, Machine, Since, Step, Why};
@@ -27,8 +27,7 @@ pub(crate) fn ask(machine: &Machine, step: &Step) -> Option<Why>
         → result ≡ asked machine.now.core.setup.linux (requests_of (world machine.now.core.setup h)) step.now }
 {
     match step {
-        Step::Issue { number } => Some(machine.why(*number)),
-        Step::Finish { number } => Some(machine.why(*number)),
+        Step::Issue { number } | Step::Finish { number } => Some(machine.why(*number)),
         _ => None,
     }
 }
@@ -44,44 +43,21 @@ pub(crate) fn seek(machine: &Machine, step: &Step) -> Option<Found>
     }
 }
 
-/// What of these is told after an answer.
+/// What of these is told after an answer: of an end what doomed the request, or else what the cancel found.
 pub(crate) fn keep(answer: &Answer, why: Option<Why>, found: Option<Found>) -> Option<Reason>
     ensures { result ≡ kept_reason answer.now why found }
 {
     match answer {
-        Answer::Ended { .. } => at_end(why, found),
+        Answer::Ended { .. } => match (why, found) {
+            (Some(Why::IsDoomed(doom)), _) => Some(Reason::Stands(Why::IsDoomed(doom))),
+            (_, Some(found)) => Some(Reason::Finds(found)),
+            (_, None) => None,
+        },
         Answer::Running => None,
-        _ => stands(why),
-    }
-}
-
-/// What is told of an end: what doomed the request, or else what the cancel found.
-fn at_end(why: Option<Why>, found: Option<Found>) -> Option<Reason>
-    ensures { result ≡ end_reason why found }
-{
-    match why {
-        Some(Why::IsDoomed(doom)) => Some(Reason::Stands(Why::IsDoomed(doom))),
-        _ => finds(found),
-    }
-}
-
-/// What a cancel found, as a reason.
-fn finds(found: Option<Found>) -> Option<Reason>
-    ensures { result ≡ finding found }
-{
-    match found {
-        Some(found) => Some(Reason::Finds(found)),
-        None => None,
-    }
-}
-
-/// Why a request stands as it does, as a reason.
-fn stands(why: Option<Why>) -> Option<Reason>
-    ensures { result ≡ standing why }
-{
-    match why {
-        Some(why) => Some(Reason::Stands(why)),
-        None => None,
+        _ => match why {
+            Some(why) => Some(Reason::Stands(why)),
+            None => None,
+        },
     }
 }
 
@@ -173,14 +149,6 @@ fn push_doomed<M: TextMemory>(memory: &M, text: &mut String, doom: Doom) -> Resu
     ensures granted { ((n : ℕ) → M.grants memory.now n) → IsOk result }
 {
     push_text(memory, text, "doomed: ")?;
-    push_doom(memory, text, doom)
-}
-
-/// Appends what dooms a request.
-fn push_doom<M: TextMemory>(memory: &M, text: &mut String, doom: Doom) -> Result<(), AllocError>
-    ensures bytes { OnOk result (string_bytes text.new ≡ string_bytes text.old ++ doom_text doom) }
-    ensures granted { ((n : ℕ) → M.grants memory.now n) → IsOk result }
-{
     match doom {
         Doom::OwnFault(fault) => push_text(memory, text, fault_text(fault)),
         Doom::FaultOf(m) => push_numbered(memory, text, m, " of its group has a fault"),

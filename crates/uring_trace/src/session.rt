@@ -1,6 +1,6 @@
 //! Feeds bytes to a machine: gathers them into lines, makes the step that a line is, and appends the answer.
 
-ghost use Rattle.std.specs.Prelude.{◌≡◌, ◌≢◌, ℕ, Bool, List, [], ◌∷◌, ◌++◌, IfOk, IfErr, IsOk, OnOk, length, ◌≤◌};
+ghost use Rattle.std.specs.Prelude.{◌≡◌, ℕ, Bool, List, [], ◌∷◌, ◌++◌, IfOk, IfErr, IsOk, OnOk, length, ◌≤◌};
 ghost use Rattle.uring_trace.specs.Exchanges.{Manner, step_text};
 ghost use Rattle.uring_text.specs.KeptLine.{kept_of};
 ghost use Rattle.uring_trace.specs.Traces.{IsWhole};
@@ -67,7 +67,11 @@ impl Session {
         ensures granted { ((n : ℕ) → M.grants memory.now n) → IsOk result }
     {
         for byte in bytes {
-            self.take(memory, *byte, text)?;
+            if *byte == b'\n' {
+                self.end_line(memory, text)?;
+            } else {
+                self.line.push(*byte);
+            }
         }
         Ok(())
     }
@@ -93,36 +97,9 @@ impl Session {
         Ok(push_bytes(memory, text, b"\n")?)
     }
 
-    /// Takes in one byte, and appends the answer to the line if the byte completes it.
-    fn take<M: TextMemory>(
-        &mut self,
-        memory: &M,
-        byte: u8,
-        text: &mut Vec<u8>,
-    ) -> Result<(), TraceFault>
-        ensures ok { OnOk result
-            ((manner : Manner) → IsGranted manner ((n : ℕ) → M.grants memory.now n)
-            → (before told : List ℕ)
-            → Has manner self.old before (told ++ text.old.items)
-            → Has manner self.new (before ++ byte ∷ []) (told ++ text.new.items)) }
-        ensures err { IfErr result (λ e. e ≡ TraceFault.Memory) }
-        ensures granted { ((n : ℕ) → M.grants memory.now n) → IsOk result }
-    {
-        if byte == b'\n' {
-            self.end_line(memory, text)?;
-        } else {
-            self.keep(byte);
-        }
-        Ok(())
-    }
-
-    /// Takes in one byte of a line, which isn't its end.
-    fn keep(&mut self, byte: u8)
-        requires { byte ≢ 10 }
-        ensures { (manner : Manner) (before told : List ℕ) → Has manner self.old before told
-            → Has manner self.new (before ++ byte ∷ []) told }
-    {
-        self.line.push(byte);
+    /// Lets it go.
+    pub(crate) fn let_go(self) {
+        let_go(self.machine);
     }
 
     /// Appends the answer to the line, and begins the next line.
@@ -161,6 +138,9 @@ impl Session {
         push_bytes(memory, text, self.answer.as_bytes())
     }
 }
+
+/// Lets a machine go. By itself, since each part of it is a step of the function that does.
+pub(crate) fn let_go(_machine: Machine) {}
 
 /// Appends a line, which has at most 300 bytes, and ` = `, if steps are written too.
 fn push_step<M: Memory>(

@@ -1,6 +1,6 @@
 //! What is answered to a question.
 
-ghost use Rattle.std.specs.Prelude.{◌≡◌, ◌++◌, ℕ, Some, OnOk, IsOk, string_bytes, codes, decimal};
+ghost use Rattle.std.specs.Prelude.{◌≡◌, ◌++◌, ℕ, OnOk, IsOk, string_bytes};
 ghost use Rattle.uring_core.specs.Histories.{History, world};
 ghost use Rattle.uring_machine.specs.Machine.{Fits};
 ghost use Rattle.uring_trace.specs.Shown.{shown, counts_text, sizes_text, overflow_of, overflow_text, listed_text, file_text};
@@ -44,33 +44,11 @@ fn push_counts<M: TextMemory>(
         (string_bytes text.new ≡ string_bytes text.old ++ counts_text counts) }
     ensures granted { ((n : ℕ) → M.grants memory.now n) → IsOk result }
 {
-    let Counts {
-        accepted,
-        outstanding,
-        running,
-        posted,
-        reaped,
-    } = counts;
-    push_named(memory, text, "accepted ", accepted)?;
-    push_named(memory, text, " outstanding ", outstanding)?;
-    push_named(memory, text, " running ", running)?;
-    push_posted(memory, text, posted, reaped)
-}
-
-/// Appends the counts of completions.
-fn push_posted<M: TextMemory>(
-    memory: &M,
-    text: &mut String,
-    posted: u64,
-    reaped: u64,
-) -> Result<(), AllocError>
-    ensures bytes { OnOk result
-        (string_bytes text.new
-        ≡ string_bytes text.old ++ (codes " posted " ++ decimal posted ++ codes " reaped " ++ decimal reaped)) }
-    ensures granted { ((n : ℕ) → M.grants memory.now n) → IsOk result }
-{
-    push_named(memory, text, " posted ", posted)?;
-    push_named(memory, text, " reaped ", reaped)
+    push_named(memory, text, "accepted ", counts.accepted)?;
+    push_named(memory, text, " outstanding ", counts.outstanding)?;
+    push_named(memory, text, " running ", counts.running)?;
+    push_named(memory, text, " posted ", counts.posted)?;
+    push_named(memory, text, " reaped ", counts.reaped)
 }
 
 /// Appends the sizes of a set-up.
@@ -131,22 +109,9 @@ fn push_file<M: TextMemory>(
     ensures bytes { OnOk result (string_bytes text.new ≡ string_bytes text.old ++ file_text state) }
     ensures granted { ((n : ℕ) → M.grants memory.now n) → IsOk result }
 {
-    match state {
-        Some(state) => push_state(memory, text, state),
-        None => push_text(memory, text, "no file"),
-    }
-}
-
-/// Appends how a file that there is stands.
-fn push_state<M: TextMemory>(
-    memory: &M,
-    text: &mut String,
-    state: FileState,
-) -> Result<(), AllocError>
-    ensures bytes { OnOk result
-        (string_bytes text.new ≡ string_bytes text.old ++ file_text (Some state)) }
-    ensures granted { ((n : ℕ) → M.grants memory.now n) → IsOk result }
-{
+    let Some(state) = state else {
+        return push_text(memory, text, "no file");
+    };
     push_named(memory, text, "len ", u64::from(state.len))?;
     push_named(memory, text, " writes ", state.writes)?;
     push_named(memory, text, " synced ", state.synced)

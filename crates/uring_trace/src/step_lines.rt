@@ -6,7 +6,7 @@ ghost use Rattle.uring_trace.specs.Spelling as spelling;
 ghost use Rattle.uring_trace.specs.Spelling.{IsStep, IsBad, name_of};
 ghost use Rattle.uring_text.specs.Reading.{form_of, number_of};
 ghost use Rattle.uring_trace.specs.Reading as spec;
-ghost use Rattle.uring_trace.specs.Reading.{ReadsStep, ReadsFill, step_of_one, step_of_two};
+ghost use Rattle.uring_trace.specs.Reading.{ReadsStep, ReadsFill, step_of_one};
 
 use std::alloc::{AllocError, Global};
 use uring_core::same_step;
@@ -86,7 +86,7 @@ fn read_words(tokens: &[&[u8]]) -> Option<Step>
     if is_name(name, "fill") {
         fill(token, tokens)
     } else if tokens.is_empty() {
-        step_of_number(name, token)
+        numbered(token, &step_named(name)?)
     } else {
         None
     }
@@ -102,14 +102,6 @@ fn step_of_name(name: &[u8]) -> Option<Step>
     } else {
         None
     }
-}
-
-/// The step of a name and a number.
-fn step_of_number(name: &[u8], token: &[u8]) -> Option<Step>
-    ensures { result ≡ step_of_two name.now token.now }
-{
-    let step = step_named(name)?;
-    numbered(token, &step)
 }
 
 /// A fill of a slot with the entry of these tokens.

@@ -65,7 +65,7 @@ pub fn trace_in<M: TextMemory, R: Read, W: Write>(
         &mut Calls::new(),
         &mut Calls::new(),
     );
-    drop(session);
+    session.let_go();
     answered
 }
 

@@ -1,4 +1,4 @@
-use Rattle.std.proofs.Common.{ap, sym, ◌∙◌}
+use Rattle.std.proofs.Common.{sym, ap, ◌∙◌}
 use Rattle.uring_core.specs.Histories.{world}
 use Rattle.uring_core.specs.World.{requests_of}
 use Rattle.uring_rules.specs.Rules.{why_of}
@@ -6,6 +6,6 @@ use Rattle.uring_trace.proofs.ChosenTexts.{target_told}
 use Rattle.uring_trace.proofs.chosen.is_target_of.Goals as goal
 
 pub returns-in-Some : goal.returns-in-Some
-returns-in-Some c = λ h fits is.
+returns-in-Some c = λ h fits of.
     let stands = c.why.ensures h fits ∙ ap (λ linux. why_of linux (requests_of (world c.args.core.now.setup h)) c.args.other) c.requires in
-    target_told (world c.args.core.now.setup h).requests c.args.number c.args.other c.args.entry.now _ _ _ is (sym (c.entry.ensures h fits) ∙ c.in-Some.is) stands c.is_target_by.ensures
+    target_told (world c.args.core.now.setup h).requests c.args.number c.args.other c.args.sought c.in-Some.found _ _ of (sym (c.entry.ensures h fits) ∙ c.in-Some.is) stands (rw c.user_data.ensures at c.is_target_by.ensures)

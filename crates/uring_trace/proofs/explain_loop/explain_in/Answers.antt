@@ -1,4 +1,4 @@
-use Rattle.std.proofs.Common.{◌≡◌, true, false, rules}
+use Rattle.std.proofs.Common.{true, false, rules}
 use Rattle.std.specs.Prelude.{IsTrue}
 use Rattle.uring_trace.specs.Explanations.{telling_on}
 use Rattle.uring_trace.proofs.ExplainStreams.{none_read}

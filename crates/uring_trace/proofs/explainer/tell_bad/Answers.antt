@@ -1,17 +1,19 @@
-use Rattle.std.proofs.Common.{◌≡◌, ◌++◌, List, ℕ, ap, ◌∙◌, append_assoc}
+use Rattle.std.proofs.Common.{◌≡◌, ◌++◌, ◌∷◌, [], List, ℕ, refl, ap, ◌∙◌, append_assoc}
 use Rattle.std.specs.Prelude.{codes, string_bytes}
 use Rattle.std.specs.Fmt.{decimal}
 use Rattle.std.proofs.lemmas.Result.{on_ok_weaker}
-use Rattle.uring_text.specs.Lines.{ended}
 use Rattle.uring_trace.specs.Flaws.{line_flaw}
 use Rattle.uring_trace.specs.declared.flaws.Language.TheVariants as language
 use Rattle.uring_trace.proofs.explainer.tell_bad.Goals as goal
 
+-- a number between words, what follows it and the end of the line, appended in four parts
+four_parts : (old a b c new u k v f : List ℕ) → a ≡ old ++ u ++ k → b ≡ a ++ v → c ≡ b ++ f
+    → new ≡ c ++ 10 ∷ [] → new ≡ old ++ (u ++ k ++ v ++ (f ++ 10 ∷ []))
+four_parts old a b c new u k v f e g h i =
+    i ∙ ap (λ (t : List ℕ). t ++ 10 ∷ []) (h ∙ ap (λ (t : List ℕ). t ++ f) (g ∙ ap (λ (t : List ℕ). t ++ v) e)) ∙ simp append_assoc (refl)
+
 pub returns-clause-noted : goal.returns-clause-noted
 returns-clause-noted g c =
-    let old = string_bytes c.args.notes.now in
-    on_ok_weaker c.note_flaw.result
-    (λ h line k. h line k
-    ∙ ap (λ (t : List ℕ). t ++ ended (line_flaw language.Questions line)) c.in_ok-begin_note.ensures.noted
-    ∙ append_assoc old (codes "uring: line " ++ decimal c.args.number ++ codes ": bad line: ") (ended (line_flaw language.Questions line)))
-    c.note_flaw.ensures.noted
+    on_ok_weaker c.push_text-3.result
+    (λ last line k. four_parts (string_bytes c.args.notes.now) _ _ _ _ (codes "uring: line ") (decimal c.args.number) (codes ": bad line: ") (line_flaw language.Questions line) c.in_ok-push_named.ensures.bytes c.in_ok-push_text-2.ensures.bytes (c.in_ok-push_line_flaw_in.ensures.bytes line k) last)
+    c.push_text-3.ensures.bytes

@@ -1,4 +1,4 @@
-use Rattle.std.proofs.Common.{◌≡◌, true, false, rules}
+use Rattle.std.proofs.Common.{true, false, rules}
 use Rattle.std.specs.Prelude.{IsTrue}
 use Rattle.uring_trace.proofs.Traces.{none_read}
 use Rattle.uring_trace.proofs.trace_loop.trace_in.Goals as goal

@@ -2,16 +2,22 @@ use Rattle.std.proofs.Common.{◌≡◌, ◌<◌, ◌+◌, ℕ, List, [], ◌∷
 use Rattle.std.proofs.lemmas.List.{take_all, take_more}
 use Rattle.std.specs.Prelude.{string_bytes}
 use Rattle.uring_trace.specs.Explaining.{HasToldBy}
+use Rattle.uring_trace.proofs.ExplainLines.{explain_byte}
 use Rattle.uring_trace.proofs.explainer.Explainer.take_all.Goals as goal
+use Rattle.uring_trace.proofs.explainer.Explainer.take_all.Goals.{then-byte-eq10+in_ok-end_line, else-byte-eq10}
 
 pub loop-byte-preserved : goal.loop-byte-preserved
 loop-byte-preserved g c = λ telling sure before told noted h.
     let bytes : List ℕ = c.args.bytes.now in
     let i : ℕ = c.loop-byte.byte-index in
-    let more = c.in_ok-take.ensures.ok telling sure (before ++ take i bytes) told noted (c.loop-byte.invariant telling sure before told noted h) in
+    let so = c.loop-byte.invariant telling sure before told noted h in
     let lt : i < length bytes = search rules in
     let next : take (i + 1) bytes ≡ take i bytes ++ get_or bytes i 0 ∷ [] = take_more bytes i 0 lt in
-    subst (λ (l : List ℕ). HasToldBy telling c.take.new.self l (told ++ string_bytes c.take.new.text) (noted ++ string_bytes c.take.new.notes)) (append_assoc before (take i bytes) (get_or bytes i 0 ∷ []) ∙ ap (λ (l : List ℕ). before ++ l) (sym next)) more
+    subst (λ (l : List ℕ). HasToldBy telling c.if-byte-eq10.self l (told ++ string_bytes c.if-byte-eq10.text) (noted ++ string_bytes c.if-byte-eq10.notes)) (append_assoc before (take i bytes) (get_or bytes i 0 ∷ []) ∙ ap (λ (l : List ℕ). before ++ l) (sym next))
+    (elim c.if-byte-eq10.branch [
+      | then-byte-eq10+in_ok-end_line w ↦ rw (w.self-is, w.text-is, w.notes-is, w.if-byte-eq10.true) (w.in_ok-end_line.ensures.ok telling sure (before ++ take i bytes) told noted so)
+      | else-byte-eq10 w ↦ rw (w.self-is, w.text-is, w.notes-is) (explain_byte telling _ _ _ _ _ (before ++ take i bytes) _ _ (get_or bytes i 0) w.if-byte-eq10.false w.push.ensures so)
+    ])
 
 pub returns-clause-ok : goal.returns-clause-ok
 returns-clause-ok g c = λ telling sure before told noted h.

@@ -1,7 +1,9 @@
-use Rattle.std.proofs.Common.{ℕ, sym, ◌∙◌}
+use Rattle.std.proofs.Common.{[], ◌∷◌, sym, ap, ◌∙◌, append_assoc}
 use Rattle.std.specs.Prelude.{string_bytes}
 use Rattle.std.proofs.lemmas.Result.{on_ok_weaker, IfOk-weaker}
-use Rattle.uring_trace.specs.Explaining.{TellsShown}
+use Rattle.uring_core.specs.Histories.{world}
+use Rattle.uring_text.specs.Lines.{ended}
+use Rattle.uring_trace.specs.Shown.{shown}
 use Rattle.uring_trace.proofs.ExplainLines.{if_ok_both, line_made, line_asked, line_remark, line_bad}
 use Rattle.uring_trace.proofs.explainer.Explainer.tell_line.Goals as goal
 
@@ -11,13 +13,15 @@ returns-in-Some-clause-told g c =
     (λ done h line k. line_made _ _ _ c.args.self.now.number c.args.self.now.has_bad line _ _ _ c.in-Some.step (rw c.in-Some.is at (c.in_ok-step.ensures.step line k)) h)
     c.tell_step.ensures.told
 
-pub returns-in-Some-read_question-clause-told : goal.returns-in-Some-read_question-clause-told
-returns-in-Some-read_question-clause-told g c =
-    on_ok_weaker c.tell_shown.result
-    (λ (h : TellsShown c.args.self.now.machine c.in-Some-read_question.question (string_bytes c.args.text.now) (string_bytes c.tell_shown.new.text)). λ line k.
-    line_asked ((n : ℕ) → g.M.Memory.grants c.args.memory.now n) c.args.self.now.machine c.args.self.now.number c.args.self.now.has_bad line (string_bytes c.args.text.now) (string_bytes c.tell_shown.new.text) (string_bytes c.args.notes.now) c.in-Some-read_question.question
-    (rw c.in-Some-read_question.is at (c.read_question.ensures line k)) h)
-    c.tell_shown.ensures.told
+pub returns-in_ok-push_shown-in-Some-read_question-clause-told : goal.returns-in_ok-push_shown-in-Some-read_question-clause-told
+returns-in_ok-push_shown-in-Some-read_question-clause-told g c =
+    let m = c.args.self.now.machine in
+    let question = c.in-Some-read_question.question in
+    on_ok_weaker c.push_text.result
+    (λ end line k. line_asked _ m c.args.self.now.number c.args.self.now.has_bad line _ _ _ question
+    (rw c.in-Some-read_question.is at (c.read_question.ensures line k))
+    (λ h fits. end ∙ ap ended (c.in_ok-push_shown-in-Some-read_question.ensures.bytes h fits) ∙ append_assoc (string_bytes c.args.text.now) (shown m.core.setup (world m.core.setup h) question) (10 ∷ [])))
+    c.push_text.ensures.bytes
 
 pub returns-in-None-clause-told : goal.returns-in-None-clause-told
 returns-in-None-clause-told g c = λ line k. line_remark _ c.args.self.now.machine c.args.self.now.number c.args.self.now.has_bad line _ _ (sym (c.is_remark.ensures line k) ∙ c.if-is_remark.true)
