@@ -20,7 +20,6 @@ mod opening;
 mod report;
 mod settle_ends;
 mod settle_work;
-mod worker_files;
 
 pub use kernel::Kernel;
 pub use opening::{LanesFault, check_ends, ends, ends_in, lanes, lanes_in, words, words_in};
