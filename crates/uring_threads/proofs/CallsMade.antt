@@ -26,8 +26,8 @@ use Rattle.uring_core.specs.declared.step.Step.{Step}
 use Rattle.uring_core.specs.declared.step.Step.TheVariants as step
 use Rattle.uring_threads.specs.EventRows.{Records, AreTaken, call_row, items_row, steps_of}
 use Rattle.uring_threads.specs.Rows.{with_items_published}
-use Rattle.uring_threads.specs.declared.calls.Begun.{Begun}
-use Rattle.uring_threads.specs.declared.calls.Begun.TheVariants as begun
+use Rattle.uring_threads.specs.declared.intake.Intake.{Intake}
+use Rattle.uring_threads.specs.declared.intake.Intake.TheVariants as intake
 use Rattle.uring_threads.proofs.Recording.{call_more, call_refused, records_none, records_then}
 
 -- Lengths of calls.
@@ -182,25 +182,27 @@ module _ (a b c : Kept) (done : List ℕ) (rest : ℕ) (h : HaveMade a b done re
         subst (λ (w : World). Records a c (calls_row done (calls_left a.setup w.submission) ++ refused_row (calls_left a.setup w.submission))) (sym e)
         (call_refused a b c done (calls_left a.setup (now b).submission) rest some (sum_left a.setup (now b).submission rest h.stands) p q)
 
-    pub begun_again : HasBegun a c (begun.Again rest)
+    pub begun_again : HasBegun a c (intake.Waiting rest)
     begun_again = record {
       made = done;
       have = one_refused a b c done rest h e t;
       row = refused_recorded;
       spent = λ count same. absurd cc;
+      not_shut = refl;
     }
 
-    pub begun_spent : is_spent (now b) rest ≡ true → HasBegun a c (begun.Spent rest)
+    pub begun_spent : is_spent (now b) rest ≡ true → HasBegun a c (intake.Spent rest)
     begun_spent spent = record {
       made = done;
       have = one_refused a b c done rest h e t;
       row = refused_recorded;
       spent = λ count same. let is : rest ≡ count = cc in ap₂ (λ (w : World) n. is_spent w n) e (sym is) ∙ spent;
+      not_shut = refl;
     }
 
 -- or none is left
 pub begun_all : (a b : Kept) (done : List ℕ) (rest : ℕ) → rest ≡ 0 → HaveMade a b done rest
-    → Records a b (calls_row done (calls_left a.setup (now b).submission)) → HasBegun a b begun.Taken
+    → Records a b (calls_row done (calls_left a.setup (now b).submission)) → HasBegun a b intake.Ready
 unfolding refused_row
 begun_all a b done rest none h p =
     let have : HaveMade a b done 0 = subst (HaveMade a b done) none h in
@@ -210,10 +212,11 @@ begun_all a b done rest none h p =
       have = have;
       row = p ∙ ap (λ zs. steps_of a ++ zs) (sym (append-nil (calls_row done left)) ∙ ap (λ ns. calls_row done left ++ refused_row ns) (sym (none_left a.setup (now b).submission have.stands)));
       spent = λ count same. absurd cc;
+      not_shut = refl;
     }
 
 -- the calls that were left as these were begun
-begun_of : (a b : Kept) (x : Begun) (calls : List ℕ) (h : HasBegun a b x)
+begun_of : (a b : Kept) (x : Intake) (calls : List ℕ) (h : HasBegun a b x)
     → calls_left a.setup (now a).submission ≡ calls
     → AreBegun calls (calls_row h.made (calls_left a.setup (now b).submission) ++ refused_row (calls_left a.setup (now b).submission))
 begun_of a b x calls h are = record {
@@ -224,7 +227,7 @@ begun_of a b x calls h are = record {
 }
 
 -- what waited was begun again
-pub row_begun : (a r b : Kept) (x : Begun) → IsUnmoved a r → HasBegun r b x
+pub row_begun : (a r b : Kept) (x : Intake) → IsUnmoved a r → HasBegun r b x
     → (steps : List Step) × AreBegun (calls_left a.setup (now a).submission) steps × Records a b steps
 row_begun a r b x u h = (
   calls_row h.made (calls_left r.setup (now b).submission) ++ refused_row (calls_left r.setup (now b).submission),
@@ -233,7 +236,7 @@ row_begun a r b x u h = (
 )
 
 -- items were published, and calls begun that take them
-pub row_taken : (a p b : Kept) (items : List Item) (x : Begun) → Stands (now a).submission [] 0
+pub row_taken : (a p b : Kept) (items : List Item) (x : Intake) → Stands (now a).submission [] 0
     → length items ≤ a.setup.sq → p.setup ≡ a.setup
     → now p ≡ with_items_published a.setup.sq (now a) (all_published_as items)
     → Records a p (items_row 0 items ++ step.StoreTail ∷ []) → HasBegun p b x

@@ -1,9 +1,17 @@
 -- Lanes and workers by their numbers: whoever has the same numbers is the other end.
-use Rattle.std.proofs.Common.{◌≡◌, ℕ, suc, ◌<◌, List, [], ◌∷◌, length, map, get_or, refl, sym, subst, ap, ap₂, ◌∙◌, arith}
+use Rattle.std.proofs.Common.{◌≡◌, ℕ, suc, ◌<◌, ◌≤◌, List, [], ◌∷◌, length, map, get_or, refl, sym, subst, ap, ap₂, ◌∙◌, arith}
 use Rattle.std.specs.Prelude.{slice_set}
 use Rattle.std.proofs.lemmas.List.{get_or-map, length-map, length-set, get_or_default}
 use Rattle.uring_ports.specs.AppEnd.{AppEnd}
-use Rattle.uring_workers.specs.WorkLanes.{AreSameLanes, numbers_of_lanes}
+use Rattle.uring_entry.specs.Layout.{Cqe}
+use Rattle.uring_entry.specs.Setup.{Setup}
+use Rattle.uring_core.specs.Histories.{Event}
+use Rattle.uring_ports.specs.Ports.{Put, Sizes, nothing_put, sizes_of}
+use Rattle.uring_threads.specs.Calls.{calls_after}
+use Rattle.uring_threads.specs.Opening.{kernel_at_first}
+use Rattle.uring_threads.specs.declared.intake.Intake.{Intake}
+use Rattle.uring_threads.specs.declared.intake.Intake.TheVariants as intake
+use Rattle.uring_workers.specs.WorkLanes.{AreSameLanes, HaveCarriedNone, HoldJobs, HoldResults, numbers_of_lanes}
 use Rattle.uring_threads.specs.Dispatched.{HaveCarried}
 use Rattle.uring_threads.specs.Kept.{Kept}
 use Rattle.uring_threads.specs.Kernel.{Kernel, IsKernel}
@@ -70,6 +78,37 @@ opened_together files app kernel workers ports sizes same of =
       lanes = told_same (λ (w : Worker). w.pairing) (λ (l : WorkLanes). pairing_of l.jobs l.results) workers kernel.lanes of.many (λ k d e low. of.pairing k e d (omega (arith, low, of.many)));
       files = λ k d low. of.have k d (omega (arith, low, of.many)) ∙ sym same;
     }
+
+-- the dispatcher's end, as it is opened
+pub at_first : (g : Setup) (k : Kernel) → k.kept.trace ≡ [] → k.kept.setup ≡ g
+    → k.intake ≡ intake.Ready → k.sizes ≡ sizes_of g → k.pulled ≡ nothing_put → k.reaped ≡ []
+    → k ≡ kernel_at_first g k.pairing k
+at_first g k trace setup ready sizes pulled reaped =
+    ap (λ (es : List Event). record k { kept = record k.kept { trace = es } }) trace
+    ∙ ap (λ (s : Setup). record k { kept = record k.kept { trace = []; setup = s } }) setup
+    ∙ ap (λ (i : Intake). record k { kept = record k.kept { trace = []; setup = g }; intake = i }) ready
+    ∙ ap (λ (z : Sizes). record k { kept = record k.kept { trace = []; setup = g }; intake = intake.Ready; sizes = z }) sizes
+    ∙ ap (λ (p : Put). record k { kept = record k.kept { trace = []; setup = g }; intake = intake.Ready; sizes = sizes_of g; pulled = p }) pulled
+    ∙ ap (λ (cs : List Cqe). record k { kept = record k.kept { trace = []; setup = g }; intake = intake.Ready; sizes = sizes_of g; pulled = nothing_put; reaped = cs }) reaped
+
+pub is_at_first : (g : Setup) (numbers : List ℕ) (k : Kernel) → 0 < length k.lanes
+    → length k.lanes ≤ 8 → HoldJobs k.lanes → HoldResults k.lanes → HaveCarriedNone k.lanes
+    → IsKernel (kernel_at_first g numbers k)
+unfolding calls_after
+is_at_first g numbers k some few hold short none = record {
+  sq = refl;
+  cq = refl;
+  some = some;
+  few = few;
+  hold = hold;
+  short = short;
+  ties = record {
+    tied = record { published = λ good. refl; calls = refl; stands = record { fresh = refl; call = refl; head = refl; waiting = refl }; spent = tt; closed = refl; shut = refl };
+    once = refl;
+    delivered = record { reaped = refl; head = refl };
+    carried = λ j d low. record { jobs = (none j d low).0; results = (none j d low).1 };
+  };
+}
 
 -- A worker that does something goes on to be of the same ends.
 

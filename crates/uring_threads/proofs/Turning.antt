@@ -242,9 +242,3 @@ same_next a b keeps same =
     ap (λ (g : Setup). next_of g.linux (requests_of (now b))) same
     ∙ ap (λ (r : Requests). next_of a.setup.linux (record { requests = r; drains = (now b).drains })) keeps.requests
     ∙ ap (λ (d : Drains). next_of a.setup.linux (record { requests = (now a).requests; drains = d })) keeps.drains
-
--- what follows of a turn that returned Ok from three facts of it
-pub with_ok : {X E : Type 0} (r : Result X E) (P Q : X → Type 0) (A B : Type 0)
-    → ((x : X) → P x → A → B → Q x) → IfOk r P → OnOk r A → OnOk r B → IfOk r Q
-with_ok (Ok x) P Q A B follows p a b = follows x p a b
-with_ok (Err e) P Q A B follows p a b = tt

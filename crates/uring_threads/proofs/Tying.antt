@@ -11,7 +11,7 @@ use Rattle.uring_ports.specs.Ports.{Put, items_of_calls, Pulls, with_call, with_
 use Rattle.uring_ports.specs.declared.pulled.Pulled.{Pulled}
 use Rattle.uring_ports.specs.declared.item.Item.{Item}
 use Rattle.uring_threads.specs.Calls.{calls_of, calls_left}
-use Rattle.uring_threads.specs.Taking.{intake_after, HaveMade, HasBegun, TakesIn}
+use Rattle.uring_threads.specs.Taking.{HaveMade, HasBegun, TakesIn}
 use Rattle.uring_threads.specs.Turns.{Tied, IsGivenUpAsSpent, is_shut, ClosesOnce, awaits_memory}
 use Rattle.uring_threads.proofs.CallsMade.{items_keep_calls, none_left, published_left, calls_add_up, kept_after}
 use Rattle.uring_entry.specs.Setup.{Setup}
@@ -26,26 +26,20 @@ use Rattle.uring_threads.proofs.TraceSteps.{grown, unmoved_now, appends_none, ap
 use Rattle.uring_laws.proofs.Standing.{items_published, tail_publishes}
 use Rattle.std.specs.Prelude.{All, None, is_some, if◌then◌else◌}
 use Rattle.std.proofs.lemmas.List.Elements.{All-tail}
-use Rattle.uring_threads.specs.declared.calls.Begun.{Begun}
-use Rattle.uring_threads.specs.declared.calls.Begun.TheVariants as begun
 use Rattle.uring_threads.specs.declared.intake.Intake.{Intake}
 use Rattle.uring_threads.specs.declared.intake.Intake.TheVariants as intake
 use Rattle.std.proofs.lemmas.List.Sums.{sum_by-append}
 use Rattle.uring_core.specs.Histories.{Event}
 
 -- calls were begun that take what waited
-shut_after : (i : Intake) (b : Begun) (count : ℕ) → i ≡ intake.Waiting count → is_shut i ≡ is_shut (intake_after b)
-shut_after i begun.Taken count is = ap is_shut is
-shut_after i _ count is = ap is_shut is
-
-given_up : (w : World) (b : Begun) → ((count : ℕ) → b ≡ begun.Spent count → is_spent w count ≡ true)
-    → IsGivenUpAsSpent w (intake_after b)
-given_up w (begun.Spent count) spent = spent count refl
+given_up : (w : World) (i : Intake) → ((count : ℕ) → i ≡ intake.Spent count → is_spent w count ≡ true)
+    → IsGivenUpAsSpent w i
+given_up w (intake.Spent count) spent = spent count refl
 given_up w _ spent = tt
 
-pub tied_begun : (a b : Kept) (put : Put) (count : ℕ) (x : Begun)
+pub tied_begun : (a b : Kept) (put : Put) (count : ℕ) (x : Intake)
     → Tied a.setup (now a) put (intake.Waiting count) → HasBegun a b x
-    → Tied a.setup (now b) put (intake_after x)
+    → Tied a.setup (now b) put x
 tied_begun a b put count x t h =
     let w : World = now a in
     let m : List ℕ = h.made in
@@ -58,7 +52,7 @@ tied_begun a b put count x t h =
       stands = h.have.stands;
       spent = given_up (now b) x h.spent;
       closed = ap (λ (v : World). v.is_closed) h.have.world ∙ kept_after a.setup (λ (v : World). v.is_closed) (λ v n. refl) w m ∙ t.closed;
-      shut = sym (shut_after (intake.Waiting count) x count refl) ∙ t.shut;
+      shut = h.not_shut ∙ t.shut;
     }
 
 -- the items of calls with one more
@@ -150,14 +144,14 @@ call_waits a r put count i u waits t =
     subst (λ (w : World). (w.is_closed ≡ false) × Stands w.submission [] count) (sym (unmoved_now a r u)) (s.closed ∙ sym s.shut, s.stands)
 
 -- and once it was begun again
-pub tied_again : (a r b : Kept) (put : Put) (count : ℕ) (i : Intake) (x : Begun) → IsUnmoved a r
+pub tied_again : (a r b : Kept) (put : Put) (count : ℕ) (i x : Intake) → IsUnmoved a r
     → i ≡ intake.Waiting count → HasBegun r b x
-    → Tied a.setup (now a) put i → Tied a.setup (now b) put (intake_after x)
+    → Tied a.setup (now a) put i → Tied a.setup (now b) put x
 tied_again a r b put count i x u waits h t =
-    subst (λ (g : Setup). Tied g (now b) put (intake_after x)) u.setup
+    subst (λ (g : Setup). Tied g (now b) put x) u.setup
     (tied_begun r b put count x (subst (λ (g : Setup). Tied g (now r) put (intake.Waiting count)) (sym u.setup) (tied_still a r put (intake.Waiting count) u (subst (Tied a.setup (now a) put) waits t))) h)
 
-pub begun_completions : (a b : Kept) (x : Begun) → HasBegun a b x
+pub begun_completions : (a b : Kept) (x : Intake) → HasBegun a b x
     → (now b).completions ≡ (now a).completions
 begun_completions a b x h = ap (λ (w : World). w.completions) h.have.world ∙ kept_after a.setup (λ (w : World). w.completions) (λ w n. refl) (now a) h.made
 
@@ -173,18 +167,18 @@ pulled_at a r before after size x items taken i u sizes same t p = (
 
 -- What was pulled is taken.
 
-pub tied_taken : (a p b : Kept) (before after : Put) (items : List Item) (i : Intake) (x : Begun)
+pub tied_taken : (a p b : Kept) (before after : Put) (items : List Item) (i x : Intake)
     → i ≡ intake.Ready → p.setup ≡ a.setup
     → now p ≡ with_items_published a.setup.sq (now a) (all_published_as items) → HasBegun p b x
     → Tied a.setup (now a) before i
     → (0 < length items) × (length items ≤ a.setup.sq) × (before.closed ≡ false)
     × (after ≡ with_call before items)
-    → Tied a.setup (now b) after (intake_after x)
+    → Tied a.setup (now b) after x
 tied_taken a p b before after items i x ready same at h t pulled =
     let published : Tied p.setup (now p) (with_call before items) (intake.Waiting (length items)) = subst (λ (g : Setup). Tied g (now p) (with_call before items) (intake.Waiting (length items))) (sym same) (subst (λ w. Tied a.setup w (with_call before items) (intake.Waiting (length items))) (sym at)
     (tied_published a.setup (now a) before items (subst (Tied a.setup (now a) before) ready t) pulled.2 pulled.1)) in
-    subst (λ (g : Setup). Tied g (now b) after (intake_after x)) same
-    (subst (λ q. Tied p.setup (now b) q (intake_after x)) (sym pulled.3) (tied_begun p b (with_call before items) (length items) x published h))
+    subst (λ (g : Setup). Tied g (now b) after x) same
+    (subst (λ q. Tied p.setup (now b) q x) (sym pulled.3) (tied_begun p b (with_call before items) (length items) x published h))
 
 -- the close mark, of a ring that is in no call
 pub closed_world : (a b : Kept) (x : Answer) → Grows a b (step.Close, x) → x ≡ close_answer (now a)
@@ -214,15 +208,11 @@ once_stays a b t i p none once =
     ap (count_by closes_ring) p.trace ∙ closes_append a.trace p.events ∙ ap (λ n. count_by closes_ring a.trace + n) (ap (λ (u : Tally). u.closes) p.tally ∙ none) ∙ omega arith ∙ once
 
 -- calls were begun
-not_shut : (a : Kept) (b : Begun) → ClosesOnce a intake.Ready → ClosesOnce a (intake_after b)
-not_shut a begun.Taken once = once
-not_shut a _ once = once
-
-pub once_begun : (a b : Kept) (t : Tally) (i : Intake) (x : Begun) → Appends a b t
-    → t.closes ≡ 0 → (ClosesOnce a i → ClosesOnce a intake.Ready) → ClosesOnce a i
-    → ClosesOnce b (intake_after x)
-once_begun a b t i x p none ready once =
-    not_shut b x (once_stays a b t intake.Ready p none (ready once))
+pub once_begun : (a b : Kept) (t : Tally) (i x : Intake) → Appends a b t → t.closes ≡ 0
+    → is_shut x ≡ false → (ClosesOnce a i → ClosesOnce a intake.Ready) → ClosesOnce a i
+    → ClosesOnce b x
+once_begun a b t i x p none not_shut ready once =
+    once_stays a b t intake.Ready p none (ready once) ∙ ap (λ s. if s then 1 else 0) (sym not_shut)
 
 -- the close mark was pulled
 pub once_shut : (a b : Kept) (x : Answer) → Grows a b (step.Close, x) → ClosesOnce a intake.Ready

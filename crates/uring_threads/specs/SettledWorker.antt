@@ -48,12 +48,3 @@ HaveSeenAll lanes workers = (k : ℕ) (d : WorkLanes) (e : Worker) → k < lengt
 pub record HaveFiles (files : ℕ) (workers : List Worker) : Type 0 where
   pub some : 0 < length workers
   pub each : (k : ℕ) (e : Worker) → k < length workers → length (get_or workers k e).files ≡ files
-
--- what is told of the file of a descriptor, of any history that these workers have settled
-abbrev pub TellsState : ℕ → List Worker → ℤ → Option FileState → Type 0
-TellsState files workers fd told = (kept : Kept) → kept.setup.files ≡ files
-    → AreSettled kept workers → told ≡ state_of (files_of kept.setup (now kept)) fd
-
-abbrev pub TellsByte : ℕ → List Worker → ℤ → ℕ → Option ℕ → Type 0
-TellsByte files workers fd at told = (kept : Kept) → kept.setup.files ≡ files
-    → AreSettled kept workers → told ≡ byte_of (files_of kept.setup (now kept)) fd at

@@ -1,5 +1,5 @@
 -- Glue. What taking in makes of the intake and of the trace.
-use Rattle.std.specs.Prelude.{◌≡◌, ℕ, ◌+◌, ◌-◌, ◌<◌, ◌≤◌, true, List, [], ◌∷◌, ◌++◌}
+use Rattle.std.specs.Prelude.{◌≡◌, ℕ, ◌+◌, ◌-◌, ◌<◌, ◌≤◌, true, false, List, [], ◌∷◌, ◌++◌}
 use Rattle.uring_entry.specs.Setup.{Setup}
 use Rattle.uring_entry.specs.Submission.{Submission}
 use Rattle.uring_core.specs.StepAnswers.{is_spent}
@@ -8,19 +8,11 @@ use Rattle.uring_threads.specs.Calls.{after_calls, calls_left, calls_row, refuse
 use Rattle.uring_threads.specs.EventRows.{Records}
 use Rattle.uring_threads.specs.Kept.{Kept, now}
 use Rattle.uring_threads.specs.Tallies.{Appends, calls_counted}
-use Rattle.uring_threads.specs.Turns.{waiting_in}
-use Rattle.uring_threads.specs.declared.calls.Begun.{Begun}
-use Rattle.uring_threads.specs.declared.calls.Begun.TheVariants as begun
+use Rattle.uring_threads.specs.Turns.{is_shut, waiting_in}
 use Rattle.uring_threads.specs.declared.calls.CallMade.{CallMade}
 use Rattle.uring_threads.specs.declared.calls.CallMade.TheVariants as made
 use Rattle.uring_threads.specs.declared.intake.Intake.{Intake}
 use Rattle.uring_threads.specs.declared.intake.Intake.TheVariants as intake
-
--- how the intake stands after calls were begun
-abbrev pub intake_after : Begun → Intake
-intake_after begun.Taken = intake.Ready
-intake_after (begun.Again count) = intake.Waiting count
-intake_after (begun.Spent count) = intake.Spent count
 
 -- The trace goes on with so many items and nothing but calls and closes, and without any of these it stays.
 pub record TakesIn (old new : Kept) (items : ℕ) : Type 0 where
@@ -45,11 +37,12 @@ pub record HaveMade (old new : Kept) (made : List ℕ) (rest : ℕ) : Type 0 whe
   pub appends : Appends old new (calls_counted begun)
   pub idle : begun ≡ 0 → new.trace ≡ old.trace
 
--- Calls were begun until none was left, or the next didn't open.
-pub record HasBegun (old new : Kept) (b : Begun) : Type 0 where
+-- Calls were begun until none was left, or the next didn't open; so the intake stands then.
+pub record HasBegun (old new : Kept) (i : Intake) : Type 0 where
   pub made : List ℕ
-  pub have : HaveMade old new made (waiting_in (intake_after b))
+  pub have : HaveMade old new made (waiting_in i)
   pub row : Records old new
       (calls_row made (calls_left old.setup (now new).submission)
       ++ refused_row (calls_left old.setup (now new).submission))
-  pub spent : (count : ℕ) → b ≡ begun.Spent count → is_spent (now new) count ≡ true
+  pub spent : (count : ℕ) → i ≡ intake.Spent count → is_spent (now new) count ≡ true
+  pub not_shut : is_shut i ≡ false

@@ -10,11 +10,12 @@ ghost use Rattle.uring_threads.specs.Calls.{calls_after, calls_left, ends_of};
 ghost use Rattle.uring_threads.specs.EventRows.{Records, items_row, call_row};
 ghost use Rattle.uring_threads.specs.Kept.{now};
 ghost use Rattle.uring_threads.specs.Rows.{with_items_published, with_call_made};
-ghost use Rattle.uring_threads.specs.Taking.{IsFirst, HasBegun, intake_after};
+ghost use Rattle.uring_threads.specs.Taking.{IsFirst, HasBegun};
 ghost use Rattle.uring_threads.specs.Tallies.{Appends, none_counted, calls_counted, items_counted};
 ghost use Rattle.uring_threads.specs.Turns.{awaits_memory};
 ghost use Rattle.uring_threads.specs.declared.calls.CallMade.TheVariants as made;
 
+use crate::intake::Intake;
 use crate::kept::Kept;
 use crate::put_items::put_items;
 use uring_core::{Answer, Setup, Step};
@@ -32,19 +33,6 @@ enum CallMade {
 
     /// The numbers of requests are spent: its positions wait for ever.
     Spent,
-}
-
-/// How calls were begun.
-#[derive(Clone, Copy)]
-pub enum Begun {
-    /// They took all positions that waited, and closed.
-    Taken,
-
-    /// Memory was refused: so many positions still wait, and the next call can be begun again.
-    Again(u32),
-
-    /// The numbers of requests are spent: so many positions wait for ever.
-    Spent(u32),
 }
 
 /// Whether a call of a ring that goes on ends after a position that was answered so: by Linux's rules, after a word that names no slot.
@@ -112,23 +100,23 @@ fn make_call<M: Memory>(memory: &M, kept: &mut Kept, count: u32) -> CallMade
     CallMade::Taken(taken)
 }
 
-/// Makes calls until no position waits, or one doesn't open. Conditions: the ring isn't closed, so many positions wait, and the trace has room for four events for each.
-pub fn begin_calls<M: Memory>(memory: &M, kept: &mut Kept, count: u32) -> Begun
+/// Makes calls until no position waits, or one doesn't open. Returns how the intake stands then: `Ready`, `Waiting` or `Spent`. Conditions: the ring isn't closed, so many positions wait, and the trace has room for four events for each.
+pub fn begin_calls<M: Memory>(memory: &M, kept: &mut Kept, count: u32) -> Intake
     requires room { length kept.old.trace + 4 * count ≤ kept.old.room }
     requires not_closed { (now kept.old).is_closed ≡ false }
     requires stands { Stands (now kept.old).submission [] count }
     ensures begun { HasBegun kept.old kept.new result }
-    ensures granted { ((n : ℕ) → M.grants memory.now n) → awaits_memory (intake_after result) ≡ false }
+    ensures granted { ((n : ℕ) → M.grants memory.now n) → awaits_memory result ≡ false }
 {
     let mut rest = count;
     while rest > 0 {
         match make_call(memory, kept, rest) {
             CallMade::Taken(taken) => rest -= taken,
-            CallMade::Again => return Begun::Again(rest),
-            CallMade::Spent => return Begun::Spent(rest),
+            CallMade::Again => return Intake::Waiting(rest),
+            CallMade::Spent => return Intake::Spent(rest),
         }
     }
-    Begun::Taken
+    Intake::Ready
 }
 
 /// Puts the items of a call into the ring and publishes them. Conditions: nothing is staged and no position waits, there are at most as many items as the ring has entries, and the trace has room for an event and two for each item.

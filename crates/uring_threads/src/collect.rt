@@ -1,13 +1,10 @@
 //! Results that came back from workers.
-ghost use Rattle.std.specs.Prelude.{◌≡◌, ℕ, ◌+◌, ◌<◌, ◌≤◌, ◌↔◌, [], ◌∷◌, ◌++◌, length, IsTrue, IsOk, IfOk, OnOk, OnErr};
+ghost use Rattle.std.specs.Prelude.{◌≡◌, ℕ, ◌+◌, ◌<◌, ◌≤◌, ◌↔◌, [], ◌++◌, length, IsTrue, IsOk, IfOk, OnOk, OnErr};
 ghost use Rattle.uring_core.specs.declared.step.Step.TheVariants as step;
 ghost use Rattle.uring_workers.specs.WorkLanes.{AreSameLanes, OnlyReceives, results_received, results_seen};
-ghost use Rattle.uring_workers.specs.declared.job.JobResult.{JobResult};
 ghost use Rattle.uring_threads.specs.Collected.{CanBeTaken, Collects, CollectsNext, CollectsSeen, TakesAll, TakesSeen, Wait};
 ghost use Rattle.uring_threads.specs.Dispatched.{HaveCarried, AreTakenIn};
 ghost use Rattle.uring_threads.specs.EventRows.{Repeats};
-ghost use Rattle.uring_threads.specs.Kept.{Grows};
-ghost use Rattle.uring_threads.specs.Settled.{finish_of};
 ghost use Rattle.uring_threads.specs.Tallies.{TakesFewResults, finishes_counted, most_results};
 
 use crate::kept::Kept;
@@ -121,22 +118,8 @@ pub fn take_waiting(kept: &mut Kept, lanes: &mut WorkLanes)
     ensures lanes { OnlyReceives lanes.old lanes.new }
 {
     for _taken in 0..lanes.results.cached_slots() {
-        take_known(kept, lanes);
+        kept.is_lawful();
+        let result = lanes.results.pop_known();
+        kept.finish(result.number, result.outcome);
     }
-}
-
-/// Takes in the next result of a worker, which is seen. Conditions: those seen are all that wait there, and there is room in the trace for one event.
-fn take_known(kept: &mut Kept, lanes: &mut WorkLanes)
-    requires room { length kept.old.trace < kept.old.room }
-    requires some { 0 < length (results_seen lanes.old) }
-    requires work { Wait kept.old (results_seen lanes.old) }
-    ensures next { (r : JobResult) × (results_seen lanes.old ≡ r ∷ results_seen lanes.new)
-        × (results_received lanes.new ≡ results_received lanes.old ++ r ∷ [])
-        × Grows kept.old kept.new (finish_of r) }
-    ensures work { Wait kept.new (results_seen lanes.new) }
-    ensures lanes { OnlyReceives lanes.old lanes.new }
-{
-    kept.is_lawful();
-    let result = lanes.results.pop_known();
-    kept.finish(result.number, result.outcome);
 }

@@ -2,15 +2,15 @@
 ghost use Rattle.std.specs.Prelude.{◌≡◌, ℕ, ◌+◌, ◌*◌, ◌≤◌, false, List, length, IsOk, IfOk, OnErr, vec_capacity};
 ghost use Rattle.uring_ports.specs.Ports.{Put, Pulls};
 ghost use Rattle.uring_core.specs.declared.step.Step.{Step};
-ghost use Rattle.uring_threads.specs.EventRows.{Records, RecordsIntake, IsAgain, IsPulled, IsTaken};
+ghost use Rattle.uring_threads.specs.EventRows.{Records, RecordsIntake, IsAgain, IsTaken};
 ghost use Rattle.uring_threads.specs.Kept.{now};
 ghost use Rattle.uring_threads.specs.Served.{PullsMost};
-ghost use Rattle.uring_threads.specs.Taking.{TakesIn, intake_after};
+ghost use Rattle.uring_threads.specs.Taking.{TakesIn};
 ghost use Rattle.uring_threads.specs.Turns.{ClosesOnce, Tied};
 ghost use Rattle.uring_threads.specs.Turns as turns;
 ghost use Rattle.uring_threads.specs.declared.intake.Intake.TheVariants.{Ready};
 
-use crate::calls::{Begun, begin_calls, publish_items};
+use crate::calls::{begin_calls, publish_items};
 use crate::kept::Kept;
 use std::alloc::AllocError;
 use uring_core::Step;
@@ -18,7 +18,7 @@ use uring_memory::Memory;
 use uring_ports::{Item, KernelPort, Pulled};
 
 /// How the dispatcher stands with what it pulls.
-#[derive(Clone, Copy, PartialEq, Eq)]
+#[derive(Clone, Copy)]
 pub enum Intake {
     /// All that was pulled is taken: the next call may come.
     Ready,
@@ -31,26 +31,6 @@ pub enum Intake {
 
     /// The close mark was pulled: nothing more comes.
     Closed,
-}
-
-impl Intake {
-    /// How it stands after calls were begun like this.
-    fn after(begun: Begun) -> Intake
-        ensures { result ≡ intake_after begun }
-    {
-        match begun {
-            Begun::Taken => Intake::Ready,
-            Begun::Again(count) => Intake::Waiting(count),
-            Begun::Spent(count) => Intake::Spent(count),
-        }
-    }
-
-    /// Whether what was pulled waits for memory, to be begun again.
-    pub(crate) fn awaits_memory(&self) -> bool
-        ensures { result ≡ turns.awaits_memory self.now }
-    {
-        matches!(self, Intake::Waiting(_))
-    }
 }
 
 /// Begins what waits once more, if something does. `AllocError`: the trace had no room, and nothing was done.
@@ -68,7 +48,7 @@ fn retry<M: Memory>(memory: &M, kept: &mut Kept, intake: &mut Intake) -> Result<
 {
     if let Intake::Waiting(count) = *intake {
         kept.reserve(memory, 4 * count as usize)?;
-        *intake = Intake::after(begin_calls(memory, kept, count));
+        *intake = begin_calls(memory, kept, count);
     }
     Ok(())
 }
@@ -101,7 +81,7 @@ fn take_pulled<M: Memory>(
     match pulled {
         Pulled::Call => {
             publish_items(kept, items);
-            *intake = Intake::after(begin_calls(memory, kept, items.len() as u32));
+            *intake = begin_calls(memory, kept, items.len() as u32);
             items.len() as u64
         }
         Pulled::Close => {
@@ -111,43 +91,6 @@ fn take_pulled<M: Memory>(
         }
         Pulled::Nothing => 0,
     }
-}
-
-/// Pulls one call, or the close mark, or nothing: publishes the call and begins what takes it, or closes the ring. Returns how many items it pulled. `AllocError`: the trace had no room, and nothing was done.
-fn pull_call<M: Memory, P: KernelPort>(
-    memory: &M,
-    kept: &mut Kept,
-    port: &mut P,
-    items: &mut Vec<Item>,
-    intake: &mut Intake,
-) -> Result<u64, AllocError>
-    requires sizes { (P.sizes port.old).sq ≡ kept.old.setup.sq }
-    requires items { kept.old.setup.sq ≤ vec_capacity items.old }
-    requires tied { Tied kept.old.setup (now kept.old) (P.pulled port.old) intake.old }
-    requires ready { intake.old ≡ Ready }
-    ensures tied { Tied kept.old.setup (now kept.new) (P.pulled port.new) intake.new }
-    ensures completions { (now kept.new).completions ≡ (now kept.old).completions }
-    ensures taken { IfOk result (λ n. TakesIn kept.old kept.new n) }
-    ensures err { OnErr result (TakesIn kept.old kept.new 0) }
-    ensures row { (steps : List Step)
-        × IsPulled kept.old.setup (P.pulled port.old) (P.pulled port.new) steps
-        × Records kept.old kept.new steps }
-    ensures once { ClosesOnce kept.old intake.old → ClosesOnce kept.new intake.new }
-    ensures most { IfOk result
-        (λ n. PullsMost intake.new n (P.saw_calls port.old) (P.saw_calls port.new)) }
-    ensures items { vec_capacity items.old ≤ vec_capacity items.new }
-    ensures pairing { P.pairing port.new ≡ P.pairing port.old }
-    ensures sizes { P.sizes port.new ≡ P.sizes port.old }
-    ensures delivered { P.delivered port.new ≡ P.delivered port.old }
-    ensures room_looks { P.room_looks port.new ≡ P.room_looks port.old }
-    ensures dropped { P.dropped port.new ≡ P.dropped port.old }
-    ensures granted { ((n : ℕ) → M.grants memory.now n) → IsOk result }
-    ensures begun { ((n : ℕ) → M.grants memory.now n) → turns.awaits_memory intake.new ≡ false }
-{
-    let size = kept.setup().sq();
-    kept.reserve(memory, 6 * size as usize + 1)?;
-    let pulled = port.pull(items);
-    Ok(take_pulled(memory, kept, items, intake, pulled))
 }
 
 /// Begins what waits once more, if something does, and pulls one call or the close mark, if nothing waits then. Returns how many items it pulled; they replace what `items` held.
@@ -189,7 +132,11 @@ pub fn take_in<M: Memory, P: KernelPort>(
 {
     retry(memory, kept, intake)?;
     match *intake {
-        Intake::Ready => pull_call(memory, kept, port, items, intake),
-        _ => Ok(0),
+        Intake::Ready => {}
+        _ => return Ok(0),
     }
+    let size = kept.setup().sq();
+    kept.reserve(memory, 6 * size as usize + 1)?;
+    let pulled = port.pull(items);
+    Ok(take_pulled(memory, kept, items, intake, pulled))
 }

@@ -1,37 +1,32 @@
 //! The dispatcher's end.
-ghost use Rattle.std.specs.Prelude.{◌≡◌, ℕ, ◌↔◌, ◌+◌, ◌*◌, ◌<◌, ◌≤◌, [], length, false, IsTrue, IsOk, IfOk, IfErr, OnOk, vec_capacity};
+ghost use Rattle.std.specs.Prelude.{◌≡◌, ℕ, ◌↔◌, ◌+◌, ◌*◌, ◌≤◌, [], length, false, IsTrue, IsOk, IfOk, OnOk, vec_capacity};
 ghost use Rattle.uring_entry.specs.Completions.{unreaped};
 ghost use Rattle.uring_entry.specs.Setup.{IsWithinLimits};
 ghost use Rattle.uring_core.specs.Histories.{IsLawfulApart, history_of};
-ghost use Rattle.uring_ports.specs.Dropped.{WereStored};
-ghost use Rattle.uring_ports.specs.Items.{AreItems};
-ghost use Rattle.uring_ports.specs.Ports.{nothing_put, sizes_of, items_of_calls, LeavesItems, LeavesCompletions};
-ghost use Rattle.uring_workers.specs.WorkLanes.{AreSameLanes, HaveCarriedNone, HoldJobs, HoldResults, numbers_of_lanes};
+ghost use Rattle.uring_workers.specs.WorkLanes.{AreSameLanes, numbers_of_lanes};
 ghost use Rattle.uring_threads.specs.Kept.{now};
 ghost use Rattle.uring_threads.specs.Served.{HasTurned};
-ghost use Rattle.uring_threads.specs.declared.intake.Intake.TheVariants.{Ready};
 
 use crate::intake::Intake;
 use crate::kept::Kept;
-use crate::report::room_to_settle;
 use crate::turns::{Turn, make_turn};
 use std::alloc::{AllocError, Global};
 use std::marker::Model;
 use uring_entry::Cqe;
 use uring_memory::Memory;
-use uring_ports::{AppEnd, Item, KernelPort, Rests};
+use uring_ports::{Item, KernelPort};
 use uring_workers::{LANE_LENGTH, WorkLanes};
 
 /// The dispatcher's end over a port: it takes in what the application submits, sends jobs to workers and takes in their results, delivers completions, and records each step of this as its trace. It may run in a thread of its own.
 #[derive(Drop)]
 pub struct Kernel<P: KernelPort> {
-    kept: Kept,
-    port: P,
-    intake: Intake,
+    pub(crate) kept: Kept,
+    pub(crate) port: P,
+    pub(crate) intake: Intake,
     // The lanes of worker 0 first.
-    lanes: Vec<WorkLanes>,
+    pub(crate) lanes: Vec<WorkLanes>,
     // The items of the call that was pulled last. There is room for those of a whole ring.
-    items: Vec<Item>,
+    pub(crate) items: Vec<Item>,
 }
 
 impl<P: KernelPort> Model for Kernel<P> {
@@ -52,31 +47,6 @@ impl<P: KernelPort> Model for Kernel<P> {
 impl<P: KernelPort> Kernel<P> {
     ghost use Rattle.uring_threads.specs.Kernel.{IsIdle, IsKernel};
     ghost use Rattle.uring_threads.specs.Report.{IsSameKernel};
-
-    /// The dispatcher's end over a fresh port and fresh lanes of 1 to 8 workers, worker 0's first, with an empty trace and room for the items of a whole ring.
-    #[tactic(auto, unfolding(crate::specs::Calls::calls_after))]
-    pub(crate) fn new(kept: Kept, port: P, items: Vec<Item>, lanes: Vec<WorkLanes>) -> Kernel<P>
-        requires trace { kept.trace ≡ [] }
-        requires sizes { P.sizes port ≡ sizes_of kept.setup }
-        requires pulled { P.pulled port ≡ nothing_put }
-        requires delivered { P.delivered port ≡ [] }
-        requires items { kept.setup.sq ≤ vec_capacity items }
-        requires some { 0 < length lanes.items }
-        requires few { length lanes.items ≤ 8 }
-        requires hold { HoldJobs lanes.items }
-        requires short { HoldResults lanes.items }
-        requires carried { HaveCarriedNone lanes.items }
-        ensures { result
-            ≡ record { kept = kept; intake = Ready; lanes = lanes.items; pairing = P.pairing port; sizes = sizes_of kept.setup; pulled = nothing_put; saw_calls = P.saw_calls port; reaped = []; free = P.free port; room_looks = P.room_looks port; dropped = P.dropped port } }
-    {
-        Kernel {
-            kept,
-            port,
-            intake: Intake::Ready,
-            lanes,
-            items,
-        }
-    }
 
     /// One turn: begins the call that waits once more, if one does, and pulls one call or the close mark; takes in at most 64 results of each worker; issues what can be issued while each worker's lane shows room; and delivers what is posted while the port shows room. Without such work it records nothing. A turn that returns Ok stores the dropped word last, if such a word lies between the ends.
     ///
@@ -120,7 +90,10 @@ impl<P: KernelPort> Kernel<P> {
         ensures { IsTrue result ↔ IsIdle (now self.now.kept) }
     {
         let counts = self.kept.counts();
-        self.intake == Intake::Closed && counts.outstanding == 0 && counts.posted == counts.reaped
+        match self.intake {
+            Intake::Closed => counts.outstanding == 0 && counts.posted == counts.reaped,
+            _ => false,
+        }
     }
 
     /// A law, and no code: at every moment the set-up is within the limits, the trace is lawful apart from what operations gave, no call of it stops, and it has all that went through this end's hands.
@@ -152,51 +125,9 @@ impl<P: KernelPort> Kernel<P> {
             → IsOk result }
     {
         let results = LANE_LENGTH * self.lanes.len();
-        room_to_settle(memory, alloc, &mut self.kept, results)
-    }
-
-    /// Ends both ports of the pair, and hands out the trace, the lanes, and what the ports still held.
-    ///
-    /// `Err` says that the system is out of memory, which is asked for first: both ends come back unchanged.
-    pub(crate) fn settle_ports<M: Memory>(
-        self,
-        memory: &M,
-        alloc: Global,
-        app: AppEnd<P::App>,
-    ) -> Result<(Kept, Vec<WorkLanes>, Rests), (AppEnd<P::App>, Kernel<P>)>
-        requires { self.pairing ≡ app.pairing }
-        ensures kept { IfOk result (λ left. left.0 ≡ self.kept) }
-        ensures lanes { IfOk result (λ left. left.1.items ≡ self.lanes) }
-        ensures items { IfOk result
-            (λ left. LeavesItems app.submitted self.pulled left.2.unsent.items) }
-        ensures completions { IfOk result
-            (λ left. LeavesCompletions self.reaped app.received left.2.undelivered.items) }
-        ensures dropped { OnOk result (WereStored self.dropped app.dropped) }
-        ensures submitted { OnOk result
-            (AreItems app.sizes.sq (items_of_calls app.submitted.calls)) }
-        ensures unchanged { IfErr result (λ ends. (ends.0 ≡ app) × (ends.1 ≡ self)) }
-        ensures granted { (n : ℕ) → M.grants memory.now n → self.sizes.sq ≤ n → app.sizes.cq ≤ n
-            → IsOk result }
-    {
-        let Kernel {
-            kept,
-            port,
-            intake,
-            lanes,
-            items,
-        } = self;
-        match app.settle_in(memory, alloc, port) {
-            Ok(rests) => Ok((kept, lanes, rests)),
-            Err((app, port)) => {
-                let kernel = Kernel {
-                    kept,
-                    port,
-                    intake,
-                    lanes,
-                    items,
-                };
-                Err((app, kernel))
-            }
-        }
+        self.kept.reserve(memory, results)?;
+        let counts = self.kept.counts();
+        let waiting = (counts.posted - counts.reaped) as usize;
+        memory.list(alloc, waiting.saturating_add(results))
     }
 }

@@ -25,7 +25,6 @@ mod opening;
 mod report;
 mod settle_ends;
 mod settle_work;
-mod worker_files;
 
 pub use events::Events;
 pub use kernel::Kernel;

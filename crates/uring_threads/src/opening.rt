@@ -6,6 +6,7 @@ ghost use Rattle.uring_words.specs.Completion.Layout.{element_count as cq_elemen
 ghost use Rattle.uring_words.specs.Submission.Layout.{element_count};
 ghost use Rattle.uring_workers.specs.Opened.{AreOpened};
 
+use crate::intake::Intake;
 use crate::kept::Kept;
 use crate::kernel::Kernel;
 use std::alloc::{AllocError, Global};
@@ -81,10 +82,24 @@ pub fn ends_in<M: LaneMemory, K: KernelPort, G: Gate>(
         → setup.now.sq ≤ n → setup.now.cq ≤ n → IsErrOf result LanesFault.NoMemory → ⊥ }
 {
     check_ends(setup, gates.len())?;
-    match open_inner(memory, alloc, setup, gates) {
-        Ok(inner) => Ok(join_ends(inner, app, kernel)),
-        Err(AllocError) => Err(LanesFault::NoMemory),
-    }
+    let Ok(inner) = open_inner(memory, alloc, setup, gates) else {
+        return Err(LanesFault::NoMemory);
+    };
+    let Inner {
+        kept,
+        items,
+        lanes,
+        workers,
+    } = inner;
+    let app = AppEnd::new(app, setup.sq());
+    let kernel = Kernel {
+        kept,
+        port: kernel,
+        intake: Intake::Ready,
+        lanes,
+        items,
+    };
+    Ok((app, kernel, workers))
 }
 
 /// The ends of this set-up over lanes: the application's, the dispatcher's, and those of the workers, one after each gate, in the gates' order. A worker is known by its place, from 0.
@@ -205,26 +220,6 @@ struct Inner<G: Gate> {
     workers: Vec<Worker<G>>,
 }
 
-/// An empty trace of this set-up, and an empty list with room for the items of a whole ring. Condition: its calls don't stop.
-fn open_trace<M: Memory>(
-    memory: &M,
-    alloc: Global,
-    setup: &Setup,
-) -> Result<(Kept, Vec<Item>), AllocError>
-    requires { setup.now.stops ≡ false }
-    ensures trace { IfOk result (λ r. r.0.trace ≡ []) }
-    ensures setup { IfOk result (λ r. r.0.setup ≡ setup.now) }
-    ensures items { IfOk result (λ r. setup.now.sq ≤ vec_capacity r.1) }
-    ensures granted { (n : ℕ) → M.grants memory.now n → setup.now.sq ≤ n → setup.now.cq ≤ n
-        → IsOk result }
-{
-    let items = memory.list(alloc, setup.sq() as usize)?;
-    let Ok(kept) = Kept::new(memory, alloc, setup) else {
-        return Err(AllocError);
-    };
-    Ok((kept, items))
-}
-
 /// What this set-up has beside its ports, with a worker after each gate. Conditions: its calls don't stop, and there are at most 8 gates.
 fn open_inner<M: LaneMemory, G: Gate>(
     memory: &M,
@@ -243,45 +238,13 @@ fn open_inner<M: LaneMemory, G: Gate>(
     ensures granted { (n : ℕ) → M.grants memory.now n → 64 ≤ n → setup.now.files ≤ n
         → setup.now.sq ≤ n → setup.now.cq ≤ n → IsOk result }
 {
+    let items = memory.list(alloc, setup.sq() as usize)?;
     let (lanes, workers) = open_all_in(memory, alloc, setup.files(), gates)?;
-    let Ok((kept, items)) = open_trace(memory, alloc, setup) else {
-        return Err(AllocError);
-    };
+    let kept = Kept::new(memory, alloc, setup)?;
     Ok(Inner {
         kept,
         items,
         lanes,
         workers,
     })
-}
-
-/// The ends over two fresh ports of one pair. Condition: there are 1 to 8 workers.
-fn join_ends<K: KernelPort, G: Gate>(
-    inner: Inner<G>,
-    app: K::App,
-    kernel: K,
-) -> (AppEnd<K::App>, Kernel<K>, Vec<Worker<G>>)
-    requires trace { inner.kept.trace ≡ [] }
-    requires items { inner.kept.setup.sq ≤ vec_capacity inner.items }
-    requires some { 0 < length inner.lanes.items }
-    requires few { length inner.lanes.items ≤ 8 }
-    requires opened { AreOpened inner.kept.setup.files inner.lanes.items inner.workers.items }
-    requires pairing { K.pairing kernel ≡ K.App.pairing app }
-    requires app { (K.App.sizes app ≡ sizes_of inner.kept.setup) × (K.App.put app ≡ nothing_put)
-        × (K.App.got app ≡ []) }
-    requires kernel { (K.sizes kernel ≡ sizes_of inner.kept.setup) × (K.pulled kernel ≡ nothing_put)
-        × (K.delivered kernel ≡ []) }
-    ensures ends { AreEnds inner.kept.setup (length inner.lanes.items)
-        (K.pairing kernel) result.0 result.1 result.2.items }
-    ensures dropped { (result.0.dropped ≡ K.App.dropped app)
-        × (result.1.dropped ≡ K.dropped kernel) }
-{
-    let Inner {
-        kept,
-        items,
-        lanes,
-        workers,
-    } = inner;
-    let app = AppEnd::new(app, kept.setup().sq());
-    (app, Kernel::new(kept, kernel, items, lanes), workers)
 }

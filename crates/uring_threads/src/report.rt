@@ -1,5 +1,5 @@
 //! What is left once all ends of a set-up are settled.
-ghost use Rattle.std.specs.Prelude.{◌≡◌, ℕ, ◌+◌, ◌*◌, ◌<◌, ◌≤◌, ◌++◌, [], length, IsOk, IfOk, OnOk, vec_capacity};
+ghost use Rattle.std.specs.Prelude.{◌≡◌, ◌+◌, ◌*◌, ◌<◌, ◌≤◌, ◌++◌, [], length, vec_capacity};
 ghost use Rattle.uring_entry.specs.Completions.{unreaped};
 ghost use Rattle.uring_entry.specs.Setup.{IsWithinLimits};
 ghost use Rattle.uring_files.specs.Operations.{state_of, byte_of};
@@ -7,22 +7,19 @@ ghost use Rattle.uring_core.specs.CalledFor.{IsLawful, files_of};
 ghost use Rattle.uring_core.specs.Core.{IsCounts};
 ghost use Rattle.uring_core.specs.Histories.{history_of};
 ghost use Rattle.uring_threads.specs.Dispatched.{HaveCarried};
-ghost use Rattle.uring_threads.specs.Kept.{now, IsUnmoved};
+ghost use Rattle.uring_threads.specs.Kept.{now};
 ghost use Rattle.uring_threads.specs.Report.{left_by, FinishesAll, LeavesRunning, ReapsPosted};
 ghost use Rattle.uring_workers.specs.Opened.{AreLanesOf};
 
 use crate::events::Events;
 use crate::kept::Kept;
 use crate::settle_work::settle_workers;
-use crate::worker_files;
-use std::alloc::{AllocError, Global};
 use std::marker::Model;
 use uring_core::{Counts, Cqe, Setup};
 use uring_files::FileState;
 use uring_laws::reaped_begin_posted;
-use uring_memory::Memory;
 use uring_ports::{Item, Rests};
-use uring_workers::{Gate, WorkLanes, Worker};
+use uring_workers::{Gate, WorkLanes, Worker, place_of_file};
 
 /// What all ends of a set-up leave: the trace of all that happened, what of it is still on its way, and the files.
 #[derive(Drop)]
@@ -141,14 +138,20 @@ impl<G: Gate> Report<G> {
     pub fn state(&self, fd: i32) -> Option<FileState>
         ensures { result ≡ state_of (files_of self.now.setup (left_by self.now)) fd }
     {
-        worker_files::state(&self.workers, self.kept.setup().files(), fd)
+        let files = self.kept.setup().files();
+        let place = place_of_file(fd, self.workers.len() as u32, files) as usize;
+        self.workers[place].is_right();
+        self.workers[place].state(fd)
     }
 
     /// The byte at offset `at` of the file of a descriptor: `None` if there is no such file, or the offset isn't below its length.
     pub fn byte(&self, fd: i32, at: u64) -> Option<u8>
         ensures { result ≡ byte_of (files_of self.now.setup (left_by self.now)) fd at }
     {
-        worker_files::byte(&self.workers, self.kept.setup().files(), fd, at)
+        let files = self.kept.setup().files();
+        let place = place_of_file(fd, self.workers.len() as u32, files) as usize;
+        self.workers[place].is_right();
+        self.workers[place].byte(fd, at)
     }
 
     /// A law, and no code: the trace is lawful.
@@ -160,45 +163,6 @@ impl<G: Gate> Report<G> {
         // A body knows the invariant once it reads a field.
         let _workers = &self.workers;
     }
-}
-
-/// Makes room in the trace for so many results, and an empty list with room for all completions that may wait then. `AllocError`: the system is out of memory.
-pub(crate) fn room_to_settle<M: Memory>(
-    memory: &M,
-    alloc: Global,
-    kept: &mut Kept,
-    results: usize,
-) -> Result<Vec<Cqe>, AllocError>
-    ensures unmoved { IsUnmoved kept.old kept.new }
-    ensures room { OnOk result (length kept.old.trace + results ≤ kept.new.room) }
-    ensures empty { IfOk result (λ list. list.items ≡ []) }
-    ensures list { IfOk result
-        (λ list. length (unreaped (now kept.old).completions) + results ≤ vec_capacity list) }
-    ensures granted { (n : ℕ) → M.grants memory.now n → length kept.old.trace + results ≤ n
-        → length (unreaped (now kept.old).completions) + results ≤ n → IsOk result }
-{
-    kept.reserve(memory, results)?;
-    list_for_waiting(memory, alloc, kept, results)
-}
-
-/// An empty list with room for all completions that were posted and not reaped, and for so many more.
-fn list_for_waiting<M: Memory>(
-    memory: &M,
-    alloc: Global,
-    kept: &Kept,
-    more: usize,
-) -> Result<Vec<Cqe>, AllocError>
-    ensures empty { IfOk result (λ list. list.items ≡ []) }
-    ensures room { IfOk result
-        (λ list. length (unreaped (now kept.now).completions) + more ≤ vec_capacity list) }
-    ensures granted { (n : ℕ) → M.grants memory.now n
-        → length (unreaped (now kept.now).completions) + more ≤ n → IsOk result }
-{
-    let counts = kept.counts();
-    memory.list(
-        alloc,
-        ((counts.posted - counts.reaped) as usize).saturating_add(more),
-    )
 }
 
 /// Lists all completions that were posted and not reaped. Conditions: the list is empty, and has room for them.

@@ -96,11 +96,24 @@ pub fn settle_in<M: Memory, K: KernelPort, G: Gate>(
         });
     };
     kernel.is_right();
-    match kernel.settle_ports(memory, alloc, app) {
-        Ok((kept, lanes, rests)) => Ok(Report::new(kept, lanes, workers, rests, waiting)),
-        Err((app, kernel)) => Err(NotSettled {
+    let Kernel {
+        kept,
+        port,
+        intake,
+        lanes,
+        items,
+    } = kernel;
+    match app.settle_in(memory, alloc, port) {
+        Ok(rests) => Ok(Report::new(kept, lanes, workers, rests, waiting)),
+        Err((app, port)) => Err(NotSettled {
             app,
-            kernel,
+            kernel: Kernel {
+                kept,
+                port,
+                intake,
+                lanes,
+                items,
+            },
             workers,
         }),
     }

@@ -1,11 +1,7 @@
 //! A turn of the dispatcher.
-ghost use Rattle.std.specs.Prelude.{◌≡◌, ℕ, ◌≤◌, false, IsOk, IfOk, OnOk, OnErr, vec_capacity};
-ghost use Rattle.uring_entry.specs.Submission.{dropped};
-ghost use Rattle.uring_ports.specs.Dropped.{with_word};
-ghost use Rattle.uring_threads.specs.Kept.{now};
+ghost use Rattle.std.specs.Prelude.{ℕ, ◌≤◌, vec_capacity};
 ghost use Rattle.uring_threads.specs.Kernel.{IsKernel};
 ghost use Rattle.uring_threads.specs.Served.{Turns};
-ghost use Rattle.uring_threads.specs.Turns.{awaits_memory};
 
 use crate::collect::collect_all;
 use crate::deliveries::deliver;
@@ -58,41 +54,14 @@ pub fn make_turn<M: Memory, P: KernelPort>(
     let finished = collect_all(memory, kept, lanes)?;
     let issued = issue_all(memory, kept, lanes)?;
     let delivered = deliver(memory, kept, port)?;
-    let turn = Turn {
+    if let Intake::Waiting(_) = *intake {
+        return Err(AllocError);
+    }
+    port.store_dropped(kept.dropped());
+    Ok(Turn {
         popped,
         issued,
         finished,
         delivered,
-    };
-    tell_dropped(kept, port, intake, turn)
-}
-
-/// Stores the dropped word and returns the turn, unless a call waits for memory.
-fn tell_dropped<P: KernelPort>(
-    kept: &Kept,
-    port: &mut P,
-    intake: &Intake,
-    turn: Turn,
-) -> Result<Turn, AllocError>
-    ensures turn { IfOk result (λ made. made ≡ turn) }
-    ensures begun { OnOk result (awaits_memory intake.now ≡ false) }
-    ensures ok { awaits_memory intake.now ≡ false → IsOk result }
-    ensures stored { OnOk result
-        (P.dropped port.new ≡ with_word (P.dropped port.old) (dropped (now kept.now).submission)) }
-    ensures not_stored { OnErr result (P.dropped port.new ≡ P.dropped port.old) }
-
-    // Nothing else of the port changes.
-    ensures pairing { P.pairing port.new ≡ P.pairing port.old }
-    ensures sizes { P.sizes port.new ≡ P.sizes port.old }
-    ensures pulled { P.pulled port.new ≡ P.pulled port.old }
-    ensures delivered { P.delivered port.new ≡ P.delivered port.old }
-    ensures free { P.free port.new ≡ P.free port.old }
-    ensures calls { P.saw_calls port.new ≡ P.saw_calls port.old }
-    ensures room_looks { P.room_looks port.new ≡ P.room_looks port.old }
-{
-    if intake.awaits_memory() {
-        return Err(AllocError);
-    }
-    port.store_dropped(kept.dropped());
-    Ok(turn)
+    })
 }

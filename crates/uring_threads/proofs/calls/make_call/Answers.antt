@@ -1,4 +1,4 @@
-use Rattle.std.proofs.Common.{◌≡◌, ◌+◌, ◌∷◌, [], drop, refl, ap, ◌∙◌, sym, subst, arith}
+use Rattle.std.proofs.Common.{◌≡◌, ℕ, ◌+◌, ◌∷◌, [], drop, refl, ap, ◌∙◌, sym, subst, arith}
 use Rattle.uring_entry.specs.Setup.{Setup}
 use Rattle.uring_entry.specs.Submission.{taken}
 use Rattle.uring_laws.specs.Standing.{Stands, in_call}
@@ -6,11 +6,25 @@ use Rattle.uring_core.specs.World.{World, beginning}
 use Rattle.uring_core.specs.declared.step.Step.TheVariants as step
 use Rattle.uring_threads.specs.Calls.{calls_after, calls_left, ends_of}
 use Rattle.uring_threads.specs.Kept.{now}
+use Rattle.uring_threads.specs.declared.calls.CallMade.TheVariants as made
 use Rattle.uring_threads.specs.Tallies.{calls_counted}
 use Rattle.uring_threads.proofs.CallSteps.{begun_cases, begun_spent, opened_now, closed_now, opened_first, call_counts}
 use Rattle.uring_threads.proofs.Recording.{records_one, call_recorded}
 use Rattle.uring_threads.proofs.TraceSteps.{appends_one, grown, grown_length}
 use Rattle.uring_threads.proofs.calls.make_call.Goals as goal
+
+-- ways in which a call can go are told apart
+again_spent : made.Again ≡ made.Spent → ⊥
+again_spent same = cc
+
+taken_again : (n : ℕ) → made.Taken n ≡ made.Again → ⊥
+taken_again n same = cc
+
+taken_spent : (n : ℕ) → made.Taken n ≡ made.Spent → ⊥
+taken_spent n same = cc
+
+taken_same : (n m : ℕ) → made.Taken n ≡ made.Taken m → n ≡ m
+taken_same n m same = cc
 
 pub unreachable-requires : goal.unreachable-requires
 unreachable-requires g c =
@@ -24,8 +38,8 @@ returns-in-Again g c =
       first = subst (λ (w : World). Stands w.submission [] c.args.count) (sym is) c.requires.stands;
       tally = appends_one c.args.kept.now c.step_reserved_in.new.self (step.Begin c.args.count, c.step_reserved_in.result) (calls_counted 1) c.step_reserved_in.ensures.grows refl refl;
       row = records_one c.args.kept.now c.step_reserved_in.new.self (step.Begin c.args.count) c.step_reserved_in.result c.step_reserved_in.ensures.grows;
-      spent = λ same. absurd cc;
-      length = λ n same. absurd cc;
+      spent = λ same. absurd (again_spent same);
+      length = λ n same. absurd (taken_again n (sym same));
       granted = λ all same. c.step_reserved_in.ensures.granted all c.in-Again.is;
     }
 
@@ -38,8 +52,8 @@ returns-in-Spent g c =
       tally = appends_one c.args.kept.now c.step_reserved_in.new.self (step.Begin c.args.count, c.step_reserved_in.result) (calls_counted 1) c.step_reserved_in.ensures.grows refl refl;
       row = records_one c.args.kept.now c.step_reserved_in.new.self (step.Begin c.args.count) c.step_reserved_in.result c.step_reserved_in.ensures.grows;
       spent = λ same. begun_spent c.args.kept.now c.args.count c.step_reserved_in.result c.requires.stands c.requires.not_closed c.step_reserved_in.ensures.called c.in-Spent.is;
-      length = λ n same. absurd cc;
-      granted = λ all same. absurd cc;
+      length = λ n same. absurd (taken_spent n (sym same));
+      granted = λ all same. absurd (again_spent (sym same));
     }
 
 pub take_positions-taken-requires-clause-in_call : goal.take_positions-taken-requires-clause-in_call
@@ -64,7 +78,7 @@ returns g c =
           (subst (λ (s : Setup). calls_left s (now o).submission ≡ n ∷ calls_after (ends_of s (drop (taken (now o).submission + n) (now o).submission.published)) 0) begin.setup took.call) is;
       tally = call_counts c.args.kept.now o t c.step_reserved.new.self c.step_reserved-2.new.self c.args.count c.step_reserved_in.result c.step_reserved.result c.step_reserved-2.result begin took.tally end load;
       row = call_recorded c.args.kept.now o t c.step_reserved.new.self c.step_reserved-2.new.self c.args.count n c.step_reserved_in.result c.step_reserved.result c.step_reserved-2.result begin took.row end load;
-      spent = λ same. absurd cc;
-      length = λ m same. let is_m : n ≡ m = cc in omega (arith, grown_length c.args.kept.now o _ begin, took.length, grown_length t c.step_reserved.new.self _ end, grown_length c.step_reserved.new.self c.step_reserved-2.new.self _ load);
-      granted = λ all same. absurd cc;
+      spent = λ same. absurd (taken_spent n same);
+      length = λ m same. let is_m = taken_same n m same in omega (arith, grown_length c.args.kept.now o _ begin, took.length, grown_length t c.step_reserved.new.self _ end, grown_length c.step_reserved.new.self c.step_reserved-2.new.self _ load);
+      granted = λ all same. absurd (taken_again n same);
     }

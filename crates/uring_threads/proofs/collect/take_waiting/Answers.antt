@@ -1,23 +1,36 @@
-use Rattle.std.proofs.Common.{rules, ◌≡◌, [], ◌++◌, arith}
+use Rattle.std.proofs.Common.{rules, ◌≡◌, [], ◌∷◌, ◌++◌, subst, arith}
 use Rattle.uring_workers.specs.WorkLanes.{results_received, results_seen}
-use Rattle.uring_threads.specs.Collected.{TakesAll}
+use Rattle.uring_workers.specs.declared.work_lanes.WorkLanes.{WorkLanes}
+use Rattle.uring_threads.specs.Collected.{TakesAll, Wait}
+use Rattle.uring_threads.proofs.Collecting.{first_waits, next_waits, takes_in}
 use Rattle.uring_threads.proofs.SettledWorkers.{drains_none, drains_one, room_left, drained}
 use Rattle.uring_threads.proofs.collect.take_waiting.Goals as goal
 
 pub loop-taken-init : goal.loop-taken-init
 loop-taken-init c = (search rules, drains_none c.args.kept.now (results_seen c.args.lanes.now) (results_received c.args.lanes.now) c.requires.work)
 
-pub take_known-requires : goal.take_known-requires
-take_known-requires c =
-    let left = room_left c.args.kept.now c.loop-taken.kept (results_seen c.args.lanes.now) (results_seen c.loop-taken.lanes) (results_received c.args.lanes.now) (results_received c.loop-taken.lanes) c.loop-taken._taken c.loop-taken.invariant.1 c.requires.room (search (rules, arith)) in
-    record { room = left.0; some = left.1; work = c.loop-taken.invariant.1.left }
+pub pop_known-result-requires : goal.pop_known-result-requires
+pop_known-result-requires c =
+    (room_left c.args.kept.now c.loop-taken.kept (results_seen c.args.lanes.now) (results_seen c.loop-taken.lanes) (results_received c.args.lanes.now) (results_received c.loop-taken.lanes) c.loop-taken._taken c.loop-taken.invariant.1 c.requires.room (search (rules, arith))).1
+
+pub finish-requires : goal.finish-requires
+finish-requires c = record {
+  room =
+      (room_left c.args.kept.now c.loop-taken.kept (results_seen c.args.lanes.now) (results_seen c.loop-taken.lanes) (results_received c.args.lanes.now) (results_received c.loop-taken.lanes) c.loop-taken._taken c.loop-taken.invariant.1 c.requires.room (search (rules, arith))).0;
+}
 
 pub loop-taken-preserved : goal.loop-taken-preserved
-loop-taken-preserved c = (
-  search rules,
-  drains_one c.args.kept.now c.loop-taken.kept c.take_known.new.kept (results_seen c.args.lanes.now) (results_seen c.loop-taken.lanes) (results_seen c.take_known.new.lanes) (results_received c.args.lanes.now) (results_received c.loop-taken.lanes) (results_received c.take_known.new.lanes) c.loop-taken._taken
-      c.loop-taken.invariant.1 c.take_known.ensures.next c.take_known.ensures.work,
-)
+loop-taken-preserved c =
+    let result = c.pop_known-result.result in
+    let received = c.pop_known-result.ensures.received in
+    let later : WorkLanes = record c.loop-taken.lanes { results = c.pop_known-result.new.self } in
+    let work : Wait c.loop-taken.kept (result ∷ results_seen later) = subst (Wait c.loop-taken.kept) received.1 c.loop-taken.invariant.1.left in
+    let waits = first_waits c.loop-taken.kept result (results_seen later) c.is_lawful.ensures.lawful work in
+    let grows = takes_in c.loop-taken.kept c.finish.new.self result c.finish.result waits.runs c.finish.ensures.outcome c.finish.ensures.grows in (
+      search rules,
+      drains_one c.args.kept.now c.loop-taken.kept c.finish.new.self (results_seen c.args.lanes.now) (results_seen c.loop-taken.lanes) (results_seen later) (results_received c.args.lanes.now) (results_received c.loop-taken.lanes) (results_received later) c.loop-taken._taken
+          c.loop-taken.invariant.1 (result, received.1, received.0, grows) (next_waits c.loop-taken.kept c.finish.new.self result (results_seen later) c.is_lawful.ensures.lawful work grows),
+    )
 
 all_taken : (c : goal.After-loop-taken)
     → TakesAll c.args.kept.now c.loop-taken.kept (results_seen c.args.lanes.now)

@@ -31,7 +31,6 @@ pub returns-in_ok-reserve : goal.returns-in_ok-reserve
 returns-in_ok-reserve g c =
     record {
       tied = λ put tied.
-          subst (Tied c.args.kept.now.setup (now c.begin_calls.new.kept) put) (sym c.after.ensures)
           (tied_again c.args.kept.now c.reserve.new.self c.begin_calls.new.kept put c.in-Waiting.count c.args.intake.now c.begin_calls.result c.reserve.ensures.unmoved c.in-Waiting.is c.begin_calls.ensures.begun tied);
       completions = completions_after c.args.kept.now c.reserve.new.self c.begin_calls.new.kept c.reserve.ensures.unmoved (begun_completions c.reserve.new.self c.begin_calls.new.kept c.begin_calls.result c.begin_calls.ensures.begun);
       taken = takes_after c.args.kept.now c.reserve.new.self c.begin_calls.new.kept 0 c.reserve.ensures.unmoved (takes_calls c.reserve.new.self c.begin_calls.new.kept c.begin_calls.ensures.begun.made _ c.begin_calls.ensures.begun.have);
@@ -39,11 +38,10 @@ returns-in_ok-reserve g c =
           let row = row_begun c.args.kept.now c.reserve.new.self c.begin_calls.new.kept c.begin_calls.result c.reserve.ensures.unmoved c.begin_calls.ensures.begun in
           (row.0, subst (λ i. IsAgain c.args.kept.now.setup (now c.args.kept.now).submission i row.0) (sym c.in-Waiting.is) (inr row.1), row.2);
       once = λ once.
-          subst (ClosesOnce c.begin_calls.new.kept) (sym c.after.ensures)
           (once_begun c.args.kept.now c.begin_calls.new.kept _ c.args.intake.now c.begin_calls.result
-          (appends_after c.args.kept.now c.reserve.new.self c.begin_calls.new.kept _ c.reserve.ensures.unmoved c.begin_calls.ensures.begun.have.appends) refl (λ o. subst (ClosesOnce c.args.kept.now) c.in-Waiting.is o) once);
+          (appends_after c.args.kept.now c.reserve.new.self c.begin_calls.new.kept _ c.reserve.ensures.unmoved c.begin_calls.ensures.begun.have.appends) refl c.begin_calls.ensures.begun.not_shut (λ o. subst (ClosesOnce c.args.kept.now) c.in-Waiting.is o) once);
       granted = λ all. refl;
-      begun = λ all. ap awaits_memory c.after.ensures ∙ c.begin_calls.ensures.granted all;
+      begun = λ all. c.begin_calls.ensures.granted all;
     }
 
 pub returns-in_default : goal.returns-in_default

@@ -31,7 +31,6 @@ returns-in-Call g c =
     let pulled = subst (λ v. Pulls c.args.kept.now.setup.sq c.requires.tied.0 v c.args.items.now c.requires.tied.1) c.in-Call.is c.requires.tied.3 in
     record {
       tied = λ before after tied pulled.
-          subst (Tied c.args.kept.now.setup (now c.begin_calls.new.kept) after) (sym c.after.ensures)
           (tied_taken c.args.kept.now c.publish_items.new.kept c.begin_calls.new.kept before after c.args.items.now c.args.intake.now c.begin_calls.result c.requires.ready c.publish_items.ensures.tally.setup c.publish_items.ensures.world c.begin_calls.ensures.begun tied
           (subst (λ v. Pulls c.args.kept.now.setup.sq before v c.args.items.now after) c.in-Call.is pulled));
       completions = begun_completions c.publish_items.new.kept c.begin_calls.new.kept c.begin_calls.result c.begin_calls.ensures.begun ∙ ap (λ (w : World). w.completions) c.publish_items.ensures.world;
@@ -45,10 +44,9 @@ returns-in-Call g c =
           (row.0, subst (λ p. IsTaken c.args.kept.now.setup p c.args.items.now row.0) (sym c.in-Call.is) row.1, row.2);
       once = λ once.
           let published = once_stays c.args.kept.now c.publish_items.new.kept _ c.args.intake.now c.publish_items.ensures.tally refl once in
-          subst (ClosesOnce c.begin_calls.new.kept) (sym c.after.ensures)
-          (once_begun c.publish_items.new.kept c.begin_calls.new.kept _ c.args.intake.now c.begin_calls.result c.begin_calls.ensures.begun.have.appends refl (λ o. subst (ClosesOnce c.publish_items.new.kept) c.requires.ready o) published);
+          (once_begun c.publish_items.new.kept c.begin_calls.new.kept _ c.args.intake.now c.begin_calls.result c.begin_calls.ensures.begun.have.appends refl c.begin_calls.ensures.begun.not_shut (λ o. subst (ClosesOnce c.publish_items.new.kept) c.requires.ready o) published);
       none = λ none ready. absurd (omega (arith, none, pulled.0));
-      begun = λ all. ap awaits_memory c.after.ensures ∙ c.begin_calls.ensures.granted all;
+      begun = λ all. c.begin_calls.ensures.granted all;
     }
 
 pub returns-in-Close : goal.returns-in-Close

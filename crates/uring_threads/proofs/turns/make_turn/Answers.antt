@@ -1,5 +1,6 @@
 use Rattle.std.proofs.Common.{◌≡◌, ℕ, subst, sym, refl, ap, ◌∙◌, length, arith}
-use Rattle.std.specs.Prelude.{◌⊎◌, None, OnErr, Err}
+use Rattle.std.specs.Prelude.{◌⊎◌, None, Result, Ok, Err}
+use Rattle.std.specs.declared.alloc.AllocError.{AllocError}
 use Rattle.std.proofs.lemmas.Result.{IfOk-from_err}
 use Rattle.uring_entry.specs.Setup.{Setup}
 use Rattle.uring_entry.specs.Submission.{dropped}
@@ -12,7 +13,10 @@ use Rattle.uring_threads.specs.Kernel.{Kernel}
 use Rattle.uring_threads.specs.Served.{DeliversMost, HasServed, PullsMost}
 use Rattle.uring_threads.specs.Taking.{TakesIn}
 use Rattle.uring_threads.specs.Turns.{IsDelivered}
-use Rattle.uring_threads.proofs.Turning.{HasDelivered, HasTaken, delivers_none, goes, goes_collected, goes_issued, goes_taken, has_taken, refused, same_next, turned, with_ok}
+use Rattle.uring_threads.proofs.Turning.{HasDelivered, HasTaken, delivers_none, goes, goes_collected, goes_issued, goes_taken, has_taken, refused, same_next, turned}
+use Rattle.uring_threads.proofs.Tying.{waits_not}
+use Rattle.uring_threads.specs.Turns.{awaits_memory}
+use Rattle.uring_threads.specs.declared.turns.Turn.{Turn}
 use Rattle.uring_threads.proofs.turns.make_turn.Given.{Over}
 use Rattle.uring_threads.proofs.turns.make_turn.Goals.{After-take_in}
 use Rattle.uring_threads.proofs.turns.make_turn.Goals as goal
@@ -60,20 +64,37 @@ returns-in_err-delivered-clause-turned g c =
     let u = goes (taken g (goal.at.returns-in_err-delivered-clause-turned g c).After-take_in _ _ c.deliver.ensures.pulled c.in_ok-popped.ensures.taken) c.in_ok-finished.ensures.ok c.collect_all.ensures.few c.collect_all.ensures.carried c.collect_all.ensures.lanes c.in_ok-issued.ensures.ok c.issue_all.ensures.carried c.issue_all.ensures.lanes (delivers_none c.in_err-delivered.ensures.err c.deliver.ensures.keeps c.deliver.ensures.delivered) (IfOk-from_err c.from_residual-in_err-delivered.result _ c.from_residual-in_err-delivered.ensures.0) in
     refused _ (first g (goal.at.returns-in_err-delivered-clause-turned g c).After-take_in) _ _ c.from_residual-in_err-delivered.result c.from_residual-in_err-delivered.ensures.0 c.requires.is u (c.deliver.ensures.pairing ∙ c.take_in.ensures.pairing) (c.deliver.ensures.sizes ∙ c.take_in.ensures.sizes) (c.deliver.ensures.dropped ∙ c.take_in.ensures.dropped) c.in_err-delivered.ensures.granted
 
+pub returns-in-Waiting-clause-turned : goal.returns-in-Waiting-clause-turned
+returns-in-Waiting-clause-turned g c =
+    let began = (goal.at.returns-in-Waiting-clause-turned g c).After-take_in in
+    let t = taken g began _ _ c.deliver.ensures.pulled c.in_ok-popped.ensures.taken in
+    let d : HasDelivered c.issue_all.new.kept c.deliver.new.kept c.in_ok-delivered.delivered (g.P.KernelPort.delivered c.deliver.new.port) = record { tally = c.in_ok-delivered.ensures.tally; row = c.in_ok-delivered.ensures.row; idle = λ none. (c.in_ok-delivered.ensures.idle none).trace; keeps = c.deliver.ensures.keeps; delivered = c.deliver.ensures.delivered } in
+    let refusal : Result Turn AllocError = Err (record {}) in
+    let u = goes {answer = refusal} t c.in_ok-finished.ensures.ok c.collect_all.ensures.few c.collect_all.ensures.carried c.collect_all.ensures.lanes c.in_ok-issued.ensures.ok c.issue_all.ensures.carried c.issue_all.ensures.lanes d tt in
+    refused _ (first g began) _ _ refusal refl c.requires.is u (c.deliver.ensures.pairing ∙ c.take_in.ensures.pairing) (c.deliver.ensures.sizes ∙ c.take_in.ensures.sizes) (c.deliver.ensures.dropped ∙ c.take_in.ensures.dropped) (λ all. sym (c.take_in.ensures.begun all) ∙ ap awaits_memory c.in-Waiting.is)
+
 pub returns-clause-turned : goal.returns-clause-turned
 returns-clause-turned g c =
     let began = (goal.at.returns-clause-turned g c).After-take_in in
-    let told = c.tell_dropped.ensures in
+    let told = c.store_dropped.ensures in
+    let port = c.store_dropped.new.self in
     let t = taken g began _ _ (told.pulled ∙ c.deliver.ensures.pulled) c.in_ok-popped.ensures.taken in
-    let d : HasDelivered c.issue_all.new.kept c.deliver.new.kept c.in_ok-delivered.delivered (g.P.KernelPort.delivered c.tell_dropped.new.port) = record { tally = c.in_ok-delivered.ensures.tally; row = c.in_ok-delivered.ensures.row; idle = λ none. (c.in_ok-delivered.ensures.idle none).trace; keeps = c.deliver.ensures.keeps; delivered = subst (IsDelivered (now c.deliver.new.kept).completions) (sym told.delivered) c.deliver.ensures.delivered } in
-    let u = goes t c.in_ok-finished.ensures.ok c.collect_all.ensures.few c.collect_all.ensures.carried c.collect_all.ensures.lanes c.in_ok-issued.ensures.ok c.issue_all.ensures.carried c.issue_all.ensures.lanes d told.turn in
+    let d : HasDelivered c.issue_all.new.kept c.deliver.new.kept c.in_ok-delivered.delivered (g.P.KernelPort.delivered port) = record { tally = c.in_ok-delivered.ensures.tally; row = c.in_ok-delivered.ensures.row; idle = λ none. (c.in_ok-delivered.ensures.idle none).trace; keeps = c.deliver.ensures.keeps; delivered = subst (IsDelivered (now c.deliver.new.kept).completions) (sym told.delivered) c.deliver.ensures.delivered } in
+    let turn : Turn = record { popped = c.in_ok-popped.popped; issued = c.in_ok-issued.issued; finished = c.in_ok-finished.finished; delivered = c.in_ok-delivered.delivered } in
+    let u = goes {E = AllocError} {answer = Ok turn} t c.in_ok-finished.ensures.ok c.collect_all.ensures.few c.collect_all.ensures.carried c.collect_all.ensures.lanes c.in_ok-issued.ensures.ok c.issue_all.ensures.carried c.issue_all.ensures.lanes d refl in
     let cq : c.issue_all.new.kept.setup.cq ≡ c.args.kept.now.setup.cq = ap (λ (s : Setup). s.cq) (sym c.in_ok-delivered.ensures.tally.setup ∙ u.counts.appends.setup) in
     let posted = ap length c.deliver.ensures.keeps.posted in
     let old : Kernel = first g began in
-    let new : Kernel = record { kept = c.deliver.new.kept; intake = c.take_in.new.intake; lanes = c.issue_all.new.lanes; pairing = g.P.KernelPort.pairing c.tell_dropped.new.port; sizes = g.P.KernelPort.sizes c.tell_dropped.new.port; pulled = g.P.KernelPort.pulled c.tell_dropped.new.port; saw_calls = g.P.KernelPort.saw_calls c.tell_dropped.new.port; reaped = g.P.KernelPort.delivered c.tell_dropped.new.port; free = g.P.KernelPort.free c.tell_dropped.new.port; room_looks = g.P.KernelPort.room_looks c.tell_dropped.new.port; dropped = g.P.KernelPort.dropped c.tell_dropped.new.port } in
-    let dropped_before = c.deliver.ensures.dropped ∙ c.take_in.ensures.dropped in
-    turned _ old new _ c.tell_dropped.result c.requires.is u (told.pairing ∙ c.deliver.ensures.pairing ∙ c.take_in.ensures.pairing) (told.sizes ∙ c.deliver.ensures.sizes ∙ c.take_in.ensures.sizes)
-    (with_ok c.tell_dropped.result _ (HasServed old new) _ _
-    (λ made same begun stored. subst (HasServed old new) (sym same) (record { counts = u.counts; begun = begun; pulls = subst (PullsMost c.take_in.new.intake c.in_ok-popped.popped (g.P.KernelPort.saw_calls c.args.port.now)) (sym (told.calls ∙ c.deliver.ensures.calls)) c.in_ok-popped.ensures.most; none_left = subst (λ n. (n ≡ None) ⊎ SomeIsFull c.issue_all.new.lanes) (sym (same_next c.issue_all.new.kept c.deliver.new.kept c.deliver.ensures.keeps c.in_ok-delivered.ensures.tally.setup)) c.in_ok-issued.ensures.none_left; all = λ few. ap length told.delivered ∙ c.in_ok-delivered.ensures.all (omega (arith, few, posted, cq)) ∙ sym posted; most = subst (λ q. DeliversMost (now c.deliver.new.kept).completions (g.P.KernelPort.free c.tell_dropped.new.port) q c.in_ok-delivered.delivered) cq (subst (λ f. DeliversMost (now c.deliver.new.kept).completions f c.issue_all.new.kept.setup.cq c.in_ok-delivered.delivered) (sym told.free) c.in_ok-delivered.ensures.most); looked = subst (λ a. HasLooked (g.P.KernelPort.room_looks c.args.port.now) a) (sym told.room_looks) (subst (λ b. HasLooked b (g.P.KernelPort.room_looks c.deliver.new.port)) c.take_in.ensures.room_looks c.deliver.ensures.looked); stored = stored ∙ ap (λ d. with_word d (dropped (now c.deliver.new.kept).submission)) dropped_before }))
-    told.turn told.begun told.stored)
-    (subst (λ d. OnErr c.tell_dropped.result (g.P.KernelPort.dropped c.tell_dropped.new.port ≡ d)) dropped_before told.not_stored) (λ all. told.ok (c.take_in.ensures.begun all))
+    let new : Kernel = record { kept = c.deliver.new.kept; intake = c.take_in.new.intake; lanes = c.issue_all.new.lanes; pairing = g.P.KernelPort.pairing port; sizes = g.P.KernelPort.sizes port; pulled = g.P.KernelPort.pulled port; saw_calls = g.P.KernelPort.saw_calls port; reaped = g.P.KernelPort.delivered port; free = g.P.KernelPort.free port; room_looks = g.P.KernelPort.room_looks port; dropped = g.P.KernelPort.dropped port } in
+    turned _ old new turn (Ok turn) c.requires.is u (told.pairing ∙ c.deliver.ensures.pairing ∙ c.take_in.ensures.pairing) (told.sizes ∙ c.deliver.ensures.sizes ∙ c.take_in.ensures.sizes)
+    (record {
+      counts = u.counts;
+      begun = waits_not c.take_in.new.intake c.in_default.not-Waiting;
+      pulls = subst (PullsMost c.take_in.new.intake c.in_ok-popped.popped (g.P.KernelPort.saw_calls c.args.port.now)) (sym (told.calls ∙ c.deliver.ensures.calls)) c.in_ok-popped.ensures.most;
+      none_left = subst (λ n. (n ≡ None) ⊎ SomeIsFull c.issue_all.new.lanes) (sym (same_next c.issue_all.new.kept c.deliver.new.kept c.deliver.ensures.keeps c.in_ok-delivered.ensures.tally.setup)) c.in_ok-issued.ensures.none_left;
+      all = λ few. ap length told.delivered ∙ c.in_ok-delivered.ensures.all (omega (arith, few, posted, cq)) ∙ sym posted;
+      most = subst (λ q. DeliversMost (now c.deliver.new.kept).completions (g.P.KernelPort.free port) q c.in_ok-delivered.delivered) cq (subst (λ f. DeliversMost (now c.deliver.new.kept).completions f c.issue_all.new.kept.setup.cq c.in_ok-delivered.delivered) (sym told.free) c.in_ok-delivered.ensures.most);
+      looked = subst (λ a. HasLooked (g.P.KernelPort.room_looks c.args.port.now) a) (sym told.room_looks) (subst (λ b. HasLooked b (g.P.KernelPort.room_looks c.deliver.new.port)) c.take_in.ensures.room_looks c.deliver.ensures.looked);
+      stored = told.dropped ∙ ap (λ n. with_word (g.P.KernelPort.dropped c.deliver.new.port) n) c.dropped.ensures ∙ ap (λ d. with_word d (dropped (now c.deliver.new.kept).submission)) (c.deliver.ensures.dropped ∙ c.take_in.ensures.dropped);
+    })
+    tt (λ all. refl)

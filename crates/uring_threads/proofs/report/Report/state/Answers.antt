@@ -1,16 +1,26 @@
-use Rattle.std.proofs.Common.{sym, subst, ap, ◌∙◌, w32}
+use Rattle.std.proofs.Common.{◌≡◌, ◌<◌, length, get_or, refl, sym, subst, ap, ap₂, ◌∙◌, arith, w32}
 use Rattle.std.proofs.lemmas.Int.{to_z-of_z}
+use Rattle.uring_entry.specs.Setup.{Setup}
 use Rattle.uring_files.specs.Operations.{state_of}
 use Rattle.uring_core.specs.CalledFor.{files_of}
 use Rattle.uring_threads.specs.Kept.{now}
 use Rattle.uring_threads.specs.Report.{Report, left_by}
-use Rattle.uring_threads.specs.SettledWorker.{AreSettled}
+use Rattle.uring_workers.specs.Work.{place_of_file}
+use Rattle.uring_workers.specs.Worker.{Worker, IsRight}
+use Rattle.uring_threads.proofs.WorkerFiles.{file_at, state_same}
 use Rattle.uring_threads.proofs.report.Report.state.Goals as goal
 
 pub returns : goal.returns
 returns g c =
     let kept = c.self.inside.kept in
-    let told = c.state.ensures kept (sym (c.files.ensures.value ∙ ap (λ g. g.files) c.setup.ensures.value)) (subst (AreSettled kept) (sym c.deref.ensures.value) c.self.invariant.0) in
-    told
-    ∙ ap (λ fd. state_of (files_of kept.setup (now kept)) fd) (to_z-of_z w32 c.args.fd c.ranges.fd)
+    let workers = c.self.inside.workers.items in
+    let place = c.place_of_file-place.ensures in
+    let many : c.len.result ≡ length workers = omega (arith, c.len.ensures, c.self.inside.workers.ok.0) in
+    let files = c.files-files.ensures.value ∙ ap (λ (s : Setup). s.files) c.setup.ensures.value in
+    let here : c.place_of_file-place.result ≡ place_of_file (length workers) kept.setup.files c.args.fd = place.place ∙ ap (place_of_file c.len.result c.files-files.result) (to_z-of_z w32 c.args.fd c.ranges.fd) ∙ ap₂ (λ n m. place_of_file n m c.args.fd) many files in
+    let within : c.place_of_file-place.result < length workers = omega (arith, place.within, many) in
+    let own = file_at kept kept.setup.files workers c.args.fd c.place_of_file-place.result c.index.result.now c.index-2.result.now refl c.self.invariant.0 here within c.self.invariant.1 (subst IsRight c.index.ensures c.is_right.ensures) in
+    let told = rw (to_z-of_z w32 c.args.fd c.ranges.fd) at c.state.ensures in
+    told ∙ ap (λ (w : Worker). state_of w.files c.args.fd) c.index-2.ensures
+    ∙ sym (state_same c.args.fd (files_of kept.setup (now kept)) (get_or workers c.place_of_file-place.result c.index-2.result.now).files own)
     ∙ ap (λ (r : Report). state_of (files_of r.setup (left_by r)) c.args.fd) c.self.view_is
