@@ -37,7 +37,7 @@ pub(crate) struct Changes {
     // The requests whose completions were posted, in order.
     posters: Vec<u64>,
     // How many completions were put into the ring.
-    put: u64,
+    pub(crate) put: u64,
     counts: Counts,
     // The successful writes that aren't safe.
     writes: Vec<u64>,
@@ -61,11 +61,6 @@ impl Changes {
             },
             writes: Vec::new(alloc),
         }
-    }
-
-    /// How many completions were put into the ring.
-    pub(crate) fn put(&self) -> u64 {
-        self.put
     }
 
     /// Adds the requests that a call accepted.

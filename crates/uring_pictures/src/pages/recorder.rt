@@ -152,7 +152,7 @@ impl Recorder {
         ensures { ((n : ℕ) → M.grants memory.now n) → IsOk result }
     {
         self.submission.take_in(memory, step, answer)?;
-        let put = self.changes.put();
+        let put = self.changes.put;
         self.push_changes(memory, machine, step, answer)?;
         self.push_index(memory, step, answer)?;
         self.push_tail(memory, put)?;
@@ -195,8 +195,7 @@ impl Recorder {
         self.changes.text.clear();
         if matches!(step, Step::End) && answer.starts_with(b"taken ") {
             let call = self.submission.call();
-            self.changes
-                .accept(memory, self.submission.entries(), call)?;
+            self.changes.accept(memory, &self.submission.entries, call)?;
         }
         let look = Look {
             line: self.number,
@@ -232,7 +231,7 @@ impl Recorder {
     fn push_tail<M: TextMemory>(&mut self, memory: &M, put: u64) -> Result<(), AllocError>
         ensures { ((n : ℕ) → M.grants memory.now n) → IsOk result }
     {
-        let now = self.changes.put();
+        let now = self.changes.put;
         if now == put {
             return Ok(());
         }

@@ -17,7 +17,7 @@ pub(crate) struct Submission {
     // How many of them were taken.
     taken: usize,
     // The entries that the open call took.
-    entries: Vec<Sqe>,
+    pub(crate) entries: Vec<Sqe>,
     // How many calls were opened.
     calls: u64,
 }
@@ -62,11 +62,6 @@ impl Submission {
             _ => {}
         }
         Ok(())
-    }
-
-    /// The entries that the open call took.
-    pub(crate) fn entries(&self) -> &[Sqe] {
-        self.entries.as_slice()
     }
 
     /// The number of the open call, from 0.

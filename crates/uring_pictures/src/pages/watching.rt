@@ -105,10 +105,6 @@ pub(crate) fn write_form<M: TextMemory, W: Write>(
     let mut writes = Calls::new();
     match form {
         Form::Json => write_all(writer, text.as_bytes(), &mut writes),
-        Form::Page => {
-            viewer::write_head(writer, &mut writes)?;
-            write_all(writer, text.as_bytes(), &mut writes)?;
-            viewer::write_tail(writer, &mut writes)
-        }
+        Form::Page => viewer::write_page(writer, text, &mut writes),
     }
 }
