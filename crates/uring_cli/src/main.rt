@@ -32,8 +32,7 @@ use std::thread::Threads;
 use uring_check::{Ends, Verdict, check};
 use uring_litmus::Form as Shown;
 use uring_options::{Options, Setup, not_text, options};
-use uring_page::Form;
-use uring_pictures::{graph, timeline};
+use uring_pictures::{Form, graph, timeline};
 use uring_play::{play, play_shared};
 use uring_trace::{TraceFault, explain, trace};
 

@@ -7,7 +7,7 @@ use std::alloc::{AllocError, Global};
 use std::io::{ErrorKind, Read};
 use uring_check::{Ends, Said, Verdict, check, said_by};
 use uring_options::Setup;
-use uring_page::{Form, page, recorded_page};
+use uring_pictures::{Form, page, recorded_page};
 use uring_text::KeptLine;
 use uring_trace::TraceFault;
 

@@ -34,10 +34,11 @@ impl Accepted {
         ensures keeps { IfOk result (λ a. Keeps a []) }
         ensures granted { ((n : ℕ) → M.grants memory.now n) → IsOk result }
     {
+        let machine = Machine::new_in(memory, alloc, setup)?;
         let entries = Vec::new(alloc);
         let cuts = Vec::new(alloc);
         Ok(Accepted {
-            machine: Machine::new_in(memory, alloc, setup)?,
+            machine,
             entries,
             cuts,
         })

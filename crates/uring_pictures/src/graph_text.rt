@@ -1,7 +1,8 @@
 //! The graph of the outstanding requests, in Graphviz's language.
 
-ghost use Rattle.std.specs.Prelude.{◌≡◌, ◌++◌, ◌+◌, ◌-◌, ◌^◌, ◌<◌, ℕ, OnOk, IsOk, string_bytes, decimal};
+ghost use Rattle.std.specs.Prelude.{◌≡◌, ◌++◌, ◌+◌, ◌-◌, ◌^◌, ◌<◌, ℕ, OnOk, IsOk, codes, string_bytes, decimal};
 ghost use Rattle.uring_core.specs.Histories.{History};
+ghost use Rattle.uring_trace.specs.Reasons.{since_text};
 ghost use Rattle.uring_pictures.specs.Following.{Keeps, is_linux_at, linux_at, requests_at};
 ghost use Rattle.uring_pictures.specs.Graphs.{graph_of, nodes_below, arrows_below, first_of, is_chained, member_before, row_text, arrows_text, chain_arrow, drain_arrow};
 
@@ -168,11 +169,8 @@ fn push_chain_arrow<M: TextMemory>(
     let Some(before) = before else {
         return Ok(());
     };
-    push_named(memory, text, "  ", number)?;
-    push_named(memory, text, " -> ", before)?;
-    push_text(memory, text, " [label=\"")?;
-    push_since_in(memory, text, before, Since::SameGroup)?;
-    push_text(memory, text, "\"];\n")
+    let style = " [label=\"";
+    push_arrow(memory, text, number, before, style, Since::SameGroup)
 }
 
 /// Appends the arrow to the least request that it waits for, unless that is a member of its chain.
@@ -190,9 +188,27 @@ fn push_drain_arrow<M: TextMemory>(
     if matches!(since, Since::SameGroup) {
         return Ok(());
     }
+    let style = " [style=dashed, label=\"";
+    push_arrow(memory, text, number, least, style, since)
+}
+
+/// Appends an arrow of this style, with the reason why the other request is waited for.
+fn push_arrow<M: TextMemory>(
+    memory: &M,
+    text: &mut String,
+    number: u64,
+    other: u64,
+    style: &str,
+    since: Since,
+) -> Result<(), AllocError>
+    ensures line { OnOk result
+        (string_bytes text.new
+        ≡ string_bytes text.old ++ (codes "  " ++ decimal number ++ codes " -> " ++ decimal other ++ style.now ++ since_text other since ++ codes "\"];\n")) }
+    ensures granted { ((n : ℕ) → M.grants memory.now n) → IsOk result }
+{
     push_named(memory, text, "  ", number)?;
-    push_named(memory, text, " -> ", least)?;
-    push_text(memory, text, " [style=dashed, label=\"")?;
-    push_since_in(memory, text, least, since)?;
+    push_named(memory, text, " -> ", other)?;
+    push_text(memory, text, style)?;
+    push_since_in(memory, text, other, since)?;
     push_text(memory, text, "\"];\n")
 }

@@ -188,7 +188,7 @@ impl Moment {
 }
 
 /// The step that a line is, if it is one. A line of more than 300 bytes is none.
-fn step_of<M: Memory>(
+pub(crate) fn step_of<M: Memory>(
     memory: &M,
     alloc: Global,
     line: &KeptLine,

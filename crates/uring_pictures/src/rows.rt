@@ -2,15 +2,12 @@
 
 ghost use Rattle.std.specs.Prelude.{ℕ, IsOk};
 
+use crate::form_text::{Value, push_form};
 use crate::watching::{Told, Watcher};
-use itoa::Buffer;
 use std::alloc::{AllocError, Global};
 use uring_machine::{Counts, Machine, Why};
 use uring_memory::Memory;
 use uring_text::{TextMemory, push_text};
-
-/// How wide a column is, without the blank before it.
-const WIDTH: usize = 9;
 
 /// The lines of one request, each numbered from 1 on.
 #[derive(Clone, Copy)]
@@ -50,16 +47,7 @@ impl Timeline {
         }
     }
 
-    /// Notes what a line has changed, as the machine shows it, and begins the next. Here and below: if the memory grants whatever is asked for, there is no error.
-    fn pass_line<M: Memory>(&mut self, memory: &M, machine: &Machine) -> Result<(), AllocError>
-        ensures granted { ((n : ℕ) → M.grants memory.now n) → IsOk result }
-    {
-        self.look(memory, machine, self.line)?;
-        self.line = self.line.saturating_add(1);
-        Ok(())
-    }
-
-    /// Looks at the machine as this line has left it, and notes what has changed since the line before.
+    /// Looks at the machine as this line has left it, and notes what has changed since the line before. Here and below: if the memory grants whatever is asked for, there is no error.
     fn look<M: Memory>(
         &mut self,
         memory: &M,
@@ -185,22 +173,25 @@ impl Watcher for Timeline {
         Ok(())
     }
 
+    /// Notes what a line has changed, as the machine shows it, and begins the next.
     fn end_line<M: TextMemory>(
         &mut self,
         memory: &M,
         machine: &Machine,
         _told: Told<'_>,
     ) -> Result<(), AllocError> {
-        self.pass_line(memory, machine)
+        self.look(memory, machine, self.line)?;
+        self.line = self.line.saturating_add(1);
+        Ok(())
     }
 
     fn end_input<M: TextMemory>(
         &mut self,
         memory: &M,
         machine: &Machine,
-        _told: Told<'_>,
+        told: Told<'_>,
     ) -> Result<(), AllocError> {
-        self.pass_line(memory, machine)
+        self.end_line(memory, machine, told)
     }
 }
 
@@ -213,40 +204,13 @@ fn push_row<M: TextMemory>(
 ) -> Result<(), AllocError>
     ensures granted { ((n : ℕ) → M.grants memory.now n) → IsOk result }
 {
-    push_wide(memory, text, number)?;
-    push_cell(memory, text, Some(row.accepted))?;
-    push_cell(memory, text, row.started)?;
-    push_cell(memory, text, row.ended)?;
-    push_cell(memory, text, row.posted)?;
-    push_cell(memory, text, row.reaped)?;
-    push_text(memory, text, "\n")
-}
-
-/// Appends a line's number, or `-` for none, at the right end of its column.
-fn push_cell<M: TextMemory>(
-    memory: &M,
-    text: &mut String,
-    line: Option<u64>,
-) -> Result<(), AllocError>
-    ensures granted { ((n : ℕ) → M.grants memory.now n) → IsOk result }
-{
-    match line {
-        Some(line) => {
-            push_text(memory, text, " ")?;
-            push_wide(memory, text, line)
-        }
-        None => push_text(memory, text, "         -"),
-    }
-}
-
-/// Appends a number at the right end of its column.
-fn push_wide<M: TextMemory>(memory: &M, text: &mut String, number: u64) -> Result<(), AllocError>
-    ensures granted { ((n : ℕ) → M.grants memory.now n) → IsOk result }
-{
-    let mut buffer = Buffer::new();
-    let digits = buffer.format(number);
-    for _ in digits.len()..WIDTH {
-        push_text(memory, text, " ")?;
-    }
-    push_text(memory, text, digits)
+    let values = [
+        Value::Wide(Some(number)),
+        Value::Wide(Some(row.accepted)),
+        Value::Wide(row.started),
+        Value::Wide(row.ended),
+        Value::Wide(row.posted),
+        Value::Wide(row.reaped),
+    ];
+    push_form(memory, text, "@ @ @ @ @ @\n", &values)
 }

@@ -1,17 +1,14 @@
 //! The run of a trace of which a timeline is drawn.
 
-ghost use Rattle.std.specs.Prelude.{◌≢◌, ℕ, [], IfOk, Err};
-ghost use Rattle.uring_entry.specs.Setup.{Setup};
-ghost use Rattle.uring_trace.specs.Explaining.{HasTold};
+ghost use Rattle.std.specs.Prelude.{◌≢◌, ℕ, IfOk, Err};
 ghost use Rattle.uring_pictures.specs.Drawings.{Reads};
 
 use crate::rows::Timeline;
-use crate::watching::watch_all;
+use crate::watching::watch_trace;
 use std::alloc::Global;
 use std::io::{Read, Write};
 use uring_machine::Setup;
 use uring_text::{Calls, TextMemory, TraceFault, write_all};
-use uring_trace::Explainer;
 
 /// Reads the lines of an explanation from `reader`, makes their steps on a new machine of this set-up, and writes to `writer`, once the input has ended, a row for each request that was accepted: the numbers of the lines, from 1 on, at which it was accepted, started and ended, and at which its completion was posted and reaped, and `-` for what didn't happen. No answers are written. `Ok` tells whether a line was bad.
 ///
@@ -46,54 +43,25 @@ pub fn timeline_in<M: TextMemory, R: Read, W: Write, E: Write>(
         (λ bad. Reads setup.now bad (R.remaining reader.old) (R.remaining reader.new) (E.contents errors.old) (E.contents errors.new)) }
     ensures granted { ((n : ℕ) → M.grants memory.now n) → result ≢ Err TraceFault.Memory }
 {
-    let mut explainer = Explainer::new_in(memory, alloc, setup)?;
-    let drawn = draw_all(memory, alloc, &mut explainer, reader, writer, errors);
-    drop(explainer);
-    drawn
-}
-
-/// Takes in all lines, and draws the timeline of their requests. Returns whether a line was bad.
-fn draw_all<M: TextMemory, R: Read, W: Write, E: Write>(
-    memory: &M,
-    alloc: Global,
-    explainer: &mut Explainer,
-    reader: &mut R,
-    writer: &mut W,
-    errors: &mut E,
-) -> Result<bool, TraceFault>
-    ensures lines { IfOk result
-        (λ bad. (setup : Setup) → HasTold setup explainer.old [] [] []
-        → Reads setup bad (R.remaining reader.old) (R.remaining reader.new) (E.contents errors.old) (E.contents errors.new)) }
-    ensures granted { ((n : ℕ) → M.grants memory.now n) → result ≢ Err TraceFault.Memory }
-{
     let mut timeline = Timeline::new(alloc);
-    watch_and_write(
-        memory,
-        alloc,
-        explainer,
-        &mut timeline,
-        reader,
-        writer,
-        errors,
-    )
+    draw_all(memory, alloc, setup, &mut timeline, reader, writer, errors)
 }
 
 /// Takes in all lines, and writes the timeline. Returns whether a line was bad.
-fn watch_and_write<M: TextMemory, R: Read, W: Write, E: Write>(
+fn draw_all<M: TextMemory, R: Read, W: Write, E: Write>(
     memory: &M,
     alloc: Global,
-    explainer: &mut Explainer,
+    setup: &Setup,
     timeline: &mut Timeline,
     reader: &mut R,
     writer: &mut W,
     errors: &mut E,
 ) -> Result<bool, TraceFault>
     ensures lines { IfOk result
-        (λ bad. (setup : Setup) → HasTold setup explainer.old [] [] []
-        → Reads setup bad (R.remaining reader.old) (R.remaining reader.new) (E.contents errors.old) (E.contents errors.new)) }
+        (λ bad. Reads setup.now bad (R.remaining reader.old) (R.remaining reader.new) (E.contents errors.old) (E.contents errors.new)) }
     ensures granted { ((n : ℕ) → M.grants memory.now n) → result ≢ Err TraceFault.Memory }
 {
-    let bad = watch_all(memory, alloc, explainer, timeline, reader, errors)?;
+    let bad = watch_trace(memory, alloc, setup, timeline, reader, errors)?;
     write_timeline(memory, alloc, timeline, writer)?;
     Ok(bad)
 }

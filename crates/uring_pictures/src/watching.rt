@@ -3,11 +3,12 @@
 ghost use Rattle.std.specs.Prelude.{◌≡◌, ◌≢◌, ℕ, List, [], ◌∷◌, ◌++◌, IfOk, IsOk, OnOk, Err, string_bytes};
 ghost use Rattle.uring_entry.specs.Setup.{Setup};
 ghost use Rattle.uring_trace.specs.Explaining.{HasTold, HasEnded};
+ghost use Rattle.uring_pictures.specs.Drawings.{Reads};
 ghost use Rattle.uring_pictures.specs.Readings.{ReadsAll, TakesIn, EndsIn, EndsLine};
 
 use std::alloc::{AllocError, Global};
 use std::io::{Read, Write};
-use uring_machine::Machine;
+use uring_machine::{Machine, Setup};
 use uring_text::{Calls, TextMemory, TraceFault, read_once, write_all};
 use uring_trace::Explainer;
 
@@ -52,6 +53,25 @@ pub trait Watcher {
         told: Told<'_>,
     ) -> Result<(), AllocError>
         ensures { ((n : ℕ) → M.grants memory.now n) → IsOk result };
+}
+
+/// As `watch_all`, on a new machine of this set-up.
+pub(crate) fn watch_trace<M: TextMemory, W: Watcher, R: Read, E: Write>(
+    memory: &M,
+    alloc: Global,
+    setup: &Setup,
+    watcher: &mut W,
+    reader: &mut R,
+    errors: &mut E,
+) -> Result<bool, TraceFault>
+    ensures lines { IfOk result
+        (λ bad. Reads setup.now bad (R.remaining reader.old) (R.remaining reader.new) (E.contents errors.old) (E.contents errors.new)) }
+    ensures granted { ((n : ℕ) → M.grants memory.now n) → result ≢ Err TraceFault.Memory }
+{
+    let mut explainer = Explainer::new_in(memory, alloc, setup)?;
+    let watched = watch_all(memory, alloc, &mut explainer, watcher, reader, errors);
+    drop(explainer);
+    watched
 }
 
 /// Takes in all lines that `reader` gives, and writes what is noted of the bad ones to `errors`. Returns whether a line was bad.
@@ -114,7 +134,7 @@ fn watch<M: TextMemory, W: Watcher, E: Write>(
 }
 
 /// Takes in these bytes, and ends each line that they complete.
-fn watch_bytes<M: TextMemory, W: Watcher>(
+pub(crate) fn watch_bytes<M: TextMemory, W: Watcher>(
     memory: &M,
     explainer: &mut Explainer,
     watcher: &mut W,

@@ -3,7 +3,7 @@
 ghost use Rattle.std.specs.Prelude.{ℕ, IsOk};
 
 use std::alloc::{AllocError, Global};
-use uring_machine::{Setup, Sqe, Step};
+use uring_machine::{Sqe, Step};
 use uring_memory::Memory;
 use uring_text::is_name;
 
@@ -17,22 +17,22 @@ pub(crate) struct Submission {
     // How many of them were taken.
     taken: usize,
     // The entries that the open call took.
-    entries: Vec<Sqe>,
+    pub(crate) entries: Vec<Sqe>,
     // How many calls were opened.
     calls: u64,
 }
 
 impl Submission {
-    /// Before the first step.
+    /// Before the first step, with so many slots.
     pub(crate) fn new<M: Memory>(
         memory: &M,
         alloc: Global,
-        setup: Setup,
+        slots: u32,
     ) -> Result<Submission, AllocError>
         ensures { ((n : ℕ) → M.grants memory.now n) → IsOk result }
     {
         Ok(Submission {
-            slots: memory.filled(alloc, None, setup.sq() as usize)?,
+            slots: memory.filled(alloc, None, slots as usize)?,
             staged: Vec::new(alloc),
             taken: 0,
             entries: Vec::new(alloc),
@@ -49,30 +49,19 @@ impl Submission {
     ) -> Result<(), AllocError>
         ensures { ((n : ℕ) → M.grants memory.now n) → IsOk result }
     {
+        let is_done = is_name(answer, "ok");
         match step {
-            Step::Fill { slot, entry } if is_name(answer, "ok") => {
-                self.fill(*slot, *entry);
-                Ok(())
-            }
-            Step::Index { word } if is_name(answer, "ok") => {
-                push_value(memory, &mut self.staged, *word)
-            }
+            Step::Fill { slot, entry } if is_done => self.fill(*slot, entry),
+            Step::Index { word } if is_done => return push_value(memory, &mut self.staged, *word),
             Step::Begin { .. } if answer.starts_with(b"call ") => {
-                self.begin();
-                Ok(())
+                self.calls = self.calls.saturating_add(1);
+                self.entries.clear();
             }
-            Step::Take if answer.starts_with(b"entry ") => self.take(memory),
-            Step::Take if is_name(answer, "dropped") => {
-                self.taken = self.taken.saturating_add(1);
-                Ok(())
-            }
-            _ => Ok(()),
+            Step::Take if answer.starts_with(b"entry ") => return self.take(memory),
+            Step::Take if is_name(answer, "dropped") => self.taken = self.taken.saturating_add(1),
+            _ => {}
         }
-    }
-
-    /// The entries that the open call took.
-    pub(crate) fn entries(&self) -> &[Sqe] {
-        self.entries.as_slice()
+        Ok(())
     }
 
     /// The number of the open call, from 0.
@@ -81,16 +70,10 @@ impl Submission {
     }
 
     /// Puts an entry into a slot.
-    fn fill(&mut self, slot: u32, entry: Sqe) {
+    fn fill(&mut self, slot: u32, entry: &Sqe) {
         if let Some(held) = self.slots.get_mut(slot as usize) {
-            *held = Some(entry);
+            *held = Some(*entry);
         }
-    }
-
-    /// Opens a call.
-    fn begin(&mut self) {
-        self.calls = self.calls.saturating_add(1);
-        self.entries.clear();
     }
 
     /// Takes the entry that the next word names.

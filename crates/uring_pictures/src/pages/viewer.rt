@@ -10,17 +10,16 @@ mod tail_2;
 use std::io::Write;
 use uring_text::{Calls, TraceFault, write_all};
 
-/// Writes what stands before the data.
-pub(crate) fn write_head<W: Write>(writer: &mut W, writes: &mut Calls) -> Result<(), TraceFault>
+/// Writes the page with these data.
+pub(crate) fn write_page<W: Write>(
+    writer: &mut W,
+    data: &str,
+    writes: &mut Calls,
+) -> Result<(), TraceFault>
     ensures { IfErr result (λ fault. fault ≡ TraceFault.Write) }
 {
-    write_all(writer, head_0::PIECE.as_bytes(), writes)
-}
-
-/// Writes what stands after the data.
-pub(crate) fn write_tail<W: Write>(writer: &mut W, writes: &mut Calls) -> Result<(), TraceFault>
-    ensures { IfErr result (λ fault. fault ≡ TraceFault.Write) }
-{
+    write_all(writer, head_0::PIECE.as_bytes(), writes)?;
+    write_all(writer, data.as_bytes(), writes)?;
     write_all(writer, tail_0::PIECE.as_bytes(), writes)?;
     write_all(writer, tail_1::PIECE.as_bytes(), writes)?;
     write_all(writer, tail_2::PIECE.as_bytes(), writes)

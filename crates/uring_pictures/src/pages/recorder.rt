@@ -2,17 +2,18 @@
 
 ghost use Rattle.std.specs.Prelude.{ℕ, IsOk};
 
-use crate::changes::{Changes, Look};
-use crate::json_text::{last_number, push_array, push_count, push_name, push_quoted, push_string};
-use crate::requests::push_separator;
-use crate::state_text::{push_head, push_state};
-use crate::submission::Submission;
+use crate::form_text::{Value, push_form, push_string};
+use crate::moment::step_of;
+use crate::pages::changes::{Changes, Look};
+use crate::pages::line_parts::{last_number, split_at_mark};
+use crate::pages::requests::separator;
+use crate::pages::state_text::{push_head, push_state};
+use crate::pages::submission::Submission;
+use crate::watching::{Told, Watcher};
 use std::alloc::{AllocError, Global};
 use uring_entry::opcode;
 use uring_machine::{Found, Machine, Setup, Step};
-use uring_pictures::{Told, Watcher};
-use uring_text::{KeptLine, TextMemory, push_number, push_text};
-use uring_trace::read_step_in;
+use uring_text::{KeptLine, TextMemory, push_text};
 
 /// How many index words there are.
 const WORDS: u64 = 4_294_967_296;
@@ -43,8 +44,6 @@ impl Recorder {
         ensures { ((n : ℕ) → M.grants memory.now n) → IsOk result }
     {
         let line = KeptLine::new_in(memory, alloc)?;
-        let mut text = String::new(alloc);
-        push_head(memory, &mut text, setup)?;
         Ok(Recorder {
             alloc,
             setup: *setup,
@@ -52,10 +51,17 @@ impl Recorder {
             number: 1,
             step: None,
             found: None,
-            submission: Submission::new(memory, alloc, *setup)?,
+            submission: Submission::new(memory, alloc, setup.sq())?,
             changes: Changes::new(alloc),
-            text,
+            text: String::new(alloc),
         })
+    }
+
+    /// Writes the set-up, before the first line.
+    pub(crate) fn begin<M: TextMemory>(&mut self, memory: &M) -> Result<(), AllocError>
+        ensures { ((n : ℕ) → M.grants memory.now n) → IsOk result }
+    {
+        push_head(memory, &mut self.text, &self.setup)
     }
 
     /// Takes in a byte of a line, which isn't its end.
@@ -67,10 +73,7 @@ impl Recorder {
     fn look<M: TextMemory>(&mut self, memory: &M, machine: &Machine) -> Result<(), AllocError>
         ensures { ((n : ℕ) → M.grants memory.now n) → IsOk result }
     {
-        self.step = match self.line.whole() {
-            Some(bytes) => read_step_in(memory, self.alloc, bytes)?,
-            None => None,
-        };
+        self.step = step_of(memory, self.alloc, &self.line)?;
         self.found = match self.step {
             Some(Step::Issue { number }) => found_number(machine.would_find(number)),
             _ => None,
@@ -88,20 +91,15 @@ impl Recorder {
         ensures { ((n : ℕ) → M.grants memory.now n) → IsOk result }
     {
         self.push_line(memory)?;
-        let (answer, reason) = split_told(told.text);
-        self.push_told(memory, answer, reason, told.note)?;
+        let (answer, reason) = split_at_mark(told.text, b"  # ");
+        let text = &mut self.text;
+        push_some(memory, text, ",\"answer\":\"@\"", answer)?;
+        push_some(memory, text, ",\"reason\":\"@\"", reason)?;
+        push_some(memory, text, ",\"bad\":\"@\"", told.note)?;
         if let Some(step) = self.step {
             self.push_step(memory, machine, &step, answer)?;
         }
         push_text(memory, &mut self.text, "}")
-    }
-
-    /// Begins the next line.
-    fn begin_line(&mut self) {
-        self.step = None;
-        self.found = None;
-        self.line.clear();
-        self.number = self.number.saturating_add(1);
     }
 
     /// Appends a line of a recorded trace whose answer isn't called for, with what a check told of it.
@@ -114,11 +112,10 @@ impl Recorder {
         ensures { ((n : ℕ) → M.grants memory.now n) → IsOk result }
     {
         self.push_line(memory)?;
-        push_name(memory, &mut self.text, "answer")?;
+        push_text(memory, &mut self.text, ",\"answer\":")?;
         push_string(memory, self.alloc, &mut self.text, answer)?;
-        push_name(memory, &mut self.text, "wrong")?;
-        push_quoted(memory, &mut self.text, report)?;
-        push_text(memory, &mut self.text, "}")
+        let values = [Value::Quoted(report)];
+        push_form(memory, &mut self.text, ",\"wrong\":\"@\"}", &values)
     }
 
     /// All that was written, ended.
@@ -135,47 +132,13 @@ impl Recorder {
     fn push_line<M: TextMemory>(&mut self, memory: &M) -> Result<(), AllocError>
         ensures { ((n : ℕ) → M.grants memory.now n) → IsOk result }
     {
-        push_separator(memory, &mut self.text, self.number == 1)?;
-        push_text(memory, &mut self.text, "{\"line\":")?;
-        push_number(memory, &mut self.text, self.number)?;
-        push_name(memory, &mut self.text, "text")?;
-        push_string(
-            memory,
-            self.alloc,
-            &mut self.text,
-            self.line.whole().unwrap_or_default(),
-        )
-    }
-
-    /// Appends answer, reason and note.
-    fn push_told<M: TextMemory>(
-        &mut self,
-        memory: &M,
-        answer: &[u8],
-        reason: &[u8],
-        note: &[u8],
-    ) -> Result<(), AllocError>
-        ensures { ((n : ℕ) → M.grants memory.now n) → IsOk result }
-    {
-        self.push_some(memory, "answer", answer)?;
-        self.push_some(memory, "reason", reason)?;
-        self.push_some(memory, "bad", note)
-    }
-
-    /// Appends a member, unless its text is empty.
-    fn push_some<M: TextMemory>(
-        &mut self,
-        memory: &M,
-        name: &str,
-        bytes: &[u8],
-    ) -> Result<(), AllocError>
-        ensures { ((n : ℕ) → M.grants memory.now n) → IsOk result }
-    {
-        if bytes.is_empty() {
-            return Ok(());
-        }
-        push_name(memory, &mut self.text, name)?;
-        push_quoted(memory, &mut self.text, bytes)
+        let values = [
+            Value::Text(separator(self.number == 1)),
+            Value::Number(self.number),
+        ];
+        push_form(memory, &mut self.text, "@{\"line\":@,\"text\":", &values)?;
+        let line = self.line.whole().unwrap_or_default();
+        push_string(memory, self.alloc, &mut self.text, line)
     }
 
     /// Appends what a step has changed.
@@ -189,7 +152,7 @@ impl Recorder {
         ensures { ((n : ℕ) → M.grants memory.now n) → IsOk result }
     {
         self.submission.take_in(memory, step, answer)?;
-        let put = self.changes.put();
+        let put = self.changes.put;
         self.push_changes(memory, machine, step, answer)?;
         self.push_index(memory, step, answer)?;
         self.push_tail(memory, put)?;
@@ -206,51 +169,41 @@ impl Recorder {
     ) -> Result<(), AllocError>
         ensures { ((n : ℕ) → M.grants memory.now n) → IsOk result }
     {
-        let mut changes = String::new(self.alloc);
-        self.note_changes(memory, &mut changes, machine, step, answer)?;
+        self.note_changes(memory, machine, step, answer)?;
+        let changes = self.changes.text.as_str();
         if changes.is_empty() {
             return Ok(());
         }
-        push_array(memory, &mut self.text, "changes", changes.as_str())
+        push_form(
+            memory,
+            &mut self.text,
+            ",\"changes\":[@]",
+            &[Value::Text(changes)],
+        )
     }
 
-    /// Appends to `changes` what a step has changed.
+    /// Notes what a step has changed.
     fn note_changes<M: TextMemory>(
         &mut self,
         memory: &M,
-        changes: &mut String,
         machine: &Machine,
         step: &Step,
         answer: &[u8],
     ) -> Result<(), AllocError>
         ensures { ((n : ℕ) → M.grants memory.now n) → IsOk result }
     {
-        self.note_accepted(memory, changes, step, answer)?;
+        self.changes.text.clear();
+        if matches!(step, Step::End) && answer.starts_with(b"taken ") {
+            let call = self.submission.call();
+            self.changes.accept(memory, &self.submission.entries, call)?;
+        }
         let look = Look {
             line: self.number,
             moved: moved_by(step),
             found: self.found,
             answer,
         };
-        self.changes.look(memory, changes, machine, look)
-    }
-
-    /// Appends to `changes` which requests a step has accepted.
-    fn note_accepted<M: TextMemory>(
-        &mut self,
-        memory: &M,
-        changes: &mut String,
-        step: &Step,
-        answer: &[u8],
-    ) -> Result<(), AllocError>
-        ensures { ((n : ℕ) → M.grants memory.now n) → IsOk result }
-    {
-        if !matches!(step, Step::End) || !answer.starts_with(b"taken ") {
-            return Ok(());
-        }
-        let call = self.submission.call();
-        self.changes
-            .accept(memory, changes, self.submission.entries(), call)
+        self.changes.look(memory, machine, &look)
     }
 
     /// Appends the head or tail that a step has stored or loaded.
@@ -270,19 +223,25 @@ impl Recorder {
             Step::LoadCqTail => "cq_tail_seen",
             _ => return Ok(()),
         };
-        push_count(memory, &mut self.text, name, last_number(answer))
+        let values = [Value::Text(name), Value::Number(last_number(answer))];
+        push_form(memory, &mut self.text, ",\"@\":@", &values)
     }
 
     /// Appends the completion ring's tail, if it isn't that which so many completions had made.
     fn push_tail<M: TextMemory>(&mut self, memory: &M, put: u64) -> Result<(), AllocError>
         ensures { ((n : ℕ) → M.grants memory.now n) → IsOk result }
     {
-        let now = self.changes.put();
+        let now = self.changes.put;
         if now == put {
             return Ok(());
         }
         let tail = u64::from(self.setup.start()).wrapping_add(now) % WORDS;
-        push_count(memory, &mut self.text, "cq_tail", tail)
+        push_form(
+            memory,
+            &mut self.text,
+            ",\"cq_tail\":@",
+            &[Value::Number(tail)],
+        )
     }
 
     /// Appends how the file of a request stands that a finish has ended.
@@ -301,7 +260,7 @@ impl Recorder {
         let Some(request) = self.changes.requests.get(*number) else {
             return Ok(());
         };
-        let entry = request.entry;
+        let entry = &request.entry;
         if !answer.starts_with(b"ended ") || !entry.is_on_file() || entry.opcode() == opcode::READ {
             return Ok(());
         }
@@ -309,7 +268,6 @@ impl Recorder {
         let Some(state) = machine.state(fd) else {
             return Ok(());
         };
-        push_name(memory, &mut self.text, "file")?;
         push_state(memory, &mut self.text, fd, &state)
     }
 }
@@ -338,7 +296,10 @@ impl Watcher for Recorder {
         told: Told<'_>,
     ) -> Result<(), AllocError> {
         self.push_ended(memory, machine, told)?;
-        self.begin_line();
+        self.step = None;
+        self.found = None;
+        self.line.clear();
+        self.number = self.number.saturating_add(1);
         Ok(())
     }
 
@@ -374,13 +335,17 @@ fn found_number(found: Option<Found>) -> Option<u64> {
     }
 }
 
-/// The answer and the reason of what is told of a line.
-fn split_told(told: &[u8]) -> (&[u8], &[u8]) {
-    for place in 0..told.len() {
-        let (answer, rest) = told.split_at(place);
-        if let Some(reason) = rest.strip_prefix(b"  # ") {
-            return (answer, reason);
-        }
+/// Appends the form of a member with these bytes, unless there are none.
+fn push_some<M: TextMemory>(
+    memory: &M,
+    text: &mut String,
+    form: &str,
+    bytes: &[u8],
+) -> Result<(), AllocError>
+    ensures { ((n : ℕ) → M.grants memory.now n) → IsOk result }
+{
+    if bytes.is_empty() {
+        return Ok(());
     }
-    (told, b"")
+    push_form(memory, text, form, &[Value::Quoted(bytes)])
 }

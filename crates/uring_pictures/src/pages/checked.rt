@@ -2,15 +2,18 @@
 
 ghost use Rattle.std.specs.Prelude.{◌≢◌, ℕ, Err};
 
-use crate::json_text::last_number;
-use crate::recorder::Recorder;
-use crate::watching::{Form, write_form};
+use crate::pages::line_parts::{last_number, split_at_mark};
+use crate::pages::recorder::Recorder;
+use crate::pages::watching::{Form, write_form};
+use crate::watching::{Told, Watcher, watch_byte, watch_bytes};
 use std::alloc::Global;
 use std::io::Write;
 use uring_machine::Setup;
-use uring_pictures::{Told, Watcher, watch_byte};
 use uring_text::{TextMemory, TraceFault, is_name};
 use uring_trace::Explainer;
+
+/// What stands between a step and its answer; a line without it is all step.
+const RESULT: &[u8] = b" = ";
 
 /// Writes to `writer` what the lines of a recorded trace show, of which `report` is what `uring_check::check` wrote without going on after a fault: up to the first that is wrong or bad, and of that what the report tells. As JSON, or as a page.
 ///
@@ -54,16 +57,10 @@ pub fn recorded_page_in<M: TextMemory, W: Write>(
 /// The number of the line that isn't lawful, as the report tells it.
 fn last_line(report: &[u8]) -> u64 {
     if report.starts_with(b"line ") {
-        last_number(first_words(report))
+        last_number(split_at_mark(report, b":").0)
     } else {
         u64::MAX
     }
-}
-
-/// What stands before the first colon.
-fn first_words(report: &[u8]) -> &[u8] {
-    let end = report.iter().position(|byte| *byte == b':').unwrap_or(0);
-    report.get(..end).unwrap_or_default()
 }
 
 /// Records the lines up to that which the report tells of.
@@ -77,6 +74,7 @@ fn record_lines<M: TextMemory>(
 ) -> Result<(), TraceFault>
     ensures { ((n : ℕ) → M.grants memory.now n) → result ≢ Err TraceFault.Memory }
 {
+    recorder.begin(memory)?;
     let mut explainer = Explainer::new_in(memory, alloc, setup)?;
     let recorded = record_all(memory, alloc, &mut explainer, recorder, trace, report);
     drop(explainer);
@@ -98,9 +96,10 @@ fn record_all<M: TextMemory>(
     let mut number: u64 = 1;
     let mut rest = trace;
     for _ in 0..trace.len() {
-        let Some((line, after)) = next_line(rest) else {
+        if rest.is_empty() {
             break;
-        };
+        }
+        let (line, after) = split_at_mark(rest, b"\n");
         if number == last {
             return record_wrong(memory, recorder, line, report);
         }
@@ -113,19 +112,6 @@ fn record_all<M: TextMemory>(
     Ok(())
 }
 
-/// The first line, without its end, and what stands after it.
-fn next_line(bytes: &[u8]) -> Option<(&[u8], &[u8])> {
-    if bytes.is_empty() {
-        return None;
-    }
-    let end = bytes
-        .iter()
-        .position(|byte| *byte == b'\n')
-        .unwrap_or(bytes.len());
-    let (line, rest) = bytes.split_at_checked(end)?;
-    Some((line, rest.strip_prefix(b"\n").unwrap_or(rest)))
-}
-
 /// Records a line that is lawful or passed over. Returns whether the explainer goes along with it.
 fn record_line<M: TextMemory>(
     memory: &M,
@@ -136,15 +122,16 @@ fn record_line<M: TextMemory>(
 ) -> Result<bool, TraceFault>
     ensures { ((n : ℕ) → M.grants memory.now n) → result ≢ Err TraceFault.Memory }
 {
-    let (step, answer) = split_record(line);
-    if is_name(answer, "again") || is_name(answer, "ended -12") {
+    let (step, answer) = split_at_mark(line, RESULT);
+    let is_again = is_name(answer, "again");
+    if is_again || is_name(answer, "ended -12") {
         keep_all(recorder, step);
         let told = Told {
             text: answer,
             note: b"",
         };
         recorder.end_line(memory, explainer.machine(), told)?;
-        return Ok(is_name(answer, "again"));
+        return Ok(is_again);
     }
     explain_line(memory, alloc, explainer, recorder, step)?;
     Ok(true)
@@ -162,10 +149,10 @@ fn explain_line<M: TextMemory>(
 {
     let mut text = String::new(alloc);
     let mut notes = String::new(alloc);
-    for byte in step {
-        watch_byte(memory, explainer, recorder, *byte, &mut text, &mut notes)?;
+    match watch_bytes(memory, explainer, recorder, step, &mut text, &mut notes) {
+        Ok(()) => watch_byte(memory, explainer, recorder, b'\n', &mut text, &mut notes),
+        Err(fault) => Err(fault),
     }
-    watch_byte(memory, explainer, recorder, b'\n', &mut text, &mut notes)
 }
 
 /// Records the line that isn't lawful.
@@ -177,7 +164,7 @@ fn record_wrong<M: TextMemory>(
 ) -> Result<(), TraceFault>
     ensures { ((n : ℕ) → M.grants memory.now n) → result ≢ Err TraceFault.Memory }
 {
-    let (step, answer) = split_record(line);
+    let (step, answer) = split_at_mark(line, RESULT);
     keep_all(recorder, step);
     Ok(recorder.push_wrong(memory, answer, told_of(report))?)
 }
@@ -189,21 +176,8 @@ fn keep_all(recorder: &mut Recorder, line: &[u8]) {
     }
 }
 
-/// A step and its answer; a line without an `=` is all step.
-fn split_record(line: &[u8]) -> (&[u8], &[u8]) {
-    for place in 0..line.len() {
-        let (step, rest) = line.split_at(place);
-        if let Some(answer) = rest.strip_prefix(b" = ") {
-            return (step, answer);
-        }
-    }
-    (line, b"")
-}
-
 /// What a report tells after its first line, without the last end of a line.
 fn told_of(report: &[u8]) -> &[u8] {
-    let end = report.iter().position(|byte| *byte == b'\n').unwrap_or(0);
-    let told = report.get(end..).unwrap_or_default();
-    let told = told.strip_prefix(b"\n").unwrap_or(told);
+    let told = split_at_mark(report, b"\n").1;
     told.strip_suffix(b"\n").unwrap_or(told)
 }

@@ -2,11 +2,11 @@
 
 ghost use Rattle.std.specs.Prelude.{ℕ, IsOk};
 
-use crate::entries::push_entry;
-use crate::json_text::push_count;
+use crate::form_text::{Value, push_form};
+use crate::pages::entries::push_entry;
 use std::alloc::{AllocError, Global};
 use uring_machine::{Sqe, Why};
-use uring_text::{TextMemory, push_number, push_text};
+use uring_text::TextMemory;
 
 /// A request, as far as the lines so far tell of it.
 #[derive(Clone, Copy)]
@@ -52,7 +52,7 @@ impl Requests {
     pub(crate) fn add<M: TextMemory>(
         &mut self,
         memory: &M,
-        entry: Sqe,
+        entry: &Sqe,
         call: u64,
         is_first: bool,
     ) -> Result<(), AllocError>
@@ -61,7 +61,7 @@ impl Requests {
         let chain = self.next_chain(is_first);
         memory.reserve(&mut self.all, 1)?;
         self.all.push_reserved(Request {
-            entry,
+            entry: *entry,
             call,
             chain,
             why: Why::NeverAccepted,
@@ -80,8 +80,8 @@ impl Requests {
     }
 
     /// A request.
-    pub(crate) fn get(&self, number: u64) -> Option<Request> {
-        self.all.get(number as usize).copied()
+    pub(crate) fn get(&self, number: u64) -> Option<&Request> {
+        self.all.get(number as usize)
     }
 
     /// A request, to be changed.
@@ -99,7 +99,6 @@ impl Requests {
     {
         let mut number: u64 = 0;
         for request in &self.all {
-            push_separator(memory, text, number == 0)?;
             push_request(memory, text, number, request)?;
             number = number.saturating_add(1);
         }
@@ -107,22 +106,12 @@ impl Requests {
     }
 }
 
-/// Appends what stands between two elements of an array, a line for each.
-pub(crate) fn push_separator<M: TextMemory>(
-    memory: &M,
-    text: &mut String,
-    is_first: bool,
-) -> Result<(), AllocError>
-    ensures { ((n : ℕ) → M.grants memory.now n) → IsOk result }
-{
-    if is_first {
-        push_text(memory, text, "\n")
-    } else {
-        push_text(memory, text, ",\n")
-    }
+/// What stands before an element of an array, which has a line of its own.
+pub(crate) fn separator(is_first: bool) -> &'static str {
+    if is_first { "\n" } else { ",\n" }
 }
 
-/// Appends a request.
+/// Appends a request, as an element of an array.
 fn push_request<M: TextMemory>(
     memory: &M,
     text: &mut String,
@@ -131,10 +120,13 @@ fn push_request<M: TextMemory>(
 ) -> Result<(), AllocError>
     ensures { ((n : ℕ) → M.grants memory.now n) → IsOk result }
 {
-    push_text(memory, text, "{\"request\":")?;
-    push_number(memory, text, number)?;
+    let values = [
+        Value::Text(separator(number == 0)),
+        Value::Number(number),
+        Value::Number(request.call),
+        Value::Number(request.chain),
+    ];
+    push_form(memory, text, "@{\"request\":@", &values)?;
     push_entry(memory, text, &request.entry)?;
-    push_count(memory, text, "call", request.call)?;
-    push_count(memory, text, "chain", request.chain)?;
-    push_text(memory, text, "}")
+    push_form(memory, text, ",\"call\":@,\"chain\":@}", &values[2..])
 }

@@ -1,19 +1,15 @@
 //! The run of a trace that is written as data or as a page.
 
-ghost use Rattle.std.specs.Prelude.{◌≢◌, ℕ, List, [], ◌∷◌, ◌++◌, IfOk, IsOk, OnOk, Err, string_bytes};
-ghost use Rattle.uring_entry.specs.Setup.{Setup};
-ghost use Rattle.uring_trace.specs.Explaining.{HasTold, HasEnded};
+ghost use Rattle.std.specs.Prelude.{◌≢◌, ℕ, IfOk, Err};
 ghost use Rattle.uring_pictures.specs.Drawings.{Reads};
-ghost use Rattle.uring_pictures.specs.Readings.{ReadsAll, TakesIn, EndsIn, EndsLine};
 
-use crate::recorder::Recorder;
-use crate::viewer;
+use crate::pages::recorder::Recorder;
+use crate::pages::viewer;
+use crate::watching::watch_trace;
 use std::alloc::Global;
 use std::io::{Read, Write};
 use uring_machine::Setup;
-use uring_pictures::watch_all;
 use uring_text::{Calls, TextMemory, TraceFault, write_all};
-use uring_trace::Explainer;
 
 /// What is written of a run.
 #[derive(Clone, Copy)]
@@ -60,46 +56,15 @@ pub fn page_in<M: TextMemory, R: Read, W: Write, E: Write>(
         (λ bad. Reads setup.now bad (R.remaining reader.old) (R.remaining reader.new) (E.contents errors.old) (E.contents errors.new)) }
     ensures granted { ((n : ℕ) → M.grants memory.now n) → result ≢ Err TraceFault.Memory }
 {
-    let mut explainer = Explainer::new_in(memory, alloc, setup)?;
+    let mut recorder = Recorder::new(memory, alloc, setup)?;
     let drawn = draw_all(
         memory,
         alloc,
-        &mut explainer,
-        reader,
-        writer,
-        errors,
         setup,
-        form,
-    );
-    drop(explainer);
-    drawn
-}
-
-/// Takes in all lines, and writes what they show. Returns whether a line was bad.
-fn draw_all<M: TextMemory, R: Read, W: Write, E: Write>(
-    memory: &M,
-    alloc: Global,
-    explainer: &mut Explainer,
-    reader: &mut R,
-    writer: &mut W,
-    errors: &mut E,
-    setup: &Setup,
-    form: Form,
-) -> Result<bool, TraceFault>
-    ensures lines { IfOk result
-        (λ bad. (setup : Setup) → HasTold setup explainer.old [] [] []
-        → Reads setup bad (R.remaining reader.old) (R.remaining reader.new) (E.contents errors.old) (E.contents errors.new)) }
-    ensures granted { ((n : ℕ) → M.grants memory.now n) → result ≢ Err TraceFault.Memory }
-{
-    let mut recorder = Recorder::new(memory, alloc, setup)?;
-    let drawn = watch_and_write(
-        memory,
-        explainer,
         &mut recorder,
         reader,
         writer,
         errors,
-        alloc,
         form,
     );
     drop(recorder);
@@ -107,22 +72,22 @@ fn draw_all<M: TextMemory, R: Read, W: Write, E: Write>(
 }
 
 /// Takes in all lines, and writes what they show. Returns whether a line was bad.
-fn watch_and_write<M: TextMemory, R: Read, W: Write, E: Write>(
+fn draw_all<M: TextMemory, R: Read, W: Write, E: Write>(
     memory: &M,
-    explainer: &mut Explainer,
+    alloc: Global,
+    setup: &Setup,
     recorder: &mut Recorder,
     reader: &mut R,
     writer: &mut W,
     errors: &mut E,
-    alloc: Global,
     form: Form,
 ) -> Result<bool, TraceFault>
     ensures lines { IfOk result
-        (λ bad. (setup : Setup) → HasTold setup explainer.old [] [] []
-        → Reads setup bad (R.remaining reader.old) (R.remaining reader.new) (E.contents errors.old) (E.contents errors.new)) }
+        (λ bad. Reads setup.now bad (R.remaining reader.old) (R.remaining reader.new) (E.contents errors.old) (E.contents errors.new)) }
     ensures granted { ((n : ℕ) → M.grants memory.now n) → result ≢ Err TraceFault.Memory }
 {
-    let bad = watch_all(memory, alloc, explainer, recorder, reader, errors)?;
+    recorder.begin(memory)?;
+    let bad = watch_trace(memory, alloc, setup, recorder, reader, errors)?;
     write_form(memory, recorder, writer, form)?;
     Ok(bad)
 }
@@ -140,10 +105,6 @@ pub(crate) fn write_form<M: TextMemory, W: Write>(
     let mut writes = Calls::new();
     match form {
         Form::Json => write_all(writer, text.as_bytes(), &mut writes),
-        Form::Page => {
-            viewer::write_head(writer, &mut writes)?;
-            write_all(writer, text.as_bytes(), &mut writes)?;
-            viewer::write_tail(writer, &mut writes)
-        }
+        Form::Page => viewer::write_page(writer, text, &mut writes),
     }
 }

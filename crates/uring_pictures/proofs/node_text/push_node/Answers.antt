@@ -1,0 +1,12 @@
+use Rattle.std.specs.Prelude.{codes, string_bytes, decimal}
+use Rattle.std.proofs.lemmas.Result.{on_ok_weaker}
+use Rattle.uring_pictures.specs.Graphs.{label_text, shape_of}
+use Rattle.uring_pictures.proofs.Arrows.{six_parts}
+use Rattle.uring_pictures.proofs.node_text.push_node.Goals as goal
+
+pub returns-clause-node : goal.returns-clause-node
+returns-clause-node g c =
+    on_ok_weaker c.push_text-4.result
+    (λ end.
+    six_parts (string_bytes c.args.text.now) _ _ _ _ _ _ (decimal c.args.number) (codes " [shape=") (shape_of c.args.why) (codes ", label=\"") (label_text c.args.number c.args.entry.now c.args.why) (codes "\"];") c.in_ok-push_number.ensures.bytes c.in_ok-push_text.ensures.bytes (rw c.shape.ensures at c.in_ok-push_text-2.ensures.bytes) c.in_ok-push_text-3.ensures.bytes c.in_ok-push_label.ensures.label end)
+    c.push_text-4.ensures.bytes
