@@ -1,7 +1,6 @@
 -- From what a dispatcher shows to what it holds, and back; and what its queries find.
-use Rattle.std.proofs.Common.{◌≡◌, ℕ, ◌+◌, ◌≤◌, Result, Ok, Err, is_err, length, Bool, true, false, Option, Some, None, refl, sym, ◌∙◌, ap, subst, arith, not, ◌&&◌}
-use Rattle.std.specs.Prelude.{if◌then◌else◌, MatchOption, IsOk, OnOk}
-use Rattle.std.proofs.lemmas.Bool.{false≢true}
+use Rattle.std.proofs.Common.{◌≡◌, ℕ, ◌+◌, ◌≤◌, Result, Ok, Err, length, Bool, true, false, Option, Some, None, refl, sym, ◌∙◌, ap, subst, arith, not, ◌&&◌}
+use Rattle.std.specs.Prelude.{if◌then◌else◌, MatchOption, OnOk}
 use Rattle.uring_entry.specs.Preparation.{operation_of, is_faulty}
 use Rattle.uring_entry.specs.Requests.{Requests, no_request, entry_of, is_outstanding, is_running, least_of, operation_running, entry_outstanding, target_of}
 use Rattle.uring_entry.proofs.BelowLemmas.{least_below_none, least_below_some, is_some_value}
@@ -156,14 +155,6 @@ pub counts_same : (w v : Window) (g h : Groups) (old : Dispatch) (room : ℕ) (b
 counts_same w v g h old room between after view same =
     rw (← view)
     (record { accepted = ap (λ (z : Window). end_of z) same; outstanding = ap (λ (z : Window). z.outstanding) same; running = ap (λ (z : Window). z.running) same; room = omega arith })
-
-pub on_ok : {E : Type 0} (x : Result (Unit {0}) E) (P : Type 0) → is_err x ≡ false → OnOk x P → P
-on_ok (Ok u) P e h = h
-on_ok (Err u) P e h = cc
-
-pub ok_not_err : {E : Type 0} (x : Result (Unit {0}) E) → IsOk x → is_err x ≡ true → ⊥
-ok_not_err (Ok u) ok e = cc
-ok_not_err (Err u) ok e = absurd (false≢true ok)
 
 -- what is outstanding is to do what its entry asks for
 pub operation_held : (w : Window) (g : Groups) (r : Requests) (n : ℕ) (request : Request)

@@ -93,7 +93,7 @@ impl Dispatch {
         if count <= self.room {
             return Ok(());
         }
-        if self.outstanding.reserve_in(memory, count).is_err() {
+        if let Err(_) = self.outstanding.reserve_in(memory, count) {
             return Err(ReserveError::NoMemory);
         }
         self.room = count;

@@ -1,6 +1,7 @@
-use Rattle.std.proofs.Common.{arith, ap, ◌∙◌, sym, refl}
+use Rattle.std.proofs.Common.{arith, ap, ◌∙◌, refl}
+use Rattle.std.proofs.lemmas.Bool.{false≢true}
 use Rattle.uring_dispatch.specs.Dispatch.{Dispatch}
-use Rattle.uring_dispatch.proofs.Views.{on_ok, ok_not_err, held_from, shows_held, same_view, counts_records}
+use Rattle.uring_dispatch.proofs.Views.{held_from, shows_held, same_view, counts_records}
 use Rattle.uring_dispatch.proofs.Alike.{held_alike, alike_records}
 use Rattle.uring_dispatch.proofs.dispatch.Dispatch.reserve_in.Goals as goal
 
@@ -17,25 +18,23 @@ invariant_of-self g c = record {
 
 pub invariant_of-self-2 : goal.invariant_of-self-2
 invariant_of-self-2 g c = record {
-  memory = on_ok _ _ (sym c.is_err.ensures.value ∙ c.if-is_err.false) c.reserve_in.ensures.room;
+  memory = c.in_default.ensures.room;
   closed = λ e. (alike_records _ _ c.reserve_in.ensures.same).last ∙ c.self.invariant.closed e;
 }
 
-pub returns-then-is_err-clause-err : goal.returns-then-is_err-clause-err
-returns-then-is_err-clause-err g c = same_view _ _ _ _ c.reserve_in.ensures.same ∙ c.self.view_is
+pub returns-in-Err-clause-err : goal.returns-in-Err-clause-err
+returns-in-Err-clause-err g c = same_view _ _ _ _ c.reserve_in.ensures.same ∙ c.self.view_is
 
-pub returns-then-is_err-clause-granted : goal.returns-then-is_err-clause-granted
-returns-then-is_err-clause-granted g c = λ r n shows grants below e.
+pub returns-in-Err-clause-granted : goal.returns-in-Err-clause-granted
+returns-in-Err-clause-granted g c = λ r n shows grants below e.
     let accepted = ap (λ (d : Dispatch). d.accepted) c.self.view_is in
-    ok_not_err c.reserve_in.result
-    (c.reserve_in.ensures.granted r n (held_from _ _ c.self.inside.outstanding.grouped.groups _ _ r c.self.view_is shows) grants (omega arith))
-    (sym c.is_err.ensures.value ∙ c.if-is_err.true)
+    false≢true (c.in-Err.ensures.granted r n (held_from _ _ c.self.inside.outstanding.grouped.groups _ _ r c.self.view_is shows) grants (omega arith))
 
-pub returns-then-is_err-clause-counts : goal.returns-then-is_err-clause-counts
-returns-then-is_err-clause-counts g c = counts_records _ _ _ _ _ _ c.self.view_is c.reserve_in.ensures.same (omega arith)
+pub returns-in-Err-clause-counts : goal.returns-in-Err-clause-counts
+returns-in-Err-clause-counts g c = counts_records _ _ _ _ _ _ c.self.view_is c.reserve_in.ensures.same (omega arith)
 
-pub returns-then-is_err-clause-shows : goal.returns-then-is_err-clause-shows
-returns-then-is_err-clause-shows g c = λ r s.
+pub returns-in-Err-clause-shows : goal.returns-in-Err-clause-shows
+returns-in-Err-clause-shows g c = λ r s.
     shows_held _ _ _ _ _
     (held_alike _ _ _ _ r (alike_records _ _ c.reserve_in.ensures.same) (held_from _ _ c.self.inside.outstanding.grouped.groups _ _ r c.self.view_is s))
 

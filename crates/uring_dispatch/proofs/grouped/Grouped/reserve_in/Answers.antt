@@ -19,7 +19,7 @@ returns-in-Err-clause-window_kept g c =
 pub returns-in-Err-clause-same : goal.returns-in-Err-clause-same
 returns-in-Err-clause-same g c =
     let window = reserved_window c.reserve_in.result c.args.self.now.window c.reserve_in.new.self c.args.count c.reserve_in.ensures.ok c.reserve_in.ensures.err in
-    record { window = window.0; groups = refl }
+    record { window = window.0; groups = refl {a = record c.args.self.now.groups { room = 0 }} }
 
 pub returns-in-Err-clause-granted : goal.returns-in-Err-clause-granted
 returns-in-Err-clause-granted g c = λ r n h grants below.
