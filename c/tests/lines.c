@@ -7,8 +7,8 @@
 
 #include <string.h>
 
-/* Words of an entry. */
-enum { OP = 0, ADDR = 2, LEN = 3, USER_DATA = 4 };
+/* Words of an entry, and the first that has its data. */
+enum { OP = 0, OFF = 1, ADDR = 2, LEN = 3, USER_DATA = 4, DATA = 8 };
 
 static const struct {
     const char *line;
@@ -16,6 +16,13 @@ static const struct {
     struct wulgach_answer answer;
 } lines[] = {
     {"fill 3 nop 7 DS = ok", {.kind = WULGACH_FILL, .word = 3, .entry = {[OP] = 0x4200, [USER_DATA] = 7}}, {.kind = WULGACH_FILLED}},
+    {"fill 0 nop 0 - = ok", {.kind = WULGACH_FILL}, {.kind = WULGACH_FILLED}},
+    {"fill 0 nop 18446744073709551615 DLHAS = ok", {.kind = WULGACH_FILL, .entry = {[OP] = 0x5e00, [USER_DATA] = UINT64_MAX}}, {.kind = WULGACH_FILLED}},
+    {"fill 0 read 7 L 1 3 4 = ok", {.kind = WULGACH_FILL, .entry = {[OP] = 4294968342, [OFF] = 3, [LEN] = 4, [USER_DATA] = 7}}, {.kind = WULGACH_FILLED}},
+    {"fill 0 write 1 - 0 0 61626364 = ok", {.kind = WULGACH_FILL, .entry = {[OP] = 23, [LEN] = 4, [USER_DATA] = 1, [DATA] = 1684234849}}, {.kind = WULGACH_FILLED}},
+    {"fill 0 fsync 2 D -1 = ok", {.kind = WULGACH_FILL, .entry = {[OP] = 0xffffffff00000203, [USER_DATA] = 2}}, {.kind = WULGACH_FILLED}},
+    {"fill 0 cancelall 8 - 5 = ok", {.kind = WULGACH_FILL, .entry = {[OP] = 14, [ADDR] = 5, [LEN] = 4294967296, [USER_DATA] = 8}}, {.kind = WULGACH_FILLED}},
+    {"fill 0 op 99 5 S = ok", {.kind = WULGACH_FILL, .entry = {[OP] = 0x4063, [USER_DATA] = 5}}, {.kind = WULGACH_FILLED}},
     {"fill 0 cancel 1 - 9 = no slot", {.kind = WULGACH_FILL, .entry = {[OP] = 14, [ADDR] = 9, [USER_DATA] = 1}}, {.kind = WULGACH_NO_SLOT}},
     {"fill 0 read 1 LHA 0 0 65 = busy", {.kind = WULGACH_FILL, .entry = {[OP] = 0x1c16, [LEN] = 65, [USER_DATA] = 1}}, {.kind = WULGACH_BUSY}},
     {"index 4294967295 = full", {.kind = WULGACH_INDEX, .word = UINT32_MAX}, {.kind = WULGACH_FULL}},
@@ -46,6 +53,8 @@ static const struct {
     struct wulgach_setup setup;
 } setups[] = {
     {"setup --sq 1 --cq 2 --files 1 --start 0", {.sq = 1, .files = 1}},
+    {"setup --sq 4 --cq 8 --files 2 --start 0", {.sq = 3, .files = 2}},
+    {"setup --sq 8 --cq 8 --files 1 --start 0", {.sq = 5, .cq = 5, .files = 1, .has_cq = true}},
     {"setup --sq 8 --cq 16 --files 1 --start 0 --linux", {.sq = 5, .cq = 9, .files = 1, .has_cq = true, .linux_rules = true}},
     {"setup --sq 4096 --cq 8192 --files 64 --start 4294967295 --stop", {.sq = 4096, .cq = 8192, .files = 64, .start = UINT32_MAX, .has_cq = true, .stops = true}},
     {"setup --sq 2 --cq 2 --files 3 --start 7 --stop --linux", {.sq = 2, .cq = 2, .files = 3, .start = 7, .has_cq = true, .stops = true, .linux_rules = true}},

@@ -209,8 +209,22 @@ static void large_call(struct wulgach_machine *machine, uint32_t count, uint32_t
     step(machine, WULGACH_LOAD_HEAD, 0, 0);
 }
 
-/* Two calls on the largest rings, the second of a whole ring; and 100,000 requests, each in a call of its own, of which each ends and
- * is reaped before the next. */
+/* All requests are started and ended, in order, and none of their completions is reaped: the last rests after all others. */
+static void end_all(struct wulgach_machine *machine, uint64_t count)
+{
+    struct wulgach_completion completion;
+    struct wulgach_counts counts;
+    for (uint64_t number = 0; number < count; number++) {
+        check(step(machine, WULGACH_ISSUE, 0, number).kind == WULGACH_RUN, "issue");
+        check(step(machine, WULGACH_FINISH, 0, number).kind == WULGACH_ENDED, "finish");
+    }
+    check(wulgach_machine_counts(machine, &counts) == 0 && counts.outstanding == 0 && counts.posted == count && counts.reaped == 0, "all are posted");
+    check(wulgach_machine_rest(machine, count - 1, &completion) == 0 && completion.user_data == 7, "the last rests");
+    check(wulgach_machine_rest(machine, count, &completion) == -2, "none after it");
+}
+
+/* Four calls on the largest rings, all but the first of a whole ring, and then the ends of all; and 100,000 requests, each in a call of its
+ * own, of which each ends and is reaped before the next. */
 static void at_size(void)
 {
     static const struct wulgach_setup large = {.sq = 4096, .cq = 8192, .has_cq = true, .files = 1}, least = {.sq = 1, .cq = 1, .has_cq = true, .files = 1};
@@ -220,6 +234,10 @@ static void at_size(void)
     large_call(&machine, 1100, 1100);
     large_call(&machine, 4096, 5196);
     check(wulgach_machine_counts(&machine, &counts) == 0 && counts.accepted == 5196 && counts.outstanding == 5196, "all are accepted");
+    large_call(&machine, 4096, 9292);
+    large_call(&machine, 4096, 13388);
+    check(wulgach_machine_counts(&machine, &counts) == 0 && counts.accepted == 13388 && counts.outstanding == 13388 && counts.running == 0, "so are as many again");
+    end_all(&machine, 13388);
     check(wulgach_machine_new(&machine, &least) == 0, "new");
     for (uint32_t number = 0; number < 100000; number++) {
         large_call(&machine, 1, number + 1);
