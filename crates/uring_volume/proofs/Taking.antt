@@ -9,7 +9,7 @@ use Rattle.uring_volume.specs.Writes.{Write}
 use Rattle.uring_volume.specs.Events.{History, is_safe}
 use borrow.Rule.Slice.PartMut.{put_mid}
 use Rattle.uring_volume.specs.Choices.{has_safe, up_to_safe, waits_for_one, named, without, chosen}
-use Rattle.uring_volume.proofs.Sorting.{past_first, after_first, passes, fails}
+use Rattle.uring_volume.proofs.Sorting.{past_first, after_first}
 
 pub filter_of_map : {X Y : Type 0} (f : X → Y) (p : Y → Bool) (xs : List X)
     → filter p (map f xs) ≡ map f (filter (λ x. p (f x)) xs)
@@ -92,28 +92,6 @@ pub one_found : {X : Type 0} (f : X → Write) (p : Write → Bool) (xs : List X
     → i < length xs → x ≡ get_or xs i x → p (f x) ≡ true → list_any p (map f xs) ≡ true
 one_found f p xs i x within at is =
     any_at p (map f xs) i (f x) (omega (arith, length-map xs f)) (ap p (get_map f xs i x ∙ ap f (sym at)) ∙ is)
-
--- A loop over references that pushes those that pass a test: one more does, or doesn't.
-
-pub one_in : {X : Type 0} (f : X → Write) (p : Write → Bool) (xs : List X) (i : ℕ) (x : X)
-    (old new : List X) → i < length xs → x ≡ get_or xs i x → p (f x) ≡ true
-    → map f old ≡ filter p (map f (take i xs)) → new ≡ old ++ x ∷ []
-    → map f new ≡ filter p (map f (take (i + 1) xs))
-one_in f p xs i x old new within at is so_far pushed =
-    ap (map f) pushed
-    ∙ map-append f old (x ∷ [])
-    ∙ ap (λ ws. ws ++ f x ∷ []) so_far
-    ∙ sym (passes p (map f (take i xs)) (f x) is)
-    ∙ ap (filter p) (sym (map-append f (take i xs) (x ∷ [])))
-    ∙ ap (λ ys. filter p (map f ys)) (sym (take_more xs i x within ∙ ap (λ y. take i xs ++ y ∷ []) (sym at)))
-
-pub one_out : {X : Type 0} (f : X → Write) (p : Write → Bool) (xs : List X) (i : ℕ) (x : X)
-    → i < length xs → x ≡ get_or xs i x → p (f x) ≡ false
-    → filter p (map f (take (i + 1) xs)) ≡ filter p (map f (take i xs))
-one_out f p xs i x within at out =
-    ap (λ ys. filter p (map f ys)) (take_more xs i x within ∙ ap (λ y. take i xs ++ y ∷ []) (sym at))
-    ∙ ap (filter p) (map-append f (take i xs) (x ∷ []))
-    ∙ fails p (map f (take i xs)) (f x) out
 
 -- what a loop over all references has pushed
 pub all_pushed : {X : Type 0} (f : X → Write) (p : Write → Bool) (old new xs ys : List X) (i : ℕ)

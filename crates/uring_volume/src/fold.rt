@@ -1,10 +1,9 @@
 //! Which writes of a file can be folded into its first bytes.
 
-ghost use Rattle.std.specs.Prelude.{◌≡◌, ◌+◌, ◌<◌, ◌≤◌, ◌^◌, ◌∷◌, [], ℕ, ◌&&◌, ◌||◌, not, ◌==◌, true, false, max, length, vec_len, vec_capacity, reverse, IfSome, IfNone, OnOk, OnErr, IsOk, Ok};
+ghost use Rattle.std.specs.Prelude.{◌≡◌, ◌+◌, ◌<◌, ◌≤◌, ◌^◌, ℕ, ◌&&◌, ◌||◌, not, ◌==◌, true, false, max, length, vec_len, vec_capacity, reverse, IfSome, IfNone, OnOk, OnErr, IsOk, Ok};
 ghost use Rattle.std.specs.List.{list_any};
 ghost use Rattle.uring_volume.specs.Images.{IsIn, end_of};
 ghost use Rattle.uring_volume.specs.Choices.{issued};
-ghost use Rattle.uring_volume.specs.declared.event.Event.TheVariants.{WriteIssued};
 ghost use Rattle.uring_volume.specs.Folds as spec;
 ghost use Rattle.uring_volume.specs.Folds.{IsOver, IsOneFolded};
 
@@ -30,23 +29,15 @@ fn is_in_way(events: &[Event], piece: &Piece, other: &Piece) -> bool
             && (overlap(other, piece) && !is_before(events, piece.number(), other.number())))
 }
 
-/// Whether an event is the issue of a write that keeps a write from being folded.
-fn is_issued_in_way(events: &[Event], piece: &Piece, event: &Event) -> bool
-    ensures { result ≡ list_any (λ m. spec.is_in_way (reverse events.now) piece.now m) (issued (event.now ∷ [])) }
-{
-    match event {
-        Event::WriteIssued(other) => is_in_way(events, piece, other),
-        _ => false,
-    }
-}
-
 /// Whether one of the writes keeps a write from being folded.
 fn has_one_in_way(events: &[Event], piece: &Piece) -> bool
     ensures { result ≡ list_any (λ m. spec.is_in_way (reverse events.now) piece.now m) (issued (reverse events.now)) }
 {
     for event in events {
-        if is_issued_in_way(events, piece, event) {
-            return true;
+        if let Event::WriteIssued(other) = event {
+            if is_in_way(events, piece, other) {
+                return true;
+            }
         }
     }
     false
@@ -59,27 +50,6 @@ fn can_fold(events: &[Event], piece: &Piece) -> bool
     is_safe(events, piece) && !has_one_in_way(events, piece)
 }
 
-/// Whether an event is the issue of a write that can be folded.
-fn is_foldable(events: &[Event], event: &Event) -> bool
-    ensures { result ≡ list_any (λ w. spec.can_fold (reverse events.now) w) (issued (event.now ∷ [])) }
-{
-    match event {
-        Event::WriteIssued(piece) => can_fold(events, piece),
-        _ => false,
-    }
-}
-
-/// The write whose issue an event is.
-fn written(event: &Event) -> Option<&Piece>
-    ensures some { IfSome result (λ piece. event.now ≡ WriteIssued piece.now) }
-    ensures none { IfNone result (issued (event.now ∷ []) ≡ []) }
-{
-    match event {
-        Event::WriteIssued(piece) => Some(piece),
-        _ => None,
-    }
-}
-
 /// The oldest write that can be folded.
 pub fn first_foldable<'a>(events: &'a [Event]) -> Option<&'a Piece>
     ensures issued { IfSome result (λ piece. IsIn piece.now (issued (reverse events.now))) }
@@ -87,8 +57,10 @@ pub fn first_foldable<'a>(events: &'a [Event]) -> Option<&'a Piece>
     ensures none { IfNone result (list_any (λ w. spec.can_fold (reverse events.now) w) (issued (reverse events.now)) ≡ false) }
 {
     for event in events {
-        if is_foldable(events, event) {
-            return written(event);
+        if let Event::WriteIssued(piece) = event {
+            if can_fold(events, piece) {
+                return Some(piece);
+            }
         }
     }
     None

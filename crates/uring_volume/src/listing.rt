@@ -1,6 +1,6 @@
 //! The images of a file, each once: what may be left of its units side by side, for each length.
 
-ghost use Rattle.std.specs.Prelude.{◌≡◌, ◌+◌, ◌-◌, ◌*◌, ◌^◌, ◌<◌, ◌≤◌, ◌∷◌, [], ◌++◌, ◌&&◌, ◌||◌, ℕ, min, max, nat_eq, length, slice_index, if◌then◌else◌, map, reverse, IfOk, OnOk, IsOk};
+ghost use Rattle.std.specs.Prelude.{◌≡◌, ◌+◌, ◌-◌, ◌*◌, ◌^◌, ◌<◌, ◌≤◌, ◌∷◌, [], ◌++◌, ◌&&◌, ◌||◌, ℕ, min, max, nat_eq, length, if◌then◌else◌, map, reverse, IfOk, OnOk, IsOk};
 ghost use Rattle.std.specs.List.{filter};
 ghost use Rattle.uring_volume.specs.Events as spec_events;
 ghost use Rattle.uring_volume.specs.Images.{end_of, length_over};

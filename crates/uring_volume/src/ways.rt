@@ -153,10 +153,10 @@ fn others<'a, M: Memory>(
         ≡ without n (map (λ p. p.now) rest.now)) }
     ensures granted { ((n : ℕ) → M.grants memory.now n) → IsOk result }
 {
-    let mut others = memory.list(alloc, rest.len())?;
+    let mut others = Vec::new(alloc);
     for piece in rest {
         if piece.number() != n {
-            others.push_reserved(*piece);
+            push(memory, &mut others, *piece)?;
         }
     }
     Ok(others)
