@@ -1,5 +1,5 @@
 -- What is read, played and written, put together.
-use Rattle.std.proofs.Common.{◌≡◌, ℕ, List, [], ◌++◌, length, Option, Some, None, Result, Ok, Err, refl, sym, ap, ◌∙◌, subst, append-nil}
+use Rattle.std.proofs.Common.{◌≡◌, ℕ, Bool, List, [], ◌++◌, length, Option, Some, None, Result, Ok, Err, inl, inr, refl, sym, ap, ◌∙◌, subst, append-nil}
 use Rattle.std.specs.Io.KnownBytes.{Appends}
 use Rattle.std.specs.List.Sorted.{IsPermutation}
 use Rattle.std.specs.declared.vec.Vec.{Vec}
@@ -12,10 +12,10 @@ use Rattle.uring_ports.specs.declared.item.Item.{Item}
 use Rattle.uring_play_text.specs.Inputs.{ReadsCalls, lists_of}
 use Rattle.uring_play_text.specs.Outputs.{lines_text, counts_text, IsInOrder, IsWritten, Writes}
 use Rattle.uring_play.specs.Plays.{IsPlay, IsTextOf, IsPlayText, WritesPlay, Plays, made_by}
-use Rattle.uring_play.specs.Threads.{AreFresh, GiveBack, IsPlayed}
+use Rattle.uring_play.specs.Threads.{AreFresh, EndsPlay, GiveBack, IsWhole, WritesWhole}
 use Rattle.uring_play.specs.Totals.{accepted_in, dropped_last}
 use Rattle.uring_play.specs.declared.ends.Ends.{Ends}
-use Rattle.uring_play.specs.declared.settling.Played.{Played}
+use Rattle.uring_threads.specs.Report.{Report}
 use Rattle.uring_play.proofs.PlayedThrough.{accepted_total}
 use Rattle.uring_play_text.specs.declared.play_fault.PlayFault.{PlayFault}
 use Rattle.uring_play_text.specs.declared.play_fault.PlayFault.TheVariants as fault
@@ -74,26 +74,26 @@ out_of_memory g workers answer calls before after held is r =
     let nothing : Plays g workers (Err fault.Memory) before after held held = record { bytes = r.bytes; consumed = r.consumed; whole = tt; written = []; appended = nothing_written held; answers = refl } in
     subst (λ (a : Result (Unit {0}) PlayFault). Plays g workers a before after held held) (sym is) nothing
 
--- it was played
-pub was_played : {K A : Type 0} {i : _} {j : _} {g : Setup} {workers : ℕ} {calls : Vec (Vec Item Global) Global} {ends ended : Ends K A i j} {played : Played} {before after : Option (List ℕ)} (answer : Result (Unit {0}) PlayFault) (held_before held_after : Option (List ℕ))
+-- it was played, and its text or the beginning of it is written
+text_written : {g : Setup} {workers : ℕ} {calls : Vec (Vec Item Global) Global} {before after : Option (List ℕ)} (answer : Result (Unit {0}) PlayFault) (held_before held_after : Option (List ℕ)) (report : Report) (completions : List Cqe)
     → ReadsCalls g (Ok calls) before after
-    → AreFresh g workers ends → GiveBack ends (lists_of calls.items) ended
-    → IsPlayed ended.kernel.kept.setup (length ended.workers.items) (lists_of calls.items) played
-    → WritesPlay answer held_before held_after played.report.trace played.completions.items
+    → report.setup ≡ g → report.workers ≡ workers
+    → IsPlay g (lists_of calls.items) report.trace completions
+    → WritesPlay answer held_before held_after report.trace completions
     → Plays g workers answer before after held_before held_after
-was_played {g = g} {workers = workers} {calls = calls} {played = played} {before = before} {after = after} answer held_before held_after r fresh gave is_played (text, written, (part, appended, is)) =
+text_written {g = g} {workers = workers} {calls = calls} {before = before} {after = after} answer held_before held_after report completions r setup many play (text, written, (part, appended, is)) =
     go answer is
   where
     the_text : (whole : List ℕ) → text ≡ whole → IsPlayText g workers r.bytes whole
     the_text whole same = record {
       calls = lists_of calls.items;
       told = r.returned;
-      report = played.report;
-      setup = is_played.setup ∙ gave.setup ∙ fresh.setup;
-      many = is_played.many ∙ gave.many ∙ fresh.many;
-      completions = played.completions.items;
-      play = subst (λ (s : Setup). IsPlay s (lists_of calls.items) played.report.trace played.completions.items) (gave.setup ∙ fresh.setup) is_played.play;
-      written = subst (λ (t : List ℕ). IsTextOf played.report.trace played.completions.items t) same written;
+      report = report;
+      setup = setup;
+      many = many;
+      completions = completions;
+      play = play;
+      written = subst (λ (t : List ℕ). IsTextOf report.trace completions t) same written;
     }
 
     go : (a : Result (Unit {0}) PlayFault) → IsWritten a text part → Plays g workers a before after held_before held_after
@@ -103,6 +103,18 @@ was_played {g = g} {workers = workers} {calls = calls} {played = played} {before
     go (Err fault.Read) is = absurd is
     go (Err (fault.Line k)) is = absurd is
     go (Err (fault.Long k)) is = absurd is
+
+-- the ends of its threads were settled
+pub was_played : {K A : Type 0} {i : _} {j : _} {g : Setup} {workers : ℕ} {calls : Vec (Vec Item Global) Global} {ends ended : Ends K A i j} {before after : Option (List ℕ)} (answer : Result (Unit {0}) PlayFault) (held_before held_after : Option (List ℕ))
+    → ReadsCalls g (Ok calls) before after
+    → AreFresh g workers ends → GiveBack ends (lists_of calls.items) ended
+    → EndsPlay ended.kernel.kept.setup (length ended.workers.items) (lists_of calls.items) answer held_before held_after
+    → Plays g workers answer before after held_before held_after
+was_played {g = g} {calls = calls} answer held_before held_after r fresh gave (inl p) =
+    text_written answer held_before held_after p.report p.completions r (p.setup ∙ gave.setup ∙ fresh.setup) (p.many ∙ gave.many ∙ fresh.many)
+    (subst (λ (s : Setup). IsPlay s (lists_of calls.items) p.report.trace p.completions) (gave.setup ∙ fresh.setup) p.play) p.written
+was_played {g = g} {workers = workers} {calls = calls} {before = before} {after = after} answer held_before held_after r fresh gave (inr (refused, same)) =
+    subst (λ (h : Option (List ℕ)). Plays g workers answer before after held_before h) (sym same) (out_of_memory g workers answer calls before after held_before refused r)
 
 -- the completions of a lawful trace were sorted and written, and then these counts
 pub counts_told : (g : Setup) (trace : List Event) (completions old sorted : List Cqe) (taken dropped : ℕ) (answer : Result (Unit {0}) PlayFault) (before after : Option (List ℕ))
@@ -118,3 +130,14 @@ counts_told g trace completions old sorted taken dropped answer before after law
       record { sorted = sorted; same = subst (λ (cs : List Cqe). IsPermutation cs sorted) same permuted; in_order = ordered; is = ap (λ (t : List ℕ). lines_text sorted ++ t) counts },
       writes,
     )
+
+-- and so were those of a play that is whole
+pub whole_told : (is_over : Bool) (report : Report) (received old sorted : List Cqe) (taken dropped : ℕ) (answer : Result (Unit {0}) PlayFault) (before after : Option (List ℕ))
+    → IsWhole is_over report → IsLawful report.setup (history_of report.trace)
+    → taken ≡ length (made_by report.setup report.trace).requests.accepted
+    → dropped ≡ dropped_last report.trace → old ≡ received ++ report.undelivered
+    → IsPermutation old sorted → IsInOrder sorted
+    → Writes answer before after (lines_text sorted ++ counts_text taken dropped)
+    → WritesWhole is_over report received answer before after
+whole_told is_over report received old sorted taken dropped answer before after whole lawful all last same permuted ordered writes =
+    inl (whole, counts_told report.setup report.trace (received ++ report.undelivered) old sorted taken dropped answer before after lawful all last same permuted ordered writes)

@@ -1,5 +1,5 @@
 -- A play in which all went through: its trace published all items, and nothing is left.
-use Rattle.std.proofs.Common.{◌≡◌, ℕ, ◌+◌, true, List, [], ◌∷◌, ◌++◌, ◌<◌, get_or, length, map, flat_map, sum, Option, Some, None, refl, sym, ap, ◌∙◌, subst, arith, append-nil}
+use Rattle.std.proofs.Common.{◌≡◌, ℕ, ◌+◌, Bool, true, List, [], ◌∷◌, ◌++◌, ◌<◌, get_or, length, map, flat_map, sum, Option, Some, None, Result, inl, inr, refl, sym, ap, ◌∙◌, subst, arith, append-nil}
 use Rattle.std.specs.Prelude.{unwrap_or}
 use Rattle.std.proofs.lemmas.List.{get_or-map, length-map}
 use Rattle.std.proofs.lemmas.List.Sums.{sum_by_push, sum_by-cons}
@@ -26,7 +26,8 @@ use Rattle.uring_threads.specs.Settled.{finish_of}
 use Rattle.uring_workers.specs.Worker.{Worker}
 use Rattle.uring_workers.specs.declared.job.JobResult.{JobResult}
 use Rattle.uring_play.specs.Plays.{IsPlay}
-use Rattle.uring_play.specs.Threads.{StaysApp, StaysKernel, StayWorkers}
+use Rattle.uring_play_text.specs.declared.play_fault.PlayFault.{PlayFault}
+use Rattle.uring_play.specs.Threads.{EndsPlay, IsWhole, StaysApp, StaysKernel, StayWorkers, WritesWhole}
 use Rattle.uring_play.specs.Totals.{accepted_in, accepted_of}
 
 -- ---- a ring that is closed stays so while results are taken in
@@ -91,6 +92,22 @@ over_is_play calls app kernel workers r completions over all =
       reaped = reaped;
       none_waits = posted;
     })
+
+-- and that is written, or nothing is
+pub ends_play : (calls : List (List Item)) (app : AppEnd) (kernel : Kernel) (workers : List Worker) (r : Report) (is_over : Bool) (answer : Result (Unit {0}) PlayFault) (before after : Option (List ℕ))
+    → (IsWhole is_over r → IsOver calls app kernel workers r) → r.workers ≡ length workers
+    → WritesWhole is_over r app.received answer before after
+    → EndsPlay kernel.kept.setup (length workers) calls answer before after
+ends_play calls app kernel workers r is_over answer before after over many (inl (whole, written)) =
+    inl (record {
+      report = r;
+      setup = (over whole).setup;
+      many = many;
+      completions = app.received ++ r.undelivered;
+      play = over_is_play calls app kernel workers r (app.received ++ r.undelivered) (over whole) refl;
+      written = written;
+    })
+ends_play calls app kernel workers r is_over answer before after over many (inr nothing) = inr nothing
 
 -- ---- how many requests were accepted
 

@@ -1,5 +1,5 @@
 -- What each thread of a play leaves of the end that it was given, and a play that is whole. All of it is our own rule.
-use Rattle.std.specs.Prelude.{◌≡◌, ℕ, Bool, true, List, [], ◌++◌, length, map}
+use Rattle.std.specs.Prelude.{◌≡◌, ◌⊎◌, ℕ, Bool, true, List, [], ◌++◌, length, map, Option, Result, Err}
 use Rattle.std.specs.declared.thread.PromisedHandle.{PromisedHandle}
 use Rattle.uring_entry.specs.Layout.{Cqe}
 use Rattle.uring_entry.specs.Requests.{outstanding_in}
@@ -11,10 +11,11 @@ use Rattle.uring_workers.specs.WorkLanes.{numbers_of_lanes}
 use Rattle.uring_threads.specs.Kernel.{Kernel}
 use Rattle.uring_threads.specs.Report.{Report, left_by}
 use Rattle.uring_workers.specs.Worker.{Worker}
-use Rattle.uring_play.specs.Plays.{IsPlay}
+use Rattle.uring_play_text.specs.declared.play_fault.PlayFault.{PlayFault}
+use Rattle.uring_play_text.specs.declared.play_fault.PlayFault.TheVariants as fault
+use Rattle.uring_play.specs.Plays.{IsPlay, WritesPlay}
 use Rattle.uring_play.specs.declared.ends.Application.{Application}
 use Rattle.uring_play.specs.declared.ends.Ends.{Ends}
-use Rattle.uring_play.specs.declared.settling.Played.{Played}
 use Rattle.uring_play.specs.declared.promises.GivesWorker.{GivesWorker}
 
 -- The application's end is still of its pair of ports.
@@ -84,16 +85,35 @@ pub record GiveBack {K A : Type 0} {g : _} {h : _} (before : Ends K A g h) (call
   pub many : length after.workers.items ≡ length before.workers.items
   pub submits : Submits calls after.application
 
--- The threads did all that was to be done, and settling has left nothing outstanding and nothing that waits: the play has this report, and after the completions that were received those that weren't.
-pub record IsWhole (is_over : Bool) (report : Report) (received : List Cqe) (played : Played) : Type 0 where
+-- The threads did all that was to be done, and settling has left nothing outstanding and nothing that waits.
+pub record IsWhole (is_over : Bool) (report : Report) : Type 0 where
   pub over : is_over ≡ true
   pub none_outstanding : outstanding_in (left_by report).requests ≡ 0
   pub none_waits : report.waiting ≡ []
-  pub report_is : played.report ≡ report
-  pub completions : played.completions.items ≡ received ++ report.undelivered
 
--- a play of these calls by ends of this set-up, with so many workers
-pub record IsPlayed (g : Setup) (workers : ℕ) (calls : List (List Item)) (played : Played) : Type 0 where
-  pub setup : played.report.setup ≡ g
-  pub many : played.report.workers ≡ workers
-  pub play : IsPlay g calls played.report.trace played.completions.items
+-- memory was refused, or something was left undone, and nothing is written
+abbrev pub WritesNothing : Result (Unit {0}) PlayFault → Option (List ℕ) → Option (List ℕ) → Type 0
+WritesNothing answer before after = (answer ≡ Err fault.Memory) × (after ≡ before)
+
+-- If that is so, it is written with the completions that were received and after them those that weren't; else nothing is.
+abbrev pub WritesWhole : Bool → Report → List Cqe → Result (Unit {0}) PlayFault → Option (List ℕ)
+    → Option (List ℕ) → Type 0
+WritesWhole is_over report received answer before after =
+    (IsWhole is_over report
+    × WritesPlay answer before after report.trace (received ++ report.undelivered))
+    ⊎ WritesNothing answer before after
+
+-- A play of these calls by ends of this set-up, with so many workers, is written.
+pub record WritesPlayed (g : Setup) (workers : ℕ) (calls : List (List Item)) (answer : Result (Unit {0}) PlayFault) (before after : Option (List ℕ)) : Type 0 where
+  pub report : Report
+  pub setup : report.setup ≡ g
+  pub many : report.workers ≡ workers
+  pub completions : List Cqe
+  pub play : IsPlay g calls report.trace completions
+  pub written : WritesPlay answer before after report.trace completions
+
+-- or nothing is
+abbrev pub EndsPlay : Setup → ℕ → List (List Item) → Result (Unit {0}) PlayFault → Option (List ℕ)
+    → Option (List ℕ) → Type 0
+EndsPlay g workers calls answer before after =
+    WritesPlayed g workers calls answer before after ⊎ WritesNothing answer before after

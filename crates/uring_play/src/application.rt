@@ -108,31 +108,21 @@ impl<P: AppPort> Application<P> {
         true
     }
 
-    /// Reaps completions for as long as this end sees some, so that a call isn't tried anew for each of them, but no more than `MOST_REAPED`. Whether there was one.
+    /// Reaps completions for as long as this end sees some and there is memory for them, so that a call isn't tried anew for each of them, but no more than `MOST_REAPED`. Whether there was one.
     fn reap_some(&mut self) -> bool
         ensures { OnlyReaps self.old.app self.new.app }
     {
         let mut has_reaped = false;
         'reaping: for _ in 0..MOST_REAPED {
-            if !self.reap() {
+            if self.completions.len() >= self.completions.capacity() {
                 break 'reaping;
             }
+            let Some(completion) = self.app.reap() else {
+                break 'reaping;
+            };
+            self.completions.push_reserved(completion);
             has_reaped = true;
         }
         has_reaped
-    }
-
-    /// Reaps a completion, if there is memory for it and this end sees one. Whether it did.
-    fn reap(&mut self) -> bool
-        ensures { OnlyReaps self.old.app self.new.app }
-    {
-        if self.completions.len() >= self.completions.capacity() {
-            return false;
-        }
-        let Some(completion) = self.app.reap() else {
-            return false;
-        };
-        self.completions.push_reserved(completion);
-        true
     }
 }

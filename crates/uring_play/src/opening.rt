@@ -1,10 +1,16 @@
 //! The ends of a play, as they are made: over lanes, or over shared words.
-ghost use Rattle.std.specs.Prelude.{IfOk};
+ghost use Rattle.std.specs.Prelude.{◌≡◌, ℕ, List, [], IfOk};
+ghost use Rattle.uring_entry.specs.Setup.{Setup};
+ghost use Rattle.uring_threads.specs.Opening.{AreEnds};
 ghost use Rattle.uring_play.specs.Threads.{AreFresh};
 
 use crate::ends::{Application, Ends};
 use std::alloc::{AllocError, Global};
-use uring_threads::{Item, KernelLanes, KernelWords, Open, Setup, lanes, words};
+use uring_core::Cqe;
+use uring_threads::{
+    AppEnd, Item, Kernel, KernelLanes, KernelPort, KernelWords, LanesFault, Open, Setup, Worker,
+    lanes, words,
+};
 
 /// The ends of this set-up over lanes, with so many workers and room for a completion of each item of these calls. `AllocError`: out of memory, if there are 1 to 8 workers and calls of the set-up go on.
 pub(crate) fn over_lanes(
@@ -17,18 +23,7 @@ pub(crate) fn over_lanes(
 {
     let completions = Vec::with_capacity(alloc, count_items(calls))?;
     let gates = vec![in alloc; Open; workers as usize]?;
-    match lanes(alloc, setup, gates) {
-        Ok((app, kernel, workers)) => Ok(Ends {
-            application: Application {
-                app,
-                completions,
-                done: false,
-            },
-            kernel,
-            workers,
-        }),
-        Err(_) => Err(AllocError),
-    }
+    begin(completions, lanes(alloc, setup, gates))
 }
 
 /// The ends of this set-up over words that both sides of each ring share, as `over_lanes` makes them.
@@ -42,7 +37,24 @@ pub(crate) fn over_words(
 {
     let completions = Vec::with_capacity(alloc, count_items(calls))?;
     let gates = vec![in alloc; Open; workers as usize]?;
-    match words(alloc, setup, gates) {
+    begin(completions, words(alloc, setup, gates))
+}
+
+/// The ends of a play over ends that were made, if they were, with this list for the completions. Condition: the list is empty.
+fn begin<K: KernelPort>(
+    completions: Vec<Cqe>,
+    made: Result<(AppEnd<K::App>, Kernel<K>, Vec<Worker<Open>>), LanesFault>,
+) -> Result<Ends<K>, AllocError>
+    requires none { completions.items ≡ [] }
+    requires ends { (g : Setup) × (workers : ℕ)
+        × IfOk made (λ ends. (numbers : List ℕ)
+        × AreEnds g workers numbers ends.0 ends.1 ends.2.items) }
+    ensures { (g : Setup) (workers : ℕ)
+        → IfOk made (λ ends. (numbers : List ℕ)
+        × AreEnds g workers numbers ends.0 ends.1 ends.2.items)
+        → IfOk result (AreFresh g workers) }
+{
+    match made {
         Ok((app, kernel, workers)) => Ok(Ends {
             application: Application {
                 app,

@@ -1,18 +1,21 @@
 //! A play: calls are read, played in threads, and their completions written.
-ghost use Rattle.std.specs.Prelude.{◌≡◌, ◌<◌, ◌≤◌, false};
-ghost use Rattle.uring_play.specs.Plays.{Plays, WritesPlay};
+ghost use Rattle.std.specs.Prelude.{◌≡◌, ℕ, ◌<◌, ◌≤◌, List, Option, Ok, false};
+ghost use Rattle.uring_entry.specs.Setup.{Setup};
+ghost use Rattle.uring_ports.specs.Ports.{nothing_put};
+ghost use Rattle.uring_play_text.specs.Inputs.{ReadsCalls};
+ghost use Rattle.uring_play.specs.Threads.{AreFresh};
+ghost use Rattle.uring_play.specs.Plays.{Plays};
 
+use crate::ends::Ends;
 use crate::opening::{over_lanes, over_words};
 use crate::running::run;
-use crate::settling::{Played, settle_all};
-use crate::totals::dropped_last;
+use crate::settling::settle_all;
 use std::alloc::Global;
 use std::io::{Read, Write};
 use std::sync::Wait;
 use std::thread::Threads;
-use uring_core::Cqe;
-use uring_play_text::{PlayFault, read_calls, write_out};
-use uring_threads::{Open, Report, Setup};
+use uring_play_text::{PlayFault, read_calls};
+use uring_threads::{Item, KernelPort, Setup};
 
 /// Reads all of `reader` as calls of a play over this set-up, plays them with so many workers, and writes the completions of all requests to `writer`, sorted, and then how many requests were accepted and how many words dropped. Conditions: there are 1 to 8 workers, and calls of the set-up go on after an entry with a fault. Our own rule.
 ///
@@ -37,9 +40,7 @@ pub fn play<R: Threads + Wait + Copy + Send + 'static, I: Read, O: Write>(
 {
     let calls = read_calls(alloc, reader, setup)?;
     let ends = over_lanes(alloc, setup, workers, calls.as_slice())?;
-    let ended = run(rt, alloc, ends, calls)?;
-    let played = settle_all(alloc, ended)?;
-    write_played(alloc, writer, played)
+    play_by(rt, alloc, writer, ends, calls)
 }
 
 /// Plays as `play` does, over words that the two sides of each ring share in place of lanes. Conditions: there are 1 to 8 workers, and calls of the set-up go on after an entry with a fault. Our own rule.
@@ -61,37 +62,24 @@ pub fn play_shared<R: Threads + Wait + Copy + Send + 'static, I: Read, O: Write>
 {
     let calls = read_calls(alloc, reader, setup)?;
     let ends = over_words(alloc, setup, workers, calls.as_slice())?;
-    let ended = run(rt, alloc, ends, calls)?;
-    let played = settle_all(alloc, ended)?;
-    write_played(alloc, writer, played)
+    play_by(rt, alloc, writer, ends, calls)
 }
 
-/// Writes the completions of a play, and its counts.
-fn write_played<O: Write>(alloc: Global, writer: &mut O, played: Played) -> Result<(), PlayFault>
-    ensures { WritesPlay result (O.contents writer.old)
-        (O.contents writer.new) played.report.trace played.completions.items }
-{
-    let Played {
-        report,
-        mut completions,
-    } = played;
-    let written = write_report(alloc, writer, &report, &mut completions);
-    drop(report);
-    written
-}
-
-/// Writes these completions, and the counts of the report.
-fn write_report<O: Write>(
+/// Plays these calls by these ends, and writes what comes of it, as `play` does. Condition: nothing was submitted.
+fn play_by<R: Threads + Wait + Copy + Send + 'static, K: KernelPort + Send + 'static, O: Write>(
+    rt: R,
     alloc: Global,
     writer: &mut O,
-    report: &Report<Open>,
-    completions: &mut [Cqe],
+    ends: Ends<K>,
+    calls: Vec<Vec<Item>>,
 ) -> Result<(), PlayFault>
-    ensures { WritesPlay result (O.contents writer.old)
-        (O.contents writer.new) report.now.trace completions.old }
+where
+    K::App: Send + 'static,
+    requires { ends.application.app.submitted ≡ nothing_put }
+    ensures { (g : Setup) (workers : ℕ) (before after : Option (List ℕ)) → AreFresh g workers ends
+        → ReadsCalls g (Ok calls) before after
+        → Plays g workers result before after (O.contents writer.old) (O.contents writer.new) }
 {
-    report.is_lawful();
-    let taken = report.counts().accepted;
-    let dropped = dropped_last(report.trace());
-    write_out(alloc, writer, completions, taken, dropped)
+    let ended = run(rt, alloc, ends, calls)?;
+    settle_all(alloc, writer, ended)
 }

@@ -49,8 +49,8 @@ where
     let application = join(&rt, application);
     let kernel = join(&rt, dispatcher);
     stop.store(true, Ordering::SeqCst);
-    let workers = both(served, Ok(join_workers(rt, started, back)));
-    let ((application, kernel), (_, workers)) = both(both(application, kernel), workers)?;
+    let workers = join_workers(rt, started, back);
+    let (application, kernel, workers) = all_back(application, kernel, served, workers)?;
     Ok(Ends {
         application,
         kernel,
@@ -111,17 +111,22 @@ fn join<R: Threads, T, P: Promise<T>>(
     Ok(thread?.join(rt))
 }
 
-/// Both of these, if both are there.
-fn both<T: Drop, U: Drop>(
-    first: Result<T, AllocError>,
-    second: Result<U, AllocError>,
-) -> Result<(T, U), AllocError>
-    ensures first { IfOk result (λ both. first ≡ Ok both.0) }
-    ensures second { IfOk result (λ both. second ≡ Ok both.1) }
+/// What the threads of the application, the dispatcher and the workers gave back, if all of them were started.
+fn all_back<A: Drop, K: Drop, W: Drop>(
+    application: Result<A, AllocError>,
+    kernel: Result<K, AllocError>,
+    served: Result<(), AllocError>,
+    workers: W,
+) -> Result<(A, K, W), AllocError>
+    ensures application { IfOk result (λ all. application ≡ Ok all.0) }
+    ensures kernel { IfOk result (λ all. kernel ≡ Ok all.1) }
+    ensures served { OnOk result (served ≡ Ok tt) }
+    ensures workers { IfOk result (λ all. workers ≡ all.2) }
 {
-    let first = first?;
-    let second = second?;
-    Ok((first, second))
+    let application = application?;
+    let kernel = kernel?;
+    served?;
+    Ok((application, kernel, workers))
 }
 
 /// Joins the threads of workers, and gives the workers back in their order.

@@ -4,7 +4,7 @@ ghost use Rattle.uring_play.specs.Threads.{StaysKernel, StaysWorker};
 use std::sync::Wait;
 use std::sync::atomic::{AtomicBool, Ordering};
 use std::thread;
-use uring_threads::{Kernel, KernelPort, Open, Turn, Worked, Worker};
+use uring_threads::{Kernel, KernelPort, Open, Worked, Worker};
 
 /// Turns the dispatcher until it is idle or out of memory, or the threads are to stop, and then tells all threads to stop.
 pub(crate) fn dispatch<R: Wait, K: KernelPort>(
@@ -34,15 +34,10 @@ fn goes_on<K: KernelPort>(kernel: &mut Kernel<K>, stop: &AtomicBool) -> bool
     let Ok(turn) = kernel.turn() else {
         return false;
     };
-    if is_empty(&turn) {
+    if turn.popped == 0 && turn.issued == 0 && turn.finished == 0 && turn.delivered == 0 {
         thread::yield_now();
     }
     true
-}
-
-/// Whether nothing was done in a turn.
-fn is_empty(turn: &Turn) -> bool {
-    turn.popped == 0 && turn.issued == 0 && turn.finished == 0 && turn.delivered == 0
 }
 
 /// Turns a worker until the threads are to stop.

@@ -1,31 +1,29 @@
-//! The ends of a play, settled after its threads.
-ghost use Rattle.std.specs.Prelude.{◌≡◌, ◌++◌, List, true, [], length, IfOk, IsTrue, OnOk};
+//! The ends of a play, settled after its threads, and what is written of them.
+ghost use Rattle.std.specs.Prelude.{◌≡◌, List, [], true, length, IsTrue};
 ghost use Rattle.uring_entry.specs.Requests.{outstanding_in};
 ghost use Rattle.uring_ports.specs.declared.item.Item.{Item};
-ghost use Rattle.uring_play.specs.Threads.{IsPlayed, IsWhole, Submits};
+ghost use Rattle.uring_play.specs.Threads.{EndsPlay, Submits, WritesWhole};
 ghost use Rattle.uring_threads.specs.Kept.{now};
 ghost use Rattle.uring_threads.specs.Kernel.{IsIdle};
 ghost use Rattle.uring_threads.specs.Report.{left_by};
 
 use crate::ends::{Application, Ends};
-use std::alloc::{AllocError, Global};
+use crate::totals::dropped_last;
+use std::alloc::Global;
+use std::io::Write;
 use uring_core::Cqe;
-use uring_threads::{Kernel, KernelPort, Open, Report, settle};
+use uring_play_text::{PlayFault, write_out};
+use uring_threads::{KernelPort, Open, Report, settle};
 
-/// What a play leaves.
-#[derive(Drop)]
-pub(crate) struct Played {
-    pub report: Report<Open>,
-
-    /// The completions of all requests, in order.
-    pub completions: Vec<Cqe>,
-}
-
-/// Settles all ends, and takes the completions that weren't received after those that were. `AllocError`: out of memory; or one of the threads was, and so left something undone.
-pub(crate) fn settle_all<K: KernelPort>(alloc: Global, ends: Ends<K>) -> Result<Played, AllocError>
-    ensures { IfOk result
-        (λ played. (calls : List (List Item)) → Submits calls ends.application
-        → IsPlayed ends.kernel.kept.setup (length ends.workers.items) calls played) }
+/// Settles all ends, and writes the completions of all requests, sorted, and the counts. `Memory`: out of memory; or one of the threads was, and so left something undone. Then nothing is written.
+pub(crate) fn settle_all<K: KernelPort, O: Write>(
+    alloc: Global,
+    writer: &mut O,
+    ends: Ends<K>,
+) -> Result<(), PlayFault>
+    ensures { (calls : List (List Item)) → Submits calls ends.application
+        → EndsPlay ends.kernel.kept.setup (length ends.workers.items) calls result
+        (O.contents writer.old) (O.contents writer.new) }
 {
     let is_over = are_done(&ends);
     let Ends {
@@ -35,52 +33,41 @@ pub(crate) fn settle_all<K: KernelPort>(alloc: Global, ends: Ends<K>) -> Result<
     } = ends;
     let Application {
         app,
-        completions,
+        mut completions,
         ..
     } = application;
     match settle(alloc, app, kernel, workers) {
-        Ok(report) => whole_play(is_over, report, completions),
+        Ok(report) => {
+            let written = write_whole(alloc, writer, is_over, &report, &mut completions);
+            drop(report);
+            written
+        }
         Err(ends) => {
             drop(ends);
-            Err(AllocError)
+            Err(PlayFault::Memory)
         }
     }
 }
 
-/// The play of this report, if the threads did all that was to be done, with the completions that weren't received after these, which were. `AllocError`: they didn't; or out of memory.
-fn whole_play(is_over: bool, report: Report<Open>, received: Vec<Cqe>) -> Result<Played, AllocError>
-    ensures { IfOk result (λ played. IsWhole is_over report received.items played) }
-{
-    let mut completions = received;
-    match add_undelivered(is_over, &report, &mut completions) {
-        Ok(()) => Ok(Played {
-            report,
-            completions,
-        }),
-        Err(error) => {
-            drop(report);
-            Err(error)
-        }
-    }
-}
-
-/// Appends the completions that weren't received, if the threads did all that was to be done. `AllocError`: they didn't; or out of memory.
-fn add_undelivered(
+/// Writes these completions, which were received, and those that weren't, sorted, and the counts of the report, if the threads did all that was to be done. `Memory`: they didn't; or out of memory. Then nothing is written.
+fn write_whole<O: Write>(
+    alloc: Global,
+    writer: &mut O,
     is_over: bool,
     report: &Report<Open>,
     completions: &mut Vec<Cqe>,
-) -> Result<(), AllocError>
-    ensures over { OnOk result (is_over ≡ true) }
-    ensures none_outstanding { OnOk result (outstanding_in (left_by report.now).requests ≡ 0) }
-    ensures none_waits { OnOk result (report.now.waiting ≡ []) }
-    ensures completions { OnOk result
-        (completions.new.items ≡ completions.old.items ++ report.now.undelivered) }
+) -> Result<(), PlayFault>
+    ensures { WritesWhole is_over report.now completions.old.items result (O.contents writer.old)
+        (O.contents writer.new) }
 {
     if !is_over || !is_empty(report) {
-        return Err(AllocError);
+        return Err(PlayFault::Memory);
     }
     completions.extend_from_slice(report.undelivered())?;
-    Ok(())
+    report.is_lawful();
+    let taken = report.counts().accepted;
+    let dropped = dropped_last(report.trace());
+    write_out(alloc, writer, completions, taken, dropped)
 }
 
 /// Whether the application submitted all calls and closed, and nothing is left to the dispatcher.

@@ -1,6 +1,5 @@
 use Rattle.std.proofs.Common.{rules}
-use Rattle.uring_play_text.specs.Inputs.{lists_of}
-use Rattle.uring_play.proofs.PlayTexts.{stopped_reading, out_of_memory, was_played}
+use Rattle.uring_play.proofs.PlayTexts.{stopped_reading, out_of_memory}
 use Rattle.uring_play.proofs.playing.play_shared.Goals as goal
 
 pub returns-in_err-calls : goal.returns-in_err-calls
@@ -10,15 +9,6 @@ pub returns-in_err-ends : goal.returns-in_err-ends
 returns-in_err-ends g c =
     out_of_memory c.args.setup.now c.args.workers _ c.in_ok-calls.calls _ _ _ (search rules) c.in_ok-calls.ensures
 
-pub returns-in_err-ended : goal.returns-in_err-ended
-returns-in_err-ended g c =
-    out_of_memory c.args.setup.now c.args.workers _ c.in_ok-calls.calls _ _ _ (search rules) c.in_ok-calls.ensures
-
-pub returns-in_err-played : goal.returns-in_err-played
-returns-in_err-played g c =
-    out_of_memory c.args.setup.now c.args.workers _ c.in_ok-calls.calls _ _ _ (search rules) c.in_ok-calls.ensures
-
 pub returns : goal.returns
 returns g c =
-    was_played c.write_played.result _ _ c.in_ok-calls.ensures c.in_ok-ends.ensures c.in_ok-ended.ensures
-    (c.in_ok-played.ensures (lists_of c.in_ok-calls.calls.items) c.in_ok-ended.ensures.submits) c.write_played.ensures
+    c.play_by.ensures c.args.setup.now c.args.workers _ _ c.in_ok-ends.ensures c.in_ok-calls.ensures

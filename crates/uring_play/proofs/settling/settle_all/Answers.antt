@@ -1,35 +1,27 @@
-use Rattle.std.proofs.Common.{sym, ap, ◌∙◌, subst}
-use Rattle.std.specs.Prelude.{◌++◌}
-use Rattle.std.proofs.lemmas.Result.{IfOk-weaker}
-use Rattle.uring_threads.specs.Report.{Report}
-use Rattle.uring_play.specs.Plays.{IsPlay}
-use Rattle.uring_play.proofs.PlayedThrough.{over_is_play}
+use Rattle.std.proofs.Common.{inr, refl, sym, subst}
+use Rattle.uring_play.specs.Threads.{WritesWhole}
+use Rattle.uring_play.proofs.PlayedThrough.{ends_play}
 use Rattle.uring_play.proofs.settling.settle_all.Goals as goal
 
 pub returns-in-Ok : goal.returns-in-Ok
-returns-in-Ok g c =
+returns-in-Ok g c = λ calls submits.
     let told = c.in-Ok.ensures in
     let ends = c.args.ends in
-    IfOk-weaker c.whole_play.result _ _
-    (λ played whole calls submits.
-    record {
-      setup = ap (λ (r : Report). r.setup) whole.report_is ∙ told.setup;
-      many = ap (λ (r : Report). r.workers) whole.report_is ∙ told.many;
-      play = subst (λ (r : Report). IsPlay ends.kernel.kept.setup calls r.trace played.completions.items) (sym whole.report_is)
-          (over_is_play calls ends.application.app ends.kernel ends.workers.items c.in-Ok.report played.completions.items
-          (record {
-            setup = told.setup;
-            lawful = told.lawful;
-            trace = told.trace;
-            items = told.items;
-            closed = told.closed;
-            reaped = told.reaped;
-            posted = told.posted;
-            idle = c.are_done-is_over.ensures.idle whole.over;
-            submitted = submits (c.are_done-is_over.ensures.done whole.over);
-            none_outstanding = whole.none_outstanding;
-            none_waits = whole.none_waits;
-          })
-          (whole.completions ∙ ap (λ xs. xs ++ c.in-Ok.report.undelivered) (sym ends.application.reaped)));
+    ends_play calls ends.application.app ends.kernel ends.workers.items c.in-Ok.report c.are_done-is_over.result c.write_whole-written.result (g.O.Write.contents c.args.writer.now) (g.O.Write.contents c.write_whole-written.new.writer)
+    (λ whole. record {
+      setup = told.setup;
+      lawful = told.lawful;
+      trace = told.trace;
+      items = told.items;
+      closed = told.closed;
+      reaped = told.reaped;
+      posted = told.posted;
+      idle = c.are_done-is_over.ensures.idle whole.over;
+      submitted = submits (c.are_done-is_over.ensures.done whole.over);
+      none_outstanding = whole.none_outstanding;
+      none_waits = whole.none_waits;
     })
-    c.whole_play.ensures
+    told.many (subst (λ xs. WritesWhole c.are_done-is_over.result c.in-Ok.report xs c.write_whole-written.result (g.O.Write.contents c.args.writer.now) (g.O.Write.contents c.write_whole-written.new.writer)) (sym ends.application.reaped) c.write_whole-written.ensures)
+
+pub returns : goal.returns
+returns g c = λ calls submits. inr (refl, refl)
