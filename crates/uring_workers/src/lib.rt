@@ -13,5 +13,5 @@ pub use job::{Job, JobResult};
 pub use place::{place_of, place_of_file};
 pub use sends::{all_show_room, send};
 pub use uring_files::{FileState, Files};
-pub use work_lanes::{LANE_LENGTH, WorkLanes, open_all, open_all_in};
+pub use work_lanes::{LANE_LENGTH, WorkLanes, open_all_in};
 pub use worker::{Worked, Worker};
