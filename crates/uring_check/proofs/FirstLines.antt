@@ -1,7 +1,8 @@
 -- What a checker makes of the first line, and of those after it.
 use Rattle.std.proofs.Common.{◌≡◌, ℕ, Bool, true, false, List, [], ◌∷◌, ◌++◌, length, Option, Some, None, refl, sym, ap, subst, ◌∙◌}
+use Rattle.std.specs.Prelude.{string_bytes}
 use Rattle.std.specs.declared.alloc.Global.{Global}
-use Rattle.std.specs.declared.vec.Vec.{Vec}
+use Rattle.std.specs.declared.string.String.{String}
 use Rattle.std.proofs.lemmas.List.{append-nil}
 use Rattle.uring_check.specs.Checking.{FitsBy, Looks, LooksBy, LooksIf, IsTold, IsToldIf, awaits_first, rules_of}
 use Rattle.uring_trace.specs.Explanations.{line_number}
@@ -40,7 +41,7 @@ looks_on : (rules : Option Rules) (all : Bool) (lines : List (List ℕ)) (text :
 looks_on (Some g) all lines text old new goes rests l = goes g all lines l
 looks_on None all lines text old new goes rests l =
     let r = rests l.0 in
-    ((r.0, r.1 ∙ l.1, ap (λ (v : Vec ℕ Global). v.items) r.2 ∙ l.2), r.3)
+    ((r.0, r.1 ∙ l.1, ap (λ (t : String Global). string_bytes t) r.2 ∙ l.2), r.3)
 
 -- a line before which no set-up is awaited
 pub took_next : (d : Rules) (all : Bool) (lines : List (List ℕ)) (text : List ℕ) (old new : Checker)
@@ -83,7 +84,7 @@ fresh : (given g : Rules) (all : Bool) (old : Checker) (m : Follower) → LooksB
 fresh given g all old m l same fits =
     from l.found l.lines_are l.numbered l.counted l.decided l.stopped l.told l.fits.1 l.is_all
   where
-    from : (found : List Found) → lines_of found ≡ [] → old.number ≡ line_number (length found) → old.steps ≡ steps_of found → old.verdict ≡ verdict_of found → old.is_over ≡ has_stopped all found → old.report.items ≡ told_of_all given found → old.posters.items ≡ posters (rules_of old.machine).setup (history_after found) → old.is_all ≡ all → LooksBy g all [] (with_follower old m)
+    from : (found : List Found) → lines_of found ≡ [] → old.number ≡ line_number (length found) → old.steps ≡ steps_of found → old.verdict ≡ verdict_of found → old.is_over ≡ has_stopped all found → string_bytes old.report ≡ told_of_all given found → old.posters.items ≡ posters (rules_of old.machine).setup (history_after found) → old.is_all ≡ all → LooksBy g all [] (with_follower old m)
     from [] none n c v s t p a = record { found = []; are = tt; lines_are = refl; is_all = a; same = same; fits = (fits, p); numbered = n; counted = c; decided = v; stopped = s; told = t }
     from (x ∷ before) none n c v s t p a = absurd cc
 
@@ -144,12 +145,12 @@ took_setup d all lines text s old new m waits said rules fits goes k =
 pub took_missed : (d : Rules) (all : Bool) (lines : List (List ℕ)) (text : List ℕ) (old mid new : Checker)
     → old.awaits ≡ true → IsSaid text Misses → mid ≡ record old { awaits = false }
     → new ≡ record mid { verdict = verdict.Bad; is_over = true; report = new.report }
-    → new.report.items ≡ mid.report.items ++ missed_text → Looks d all lines old
+    → string_bytes new.report ≡ string_bytes mid.report ++ missed_text → Looks d all lines old
     → Looks d all (text ∷ lines) new
 took_missed d all lines text old mid new waits said begun is told k =
     let none : lines ≡ [] = first_by lines (sym k.awaits ∙ waits) in
     let l : LooksBy d all [] old = first_looks d all lines old none k in
-    let empty : mid.report.items ≡ [] = ap (λ (c : Checker). c.report.items) begun ∙ l.told ∙ none_told d l.found l.lines_are in
+    let empty : string_bytes mid.report ≡ [] = ap (λ (c : Checker). string_bytes c.report) begun ∙ l.told ∙ none_told d l.found l.lines_are in
     subst (λ (ls : List (List ℕ)). Looks d all (text ∷ ls) new) (sym none)
     (record {
       rules = None;
@@ -161,7 +162,7 @@ took_missed d all lines text old mid new waits said begun is told k =
 -- ---- the end
 
 told_if : (rules : Option Rules) (all : Bool) (lines : List (List ℕ)) (c : Checker) (text : List ℕ)
-    → text ≡ c.report.items ++ closing c.verdict c.steps → LooksIf rules all lines c
+    → text ≡ string_bytes c.report ++ closing c.verdict c.steps → LooksIf rules all lines c
     → IsToldIf rules all lines c.verdict text
 told_if (Some g) all lines c text is l = record {
   found = l.found;
@@ -174,10 +175,10 @@ told_if (Some g) all lines c text is l = record {
       ∙ ap (λ (n : ℕ). told_of_all g l.found ++ closing (verdict_of l.found) n) l.counted;
 }
 told_if None all lines c text is l =
-    (l.1, is ∙ ap (λ (v : Verdict). c.report.items ++ closing v c.steps) l.1 ∙ append-nil c.report.items ∙ l.2)
+    (l.1, is ∙ ap (λ (v : Verdict). string_bytes c.report ++ closing v c.steps) l.1 ∙ append-nil (string_bytes c.report) ∙ l.2)
 
 pub ends_told : (d : Rules) (all : Bool) (lines : List (List ℕ)) (c : Checker) (text : List ℕ)
-    → text ≡ c.report.items ++ closing c.verdict c.steps → Looks d all lines c
+    → text ≡ string_bytes c.report ++ closing c.verdict c.steps → Looks d all lines c
     → IsTold d all lines c.verdict text
 ends_told d all lines c text is k = record {
   rules = k.rules;

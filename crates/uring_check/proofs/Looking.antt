@@ -1,10 +1,12 @@
 -- What a checker makes of lines.
 use Rattle.std.proofs.Common.{◌≡◌, ℕ, ◌+◌, ◌-◌, ◌^◌, min, Bool, true, false, not, ◌||◌, List, ◌∷◌, ◌++◌, length, Option, Some, None, refl, sym, ap, subst, ◌∙◌, append_assoc, arith}
-use Rattle.std.specs.Prelude.{codes}
+use Rattle.std.specs.Prelude.{codes, string_bytes}
 use Rattle.std.specs.declared.alloc.Global.{Global}
+use Rattle.std.specs.declared.string.String.{String}
 use Rattle.std.specs.declared.vec.Vec.{Vec}
 use Rattle.std.proofs.lemmas.List.{append-nil}
 use Rattle.std.proofs.Math.Bool.{or-false}
+use Rattle.uring_entry.specs.Layout.{Sqe}
 use Rattle.uring_entry.specs.Setup.{Setup}
 use Rattle.uring_core.specs.Histories.{History, world}
 use Rattle.uring_core.specs.declared.step.Step.{Step}
@@ -12,7 +14,7 @@ use Rattle.uring_core.specs.declared.wanted.Wanted.{Wanted}
 use Rattle.uring_trace.specs.Explanations.{line_number}
 use Rattle.uring_text.specs.Lines.{ended}
 use Rattle.uring_text.specs.Remarks.{is_remark}
-use Rattle.uring_check.specs.Checking.{FitsBy, IsStanding, Judges, Knows, TellsWanted, LooksBy, Looked, LooksAt, noted_poster, reasons_by, rules_of}
+use Rattle.uring_check.specs.Checking.{FitsBy, IsStanding, Judges, Knows, LooksBy, Looked, LooksAt, noted_poster, reasons_by, rules_of}
 use Rattle.uring_check.specs.Findings.{IsFinding, IsFindingAfter, first_fault, has_stopped, history_after, judged, stops, with_finding}
 use Rattle.uring_check.specs.Findings as finding
 use Rattle.uring_check.specs.Records.{IsRecord, IsNoRecord}
@@ -23,7 +25,6 @@ use Rattle.uring_check.specs.Rules.{Rules, CalledBy, entry_asked}
 use Rattle.uring_check.specs.declared.answer_text.AnswerText.{AnswerText}
 use Rattle.uring_check.specs.declared.checker.Checker.{Checker}
 use Rattle.uring_check.specs.declared.follower.Follower.{Follower}
-use Rattle.uring_check.specs.declared.judging.Told.{Told}
 use Rattle.uring_check.specs.declared.standing.Standing.{Standing}
 use Rattle.uring_check.specs.declared.verdict.Verdict.{Verdict}
 use Rattle.uring_check.specs.declared.verdict.Verdict.TheVariants as verdict
@@ -45,7 +46,7 @@ looked_passed c line h none remark over fits = record {
   counted = refl;
   decided = refl;
   stopped = over;
-  told = sym (append-nil c.report.items);
+  told = sym (append-nil (string_bytes c.report));
 }
 
 three_parts : (i a b c : List ℕ) → i ++ a ++ b ++ c ≡ i ++ (a ++ b ++ c)
@@ -65,22 +66,21 @@ wrong_told : (g : Rules) (h : History) (n : ℕ) (line items : List ℕ) (s : St
 wrong_told g h n line items s wanted = regroup items (line_text n) (ended (visible_line line)) (codes "wanted: ") (ended (wanted_text (entry_asked g h s) wanted)) (reasons_told g.setup h s wanted)
 
 -- they are those of what was asked
-reasons_are : (g : Setup) (h : History) (s : Step) (x : Standing) (wanted : Wanted) (completion : Option ℕ)
-    → IsStanding g h s x → completion ≡ completion_wanted wanted
-    → reasons_by x completion ≡ reasons_told g h s wanted
-reasons_are g h s x wanted completion is same = rw (is.why, is.chosen, is.found, is.poster, same) refl
+reasons_are : (g : Rules) (h : History) (s : Step) (x : Standing) (wanted : Wanted) → IsStanding g h s x
+    → reasons_by x (completion_wanted wanted) ≡ reasons_told g.setup h s wanted
+reasons_are g h s x wanted is = rw (is.why, is.chosen, is.found, is.poster) refl
 
 -- a checker that found a bad line, and told it
-abbrev pub found_bad : Checker → Vec ℕ Global → Checker
+abbrev pub found_bad : Checker → String Global → Checker
 found_bad c report = record c { is_over = true; report = report }
 
-pub looked_bad : (old mid : Checker) (report : Vec ℕ Global) (line : List ℕ) (h : History)
+pub looked_bad : (old mid : Checker) (report : String Global) (line : List ℕ) (h : History)
     → mid ≡ record old { verdict = first_fault old.verdict verdict.Bad } → IsNoRecord line
     → is_remark line ≡ false → Knows old h
-    → report.items ≡ mid.report.items ++ line_text mid.number ++ ended (codes "bad line") ++ why_bad line
+    → string_bytes report ≡ string_bytes mid.report ++ line_text mid.number ++ ended (codes "bad line") ++ why_bad line
     → Looked old (found_bad mid report) line h
 looked_bad old mid report line h is none remark fits =
-    subst (λ (m : Checker). report.items ≡ m.report.items ++ line_text m.number ++ ended (codes "bad line") ++ why_bad line → Looked old (found_bad m report) line h) (sym is)
+    subst (λ (m : Checker). string_bytes report ≡ string_bytes m.report ++ line_text m.number ++ ended (codes "bad line") ++ why_bad line → Looked old (found_bad m report) line h) (sym is)
     (λ told. record {
       finding = finding.Bad;
       is_so = (none, remark);
@@ -92,7 +92,7 @@ looked_bad old mid report line h is none remark fits =
       counted = refl;
       decided = refl;
       stopped = refl;
-      told = told ∙ bad_told (rules_of old.machine) h old.number line old.report.items;
+      told = told ∙ bad_told (rules_of old.machine) h old.number line (string_bytes old.report);
     })
 
 -- a checker whose machine made a step, to which this text was told
@@ -125,24 +125,23 @@ looked_right old m t p steps before after s text line notes counted same over ju
       counted = counted;
       decided = refl;
       stopped = over;
-      told = sym (append-nil old.report.items);
+      told = sym (append-nil (string_bytes old.report));
     }
 
 -- a checker that found a wrong line, and told it
-abbrev pub found_wrong : Checker → Vec ℕ Global → Checker
+abbrev pub found_wrong : Checker → String Global → Checker
 found_wrong c report = record c { verdict = first_fault c.verdict verdict.Wrong; is_over = not c.is_all; report = report }
 
-pub looked_wrong : (old new : Checker) (m : Follower) (t : AnswerText) (p : Vec ℕ Global) (before after : ℕ) (s : Step) (text line : List ℕ) (shown : Told) (x : Standing)
+pub looked_wrong : (old new : Checker) (m : Follower) (t : AnswerText) (p : Vec ℕ Global) (before after : ℕ) (s : Step) (text line : List ℕ) (wanted : Wanted) (x : Standing)
     → Notes old m p s before after → rules_of m ≡ rules_of old.machine
-    → ((h : History) → Knows old h → IsStanding (rules_of old.machine).setup h s x)
-    → (wanted : Wanted) × TellsWanted old.machine s wanted shown.text.items × (shown.completion ≡ completion_wanted wanted) × Judges old.machine m s text (Some wanted)
+    → ((h : History) → Knows old h → IsStanding (rules_of old.machine) h s x)
+    → Judges old.machine m s text (Some wanted)
     → new ≡ found_wrong (with_machine old m t p) new.report
-    → new.report.items
-    ≡ old.report.items ++ line_text old.number ++ ended (visible_line line) ++ codes "wanted: " ++ ended shown.text.items ++ reasons_by x shown.completion
+    → string_bytes new.report
+    ≡ string_bytes old.report ++ line_text old.number ++ ended (visible_line line) ++ codes "wanted: " ++ ended (wanted_text x.asked wanted) ++ reasons_by x (completion_wanted wanted)
     → IsRecord line s text → LooksAt old new line
-looked_wrong old new m t p before after s text line shown x notes same asked judges is told rec = λ h f.
-    let j = judges.3 h f.0 in
-    let wanted : Wanted = judges.0 in
+looked_wrong old new m t p before after s text line wanted x notes same asked judges is told rec = λ h f.
+    let j = judges h f.0 in
     let eq : (rules_of old.machine).setup ≡ (rules_of m).setup = ap (λ (r : Rules). r.setup) (sym same) in
     let later : History = with_finding (finding.Wrong s wanted) h in
     let known : p.items ≡ posters (rules_of m).setup later = knows_resumed (rules_of m).setup s wanted h old.posters.items p.items before after (fits_lawful m later j.1) (f.1 ∙ ap (λ (g : Setup). posters g h) eq) (notes.before_is h f ∙ ap (λ (g : Setup). length (world g h).completions.posted) eq) (notes.after_is later j.1) notes.more in
@@ -159,9 +158,9 @@ looked_wrong old new m t p before after s text line shown x notes same asked jud
       stopped = ap (λ (c : Checker). c.is_over) is;
       told =
           told
-          ∙ ap (λ (t : List ℕ). old.report.items ++ line_text old.number ++ ended (visible_line line) ++ codes "wanted: " ++ ended t ++ reasons_by x shown.completion) (judges.1 h f.0)
-          ∙ ap (λ (w : List ℕ). old.report.items ++ line_text old.number ++ ended (visible_line line) ++ codes "wanted: " ++ ended (wanted_text (entry_asked (rules_of old.machine) h s) wanted) ++ w) (reasons_are (rules_of old.machine).setup h s x wanted shown.completion (asked h f) judges.2)
-          ∙ wrong_told (rules_of old.machine) h old.number line old.report.items s wanted;
+          ∙ ap (λ (e : Option Sqe). string_bytes old.report ++ line_text old.number ++ ended (visible_line line) ++ codes "wanted: " ++ ended (wanted_text e wanted) ++ reasons_by x (completion_wanted wanted)) (asked h f).asked
+          ∙ ap (λ (w : List ℕ). string_bytes old.report ++ line_text old.number ++ ended (visible_line line) ++ codes "wanted: " ++ ended (wanted_text (entry_asked (rules_of old.machine) h s) wanted) ++ w) (reasons_are (rules_of old.machine) h s x wanted (asked h f))
+          ∙ wrong_told (rules_of old.machine) h old.number line (string_bytes old.report) s wanted;
     }
 
 -- ---- all lines

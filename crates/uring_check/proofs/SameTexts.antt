@@ -1,5 +1,5 @@
 -- No two answers that are called for to one step have the same text.
-use Rattle.std.proofs.Common.{◌≡◌, ℕ, pos, neg_ℤ, ◌^◌, ◌<◌, Bool, true, false, if◌then◌else◌, List, get_or, drop, sym, ap, ◌∙◌, inl, inr, arith}
+use Rattle.std.proofs.Common.{◌≡◌, ℕ, pos, neg_ℤ, ◌^◌, ◌<◌, Bool, true, false, List, get_or, drop, sym, ap, ◌∙◌, inl, inr, arith}
 use Rattle.std.proofs.lemmas.Fmt.{signed_decimal_injective}
 use Rattle.uring_entry.specs.Requests.{Requests, entry_of, is_running, no_bytes}
 use Rattle.uring_entry.specs.Preparation.{operation_of}

@@ -3,7 +3,6 @@ use Rattle.std.specs.Prelude.{◌≡◌, ◌≢◌, ℕ, Bool, true, false, opti
 use Rattle.std.specs.Io.KnownBytes.{Consumes, IsAtEnd}
 use Rattle.std.specs.List.{AllByRecursion}
 use Rattle.uring_core.specs.Core.{FitsApart}
-use Rattle.uring_entry.specs.Setup.{Setup}
 use Rattle.uring_core.specs.World.{requests_of}
 use Rattle.uring_core.specs.Histories.{History, world}
 use Rattle.uring_machine.specs.Machine.{Fits}
@@ -26,13 +25,12 @@ use Rattle.uring_trace.specs.Chosen.{chosen_told}
 use Rattle.uring_trace.specs.Reasons.{found_text}
 use Rattle.uring_check.specs.Cancels.{found_asked}
 use Rattle.uring_check.specs.Posters.{next_poster, posters}
-use Rattle.uring_check.specs.Reports.{missed_text, report, told_of, told_of_all, counted_with, steps_of, wanted_text, completion_wanted, whom_told, whose_told, why_asked, why_told}
+use Rattle.uring_check.specs.Reports.{missed_text, report, told_of, told_of_all, counted_with, steps_of, whom_told, whose_told, why_asked, why_told}
 use Rattle.uring_check.specs.Rules.{AreJudgedBy, Rules, AllowedBy, CalledBy, IsPlain, entry_asked, is_apart}
 use Rattle.uring_check.specs.declared.ends.Ends.TheVariants as ends
 use Rattle.uring_check.specs.declared.checker.Checker.{Checker}
 use Rattle.uring_check.specs.declared.follower.Follower.{Follower}
 use Rattle.uring_check.specs.declared.follower.Follower.TheVariants.{Whole, Apart, Allowed}
-use Rattle.uring_check.specs.declared.judging.Told.{Told}
 use Rattle.uring_check.specs.declared.reading.Reading.{Reading}
 use Rattle.uring_check.specs.declared.standing.Standing.{Standing}
 use Rattle.uring_check.specs.declared.verdict.Verdict.{Verdict}
@@ -83,17 +81,6 @@ abbrev pub Judges : Follower → Follower → Step → List ℕ → Option Wante
 Judges old new s text found =
     (h : History) → FitsBy old h → IsJudged (rules_of old) h new s text found
 
--- the text tells what is wanted, whatever the history that the follower fits
-abbrev pub TellsWanted : Follower → Step → Wanted → List ℕ → Type 0
-TellsWanted m s wanted text = (h : History) → FitsBy m h
-    → text ≡ wanted_text (entry_asked (rules_of m) h s) wanted
-
--- the same, with the text of the answers that are called for, and the user data of a completion that is
-abbrev pub JudgesTold : Follower → Follower → Step → List ℕ → Option Told → Type 0
-JudgesTold old new s text None = Judges old new s text None
-JudgesTold old new s text (Some told) =
-    (wanted : Wanted) × TellsWanted old s wanted told.text.items × (told.completion ≡ completion_wanted wanted) × Judges old new s text (Some wanted)
-
 -- a refusal told that these answers are wanted, and the machine goes on from there
 abbrev pub IsWanted : History → Follower → Step → Wanted → Type 0
 IsWanted h m s wanted = IsWrong (CalledBy (rules_of m) h s) answer.Filled wanted
@@ -106,13 +93,14 @@ pub record IsEither (wanted : Wanted) (one other : Answer) : Type 0 where
   pub other_meets : Meets wanted other
   pub nothing : (s : Step) (h : History) → resumed s (refusal.Wrong wanted) h ≡ h
 
--- What is asked before a step: how its request stands, whom a cancel chooses, whose completion is reaped next, and how much is posted.
-pub record IsStanding (g : Setup) (h : History) (s : Step) (x : Standing) : Type 0 where
-  pub why : x.why ≡ why_asked g.linux (requests_of (world g h)) s
-  pub chosen : option_map (λ text. string_bytes text) x.chosen ≡ chosen_told g.linux (requests_of (world g h)) s
-  pub found : x.found ≡ found_asked g.linux (requests_of (world g h)) s
-  pub poster : x.poster ≡ next_poster g h
-  pub posted : x.posted ≡ length (world g h).completions.posted
+-- What is asked before a step: how its request stands, whom a cancel chooses, whose completion is reaped next, how much is posted, and of which entry a result is to be one.
+pub record IsStanding (g : Rules) (h : History) (s : Step) (x : Standing) : Type 0 where
+  pub why : x.why ≡ why_asked g.setup.linux (requests_of (world g.setup h)) s
+  pub chosen : option_map (λ text. string_bytes text) x.chosen ≡ chosen_told g.setup.linux (requests_of (world g.setup h)) s
+  pub found : x.found ≡ found_asked g.setup.linux (requests_of (world g.setup h)) s
+  pub poster : x.poster ≡ next_poster g.setup h
+  pub posted : x.posted ≡ length (world g.setup h).completions.posted
+  pub asked : x.asked ≡ entry_asked g h s
 
 -- what is told of a wrong answer by what was asked, where a completion of this user data is wanted, or none
 abbrev pub reasons_by : Standing → Option ℕ → List ℕ
@@ -145,7 +133,7 @@ pub record LooksBy (g : Rules) (all : Bool) (lines : List (List ℕ)) (c : Check
   pub counted : c.steps ≡ steps_of found
   pub decided : c.verdict ≡ verdict_of found
   pub stopped : c.is_over ≡ has_stopped all found
-  pub told : c.report.items ≡ told_of_all g found
+  pub told : string_bytes c.report ≡ told_of_all g found
 
 -- whether the next line is the first one, which may say a set-up
 abbrev pub awaits_first : List (List ℕ) → Bool
@@ -156,7 +144,7 @@ awaits_first (line ∷ before) = false
 abbrev pub LooksIf : Option Rules → Bool → List (List ℕ) → Checker → Type 0
 LooksIf (Some g) all lines c = LooksBy g all lines c
 LooksIf None all lines c =
-    (c.is_over ≡ true) × (c.verdict ≡ verdict.Bad) × (c.report.items ≡ missed_text)
+    (c.is_over ≡ true) × (c.verdict ≡ verdict.Bad) × (string_bytes c.report ≡ missed_text)
 
 -- The checker has looked at these lines, the newest first, of which the first may have said a set-up.
 pub record Looks (given : Rules) (all : Bool) (lines : List (List ℕ)) (c : Checker) : Type 0 where
@@ -195,8 +183,8 @@ pub record Looked (old new : Checker) (line : List ℕ) (h : History) : Type 0 w
   pub counted : new.steps ≡ counted_with finding old.steps
   pub decided : new.verdict ≡ judged old.verdict finding
   pub stopped : new.is_over ≡ stops old.is_all finding
-  pub told : new.report.items
-      ≡ old.report.items ++ told_of (rules_of old.machine) h old.number line finding
+  pub told : string_bytes new.report
+      ≡ string_bytes old.report ++ told_of (rules_of old.machine) h old.number line finding
 
 -- a line was looked at, whatever the history
 abbrev pub LooksAt : Checker → Checker → List ℕ → Type 0

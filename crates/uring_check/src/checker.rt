@@ -1,21 +1,20 @@
 //! What a check makes of lines, one by one.
 
-ghost use Rattle.std.specs.Prelude.{◌≡◌, ◌∷◌, ◌++◌, [], true, false, not, ℕ, List, Bool, IfOk, IsOk, OnOk, codes};
+ghost use Rattle.std.specs.Prelude.{◌≡◌, ◌∷◌, ◌++◌, [], true, false, not, ℕ, List, Bool, IfOk, IsOk, OnOk, codes, string_bytes};
 ghost use Rattle.uring_core.specs.Histories.{History};
 ghost use Rattle.uring_text.specs.KeptLine.{kept_of};
 ghost use Rattle.uring_text.specs.Lines.{ended};
 ghost use Rattle.uring_text.specs.Visible.{visible_line};
-ghost use Rattle.uring_check.specs.Checking.{FitsBy, IsStanding, reasons_by, rules_of, Looks, LooksAt, LooksBy, IsTold};
+ghost use Rattle.uring_check.specs.Checking.{FitsBy, reasons_by, rules_of, Looks, LooksAt, LooksBy, IsTold};
 ghost use Rattle.uring_check.specs.Findings.{first_fault};
-ghost use Rattle.uring_check.specs.Posters.{posters};
 ghost use Rattle.uring_check.specs.Rules.{Rules};
-ghost use Rattle.uring_check.specs.Reports.{line_text, missed_text};
+ghost use Rattle.uring_check.specs.Reports.{completion_wanted, line_text, missed_text, wanted_text};
 ghost use Rattle.uring_check.specs.Records.{IsRecord, IsNoRecord};
 
 use crate::answer_text::AnswerText;
 use crate::ends::Ends;
 use crate::follower::Follower;
-use crate::judging::{Told, judge_told};
+use crate::judging::judge;
 use crate::record_line::split_record;
 use crate::setup_line::{Said, said_by_in};
 use crate::standing::{Standing, note_poster};
@@ -23,8 +22,8 @@ use crate::telling::{tell_bad, tell_end, tell_wrong};
 use crate::verdict::Verdict;
 use std::alloc::{AllocError, Global};
 use std::mem;
-use uring_machine::{Setup, Step};
-use uring_text::{KeptLine, TextMemory, push_bytes};
+use uring_machine::{Setup, Step, Wanted};
+use uring_text::{KeptLine, TextMemory, push_text};
 use uring_trace::read_step_in;
 
 /// What is told of a first line that is to say a set-up and says none.
@@ -49,7 +48,8 @@ pub(crate) struct Checker {
     verdict: Verdict,
     // Whether no further line is looked at.
     is_over: bool,
-    report: Vec<u8>,
+    // What is told of the lines.
+    pub(crate) report: String,
     told: AnswerText,
 }
 
@@ -76,7 +76,7 @@ impl Checker {
             steps: 0,
             verdict: Verdict::Lawful,
             is_over: false,
-            report: Vec::new(alloc),
+            report: String::new(alloc),
             told: AnswerText::new(alloc),
         })
     }
@@ -133,13 +133,13 @@ impl Checker {
         ensures granted { ((n : ℕ) → M.grants memory.now n) → IsOk result }
     {
         let begun = Follower::new(memory, self.alloc, setup, self.machine.ends())?;
-        drop(mem::replace(&mut self.machine, begun));
+        mem::replace(&mut self.machine, begun).let_go();
         Ok(())
     }
 
     /// Finds that the first line says no set-up, though it begins so: it is bad, and no line after it is looked at.
     fn miss<M: TextMemory>(&mut self, memory: &M) -> Result<(), AllocError>
-        ensures told { OnOk result (self.new.report.items ≡ self.old.report.items ++ missed_text) }
+        ensures told { OnOk result (string_bytes self.new.report ≡ string_bytes self.old.report ++ missed_text) }
         ensures kept { OnOk result
             (self.new
             ≡ record self.old { verdict = Verdict.Bad; is_over = true; report = self.new.report }) }
@@ -147,7 +147,7 @@ impl Checker {
     {
         self.verdict = Verdict::Bad;
         self.is_over = true;
-        push_bytes(memory, &mut self.report, MISSED.as_bytes())
+        push_text(memory, &mut self.report, MISSED)
     }
 
     /// Takes in a line after which no set-up is said.
@@ -173,24 +173,16 @@ impl Checker {
     pub(crate) fn end<M: TextMemory>(&mut self, memory: &M) -> Result<Verdict, AllocError>
         ensures told { IfOk result
             (λ verdict. (g : Rules) (all : Bool) (lines : List (List ℕ))
-            → Looks g all lines self.old → IsTold g all lines verdict self.new.report.items) }
+            → Looks g all lines self.old → IsTold g all lines verdict (string_bytes self.new.report)) }
         ensures granted { ((n : ℕ) → M.grants memory.now n) → IsOk result }
     {
-        tell_end(
-            memory,
-            self.alloc,
-            &mut self.report,
-            self.verdict,
-            self.steps,
-        )?;
+        tell_end(memory, &mut self.report, self.verdict, self.steps)?;
         Ok(self.verdict)
     }
 
-    /// The report so far.
-    pub(crate) fn report(&self) -> &[u8]
-        ensures { result.now ≡ self.now.report.items }
-    {
-        self.report.as_slice()
+    /// Lets it go.
+    pub(crate) fn let_go(self) {
+        self.machine.let_go();
     }
 
     /// Looks at a line.
@@ -244,21 +236,14 @@ impl Checker {
         ensures granted { ((n : ℕ) → M.grants memory.now n) → (h : History)
             → FitsBy self.old.machine h → IsOk result }
     {
-        let standing = stand(
+        let standing = Standing::before(
             memory,
             self.alloc,
             &self.machine,
             self.posters.as_slice(),
             step,
         )?;
-        let judged = judge_told(
-            memory,
-            self.alloc,
-            &mut self.told,
-            &mut self.machine,
-            step,
-            text,
-        )?;
+        let judged = judge(memory, &mut self.told, &mut self.machine, step, text)?;
         note_poster(
             memory,
             &mut self.posters,
@@ -271,7 +256,7 @@ impl Checker {
                 self.steps = self.steps.saturating_add(1);
                 Ok(())
             }
-            Some(told) => self.find_wrong(memory, line, &told, &standing),
+            Some(wanted) => self.find_wrong(memory, line, &wanted, &standing),
         }
     }
 
@@ -280,26 +265,25 @@ impl Checker {
         &mut self,
         memory: &M,
         line: &[u8],
-        told: &Told,
+        wanted: &Wanted,
         standing: &Standing,
     ) -> Result<(), AllocError>
         ensures kept { OnOk result
             (self.new
             ≡ record self.old { verdict = first_fault self.old.verdict Verdict.Wrong; is_over = not self.old.is_all; report = self.new.report }) }
         ensures told { OnOk result
-            (self.new.report.items
-            ≡ self.old.report.items ++ line_text self.old.number ++ ended (visible_line line.now) ++ codes "wanted: " ++ ended told.now.text.items ++ reasons_by standing.now told.now.completion) }
+            (string_bytes self.new.report
+            ≡ string_bytes self.old.report ++ line_text self.old.number ++ ended (visible_line line.now) ++ codes "wanted: " ++ ended (wanted_text standing.now.asked wanted.now) ++ reasons_by standing.now (completion_wanted wanted.now)) }
         ensures granted { ((n : ℕ) → M.grants memory.now n) → IsOk result }
     {
         self.fault(Verdict::Wrong);
         self.is_over = !self.is_all;
         tell_wrong(
             memory,
-            self.alloc,
             &mut self.report,
             self.number,
             line,
-            told,
+            wanted,
             standing,
         )
     }
@@ -312,21 +296,4 @@ impl Checker {
             self.verdict = verdict;
         }
     }
-}
-
-/// What is asked of a follower before a step. These are the numbers of the requests whose completions were posted.
-fn stand<M: TextMemory>(
-    memory: &M,
-    alloc: Global,
-    machine: &Follower,
-    numbers: &[u64],
-    step: &Step,
-) -> Result<Standing, AllocError>
-    ensures standing { IfOk result
-        (λ standing. (h : History) → FitsBy machine.now h
-        → numbers.now ≡ posters (rules_of machine.now).setup h
-        → IsStanding (rules_of machine.now).setup h step.now standing) }
-    ensures granted { ((n : ℕ) → M.grants memory.now n) → IsOk result }
-{
-    Standing::before(memory, alloc, machine.core(), numbers, step)
 }

@@ -8,15 +8,14 @@ ghost use Rattle.uring_core.specs.declared.answer.Answer.TheVariants as answer;
 ghost use Rattle.uring_text.specs.Spelling.{IsFile};
 ghost use Rattle.uring_trace.specs.Text.{text_of};
 ghost use Rattle.uring_check.specs.Rules.{AllowedBy, CalledBy, IsPlain, MayGive, is_apart};
-ghost use Rattle.uring_check.specs.Reports.{completion_wanted, wanted_text};
-ghost use Rattle.uring_check.specs.Checking.{FitsBy, rules_of, Judges, JudgesTold, IsJudged, IsOneJudged, HasOneAnswer, IsWanted, IsEither};
+ghost use Rattle.uring_check.specs.Checking.{FitsBy, rules_of, Judges, IsJudged, IsOneJudged, HasOneAnswer, IsWanted, IsEither};
 
 use crate::answer_text::AnswerText;
 use crate::follower::Follower;
-use crate::telling::push_wanted;
-use std::alloc::{AllocError, Global};
+use std::alloc::AllocError;
 use uring_entry::{Sqe, errno};
 use uring_machine::{Answer, Refusal, Step, Wanted};
+<<<<<<< HEAD
 use uring_entry::may_end;
 use uring_text::{TextMemory, push_bytes, spelled_signed};
 
@@ -28,9 +27,13 @@ pub(crate) struct Told {
     /// The user data of a completion, if one alone is called for.
     pub(crate) completion: Option<u64>,
 }
+=======
+use uring_results::may_end;
+use uring_text::{TextMemory, spelled_signed};
+>>>>>>> trace
 
 /// Makes a step with an answer of this text, if one is called for: `None`. Else it tells which answers are; if that is one alone, the machine goes on as though it had been given, and else as though the step hadn't been made. `AllocError`: memory was refused, to the step or to a text. Here and below: on a machine that fits a history there is no error if the memory grants whatever is asked for.
-fn judge<M: TextMemory>(
+pub(crate) fn judge<M: TextMemory>(
     memory: &M,
     told: &mut AnswerText,
     machine: &mut Follower,
@@ -44,91 +47,11 @@ fn judge<M: TextMemory>(
 {
     match step {
         Step::Begin { .. } | Step::Finish { .. } => judge_open(memory, told, machine, step, text),
-        _ => judge_sure(memory, told, machine, step, text),
+        _ => {
+            let answer = machine.step(memory, step);
+            judge_one(memory, told, answer, text)
+        }
     }
-}
-
-/// Judges a step, and gives what is told of the answers that are called for if the text isn't that of one.
-pub(crate) fn judge_told<M: TextMemory>(
-    memory: &M,
-    alloc: Global,
-    told: &mut AnswerText,
-    machine: &mut Follower,
-    step: &Step,
-    text: &[u8],
-) -> Result<Option<Told>, AllocError>
-    ensures rules { rules_of machine.new ≡ rules_of machine.old }
-    ensures judges { IfOk result (JudgesTold machine.old machine.new step.now text.now) }
-    ensures granted { ((n : ℕ) → M.grants memory.now n) → (h : History) → FitsBy machine.old h
-        → IsOk result }
-{
-    let asked = machine.entry_asked(step);
-    match judge(memory, told, machine, step, text) {
-        Ok(None) => Ok(None),
-        Ok(Some(wanted)) => Ok(Some(told_of(memory, alloc, &asked, &wanted)?)),
-        Err(error) => Err(error),
-    }
-}
-
-/// What is told of the answers that are called for. A result is to be one of this entry's operation, if there is one.
-fn told_of<M: TextMemory>(
-    memory: &M,
-    alloc: Global,
-    asked: &Option<Sqe>,
-    wanted: &Wanted,
-) -> Result<Told, AllocError>
-    ensures text { IfOk result (λ told. told.text.items ≡ wanted_text asked.now wanted.now) }
-    ensures completion { IfOk result (λ told. told.completion ≡ completion_wanted wanted.now) }
-    ensures granted { ((n : ℕ) → M.grants memory.now n) → IsOk result }
-{
-    Ok(Told {
-        text: wanted_bytes(memory, alloc, asked, wanted)?,
-        completion: completion_in(wanted),
-    })
-}
-
-/// The user data of a completion, if one alone is called for.
-fn completion_in(wanted: &Wanted) -> Option<u64>
-    ensures { result ≡ completion_wanted wanted.now }
-{
-    match wanted {
-        Wanted::Only(Answer::Reaped(completion)) => Some(completion.user_data()),
-        _ => None,
-    }
-}
-
-/// The text of the answers that are called for.
-fn wanted_bytes<M: TextMemory>(
-    memory: &M,
-    alloc: Global,
-    asked: &Option<Sqe>,
-    wanted: &Wanted,
-) -> Result<Vec<u8>, AllocError>
-    ensures text { IfOk result (λ told. told.items ≡ wanted_text asked.now wanted.now) }
-    ensures granted { ((n : ℕ) → M.grants memory.now n) → IsOk result }
-{
-    let mut text = String::new(alloc);
-    push_wanted(memory, &mut text, asked, wanted)?;
-    let mut bytes = Vec::new(alloc);
-    push_bytes(memory, &mut bytes, text.as_bytes())?;
-    Ok(bytes)
-}
-
-/// Judges a step to which one answer alone is called for, and makes it with that.
-fn judge_sure<M: TextMemory>(
-    memory: &M,
-    told: &mut AnswerText,
-    machine: &mut Follower,
-    step: &Step,
-    text: &[u8],
-) -> Result<Option<Wanted>, AllocError>
-    requires { HasOneAnswer step.now }
-    ensures rules { rules_of machine.new ≡ rules_of machine.old }
-    ensures judges { IfOk result (Judges machine.old machine.new step.now text.now) }
-    ensures granted { ((n : ℕ) → M.grants memory.now n) → IsOk result }
-{
-    let answer = machine.step(memory, step);
-    judge_one(memory, told, answer, text)
 }
 
 /// Judges a Begin or a Finish, to which two answers may be called for. It follows an answer that neither is ever given, and so is told those that are.

@@ -1,6 +1,6 @@
 //! The lines of bytes, given to a checker one by one.
 
-ghost use Rattle.std.specs.Prelude.{◌≡◌, ◌≢◌, ℕ, List, [], ◌∷◌, ◌++◌, Bool, Err, IfErr, IfOk, IsOk, OnOk};
+ghost use Rattle.std.specs.Prelude.{◌≡◌, ◌≢◌, ℕ, List, [], ◌∷◌, ◌++◌, Bool, Err, IfErr, IfOk, IsOk, OnOk, string_bytes};
 ghost use Rattle.uring_text.specs.Streams.{AreOver};
 ghost use Rattle.uring_check.specs.Checking.{Has, ReadsIn};
 ghost use Rattle.uring_check.specs.Checks.{IsVerdict};
@@ -81,7 +81,11 @@ impl Reading {
             (before : List ℕ) → Has g all self.old before → IsOk result }
     {
         for byte in bytes {
-            self.take(memory, *byte)?;
+            if *byte == b'\n' {
+                self.end_line(memory)?;
+            } else {
+                self.keep(*byte);
+            }
         }
         Ok(())
     }
@@ -90,7 +94,7 @@ impl Reading {
     pub(crate) fn end<M: TextMemory>(&mut self, memory: &M) -> Result<Verdict, AllocError>
         ensures verdict { IfOk result
             (λ verdict. (g : Rules) (all : Bool) (bytes : List ℕ) → Has g all self.old bytes
-            → IsVerdict g all bytes self.new.checker.report.items verdict) }
+            → IsVerdict g all bytes (string_bytes self.new.checker.report) verdict) }
         ensures granted { ((n : ℕ) → M.grants memory.now n) → (g : Rules) (all : Bool)
             (before : List ℕ) → Has g all self.old before → IsOk result }
     {
@@ -103,26 +107,14 @@ impl Reading {
 
     /// The report so far.
     pub(crate) fn report(&self) -> &[u8]
-        ensures { result.now ≡ self.now.checker.report.items }
+        ensures { result.now ≡ string_bytes self.now.checker.report }
     {
-        self.checker.report()
+        self.checker.report.as_bytes()
     }
 
-    /// Takes in one byte.
-    fn take<M: TextMemory>(&mut self, memory: &M, byte: u8) -> Result<(), TraceFault>
-        ensures ok { OnOk result
-            ((g : Rules) (all : Bool) (before : List ℕ) → Has g all self.old before
-            → Has g all self.new (before ++ byte ∷ [])) }
-        ensures err { IfErr result (λ e. e ≡ TraceFault.Memory) }
-        ensures granted { ((n : ℕ) → M.grants memory.now n) → (g : Rules) (all : Bool)
-            (before : List ℕ) → Has g all self.old before → IsOk result }
-    {
-        if byte == b'\n' {
-            self.end_line(memory)?;
-        } else {
-            self.keep(byte);
-        }
-        Ok(())
+    /// Lets it go.
+    pub(crate) fn let_go(self) {
+        self.checker.let_go();
     }
 
     /// Takes in one byte of a line, which isn't its end.

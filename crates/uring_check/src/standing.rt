@@ -1,17 +1,18 @@
 //! What is asked before a step, so that it can be told if the recorded answer is wrong.
 
-ghost use Rattle.std.specs.Prelude.{◌≡◌, ◌++◌, ◌∷◌, [], ℕ, IfOk, IsOk, OnOk, option_map, string_bytes};
+ghost use Rattle.std.specs.Prelude.{◌≡◌, ◌++◌, ℕ, IfOk, IsOk, OnOk, option_map, slice_get, string_bytes};
 ghost use Rattle.uring_core.specs.Core.{FitsApart};
 ghost use Rattle.uring_core.specs.Histories.{History, world};
 ghost use Rattle.uring_trace.specs.Reasons.{found_text};
 ghost use Rattle.uring_core.specs.World.{requests_of};
-ghost use Rattle.uring_rules.specs.Rules as rules;
-ghost use Rattle.uring_check.specs.Checking.{IsStanding, noted_poster, reasons_by};
-ghost use Rattle.uring_check.specs.Cancels.{found_asked, found_for};
+ghost use Rattle.uring_check.specs.Checking.{FitsBy, IsStanding, noted_poster, reasons_by, rules_of};
+ghost use Rattle.uring_check.specs.Cancels.{found_asked};
 ghost use Rattle.uring_check.specs.Posters.{posters};
 ghost use Rattle.uring_check.specs.Reports.{why_asked, why_told, whom_told, whose_told};
 
+use crate::follower::Follower;
 use std::alloc::{AllocError, Global};
+use uring_entry::Sqe;
 use uring_machine::{Core, Found, Step, Why};
 use uring_memory::Memory;
 use uring_text::{TextMemory, push_number, push_text};
@@ -30,29 +31,34 @@ pub(crate) struct Standing {
     poster: Option<u64>,
     // How many completions were posted.
     posted: u64,
+    // Of a finish the entry of its request, if a result is to be one that its operation may give.
+    asked: Option<Sqe>,
 }
 
 impl Standing {
-    /// Asks a core. These are the numbers of the requests whose completions were posted. Here and below: if the memory grants whatever is asked for, there is no error.
+    /// Asks a follower. These are the numbers of the requests whose completions were posted. Here and below: if the memory grants whatever is asked for, there is no error.
     pub(crate) fn before<M: TextMemory>(
         memory: &M,
         alloc: Global,
-        core: &Core,
+        machine: &Follower,
         numbers: &[u64],
         step: &Step,
     ) -> Result<Standing, AllocError>
         ensures standing { IfOk result
-            (λ standing. (h : History) → FitsApart core.now h → numbers.now ≡ posters core.now.setup h
-            → IsStanding core.now.setup h step.now standing) }
+            (λ standing. (h : History) → FitsBy machine.now h
+            → numbers.now ≡ posters (rules_of machine.now).setup h
+            → IsStanding (rules_of machine.now) h step.now standing) }
         ensures granted { ((n : ℕ) → M.grants memory.now n) → IsOk result }
     {
+        let core = machine.core();
         let counts = core.counts();
         Ok(Standing {
             why: why(core, step),
-            chosen: chosen_text(memory, alloc, core, step)?,
             found: found(core, step),
-            poster: numbers.get(counts.reaped as usize).copied(),
+            poster: poster_at(numbers, counts.reaped),
             posted: counts.posted,
+            asked: machine.entry_asked(step),
+            chosen: chosen_text(memory, alloc, core, step)?,
         })
     }
 
@@ -61,6 +67,13 @@ impl Standing {
         ensures { result ≡ self.now.posted }
     {
         self.posted
+    }
+
+    /// The entry of which a result is to be one, if there is one.
+    pub(crate) fn asked(&self) -> &Option<Sqe>
+        ensures { result.now ≡ self.now.asked }
+    {
+        &self.asked
     }
 
     /// Appends all that is told of a wrong answer, where a completion of this user data is wanted, or none.
@@ -88,8 +101,7 @@ fn why(core: &Core, step: &Step) -> Option<(u64, Why)>
         → result ≡ why_asked core.now.setup.linux (requests_of (world core.now.setup h)) step.now }
 {
     match step {
-        Step::Issue { number } => Some((*number, core.why(*number))),
-        Step::Finish { number } => Some((*number, core.why(*number))),
+        Step::Issue { number } | Step::Finish { number } => Some((*number, core.why(*number))),
         _ => None,
     }
 }
@@ -99,21 +111,20 @@ fn found(core: &Core, step: &Step) -> Option<Found>
     ensures { (h : History) → FitsApart core.now h
         → result ≡ found_asked core.now.setup.linux (requests_of (world core.now.setup h)) step.now }
 {
-    match step {
-        Step::Issue { number } => found_by(core, *number),
+    let Step::Issue { number } = step else {
+        return None;
+    };
+    match core.why(*number) {
+        Why::MayStart => core.would_find(*number),
         _ => None,
     }
 }
 
-/// What the cancel of one request with this number finds, if it may start.
-fn found_by(core: &Core, number: u64) -> Option<Found>
-    ensures { (h : History) → FitsApart core.now h
-        → result ≡ found_for (rules.why_of core.now.setup.linux (requests_of (world core.now.setup h)) number) (rules.found_by core.now.setup.linux (world core.now.setup h).requests number) }
+/// The number at this place, if there is one.
+fn poster_at(numbers: &[u64], place: u64) -> Option<u64>
+    ensures { result ≡ slice_get numbers.now place }
 {
-    match core.why(number) {
-        Why::MayStart => core.would_find(number),
-        _ => None,
-    }
+    numbers.get(place as usize).copied()
 }
 
 /// Appends why a request stands as it does, if it was asked.
@@ -215,18 +226,11 @@ pub(crate) fn note_poster<M: Memory>(
         return Ok(());
     }
     match step {
-        Step::Issue { number } => push_poster(memory, posters, *number),
-        Step::Finish { number } => push_poster(memory, posters, *number),
+        Step::Issue { number } | Step::Finish { number } => {
+            memory.reserve(posters, 1)?;
+            posters.push_reserved(*number);
+            Ok(())
+        }
         _ => Ok(()),
     }
-}
-
-/// Appends the number of a request whose completion was posted.
-fn push_poster<M: Memory>(memory: &M, posters: &mut Vec<u64>, number: u64) -> Result<(), AllocError>
-    ensures items { OnOk result (posters.new.items ≡ posters.old.items ++ number ∷ []) }
-    ensures granted { ((n : ℕ) → M.grants memory.now n) → IsOk result }
-{
-    memory.reserve(posters, 1)?;
-    posters.push_reserved(number);
-    Ok(())
 }

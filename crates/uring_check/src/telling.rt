@@ -1,189 +1,107 @@
 //! The lines of a report.
 
-ghost use Rattle.std.specs.Prelude.{◌≡◌, ℕ, List, [], ◌++◌, OnOk, IsOk, Some, None, decimal, string_bytes, codes};
+ghost use Rattle.std.specs.Prelude.{◌≡◌, ℕ, List, ◌++◌, OnOk, IsOk, None, string_bytes, codes};
 ghost use Rattle.uring_text.specs.Forms.{deed_text};
 ghost use Rattle.uring_text.specs.Lines.{ended};
-ghost use Rattle.uring_check.specs.Reports.{closing, end_text, line_text, operation_text, wanted_text, why_bad};
+ghost use Rattle.uring_check.specs.Reports.{closing, completion_wanted, end_text, line_text, operation_text, wanted_text, why_bad};
 ghost use Rattle.uring_check.specs.Checking.{reasons_by};
 ghost use Rattle.uring_text.specs.KeptLine.{kept_of};
 ghost use Rattle.uring_text.specs.Visible.{visible_line};
-ghost use Rattle.uring_trace.specs.Flaws.{line_flaw};
 
-use crate::judging::Told;
 use crate::standing::Standing;
 use crate::verdict::Verdict;
 use std::alloc::{AllocError, Global};
 use uring_entry::Sqe;
-use uring_machine::Wanted;
+use uring_machine::{Answer, Wanted};
 use uring_text::{
-    KeptLine, Name, TextMemory, push_bytes, push_number, push_signed, push_text,
-    push_visible_line_in,
+    KeptLine, Name, TextMemory, push_named, push_signed, push_text, push_visible_line_in,
 };
 use uring_trace::{Language, push_answer_in, push_line_flaw_in};
 
 /// Appends a wrong line with its number, in which no byte is invisible, the answers that are called for, and why. Here and below: if the memory grants whatever is asked for, there is no error.
 pub(crate) fn tell_wrong<M: TextMemory>(
     memory: &M,
-    alloc: Global,
-    report: &mut Vec<u8>,
+    report: &mut String,
     number: u64,
     line: &[u8],
-    told: &Told,
+    wanted: &Wanted,
     standing: &Standing,
 ) -> Result<(), AllocError>
     ensures told { OnOk result
-        (report.new.items
-        ≡ report.old.items ++ line_text number ++ ended (visible_line line.now) ++ codes "wanted: " ++ ended told.now.text.items ++ reasons_by standing.now told.now.completion) }
+        (string_bytes report.new
+        ≡ string_bytes report.old ++ line_text number ++ ended (visible_line line.now) ++ codes "wanted: " ++ ended (wanted_text standing.now.asked wanted.now) ++ reasons_by standing.now (completion_wanted wanted.now)) }
     ensures granted { ((n : ℕ) → M.grants memory.now n) → IsOk result }
 {
-    tell_line(memory, alloc, report, number)?;
-    tell_visible(memory, alloc, report, line)?;
-    tell_reasons(memory, alloc, report, told, standing)
+    tell_line(memory, report, number)?;
+    push_visible_line_in(memory, report, line)?;
+    push_text(memory, report, "\nwanted: ")?;
+    push_wanted(memory, report, standing.asked(), wanted)?;
+    push_text(memory, report, "\n")?;
+    standing.push_reasons(memory, report, completion_in(wanted))
+}
+
+/// The user data of a completion, if one alone is called for.
+fn completion_in(wanted: &Wanted) -> Option<u64>
+    ensures { result ≡ completion_wanted wanted.now }
+{
+    match wanted {
+        Wanted::Only(Answer::Reaped(completion)) => Some(completion.user_data()),
+        _ => None,
+    }
 }
 
 /// Appends that the line with this number is bad, and what is wrong with it.
 pub(crate) fn tell_bad<M: TextMemory>(
     memory: &M,
     alloc: Global,
-    report: &mut Vec<u8>,
+    report: &mut String,
     number: u64,
     line: &KeptLine,
 ) -> Result<(), AllocError>
     ensures told { OnOk result
         ((bytes : List ℕ) → line.now ≡ kept_of bytes
-        → report.new.items
-        ≡ report.old.items ++ line_text number ++ ended (codes "bad line") ++ why_bad bytes) }
+        → string_bytes report.new
+        ≡ string_bytes report.old ++ line_text number ++ ended (codes "bad line") ++ why_bad bytes) }
     ensures granted { ((n : ℕ) → M.grants memory.now n) → IsOk result }
 {
-    tell_line(memory, alloc, report, number)?;
-    push_bytes(memory, report, b"bad line\n")?;
-    tell_flaw(memory, alloc, report, line)
-}
-
-/// Appends what is wrong with a bad line.
-fn tell_flaw<M: TextMemory>(
-    memory: &M,
-    alloc: Global,
-    report: &mut Vec<u8>,
-    line: &KeptLine,
-) -> Result<(), AllocError>
-    ensures told { OnOk result
-        ((bytes : List ℕ) → line.now ≡ kept_of bytes
-        → report.new.items ≡ report.old.items ++ why_bad bytes) }
-    ensures granted { ((n : ℕ) → M.grants memory.now n) → IsOk result }
-{
-    let mut text = String::new(alloc);
-    push_flaw(memory, alloc, &mut text, line)?;
-    push_bytes(memory, report, b"why: ")?;
-    push_bytes(memory, report, text.as_bytes())
-}
-
-/// Appends what is wrong with a bad line, as the end of a line of text.
-fn push_flaw<M: TextMemory>(
-    memory: &M,
-    alloc: Global,
-    text: &mut String,
-    line: &KeptLine,
-) -> Result<(), AllocError>
-    ensures told { OnOk result
-        ((bytes : List ℕ) → line.now ≡ kept_of bytes
-        → string_bytes text.new
-        ≡ string_bytes text.old ++ ended (line_flaw Language.Records bytes)) }
-    ensures granted { ((n : ℕ) → M.grants memory.now n) → IsOk result }
-{
-    push_line_flaw_in(memory, alloc, text, line, Language::Records)?;
-    push_text(memory, text, "\n")
+    tell_line(memory, report, number)?;
+    push_text(memory, report, "bad line\nwhy: ")?;
+    push_line_flaw_in(memory, alloc, report, line, Language::Records)?;
+    push_text(memory, report, "\n")
 }
 
 /// Appends how many steps there were, if all is lawful.
 pub(crate) fn tell_end<M: TextMemory>(
     memory: &M,
-    alloc: Global,
-    report: &mut Vec<u8>,
+    report: &mut String,
     verdict: Verdict,
     steps: u64,
 ) -> Result<(), AllocError>
-    ensures told { OnOk result (report.new.items ≡ report.old.items ++ closing verdict steps) }
+    ensures told { OnOk result
+        (string_bytes report.new ≡ string_bytes report.old ++ closing verdict steps) }
     ensures granted { ((n : ℕ) → M.grants memory.now n) → IsOk result }
 {
     match verdict {
-        Verdict::Lawful => tell_steps(memory, alloc, report, steps),
+        Verdict::Lawful => {
+            push_named(memory, report, "lawful: ", steps)?;
+            push_text(memory, report, " steps\n")
+        }
         Verdict::Wrong | Verdict::Bad => Ok(()),
     }
 }
 
-/// Appends how many steps there were.
-fn tell_steps<M: TextMemory>(
-    memory: &M,
-    alloc: Global,
-    report: &mut Vec<u8>,
-    steps: u64,
-) -> Result<(), AllocError>
-    ensures told { OnOk result (report.new.items ≡ report.old.items ++ closing Verdict.Lawful steps) }
-    ensures granted { ((n : ℕ) → M.grants memory.now n) → IsOk result }
-{
-    let mut text = String::new(alloc);
-    push_text(memory, &mut text, "lawful: ")?;
-    push_number(memory, &mut text, steps)?;
-    push_text(memory, &mut text, " steps\n")?;
-    push_bytes(memory, report, text.as_bytes())
-}
-
 /// Appends the number of a line.
-fn tell_line<M: TextMemory>(
-    memory: &M,
-    alloc: Global,
-    report: &mut Vec<u8>,
-    number: u64,
-) -> Result<(), AllocError>
-    ensures told { OnOk result (report.new.items ≡ report.old.items ++ line_text number) }
-    ensures granted { ((n : ℕ) → M.grants memory.now n) → IsOk result }
-{
-    let mut text = String::new(alloc);
-    push_text(memory, &mut text, "line ")?;
-    push_number(memory, &mut text, number)?;
-    push_text(memory, &mut text, ": ")?;
-    push_bytes(memory, report, text.as_bytes())
-}
-
-/// Appends a line in which no byte is invisible.
-fn tell_visible<M: TextMemory>(
-    memory: &M,
-    alloc: Global,
-    report: &mut Vec<u8>,
-    line: &[u8],
-) -> Result<(), AllocError>
-    ensures told { OnOk result (report.new.items ≡ report.old.items ++ visible_line line.now) }
-    ensures granted { ((n : ℕ) → M.grants memory.now n) → IsOk result }
-{
-    let mut text = String::new(alloc);
-    push_visible_line_in(memory, &mut text, line)?;
-    push_bytes(memory, report, text.as_bytes())
-}
-
-/// Appends the end of a wrong line, the answers that are called for, and why.
-fn tell_reasons<M: TextMemory>(
-    memory: &M,
-    alloc: Global,
-    report: &mut Vec<u8>,
-    told: &Told,
-    standing: &Standing,
-) -> Result<(), AllocError>
+fn tell_line<M: TextMemory>(memory: &M, report: &mut String, number: u64) -> Result<(), AllocError>
     ensures told { OnOk result
-        (report.new.items
-        ≡ report.old.items ++ ended [] ++ codes "wanted: " ++ ended told.now.text.items ++ reasons_by standing.now told.now.completion) }
+        (string_bytes report.new ≡ string_bytes report.old ++ line_text number) }
     ensures granted { ((n : ℕ) → M.grants memory.now n) → IsOk result }
 {
-    push_bytes(memory, report, b"\nwanted: ")?;
-    push_bytes(memory, report, told.text.as_slice())?;
-    let mut text = String::new(alloc);
-    push_text(memory, &mut text, "\n")?;
-    standing.push_reasons(memory, &mut text, told.completion)?;
-    push_bytes(memory, report, text.as_bytes())
+    push_named(memory, report, "line ", number)?;
+    push_text(memory, report, ": ")
 }
 
 /// Appends the answers that are called for. A result is to be one of this entry's operation, if there is one.
-pub(crate) fn push_wanted<M: TextMemory>(
+fn push_wanted<M: TextMemory>(
     memory: &M,
     text: &mut String,
     asked: &Option<Sqe>,
@@ -211,18 +129,9 @@ fn push_end<M: TextMemory>(
         (string_bytes text.new ≡ string_bytes text.old ++ end_text asked.now) }
     ensures granted { ((n : ℕ) → M.grants memory.now n) → IsOk result }
 {
-    match asked {
-        Some(entry) => push_result(memory, text, entry),
-        None => push_text(memory, text, "an end"),
-    }
-}
-
-/// Appends a result of this entry's operation.
-fn push_result<M: TextMemory>(memory: &M, text: &mut String, entry: &Sqe) -> Result<(), AllocError>
-    ensures told { OnOk result
-        (string_bytes text.new ≡ string_bytes text.old ++ end_text (Some entry.now)) }
-    ensures granted { ((n : ℕ) → M.grants memory.now n) → IsOk result }
-{
+    let Some(entry) = asked else {
+        return push_text(memory, text, "an end");
+    };
     push_text(memory, text, "a result of ")?;
     push_operation(memory, text, entry)
 }
@@ -238,10 +147,11 @@ fn push_operation<M: TextMemory>(
     ensures granted { ((n : ℕ) → M.grants memory.now n) → IsOk result }
 {
     let deed = deed(entry.opcode());
+    push_text(memory, text, deed)?;
     if entry.is_transfer() {
-        push_transfer(memory, text, deed, entry.len())
+        push_named(memory, text, " of ", u64::from(entry.len()))
     } else {
-        push_text(memory, text, deed)
+        Ok(())
     }
 }
 
@@ -255,36 +165,6 @@ fn deed(code: u8) -> &'static str
     }
 }
 
-/// Appends what moves bytes, and how many.
-fn push_transfer<M: TextMemory>(
-    memory: &M,
-    text: &mut String,
-    deed: &str,
-    len: u32,
-) -> Result<(), AllocError>
-    ensures told { OnOk result
-        (string_bytes text.new ≡ string_bytes text.old ++ (deed.now ++ codes " of " ++ decimal len)) }
-    ensures granted { ((n : ℕ) → M.grants memory.now n) → IsOk result }
-{
-    push_text(memory, text, deed)?;
-    push_length(memory, text, " of ", len)
-}
-
-/// Appends these words and a length.
-fn push_length<M: TextMemory>(
-    memory: &M,
-    text: &mut String,
-    words: &str,
-    len: u32,
-) -> Result<(), AllocError>
-    ensures told { OnOk result
-        (string_bytes text.new ≡ string_bytes text.old ++ words.now ++ decimal len) }
-    ensures granted { ((n : ℕ) → M.grants memory.now n) → IsOk result }
-{
-    push_text(memory, text, words)?;
-    push_number(memory, text, len as u64)
-}
-
 /// Appends a call of this length, or `again`.
 fn push_call_or_again<M: TextMemory>(
     memory: &M,
@@ -295,8 +175,7 @@ fn push_call_or_again<M: TextMemory>(
         (string_bytes text.new ≡ string_bytes text.old ++ wanted_text None (Wanted.CallOrAgain length)) }
     ensures granted { ((n : ℕ) → M.grants memory.now n) → IsOk result }
 {
-    push_text(memory, text, "call ")?;
-    push_number(memory, text, length as u64)?;
+    push_named(memory, text, "call ", u64::from(length))?;
     push_text(memory, text, " or again")
 }
 

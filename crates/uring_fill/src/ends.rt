@@ -15,8 +15,7 @@ use crate::issued::add_issues;
 use crate::seen::accepted_of;
 use std::alloc::AllocError;
 use uring_core::{Answer, Core, Cqe, Sqe, SqeFlags, Step};
-use uring_entry::{posts_completion, succeeded};
-use uring_entry::{greatest_result, may_end};
+use uring_entry::{greatest_result, may_end, posts_completion, succeeded};
 
 /// The bytes of an end that gives none.
 pub(crate) const NO_BYTES: [u8; 64] = [0; 64];

@@ -4,8 +4,7 @@ use std::alloc::{AllocError, Global};
 use uring_core::{Answer, Step};
 use uring_entry::Setup;
 use uring_machine::Machine;
-use uring_outcomes::Move;
-use uring_outcomes::{Ending, Files};
+use uring_outcomes::{Ending, Files, Move};
 
 /// How an attempt stands.
 #[derive(Clone, Copy)]

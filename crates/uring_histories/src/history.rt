@@ -21,8 +21,7 @@ use std::io::Write;
 use uring_check::push_setup;
 use uring_entry::Setup;
 use uring_litmus::{Form, PlayFault, line_of};
-use uring_outcomes::Move;
-use uring_outcomes::Ending;
+use uring_outcomes::{Ending, Move};
 use uring_play_text::{Item, read_calls};
 use uring_text::{Calls, push_text, write_all};
 

@@ -16,8 +16,7 @@ use std::alloc::Global;
 use std::cmp::min;
 use uring_core::Step;
 use uring_entry::Setup;
-use uring_outcomes::Move;
-use uring_outcomes::Ending;
+use uring_outcomes::{Ending, Move};
 use uring_play_text::Item;
 
 /// The text of the history that these moves make of these calls, each step with its answer: `Astray` if they don't come to this outcome. Each item is spelt by its text.

@@ -5,8 +5,7 @@ use std::alloc::{AllocError, Global};
 use std::collections::BTreeSet;
 use uring_core::Step;
 use uring_entry::Setup;
-use uring_outcomes::Move;
-use uring_outcomes::Ending;
+use uring_outcomes::{Ending, Move};
 
 /// What is still to be tried, and what was.
 #[derive(Drop)]

@@ -14,8 +14,7 @@ ghost use Rattle.uring_power.specs.Faults.{IsSpent};
 use std::alloc::{AllocError, Global};
 use uring_entry::Sqe;
 use uring_epochs::{Answer, FileLog, Setup, make_logs, note_finish, note_issue};
-use uring_outcomes::Move;
-use uring_outcomes::{Run, WalkFault};
+use uring_outcomes::{Move, Run, WalkFault};
 
 /// A run of calls, and what has happened to each file.
 #[derive(Drop)]

@@ -13,8 +13,7 @@ use crate::trial::Trial;
 use std::alloc::{AllocError, Global};
 use uring_entry::Sqe;
 use uring_epochs::Setup;
-use uring_outcomes::Move;
-use uring_outcomes::{all_next, push_longer};
+use uring_outcomes::{Move, all_next, push_longer};
 
 /// What was found of all that a power failure may show.
 #[derive(Drop)]

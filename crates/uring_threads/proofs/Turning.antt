@@ -1,6 +1,6 @@
 -- The parts of a turn put together: what went through the dispatcher's hands stays tied to its trace, and what they appended adds up.
 use Rattle.std.proofs.Common.{add-zero, zero-add, ◌≡◌, ℕ, List, [], ◌++◌, refl, sym, subst, ap, ◌∙◌, arith, false, true}
-use Rattle.std.specs.Prelude.{◌+◌, ◌-◌, ◌^◌, length, nat_lt, Result, Ok, Err, IfOk, OnOk, OnErr, IsErr, IsOk}
+use Rattle.std.specs.Prelude.{◌+◌, ◌-◌, ◌^◌, length, nat_lt, Result, Ok, IfOk, OnErr, IsErr, IsOk}
 use Rattle.std.proofs.lemmas.Bool.{false≢true}
 use Rattle.std.proofs.lemmas.Result.{IfOk-weaker, IfOk-from_err}
 use Rattle.uring_entry.specs.Requests.{Requests}

@@ -1,14 +1,11 @@
 -- Glue. Settling a worker: all its results are taken in. Our own rule.
-use Rattle.std.specs.Prelude.{◌≡◌, ℕ, ℤ, Option, ◌<◌, List, [], ◌++◌, length, get_or}
+use Rattle.std.specs.Prelude.{◌≡◌, ℕ, ◌<◌, List, [], ◌++◌, length, get_or}
 use Rattle.uring_files.specs.Done.{Done}
 use Rattle.uring_workers.specs.declared.job.Job.{Job}
 use Rattle.uring_workers.specs.declared.work_lanes.WorkLanes.{WorkLanes}
 use Rattle.uring_threads.specs.Collected.{OthersStay}
 use Rattle.uring_threads.specs.Dispatched.{HasCarried}
-use Rattle.uring_files.specs.Operations.{state_of, byte_of}
-use Rattle.uring_files.specs.declared.file.FileState.{FileState}
-use Rattle.uring_core.specs.CalledFor.{files_of}
-use Rattle.uring_threads.specs.Kept.{Kept, now, history}
+use Rattle.uring_threads.specs.Kept.{Kept, history}
 use Rattle.uring_threads.specs.Settled.{Work, IsWork, IsSettled}
 use Rattle.uring_workers.specs.Work.{jobs_of}
 use Rattle.uring_workers.specs.WorkLanes.{jobs_sent}

@@ -1,4 +1,5 @@
 use Rattle.std.proofs.Common.{◌≡◌, Result, Ok, Err, sym, ap, ◌∙◌, rules}
+use Rattle.std.specs.Prelude.{string_bytes}
 use Rattle.std.proofs.lemmas.Bool.{false≢true}
 use Rattle.uring_check.proofs.Readings.{part_checked, unsaid_checked, cut_checked, whole_checked}
 use Rattle.uring_text.specs.declared.trace_fault.TraceFault.{TraceFault}
@@ -19,12 +20,12 @@ returns-in_err-verdict-clause-checked g c = λ r all h. unsaid_checked r all c.f
 
 pub returns-in_err-write_all-clause-checked : goal.returns-in_err-write_all-clause-checked
 returns-in_err-write_all-clause-checked g c =
-    λ r all h. cut_checked r all c.from_residual-in_err-write_all.result c.in_err-write_all.field-0.0 _ _ _ _ c.read_all.new.reading c.in_ok-verdict.verdict c.end.new.self.checker.report.items (search rules)
+    λ r all h. cut_checked r all c.from_residual-in_err-write_all.result c.in_err-write_all.field-0.0 _ _ _ _ c.read_all.new.reading c.in_ok-verdict.verdict (string_bytes c.end.new.self.checker.report) (search rules)
     (c.in_ok-read_all.ensures.bytes r all h) c.in_ok-verdict.ensures.verdict (rw c.report.ensures at c.in_err-write_all.ensures.text)
 
 pub returns-clause-checked : goal.returns-clause-checked
 returns-clause-checked g c =
-    λ r all h. whole_checked r all _ _ _ _ c.read_all.new.reading c.in_ok-verdict.verdict c.end.new.self.checker.report.items
+    λ r all h. whole_checked r all _ _ _ _ c.read_all.new.reading c.in_ok-verdict.verdict (string_bytes c.end.new.self.checker.report)
     (c.in_ok-read_all.ensures.bytes r all h) c.in_ok-verdict.ensures.verdict (rw c.report.ensures at c.in_ok-write_all.ensures.text)
 
 pub returns-in_err-read_all-clause-granted : goal.returns-in_err-read_all-clause-granted

@@ -1,4 +1,4 @@
-use Rattle.std.proofs.Common.{◌≡◌, ap, sym, ◌∙◌}
+use Rattle.std.proofs.Common.{ap, sym, ◌∙◌}
 use Rattle.std.proofs.lemmas.Option.{same_Some}
 use Rattle.uring_core.specs.StepForm.{step_of, words_of_step}
 use Rattle.uring_core.proofs.step.same_step.Goals as goal

@@ -1,4 +1,4 @@
-use Rattle.std.proofs.Common.{◌<◌, ◌^◌, arith, pos_of_ne-zero}
+use Rattle.std.proofs.Common.{arith, pos_of_ne-zero}
 use Rattle.uring_number_set.proofs.BlockLemmas.{block_none, block_least}
 use Rattle.uring_number_set.proofs.blocks.least_of.Goals as goal
 

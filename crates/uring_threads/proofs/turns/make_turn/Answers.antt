@@ -10,7 +10,7 @@ use Rattle.uring_ports.specs.Seen.{HasLooked}
 use Rattle.uring_workers.specs.WorkLanes.{SomeIsFull}
 use Rattle.uring_threads.specs.Kept.{now}
 use Rattle.uring_threads.specs.Kernel.{Kernel}
-use Rattle.uring_threads.specs.Served.{DeliversMost, HasServed, PullsMost}
+use Rattle.uring_threads.specs.Served.{DeliversMost, PullsMost}
 use Rattle.uring_threads.specs.Taking.{TakesIn}
 use Rattle.uring_threads.specs.Turns.{IsDelivered}
 use Rattle.uring_threads.proofs.Turning.{HasDelivered, HasTaken, delivers_none, goes, goes_collected, goes_issued, goes_taken, has_taken, refused, same_next, turned}

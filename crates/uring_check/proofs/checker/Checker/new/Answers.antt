@@ -17,7 +17,7 @@ returns-clause-looks g c = record {
     counted = refl;
     decided = refl;
     stopped = refl;
-    told = c.new-3.ensures.items;
+    told = c.new-3.ensures.bytes;
   };
   awaits = refl;
 }

@@ -1,4 +1,4 @@
-use Rattle.std.proofs.Common.{◌≡◌, refl, subst}
+use Rattle.std.proofs.Common.{refl, subst}
 use Rattle.std.proofs.lemmas.Result.{on_ok_weaker}
 use Rattle.uring_trace.proofs.ExplainLines.{if_ok_both}
 use Rattle.uring_check.proofs.FirstLines.{Goes, took_first, took_missed, took_setup}

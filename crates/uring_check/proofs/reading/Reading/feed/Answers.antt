@@ -1,6 +1,23 @@
+use Rattle.std.proofs.Common.{◌≡◌, ◌<◌, ◌+◌, ℕ, List, [], ◌∷◌, ◌++◌, length, take, get_or, sym, ap, subst, ◌∙◌, append_assoc, rules}
 use Rattle.std.proofs.lemmas.Bool.{false≢true}
+use Rattle.std.proofs.lemmas.List.{take_more}
+use Rattle.uring_check.specs.Checking.{Has}
 use Rattle.uring_check.proofs.reading.Reading.feed.Goals as goal
+use Rattle.uring_check.proofs.reading.Reading.feed.Goals.{then-byte-eq10+in_ok-end_line, else-byte-eq10}
 
-pub returns-in_err-take-clause-granted : goal.returns-in_err-take-clause-granted
-returns-in_err-take-clause-granted g c = λ sure r all before h.
-    absurd (false≢true (c.in_err-take.ensures.granted sure r all _ (c.loop-byte.invariant r all before h)))
+pub loop-byte-preserved : goal.loop-byte-preserved
+loop-byte-preserved g c = λ r all before h.
+    let bytes : List ℕ = c.args.bytes.now in
+    let i : ℕ = c.loop-byte.byte-index in
+    let so = c.loop-byte.invariant r all before h in
+    let lt : i < length bytes = search rules in
+    let next : take (i + 1) bytes ≡ take i bytes ++ get_or bytes i 0 ∷ [] = take_more bytes i 0 lt in
+    subst (λ (l : List ℕ). Has r all c.if-byte-eq10.self l) (append_assoc before (take i bytes) (get_or bytes i 0 ∷ []) ∙ ap (λ (l : List ℕ). before ++ l) (sym next))
+    (elim c.if-byte-eq10.branch [
+      | then-byte-eq10+in_ok-end_line w ↦ rw (w.self-is, w.if-byte-eq10.true) (w.in_ok-end_line.ensures.ends r all (before ++ take i bytes) so)
+      | else-byte-eq10 w ↦ rw w.self-is (w.keep.ensures r all (before ++ take i bytes) so)
+    ])
+
+pub returns-in_err-end_line-clause-granted : goal.returns-in_err-end_line-clause-granted
+returns-in_err-end_line-clause-granted g c = λ sure r all before h.
+    absurd (false≢true (c.in_err-end_line.ensures.granted sure r all _ (c.loop-byte.invariant r all before h)))

@@ -1,6 +1,0 @@
-use Rattle.std.proofs.lemmas.Result.{IfOk-weaker}
-use Rattle.uring_check.proofs.WantedAnswers.{sure_judged}
-use Rattle.uring_check.proofs.judging.judge_sure.Goals as goal
-
-pub returns-clause-judges : goal.returns-clause-judges
-returns-clause-judges g c = IfOk-weaker c.judge_one.result _ _ (λ found judged. sure_judged _ _ c.args.step.now c.args.text.now _ found c.requires c.step-answer.ensures.rules c.step-answer.ensures.fits judged) c.judge_one.ensures.judged
