@@ -13,24 +13,9 @@ ghost use Rattle.uring_check.specs.Checking.{FitsBy, rules_of, Judges, IsJudged,
 use crate::answer_text::AnswerText;
 use crate::follower::Follower;
 use std::alloc::AllocError;
-use uring_entry::{Sqe, errno};
+use uring_entry::{Sqe, errno, may_end};
 use uring_machine::{Answer, Refusal, Step, Wanted};
-<<<<<<< HEAD
-use uring_entry::may_end;
-use uring_text::{TextMemory, push_bytes, spelled_signed};
-
-/// What is told of the answers that are called for.
-#[derive(Drop)]
-pub(crate) struct Told {
-    /// Their text.
-    pub(crate) text: Vec<u8>,
-    /// The user data of a completion, if one alone is called for.
-    pub(crate) completion: Option<u64>,
-}
-=======
-use uring_results::may_end;
 use uring_text::{TextMemory, spelled_signed};
->>>>>>> trace
 
 /// Makes a step with an answer of this text, if one is called for: `None`. Else it tells which answers are; if that is one alone, the machine goes on as though it had been given, and else as though the step hadn't been made. `AllocError`: memory was refused, to the step or to a text. Here and below: on a machine that fits a history there is no error if the memory grants whatever is asked for.
 pub(crate) fn judge<M: TextMemory>(
