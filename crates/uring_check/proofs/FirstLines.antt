@@ -1,22 +1,10 @@
 -- What a checker makes of the first line, and of those after it.
 use Rattle.std.proofs.Common.{◌≡◌, ℕ, Bool, true, false, List, [], ◌∷◌, ◌++◌, length, Option, Some, None, refl, sym, ap, subst, ◌∙◌}
-use Rattle.std.specs.Prelude.{string_bytes}
+use Rattle.uring_check.proofs.Common.{AreJudgedBy, Checker, Ends, FitsBy, Follower, Found, IsSaid, IsTold, IsToldIf, Looks, LooksBy, LooksIf, Rules, Setup, Verdict, append-nil, awaits_first, closing, has_stopped, history_after, lines_of, missed_text, posters, rules_of, steps_of, string_bytes, told_of_all, verdict_of}
 use Rattle.std.specs.declared.alloc.Global.{Global}
 use Rattle.std.specs.declared.string.String.{String}
-use Rattle.std.proofs.lemmas.List.{append-nil}
-use Rattle.uring_check.specs.Checking.{FitsBy, Looks, LooksBy, LooksIf, IsTold, IsToldIf, awaits_first, rules_of}
 use Rattle.uring_trace.specs.Explanations.{line_number}
-use Rattle.uring_check.specs.Findings.{Found, has_stopped, history_after, lines_of, verdict_of}
-use Rattle.uring_check.specs.Posters.{posters}
-use Rattle.uring_check.specs.Reports.{closing, missed_text, steps_of, told_of_all}
-use Rattle.uring_check.specs.Rules.{AreJudgedBy, Rules}
-use Rattle.uring_check.specs.declared.ends.Ends.{Ends}
-use Rattle.uring_check.specs.SetupLines.{IsSaid}
-use Rattle.uring_entry.specs.Setup.{Setup}
-use Rattle.uring_check.specs.declared.checker.Checker.{Checker}
-use Rattle.uring_check.specs.declared.follower.Follower.{Follower}
 use Rattle.uring_check.specs.declared.setup_line.Said.TheVariants.{Nothing, Says, Misses}
-use Rattle.uring_check.specs.declared.verdict.Verdict.{Verdict}
 use Rattle.uring_check.specs.declared.verdict.Verdict.TheVariants as verdict
 
 -- a line after the first one changes nothing of the rules

@@ -1,28 +1,13 @@
 -- What a machine that fits a history never wants, so that the judge of an end refuses for want of memory alone.
 use Rattle.std.proofs.Common.{◌≡◌, ◌≤◌, ℕ, ℤ, ◌∷◌, ◌⊎◌, pos, neg_ℤ, Bool, true, false, List, [], refl, sym, ap, subst, ◌∙◌, inl, inr, arith}
-use Rattle.std.specs.Prelude.{negsuc, if◌then◌else◌, is_some}
-use Rattle.std.proofs.lemmas.Bool.{true≢false}
-use Rattle.uring_entry.specs.Requests.{Requests, is_running, no_bytes}
-use Rattle.uring_entry.specs.Setup.{Setup}
+use Rattle.uring_check.proofs.Common.{AllowedBy, Answer, AnyEnd, CalledIn, ENOMEM, EndOrNoMemory, Ends, FinishesApart, Follower, HasOneAnswer, History, IsEnded, IsWanted, IsWrong, MayGive, Meets, OrAgain, Requests, Setup, Step, World, entry_in, if◌then◌else◌, is_apart, is_running, is_some, is_spent, negsuc, no_bytes, rules_of, true≢false, world}
 use Rattle.uring_entry.specs.Submission.{call_length}
-use Rattle.uring_entry.specs.declared.errno.TheConstants.{ENOMEM}
 use Rattle.uring_entry.specs.declared.operation.Outcome.{Outcome}
 use Rattle.uring_files.specs.Contents.{FileContents}
 use Rattle.uring_core.specs.CalledFor.{EndsOn, files_of}
-use Rattle.uring_core.specs.Histories.{History, world}
-use Rattle.uring_core.specs.Recorded.{IsWrong, Meets}
-use Rattle.uring_core.specs.StepAnswers.{FinishesApart, IsEnded, OrAgain, is_spent}
-use Rattle.uring_core.specs.World.{World}
-use Rattle.uring_core.specs.declared.answer.Answer.{Answer}
 use Rattle.uring_core.specs.declared.answer.Answer.TheVariants as answer
-use Rattle.uring_core.specs.declared.step.Step.{Step}
 use Rattle.uring_core.specs.declared.step.Step.TheVariants as step
-use Rattle.uring_core.specs.declared.wanted.Wanted.TheVariants.{AnyEnd, EndOrNoMemory}
-use Rattle.uring_check.specs.Checking.{HasOneAnswer, IsWanted, rules_of}
-use Rattle.uring_check.specs.Rules.{AllowedBy, CalledIn, MayGive, entry_in, is_apart}
-use Rattle.uring_check.specs.declared.ends.Ends.{Ends}
 use Rattle.uring_check.specs.declared.ends.Ends.TheVariants as ends
-use Rattle.uring_check.specs.declared.follower.Follower.{Follower}
 use Rattle.uring_check.proofs.WantedAnswers.{one_answer}
 
 -- answers that no Begin is given

@@ -1,16 +1,8 @@
 -- What findings say of the text of a lawful history.
 use Rattle.std.proofs.Common.{◌≡◌, ◌⊎◌, ℕ, Bool, false, List, [], ◌∷◌, refl, sym, ap, subst, ◌∙◌, inl, inr}
-use Rattle.std.proofs.lemmas.Bool.{true≢false}
-use Rattle.uring_core.specs.Histories.{History}
-use Rattle.uring_core.specs.declared.answer.Answer.{Answer}
-use Rattle.uring_core.specs.declared.step.Step.{Step}
-use Rattle.uring_trace.specs.Text.{text_of}
+use Rattle.uring_check.proofs.Common.{Answer, AreFound, AreRecorded, Finding, Found, History, IsCalled, IsFinding, IsFindingAfter, IsLawfulBy, IsLawfulText, IsPlain, Records, Rules, Step, Verdict, first_fault, has_stopped, history_after, is_apart, judged, lines_of, text_of, true≢false, verdict_of}
 use Rattle.uring_check.specs.Checks.{Says}
-use Rattle.uring_check.specs.Findings.{Found, Finding, AreFound, IsFinding, IsFindingAfter, first_fault, has_stopped, history_after, judged, lines_of, verdict_of}
 use Rattle.uring_check.specs.Findings as finding
-use Rattle.uring_check.specs.Records.{AreRecorded, IsLawfulText, Records}
-use Rattle.uring_check.specs.Rules.{Rules, IsCalled, IsLawfulBy, IsPlain, is_apart}
-use Rattle.uring_check.specs.declared.verdict.Verdict.{Verdict}
 use Rattle.uring_check.specs.declared.verdict.Verdict.TheVariants as verdict
 use Rattle.uring_check.proofs.RuleLaws.{called_first, called_once, lawful_more, lawful_none, lawful_rest}
 use Rattle.uring_check.proofs.Splitting.{record_once}

@@ -1,4 +1,5 @@
 -- In the order in which they are best read.
+mod Common
 -- Lines, and the texts of answers:
 pub mod Splitting
 pub mod WantedAnswers

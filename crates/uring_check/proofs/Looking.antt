@@ -1,32 +1,18 @@
 -- What a checker makes of lines.
 use Rattle.std.proofs.Common.{◌≡◌, ℕ, ◌+◌, ◌-◌, ◌^◌, min, Bool, true, false, not, ◌||◌, List, ◌∷◌, ◌++◌, length, Option, Some, None, refl, sym, ap, subst, ◌∙◌, append_assoc, arith}
-use Rattle.std.specs.Prelude.{codes, string_bytes}
+use Rattle.uring_check.proofs.Common.{CalledBy, Checker, FitsBy, Follower, History, IsFinding, IsFindingAfter, IsNoRecord, IsRecord, IsStanding, Judges, Knows, Looked, LooksAt, LooksBy, Rules, Setup, Step, Verdict, Wanted, append-nil, codes, completion_wanted, counted_with, entry_asked, first_fault, has_stopped, history_after, judged, line_text, noted_poster, posters, reasons_by, reasons_told, rules_of, stops, string_bytes, told_of, told_of_all, wanted_text, why_bad, with_finding, world}
 use Rattle.std.specs.declared.alloc.Global.{Global}
 use Rattle.std.specs.declared.string.String.{String}
 use Rattle.std.specs.declared.vec.Vec.{Vec}
-use Rattle.std.proofs.lemmas.List.{append-nil}
 use Rattle.std.proofs.Math.Bool.{or-false}
 use Rattle.uring_entry.specs.Layout.{Sqe}
-use Rattle.uring_entry.specs.Setup.{Setup}
-use Rattle.uring_core.specs.Histories.{History, world}
-use Rattle.uring_core.specs.declared.step.Step.{Step}
-use Rattle.uring_core.specs.declared.wanted.Wanted.{Wanted}
 use Rattle.uring_trace.specs.Explanations.{line_number}
 use Rattle.uring_text.specs.Lines.{ended}
 use Rattle.uring_text.specs.Remarks.{is_remark}
-use Rattle.uring_check.specs.Checking.{FitsBy, IsStanding, Judges, Knows, LooksBy, Looked, LooksAt, noted_poster, reasons_by, rules_of}
-use Rattle.uring_check.specs.Findings.{IsFinding, IsFindingAfter, first_fault, has_stopped, history_after, judged, stops, with_finding}
 use Rattle.uring_check.specs.Findings as finding
-use Rattle.uring_check.specs.Records.{IsRecord, IsNoRecord}
-use Rattle.uring_check.specs.Posters.{posters}
-use Rattle.uring_check.specs.Reports.{completion_wanted, counted_with, line_text, reasons_told, told_of, told_of_all, wanted_text, why_bad}
 use Rattle.uring_text.specs.Visible.{visible_line}
-use Rattle.uring_check.specs.Rules.{Rules, CalledBy, entry_asked}
 use Rattle.uring_check.specs.declared.answer_text.AnswerText.{AnswerText}
-use Rattle.uring_check.specs.declared.checker.Checker.{Checker}
-use Rattle.uring_check.specs.declared.follower.Follower.{Follower}
 use Rattle.uring_check.specs.declared.standing.Standing.{Standing}
-use Rattle.uring_check.specs.declared.verdict.Verdict.{Verdict}
 use Rattle.uring_check.specs.declared.verdict.Verdict.TheVariants as verdict
 use Rattle.uring_check.proofs.Posting.{fits_lawful, knows_resumed, knows_step}
 use Rattle.uring_check.proofs.WantedAnswers.{fits_called}

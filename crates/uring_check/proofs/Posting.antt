@@ -1,28 +1,14 @@
 -- Whose completions were posted.
 use Rattle.std.proofs.Common.{◌≡◌, ℕ, Bool, true, false, List, [], ◌∷◌, ◌++◌, length, Option, Some, None, sym, ap, ◌∙◌, append-nil, arith}
-use Rattle.std.specs.Prelude.{if◌then◌else◌}
-use Rattle.std.proofs.lemmas.Bool.{le-leb, lt-leb}
-use Rattle.std.proofs.lemmas.List.{length-append}
+use Rattle.uring_check.proofs.Common.{Answer, AnyEnd, CallOrAgain, EndOrNoMemory, Ending, FitsBy, Follower, History, IsLawfulApart, Only, Setup, Step, Wanted, World, entry_of, if◌then◌else◌, le-leb, length-append, lt-leb, noted_poster, number_in, poster_of, posters, resumed, rules_of, world}
 use Rattle.uring_entry.specs.Completions.{Completions, completion_for, with_posted}
 use Rattle.uring_entry.specs.Layout.{Cqe}
-use Rattle.uring_entry.specs.Requests.{Ending, entry_of}
-use Rattle.uring_entry.specs.Setup.{Setup}
 use Rattle.uring_rules.specs.Rules.{posts}
 use Rattle.uring_core.specs.Events.{end_told_by}
-use Rattle.uring_core.specs.Histories.{History, world, IsLawfulApart}
-use Rattle.uring_core.specs.Recorded.{resumed}
-use Rattle.uring_core.specs.World.{World}
-use Rattle.uring_core.specs.declared.answer.Answer.{Answer}
 use Rattle.uring_core.specs.declared.answer.Answer.TheVariants as answer
-use Rattle.uring_core.specs.declared.step.Step.{Step}
 use Rattle.uring_core.specs.declared.step.Step.TheVariants as step
 use Rattle.uring_core.specs.declared.wanted.Refusal.TheVariants as refusal
-use Rattle.uring_core.specs.declared.wanted.Wanted.{Wanted}
-use Rattle.uring_core.specs.declared.wanted.Wanted.TheVariants.{Only, CallOrAgain, AnyEnd, EndOrNoMemory}
 use Rattle.uring_core.proofs.CompletionMoves.{CompletionMove, stays, ends, completion_move}
-use Rattle.uring_check.specs.Checking.{FitsBy, noted_poster, number_in, rules_of}
-use Rattle.uring_check.specs.Posters.{poster_of, posters}
-use Rattle.uring_check.specs.declared.follower.Follower.{Follower}
 use Rattle.uring_check.specs.declared.follower.Follower.TheVariants.{Whole, Apart, Allowed}
 
 -- ---- what one step posts

@@ -2,19 +2,15 @@
 use Rattle.std.proofs.Common.{◌≡◌, ◌≢◌, ℕ, Bool, List, [], ◌∷◌, ◌++◌, Option, Some, None, Result, Ok, Err, refl, sym, ap, subst, ◌∙◌}
 use Rattle.std.specs.Io.KnownBytes.{Consumes, Appends, IsAtEnd, Keeps}
 use Rattle.std.proofs.KnownBytes.{Consumes-nil, Consumes-trans, Consumes-kept, Appends-nil}
-use Rattle.std.proofs.lemmas.List.{append-nil}
-use Rattle.uring_check.specs.Rules.{Rules}
+use Rattle.uring_check.proofs.Common.{Checker, Has, Holds, IsTold, IsToldIf, Looks, ReadsIn, Rules, TakesIn, Verdict, append-nil}
 use Rattle.uring_text.specs.KeptLine.{KeptLine, kept_of}
 use Rattle.uring_text.specs.Lines.{with_last}
 use Rattle.uring_text.specs.Writing.{WritesText}
 use Rattle.uring_text.specs.declared.trace_fault.TraceFault.{TraceFault}
 use Rattle.uring_text.specs.declared.trace_fault.TraceFault.TheVariants as fault
 use Rattle.uring_text.proofs.Splits.{split_end, last_some}
-use Rattle.uring_check.specs.Checking.{Looks, Holds, Has, IsTold, IsToldIf, TakesIn, ReadsIn}
 use Rattle.uring_check.specs.Checks.{AreLinesOf, IsReportedBy, IsVerdict, Says, Writes, ReadsAll, IsChecked}
-use Rattle.uring_check.specs.declared.checker.Checker.{Checker}
 use Rattle.uring_check.specs.declared.reading.Reading.{Reading}
-use Rattle.uring_check.specs.declared.verdict.Verdict.{Verdict}
 use Rattle.uring_check.proofs.LawfulTexts.{said}
 
 -- what a checker makes of one line more

@@ -1,21 +1,11 @@
 -- What the rules of a check make of histories and answers.
 use Rattle.std.proofs.Common.{◌≡◌, ◌∷◌, ◌<◌, ◌^◌, ◌∙◌, ℕ, Bool, true, false, List, [], drop, sym, ap, arith}
-use Rattle.std.specs.Prelude.{ℤ, pos, negsuc}
+use Rattle.uring_check.proofs.Common.{Answer, CalledForApart, CalledIn, FinishesApart, History, IsCalled, IsLawfulBy, IsPlain, LawfulIn, Rules, Setup, Step, World, begin_answer, is_apart, is_running, negsuc, pos, signed_decimal, text_of, world, ℤ}
 use Rattle.std.specs.Int.Signed.{mag}
-use Rattle.std.specs.Fmt.{signed_decimal}
 use Rattle.std.proofs.lemmas.Fmt.{signed_decimal_injective}
-use Rattle.uring_entry.specs.Requests.{is_running}
-use Rattle.uring_entry.specs.Setup.{Setup}
-use Rattle.uring_core.specs.Histories.{History, world}
-use Rattle.uring_core.specs.StepAnswers.{CalledForApart, FinishesApart, begin_answer}
-use Rattle.uring_core.specs.World.{World}
-use Rattle.uring_core.specs.declared.answer.Answer.{Answer}
 use Rattle.uring_core.specs.declared.answer.Answer.TheVariants as answer
-use Rattle.uring_core.specs.declared.step.Step.{Step}
 use Rattle.uring_core.specs.declared.step.Step.TheVariants as step
 use Rattle.uring_text.specs.Spelling.{IsFile}
-use Rattle.uring_trace.specs.Text.{text_of}
-use Rattle.uring_check.specs.Rules.{Rules, CalledIn, LawfulIn, IsCalled, IsLawfulBy, IsPlain, is_apart}
 use Rattle.uring_check.proofs.SameTexts.{answer_once, begin_once}
 
 -- ---- histories

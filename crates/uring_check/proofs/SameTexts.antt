@@ -1,23 +1,16 @@
 -- No two answers that are called for to one step have the same text.
 use Rattle.std.proofs.Common.{◌≡◌, ℕ, pos, neg_ℤ, ◌^◌, ◌<◌, Bool, true, false, List, get_or, drop, sym, ap, ◌∙◌, inl, inr, arith}
 use Rattle.std.proofs.lemmas.Fmt.{signed_decimal_injective}
-use Rattle.uring_entry.specs.Requests.{Requests, entry_of, is_running, no_bytes}
+use Rattle.uring_check.proofs.Common.{Answer, ENOMEM, OrAgain, Requests, Setup, Step, World, begin_answer, entry_of, is_running, no_bytes, text_of}
 use Rattle.uring_entry.specs.Preparation.{operation_of}
-use Rattle.uring_entry.specs.Setup.{Setup}
-use Rattle.uring_entry.specs.declared.errno.TheConstants.{ENOMEM}
 use Rattle.uring_entry.specs.declared.operation.Op.{Op}
 use Rattle.uring_entry.specs.declared.operation.Outcome.{Outcome}
 use Rattle.uring_files.specs.Contents.{FileContents}
 use Rattle.uring_files.specs.Operations.{IsOutcome, ended_with, is_lengthening, result_of}
 use Rattle.uring_files.proofs.OperationCases.{growth}
 use Rattle.uring_core.specs.CalledFor.{CalledFor, EndsOn, files_of}
-use Rattle.uring_core.specs.StepAnswers.{OrAgain, begin_answer}
-use Rattle.uring_core.specs.World.{World}
-use Rattle.uring_core.specs.declared.answer.Answer.{Answer}
 use Rattle.uring_core.specs.declared.answer.Answer.TheVariants as answer
-use Rattle.uring_core.specs.declared.step.Step.{Step}
 use Rattle.uring_core.specs.declared.step.Step.TheVariants as step
-use Rattle.uring_trace.specs.Text.{text_of}
 
 -- ---- Begin
 

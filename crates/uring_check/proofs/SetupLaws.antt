@@ -1,13 +1,11 @@
 -- What a first line says of a set-up, and what follows of the lines that are taken in.
 use Rattle.std.proofs.Common.{◌≡◌, ℕ, ◌≤◌, inl, inr, true, List, ◌∷◌, Option, Some, Result, Err, refl, sym, ap, subst, ◌∙◌, Bor, arith}
-use Rattle.std.specs.Prelude.{◌↔◌, codes, IsErrOf}
+use Rattle.uring_check.proofs.Common.{IsBadCq, IsBadFiles, IsBadSq, IsErrOf, IsOutside, IsSaidBy, IsSaidOf, IsSetupFor, MissesSetup, Setup, begins_setup, codes, named_number, sizes_in, sizes_of, sizes_said, ◌↔◌}
 use Rattle.std.specs.Str.{bytes_eq}
 use Rattle.std.proofs.Math.ListN.{get_or}
 use Rattle.std.specs.Int.{IsNextPowerOfTwo}
-use Rattle.uring_entry.specs.Setup.{Setup, IsSetupFor, IsBadSq, IsBadCq, IsBadFiles, IsOutside}
 use Rattle.uring_entry.specs.declared.bad_setup.BadSetup.{BadSetup}
 use Rattle.uring_entry.specs.declared.bad_setup.BadSetup.TheVariants.{BadSq, BadCq, BadFiles}
-use Rattle.uring_check.specs.SetupLines.{IsSaidBy, IsSaidOf, MissesSetup, begins_setup, named_number, sizes_in, sizes_of, sizes_said}
 use Rattle.uring_check.specs.declared.setup_line.Said.{Said}
 use Rattle.uring_check.specs.declared.setup_line.Said.TheVariants.{Nothing, Says, Misses}
 use Rattle.uring_check.specs.declared.setup_line.Sizes.{Sizes}

@@ -2,13 +2,9 @@
 use Rattle.std.proofs.Common.{◌≡◌, ◌≢◌, ℕ, ◌+◌, ◌<◌, ◌≤◌, List, [], ◌∷◌, ◌++◌, length, take, drop, get_or, refl, sym, ap, subst, ◌∙◌, append_assoc, inl, inr, arith}
 use mathlib.Core.List.{head-eq_of_cons-eq, tail-eq_of_cons-eq}
 use Rattle.std.specs.List.{AllByRecursion}
-use Rattle.std.proofs.lemmas.Bool.{cases_lt}
-use Rattle.std.proofs.lemmas.List.{take-append-drop, drop_more, take_all, append_cancel_right}
-use Rattle.uring_core.specs.declared.step.Step.{Step}
+use Rattle.uring_check.proofs.Common.{IsNoRecord, IsRecord, IsSplit, IsUnsplit, Step, append_cancel_right, cases_lt, drop_more, take-append-drop, take_all}
 use Rattle.uring_trace.specs.Spelling.{IsStep, IsBad}
 use Rattle.uring_trace.proofs.Spellings.{step_once}
-use Rattle.uring_check.specs.Checking.{IsSplit, IsUnsplit}
-use Rattle.uring_check.specs.Records.{IsRecord, IsNoRecord}
 
 abbrev pub HasNone : List ℕ → Type 0
 HasNone xs = AllByRecursion (λ b. b ≢ 61) xs

@@ -1,27 +1,11 @@
 -- What a text says of the answers that are called for.
 use Rattle.std.proofs.Common.{◌≡◌, drop, ◌∷◌, ℕ, ℤ, neg_ℤ, Bool, true, false, List, [], Option, Some, None, refl, sym, ap, subst, ◌∙◌, inl, inr}
-use Rattle.uring_entry.specs.Requests.{Requests, entry_outstanding, is_running, no_bytes}
-use Rattle.uring_entry.specs.Setup.{Setup}
-use Rattle.uring_entry.specs.declared.errno.TheConstants.{ENOMEM}
+use Rattle.uring_check.proofs.Common.{AllowedBy, Answer, AnyEnd, CallOrAgain, CalledBy, CalledForApart, CalledIn, ENOMEM, EndOrNoMemory, Ends, FinishesApart, FitsBy, Follower, HasOneAnswer, History, IsEither, IsEnded, IsJudged, IsOneJudged, IsPlain, IsWanted, IsWrong, IsWrongText, Judges, MayGive, Only, Requests, Rules, Setup, Step, Wanted, World, entry_asked, entry_in, entry_outstanding, is_apart, is_running, no_bytes, rules_of, text_of, world}
 use Rattle.uring_core.specs.Core.{IsNoFinish}
-use Rattle.uring_core.specs.Histories.{History, world}
-use Rattle.uring_core.specs.StepAnswers.{CalledForApart, FinishesApart, IsEnded}
-use Rattle.uring_core.specs.World.{World}
-use Rattle.uring_core.specs.declared.answer.Answer.{Answer}
 use Rattle.uring_core.specs.declared.answer.Answer.TheVariants as answer
-use Rattle.uring_core.specs.declared.step.Step.{Step}
 use Rattle.uring_core.specs.declared.step.Step.TheVariants as step
-use Rattle.uring_core.specs.Recorded.{IsWrong}
-use Rattle.uring_core.specs.declared.wanted.Wanted.{Wanted}
-use Rattle.uring_core.specs.declared.wanted.Wanted.TheVariants.{Only, CallOrAgain, AnyEnd, EndOrNoMemory}
 use Rattle.uring_text.specs.Spelling.{IsFile}
-use Rattle.uring_trace.specs.Text.{text_of}
-use Rattle.uring_check.specs.Checking.{FitsBy, HasOneAnswer, IsEither, IsJudged, IsOneJudged, IsWanted, Judges, rules_of}
-use Rattle.uring_check.specs.Findings.{IsWrongText}
-use Rattle.uring_check.specs.Rules.{Rules, AllowedBy, CalledBy, CalledIn, IsPlain, MayGive, entry_asked, entry_in, is_apart}
-use Rattle.uring_check.specs.declared.ends.Ends.{Ends}
 use Rattle.uring_check.specs.declared.ends.Ends.TheVariants as ends
-use Rattle.uring_check.specs.declared.follower.Follower.{Follower}
 use Rattle.uring_check.specs.declared.follower.Follower.TheVariants.{Whole, Apart, Allowed}
 use Rattle.uring_check.proofs.RuleLaws.{result_once}
 

@@ -1,16 +1,9 @@
 -- What is so by the manual pages' rules and by Linux's.
 -- Stable: other crates may import all of it.
 use Rattle.std.proofs.Common.{◌≡◌, ℕ, ◌<◌, Bool, true, false, not, ◌&&◌, ◌||◌, length, ap, sym, subst}
-use Rattle.std.proofs.lemmas.Bool.{and_parts, both_ways, false_from_ne_true, not-true}
-use Rattle.uring_entry.specs.Setup.{Setup}
-use Rattle.uring_entry.specs.Preparation.{is_faulty}
-use Rattle.uring_entry.specs.Requests.{entry_of, is_outstanding, is_running}
-use Rattle.uring_entry.proofs.RequestLemmas.{is_doomed_own_fault}
+use Rattle.uring_core.proofs.Common.{LinuxRequests, Setup, and_parts, both_ways, by_manual, ends_doomed, entry_of, false_from_ne_true, is_deferred, is_doomed_own_fault, is_faulty, is_in_turn, is_issuable, is_outstanding, is_running, may_start, not-true}
 use Rattle.uring_linux.specs.LinuxRequests as kernel
-use Rattle.uring_linux.specs.LinuxRequests.{LinuxRequests, is_in_turn, is_deferred}
 use Rattle.uring_linux.proofs.Standings.{healthy}
-use Rattle.uring_rules.specs.Rules.{ends_doomed, may_start, is_issuable}
-use Rattle.uring_core.specs.Histories.{by_manual}
 
 -- what doesn't end as doomed though it is in its turn is spared
 spared_in_turn : (turn doomed deferred : Bool) → (turn && doomed) ≡ false

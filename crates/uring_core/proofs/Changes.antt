@@ -3,20 +3,9 @@
 -- From the definitions of the answers alone.
 -- Stable: other crates may import `Change` with its cases and `change_of`.
 use Rattle.std.proofs.Common.{◌≡◌, ℕ, ◌+◌, ℤ, Bool, true, false, not, nat_lt, eqb, List, length, Option, Some, None, is_some, if◌then◌else◌, slice_get, refl, sym, subst, inl, inr, rules}
-use Rattle.uring_entry.specs.Setup.{Setup}
-use Rattle.uring_entry.specs.Layout.{Sqe, Cqe}
-use Rattle.uring_entry.specs.Preparation.{is_cancel}
-use Rattle.uring_entry.specs.Submission.{Call, Place, taken, is_busy, is_full, call_length, entries_of, places_from}
-use Rattle.uring_entry.specs.Requests.{entry_of, is_outstanding, is_running, no_bytes}
-use Rattle.uring_rules.specs.Rules.{ends_doomed, may_start, doomed_result, cancel_result}
-use Rattle.uring_entry.specs.Completions.{next_to_reap}
-use Rattle.uring_core.specs.World.{World, requests_of, happens}
-use Rattle.uring_core.specs.StepAnswers.{CalledForApart, OrAgain, FinishesApart, entry_answer, place_answer, take_answer_in, end_answer_in, reap_answer_of, next_answer_of, is_spent}
-use Rattle.uring_core.specs.Histories.{Event}
-use Rattle.uring_core.specs.Events.{started_by, end_told_by, reaped_by, staged_by, filled_by, entry_taken_by, takes_position, opened_by, opens_call, accepted_by, closes_call, closes_ring, is_store_tail, is_load_head, is_flush, is_load_cq_tail, is_store_cq_head, takes_in}
-use Rattle.uring_core.specs.declared.step.Step.{Step}
+use Rattle.uring_core.proofs.Common.{Answer, Call, CalledForApart, Cqe, Event, FinishesApart, OrAgain, Place, Setup, Sqe, Step, World, accepted_by, call_length, closes_call, closes_ring, end_answer_in, end_told_by, ends_doomed, entries_of, entry_answer, entry_of, entry_taken_by, filled_by, happens, is_busy, is_cancel, is_flush, is_full, is_load_cq_tail, is_load_head, is_outstanding, is_running, is_spent, is_store_cq_head, is_store_tail, may_start, next_answer_of, next_to_reap, no_bytes, opened_by, opens_call, place_answer, places_from, reap_answer_of, reaped_by, requests_of, staged_by, started_by, take_answer_in, taken, takes_in, takes_position}
+use Rattle.uring_rules.specs.Rules.{doomed_result, cancel_result}
 use Rattle.uring_core.specs.declared.step.Step.TheVariants as step
-use Rattle.uring_core.specs.declared.answer.Answer.{Answer}
 use Rattle.uring_core.specs.declared.answer.Answer.TheVariants as answer
 
 -- an event that tells nothing

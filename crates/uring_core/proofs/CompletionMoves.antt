@@ -1,19 +1,9 @@
 -- What an event makes of the completion ring, each with what is known of it because its answer was called for.
 -- `stays` is the frame of all that leave the ring as it was: whatever became of the rest, they tell nothing of it.
 use Rattle.std.proofs.Common.{◌≡◌, ℕ, ℤ, Bool, true, false, List, [], ◌∷◌, ◌++◌, Some, None, refl, sym, subst, append-nil, rules}
-use Rattle.uring_entry.specs.Setup.{Setup}
-use Rattle.uring_entry.specs.Layout.{Sqe, Cqe}
-use Rattle.uring_entry.specs.Submission.{Submission, entries_of, places_from}
-use Rattle.uring_entry.specs.Requests.{Requests, no_bytes}
+use Rattle.uring_core.proofs.Common.{Answer, Cqe, Event, History, IsLawfulApart, LinuxRequests, Requests, Setup, Sqe, Step, Submission, World, end_told_by, ending_of, entries_of, happens, is_flush, is_load_cq_tail, is_store_cq_head, next_to_reap, no_bytes, places_from, reaped_by, requests_of, taking_entry_of, taking_of, with_end_of, with_flushed, with_head_stored, with_reaped, with_tail_loaded, world}
 use Rattle.uring_rules.specs.Rules.{doomed_result, cancel_result, with_issued_end}
-use Rattle.uring_linux.specs.LinuxRequests.{LinuxRequests}
-use Rattle.uring_entry.specs.Completions.{next_to_reap, with_flushed, with_tail_loaded, with_reaped, with_head_stored}
-use Rattle.uring_core.specs.World.{World, requests_of, with_end_of, happens, taking_of, taking_entry_of, ending_of}
-use Rattle.uring_core.specs.Histories.{Event, History, world, IsLawfulApart}
-use Rattle.uring_core.specs.Events.{end_told_by, reaped_by, is_flush, is_load_cq_tail, is_store_cq_head}
-use Rattle.uring_core.specs.declared.step.Step.{Step}
 use Rattle.uring_core.specs.declared.step.Step.TheVariants as step
-use Rattle.uring_core.specs.declared.answer.Answer.{Answer}
 use Rattle.uring_core.specs.declared.answer.Answer.TheVariants as answer
 use Rattle.uring_core.proofs.Changes.{Change, refuses as event_refuses, takes as event_takes, drops as event_drops, closes as event_closes, runs as event_runs, dooms as event_dooms, cancels as event_cancels, finishes as event_finishes, flushes as event_flushes, sees_tail as event_sees_tail, reaps as event_reaps, stores_head as event_stores_head, change_of}
 

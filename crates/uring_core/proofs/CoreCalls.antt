@@ -1,23 +1,10 @@
 -- Submission calls, from the layers' contracts to the core's: what a core shows as one opens.
 use Rattle.std.proofs.Common.{◌≡◌, ℕ, ◌+◌, ◌-◌, ◌^◌, ◌<◌, ◌≤◌, Bool, true, false, cond, ◌∷◌, length, None, is_some, refl, sym, ap, subst, ◌∙◌, arith, inl, inr}
-use Rattle.std.specs.Prelude.{Result, Ok, Err, is_err, IsOk, OnOk}
-use Rattle.std.proofs.lemmas.Bool.{ltb-false}
-use Rattle.uring_entry.specs.Setup.{Setup}
-use Rattle.uring_entry.specs.Submission.{Submission, call_length, with_begun}
-use Rattle.uring_linux.specs.LinuxRequests.{LinuxRequests}
-use Rattle.uring_entry.specs.Completions.{Completions}
-use Rattle.uring_rings.specs.Sq.{Sq, ShowsSubmission}
+use Rattle.uring_core.proofs.Common.{Completions, Core, Cq, Err, FitsApart, History, IsOk, IsShortFor, KeepsMemory, LinuxRequests, Ok, OnOk, OrAgain, Result, Setup, ShowsCompletions, ShowsSubmission, ShowsWorld, Sq, Submission, World, begin_answer, begin_told, call_length, held_by, is_err, is_spent, ltb-false, requests_of, some_skips, with_begun, world}
 use Rattle.uring_rings.specs.SqAnswers as ring
-use Rattle.uring_rings.specs.Cq.{Cq, ShowsCompletions, KeepsMemory}
 use Rattle.uring_rings.specs.declared.answers.BeginAnswer.{BeginAnswer}
 use Rattle.uring_rings.specs.declared.answers.BeginAnswer.TheVariants as begin
 use Rattle.uring_rules.specs.RulesDispatch.{Rules, ShowsRequests, IsSameCount}
-use Rattle.uring_core.specs.Stops.{some_skips}
-use Rattle.uring_core.specs.World.{World, requests_of}
-use Rattle.uring_core.specs.StepAnswers.{OrAgain, begin_answer, is_spent}
-use Rattle.uring_core.specs.Histories.{History, world}
-use Rattle.uring_core.specs.Told.{begin_told}
-use Rattle.uring_core.specs.Core.{Core, ShowsWorld, FitsApart, IsShortFor, held_by}
 use Rattle.uring_core.specs.declared.step.Step.TheVariants as step
 use Rattle.uring_core.specs.declared.answer.Answer.TheVariants as answer
 use Rattle.uring_core.proofs.Changes.{not_some}

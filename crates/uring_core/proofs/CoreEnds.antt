@@ -1,25 +1,12 @@
 -- What a core shows as a submission call closes, as a request ends, and as it is made.
 use Rattle.std.proofs.Common.{◌≡◌, ℕ, ◌+◌, ◌-◌, ◌^◌, ◌≤◌, ℤ, Bool, true, false, not, cond, eqb, nat_lt, if◌then◌else◌, List, [], ◌∷◌, length, Option, Some, None, refl, sym, ap, subst, ◌∙◌, arith, inl, inr, IfSome}
-use Rattle.std.proofs.lemmas.Bool.{cases_Bool, eqb-true, eqb-false, lt-ltb, le-ltb}
-use Rattle.std.proofs.lemmas.List.{length-append}
-use Rattle.std.proofs.lemmas.Option.{cond_some}
-use Rattle.std.proofs.lemmas.List.Sums.{sum_by_push}
-use Rattle.uring_entry.specs.Setup.{Setup}
-use Rattle.uring_entry.specs.IndexWords.{word_of}
-use Rattle.uring_entry.specs.Layout.{Sqe, user_data_of}
-use Rattle.uring_entry.specs.Submission.{Submission, Call, no_submission, taken, pending, entries_of, places_from, dropped, with_closed}
-use Rattle.uring_entry.specs.Requests.{entry_of, is_outstanding, is_running, no_bytes}
-use Rattle.uring_linux.specs.LinuxRequests.{LinuxRequests, no_request, with_started}
-use Rattle.uring_entry.specs.Preparation.{is_cancel, operation_of}
-use Rattle.uring_entry.specs.Completions.{Completions, no_completion, with_posted}
+use Rattle.uring_core.proofs.Common.{Answer, Call, Completions, Core, Cq, FinishesApart, FitsApart, History, IsFinished, LinuxRequests, Op, Setup, ShowsCompletions, ShowsSubmission, ShowsWorld, Sq, Sqe, Submission, World, cases_Bool, cond_some, dropped, end_answer_in, ending_of, ends_doomed, entries_of, entry_of, eqb-false, eqb-true, held_by, is_cancel, is_outstanding, is_running, issue_answer, issue_told, le-ltb, length-append, lt-ltb, may_start, no_bytes, no_completion, no_submission, operation_of, pending, places_from, positions_of, posts, requests_of, some_skips, sum_by_push, taken, user_data_of, with_closed, with_end_of, with_posted, with_told, word_of, world}
+use Rattle.uring_linux.specs.LinuxRequests.{no_request, with_started}
+use Rattle.uring_rules.specs.Rules.{doomed_result, cancel_result}
 use Rattle.uring_entry.specs.declared.operation.Outcome.{Outcome}
-use Rattle.uring_entry.specs.declared.operation.Op.{Op}
-use Rattle.uring_rings.specs.Sq.{Sq, ShowsSubmission}
 use Rattle.uring_rings.specs.SqAnswers as ring
-use Rattle.uring_rings.specs.Cq.{Cq, ShowsCompletions}
 use Rattle.uring_rings.specs.declared.answers.EndAnswer.TheVariants as ended_as
 use Rattle.uring_rings.specs.declared.answers.Taken.{Taken}
-use Rattle.uring_rules.specs.Rules.{ends_doomed, may_start, doomed_result, cancel_result, posts}
 use Rattle.uring_rules.specs.RulesDispatch.{Rules, ShowsRequests, HasStarted, HasEnded, HasFinished, HasCalled}
 use Rattle.uring_rules.specs.RulesCalls.{called_by}
 use Rattle.uring_rules.specs.RulesIssues.{issued, posts_of, posted_by, ended_by, ended_at_issue}
@@ -27,14 +14,7 @@ use Rattle.uring_rules.specs.declared.answers.Issued.{Issued}
 use Rattle.uring_rules.specs.declared.answers.Issued.TheVariants as issue
 use Rattle.uring_dispatch.specs.declared.answers.Posts.{Posts}
 use Rattle.uring_dispatch.specs.declared.answers.Posts.TheVariants as post
-use Rattle.uring_core.specs.Stops.{some_skips}
-use Rattle.uring_core.specs.World.{World, requests_of, ending_of, with_end_of}
-use Rattle.uring_core.specs.Told.{issue_told, with_told}
-use Rattle.uring_core.specs.StepAnswers.{end_answer_in, issue_answer, FinishesApart}
-use Rattle.uring_core.specs.Histories.{History, world}
-use Rattle.uring_core.specs.Core.{Core, ShowsWorld, FitsApart, IsFinished, held_by, positions_of}
 use Rattle.uring_core.specs.declared.step.Step.TheVariants as step
-use Rattle.uring_core.specs.declared.answer.Answer.{Answer}
 use Rattle.uring_core.specs.declared.answer.Answer.TheVariants as answer
 use Rattle.uring_core.proofs.CoreTakes.{held_within}
 use Rattle.uring_core.proofs.TakenEntries.{closed_entries}

@@ -1,14 +1,6 @@
 -- What a core shows after a step on one ring alone, from what that ring shows. Each such step goes on from here in its function's answers.
 use Rattle.std.proofs.Common.{◌≡◌, ◌+◌, ◌-◌, ◌^◌, ◌≤◌, Bool, true, false, cond, ◌∷◌, length, refl, sym, ap, subst, ◌∙◌}
-use Rattle.uring_entry.specs.Setup.{Setup, IsWithinLimits}
-use Rattle.uring_entry.specs.Submission.{Submission}
-use Rattle.uring_entry.specs.Completions.{Completions}
-use Rattle.uring_rings.specs.Sq.{Sq, ShowsSubmission}
-use Rattle.uring_rings.specs.Cq.{Cq, ShowsCompletions, KeepsMemory}
-use Rattle.uring_core.specs.Stops.{taken_entries, some_skips}
-use Rattle.uring_core.specs.World.{World}
-use Rattle.uring_core.specs.Histories.{Event, History}
-use Rattle.uring_core.specs.Core.{Core, ShowsWorld, FitsApart, IsCore, held_by, positions_of}
+use Rattle.uring_core.proofs.Common.{Completions, Core, Cq, Event, FitsApart, History, IsCore, IsWithinLimits, KeepsMemory, Setup, ShowsCompletions, ShowsSubmission, ShowsWorld, Sq, Submission, World, held_by, positions_of, some_skips, taken_entries}
 
 -- a core that fits one event more is a core
 pub core_after : (p q : Core) (e : Event) → q.setup ≡ p.setup

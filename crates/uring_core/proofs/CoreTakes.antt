@@ -1,28 +1,14 @@
 -- What a core shows as a submission call takes a position, and that there is room for what it took.
-use Rattle.std.specs.Option.{option_and_then}
+use Rattle.uring_core.proofs.Common.{Answer, Call, Core, FitsApart, History, Place, Setup, ShowsSubmission, ShowsWorld, Sq, Sqe, Submission, World, append-nil, asks_to_skip, common_steps, entries_of, eqb-false, held_by, option_and_then, pending, positions_of, some_skips, staged, stops_after, stops_at_word, stops_there, take_answer_in, taken, taking_entry_of, taking_of, taking_on, with_stopped, with_taken, world}
 use Rattle.std.proofs.Common.{◌≡◌, ℕ, zero, suc, ◌+◌, ◌-◌, ◌^◌, ◌<◌, ◌≤◌, Bool, false, cond, eqb, ◌||◌, List, [], ◌∷◌, ◌++◌, length, take, drop, Option, Some, None, slice_get, refl, sym, ap, subst, ◌∙◌, arith, IfSome, true}
-use Rattle.std.proofs.lemmas.Bool.{eqb-false}
 use Rattle.std.proofs.lemmas.List.Elements.{filter_map-append}
-use Rattle.std.proofs.lemmas.Grind.{common_steps}
-use Rattle.std.proofs.lemmas.List.{append-nil}
-use Rattle.uring_entry.specs.Setup.{Setup}
-use Rattle.uring_entry.specs.Layout.{Sqe}
-use Rattle.uring_entry.specs.Submission.{Submission, Call, Place, taken, pending, staged, entries_of, with_taken, with_stopped}
-use Rattle.uring_rings.specs.Sq.{Sq, ShowsSubmission}
 use Rattle.uring_rings.specs.SqAnswers as ring
 use Rattle.uring_rings.specs.declared.answers.TakeAnswer.{TakeAnswer}
 use Rattle.uring_rings.specs.declared.answers.TakeAnswer.TheVariants as took_as
 use Rattle.uring_rings.proofs.Places.{places_more, entries_and_dropped}
-use Rattle.uring_linux.specs.LinuxRequests.{asks_to_skip}
-use Rattle.uring_core.specs.Stops.{some_skips, stops_after, stops_at_word}
-use Rattle.uring_core.specs.World.{World, taking_on, taking_of, stops_there, taking_entry_of}
-use Rattle.uring_core.specs.StepAnswers.{take_answer_in}
-use Rattle.uring_core.specs.Histories.{History, world}
-use Rattle.uring_core.specs.Core.{Core, ShowsWorld, FitsApart, held_by, positions_of}
 use Rattle.uring_core.proofs.SoundRings.{stopped_between}
 use Rattle.uring_core.proofs.TakenEntries.{skips_more, skips_same}
 use Rattle.uring_core.specs.declared.step.Step.TheVariants as step
-use Rattle.uring_core.specs.declared.answer.Answer.{Answer}
 use Rattle.uring_core.specs.declared.answer.Answer.TheVariants as answer
 
 -- Take.

@@ -2,24 +2,13 @@
 -- From `Moves`: doomed requests end with a fault and cancels are on no file, so their ends change none.
 -- Stable: other crates may import `files_ended`, `files_kept` and `files_kept_from`.
 use Rattle.std.proofs.Common.{◌≡◌, ℕ, ℤ, negsuc, ◌==◌, List, [], ◌∷◌, ◌++◌, Bool, true, false, cond, refl, ◌∙◌, ap}
-use Rattle.std.specs.List.{list_any}
-use Rattle.std.proofs.lemmas.Bool.{or_left, or_right, eq-eqb, cond_both}
-use Rattle.uring_entry.specs.Setup.{Setup}
-use Rattle.uring_entry.specs.Layout.{Sqe}
-use Rattle.uring_entry.specs.Preparation.{is_faulty, is_cancel, operation_of}
-use Rattle.uring_entry.specs.Requests.{Requests, Ending, entry_of, no_bytes, with_call, with_started, with_ended}
-use Rattle.uring_linux.specs.LinuxRequests.{LinuxRequests, is_refused_drain}
+use Rattle.uring_core.proofs.Common.{Answer, Ending, History, IsLawfulApart, IsNoFinish, LinuxRequests, Requests, Setup, Sqe, Step, cond_both, entry_of, eq-eqb, is_cancel, is_faulty, is_refused_drain, list_any, no_bytes, operation_of, or_left, or_right, requests_of, with_call, with_ended, with_started, world}
 use Rattle.uring_rules.specs.Rules.{doomed_result, cancel_result, with_issued_end}
 use Rattle.uring_entry.proofs.Preparations.{asks_cancel}
 use Rattle.uring_files.specs.Contents.{FileContents, empty_files}
 use Rattle.uring_files.specs.Operations.{after}
 use Rattle.uring_files.proofs.OperationCases.{failed}
 use Rattle.uring_core.specs.CalledFor.{files_after, files_of}
-use Rattle.uring_core.specs.World.{requests_of}
-use Rattle.uring_core.specs.Core.{IsNoFinish}
-use Rattle.uring_core.specs.Histories.{History, world, IsLawfulApart}
-use Rattle.uring_core.specs.declared.step.Step.{Step}
-use Rattle.uring_core.specs.declared.answer.Answer.{Answer}
 use Rattle.uring_core.proofs.Moves.{Move, stays, accepts, starts, ends_doomed, ends_cancel, ends_run, move_of}
 use Rattle.uring_core.proofs.Running.{entry_stays}
 use Rattle.uring_core.proofs.Sound.{sound_of}

@@ -2,13 +2,8 @@
 -- From std's lemmas on `reverse`. `follow_next` is one round of `run` of `uring_machine`.
 -- Stable: other crates may import `history_of_snoc`, `history_of_cons`, `history_of_append` and `zip_next`.
 use Rattle.std.proofs.Common.{◌≡◌, ℕ, ◌+◌, ◌<◌, List, [], ◌∷◌, ◌++◌, length, take, get_or, refl, sym, ap, ◌∙◌, arith, append_assoc}
-use Rattle.std.specs.List.{zip}
-use Rattle.std.proofs.lemmas.List.{take_more, length-take-le, reverse-append}
-use Rattle.uring_core.specs.Histories.{Event, History, history_of}
-use Rattle.uring_core.specs.declared.step.Step.{Step}
+use Rattle.uring_core.proofs.Common.{Answer, Event, History, IsNoFinish, Step, history_of, length-take-le, reverse-append, take_more, zip}
 use Rattle.uring_core.specs.declared.step.Step.TheVariants as step
-use Rattle.uring_core.specs.Core.{IsNoFinish}
-use Rattle.uring_core.specs.declared.answer.Answer.{Answer}
 
 -- what happened last stands first
 pub history_of_snoc : (events : List Event) (e : Event)

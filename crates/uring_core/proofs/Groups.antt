@@ -1,16 +1,9 @@
 -- A call accepts entries, and closes: what stands before it stays.
 use Rattle.std.proofs.Common.{◌≡◌, ℕ, ◌+◌, ◌-◌, ◌==◌, ◌<◌, ◌≤◌, min, max, neg_ℤ, if◌then◌else◌, List, [], ◌∷◌, length, Bool, true, false, not, ◌&&◌, ◌||◌, leb, refl, sym, subst, ◌∙◌, ap, arith, ◌⊎◌, inl, inr}
-use Rattle.std.specs.List.{list_any}
-use Rattle.std.specs.Ordering.{int_eq}
+use Rattle.uring_core.proofs.Common.{Requests, Sqe, and_left, entry_of, eq-eqb, get_or_append_left, has_failed, int_eq, is_after_failure, is_cancelled, is_doomed, is_faulty, is_in_faulty_group, is_in_group, is_joined, is_joined_no, is_last, is_linked, is_soft, length-append, list_any, list_any_push, ne_eqb, or_right, some_member, with_call, zero_entry}
 use Rattle.uring_entry.specs.declared.errno.TheConstants.{EINVAL, ECANCELED}
-use Rattle.std.proofs.lemmas.Bool.{and_left, or_right, eq-eqb, ne_eqb}
-use Rattle.std.proofs.lemmas.List.{length-append, get_or_append_left}
-use Rattle.uring_entry.specs.Layout.{Sqe, zero_entry}
 use Rattle.uring_entry.specs.Success.{is_success}
-use Rattle.uring_entry.specs.Preparation.{is_faulty}
-use Rattle.uring_entry.specs.Requests.{Requests, entry_of, has_failed, is_soft, is_last, is_linked, is_joined, is_in_group, some_member, is_in_faulty_group, is_after_failure, is_cancelled, is_doomed, with_call}
 use Rattle.uring_entry.proofs.BelowLemmas.{some_below_same, some_below_between}
-use Rattle.uring_entry.proofs.RequestLemmas.{is_joined_no, list_any_push}
 use Rattle.uring_core.proofs.SoundRequests.{IsSoundRequests, IsSoundManual, IsFree, EndsDoomed}
 use Rattle.uring_core.proofs.ListCounts.{any_kept}
 

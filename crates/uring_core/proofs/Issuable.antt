@@ -2,16 +2,10 @@
 -- From the answer that is called for.
 -- Stable: other crates may import `issue_goes`, `issued_ends`, `issuable_outstanding` and `next_tells`.
 use Rattle.std.proofs.Common.{◌≡◌, ℕ, length, Option, Some, None, ap, Bool, true, false, not, ◌||◌, ℤ, if◌then◌else◌, refl}
-use Rattle.uring_entry.specs.Setup.{Setup}
-use Rattle.uring_entry.specs.Requests.{is_outstanding, entry_of, is_running, no_bytes}
-use Rattle.uring_linux.specs.LinuxRequests.{LinuxRequests}
-use Rattle.uring_rules.specs.Rules.{ends_doomed, may_start, is_issuable, next_of, doomed_result, cancel_result}
-use Rattle.uring_entry.specs.Preparation.{is_cancel}
+use Rattle.uring_core.proofs.Common.{Answer, IsEnded, IsIssued, LinuxRequests, Setup, World, ends_doomed, entry_of, is_cancel, is_issuable, is_outstanding, is_running, issue_answer, may_start, next_answer_of, next_of, no_bytes, requests_of}
+use Rattle.uring_rules.specs.Rules.{doomed_result, cancel_result}
 use Rattle.uring_entry.proofs.BelowLemmas.{least_below_tells}
 use Rattle.uring_core.proofs.ByRules.{issuable_tells}
-use Rattle.uring_core.specs.World.{World, requests_of}
-use Rattle.uring_core.specs.StepAnswers.{IsEnded, IsIssued, issue_answer, next_answer_of}
-use Rattle.uring_core.specs.declared.answer.Answer.{Answer}
 use Rattle.uring_core.specs.declared.answer.Answer.TheVariants as answer
 
 -- what can be issued isn't refused

@@ -1,4 +1,5 @@
 -- In the order in which they are best read.
+mod Common
 -- What an event moves:
 pub mod ByRules
 pub mod Changes

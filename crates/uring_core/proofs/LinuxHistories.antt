@@ -1,17 +1,10 @@
 -- By Linux's rules a lawful history is one of submission calls, starts and ends, where nobody starts that is doomed: so that what is so whatever happened is so of its requests.
 use Rattle.std.proofs.Common.{◌≡◌, Bool, true, false, not, ◌&&◌, ◌||◌, List, [], ◌∷◌, refl, sym, ◌∙◌, ap, subst}
-use Rattle.std.proofs.lemmas.Bool.{or_left, or_right}
-use Rattle.uring_entry.specs.Setup.{Setup}
-use Rattle.uring_entry.specs.Requests.{is_outstanding, is_running, no_bytes}
-use Rattle.uring_entry.specs.Submission.{entries_from}
-use Rattle.uring_linux.specs.LinuxRequests.{LinuxRequests, is_in_turn, is_deferred, is_doomed}
+use Rattle.uring_core.proofs.Common.{Answer, History, IsLawfulApart, LinuxRequests, Setup, Step, World, ending_of, entries_from, happens, is_deferred, is_in_turn, is_outstanding, is_running, no_bytes, or_left, or_right, requests_of, taking_entry_of, taking_of, world}
+use Rattle.uring_linux.specs.LinuxRequests.{is_doomed}
 use Rattle.uring_linux.specs.Happenings.{Happening, Call, Start, End, after, made_by, MayHappen, MayHaveHappened}
 use Rattle.uring_rules.proofs.Calls.{whole_call}
 use Rattle.uring_rules.proofs.IssueLemmas.{end_by_linux}
-use Rattle.uring_core.specs.World.{World, requests_of, happens, taking_of, taking_entry_of, ending_of}
-use Rattle.uring_core.specs.Histories.{History, world, IsLawfulApart}
-use Rattle.uring_core.specs.declared.step.Step.{Step}
-use Rattle.uring_core.specs.declared.answer.Answer.{Answer}
 use Rattle.uring_core.proofs.Changes.{Change, refuses, takes, drops, closes, runs, dooms, cancels, finishes, change_of}
 
 -- what starts isn't doomed

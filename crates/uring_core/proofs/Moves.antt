@@ -1,21 +1,11 @@
 -- What an event makes of the requests, each with what is known of it because its answer was called for.
 use Rattle.std.proofs.Common.{◌≡◌, ℕ, ℤ, Bool, true, false, List, None, refl, sym, subst, ◌∷◌}
-use Rattle.uring_entry.specs.Setup.{Setup}
-use Rattle.uring_entry.specs.Layout.{Sqe}
-use Rattle.uring_entry.specs.Preparation.{is_cancel}
-use Rattle.uring_entry.specs.Submission.{entries_of, places_from}
-use Rattle.uring_entry.specs.Requests.{Requests, entry_of, is_outstanding, is_running, no_bytes, with_call, with_started, with_ended}
-use Rattle.uring_linux.specs.LinuxRequests.{LinuxRequests}
+use Rattle.uring_core.proofs.Common.{Answer, History, IsLawfulApart, LinuxRequests, Requests, Setup, Sqe, Step, World, end_told_by, ending_of, entries_of, entry_of, happens, is_cancel, is_outstanding, is_running, may_start, no_bytes, places_from, requests_of, started_by, taking_entry_of, taking_of, with_call, with_ended, with_started, world}
+use Rattle.uring_rules.specs.Rules.{doomed_result, cancel_result, with_issued_end}
 use Rattle.uring_rules.specs.Rules as by_rules
-use Rattle.uring_rules.specs.Rules.{may_start, doomed_result, cancel_result, with_issued_end}
-use Rattle.uring_core.specs.World.{World, requests_of, happens, taking_of, taking_entry_of, ending_of}
-use Rattle.uring_core.specs.Events.{started_by, end_told_by}
-use Rattle.uring_core.specs.declared.step.Step.{Step}
 use Rattle.uring_core.specs.declared.step.Step.TheVariants as step
-use Rattle.uring_core.specs.declared.answer.Answer.{Answer}
 use Rattle.uring_core.specs.declared.answer.Answer.TheVariants as answer
 use Rattle.uring_core.proofs.Changes.{Change, refuses, takes, drops, closes, runs, dooms, cancels, finishes, change_of}
-use Rattle.uring_core.specs.Histories.{History, world, IsLawfulApart}
 
 -- by Linux's rules or the manual pages', from these requests
 pub data Move (linux : Bool) (l : LinuxRequests) : Step → Answer → Requests → Type 0 where

@@ -1,9 +1,6 @@
 -- After no entry a call stops in a ring that goes on, and after no word by the manual pages' rules.
 use Rattle.std.proofs.Common.{◌≡◌, Bool, true, false, ◌&&◌, if◌then◌else◌, ap}
-use Rattle.uring_entry.specs.Setup.{Setup}
-use Rattle.uring_entry.specs.Layout.{Sqe}
-use Rattle.uring_entry.specs.Preparation.{is_faulty}
-use Rattle.uring_core.specs.Stops.{stops_linux, stops_after, stops_at_word}
+use Rattle.uring_core.proofs.Common.{Setup, Sqe, is_faulty, stops_after, stops_at_word, stops_linux}
 
 pub goes_on : (g : Setup) (has_skipped : Bool) (e : Sqe) → g.stops ≡ false
     → stops_after g has_skipped e ≡ false

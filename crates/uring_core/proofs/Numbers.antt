@@ -1,16 +1,6 @@
 -- How many requests a lawful history accepts.
 use Rattle.std.proofs.Common.{◌≡◌, ◌+◌, ◌-◌, ◌^◌, ◌≤◌, Bool, false, eqb, [], ◌∷◌, length, drop, Some, sym, subst, arith}
-use Rattle.std.proofs.lemmas.Bool.{ltb-false, eqb-false}
-use Rattle.std.proofs.lemmas.List.{length-append}
-use Rattle.uring_entry.specs.Setup.{Setup}
-use Rattle.uring_entry.specs.Submission.{Call, taken, entries_of, places_from}
-use Rattle.uring_entry.specs.Requests.{is_outstanding, outstanding_in}
-use Rattle.uring_core.specs.Stops.{open_taken, stops_at_word}
-use Rattle.uring_core.specs.World.{World, stops_there, taking_on}
-use Rattle.uring_core.specs.Core.{positions_of}
-use Rattle.uring_core.specs.Histories.{History, world, IsLawfulApart}
-use Rattle.uring_core.specs.declared.step.Step.{Step}
-use Rattle.uring_core.specs.declared.answer.Answer.{Answer}
+use Rattle.uring_core.proofs.Common.{Answer, Call, History, IsLawfulApart, Setup, Step, World, entries_of, eqb-false, is_outstanding, length-append, ltb-false, open_taken, outstanding_in, places_from, positions_of, stops_at_word, stops_there, taken, taking_on, world}
 use Rattle.uring_core.proofs.SubmissionMoves.{SubmissionMove, stays, begins, takes, drops, closes, submission_move}
 use Rattle.uring_core.proofs.SoundRings.{IsSoundSubmission, open_count, stopped_between}
 use Rattle.uring_core.proofs.Sound.{sound_of}

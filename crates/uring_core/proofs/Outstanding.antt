@@ -2,9 +2,7 @@
 -- By induction over the numbers below the count of accepted requests.
 -- Stable: other crates may import `none_outstanding`, `all_ended`, `ended_less` and `count_below_zero`.
 use Rattle.std.proofs.Common.{◌≡◌, ◌≢◌, ℕ, zero, suc, ◌+◌, ◌<◌, Bool, true, false, not, ◌&&◌, ltb, cond, ℤ, List, length, refl, sym, ◌∙◌, ap, arith}
-use Rattle.std.proofs.lemmas.Bool.{and_parts, ltb-true, false_from_ne_true}
-use Rattle.uring_entry.specs.Requests.{Requests, has_ended, is_outstanding, with_ended, outstanding_in}
-use Rattle.uring_entry.proofs.RequestLemmas.{has_ended_same, has_ended_other}
+use Rattle.uring_core.proofs.Common.{Requests, and_parts, false_from_ne_true, has_ended, has_ended_other, has_ended_same, is_outstanding, ltb-true, outstanding_in, with_ended}
 use Rattle.uring_entry.specs.Below.{count_below}
 use Rattle.uring_dispatch.proofs.Counting.{count_below_changed, count_below_some}
 use Rattle.uring_dispatch.specs.Window.{one_if}

@@ -1,19 +1,8 @@
 -- Answers that were recorded elsewhere: what is called for beside one answer, and what a refusal says.
 use Rattle.std.proofs.Common.{◌≡◌, ℕ, ◌<◌, ◌≤◌, Bool, true, false, if◌then◌else◌, ◌∷◌, Option, Some, None, is_some, refl, sym, ap, subst, ◌∙◌, inl, inr, arith}
-use Rattle.std.specs.Prelude.{Result, Ok, Err}
-use Rattle.std.proofs.lemmas.Bool.{true≢false}
-use Rattle.uring_entry.specs.Setup.{Setup}
-use Rattle.uring_entry.specs.Preparation.{operation_of}
-use Rattle.uring_entry.specs.Requests.{entry_of, is_running, operation_running}
-use Rattle.uring_entry.specs.declared.operation.Op.{Op}
-use Rattle.uring_core.specs.World.{World}
-use Rattle.uring_core.specs.StepAnswers.{CalledForApart, FinishesApart, OrAgain, begin_answer}
-use Rattle.uring_core.specs.Core.{Core, FitsApart}
-use Rattle.uring_core.specs.Histories.{History}
+use Rattle.uring_core.proofs.Common.{Answer, CalledForApart, Core, Err, FinishesApart, FitsApart, History, Ok, Op, OrAgain, Result, Setup, Step, World, begin_answer, entry_of, is_running, operation_of, operation_running, true≢false}
 use Rattle.uring_core.specs.Recorded.{IsWrong, IsOneAnswer, IsRefused}
-use Rattle.uring_core.specs.declared.step.Step.{Step}
 use Rattle.uring_core.specs.declared.step.Step.TheVariants as step
-use Rattle.uring_core.specs.declared.answer.Answer.{Answer}
 use Rattle.uring_core.specs.declared.answer.Answer.TheVariants as answer
 use Rattle.uring_core.specs.declared.wanted.Wanted.TheVariants.{Only, CallOrAgain}
 use Rattle.uring_core.specs.declared.wanted.Refusal.{Refusal}

@@ -1,22 +1,14 @@
 -- What holds of the requests stays as one ends.
 use Rattle.std.proofs.Common.{◌≡◌, ◌≢◌, ℕ, ◌==◌, ◌<◌, ℤ, pos, neg_ℤ, List, [], ◌∷◌, ◌++◌, length, Bool, true, false, not, ◌&&◌, eqb, Option, Some, None, cond, refl, sym, subst, ap, ◌∙◌, ◌⊎◌, inl, inr, negsuc}
-use Rattle.std.specs.List.{list_any}
-use Rattle.std.specs.Option.{option_to_list}
-use Rattle.std.specs.Ordering.{int_eq}
-use Rattle.std.proofs.lemmas.Bool.{cases_eq, cases_Bool, and_parts, and_from, and_left, and_right, or_cases, or_from, both_ways, eqb-true, eqb-false, ne_eqb, lt-ltb, not-true, not_from_true, false_from_ne_true, cond_both}
+use Rattle.uring_core.proofs.Common.{Chose, Requests, all_success, and_from, and_left, and_parts, and_right, both_ways, cancel_result, cases_Bool, cases_eq, choices_of, chosen_by, cond_both, count_result, doomed_result, entry_of, eqb-false, eqb-true, false_from_ne_true, has_ended, has_failed, has_started, int_eq, int_le, is_cancel, is_cancel_all, is_cancelled, is_candidate, is_doomed, is_doomed_after, is_doomed_cancelled, is_doomed_faulty, is_faulty, is_in_faulty_group, is_joined, is_outstanding, is_ready, is_running, list_any, list_any_push, lt-ltb, ne_eqb, never_success, no_bytes, not-true, not_from_true, one_success, option_to_list, or_cases, or_from, result_for, some_member, target_in, target_of, targets_of, with_ended, with_issued_end}
 use Rattle.std.proofs.lemmas.Bool.Decides.{Decides-int_eq}
 use Rattle.std.proofs.lemmas.List.Folds.{list_any-append}
-use Rattle.std.specs.Prelude.{int_le}
 use Rattle.uring_entry.specs.Success.{is_success}
-use Rattle.uring_entry.specs.Preparation.{is_faulty, is_cancel, is_cancel_all}
 use Rattle.uring_entry.specs.declared.errno.TheConstants.{EINVAL, EALREADY, ECANCELED}
-use Rattle.uring_entry.specs.Requests.{Requests, entry_of, has_started, has_ended, has_failed, is_running, is_outstanding, is_joined, some_member, is_in_faulty_group, is_cancelled, is_doomed, is_ready, is_candidate, target_of, targets_of, choices_of, count_result, result_for, cancel_result, doomed_result, no_bytes, chosen_by, with_ended, with_issued_end}
 use Rattle.uring_rules.specs.Rules as by_rules
-use Rattle.uring_entry.proofs.RequestLemmas.{is_doomed_faulty, is_doomed_after, is_doomed_cancelled, one_success, never_success, target_in, list_any_push, all_success}
 use Rattle.uring_core.proofs.ListCounts.{any_looser, any_kept, any_new, count_once_more}
 use Rattle.uring_entry.proofs.EventLemmas.{is_doomed_tells, is_after_failure_tells, is_after_failure_from, target_of_tells}
 use Rattle.uring_core.proofs.SoundRequests.{IsFree, is_otherwise, EndsDoomed, IsSoundRequests, IsSoundManual, outstanding_tells, idle_tells, ready_first}
-use Rattle.uring_core.specs.Events.{Chose}
 
 -- A request ends, and these are the ones that cancels chose so far.
 abbrev pub ended_as : Requests → ℕ → ℤ → List ℕ → List ℕ → Requests

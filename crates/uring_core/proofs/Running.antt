@@ -2,23 +2,10 @@
 -- By `Moves` and induction over the history for the cancels, and by `started_right` for the faults.
 -- Stable: other crates may import `running_asks`, `runs_with`, `no_cancel` and `entry_stays`.
 use Rattle.std.proofs.Common.{◌≡◌, ℕ, ◌==◌, ◌<◌, ℤ, List, [], ◌∷◌, length, Bool, true, false, Option, Some, None, IfSome, sym, subst, ◌∙◌, ap, inl, inr}
-use Rattle.std.proofs.lemmas.Option.{cond_some}
-use Rattle.std.proofs.lemmas.Bool.{and_parts, eqb-true}
-use Rattle.std.proofs.lemmas.List.{get_or_append_left}
-use Rattle.uring_entry.specs.Setup.{Setup}
-use Rattle.uring_entry.specs.Layout.{Sqe, zero_entry}
-use Rattle.uring_entry.specs.Preparation.{fault_of, is_cancel, operation_of}
-use Rattle.uring_entry.specs.Requests.{Requests, entry_of, has_started, is_running, operation_running, with_call}
-use Rattle.uring_entry.specs.declared.operation.Op.{Op}
-use Rattle.uring_linux.specs.LinuxRequests.{LinuxRequests}
+use Rattle.uring_core.proofs.Common.{Answer, Core, FitsApart, History, IsCore, IsLawfulApart, LinuxRequests, Op, Requests, Setup, Sqe, Step, and_parts, cond_some, entry_of, eqb-true, fault_of, get_or_append_left, has_started, is_cancel, is_running, operation_of, operation_running, requests_of, with_call, world, zero_entry}
 use Rattle.uring_files.specs.Operations.{IsForFiles}
 use Rattle.uring_files.proofs.Prepared.{prepared}
-use Rattle.uring_core.specs.Core.{Core, FitsApart, IsCore}
-use Rattle.uring_core.specs.Histories.{History, world, IsLawfulApart}
-use Rattle.uring_core.specs.declared.step.Step.{Step}
-use Rattle.uring_core.specs.declared.answer.Answer.{Answer}
 use Rattle.uring_rules.specs.Rules.{with_issued_end}
-use Rattle.uring_core.specs.World.{requests_of}
 use Rattle.uring_core.proofs.Moves.{Move, stays, accepts, starts, ends_doomed, ends_cancel, ends_run, move_of}
 use Rattle.uring_core.proofs.Sound.{sound_of}
 use Rattle.uring_core.proofs.ListCounts.{any_new}

@@ -1,12 +1,8 @@
 -- Equality of answers: what the derived `==` says of them, and that it is decided.
 use Rattle.std.proofs.Common.{◌≡◌, ℕ, ℤ, Bool, true, false, ◌&&◌, List, refl, sym, ap, subst, ◌∙◌, inl, inr, ◌⊎◌}
-use Rattle.std.specs.Prelude.{nat_eq}
-use Rattle.std.specs.Ordering.{int_eq}
-use Rattle.std.proofs.lemmas.Bool.{cases_Bool, both_ways, eq-eqb, eqb-true, and_parts, and_from}
+use Rattle.uring_core.proofs.Common.{Answer, Cqe, and_from, and_parts, both_ways, cases_Bool, eq-eqb, eqb-true, int_eq, nat_eq}
 use Rattle.std.proofs.lemmas.Bool.Decides.{Decides-int_eq}
 use lib.Pointwise.{pointwise, bytes_decides}
-use Rattle.uring_entry.specs.Layout.{Cqe}
-use Rattle.uring_core.specs.declared.answer.Answer.{Answer}
 use Rattle.uring_core.specs.declared.answer.Answer.TheVariants as answer
 use Rattle.uring_core.specs.contracts.answer.AnswerPartialEq.TheImpl.{ghosts}
 

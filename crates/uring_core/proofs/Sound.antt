@@ -1,13 +1,6 @@
 -- What holds of everything that a lawful history has made.
 use Rattle.std.proofs.Common.{◌≡◌, ℕ, ◌+◌, Bool, false, [], ◌∷◌, refl, subst, arith}
-use Rattle.uring_entry.specs.Setup.{Setup}
-use Rattle.uring_entry.specs.Submission.{with_taken, no_submission}
-use Rattle.uring_linux.specs.LinuxRequests.{LinuxRequests}
-use Rattle.uring_core.specs.Stops.{stops_at_word}
-use Rattle.uring_core.specs.World.{World, requests_of, at_first, stops_there}
-use Rattle.uring_core.specs.Histories.{History, world, IsLawfulApart}
-use Rattle.uring_core.specs.declared.step.Step.{Step}
-use Rattle.uring_core.specs.declared.answer.Answer.{Answer}
+use Rattle.uring_core.proofs.Common.{Answer, History, IsLawfulApart, LinuxRequests, Requests, Setup, Step, World, at_first, no_completion, no_submission, requests_of, stops_at_word, stops_there, with_taken, world}
 use Rattle.uring_core.proofs.Moves.{Move, stays, accepts, starts, ends_doomed, ends_cancel, ends_run, move_of}
 use Rattle.uring_core.proofs.SubmissionMoves.{SubmissionMove, stays as stays_off_submission, fills, stages, stores, takes, drops, closes, submission_move}
 use Rattle.uring_core.proofs.CompletionMoves.{CompletionMove, stays as stays_off_completions, ends, reaps, completion_move}
@@ -16,8 +9,6 @@ use Rattle.uring_core.proofs.SoundRequests.{IsSoundRequests, IsSoundManual, firs
 use Rattle.uring_core.proofs.ByRules.{starts_right}
 use Rattle.uring_core.proofs.RequestEnds.{finish_sound, issued_end_sound, finish_manual, doom_manual, cancel_manual}
 use Rattle.uring_core.proofs.Groups.{call_sound, call_manual}
-use Rattle.uring_entry.specs.Completions.{no_completion}
-use Rattle.uring_entry.specs.Requests.{Requests}
 
 pub record IsSound (g : Setup) (w : World) : Type 0 where
   pub submission : IsSoundSubmission g.sq w.submission

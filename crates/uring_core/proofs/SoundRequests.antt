@@ -1,12 +1,7 @@
 -- What holds of the requests of every lawful history, and stays as one starts.
 use Rattle.std.proofs.Common.{◌≡◌, ℕ, ◌==◌, ◌<◌, ◌≤◌, length, Bool, true, false, not, ◌&&◌, count_by, refl, sym, subst, ◌∙◌, arith, ◌⊎◌, inl, inr}
-use Rattle.std.specs.List.{list_any}
-use Rattle.std.specs.Ordering.{int_eq}
-use Rattle.std.proofs.lemmas.Bool.{and_parts, and_cases, both_ways, eqb-true, ltb-true, not-true, not-false, or_left}
-use Rattle.uring_entry.specs.Preparation.{is_faulty}
-use Rattle.uring_entry.specs.Requests.{Requests, Ending, no_request, entry_of, has_started, has_ended, is_running, is_outstanding, is_joined, is_doomed, is_ready, doomed_result, with_started, waits_for}
+use Rattle.uring_core.proofs.Common.{Ending, Requests, and_cases, and_parts, both_ways, doomed_result, entry_of, eqb-true, has_ended, has_started, int_eq, is_doomed, is_faulty, is_joined, is_outstanding, is_ready, is_ready_inside, is_running, list_any, ltb-true, no_request, not-false, not-true, or_left, waits_for, with_started}
 use Rattle.uring_entry.proofs.EventLemmas.{is_doomed_started, is_joined_started}
-use Rattle.uring_entry.proofs.RequestLemmas.{is_ready_inside}
 use Rattle.uring_core.proofs.ListCounts.{any_new, count_once_more}
 
 -- The invariant.

@@ -1,14 +1,6 @@
 -- What holds of both rings' lists in every lawful history.
 use Rattle.std.proofs.Common.{◌≡◌, ℕ, ◌+◌, ◌-◌, ◌<◌, ◌≤◌, Bool, true, false, eqb, List, [], ◌∷◌, ◌++◌, length, take, map, Option, Some, None, slice_get, cond, refl, sym, ap, subst, ◌∙◌, arith, inl, inr}
-use Rattle.std.specs.Option.{option_map}
-use Rattle.std.proofs.lemmas.Bool.{ltb-true, ltb-false, eqb-true, eqb-false, and_cases, and_parts}
-use Rattle.std.proofs.lemmas.List.{length_push, length-append, length-map, take-append-le, take_more}
-use Rattle.std.proofs.lemmas.List.Sums.{sum_by_push}
-use Rattle.std.proofs.lemmas.Option.{slice_get_within, get_or_from_slice_get}
-use Rattle.uring_entry.specs.Layout.{Cqe}
-use Rattle.uring_entry.specs.Submission.{Submission, Call, staged, taken, is_full, with_staged, with_published, with_taken, stopped, with_stopped, with_closed}
-use Rattle.uring_entry.specs.Completions.{Completions, has_room, next_to_reap, with_posted, with_reaped}
-use Rattle.uring_core.specs.Stops.{open_taken}
+use Rattle.uring_core.proofs.Common.{Call, Completions, Cqe, Submission, and_cases, and_parts, eqb-false, eqb-true, get_or_from_slice_get, has_room, is_full, length-append, length-map, length_push, ltb-false, ltb-true, next_to_reap, open_taken, option_map, slice_get_within, staged, stopped, sum_by_push, take-append-le, take_more, taken, with_closed, with_posted, with_published, with_reaped, with_staged, with_stopped, with_taken}
 
 -- The completion ring.
 

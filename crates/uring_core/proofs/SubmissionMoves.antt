@@ -1,22 +1,11 @@
 -- What an event makes of the submission ring, each with what is known of it because its answer was called for.
 -- `stays` is the frame of all that leave the ring as it was: whatever became of the rest, they tell nothing of it.
 use Rattle.std.proofs.Common.{◌≡◌, ℕ, ℤ, Bool, true, false, ◌||◌, nat_lt, eqb, ◌+◌, length, Some, None, slice_get, refl, sym, subst, ap, rules, ◌∷◌}
-use Rattle.uring_entry.specs.Setup.{Setup}
-use Rattle.uring_entry.specs.Layout.{Sqe}
-use Rattle.uring_entry.specs.Submission.{Call, Place, taken, is_full, call_length, entries_of, places_from, with_filled, with_staged, with_published, with_head_loaded, with_begun}
-use Rattle.uring_entry.specs.Requests.{Requests, no_bytes}
-use Rattle.uring_linux.specs.LinuxRequests.{LinuxRequests}
+use Rattle.uring_core.proofs.Common.{Answer, Call, Completions, Event, History, IsLawfulApart, LinuxRequests, Place, Requests, Setup, Sqe, Step, World, accepted_by, call_length, closes_call, closes_ring, ending_of, entries_of, entry_taken_by, filled_by, happens, is_full, is_load_head, is_spent, is_store_tail, no_bytes, opened_by, opens_call, places_from, requests_of, staged_by, taken, takes_in, takes_position, taking_entry_of, taking_of, with_begun, with_filled, with_head_loaded, with_published, with_staged, world}
 use Rattle.uring_rules.specs.Rules.{doomed_result, cancel_result, with_issued_end}
-use Rattle.uring_entry.specs.Completions.{Completions}
-use Rattle.uring_core.specs.World.{World, requests_of, happens, taking_of, taking_entry_of, ending_of}
-use Rattle.uring_core.specs.Histories.{Event, History, world, IsLawfulApart}
-use Rattle.uring_core.specs.Events.{staged_by, filled_by, entry_taken_by, takes_position, opened_by, opens_call, accepted_by, closes_call, closes_ring, is_store_tail, is_load_head, takes_in}
-use Rattle.uring_core.specs.declared.step.Step.{Step}
 use Rattle.uring_core.specs.declared.step.Step.TheVariants as step
-use Rattle.uring_core.specs.declared.answer.Answer.{Answer}
 use Rattle.uring_core.specs.declared.answer.Answer.TheVariants as answer
 use Rattle.uring_core.proofs.Changes.{Change, IsSilent, refuses as event_refuses, fills as event_fills, stages as event_stages, stores as event_stores, loads as event_loads, begins as event_begins, takes as event_takes, drops as event_drops, closes as event_closes, dooms as event_dooms, cancels as event_cancels, change_of}
-use Rattle.uring_core.specs.StepAnswers.{is_spent}
 
 -- an event that tells nothing of the submission ring
 pub record IsOffSubmission (e : Event) : Type 0 where

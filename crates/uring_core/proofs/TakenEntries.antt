@@ -1,15 +1,7 @@
 -- Whether an entry that was taken asks for skipped success, from step to step.
 use Rattle.std.proofs.Common.{◌≡◌, ℕ, ◌+◌, ◌≤◌, ◌||◌, [], ◌∷◌, ◌++◌, length, take, map, List, Option, Some, None, slice_get, get_or, sym, ap, ◌∙◌, arith, append-nil, IfSome}
-use Rattle.std.specs.List.{cons_option}
-use Rattle.std.proofs.lemmas.List.{take-append-le, take_more}
+use Rattle.uring_core.proofs.Common.{Call, Place, Sqe, Submission, asks_to_skip, cons_option, entries_of, get_or_from_slice_get, list_any_push, open_taken, pending, place_of, reached, slice_get_within, some_skips, sum_by_push, take-append-le, take_more, taken, taken_entries, with_begun, with_closed, with_published}
 use Rattle.std.proofs.lemmas.List.Elements.{filter_map-append}
-use Rattle.std.proofs.lemmas.List.Sums.{sum_by_push}
-use Rattle.std.proofs.lemmas.Option.{slice_get_within, get_or_from_slice_get}
-use Rattle.uring_entry.specs.Layout.{Sqe}
-use Rattle.uring_entry.specs.Submission.{Submission, Call, Place, taken, pending, entries_of, place_of, with_published, with_begun, with_closed}
-use Rattle.uring_entry.proofs.RequestLemmas.{list_any_push}
-use Rattle.uring_linux.specs.LinuxRequests.{asks_to_skip}
-use Rattle.uring_core.specs.Stops.{open_taken, reached, taken_entries, some_skips}
 
 -- a beginning that goes one place further
 pub one_further : (places : List Place) (k : ℕ) (place : Place) (entry : Option Sqe)

@@ -1,21 +1,9 @@
 -- Rows of steps that are made at once: one entry, one take or one completion more at their end, and what their answers are known to be.
 use Rattle.std.proofs.Common.{◌≡◌, ℕ, suc, ◌+◌, ◌≤◌, ◌<◌, Bool, true, false, cond, List, [], ◌∷◌, ◌++◌, length, take, set, get_or, is_some, refl, sym, ap, subst, ◌∙◌, arith, inl, inr}
-use Rattle.std.proofs.lemmas.List.{take_more, length-take-le}
-use Rattle.std.proofs.lemmas.Grind.{common_steps}
-use Rattle.uring_entry.specs.Setup.{Setup}
-use Rattle.uring_entry.specs.Layout.{Sqe, Cqe}
-use Rattle.uring_entry.specs.Submission.{call_length}
-use Rattle.uring_core.specs.World.{World}
-use Rattle.uring_core.specs.StepAnswers.{CalledForApart, OrAgain, begin_answer, is_spent, take_answer}
-use Rattle.uring_core.specs.Histories.{History, world}
-use Rattle.uring_core.specs.Core.{Core, FitsApart, HasNoLessMemory, IsShortFor, elements_for_call}
-use Rattle.uring_core.specs.WholeCalls.{after_fill, after_index, after_entries, after_takes, after_reaps}
-use Rattle.std.specs.Prelude.{Result, Err}
+use Rattle.uring_core.proofs.Common.{Answer, CalledForApart, Core, Cqe, Err, FitsApart, HasNoLessMemory, History, IsShortFor, OrAgain, Result, Setup, Sqe, Step, World, after_entries, after_fill, after_index, after_reaps, after_takes, begin_answer, call_length, common_steps, elements_for_call, is_spent, length-take-le, take_answer, take_more, world}
 use Rattle.uring_core.specs.declared.cores.submit.NotSubmitted.{NotSubmitted}
 use Rattle.uring_core.specs.declared.cores.submit.NotSubmitted.TheVariants as refused
-use Rattle.uring_core.specs.declared.step.Step.{Step}
 use Rattle.uring_core.specs.declared.step.Step.TheVariants as step
-use Rattle.uring_core.specs.declared.answer.Answer.{Answer}
 use Rattle.uring_core.specs.declared.answer.Answer.TheVariants as answer
 
 -- an answer is the one that is called for

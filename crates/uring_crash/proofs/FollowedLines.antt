@@ -1,21 +1,14 @@
 -- What a follower keeps, byte by byte and line by line.
 use Rattle.std.proofs.Common.{◌≡◌, ◌≢◌, ◌⊎◌, inl, inr, ℕ, ℤ, zero, suc, ◌+◌, ◌<◌, Bool, true, false, not, ◌||◌, List, [], ◌∷◌, ◌++◌, length, Some, None, refl, sym, ap, subst, ◌∙◌, append_assoc, arith}
-use Rattle.std.proofs.lemmas.List.{append-nil}
-use Rattle.uring_entry.specs.Setup.{Setup}
-use Rattle.uring_core.specs.Histories.{History, history_of}
+use Rattle.uring_crash.proofs.Common.{Exchange, Followed, Following, History, MakesStep, ReadsLine, Setup, TookLines, Watch, Watches, append-nil, events_of, history_of, is_bad, lines_of}
 use Rattle.uring_core.specs.declared.step.Step.{Step}
 use Rattle.uring_text.specs.Lines.{Splits}
 use Rattle.uring_text.specs.KeptLine.{KeptLine, kept_of}
 use Rattle.uring_text.specs.Remarks.{is_remark}
 use Rattle.uring_text.proofs.Splits.{split_more, split_end, last_some}
 use Rattle.uring_trace.specs.Spelling.{IsStep, IsBad}
-use Rattle.uring_trace.specs.Exchanges.{Exchange, lines_of, events_of}
 use Rattle.uring_trace.proofs.Sessions.{one_more}
 use Rattle.uring_crash.specs.FirstLines.{AreFirstLines}
-use Rattle.uring_crash.specs.Crashes.{is_bad}
-use Rattle.uring_crash.specs.Watches.{Watches}
-use Rattle.uring_crash.specs.declared.watch.Watch.{Watch}
-use Rattle.uring_crash.specs.Following.{TookLines, MakesStep, ReadsLine, Following, Followed}
 
 -- before the first byte
 none_taken : (most : ℕ) → TookLines most most [] [] []

@@ -1,17 +1,13 @@
 -- What each image has.
 use Rattle.std.proofs.Common.{◌≡◌, ◌==◌, ◌<◌, ◌≤◌, ◌+◌, ◌-◌, ◌/◌, ◌⊎◌, inl, inr, ℕ, true, false, cond, List, [], ◌∷◌, length, refl, sym, subst, ap, ◌∙◌, arith}
-use Rattle.std.specs.Prelude.{slice_index}
-use Rattle.std.specs.List.{list_any}
+use Rattle.uring_crash.proofs.Common.{Holds, IsImage, IsIn, IsInOrder, UnitIsLeft, byte_over, end_of, is_on, is_safe_over, is_safe_up_to, is_under, issued, keeps_byte, lies_over, list_any, may_show_other, slice_index}
 use Rattle.std.proofs.lemmas.Bool.{cases_Bool, both_ways, cond-true, cond-false, and_parts, and_from, or_cases, not_from_false, not-true, eqb-true, eq-eqb, leb-true}
 use Rattle.uring_volume.specs.Writes.{Write}
 use Rattle.uring_volume.specs.Events.{History, writes, is_before, is_safe}
-use Rattle.uring_volume.specs.Images.{IsIn, IsInOrder, is_under, is_on, end_of, byte_over, UnitIsLeft, IsImage}
-use Rattle.uring_volume.specs.Choices.{issued}
 use Rattle.uring_volume.proofs.Chosen.{in_issued, of_issued}
 use Rattle.uring_volume.proofs.Fitting.{not_in}
 use Rattle.uring_volume.proofs.Puts.{any_is}
 use Rattle.uring_volume.proofs.ReadBack.{on_from, end_within}
-use Rattle.uring_crash.specs.Keeping.{Holds, lies_over, may_show_other, is_safe_over, is_safe_up_to, keeps_byte}
 
 -- a write of these that writes byte k
 pub record Over (k : ℕ) (among : List Write) : Type 0 where

@@ -1,3 +1,4 @@
+mod Common
 pub mod Watching
 pub mod FollowedLines
 pub mod Runs

@@ -1,24 +1,15 @@
 -- What is answered to a question, and the lines of images.
 use Rattle.std.proofs.Common.{◌≡◌, ◌<◌, ◌+◌, ℕ, ℤ, true, false, List, [], ◌∷◌, ◌++◌, length, map, take, get_or, Option, refl, sym, ap, subst, ◌∙◌, append_assoc}
-use Rattle.std.proofs.lemmas.List.{take_more, map-append, append-nil}
-use Rattle.std.specs.Io.KnownBytes.{Appends}
+use Rattle.uring_crash.proofs.Common.{Appends, Asks, History, Replies, Setup, Watch, Watches, append-nil, events_of, history_of, image_lines, image_text, log_of, map-append, take_more}
 use Rattle.std.proofs.KnownBytes.{Appends-nil}
 use Rattle.std.proofs.lemmas.Bool.{both_ways}
-use Rattle.uring_entry.specs.Setup.{Setup}
 use Rattle.uring_core.specs.CalledFor.{IsLawful}
-use Rattle.uring_core.specs.Histories.{History, history_of}
-use Rattle.uring_trace.specs.Exchanges.{events_of}
-use Rattle.uring_epochs.specs.Logs.{log_of}
-use Rattle.uring_crash.specs.Crashes.{image_text}
-use Rattle.uring_crash.specs.Watches.{Watches}
-use Rattle.uring_crash.specs.Questions.{Asks, Replies, image_lines}
 use Rattle.uring_crash.specs.Runs.{ReadsAll}
 use Rattle.uring_crash.specs.declared.crash_run.Asked.{Asked}
 use Rattle.uring_crash.specs.declared.follower.Follower.{Follower}
 use Rattle.uring_crash.specs.declared.questions.Question.{Question}
 use Rattle.uring_crash.specs.declared.questions.Reply.{Reply}
 use Rattle.uring_crash.specs.declared.questions.Reply.TheVariants.{BadLine}
-use Rattle.uring_crash.specs.declared.watch.Watch.{Watch}
 
 -- the question is answered
 pub is_answered : (question : Question) (asked : Asked) (setup : Setup) (reply : Reply) (s : Follower) (w : Watch) (text : List ℕ) (a a' b b' : Option (List ℕ))

@@ -1,21 +1,10 @@
 -- What was read to the end, and what is left after it.
 use Rattle.std.proofs.Common.{◌≡◌, ℕ, ℤ, Bool, true, false, List, [], ◌++◌, Option, Result, Ok, Err, sym, ap, subst, ◌∙◌}
-use Rattle.std.specs.Prelude.{OnOk}
-use Rattle.std.specs.Io.KnownBytes.{Consumes, Appends, Keeps, IsAtEnd}
+use Rattle.uring_crash.proofs.Common.{Appends, Consumes, Follows, HasFollowed, History, IsAtEnd, IsImage, Keeps, Leaves, OnOk, Setup, Watch, Watches, append-nil, events_of, history_of, image_text, log_of}
 use Rattle.std.proofs.KnownBytes.{Consumes-nil, Appends-nil, Consumes-trans, Consumes-kept}
-use Rattle.std.proofs.lemmas.List.{append-nil}
-use Rattle.uring_entry.specs.Setup.{Setup}
 use Rattle.uring_core.specs.CalledFor.{IsLawful}
-use Rattle.uring_core.specs.Histories.{History, history_of}
-use Rattle.uring_volume.specs.Images.{IsImage}
 use Rattle.uring_text.specs.declared.trace_fault.TraceFault.{TraceFault}
 use Rattle.uring_text.specs.Writing.{WritesText}
-use Rattle.uring_trace.specs.Exchanges.{events_of}
-use Rattle.uring_epochs.specs.Logs.{log_of}
-use Rattle.uring_crash.specs.Watches.{Watches}
-use Rattle.uring_crash.specs.declared.watch.Watch.{Watch}
-use Rattle.uring_crash.specs.Following.{Follows, HasFollowed}
-use Rattle.uring_crash.specs.Crashes.{Leaves, image_text}
 use Rattle.uring_crash.specs.Runs.{ReadsAll}
 use Rattle.uring_crash.specs.declared.crash_run.Asked.{Asked}
 use Rattle.uring_crash.specs.declared.follower.Follower.{Follower}

@@ -1,7 +1,6 @@
 -- A search through a list, one after the other.
 use Rattle.std.proofs.Common.{◌≡◌, ◌<◌, ◌+◌, ◌⊎◌, inl, inr, ℕ, zero, suc, List, [], ◌∷◌, length, get_or, map, take, refl, sym, ap, subst, ◌∙◌, arith}
-use Rattle.std.proofs.lemmas.List.{take_more, map-append}
-use Rattle.uring_volume.specs.Images.{IsIn}
+use Rattle.uring_crash.proofs.Common.{IsIn, map-append, take_more}
 use Rattle.uring_volume.proofs.Fitting.{in_either}
 
 -- one of the first i + 1 is one of the first i, or the next one

@@ -1,19 +1,15 @@
 -- A step more of a machine that is watched.
 use Rattle.std.proofs.Common.{◌≡◌, ℕ, ℤ, List, [], ◌∷◌, Option, refl, ap, ◌∙◌, subst}
-use Rattle.uring_entry.specs.Setup.{Setup}
+use Rattle.uring_crash.proofs.Common.{History, IsImage, Log, Setup, Watching, finished_as, issued_as, log_of, logged, world}
 use Rattle.uring_entry.specs.Requests.{Requests, operation_running}
 use Rattle.uring_entry.specs.declared.operation.Op.{Op}
-use Rattle.uring_core.specs.Histories.{History, world}
 use Rattle.uring_core.specs.declared.step.Step.{Step}
 use Rattle.uring_core.specs.declared.step.Step.TheVariants as step
 use Rattle.uring_core.specs.declared.answer.Answer.{Answer}
 use Rattle.uring_machine.specs.Machine.{Machine, Fits}
-use Rattle.uring_volume.specs.Images.{IsImage}
 use Rattle.uring_volume.specs.Events as volume
 use Rattle.uring_volume.specs.Listing.{AreTheImages}
 use Rattle.uring_volume.specs.Volume.{Volume}
-use Rattle.uring_epochs.specs.Logs.{Log, log_of, logged, issued_as, finished_as}
-use Rattle.uring_crash.specs.Watches.{Watching}
 
 -- the log that a step makes of another
 step_on : (unit : ℕ) (g : Setup) (fd : ℤ) (m m' : Machine) (old new : Log) (s : Step) (a : Answer) (h : History)

@@ -2,12 +2,10 @@
 use mathlib.Core.List.{[]}
 use mir.Syntax.{impl, tnil, dnil}
 use denote.Signature.{Slot, plain}
-use Rattle.std.proofs.BoxSteps.Form.{Bx}
+use Rattle.uring_crossing.proofs.Common.{Bx, core_row, dict, ghosts}
 use Rattle.std.proofs.alloc.Global.TheLaws as heap
 use Rattle.std.specs.contracts.alloc.Global as Heap
-use Rattle.std.specs.contracts.impls.GlobalAllocator.TheImpl.{ghosts, dict}
 use Rattle.uring_core.proofs.cores.Core.TheLaws as core
-use Rattle.uring_crossing.specs.Boxes.Slots.{core_row}
 use Rattle.uring_crossing.specs.contracts.boxes.parts.Parts as Parts
 
 abbrev pub E : Bx

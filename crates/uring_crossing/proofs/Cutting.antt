@@ -1,12 +1,9 @@
 -- A list that is cut part by part.
 use Rattle.std.proofs.Common.{◌≡◌, ◌<◌, ◌≤◌, ◌+◌, ◌-◌, ◌++◌, ◌∷◌, ℕ, zero, suc, List, [], length, map, take, drop, min, get_or, refl, sym, subst, ap, ◌∙◌, arith}
 use Rattle.std.proofs.Math.Seq.{drop-cons, drop-nil}
-use Rattle.std.proofs.lemmas.List.{take_min, drop_min, length-drop, length-take, length-map, map-append, append_assoc}
-use Rattle.uring_entry.specs.Layout.{Sqe}
+use Rattle.uring_crossing.proofs.Common.{AreShort, Sqe, append_assoc, cut, drop_min, length-drop, length-map, length-take, map-append, take_min}
 use Rattle.uring_files.specs.Contents.{max_len}
 use Rattle.uring_outcomes.specs.Faults.{entry_count}
-use Rattle.uring_crossing.specs.Machines.Crashing.{AreShort}
-use Rattle.uring_crossing.specs.CoreWords.Cuts.{cut}
 
 drop_plus : {X : Type 0} (n m : ℕ) (xs : List X) → drop (n + m) xs ≡ drop m (drop n xs)
 drop_plus zero m xs = ap (λ (k : ℕ). drop k xs) (let same : 0 + m ≡ m = omega arith in same)

@@ -1,10 +1,8 @@
 -- The letters of flags, as they are read.
 use Rattle.std.proofs.Common.{◌≡◌, ◌≢◌, ℕ, zero, suc, ◌<◌, Bool, true, false, eqb, ◌&&◌, List, [], ◌∷◌, ◌++◌, length, refl, sym, ap, ◌∙◌, inl, inr, append-nil, append_assoc, arith}
-use Rattle.std.specs.Prelude.{codes, bit_and, sum_by}
+use Rattle.uring_crossing.proofs.Common.{and_parts, bit_and, cases_Bool, codes, eqb-false, eqb-true, named_if, sum_by}
 use Rattle.std.specs.List.{AllByRecursion, filter}
-use Rattle.std.proofs.lemmas.Bool.{and_parts, cases_Bool, eqb-true, eqb-false}
 use Rattle.uring_text.specs.Tokens.{flag_value, NoneAgain, AreFlags}
-use Rattle.uring_crossing.specs.Traces.SetupLines.{named_if}
 use Rattle.uring_crossing.specs.Traces.FlagLetters.{has_flag, letters_of, flags_text}
 
 -- a letter that passes stands before the others that do

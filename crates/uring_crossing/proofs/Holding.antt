@@ -2,9 +2,7 @@
 use denote.Signature.{Slot, plain}
 use mathlib.Core.Logic.{inl, inr}
 use Rattle.std.proofs.Common.{◌≡◌, Option, Some, false, refl}
-use Rattle.std.proofs.lemmas.Bool.{both_ways}
-use Rattle.std.specs.Prelude.{IsSome}
-use Rattle.uring_crossing.specs.Boxes.Slots.{Held, core_row, machine_row, volume_row, crash_machine_row, outcomes_row, a_core, a_machine, a_volume, a_crash_machine, some_outcomes, core_of, machine_of, volume_of, crash_machine_of, outcomes_of}
+use Rattle.uring_crossing.proofs.Common.{Held, IsSome, a_core, a_crash_machine, a_machine, a_volume, both_ways, core_of, core_row, crash_machine_of, crash_machine_row, machine_of, machine_row, outcomes_of, outcomes_row, some_outcomes, volume_of, volume_row}
 use Rattle.uring_crossing.specs.contracts.boxes.slot.Slot as Held_slot
 
 abbrev pub FromSlot : Slot 0

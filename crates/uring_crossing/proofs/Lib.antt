@@ -1,4 +1,5 @@
 -- In the order in which they are best read.
+mod Common
 -- Boxes whose parts C keeps:
 pub mod CoreBox
 pub mod MachineBox

@@ -2,12 +2,10 @@
 use mathlib.Core.List.{[]}
 use mir.Syntax.{impl, tnil, dnil}
 use denote.Signature.{Slot, plain}
-use Rattle.std.proofs.BoxSteps.Form.{Bx}
+use Rattle.uring_crossing.proofs.Common.{Bx, dict, ghosts, machine_row}
 use Rattle.std.proofs.alloc.Global.TheLaws as heap
 use Rattle.std.specs.contracts.alloc.Global as Heap
-use Rattle.std.specs.contracts.impls.GlobalAllocator.TheImpl.{ghosts, dict}
 use Rattle.uring_machine.proofs.machine.Machine.TheLaws as machine
-use Rattle.uring_crossing.specs.Boxes.Slots.{machine_row}
 use Rattle.uring_crossing.specs.contracts.boxes.parts.Parts as Parts
 
 abbrev pub E : Bx

@@ -1,17 +1,14 @@
 -- The tokens of a set-up's line.
 use Rattle.std.proofs.Common.{◌≡◌, ℕ, ◌<◌, ◌^◌, Bool, true, false, eqb, List, [], ◌∷◌, ◌++◌, refl, sym, ap, ◌∙◌, inl, inr, append-nil, append_assoc, arith}
-use Rattle.std.specs.Prelude.{codes}
+use Rattle.uring_crossing.proofs.Common.{Setup, and_parts, cases_Bool, codes, eqb-true, named_if, setup_line, setup_tokens, token_if}
 use Rattle.std.specs.Char.{is_ascii_digit}
 use Rattle.std.specs.Fmt.{decimal}
 use Rattle.std.specs.List.{All, list_all}
-use Rattle.std.proofs.lemmas.Bool.{and_parts, cases_Bool, eqb-true}
 use Rattle.std.proofs.lemmas.Fmt.{digits_decimal}
 use Rattle.std.proofs.lemmas.List.Elements.{All-cons}
 use Rattle.std.proofs.lemmas.List.Splits.{slice_split_at, slice_split_none}
 use Rattle.uring_text.specs.Tokens.{tokens_of}
 use Rattle.uring_text.proofs.Numbers.{own}
-use Rattle.uring_entry.specs.Setup.{Setup}
-use Rattle.uring_crossing.specs.Traces.SetupLines.{named_if, token_if, setup_line, setup_tokens}
 
 abbrev HasNoBlank : List ℕ → Type 0
 HasNoBlank bytes = All (λ b. eqb b 32 ≡ false) bytes

@@ -1,10 +1,7 @@
 -- Which words ask for a machine or a ring that serves, and which don't.
 use Rattle.std.proofs.Common.{◌≡◌, ◌<◌, ◌≤◌, ℕ, true, List, sym, subst, inl, inr, ◌∙◌, arith}
-use Rattle.std.specs.Prelude.{All}
-use Rattle.std.proofs.lemmas.Bool.{both_ways}
-use Rattle.uring_entry.specs.Setup.{Setup}
+use Rattle.uring_crossing.proofs.Common.{All, IsNoStart, Setup, both_ways}
 use Rattle.uring_entry.proofs.Powers.{rounded_once}
-use Rattle.uring_crossing.specs.Machines.Crashing.{IsNoStart}
 use Rattle.uring_crossing.specs.Outcomes.Outcomes.{TakesWhole, IsNoWalk}
 use Rattle.uring_crossing.specs.CoreWords.SetUps.{IsAskedFor, IsRefused}
 use Rattle.uring_crossing.specs.declared.core_words.set_up_words.SetupWords.{SetupWords}

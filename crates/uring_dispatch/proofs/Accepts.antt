@@ -1,30 +1,12 @@
 -- When an entry is accepted and when a call ends: the window and the groups still fit one another, and what is held is what the lists say.
 use Rattle.std.proofs.Common.{◌≡◌, ◌≢◌, ◌⊎◌, ℕ, ◌+◌, ◌<◌, ◌≤◌, length, Bool, ◌==◌, Option, Some, None, is_some, refl, sym, ◌∙◌, ap, subst, arith, inl, inr, zero, suc, [], ◌∷◌, length-append, true, false, not, ◌&&◌, ◌||◌}
-use Rattle.std.proofs.lemmas.Bool.{cases_eq, ne_eqb, cases_lt, both_ways, and_left, and_from, lt-ltb, false≢true}
-use Rattle.std.proofs.lemmas.Option.{same_Some}
+use Rattle.uring_dispatch.proofs.Common.{Accepts, AreHeld, Changes, Err, Exchanges, Group, Groups, IfErr, IfOk, IsBeyond, IsGroup, IsKept, IsShownGroup, IsSound, Ok, Op, Request, Requests, Result, Sqe, Window, added_other, and_from, and_left, at, both_ways, cases_eq, cases_lt, count_below, end_of, entry_of, entry_of_accepted_at, entry_of_accepted_other, false≢true, fault_of, first_broken, first_drain, first_fault, found_or, group_at, has_ended, has_started, if◌then◌else◌, is_drain, is_faulty, is_last, is_linked, is_outstanding, is_running, is_some_value, last_group, list_any, lt-ltb, ne_eqb, new_request, not-not, one_if, op_of, operation_of, or-false, outstanding_in, running_in, same_Some, with_accepted, with_cut, with_member}
 use Rattle.std.proofs.Math.Numerals.{lt_of_le_of_ne}
-use Rattle.uring_entry.specs.Layout.{Sqe}
-use Rattle.uring_entry.specs.Preparation.{is_faulty, fault_of, operation_of}
-use Rattle.uring_entry.specs.Requests.{Requests, is_linked, is_drain, with_cut, entry_of, has_started, has_ended, is_last, is_outstanding, is_running, with_accepted, outstanding_in, running_in}
-use Rattle.uring_entry.proofs.RequestLemmas.{added_other, entry_of_accepted_at, entry_of_accepted_other}
 use Rattle.uring_entry.proofs.GroupEvents.{group_cut, is_last_cut_last, group_accepted, group_joined, group_new, first_entry_accepted, first_entry_more, first_broken_accepted, first_broken_more, first_member_none}
-use Rattle.uring_entry.proofs.BelowLemmas.{is_some_value}
-use Rattle.uring_dispatch.specs.declared.request.Request.{Request}
-use Rattle.uring_dispatch.specs.declared.group.Group.{Group}
-use Rattle.uring_dispatch.specs.Window.{Window, at, end_of, Changes, one_if}
-use Rattle.uring_dispatch.specs.Groups.{Groups, group_at, last_group, with_member, IsBeyond, Exchanges}
-use Rattle.uring_dispatch.specs.Held.{IsKept, IsSound, AreHeld, IsShownGroup, op_of}
-use Rattle.uring_dispatch.specs.Accepts.{Accepts, new_request}
 use Rattle.uring_dispatch.proofs.GroupsKept.{only_key}
 use Rattle.uring_dispatch.proofs.HeldLemmas.{some_none, linked, member, kept_on}
-use Rattle.std.specs.Prelude.{if◌then◌else◌, Result, Ok, Err, IfOk, IfErr}
 use Rattle.std.specs.Result.{result_ok}
-use Rattle.std.specs.List.{list_any}
-use Rattle.std.proofs.Math.Bool.{or-false, not-not}
-use Rattle.uring_entry.specs.Below.{count_below, found_or}
 use Rattle.uring_entry.specs.declared.fault.Fault.{Fault}
-use Rattle.uring_entry.specs.declared.operation.Op.{Op}
-use Rattle.uring_entry.specs.Groups.{IsGroup, first_fault, first_drain, first_broken}
 use Rattle.uring_dispatch.proofs.Changes.{before_write, shown_written}
 use Rattle.uring_dispatch.proofs.Counting.{count_below_same}
 

@@ -1,23 +1,7 @@
 -- Who waits, when an entry is accepted, a call ends and memory is asked for.
 use Rattle.std.proofs.Common.{◌≡◌, ◌≢◌, ◌⊎◌, ℕ, ◌+◌, ◌/◌, ◌<◌, ◌≤◌, length, Bool, true, false, ◌||◌, Option, Some, None, is_some, refl, sym, ◌∙◌, ap, subst, arith, inl, inr}
-use Rattle.std.proofs.lemmas.Option.{same_Some}
-use Rattle.std.proofs.lemmas.Bool.{cases_lt, cases_eq, both_ways}
-use Rattle.uring_entry.specs.Below.{found_or}
-use Rattle.uring_entry.specs.Layout.{Sqe}
-use Rattle.uring_entry.specs.Preparation.{is_faulty}
-use Rattle.uring_entry.specs.Groups.{is_before}
-use Rattle.uring_entry.specs.Requests.{is_drain}
-use Rattle.uring_number_set.specs.NumberSet.{NumberSet, holds, start_of, stop_of, HasSame}
-use Rattle.uring_number_set.proofs.BlockLemmas.{holds_same}
-use Rattle.uring_dispatch.specs.declared.request.Request.{Request}
-use Rattle.uring_dispatch.specs.declared.group.Group.{Group}
-use Rattle.uring_dispatch.specs.declared.waiting.Waiting.{Waiting}
-use Rattle.uring_dispatch.specs.Window.{Window, at, end_of}
-use Rattle.uring_dispatch.specs.Groups.{Groups, group_at, with_member}
-use Rattle.uring_dispatch.specs.Held.{IsSound}
-use Rattle.uring_dispatch.specs.Waiting.{waits_at_head, waits_doomed, IsListedAt, Reaches, IsListed, GrowsTo, Starts, CanGrow, StandsAsBefore}
+use Rattle.uring_dispatch.proofs.Common.{Accepts, CanGrow, Group, Groups, GrowsTo, HasSame, IsListed, IsListedAt, IsSound, NumberSet, Reaches, Request, Sqe, StandsAsBefore, Starts, Waiting, Window, at, both_ways, cases_eq, cases_lt, end_of, found_or, group_at, holds, holds_same, is_before, is_drain, is_faulty, same_Some, start_of, stop_of, waits_at_head, waits_doomed, with_member}
 use Rattle.uring_dispatch.proofs.HeldLemmas.{some_none, linked, least_before}
-use Rattle.uring_dispatch.specs.Accepts.{Accepts}
 use Rattle.uring_dispatch.proofs.WaitingLemmas.{told_before, stands_apart, stands_in}
 
 -- An entry is accepted.

@@ -1,14 +1,7 @@
 -- The window and the groups where only how much more there is memory for differs, or nothing of what they say.
 use Rattle.std.proofs.Common.{◌≡◌, ℕ, ◌≤◌, Result, Ok, Err, true, not, is_some, refl, sym, ◌∙◌, ap, arith}
-use Rattle.std.specs.Prelude.{OnOk, OnErr}
-use Rattle.uring_entry.specs.Requests.{Requests}
+use Rattle.uring_dispatch.proofs.Common.{AreHeld, Groups, HasSameRecords, IsListed, IsSound, OnErr, OnOk, Requests, Waiting, Window, at, end_of, group_at, has_member}
 use Rattle.uring_dispatch.specs.declared.grouped.Grouped.{Grouped}
-use Rattle.uring_dispatch.specs.declared.waiting.Waiting.{Waiting}
-use Rattle.uring_dispatch.specs.Window.{Window, at, end_of}
-use Rattle.uring_dispatch.specs.Groups.{Groups, group_at}
-use Rattle.uring_dispatch.specs.Held.{has_member, IsSound, AreHeld}
-use Rattle.uring_dispatch.specs.Waiting.{IsListed}
-use Rattle.uring_dispatch.specs.Grouped.{HasSameRecords}
 use Rattle.uring_dispatch.proofs.WindowFront.{at_room}
 use Rattle.uring_dispatch.proofs.WaitingLemmas.{told_before, stands_apart, reaches_fewer}
 use Rattle.uring_dispatch.proofs.HeldLemmas.{kept_on}

@@ -1,19 +1,9 @@
 -- Between which numbers the requests with the same user data are: what each event keeps of it, and what a search makes of it.
 use Rattle.std.proofs.Common.{◌≡◌, ◌⊎◌, ℕ, ◌+◌, ◌^◌, ◌<◌, ◌≤◌, Option, Some, None, is_some, false, refl, sym, ◌∙◌, ap, subst, arith, inl, inr}
-use Rattle.std.proofs.lemmas.Bool.{cases_lt, cases_eq}
-use Rattle.std.proofs.lemmas.Option.{same_Some}
-use Rattle.std.specs.Prelude.{nat_eq}
+use Rattle.uring_dispatch.proofs.Common.{Accepts, AreFound, AreHeld, Changes, GoesOn, Groups, HasPlaces, KeepsFrom, Request, Requests, Spans, Sqe, Window, addr_of, at, cases_eq, cases_lt, end_of, entry_of, is_candidate, nat_eq, same_Some, user_data_of}
 use Rattle.std.specs.HashMap.{get, spare}
-use Rattle.uring_entry.specs.Layout.{Sqe, user_data_of, addr_of}
-use Rattle.uring_entry.specs.Requests.{Requests, entry_of, is_candidate}
-use Rattle.uring_dispatch.specs.declared.request.Request.{Request}
 use Rattle.uring_dispatch.specs.declared.by_user_data.ByUserData.{ByUserData}
-use Rattle.uring_dispatch.specs.Window.{Window, at, end_of, Changes}
-use Rattle.uring_dispatch.specs.Groups.{Groups}
-use Rattle.uring_dispatch.specs.Held.{AreHeld}
-use Rattle.uring_dispatch.specs.Accepts.{Accepts}
 use Rattle.uring_dispatch.specs.Noted.{IsBetween, KeepsBetween}
-use Rattle.uring_dispatch.specs.ByUserData.{HasPlaces, KeepsFrom, AreFound, Spans, GoesOn}
 use Rattle.uring_dispatch.proofs.WindowFront.{within_end}
 use Rattle.uring_dispatch.proofs.HeldLemmas.{some_none, candidate_none, candidate_other_data}
 use Rattle.uring_dispatch.proofs.Alike.{IsAlike}

@@ -1,14 +1,6 @@
 -- One request is touched: what is said of each other number by its request stands; and what a start and a choice leave of what is held.
 use Rattle.std.proofs.Common.{◌≡◌, ◌≢◌, ℕ, ◌+◌, ◌≤◌, [], ◌∷◌, length, false, ◌==◌, Some, None, is_some, refl, sym, ◌∙◌, ap, arith, inl, inr, ◌⊎◌, true, Option, Bool}
-use Rattle.std.proofs.lemmas.Bool.{cases_eq, eq-eqb, ne_eqb}
-use Rattle.std.proofs.lemmas.Option.{same_Some}
-use Rattle.uring_entry.specs.Preparation.{is_faulty}
-use Rattle.uring_entry.specs.Requests.{Requests, entry_of, is_running, is_cancelled, has_started, with_started, with_cancelled, has_ended}
-use Rattle.uring_entry.proofs.RequestLemmas.{is_running_started_same, is_running_started_other, added_same, added_other}
-use Rattle.uring_dispatch.specs.declared.request.Request.{Request}
-use Rattle.uring_dispatch.specs.Window.{Window, at, end_of, one_if, Changes, started, chosen, IsAsBefore}
-use Rattle.uring_dispatch.specs.Groups.{Groups, group_at}
-use Rattle.uring_dispatch.specs.Held.{IsSound, IsShown, AreHeld, op_of}
+use Rattle.uring_dispatch.proofs.Common.{AreHeld, Changes, Groups, IsAsBefore, IsShown, IsSound, Request, Requests, Window, added_other, added_same, at, cases_eq, chosen, end_of, entry_of, eq-eqb, group_at, has_ended, has_started, is_cancelled, is_faulty, is_running, is_running_started_other, is_running_started_same, ne_eqb, one_if, op_of, same_Some, started, with_cancelled, with_started}
 use Rattle.uring_dispatch.proofs.WindowFront.{at_past}
 use Rattle.uring_dispatch.proofs.Counting.{count_below_changed}
 use Rattle.uring_dispatch.proofs.HeldLemmas.{some_none, shown_within, running_some, vacant, linked, member, kept_on}

@@ -1,29 +1,10 @@
 -- What cancels make of the lists: the end of a request as it is issued, with those that it dooms, and the search for all targets of a cancel.
 use Rattle.std.proofs.Common.{◌≡◌, ℕ, suc, ◌+◌, ◌<◌, ◌≤◌, pos, negsuc, List, [], ◌∷◌, ◌++◌, length, length-append, Bool, true, false, not, ◌&&◌, ◌||◌, ◌==◌, Option, Some, None, is_some, cond, refl, sym, ◌∙◌, ap, subst, arith}
-use Rattle.std.specs.Prelude.{if◌then◌else◌, int_le}
-use Rattle.std.specs.List.{list_any}
-use Rattle.std.specs.Option.{option_to_list}
-use Rattle.std.proofs.lemmas.List.{append-nil, append_assoc}
+use Rattle.uring_dispatch.proofs.Common.{AreHeld, Changes, Groups, HasMemory, HasSameRequests, IsAsBefore, KeepsPlaces, Request, Requests, Shows, Sqe, Waiting, Window, addr_of, all_below, all_below_none, all_below_past, all_success, and-false, append-nil, append_assoc, at, cancel_result, choices_of, chosen, chosen_by, count_result, entry_of, if◌then◌else◌, int_le, is_after_failure, is_cancel, is_cancel_all, is_cancelled, is_doomed, is_in_faulty_group, is_joined, is_outstanding, is_running, is_success, is_target, list_any, never_success, no_bytes, one_success, option_to_list, or-false, result_for, runs, some_member, target_of, targets_of, user_data_of, with_cancelled, with_ended, with_issued_end}
 use Rattle.std.proofs.lemmas.List.Folds.{list_any-append}
-use Rattle.std.proofs.Math.Bool.{or-false, and-false}
-use Rattle.uring_entry.specs.Layout.{Sqe, addr_of, user_data_of}
-use Rattle.uring_entry.specs.Preparation.{is_cancel, is_cancel_all}
-use Rattle.uring_entry.specs.Success.{is_success}
-use Rattle.uring_entry.specs.Below.{all_below}
-use Rattle.uring_entry.specs.Requests.{Requests, entry_of, is_joined, some_member, is_in_faulty_group, is_after_failure, is_cancelled, is_doomed, is_running, is_outstanding, is_target, target_of, targets_of, choices_of, count_result, chosen_by, cancel_result, result_for, no_bytes, with_cancelled, with_ended, with_issued_end}
-use Rattle.uring_entry.proofs.BelowLemmas.{all_below_past, all_below_none}
-use Rattle.uring_entry.proofs.RequestLemmas.{one_success, all_success, never_success}
-use Rattle.uring_dispatch.specs.declared.request.Request.{Request}
-use Rattle.uring_dispatch.specs.Window.{Window, at, runs, Changes, chosen, IsAsBefore, HasSameRequests}
-use Rattle.uring_dispatch.specs.Groups.{Groups}
-use Rattle.uring_dispatch.specs.Held.{AreHeld}
-use Rattle.uring_dispatch.specs.Waiting.{HasMemory}
-use Rattle.uring_dispatch.specs.Grouped.{Shows}
 use Rattle.uring_dispatch.specs.declared.outstanding.Outstanding.{Outstanding}
 use Rattle.uring_dispatch.specs.Choosing.{HasChosen}
-use Rattle.uring_dispatch.specs.declared.waiting.Waiting.{Waiting}
 use Rattle.uring_dispatch.proofs.HeldLemmas.{running_none, running_some}
-use Rattle.uring_dispatch.specs.ByUserData.{KeepsPlaces}
 use Rattle.uring_dispatch.specs.declared.by_user_data.ByUserData.{ByUserData}
 use Rattle.uring_dispatch.proofs.Changes.{still_there, still_as}
 

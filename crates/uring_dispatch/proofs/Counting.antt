@@ -1,13 +1,8 @@
 -- Counts below a bound: what one change does to them, the bits of a block, and the list of all that are counted.
 use Rattle.std.proofs.Common.{◌≡◌, ◌≢◌, ℕ, zero, suc, ◌+◌, ◌-◌, ◌*◌, ◌/◌, ◌%◌, ◌^◌, ◌<◌, ◌≤◌, ◌==◌, cond, count_ones, Bool, true, false, List, [], ◌∷◌, ◌++◌, length, slice_get, Some, None, refl, sym, ◌∙◌, ap, arith, inl, inr, length-append}
-use Rattle.std.specs.Int.{bit_at}
+use Rattle.uring_dispatch.proofs.Common.{all_below, bit_at, bit_at-suc, bit_at_lowest, cases_eq, count_below, eq-eqb, ne_eqb, one_if, same_Some}
 use Rattle.std.specs.Int.Count.{ones_step}
-use Rattle.std.proofs.lemmas.Bool.{cases_eq, eq-eqb, ne_eqb}
-use Rattle.std.proofs.lemmas.Option.{same_Some}
 use Rattle.std.proofs.lemmas.Nat.{ones_le_self}
-use Rattle.std.proofs.lemmas.Nat.Bits.{bit_at-suc, bit_at_lowest}
-use Rattle.uring_entry.specs.Below.{count_below, all_below}
-use Rattle.uring_dispatch.specs.Window.{one_if}
 
 pub count_below_same : (p q : ℕ → Bool) (n : ℕ) → ((k : ℕ) → k < n → p k ≡ q k)
     → count_below p n ≡ count_below q n

@@ -1,17 +1,7 @@
 -- When a request ends: the window and the groups still fit one another, and what is held is what the lists say.
 use Rattle.std.proofs.Common.{◌≡◌, ◌≢◌, ℕ, ◌+◌, ◌<◌, ◌≤◌, ◌⊎◌, ℤ, List, length, not, ◌&&◌, ltb, Option, Some, None, is_some, refl, sym, ◌∙◌, ap, subst, arith, inl, inr}
-use Rattle.std.proofs.lemmas.Bool.{cases_lt, cases_eq, and_right}
-use Rattle.std.proofs.lemmas.Option.{same_Some}
-use Rattle.uring_entry.specs.Success.{is_success}
-use Rattle.uring_entry.specs.Requests.{Requests, entry_of, has_ended, is_outstanding, is_running, is_soft, with_ended, outstanding_in, running_in}
-use Rattle.uring_entry.specs.Groups.{earlier_of}
-use Rattle.uring_entry.proofs.RequestLemmas.{has_ended_same, has_ended_other, is_running_ended_same, is_running_ended_other}
+use Rattle.uring_dispatch.proofs.Common.{AreHeld, Changes, Exchanges, Group, Groups, HasLost, IsBeyond, IsKept, IsNext, IsShownGroup, IsSound, Request, Requests, Window, and_right, at, cases_eq, cases_lt, earlier_of, end_of, entry_of, group_at, has_ended, has_ended_other, has_ended_same, is_outstanding, is_running, is_running_ended_other, is_running_ended_same, is_soft, is_success, one_if, outstanding_in, running_in, same_Some, with_ended}
 use Rattle.uring_entry.proofs.GroupEvents.{group_ended, first_broken_ended, first_broken_elsewhere}
-use Rattle.uring_dispatch.specs.declared.request.Request.{Request}
-use Rattle.uring_dispatch.specs.declared.group.Group.{Group}
-use Rattle.uring_dispatch.specs.Window.{Window, at, end_of, one_if, Changes}
-use Rattle.uring_dispatch.specs.Groups.{Groups, group_at, Exchanges, IsBeyond}
-use Rattle.uring_dispatch.specs.Held.{IsKept, IsSound, IsNext, IsShownGroup, AreHeld, HasLost}
 use Rattle.uring_dispatch.proofs.Changes.{before_end, gone_stays, shown_same}
 use Rattle.uring_dispatch.proofs.Counting.{count_below_changed}
 use Rattle.uring_dispatch.proofs.HeldLemmas.{some_none, vacant, linked, member, within_group, kept_on, shown_within, outstanding_some, running_some}

@@ -1,14 +1,6 @@
 -- The queue of barriers, and what the groups keep when a request is accepted, and when a group is let go: each that drains has its barrier, and the first barrier holds.
 use Rattle.std.proofs.Common.{◌≡◌, ◌≢◌, ℕ, ◌+◌, ◌<◌, ◌≤◌, ◌⊎◌, List, [], ◌∷◌, ◌++◌, Bool, true, false, Option, Some, None, is_some, refl, sym, ◌∙◌, ap, arith, inl, inr, get_or, length, subst, ◌==◌, ltb}
-use Rattle.std.specs.List.{list_any, list_all}
-use Rattle.std.proofs.lemmas.Bool.{both_ways, eqb-true, eq-eqb, cases_Bool, cases_eq, false≢true, and_parts, and_from, or_cases, or_left, or_right, ltb-true, lt-ltb}
-use Rattle.uring_entry.specs.Below.{found_or}
-use Rattle.uring_dispatch.specs.declared.group.Group.{Group}
-use Rattle.uring_dispatch.specs.declared.group.Barrier.{Barrier}
-use Rattle.uring_dispatch.specs.Groups.{drain_of, covers, IsSorted, IsBeyond, AreGroups, IsLiveFront, with_member, with_barrier, starts_at, last_group, Groups, group_at, HasBarrierBefore, IsFirstDraining}
-use Rattle.std.specs.Prelude.{if◌then◌else◌, MatchOption}
-use Rattle.std.proofs.lemmas.Option.{none-some}
-use Rattle.uring_entry.proofs.RequestLemmas.{added_same}
+use Rattle.uring_dispatch.proofs.Common.{AreGroups, Barrier, Group, Groups, HasBarrierBefore, IsBeyond, IsFirstDraining, IsLiveFront, IsSorted, MatchOption, added_same, and_from, and_parts, both_ways, cases_Bool, cases_eq, covers, drain_of, eq-eqb, eqb-true, false≢true, found_or, group_at, if◌then◌else◌, last_group, list_all, list_any, lt-ltb, ltb-true, none-some, or_cases, or_left, or_right, starts_at, with_barrier, with_member}
 
 -- every barrier after the first has no smaller number
 covered_above : (b : Barrier) (rest : List Barrier) (key number : ℕ)

@@ -1,19 +1,7 @@
 -- How an outstanding request stands, from what is held.
 use Rattle.std.proofs.Common.{◌≡◌, ◌≢◌, ℕ, ◌<◌, ◌≤◌, length, Bool, true, false, not, ◌&&◌, ◌||◌, ltb, leb, Option, Some, None, is_some, refl, sym, ◌∙◌, ap, subst, arith, inl, inr}
-use Rattle.std.proofs.lemmas.Bool.{cases_lt, and_from, and_parts, and_left, and_right, both_ways, false≢true, lt-ltb, le-ltb, ltb-true, le-leb, leb-true, eq-eqb, ne_eqb}
-use Rattle.std.proofs.Math.Bool.{and-true, or-false}
+use Rattle.uring_dispatch.proofs.Common.{AreHeld, Group, Groups, HasBarrierBefore, HasBefore, HasGroup, IsGroup, IsKept, IsShownGroup, IsSound, Request, Requests, Window, addr_of, and-true, and_from, and_left, and_parts, and_right, at, both_ways, cases_lt, doomed_is, drain_of, draining_is, end_of, entry_of, eq-eqb, false≢true, first_broken, first_member_inside, group_at, groups_apart, has_ended, has_member, has_started, is_before, is_cancelled, is_candidate, is_doomed, is_draining, is_issuable, is_outstanding, is_ready, is_running, is_some_value, le-leb, le-ltb, leb-true, lt-ltb, ltb-true, ne_eqb, or-false, ready_not_after, ready_not_alone, ready_not_member, ready_yes, same_Some, user_data_of}
 use Rattle.std.proofs.Math.Numerals.{lt_of_le_of_ne}
-use Rattle.std.proofs.lemmas.Option.{same_Some}
-use Rattle.uring_entry.specs.Requests.{Requests, entry_of, has_started, has_ended, is_outstanding, is_running, is_cancelled, is_draining, is_doomed, is_ready, is_issuable, is_candidate}
-use Rattle.uring_entry.specs.Layout.{user_data_of, addr_of}
-use Rattle.uring_entry.specs.Groups.{IsGroup, is_before, first_broken}
-use Rattle.uring_entry.proofs.GroupLemmas.{draining_is, doomed_is, ready_yes, ready_not_member, ready_not_alone, ready_not_after, groups_apart, first_member_inside}
-use Rattle.uring_entry.proofs.BelowLemmas.{is_some_value}
-use Rattle.uring_dispatch.specs.declared.request.Request.{Request}
-use Rattle.uring_dispatch.specs.declared.group.Group.{Group}
-use Rattle.uring_dispatch.specs.Window.{Window, at, end_of, HasBefore}
-use Rattle.uring_dispatch.specs.Groups.{Groups, group_at, drain_of, HasBarrierBefore}
-use Rattle.uring_dispatch.specs.Held.{HasGroup, has_member, IsSound, IsKept, IsShownGroup, AreHeld}
 
 pub some_none : {X P : Type 0} {x : X} {o : Option X} → o ≡ None → o ≡ Some x → P
 some_none a b = cc

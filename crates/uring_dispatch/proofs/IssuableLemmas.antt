@@ -1,22 +1,7 @@
 -- Which requests can be issued, from who waits.
 use Rattle.std.proofs.Common.{◌≡◌, ℕ, ◌*◌, ◌/◌, ◌<◌, ◌≤◌, length, slice_get, Bool, true, false, not, ◌&&◌, ◌||◌, ◌==◌, ltb, leb, Option, Some, None, is_some, refl, sym, ◌∙◌, ap, arith, inl, inr}
-use Rattle.std.specs.Prelude.{MatchOption}
-use Rattle.std.proofs.lemmas.Bool.{cases_lt, and_right, or_from, lt-leb, and_parts, and_from, and_left, or_left, or_right, both_ways, lt-ltb, le-ltb, ltb-true, le-leb, eq-eqb, eqb-true}
-use Rattle.std.proofs.lemmas.Option.{same_Some, slice_get_past}
-use Rattle.uring_entry.specs.Below.{least_below, count_below}
-use Rattle.uring_entry.specs.Requests.{Requests, is_doomed, is_ready, is_issuable}
-use Rattle.uring_entry.proofs.BelowLemmas.{least_below_none, least_below_some, is_some_value}
-use Rattle.uring_entry.proofs.GroupLemmas.{groups_apart, first_member_inside}
-use Rattle.uring_number_set.specs.NumberSet.{NumberSet, holds, IsLeastFrom}
-use Rattle.uring_dispatch.specs.declared.request.Request.{Request}
-use Rattle.uring_dispatch.specs.declared.group.Group.{Group}
-use Rattle.uring_dispatch.specs.declared.waiting.Waiting.{Waiting}
-use Rattle.uring_dispatch.specs.Window.{Window, at, end_of, HasBefore}
-use Rattle.uring_dispatch.specs.Groups.{Groups, group_at, drain_of, IsFirstDraining}
-use Rattle.uring_dispatch.specs.Held.{IsSound, AreHeld}
-use Rattle.uring_dispatch.specs.Waiting.{leads, dooms, waits_at_head, waits_doomed, IsListed}
+use Rattle.uring_dispatch.proofs.Common.{AreHeld, Group, Groups, HasBefore, IsFirstDraining, IsLeastBelow, IsLeastFrom, IsLimit, IsListed, IsSound, MatchOption, NumberSet, Request, Requests, Waiting, Window, and_from, and_left, and_parts, and_right, at, both_ways, can_go, cases_lt, count_below, dooms, drain_of, end_of, eq-eqb, eqb-true, first_member_inside, group_at, groups_apart, holds, is_doomed, is_issuable, is_ready, is_some_value, le-leb, le-ltb, leads, least_below, least_below_none, least_below_some, lesser_of, lt-leb, lt-ltb, ltb-true, or_from, or_left, or_right, same_Some, slice_get_past, waits_at_head, waits_doomed}
 use Rattle.uring_dispatch.specs.Issuable.{issuables_of, issuable_from}
-use Rattle.uring_dispatch.specs.Limits.{lesser_of, can_go, IsLimit, IsLeastBelow}
 use Rattle.uring_dispatch.proofs.Counting.{count_below_zero, count_below_past, count_below_same, length_all_below, get_all_below}
 use Rattle.uring_dispatch.proofs.WindowFront.{at_past}
 use Rattle.uring_dispatch.proofs.HeldLemmas.{InGroup, in_group, its_group, some_none, shown_within, doomed_held, not_least, not_alone, ready_held, after_barrier, outstanding_none, issuable_some}

@@ -1,19 +1,10 @@
 -- What the issue of a request is answered, by what the code found.
 use Rattle.std.proofs.Common.{◌≡◌, ℕ, ◌<◌, ℤ, negsuc, length, Bool, true, false, Some, None, refl, sym, ◌∙◌, ap, inl, inr}
-use Rattle.std.specs.Prelude.{if◌then◌else◌}
-use Rattle.std.proofs.lemmas.Bool.{cases_Bool}
-use Rattle.uring_entry.specs.Layout.{Sqe, addr_of}
-use Rattle.uring_entry.specs.declared.operation.Op.{Op}
-use Rattle.uring_entry.specs.declared.operation.Op.TheVariants.{Cancel}
-use Rattle.uring_entry.specs.Preparation.{is_faulty, is_cancel, is_cancel_all, operation_of}
-use Rattle.uring_entry.specs.Requests.{Requests, entry_of, is_outstanding, is_running, is_doomed, is_ready, cancel_result}
+use Rattle.uring_dispatch.proofs.Common.{Cancel, Ended, NotReady, Op, Requests, Run, Running, Sqe, Unknown, addr_of, cancel_result, cases_Bool, entry_of, if◌then◌else◌, is_cancel, is_cancel_all, is_doomed, is_doomed_own_fault, is_faulty, is_outstanding, is_ready, is_running, op_of, operation_of}
 use Rattle.uring_entry.proofs.Preparations.{asks_cancel}
-use Rattle.uring_entry.proofs.RequestLemmas.{is_doomed_own_fault}
-use Rattle.uring_dispatch.specs.declared.answers.Issued.TheVariants.{Run, Ended, NotReady, Running, Unknown}
 use Rattle.uring_dispatch.specs.declared.answers.Finished.TheVariants as finish
 use Rattle.uring_dispatch.specs.declared.answers.Posts.{Posts}
 use Rattle.uring_dispatch.specs.IssueAndFinish.{issued, issued_waiting, finished, posts_of, posted_by}
-use Rattle.uring_dispatch.specs.Held.{op_of}
 
 -- what a kept operation says of its entry
 pub op_none : (e : Sqe) → None ≡ op_of e → is_faulty e ≡ true

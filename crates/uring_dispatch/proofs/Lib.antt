@@ -1,4 +1,5 @@
 -- In the order in which they are best read.
+mod Common
 -- Counts, and tables of what is outstanding:
 pub mod Counting
 pub mod ByData

@@ -1,17 +1,8 @@
 -- How many groups, barriers and outstanding requests are kept: no more than requests were accepted.
 use Rattle.std.proofs.Common.{◌≡◌, ◌≢◌, ℕ, suc, zero, ◌+◌, ◌<◌, ◌≤◌, cond, List, [], ◌∷◌, length, if◌then◌else◌, Bool, true, false, eqb, ltb, Option, Some, None, is_some, refl, sym, ◌∙◌, arith, inl, inr, get_or}
-use Rattle.std.specs.List.{count_by, list_any, list_all, IsDistinct, AllByRecursion}
-use Rattle.std.proofs.lemmas.Bool.{and_parts, or_cases, eqb-true, ne_eqb, ltb-true, false≢true}
+use Rattle.uring_dispatch.proofs.Common.{AllByRecursion, AreHeld, Barrier, Group, Groups, IsBeyond, IsDistinct, IsSorted, IsSound, Requests, Window, and_parts, at, count_below, count_by, end_of, eqb-true, false≢true, is_outstanding, is_some_value, list_all, list_any, ltb-true, ne_eqb, or_cases}
 use Rattle.std.proofs.lemmas.List.Recursion.{is_count_by}
 use Rattle.std.proofs.lemmas.Map.Steps.{length-le_from_distinct_below}
-use Rattle.uring_entry.specs.Below.{count_below}
-use Rattle.uring_entry.specs.Requests.{Requests, is_outstanding}
-use Rattle.uring_entry.proofs.BelowLemmas.{is_some_value}
-use Rattle.uring_dispatch.specs.declared.group.Group.{Group}
-use Rattle.uring_dispatch.specs.declared.group.Barrier.{Barrier}
-use Rattle.uring_dispatch.specs.Window.{Window, at, end_of}
-use Rattle.uring_dispatch.specs.Groups.{Groups, IsSorted, IsBeyond}
-use Rattle.uring_dispatch.specs.Held.{IsSound, AreHeld}
 
 -- the least members of the groups that are kept
 leasts : List (Option Group) → List ℕ

@@ -1,28 +1,13 @@
 -- From what a dispatcher shows to what it holds, and back; and what its queries find.
 use Rattle.std.proofs.Common.{◌≡◌, ℕ, ◌+◌, ◌≤◌, Result, Ok, Err, length, Bool, true, false, Option, Some, None, refl, sym, ◌∙◌, ap, subst, arith, not, ◌&&◌}
-use Rattle.std.specs.Prelude.{if◌then◌else◌, MatchOption, OnOk}
-use Rattle.uring_entry.specs.Preparation.{operation_of, is_faulty}
-use Rattle.uring_entry.specs.Requests.{Requests, no_request, entry_of, is_outstanding, is_running, least_of, operation_running, entry_outstanding, target_of}
-use Rattle.uring_entry.proofs.BelowLemmas.{least_below_none, least_below_some, is_some_value}
-use Rattle.uring_dispatch.specs.declared.request.Request.{Request}
-use Rattle.uring_dispatch.specs.Window.{Window, at, end_of, IsFirst}
-use Rattle.uring_dispatch.specs.Groups.{Groups, group_at, IsBeyond}
-use Rattle.uring_dispatch.specs.Held.{IsSound, AreHeld}
-use Rattle.uring_dispatch.specs.Dispatch.{Dispatch, dispatch_of, ShowsRequests, StandsFor, IsSameCount, IssueCounts, EndCounts}
-use Rattle.uring_dispatch.specs.Grouped.{HasSameRecords}
+use Rattle.uring_dispatch.proofs.Common.{AreHeld, Cancel, Dispatch, EndCounts, Ended, Groups, HasPlaces, HasSameRecords, IsBeyond, IsFirst, IsSameCount, IsSound, IssueCounts, MatchOption, NotReady, OnOk, Op, Request, Requests, Run, Running, ShowsRequests, StandsFor, Unknown, Waiting, Window, at, dispatch_of, end_of, entry_of, entry_outstanding, group_at, if◌then◌else◌, is_faulty, is_outstanding, is_running, is_some_value, least_below_none, least_below_some, least_of, no_request, operation_of, operation_running, stop_of, target_of}
 use Rattle.uring_dispatch.specs.declared.grouped.Grouped.{Grouped}
-use Rattle.uring_number_set.specs.NumberSet.{stop_of}
-use Rattle.uring_dispatch.specs.declared.waiting.Waiting.{Waiting}
 use Rattle.uring_dispatch.specs.Outstanding.{HasRoom, Stays}
-use Rattle.uring_dispatch.specs.ByUserData.{HasPlaces}
 use Rattle.uring_dispatch.specs.declared.outstanding.Outstanding.{Outstanding}
 use Rattle.uring_dispatch.specs.declared.answers.Issued.{Issued}
-use Rattle.uring_dispatch.specs.declared.answers.Issued.TheVariants.{Run, Ended, NotReady, Running, Unknown}
 use Rattle.uring_dispatch.specs.declared.answers.Posts.{Posts}
 use Rattle.uring_dispatch.proofs.Alike.{held_alike, alike_room, alike_back}
 use Rattle.uring_dispatch.proofs.HeldLemmas.{some_none, shown_within, outstanding_none, outstanding_some, running_some}
-use Rattle.uring_entry.specs.declared.operation.Op.{Op}
-use Rattle.uring_entry.specs.declared.operation.Op.TheVariants.{Cancel}
 use Rattle.uring_dispatch.specs.declared.answers.Found.TheVariants.{Nobody}
 use Rattle.uring_dispatch.specs.Cancels.{found_as, found_for, found_by, operation_outstanding}
 

@@ -1,22 +1,9 @@
 -- What is told of who waits: how it is kept when other requests are told of anew.
 use Rattle.std.proofs.Common.{◌≡◌, ◌≢◌, ℕ, ◌<◌, ◌≤◌, Bool, true, false, not, ◌&&◌, ◌||◌, ◌⊎◌, Option, Some, None, is_some, refl, sym, ◌∙◌, ap, subst, arith, inl, inr}
-use Rattle.std.specs.Prelude.{if◌then◌else◌}
-use Rattle.std.proofs.lemmas.Bool.{cases_lt, cases_eq, both_ways, false≢true, lt-ltb, le-ltb, ltb-true, ne_eqb}
-use Rattle.std.proofs.lemmas.Option.{same_Some}
-use Rattle.uring_entry.specs.Groups.{is_before, earlier_of}
-use Rattle.uring_number_set.specs.NumberSet.{NumberSet, Puts, HasGrown, HasMoved}
-use Rattle.uring_number_set.proofs.BlockLemmas.{holds_same}
-use Rattle.uring_dispatch.specs.declared.request.Request.{Request}
-use Rattle.uring_dispatch.specs.declared.group.Group.{Group}
-use Rattle.uring_dispatch.specs.declared.waiting.Waiting.{Waiting}
-use Rattle.uring_dispatch.specs.Window.{Window, at, end_of, Changes}
-use Rattle.uring_dispatch.specs.Groups.{Groups, group_at}
-use Rattle.uring_dispatch.specs.Held.{IsSound}
+use Rattle.uring_dispatch.proofs.Common.{CanTell, Changes, Group, Groups, GrowsTo, HasGrown, HasMoved, IsListed, IsListedAt, IsSameReach, IsSound, Keeps, NumberSet, Puts, Reaches, Request, StandsAsBefore, Waiting, Window, at, both_ways, cases_eq, cases_lt, dooms, earlier_of, end_of, false≢true, group_at, holds_same, if◌then◌else◌, is_before, is_some_value, le-ltb, leads, lt-ltb, ltb-true, ne_eqb, same_Some, waits_at_head, waits_doomed}
 use Rattle.uring_dispatch.proofs.WindowFront.{within_end}
 use Rattle.uring_dispatch.proofs.HeldLemmas.{some_none}
 use Rattle.uring_dispatch.proofs.EndLemmas.{Ends, left_with, left_member}
-use Rattle.uring_dispatch.specs.Waiting.{leads, dooms, waits_at_head, waits_doomed, IsListedAt, Reaches, IsListed, CanTell, IsSameReach, GrowsTo, Keeps, StandsAsBefore}
-use Rattle.uring_entry.proofs.BelowLemmas.{is_some_value}
 use Rattle.uring_dispatch.proofs.Changes.{before_end, still_there}
 
 -- Telling anew.

@@ -1,24 +1,13 @@
 -- Why an outstanding request stands as it does, from what is held.
 use Rattle.std.proofs.Common.{◌≡◌, ◌≢◌, ℕ, ◌<◌, ◌≤◌, length, Bool, true, false, not, Option, Some, None, is_some, refl, sym, ◌∙◌, ap, arith, inl, inr}
-use Rattle.std.specs.Prelude.{if◌then◌else◌}
-use Rattle.std.proofs.lemmas.Bool.{cases_lt, or_from, and_from, and_left, and_right, or_left, or_right, lt-leb, le-leb, lt-ltb}
-use Rattle.uring_entry.specs.Requests.{Requests, entry_of, has_ended, is_joined, is_draining, holds_back}
-use Rattle.uring_entry.specs.Groups.{IsGroup, is_before}
+use Rattle.uring_dispatch.proofs.Common.{AreHeld, Group, Groups, IsFirst, IsFirstDraining, IsGroup, IsSound, Request, Requests, Window, and_from, and_left, and_right, at, cases_lt, drain_of, draining_is, entry_of, fault_of, first_member_inside, group_at, has_ended, holds_back, if◌then◌else◌, is_before, is_draining, is_joined, joined_member, le-leb, least_below_none, least_below_some, lt-leb, lt-ltb, or_from, or_left, or_right}
 use Rattle.uring_entry.specs.Why.{first_doom, faulty_member_of, failed_member_of, doom_of, since_of, holder_of, waiting_for, why_of}
-use Rattle.uring_entry.specs.Preparation.{fault_of}
 use Rattle.uring_entry.specs.declared.fault.Fault.{Fault}
 use Rattle.uring_entry.specs.declared.why.Doom.TheVariants.{OwnFault, FaultOf, FailureOf, Cancel}
 use Rattle.uring_entry.specs.declared.why.Since.{Since}
 use Rattle.uring_entry.specs.declared.why.Since.TheVariants.{SameGroup, ItDrains, OwnDrains}
-use Rattle.uring_entry.proofs.GroupLemmas.{joined_member, draining_is, first_member_inside}
 use Rattle.uring_entry.specs.declared.why.Why.TheVariants.{HasEnded, Waits, MayStart}
-use Rattle.uring_entry.proofs.BelowLemmas.{least_below_none, least_below_some}
 use Rattle.uring_entry.proofs.WhyLemmas.{StillWaits, faulty_member_is, failed_member_before, failed_member_none}
-use Rattle.uring_dispatch.specs.declared.request.Request.{Request}
-use Rattle.uring_dispatch.specs.declared.group.Group.{Group}
-use Rattle.uring_dispatch.specs.Window.{Window, at, IsFirst}
-use Rattle.uring_dispatch.specs.Groups.{Groups, group_at, drain_of, IsFirstDraining}
-use Rattle.uring_dispatch.specs.Held.{IsSound, AreHeld}
 use Rattle.uring_dispatch.specs.Waits.{IsFirstHolder}
 use Rattle.uring_dispatch.proofs.HeldLemmas.{InGroup, its_group, shown_within, open_here, draining_held, least_open, running_some, vacant, plain_before, within_group}
 

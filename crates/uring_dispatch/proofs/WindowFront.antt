@@ -1,10 +1,6 @@
 -- The first number of the window, and what the calls of the window ask of the others.
 use Rattle.std.proofs.Common.{◌≡◌, ℕ, ◌+◌, ◌-◌, ◌^◌, ◌<◌, ◌≤◌, List, [], ◌∷◌, ◌++◌, length, get_or, true, false, Option, Some, None, is_some, refl, sym, ◌∙◌, ap, arith, inl, inr}
-use Rattle.std.proofs.lemmas.Bool.{cases_lt, cases_Bool, both_ways, false≢true}
-use Rattle.uring_entry.proofs.BelowLemmas.{is_some_value}
-use Rattle.uring_dispatch.specs.declared.request.Request.{Request}
-use Rattle.uring_dispatch.specs.Window.{Window, key_at, found_by, at, end_of, runs, one_if, IsWindow, IsTrimmed, IsFirst, HasBefore, started, chosen}
-use Rattle.std.specs.Prelude.{IfSome}
+use Rattle.uring_dispatch.proofs.Common.{HasBefore, IfSome, IsFirst, IsTrimmed, IsWindow, Request, Window, at, both_ways, cases_Bool, cases_lt, chosen, end_of, false≢true, found_by, is_some_value, key_at, one_if, runs, started}
 use Rattle.uring_dispatch.proofs.Counting.{count_below_some, count_below_within}
 use Rattle.uring_dispatch.proofs.WindowLemmas.{IsSameBut, key_at_low, key_at_high, key_at_past, key_at_within, at_keyed, write_window}
 use Rattle.uring_dispatch.proofs.HeldLemmas.{some_none}

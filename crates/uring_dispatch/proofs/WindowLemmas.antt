@@ -1,15 +1,8 @@
 -- The window: what is found by a number, from the keys and the requests, and what the events keep: each key has a request, none stands twice, and the running requests are counted.
 use Rattle.std.proofs.Common.{◌≡◌, ◌≢◌, ℕ, suc, ◌+◌, ◌-◌, ◌<◌, ◌≤◌, List, [], ◌∷◌, ◌++◌, length, get_or, set, Option, Some, None, refl, sym, ◌∙◌, ap, arith, inl, inr, ◌⊎◌, false, is_some, length-append}
-use Rattle.std.specs.Prelude.{if◌then◌else◌}
-use Rattle.std.proofs.lemmas.Bool.{cases_lt, cases_eq, lt-ltb, le-ltb, both_ways}
-use Rattle.std.proofs.lemmas.List.{get_or_past, get_or-set_same, get_or-set_other, length-set}
+use Rattle.uring_dispatch.proofs.Common.{Changes, IsWindow, Request, Window, at, both_ways, cases_eq, cases_lt, count_below, end_of, found_by, get_or-set_other, get_or-set_same, get_or_past, get_or_push_other, if◌then◌else◌, key_at, le-ltb, length-set, lt-ltb, one_if, runs, same_Some}
 use Rattle.std.proofs.Math.Seq.{get_or-append_seam}
-use Rattle.uring_entry.proofs.RequestLemmas.{get_or_push_other}
-use Rattle.uring_dispatch.specs.Window.{Window, key_at, found_by, at, end_of, runs, one_if, IsWindow, Changes}
 use Rattle.uring_dispatch.proofs.HeldLemmas.{some_none}
-use Rattle.std.proofs.lemmas.Option.{same_Some}
-use Rattle.uring_dispatch.specs.declared.request.Request.{Request}
-use Rattle.uring_entry.specs.Below.{count_below}
 use Rattle.uring_dispatch.proofs.Counting.{count_below_same, count_below_changed}
 
 pub key_at_low : (first : ℕ) (keys : List (Option ℕ)) (n : ℕ) → n < first

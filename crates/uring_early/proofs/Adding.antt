@@ -1,19 +1,7 @@
 -- The operations that may take effect before an end are those that are added for each that runs.
 use Rattle.std.proofs.Common.{◌≡◌, ◌==◌, ◌<◌, ◌+◌, ℕ, Bool, true, false, List, [], ◌∷◌, ◌++◌, Option, Some, None, if◌then◌else◌, refl, sym, ap, subst, ◌∙◌, ◌⊎◌, inl, inr, arith, negsuc, map}
-use Rattle.std.specs.Prelude.{Contains, is_some}
-use Rattle.std.proofs.lemmas.Bool.{eq-eqb, eqb-true, both_ways}
-use Rattle.std.proofs.lemmas.Option.{same_Some}
+use Rattle.uring_early.proofs.Common.{Adds, AreTakers, Contains, End, FileContents, FitsEnd, IsForFiles, IsOutcome, Mark, MayTake, Op, Outcome, Running, Taker, awaits, both_ways, end_in, ended_with, eq-eqb, eqb-true, is_lengthening, is_some, look, plain, result_of, same_Some}
 use Rattle.std.proofs.lemmas.List.Elements.{Contains-append_left, Contains-append_right, Contains-push, Contains-push_cases}
-use Rattle.uring_entry.specs.declared.operation.Op.{Op}
-use Rattle.uring_entry.specs.declared.operation.Outcome.{Outcome}
-use Rattle.uring_files.specs.Contents.{FileContents}
-use Rattle.uring_files.specs.Operations.{IsForFiles, IsOutcome, ended_with, is_lengthening, result_of}
-use Rattle.uring_early.specs.declared.mark.End.{End}
-use Rattle.uring_early.specs.declared.mark.Mark.{Mark}
-use Rattle.uring_early.specs.declared.running.Running.{Running}
-use Rattle.uring_early.specs.declared.takers.Taker.{Taker}
-use Rattle.uring_early.specs.Moves.{FitsEnd, MayTake, awaits, end_in, look, plain}
-use Rattle.uring_early.specs.Search.{Adds, AreTakers}
 use Rattle.uring_early.proofs.Plain.{outcome_back, outcome_plain}
 
 -- nothing was added, as nothing has the property

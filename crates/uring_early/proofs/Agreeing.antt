@@ -1,25 +1,9 @@
 -- What is known of the bytes of ends agrees with what was posted.
 use Rattle.std.proofs.Common.{◌≡◌, ℕ, ◌==◌, Bool, true, false, List, [], ◌∷◌, ◌++◌, length, map, Option, Some, None, if◌then◌else◌, refl, sym, ap, subst, ◌∙◌, append-nil, append_assoc, arith}
-use Rattle.std.specs.Prelude.{slice_get}
-use Rattle.std.specs.Option.{option_map}
-use Rattle.std.proofs.lemmas.Bool.{le-ltb, lt-ltb}
-use Rattle.std.proofs.lemmas.List.{length-append, length-map, map-append}
-use Rattle.std.proofs.lemmas.Option.{slice_get-map, same_Some}
+use Rattle.uring_early.proofs.Common.{Answer, Cqe, Ending, Event, History, IsLawfulApart, MeetsBytes, Setup, Step, World, bytes_at, bytes_of, bytes_reaped, bytes_told, end_told_by, entry_of, known_by, le-ltb, length-append, length-map, lt-ltb, map-append, option_map, posts, same_Some, slice_get, slice_get-map, sound_of, with_end_of, world}
 use Rattle.uring_entry.specs.Completions.{Completions, completion_for, next_to_reap, with_posted}
-use Rattle.uring_entry.specs.Layout.{Cqe}
-use Rattle.uring_entry.specs.Requests.{Ending, entry_of}
-use Rattle.uring_entry.specs.Setup.{Setup}
-use Rattle.uring_rules.specs.Rules.{posts}
-use Rattle.uring_core.specs.Events.{end_told_by}
-use Rattle.uring_core.specs.Histories.{Event, History, world, IsLawfulApart}
-use Rattle.uring_core.specs.World.{World, with_end_of}
-use Rattle.uring_core.specs.declared.step.Step.{Step}
-use Rattle.uring_core.specs.declared.answer.Answer.{Answer}
 use Rattle.uring_core.proofs.CompletionMoves.{CompletionMove, stays, ends, reaps, completion_move}
-use Rattle.uring_core.proofs.Sound.{sound_of}
 use Rattle.uring_laws.proofs.RingLaws.{begin_posted}
-use Rattle.uring_early.specs.Moves.{MeetsBytes}
-use Rattle.uring_early.specs.Bare.{bytes_at, bytes_of, bytes_reaped, bytes_told, known_by}
 use Rattle.uring_early.proofs.Timelines.{lawful_below, onto}
 
 -- ---- lists

@@ -1,14 +1,8 @@
 -- What operations give on any files has a result that may_end allows.
 use Rattle.std.proofs.Common.{◌≡◌, ◌&&◌, ◌-◌, ◌^◌, ◌≤◌, ℕ, ℤ, pos, negsuc, min, Bool, true, false, List, None, if◌then◌else◌, refl, sym, subst, ◌∙◌, inl, inr, arith}
-use Rattle.std.specs.Prelude.{int_le}
+use Rattle.uring_early.proofs.Common.{FileContents, IsForFiles, IsOutcome, Outcome, Sqe, fault_of, int_le, is_cancel, is_on_file, is_transfer, le-leb, len_of, operation_of, result_of, true≢false}
 use Rattle.std.proofs.Math.Dec.{leb-zero}
 use Rattle.std.proofs.Math.Nat.{le-min}
-use Rattle.std.proofs.lemmas.Bool.{le-leb, true≢false}
-use Rattle.uring_entry.specs.Layout.{Sqe, len_of}
-use Rattle.uring_entry.specs.Preparation.{fault_of, operation_of, is_cancel, is_transfer, is_on_file}
-use Rattle.uring_entry.specs.declared.operation.Outcome.{Outcome}
-use Rattle.uring_files.specs.Contents.{FileContents}
-use Rattle.uring_files.specs.Operations.{IsForFiles, IsOutcome, result_of}
 use Rattle.uring_files.proofs.OperationCases.{IsCalled, most_of, cases, result_called}
 use Rattle.uring_files.proofs.Prepared.{is_short, is_served_of, moved, on_some_file}
 use Rattle.uring_entry.specs.Results.{is_own_error, may_end}

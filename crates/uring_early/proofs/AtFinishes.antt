@@ -1,19 +1,9 @@
 -- The timeline in which each operation takes effect just before its finish: its effects are the operations that the history carried out.
 use Rattle.std.proofs.Common.{◌≡◌, ◌==◌, ◌++◌, ℕ, Bool, true, false, List, [], ◌∷◌, Option, Some, None, refl, sym, ap, subst, ◌∙◌}
-use Rattle.std.specs.Prelude.{if◌then◌else◌}
+use Rattle.uring_early.proofs.Common.{Ending, EndsAsTaken, Event, FileContents, History, IsLawfulApart, IsLawfulEarly, IsOutcome, IsTimely, Makes, Outcome, Requests, Setup, Takes, Timeline, and_parts, effect_of, effects_in, end_told_by, entry_of, eq-eqb, has_ended, if◌then◌else◌, is_running, list_any_push, made_in, not-true, operation_of, or_parts, world}
 use Rattle.std.specs.List.{list_any}
-use Rattle.std.proofs.lemmas.Bool.{and_parts, or_parts, not-true, eq-eqb}
-use Rattle.uring_entry.specs.Setup.{Setup}
-use Rattle.uring_entry.specs.Preparation.{operation_of}
-use Rattle.uring_entry.specs.Requests.{Ending, Requests, entry_of, has_ended, is_running}
-use Rattle.uring_entry.specs.declared.operation.Outcome.{Outcome}
-use Rattle.uring_entry.proofs.RequestLemmas.{list_any_push}
-use Rattle.uring_files.specs.Contents.{FileContents}
 use Rattle.uring_files.specs.Done.{Done, files_left}
-use Rattle.uring_files.specs.Operations.{IsOutcome}
 use Rattle.uring_core.specs.CalledFor.{CalledFor, EndsOn, IsLawful, files_of}
-use Rattle.uring_core.specs.Events.{end_told_by}
-use Rattle.uring_core.specs.Histories.{Event, History, world, IsLawfulApart}
 use Rattle.uring_core.specs.declared.step.Step.TheVariants as step
 use Rattle.uring_core.specs.declared.answer.Answer.TheVariants as answer
 use Rattle.uring_laws.specs.Direct.{told, with_told}
@@ -21,7 +11,6 @@ use Rattle.uring_laws.specs.Finishes.{done_by, done_in, first_files}
 use Rattle.uring_laws.proofs.FileLaws.{files_by_operations}
 use Rattle.uring_laws.proofs.ReadOff.{own_requests}
 use Rattle.uring_laws.proofs.WholeLaws.{lawful_apart}
-use Rattle.uring_early.specs.Effects.{Makes, Takes, Timeline, made_in, effects_in, effect_of, EndsAsTaken, IsTimely, IsLawfulEarly}
 
 -- the effect after this timeline that the event then ends
 abbrev with_taken : Event → Timeline → Timeline

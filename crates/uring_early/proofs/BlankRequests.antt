@@ -1,9 +1,8 @@
 -- Requests read the same whatever bytes they ended with.
 use Rattle.std.proofs.Common.{◌≡◌, ℕ, ◌==◌, ℤ, Bool, not, ◌&&◌, ◌||◌, List, [], ◌∷◌, ◌++◌, map, refl, sym, ap}
 use Rattle.std.specs.List.{list_any}
-use Rattle.std.proofs.lemmas.List.{map-append}
+use Rattle.uring_early.proofs.Common.{Ending, Requests, entry_of, is_running, map-append, no_bytes}
 use Rattle.uring_entry.specs.Success.{is_success}
-use Rattle.uring_entry.specs.Requests.{Requests, Ending, entry_of, is_running, no_bytes}
 use Rattle.uring_laws.proofs.AlikeRequests as alike
 use Rattle.uring_laws.proofs.AlikeRequests.{ReadSame}
 

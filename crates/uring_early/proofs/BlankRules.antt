@@ -1,14 +1,9 @@
 -- Requests stand as they do, by either's rules, whatever bytes they ended with.
 use Rattle.std.proofs.Common.{◌≡◌, ℕ, ℤ, Bool, true, false, List, ◌++◌, map, refl, ap, ◌∙◌}
-use Rattle.uring_entry.specs.Layout.{Sqe}
+use Rattle.uring_early.proofs.Common.{Ending, Requests, Setup, Sqe, World, drains_called, drains_ended, issue_answer, next_of, no_bytes, posts, requests_of, with_issued_end}
 use Rattle.uring_entry.specs.Requests as manual
-use Rattle.uring_entry.specs.Requests.{Requests, Ending, no_bytes}
-use Rattle.uring_entry.specs.Setup.{Setup}
 use Rattle.uring_linux.specs.LinuxRequests.{LinuxRequests, after_going_on}
 use Rattle.uring_linux.specs.declared.deferred.Deferred.{Deferred}
-use Rattle.uring_rules.specs.Rules.{drains_called, drains_ended, next_of, posts, with_issued_end}
-use Rattle.uring_core.specs.StepAnswers.{issue_answer}
-use Rattle.uring_core.specs.World.{World, requests_of}
 use Rattle.uring_laws.proofs.AlikeRequests.{chosen_same}
 use Rattle.uring_laws.proofs.AlikeDrains.{called_same, going_same}
 use Rattle.uring_laws.proofs.AlikeLinux as kernel

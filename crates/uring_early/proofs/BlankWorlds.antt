@@ -1,25 +1,13 @@
 -- A history without its bytes makes the world without them, and is lawful apart if the history is; and back, if what is reaped has the bytes that were posted.
 use Rattle.std.proofs.Common.{◌≡◌, ℕ, ℤ, ◌+◌, ◌-◌, ◌==◌, ◌&&◌, nat_lt, pos, Bool, true, false, min, List, [], ◌∷◌, length, map, Option, Some, None, if◌then◌else◌, refl, sym, ap, subst, ◌∙◌, arith}
-use Rattle.std.specs.Prelude.{slice_get}
-use Rattle.std.specs.Option.{option_map}
-use Rattle.std.proofs.lemmas.List.{length-map, map-append}
-use Rattle.std.proofs.lemmas.Option.{slice_get-map}
+use Rattle.uring_early.proofs.Common.{Answer, CalledForApart, Cqe, FinishesApart, History, IsLawfulApart, Setup, Sqe, Step, World, blank, blank_answer, blank_completion, ending, ending_of, entry_of, happens, is_running, length-map, map-append, next_answer_of, no_bytes, option_map, posts, reap_answer_of, requests_of, slice_get, slice_get-map, with_end_of, world}
+use Rattle.uring_core.specs.World.{taking}
 use Rattle.uring_entry.specs.Completions.{Completions, completion_for, has_room, next_to_reap, put_by_flush, with_posted}
 use Rattle.uring_entry.specs.IndexWords.{word_of}
-use Rattle.uring_entry.specs.Layout.{Cqe, Sqe}
-use Rattle.uring_entry.specs.Requests.{entry_of, is_running, no_bytes}
-use Rattle.uring_entry.specs.Setup.{Setup}
 use Rattle.uring_entry.specs.Submission.{Call, entries_from}
 use Rattle.uring_linux.specs.Drains.{Drains}
-use Rattle.uring_rules.specs.Rules.{posts}
-use Rattle.uring_core.specs.Histories.{History, world, IsLawfulApart}
-use Rattle.uring_core.specs.StepAnswers.{CalledForApart, FinishesApart, next_answer_of, reap_answer_of}
-use Rattle.uring_core.specs.World.{World, requests_of, with_end_of, happens, taking, ending, ending_of}
-use Rattle.uring_core.specs.declared.step.Step.{Step}
 use Rattle.uring_core.specs.declared.step.Step.TheVariants as step
-use Rattle.uring_core.specs.declared.answer.Answer.{Answer}
 use Rattle.uring_core.specs.declared.answer.Answer.TheVariants as answer
-use Rattle.uring_early.specs.Bare.{blank, blank_answer, blank_completion}
 use Rattle.uring_early.proofs.BlankRequests.{blank_requests, ends_same, running_same}
 use Rattle.uring_early.proofs.BlankRules.{drains_called_same, drains_ended_same, issue_same, issued_same, next_same, posts_same}
 

@@ -1,12 +1,8 @@
 -- What a search comes to that knows a part of the bytes.
 use Rattle.std.proofs.Common.{◌≡◌, ℕ, List, [], map, sym, subst}
-use Rattle.uring_core.specs.Histories.{Event, History, history_of, IsLawfulApart}
-use Rattle.uring_entry.specs.Setup.{Setup}
-use Rattle.uring_early.specs.Search.{IsFated}
+use Rattle.uring_early.proofs.Common.{AreSameButBytes, Event, History, IsFated, IsFoundBare, IsLawfulApart, IssuesMeet, Setup, blank, bytes_told, found_by, history_of, known_marks}
 use Rattle.uring_early.specs.declared.search.Fate.{Fate}
 use Rattle.uring_early.specs.declared.search.Fate.TheVariants as fate
-use Rattle.uring_early.specs.Bare.{AreSameButBytes, IsFoundBare, IssuesMeet, blank, bytes_told, known_marks}
-use Rattle.uring_early.specs.Decided.{found_by}
 use Rattle.uring_early.proofs.Filling.{filled_lawful}
 use Rattle.uring_early.proofs.Loosening.{told_goes, told_lawful}
 

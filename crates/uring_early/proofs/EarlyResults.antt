@@ -1,23 +1,11 @@
 -- Results of early effects are allowed: an effect's was when it was taken, and its request's entry stays.
 use Rattle.std.proofs.Common.{◌≡◌, ◌==◌, ◌<◌, ℕ, Bool, true, false, [], ◌∷◌, length, Some, if◌then◌else◌, refl, sym, subst, arith}
-use Rattle.std.proofs.lemmas.Bool.{and_parts, eqb-true}
-use Rattle.std.proofs.lemmas.Option.{same_Some}
-use Rattle.uring_entry.specs.Layout.{Sqe}
-use Rattle.uring_entry.specs.Preparation.{fault_of}
-use Rattle.uring_entry.specs.Requests.{Requests, entry_of, has_started}
-use Rattle.uring_entry.specs.Setup.{Setup}
-use Rattle.uring_entry.specs.declared.operation.Outcome.{Outcome}
+use Rattle.uring_early.proofs.Common.{EndsAsTaken, Event, GiveAllowed, GivesAllowed, Grows, History, IsLawfulApart, IsLawfulEarly, IsTimely, Makes, Outcome, Requests, Setup, Sqe, Takes, TakesEffect, Timeline, and_parts, effect_of, entry_of, eqb-true, event_grows, fault_of, files_at, has_started, made_in, not_some, requests_in, same_Some, sound_of}
 use Rattle.uring_entry.specs.Results.{may_end}
-use Rattle.uring_core.specs.Histories.{Event, History, IsLawfulApart}
 use Rattle.uring_core.specs.declared.step.Step.TheVariants as step
 use Rattle.uring_core.specs.declared.answer.Answer.TheVariants as answer
-use Rattle.uring_core.proofs.Changes.{not_some}
 use Rattle.uring_core.proofs.Running.{no_cancel, running_asks}
-use Rattle.uring_core.proofs.Sound.{sound_of}
 use Rattle.uring_core.proofs.SoundRequests.{IsSoundRequests}
-use Rattle.uring_laws.proofs.Growth.{Grows, event_grows}
-use Rattle.uring_early.specs.Effects.{Makes, Takes, Timeline, made_in, requests_in, files_at, effect_of, TakesEffect, EndsAsTaken, IsTimely, IsLawfulEarly}
-use Rattle.uring_early.specs.Laws.{GivesAllowed, GiveAllowed}
 use Rattle.uring_early.proofs.AllowedResults.{outcome_allowed}
 
 -- this result is one that the operation of the request may give, which was accepted

@@ -1,26 +1,8 @@
 -- Moves of a search that knows some of the bytes at finishes are a timeline of a history that has these, and others at the rest.
 use Rattle.std.proofs.Common.{◌≡◌, ℕ, ℤ, Bool, true, false, List, [], ◌∷◌, ◌++◌, length, map, Option, Some, None, if◌then◌else◌, refl, sym, ap, ap₂, subst, ◌∙◌, append-nil, append_assoc}
-use Rattle.std.proofs.lemmas.List.{length-map}
-use Rattle.uring_entry.specs.Preparation.{operation_of}
-use Rattle.uring_entry.specs.Requests.{Requests, entry_of, is_running, operation_running}
-use Rattle.uring_entry.specs.Setup.{Setup}
-use Rattle.uring_entry.specs.declared.operation.Op.{Op}
-use Rattle.uring_entry.specs.declared.operation.Outcome.{Outcome}
-use Rattle.uring_core.specs.Events.{end_told_by}
-use Rattle.uring_core.specs.Histories.{Event, History, world, history_of, IsLawfulApart}
-use Rattle.uring_core.specs.StepAnswers.{CalledForApart}
-use Rattle.uring_core.specs.World.{World}
-use Rattle.uring_core.specs.declared.step.Step.{Step}
+use Rattle.uring_early.proofs.Common.{Answer, AreSameButBytes, CalledForApart, End, EndsAsTaken, EndsBy, Event, Goes, History, IsFoundBare, IsLawfulApart, IsTimely, IsWalk, IssueMeets, IssuesMeet, Makes, Mark, Move, Op, Outcome, Pass, Passes, Requests, Running, Setup, Standing, Step, Take, Takes, TakesEffect, Timeline, World, at_first, bare, blank, blank_answer, bytes_at, bytes_reaped, bytes_told, effect_of, end_told_by, entry_of, history_of, is_running, known_by, known_mark, known_marks, length-map, made_in, mark_by, operation_at, operation_of, operation_running, passed, posted_in, requests_in, start_mark, taken_of, took, world}
 use Rattle.uring_core.specs.declared.step.Step.TheVariants as step
-use Rattle.uring_core.specs.declared.answer.Answer.{Answer}
 use Rattle.uring_core.specs.declared.answer.Answer.TheVariants as answer
-use Rattle.uring_early.specs.Effects.{Makes, Takes, Timeline, made_in, requests_in, operation_at, effect_of, TakesEffect, EndsAsTaken, IsTimely}
-use Rattle.uring_early.specs.declared.mark.End.{End}
-use Rattle.uring_early.specs.declared.mark.Mark.{Mark}
-use Rattle.uring_early.specs.declared.running.Running.{Running}
-use Rattle.uring_early.specs.Moves.{EndsBy, Goes, IsWalk, Move, Pass, Take, Passes, Standing, at_first, passed, taken_of, took}
-use Rattle.uring_early.specs.Bare.{AreSameButBytes, IssueMeets, IssuesMeet, IsFoundBare, bare, blank, blank_answer, bytes_at, bytes_reaped, bytes_told, known_by, known_marks, known_mark, posted_in}
-use Rattle.uring_early.specs.Marks.{mark_by, start_mark}
 use Rattle.uring_early.specs.declared.decision.Found.TheVariants as found
 use Rattle.uring_early.proofs.Agreeing.{Agree, EndMeets, agree_after, agree_none, next_has, payloads, posted_bytes, reaped_after}
 use Rattle.uring_early.proofs.BlankRequests.{blank_requests, running_same}

@@ -1,13 +1,6 @@
 -- What is known of a history grows by one with each event.
 use Rattle.std.proofs.Common.{◌≡◌, ◌<◌, ℕ, suc, List, [], ◌∷◌, ◌++◌, length, take, drop, get_or, Option, refl, sym, ap, ap₂, subst, ◌∙◌, append-nil, append_assoc}
-use Rattle.std.proofs.Math.Seq.{drop-cons}
-use Rattle.std.proofs.lemmas.List.{take-append-drop}
-use Rattle.uring_core.specs.StepAnswers.{CalledForApart}
-use Rattle.uring_core.specs.Histories.{Event, History, world, history_of, IsLawfulApart}
-use Rattle.uring_core.proofs.Following.{history_of_cons}
-use Rattle.uring_entry.specs.Setup.{Setup}
-use Rattle.uring_early.specs.declared.mark.Mark.{Mark}
-use Rattle.uring_early.specs.Bare.{IssueMeets, IssuesMeet, bytes_at, bytes_reaped, bytes_told, known_by, known_mark, known_marks}
+use Rattle.uring_early.proofs.Common.{CalledForApart, Event, History, IsLawfulApart, IssueMeets, IssuesMeet, Mark, Setup, bytes_at, bytes_reaped, bytes_told, drop-cons, history_of, history_of_cons, known_by, known_mark, known_marks, take-append-drop, world}
 use Rattle.uring_early.proofs.Marking.{wrong_from}
 
 -- by the counts of two cores

@@ -1,4 +1,5 @@
 -- In the order in which they are best read.
+mod Common
 -- The laws of early effects:
 mod AtFinishes
 mod AllowedResults

@@ -1,22 +1,8 @@
 -- A history that is lawful by early effects gives moves to a search that knows a part of its bytes.
 use Rattle.std.proofs.Common.{◌≡◌, ℕ, ◌==◌, Bool, true, false, List, [], ◌∷◌, ◌++◌, map, Option, Some, None, if◌then◌else◌, refl, sym, ap, ap₂, subst, ◌∙◌}
-use Rattle.std.specs.Prelude.{reverse}
-use Rattle.std.proofs.lemmas.List.{map-append, reverse-append, reverse-reverse}
-use Rattle.uring_entry.specs.Requests.{Requests, operation_running}
-use Rattle.uring_entry.specs.Setup.{Setup}
-use Rattle.uring_entry.specs.declared.operation.Op.{Op}
-use Rattle.uring_entry.specs.declared.operation.Outcome.{Outcome}
-use Rattle.uring_core.specs.Events.{end_told_by}
-use Rattle.uring_core.specs.Histories.{Event, History, world, history_of, IsLawfulApart}
+use Rattle.uring_early.proofs.Common.{AreSameButBytes, End, EndsBy, Event, FitsEnd, Goes, History, IsLawfulApart, IsLawfulEarly, IsWalk, IssueMeets, IssuesMeet, Mark, MayTake, Meets, MeetsBytes, Move, Op, Outcome, Pass, Passes, Requests, Running, Setup, Standing, Take, at_first, awaits, bare, blank, bytes_reaped, bytes_told, end_in, end_told_by, history_of, known_by, known_mark, known_marks, map-append, mark_by, marks_after, operation_running, passed, reverse, reverse-append, reverse-reverse, start_mark, taken_by, took, world}
 use Rattle.uring_core.specs.declared.step.Step.TheVariants as step
 use Rattle.uring_core.specs.declared.answer.Answer.TheVariants as answer
-use Rattle.uring_early.specs.Effects.{IsLawfulEarly}
-use Rattle.uring_early.specs.declared.mark.End.{End}
-use Rattle.uring_early.specs.declared.mark.Mark.{Mark}
-use Rattle.uring_early.specs.declared.running.Running.{Running}
-use Rattle.uring_early.specs.Moves.{EndsBy, FitsEnd, Goes, IsWalk, MayTake, Meets, MeetsBytes, Move, Pass, Take, Passes, Standing, at_first, awaits, end_in, passed, taken_by, took}
-use Rattle.uring_early.specs.Bare.{AreSameButBytes, IssueMeets, IssuesMeet, bare, blank, bytes_reaped, bytes_told, known_by, known_marks, known_mark}
-use Rattle.uring_early.specs.Marks.{mark_by, marks_after, start_mark}
 use Rattle.uring_early.proofs.Agreeing.{Agree, EndMeets, met_after, posted_bytes, told_agree}
 use Rattle.uring_early.proofs.BlankWorlds.{lawful_blank}
 use Rattle.uring_early.proofs.Filling.{history_onto, known_blank, known_marks_same, passed_so}

@@ -1,14 +1,6 @@
 -- The marks of a history grow by one with each event.
 use Rattle.std.proofs.Common.{◌≡◌, ◌<◌, ◌+◌, ℕ, suc, List, [], ◌∷◌, ◌++◌, length, take, drop, get_or, refl, sym, ap, subst, ◌∙◌, append-nil}
-use Rattle.std.proofs.Math.Seq.{drop-cons}
-use Rattle.std.proofs.lemmas.List.{take_more, take-append-drop}
-use Rattle.uring_core.specs.StepAnswers.{CalledForApart}
-use Rattle.uring_laws.proofs.Growth.{lawful_before}
-use Rattle.uring_entry.specs.Setup.{Setup}
-use Rattle.uring_core.specs.Histories.{Event, History, world, history_of, IsLawfulApart}
-use Rattle.uring_core.proofs.Following.{history_of_append, history_of_cons}
-use Rattle.uring_early.specs.declared.mark.Mark.{Mark}
-use Rattle.uring_early.specs.Marks.{mark_by, marks_after}
+use Rattle.uring_early.proofs.Common.{CalledForApart, Event, History, IsLawfulApart, Mark, Setup, drop-cons, history_of, history_of_append, history_of_cons, lawful_before, mark_by, marks_after, take-append-drop, take_more, world}
 
 marks_snoc : (g : Setup) (events : List Event) (before : History) (e : Event)
     → marks_after g before (events ++ e ∷ []) ≡ marks_after g before events ++ mark_by (world g (e ∷ history_of events ++ before)).requests e ∷ []

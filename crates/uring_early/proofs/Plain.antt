@@ -1,17 +1,8 @@
 -- No outcome tells what a file counts: operations give the same on files without their counts, and leave the same bytes.
 use Rattle.std.proofs.Common.{◌≡◌, ℕ, ℤ, zero, suc, pos, negsuc, Bool, true, false, List, [], ◌∷◌, Option, Some, None, length, map, take, get_or, refl, sym, ap, ◌∙◌, inl, inr, ◌++◌, ◌+◌, ◌<◌, arith}
-use Rattle.std.specs.Prelude.{replicate, slice_get, slice_set, slice_index_or, if◌then◌else◌}
-use Rattle.std.specs.Option.{option_map, option_map_or}
+use Rattle.uring_early.proofs.Common.{FileContents, IsOutcome, Op, Outcome, after, cases_lt, empty_file, ext_get_or, file_of, file_of_bytes, get_or_from_slice_get, if◌then◌else◌, is_lengthening, length-map, map-set, on_file, option_map, option_map_or, plain, replicate, result_of, slice_get, slice_get-get_or, slice_get-map, slice_get_past, slice_index_or, slice_set, take_all, take_more, with_changed}
 use Rattle.std.proofs.Math.ListN.{get_or-map}
-use Rattle.std.proofs.lemmas.Option.{get_or_from_slice_get, slice_get-get_or, slice_get-map, slice_get_past}
-use Rattle.std.proofs.lemmas.Bool.{cases_lt}
-use Rattle.std.proofs.lemmas.List.{ext_get_or, length-map, map-set, take_all, take_more}
-use Rattle.uring_entry.specs.declared.operation.Op.{Op}
-use Rattle.uring_entry.specs.declared.operation.Outcome.{Outcome}
-use Rattle.uring_files.specs.Contents.{FileContents, empty_file, file_of_bytes}
-use Rattle.uring_files.specs.Operations.{IsOutcome, after, file_of, is_lengthening, on_file, result_of, with_changed}
 use Rattle.uring_files.proofs.OperationCases.{Task, IsTask, cases, many_after}
-use Rattle.uring_early.specs.Moves.{plain}
 
 file_plain : (files : List FileContents) (fd : ℤ) → file_of (map plain files) fd ≡ option_map plain (file_of files fd)
 file_plain files (pos fd) = slice_get-map plain files fd

@@ -1,22 +1,10 @@
 -- Which operations run after an event, by its mark.
 use Rattle.std.proofs.Common.{◌≡◌, ◌==◌, ◌||◌, ◌&&◌, ℕ, ℤ, Bool, true, false, not, List, Some, None, if◌then◌else◌, refl, sym, ap, ◌∙◌, arith}
-use Rattle.std.proofs.lemmas.Bool.{eq-eqb, eqb-true}
-use Rattle.uring_entry.specs.Preparation.{operation_of}
-use Rattle.uring_entry.specs.Requests.{Ending, Requests, entry_of, has_ended, has_started, is_running, no_bytes, chosen_by, with_cancelled, with_started, with_ended}
-use Rattle.uring_entry.specs.Setup.{Setup}
-use Rattle.uring_rules.specs.Rules.{cancel_result, doomed_result, with_issued_end}
-use Rattle.uring_entry.proofs.RequestLemmas.{list_any_push}
-use Rattle.uring_core.specs.World.{World, happens}
-use Rattle.uring_core.specs.declared.step.Step.{Step}
+use Rattle.uring_early.proofs.Common.{Answer, Change, Ending, Ends, Idle, IsSilent, Mark, Requests, Setup, Starts, Step, World, cancel_result, cancels, chosen_by, closes, doomed_result, dooms, drops, entry_of, eq-eqb, eqb-true, finishes, happens, has_ended, has_started, is_running, list_any_push, mark_by, no_bytes, operation_of, refuses, runs, start_mark, takes, with_cancelled, with_ended, with_issued_end, with_started}
 use Rattle.uring_core.specs.declared.step.Step.TheVariants as step
-use Rattle.uring_core.specs.declared.answer.Answer.{Answer}
 use Rattle.uring_core.specs.declared.answer.Answer.TheVariants as answer
-use Rattle.uring_core.proofs.Changes.{Change, IsSilent, refuses, takes, drops, closes, runs, dooms, cancels, finishes}
 use Rattle.std.proofs.Math.Bool.{or-true}
 use Rattle.uring_laws.proofs.EndedRequests.{not_ended}
-use Rattle.uring_early.specs.declared.mark.Mark.{Mark}
-use Rattle.uring_early.specs.declared.mark.Mark.TheVariants.{Starts, Ends, Idle}
-use Rattle.uring_early.specs.Marks.{mark_by, start_mark}
 
 -- whether an operation runs after a mark, if it did before it or not as told
 abbrev pub runs_after : Mark → Bool → ℕ → Bool

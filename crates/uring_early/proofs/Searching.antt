@@ -1,17 +1,7 @@
 -- That a search covers all moves: `passed_one` and `dropped_one` where the next mark is passed or not, and `taken_all` where an operation takes effect first.
 use Rattle.std.proofs.Common.{◌≡◌, ◌<◌, ◌+◌, ℕ, true, false, not, List, [], ◌∷◌, ◌++◌, Option, Some, None, length, map, drop, is_some, refl, sym, ap, subst, ◌∙◌, inl, inr, arith, add-one, append-nil}
-use Rattle.std.specs.Prelude.{Contains, slice_index_or}
-use Rattle.std.proofs.Math.Seq.{drop-cons}
-use Rattle.std.proofs.lemmas.List.{drop_all, length-replicate}
+use Rattle.uring_early.proofs.Common.{AreTakers, Contains, End, Ends, EndsBy, Goes, GoesOn, Idle, IsPlaced, IsSearch, IsWalk, Mark, MayTake, Move, OneGoes, Outcome, Pass, Passes, PassesAt, Replaces, Running, Seat, Standing, Starts, Take, Taker, at_first, awaits, awaits_at, drop-cons, drop_all, left_at, length-replicate, look, op_of, passed, passed_at, slice_index_or, taken_by, took, took_at}
 use Rattle.std.proofs.lemmas.List.Elements.{Contains-append_left, Contains-append_right, Contains-append_cases, Contains-push, Contains-push_cases}
-use Rattle.uring_entry.specs.declared.operation.Outcome.{Outcome}
-use Rattle.uring_early.specs.declared.mark.Mark.{Mark}
-use Rattle.uring_early.specs.declared.mark.End.{End}
-use Rattle.uring_early.specs.declared.mark.Mark.TheVariants.{Starts, Ends, Idle}
-use Rattle.uring_early.specs.declared.running.Running.{Running}
-use Rattle.uring_early.specs.declared.takers.Taker.{Taker}
-use Rattle.uring_early.specs.Moves.{EndsBy, Goes, IsWalk, MayTake, Move, Pass, Take, Passes, Standing, at_first, awaits, look, op_of, passed, taken_by, took}
-use Rattle.uring_early.specs.Search.{AreTakers, GoesOn, IsPlaced, IsSearch, OneGoes, PassesAt, Replaces, Seat, awaits_at, left_at, passed_at, took_at}
 use Rattle.uring_early.proofs.Plain.{after_length}
 
 -- ---- lists

@@ -1,38 +1,14 @@
 -- How operations stand along a timeline: as a search has it, after each event and each effect.
 use Rattle.std.proofs.Common.{◌≡◌, ◌==◌, ◌||◌, ◌&&◌, ℕ, ℤ, Bool, true, false, not, List, [], ◌∷◌, ◌++◌, map, Option, Some, None, if◌then◌else◌, refl, sym, ap, subst, ◌∙◌, arith, inl, inr}
-use Rattle.std.specs.Option.{option_map}
-use Rattle.std.proofs.lemmas.Bool.{and_from, and_parts, both_ways, eqb-true, false_from_ne_true, cases_Bool}
+use Rattle.uring_early.proofs.Common.{Answer, CalledForApart, Change, Ends, EndsAsTaken, EndsBy, FileContents, FinishesApart, History, Idle, IsLawfulApart, IsOutcome, IsSilent, IsTimely, Makes, Mark, MayTake, Op, Outcome, Passes, Requests, Running, Setup, Standing, Starts, Step, Takes, TakesEffect, Timeline, World, after, and_from, and_parts, both_ways, cases_Bool, change_of, effect_of, effects_in, empty_files, entry_of, eqb-true, event_grows, false_from_ne_true, files_at, has_ended, has_started, is_running, look, made_in, mark_by, op_of, operation_at, operation_of, operation_running, option_map, passed, plain, refuses, requests_in, requests_of, runs, same_Some, sound_of, start_mark, taken_by, taken_of, taking, took, with_issued_end, with_taken, without, world}
 use Rattle.std.proofs.Math.Bool.{or-false, and-true, and-false}
-use Rattle.std.proofs.lemmas.Option.{same_Some}
-use Rattle.uring_entry.specs.Preparation.{operation_of}
-use Rattle.uring_entry.specs.Requests.{Requests, entry_of, has_ended, has_started, is_running, operation_running}
-use Rattle.uring_entry.specs.Setup.{Setup}
-use Rattle.uring_rules.specs.Rules.{with_issued_end}
-use Rattle.uring_entry.specs.declared.operation.Op.{Op}
-use Rattle.uring_entry.specs.declared.operation.Outcome.{Outcome}
-use Rattle.uring_files.specs.Contents.{FileContents, empty_files}
-use Rattle.uring_files.specs.Operations.{IsOutcome, after}
 use Rattle.uring_files.proofs.DoneLemmas.{left_snoc}
-use Rattle.uring_core.specs.Histories.{History, world, IsLawfulApart}
-use Rattle.uring_core.specs.declared.step.Step.{Step}
 use Rattle.uring_core.specs.declared.step.Step.TheVariants as step
-use Rattle.uring_core.specs.declared.answer.Answer.{Answer}
 use Rattle.uring_core.specs.declared.answer.Answer.TheVariants as answer
-use Rattle.uring_core.specs.StepAnswers.{CalledForApart, FinishesApart}
 use Rattle.uring_linux.specs.LinuxRequests.{LinuxRequests}
-use Rattle.uring_core.specs.World.{World, requests_of}
 use Rattle.uring_core.proofs.ListCounts.{any_kept}
 use Rattle.uring_core.proofs.Moves.{Move, starts, ends_doomed, ends_cancel, move_of}
-use Rattle.uring_core.proofs.Changes.{Change, IsSilent, change_of, refuses, runs}
-use Rattle.uring_core.proofs.Sound.{sound_of}
-use Rattle.uring_laws.proofs.Growth.{event_grows}
-use Rattle.uring_early.specs.Effects.{Makes, Takes, Timeline, made_in, requests_in, operation_at, effects_in, files_at, effect_of, TakesEffect, EndsAsTaken, IsTimely}
-use Rattle.uring_early.specs.declared.mark.Mark.{Mark}
-use Rattle.uring_early.specs.declared.mark.Mark.TheVariants.{Starts, Ends, Idle}
-use Rattle.uring_early.specs.declared.running.Running.{Running}
-use Rattle.uring_early.specs.Moves.{EndsBy, MayTake, Passes, Standing, look, op_of, passed, plain, taken_by, taken_of, taking, took, with_taken, without}
 use Rattle.uring_early.proofs.Plain.{after_plain, outcome_back}
-use Rattle.uring_early.specs.Marks.{mark_by, start_mark}
 use Rattle.uring_early.proofs.RunningAfter.{runs_after, runs_by}
 use Rattle.uring_laws.proofs.EndedRequests.{not_ended}
 

@@ -1,35 +1,13 @@
 -- A search's moves are a timeline of the history, and a timeline whose effects wait is moves of the search.
 use Rattle.std.proofs.Common.{◌≡◌, ◌==◌, ℕ, ℤ, Bool, true, false, not, is_some, List, [], ◌∷◌, ◌++◌, Option, Some, None, if◌then◌else◌, refl, sym, ap, subst, ◌∙◌, append-nil, arith}
-use Rattle.std.specs.Prelude.{reverse}
-use Rattle.std.proofs.lemmas.Bool.{eq-eqb, eqb-true}
-use Rattle.std.proofs.lemmas.List.{reverse-reverse}
-use Rattle.std.proofs.lemmas.Option.{same_Some}
-use Rattle.uring_entry.specs.Requests.{is_running, operation_running}
-use Rattle.uring_entry.specs.Setup.{Setup}
-use Rattle.uring_entry.specs.declared.operation.Op.{Op}
-use Rattle.uring_entry.specs.declared.operation.Outcome.{Outcome}
-use Rattle.uring_files.specs.Contents.{FileContents}
-use Rattle.uring_files.specs.Operations.{IsOutcome}
-use Rattle.uring_core.specs.Histories.{Event, History, history_of, IsLawfulApart}
-use Rattle.uring_core.specs.declared.step.Step.{Step}
+use Rattle.uring_early.proofs.Common.{Answer, EffectsWait, End, EndsAsTaken, EndsLast, Event, FileContents, FitsEnd, Goes, History, IsFated, IsFound, IsLawfulApart, IsLawfulEarly, IsLawfulLate, IsOutcome, IsTimely, IsWalk, Makes, Mark, MayTake, Move, Op, Outcome, Pass, Passes, Running, Setup, Standing, Step, Take, Takes, TakesEffect, Timeline, at_first, awaits, effect_of, end_in, ends_in_effect, eq-eqb, eqb-true, files_at, found_by, history_of, history_of_cons, is_end_of, is_running, made_in, mark_by, marks_after, operation_at, operation_running, passed, requests_in, reverse, reverse-reverse, same_Some, start_mark, taken_of, took}
 use Rattle.uring_core.specs.declared.step.Step.TheVariants as step
-use Rattle.uring_core.specs.declared.answer.Answer.{Answer}
 use Rattle.uring_core.specs.declared.answer.Answer.TheVariants as answer
-use Rattle.uring_core.proofs.Following.{history_of_cons}
 use Rattle.uring_core.proofs.Running.{running_asks}
-use Rattle.uring_early.specs.Effects.{Makes, Takes, Timeline, made_in, requests_in, operation_at, files_at, effect_of, TakesEffect, EndsAsTaken, IsTimely, IsLawfulEarly, is_end_of, ends_in_effect, EndsLast, EffectsWait}
-use Rattle.uring_early.specs.Laws.{IsLawfulLate}
 use Rattle.uring_early.proofs.Waiting.{early_effects_can_wait}
-use Rattle.uring_early.specs.declared.mark.End.{End}
-use Rattle.uring_early.specs.declared.mark.Mark.{Mark}
-use Rattle.uring_early.specs.declared.running.Running.{Running}
-use Rattle.uring_early.specs.Moves.{FitsEnd, Goes, IsWalk, MayTake, Move, Pass, Take, Passes, Standing, at_first, awaits, end_in, passed, taken_of, took}
 use Rattle.uring_early.proofs.Plain.{outcome_plain, plain_new}
 use Rattle.uring_early.specs.declared.search.Fate.{Fate}
 use Rattle.uring_early.specs.declared.search.Fate.TheVariants as fate
-use Rattle.uring_early.specs.Search.{IsFated}
-use Rattle.uring_early.specs.Decided.{IsFound, found_by}
-use Rattle.uring_early.specs.Marks.{mark_by, marks_after, start_mark}
 use Rattle.uring_early.proofs.Standings.{Stands, ends_so, one_of, passes_so, stands_makes, stands_takes, takes_effect}
 
 -- these events, the oldest first, after a history

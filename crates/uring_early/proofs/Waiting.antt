@@ -1,27 +1,9 @@
 -- Effects can wait: a step changes places with the effects right before it, up to that of the request that it finishes, since their requests still run after it, and those that happened last are left out.
 use Rattle.std.proofs.Common.{◌≡◌, ◌≢◌, ◌==◌, ◌++◌, ◌||◌, ◌<◌, ℕ, ℤ, Bool, true, false, List, [], ◌∷◌, length, Option, Some, if◌then◌else◌, refl, sym, ap, subst, ◌∙◌}
-use Rattle.std.proofs.lemmas.Bool.{and_from, and_parts, both_ways, eq-eqb}
-use Rattle.uring_entry.specs.Preparation.{operation_of}
-use Rattle.uring_entry.specs.Requests.{Requests, entry_of, is_running, no_bytes, chosen_by, with_cancelled, with_started}
-use Rattle.uring_rules.specs.Rules.{with_issued_end}
-use Rattle.uring_entry.specs.Setup.{Setup}
-use Rattle.uring_entry.specs.declared.operation.Op.{Op}
-use Rattle.uring_entry.specs.declared.operation.Outcome.{Outcome}
-use Rattle.uring_entry.proofs.RequestLemmas.{list_any_push, is_running_ended_other}
-use Rattle.uring_files.specs.Contents.{empty_files}
+use Rattle.uring_early.proofs.Common.{Answer, Change, EffectsWait, EndsAsTaken, History, IsLawfulApart, IsLawfulEarly, IsLawfulLate, IsOutcome, IsTimely, Makes, Op, Outcome, Requests, Setup, Step, Takes, TakesEffect, Timeline, World, and_from, and_parts, both_ways, cancels, change_of, chosen_by, closes, dooms, drops, effect_of, effects_in, empty_files, ending_of, ends_in_effect, entry_of, eq-eqb, event_grows, files_at, finishes, happens, is_end_of, is_running, is_running_ended_other, list_any_push, made_in, no_bytes, operation_at, operation_of, refuses, requests_in, runs, sound_of, takes, taking_entry_of, taking_of, with_cancelled, with_issued_end, with_started, world}
 use Rattle.uring_files.specs.Done.{Done, files_left}
-use Rattle.uring_files.specs.Operations.{IsOutcome}
-use Rattle.uring_core.specs.Histories.{History, world, IsLawfulApart}
-use Rattle.uring_core.specs.World.{World, happens, taking_of, taking_entry_of, ending_of}
-use Rattle.uring_core.specs.declared.step.Step.{Step}
 use Rattle.uring_core.specs.declared.step.Step.TheVariants as step
-use Rattle.uring_core.specs.declared.answer.Answer.{Answer}
 use Rattle.uring_core.specs.declared.answer.Answer.TheVariants as answer
-use Rattle.uring_core.proofs.Changes.{Change, refuses, takes, drops, closes, runs, dooms, cancels, finishes, change_of}
-use Rattle.uring_core.proofs.Sound.{sound_of}
-use Rattle.uring_laws.proofs.Growth.{event_grows}
-use Rattle.uring_early.specs.Effects.{Makes, Takes, Timeline, made_in, requests_in, operation_at, effects_in, files_at, effect_of, TakesEffect, EndsAsTaken, IsTimely, IsLawfulEarly, is_end_of, ends_in_effect, EffectsWait}
-use Rattle.uring_early.specs.Laws.{IsLawfulLate}
 
 -- ---- what runs goes on
 

@@ -1,15 +1,7 @@
 -- Which commands come of going on, of nothing that can go on, and of hearing.
 use Rattle.std.proofs.Common.{◌≡◌, ℤ, Bool, true, false, List, [], ◌∷◌, if◌then◌else◌, refl, sym, ap, ◌∙◌}
-use Rattle.uring_enter.specs.declared.call.asked.Asked.{Asked}
-use Rattle.uring_enter.specs.declared.call.command.Command.{Command}
+use Rattle.uring_enter.proofs.Common.{Asked, ByChoice, Command, InOrder, Lazy, LeastOver, Policy, Reply, Sight, Woken, ended, go_by, going, hearing, is_enough, least_over, leaving, looking, looks, stuck, waiting, waits}
 use Rattle.uring_enter.specs.declared.call.command.Command.TheVariants as command
-use Rattle.uring_enter.specs.declared.call.reply.Sight.{Sight}
-use Rattle.uring_enter.specs.declared.call.reply.Reply.{Reply}
-use Rattle.uring_enter.specs.declared.call.reply.Reply.TheVariants.{Woken, LeastOver}
-use Rattle.uring_enter.specs.Call.Replies.{waits, looks, is_enough}
-use Rattle.uring_enter.specs.declared.call.asked.Policy.{Policy}
-use Rattle.uring_enter.specs.declared.call.asked.Policy.TheVariants.{InOrder, Lazy, ByChoice}
-use Rattle.uring_enter.specs.Call.Due.{go_by, ended, waiting, looking, leaving, going, stuck, hearing, least_over}
 use Rattle.std.proofs.Common.{pos, ◌&&◌, not, nat_lt}
 
 pub true_is_not_false : true ≡ false → ⊥

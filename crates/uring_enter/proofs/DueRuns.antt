@@ -1,7 +1,6 @@
 -- What is kept of the requests that are due holds each of them.
 use Rattle.std.proofs.Common.{◌≡◌, ℕ, ◌-◌, ◌≤◌, ◌<◌, Bool, true, false, not, ◌&&◌, ◌||◌, ◌==◌, nat_le, nat_lt, List, [], ◌∷◌, ◌++◌, Some, None, refl, sym, subst, ◌∙◌, inl, inr, arith, if◌then◌else◌}
-use Rattle.std.specs.Prelude.{min, max}
-use Rattle.std.proofs.lemmas.Bool.{false≢true, true≢false, and_parts, ltb-true, ltb-false, leb-true, leb-false, eqb-true, lt-ltb, le-ltb, le-leb, eq-eqb, cases_Bool}
+use Rattle.uring_enter.proofs.Common.{and_parts, cases_Bool, eq-eqb, eqb-true, false≢true, le-leb, le-ltb, leb-false, leb-true, lt-ltb, ltb-false, ltb-true, max, min, true≢false}
 use Rattle.uring_enter.specs.declared.going_on.due.Due.{Due}
 use Rattle.uring_enter.specs.GoingOn.Due.{Happening, Noted, FoundBefore, KeepsDue, joined, cut, is_due, may_be_up_to, notes_up_to, IsIn, LooksAtEachDue, LooksAtNoneAgain, LooksBefore}
 

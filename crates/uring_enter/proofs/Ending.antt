@@ -1,17 +1,8 @@
 -- Why a call that waits ends.
 use Rattle.std.proofs.Common.{◌≡◌, ℕ, ℤ, Bool, true, false, List, [], ◌∷◌, if◌then◌else◌, refl, sym, ap, ◌∙◌}
-use Rattle.std.proofs.lemmas.Bool.{and_parts}
-use Rattle.uring_enter.specs.declared.call.asked.Asked.{Asked}
-use Rattle.uring_enter.specs.declared.call.asked.Policy.{Policy}
-use Rattle.uring_enter.specs.declared.call.asked.Policy.TheVariants.{InOrder, Lazy, ByChoice}
-use Rattle.uring_enter.specs.declared.call.command.Command.{Command}
+use Rattle.uring_enter.proofs.Common.{Asked, ByChoice, Chosen, Command, Endless, EndsForAReason, Failed, Heard, InOrder, Interrupted, Lazy, LeastOver, NotTaken, Policy, Reply, Sight, Stuck, Taken, TimedOut, WentOn, Woken, WrongHead, and_parts, due, ended, go_by, going, is_enough, is_reply_to, saw_enough, stuck, waits}
+use Rattle.uring_enter.specs.declared.call.reply.Reply.TheVariants.{Passed}
 use Rattle.uring_enter.specs.declared.call.command.Command.TheVariants as command
-use Rattle.uring_enter.specs.declared.call.reply.Sight.{Sight}
-use Rattle.uring_enter.specs.declared.call.reply.Reply.{Reply}
-use Rattle.uring_enter.specs.declared.call.reply.Reply.TheVariants.{Heard, WrongHead, Taken, NotTaken, WentOn, Chosen, Stuck, Woken, TimedOut, Interrupted, Endless, Failed, Passed, LeastOver}
-use Rattle.uring_enter.specs.Call.Replies.{waits, is_enough}
-use Rattle.uring_enter.specs.Call.Due.{due, is_reply_to, go_by, ended, going, stuck}
-use Rattle.uring_enter.specs.Call.Laws.{saw_enough, EndsForAReason}
 use Rattle.uring_enter.proofs.Commands.{if_false, going_else, stuck_else, hearing_else, least_over_else, going_waiting, stuck_waiting}
 use Rattle.uring_enter.proofs.Running.{against, passing_is_else}
 

@@ -1,13 +1,10 @@
 -- The laws of joining: of each descriptor one row is left, in their order, which asks all that was asked of it.
 use Rattle.std.proofs.Common.{refl, Bool, true, false, ◌&&◌, ◌||◌, ◌==◌, max, ◌≡◌, ◌≢◌, ◌<◌, ◌≤◌, ◌+◌, ◌-◌, length, take, get_or, set, ℕ, ⊎_elim, arith, List, get_or-set_other, get_or-set_same}
-use Rattle.std.proofs.lemmas.List.{get_or-take, length-take-le, length-set, take_more_set}
+use Rattle.uring_enter.proofs.Common.{PollRow, bit_at, cases_eq, cases_lt, get_or-take, length-set, length-take-le, take_more_set}
 use Rattle.std.proofs.lemmas.List.Quantifiers.{all_pairs_push}
-use Rattle.std.proofs.lemmas.Bool.{cases_eq, cases_lt}
-use Rattle.std.specs.Int.{bit_at}
 use Rattle.std.specs.Int.RustNames.{bit_or}
 use Rattle.std.proofs.lemmas.Nat.Bits.{bit_at_or, bit_at-lt}
 use Rattle.std.proofs.lemmas.Bool.Decides.{nat_tests}
-use Rattle.uring_enter.specs.declared.waiting.joining.PollRow.{PollRow}
 use Rattle.uring_enter.specs.Waiting.Joining as spec
 
 -- a row of the same descriptor in the place of another keeps the descriptor of each place

@@ -1,4 +1,5 @@
 -- In the order in which they are best read.
+mod Common
 -- A call of io_uring_enter(2): what it takes, what comes next, what it returns:
 mod Next
 mod Commands

@@ -1,13 +1,8 @@
 -- What comes next, after some replies.
 use Rattle.std.proofs.Common.{◌≡◌, ℕ, pos, Bool, true, false, List, [], ◌∷◌, refl}
-use Rattle.uring_enter.specs.declared.call.asked.Asked.{Asked}
+use Rattle.uring_enter.proofs.Common.{Asked, LeastOver, NotTaken, Reply, Sight, Taken, Woken, due, ended, going, hearing, is_enough, least_over}
 use Rattle.uring_enter.specs.declared.call.command.Command.TheVariants as command
 use Rattle.uring_enter.specs.declared.call.enter.Before.TheVariants.{Other}
-use Rattle.uring_enter.specs.declared.call.reply.Sight.{Sight}
-use Rattle.uring_enter.specs.declared.call.reply.Reply.{Reply}
-use Rattle.uring_enter.specs.declared.call.reply.Reply.TheVariants.{Woken, Taken, NotTaken, LeastOver}
-use Rattle.uring_enter.specs.Call.Replies.{is_enough}
-use Rattle.uring_enter.specs.Call.Due.{hearing, ended, least_over, due, going}
 use Rattle.uring_enter.specs.Call.After.{before_of}
 
 -- the application was heard after anything but a sleep

@@ -1,9 +1,8 @@
 -- The laws of completions that were posted.
 use Rattle.std.proofs.Common.{◌≡◌, ◌+◌, ◌-◌, ◌≤◌, true, ◌==◌, length, drop, Some, None, List, [], ◌∷◌, ◌++◌, refl, sym, ap, ◌∙◌, arith}
 use Rattle.std.specs.Ordering.{int_eq}
-use Rattle.std.proofs.lemmas.Bool.{and_parts}
+use Rattle.uring_enter.proofs.Common.{and_parts, drop-append-le, drop-drop, drop-map, length-append, length-drop, map-append}
 use Rattle.std.proofs.lemmas.Bool.Decides.{Decides-eqb, Decides-int_eq}
-use Rattle.std.proofs.lemmas.List.{map-append, length-append, length-drop, drop-map, drop-drop, drop-append-le}
 use Rattle.uring_enter.specs.declared.completions.posted.Posted.{Posted}
 use Rattle.uring_enter.specs.declared.completions.posted.Completion.{Completion}
 use Rattle.uring_enter.specs.Completions.Postings.{Posting, Ended, Reaped, is_of, unreaped}

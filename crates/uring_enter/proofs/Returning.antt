@@ -1,17 +1,8 @@
 -- What a call returns, and what it leaves where it may leave nothing.
 use Rattle.std.proofs.Common.{◌≡◌, ℤ, pos, Bool, true, false, ◌&&◌, ◌||◌, not, nat_lt, List, [], ◌∷◌, if◌then◌else◌, refl, sym, ap}
-use Rattle.std.proofs.lemmas.Bool.{and_parts}
-use Rattle.uring_enter.specs.declared.call.asked.Asked.{Asked}
-use Rattle.uring_enter.specs.declared.call.asked.Policy.{Policy}
-use Rattle.uring_enter.specs.declared.call.asked.Policy.TheVariants.{InOrder, Lazy, ByChoice}
-use Rattle.uring_enter.specs.declared.call.command.Command.{Command}
+use Rattle.uring_enter.proofs.Common.{Asked, ByChoice, Chosen, Command, Endless, Failed, Heard, InOrder, Interrupted, IsInVain, Lazy, LeastOver, LeavesNothing, NotTaken, Policy, Reply, ReturnsWhatWasSubmitted, Sight, Stuck, Taken, TimedOut, WentOn, Woken, WrongHead, and_parts, due, ended, go_by, going, is_enough, is_lazy, is_none, is_reply_to, is_run, is_stuck, leaving, looking, looks, returned, stuck, submission, unless_ready, waiting, waits}
+use Rattle.uring_enter.specs.declared.call.reply.Reply.TheVariants.{Passed}
 use Rattle.uring_enter.specs.declared.call.command.Command.TheVariants as command
-use Rattle.uring_enter.specs.declared.call.reply.Sight.{Sight}
-use Rattle.uring_enter.specs.declared.call.reply.Reply.{Reply}
-use Rattle.uring_enter.specs.declared.call.reply.Reply.TheVariants.{Heard, WrongHead, Taken, NotTaken, WentOn, Chosen, Stuck, Woken, TimedOut, Interrupted, Endless, Failed, Passed, LeastOver}
-use Rattle.uring_enter.specs.Call.Replies.{submission, is_none, waits, looks, is_enough}
-use Rattle.uring_enter.specs.Call.Due.{due, is_reply_to, is_lazy, go_by, returned, ended, unless_ready, waiting, looking, leaving, going, stuck}
-use Rattle.uring_enter.specs.Call.Laws.{is_run, IsInVain, ReturnsWhatWasSubmitted, LeavesNothing, is_stuck}
 use Rattle.uring_enter.proofs.Commands.{if_false, going_else, stuck_else, hearing_else, least_over_else}
 use Rattle.uring_enter.proofs.Running.{against, hearing_is_else, passing_is_else, sleeps_in_vain}
 

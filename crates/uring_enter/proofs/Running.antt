@@ -1,15 +1,8 @@
 -- The laws of a run.
 use Rattle.std.proofs.Common.{◌≡◌, ℤ, pos, Bool, true, false, List, [], ◌∷◌, if◌then◌else◌, refl, sym, ap, ◌∙◌}
-use Rattle.std.proofs.lemmas.Bool.{and_parts}
-use Rattle.uring_enter.specs.declared.call.asked.Asked.{Asked}
-use Rattle.uring_enter.specs.declared.call.command.Command.{Command}
+use Rattle.uring_enter.proofs.Common.{Asked, Chosen, Command, Endless, Failed, GivesUpInVain, Heard, Interrupted, IsInVain, LeastOver, NotTaken, Reply, Sight, SleepsInVain, Stuck, SubmitsOnce, Taken, TimedOut, WentOn, Woken, WrongHead, and_parts, due, ended, is_enough, is_reply_to}
+use Rattle.uring_enter.specs.declared.call.reply.Reply.TheVariants.{Passed}
 use Rattle.uring_enter.specs.declared.call.command.Command.TheVariants as command
-use Rattle.uring_enter.specs.declared.call.reply.Sight.{Sight}
-use Rattle.uring_enter.specs.declared.call.reply.Reply.{Reply}
-use Rattle.uring_enter.specs.declared.call.reply.Reply.TheVariants.{Heard, WrongHead, Taken, NotTaken, WentOn, Chosen, Stuck, Woken, TimedOut, Interrupted, Endless, Failed, Passed, LeastOver}
-use Rattle.uring_enter.specs.Call.Replies.{is_enough}
-use Rattle.uring_enter.specs.Call.Due.{due, is_reply_to, ended}
-use Rattle.uring_enter.specs.Call.Laws.{IsInVain, SleepsInVain, GivesUpInVain, SubmitsOnce}
 use Rattle.uring_enter.proofs.Commands.{true_is_not_false, if_false, IsElse, going_else, stuck_else, stuck_unless_waiting, hearing_else, least_over_else}
 
 -- what can't be

@@ -1,11 +1,7 @@
 -- A call sleeps only with signals blocked, and nothing but the read of a file is done with signals open.
 use Rattle.std.proofs.Common.{◌≡◌, Bool, true, false, not, ◌&&◌, ◌||◌, nat_lt, List, [], ◌∷◌, refl}
-use Rattle.std.proofs.lemmas.Bool.{false≢true, true≢false}
-use Rattle.uring_enter.specs.declared.call.asked.Asked.{Asked}
-use Rattle.uring_enter.specs.declared.call.reply.Reply.{Reply}
-use Rattle.uring_enter.specs.declared.call.reply.Reply.TheVariants.{Heard, WrongHead, Taken, NotTaken, WentOn, Chosen, Stuck, Woken, TimedOut, Interrupted, Endless, Failed, Passed, LeastOver}
-use Rattle.uring_enter.specs.Call.Replies.{has_taken_all}
-use Rattle.uring_enter.specs.Call.Laws.{IsInVain}
+use Rattle.uring_enter.proofs.Common.{Asked, Chosen, Endless, Failed, Heard, Interrupted, IsInVain, LeastOver, NotTaken, Reply, Stuck, Taken, TimedOut, WentOn, Woken, WrongHead, false≢true, has_taken_all, true≢false}
+use Rattle.uring_enter.specs.declared.call.reply.Reply.TheVariants.{Passed}
 use Rattle.uring_enter.specs.declared.call.signals.Doing.TheVariants.{Looks, LooksUp, AsksNotToWait, CarriesOut}
 use Rattle.uring_enter.specs.Call.Signals.{blocks_at_begin, SleepsBlocked, ReadsFilesOpen}
 use Rattle.uring_enter.proofs.Running.{sleeps_in_vain}

@@ -1,9 +1,8 @@
 -- The laws of what a call takes.
 use Rattle.std.proofs.Common.{◌≡◌, ℕ, ◌+◌, ◌-◌, ◌%◌, ◌^◌, ◌<◌, ◌≤◌, Bool, true, false, not, ◌&&◌, ◌||◌, nat_lt, List, [], ◌∷◌, ◌++◌, length, refl, sym, ap, subst, ◌∙◌, arith, if◌then◌else◌}
 use Rattle.std.specs.Int.RustNames.{bit_and}
-use Rattle.std.proofs.lemmas.Bool.{false≢true, ltb-true}
+use Rattle.uring_enter.proofs.Common.{false≢true, length-append, ltb-true}
 use Rattle.std.proofs.lemmas.Nat.{and_mask}
-use Rattle.std.proofs.lemmas.List.{length-append}
 use Rattle.uring_enter.proofs.ShowingRuns.{same_remainder, cell_of_position}
 use Rattle.uring_enter.specs.declared.taking_up.taking.Submitting.{Submitting}
 use Rattle.uring_enter.specs.declared.taking_up.taking.Item.{Item}

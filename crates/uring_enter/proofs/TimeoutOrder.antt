@@ -1,11 +1,6 @@
 -- Who ends first.
 use Rattle.std.proofs.Common.{◌≡◌, ℕ, Bool, true, false, List, [], ◌∷◌, ◌++◌, ◌+◌, ◌<◌, ◌≤◌, ◌⊎◌, length, get_or, take, Option, Some, None, ltb, eqb, ◌&&◌, if◌then◌else◌, inl, inr, refl, sym, ap, subst, ◌∙◌, arith}
-use Rattle.std.proofs.lemmas.Bool.{or_parts, or_cases, or_from, and_parts, and_cases, and_left, and_right, ltb-true, ltb-false, le-ltb, eqb-true, eqb-false, ne_eqb, cases_order}
-use Rattle.std.proofs.lemmas.List.{take_more}
-use Rattle.std.proofs.lemmas.List.Elements.{Contains-append_left, Contains-push, Contains-push_cases}
-use Rattle.uring_operations.specs.declared.entries.timeout.Timeout.{Timeout}
-use Rattle.uring_operations.specs.Entries.Timeouts.{ends_before, IsNext, IsNextOf}
-use Rattle.uring_enter.specs.Time.Kept.{nearer}
+use Rattle.uring_enter.proofs.Common.{Contains-append_left, Contains-push, Contains-push_cases, IsNext, IsNextOf, Timeout, and_cases, and_left, and_parts, and_right, cases_order, ends_before, eqb-false, eqb-true, le-ltb, ltb-false, ltb-true, ne_eqb, nearer, or_cases, or_from, or_parts, take_more}
 
 -- what it says of two that one doesn't end before the other
 not_before : (x y : Timeout) → ends_before x y ≡ false

@@ -1,12 +1,7 @@
 -- Rows of timeouts.
 use Rattle.std.proofs.Common.{◌≡◌, ℕ, ◌+◌, ◌-◌, ◌<◌, ◌≤◌, true, false, List, [], ◌∷◌, ◌++◌, length, get_or, take, drop, inl, inr, sym, ap, subst, ◌∙◌, arith}
-use Rattle.std.specs.Prelude.{Contains}
-use Rattle.std.proofs.lemmas.Bool.{eq-eqb, ne_eqb, not_from_true, not_from_false}
-use Rattle.std.proofs.lemmas.List.{take_more, append_assoc}
+use Rattle.uring_enter.proofs.Common.{Contains, Contains-push_cases, HasNone, IsFirstReached, NoneIsReached, Timeout, append_assoc, eq-eqb, is_other, is_reached_by, ne_eqb, not_from_false, not_from_true, take_more}
 use Rattle.std.proofs.Math.Seq.{take-add}
-use Rattle.std.proofs.lemmas.List.Elements.{Contains-push_cases}
-use Rattle.uring_operations.specs.declared.entries.timeout.Timeout.{Timeout}
-use Rattle.uring_operations.specs.Entries.Timeouts.{is_other, is_reached_by, HasNone, NoneIsReached, IsFirstReached}
 
 pub none_more : (rows : List Timeout) (i : ℕ) (d : Timeout) (number : ℕ) → i < length rows
     → HasNone number (take i rows) → ((get_or rows i d).number ≡ number → ⊥) → HasNone number (take (i + 1) rows)

@@ -1,13 +1,7 @@
 -- The laws of timeouts.
 use Rattle.std.proofs.Common.{◌≡◌, ℕ, ◌≤◌, ◌<◌, ◌-◌, ◌^◌, max, ℤ, pos, Bool, true, false, ◌&&◌, eqb, ltb, cond, length, get_or, List, [], ◌∷◌, ◌++◌, ◌⊎◌, inl, inr, Some, None, map, filter, refl, sym, ap, subst, arith, ◌∙◌, if◌then◌else◌}
-use Rattle.std.specs.Prelude.{Contains, All, IsSome}
-use Rattle.std.proofs.lemmas.Bool.{eqb-true, eqb-false, ltb-false, leb-true, or_parts, not-true, not_from_false, ne_eqb, false≢true}
-use Rattle.std.proofs.lemmas.List.{length-map, get_or-map}
-use Rattle.std.proofs.lemmas.List.Elements.{All-contains, All-filter, All-push, All-map, All-weaker, All-nil, All-cons, All-contains_itself, filter_passes, Contains-get_or, Contains-push_cases, Contains-append_right}
+use Rattle.uring_enter.proofs.Common.{All, All-cons, All-contains, All-contains_itself, All-filter, All-map, All-nil, All-push, All-weaker, AreApart, Changed, Clock, Contains, Contains-append_right, Contains-get_or, Contains-push_cases, Ended, Event, IsSome, Passed, Posted, Slept, Started, Stopped, Timeout, ends_before, eqb-false, eqb-true, false≢true, filter_passes, get_or-map, has_counted, is_other, is_over, later, leb-true, length-map, ltb-false, ne_eqb, not-true, not_from_false, or_parts, running, started, time, with_expiry}
 use Rattle.uring_operations.specs.declared.entries.timeout.Start.{Start}
-use Rattle.uring_operations.specs.declared.entries.timeout.Timeout.{Timeout}
-use Rattle.uring_operations.specs.Entries.Timeouts.{Event, later, time, started, running, is_other, with_expiry, ends_before, has_counted, is_over, AreApart}
-use Rattle.uring_operations.specs.Entries.Timeouts.{Started, Posted, Changed, Stopped, Clock, Slept, Passed, Ended}
 use Rattle.uring_entry.specs.Errors.{error}
 use Rattle.uring_enter.specs.Time.TimeLaws.{IsRun, NeverGoesBack, WasGiven, EndsInTime, starts, EndsOnce, EndsAlone, RunsApart, is_virtual, PassesNoneOver}
 

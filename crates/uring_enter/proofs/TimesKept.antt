@@ -1,14 +1,9 @@
 -- What is kept of the timeouts of a ring, and what is told of it.
 use Rattle.std.proofs.Common.{◌≡◌, ℕ, ◌≤◌, ◌<◌, ◌+◌, min, ℤ, Bool, true, false, ◌&&◌, eqb, ltb, leb, length, take, set, zero, suc, List, [], ◌∷◌, ◌++◌, inl, inr, Option, Some, None, map, filter, refl, sym, ap, subst, arith, ◌∙◌, if◌then◌else◌}
-use Rattle.std.specs.Prelude.{Contains, MatchOption, is_some}
-use Rattle.std.proofs.lemmas.Bool.{ltb-false, leb-true, leb-false, lt-ltb, or_parts, false≢true, cases_order}
-use Rattle.std.proofs.lemmas.List.{take_more_set}
-use Rattle.uring_operations.specs.declared.entries.timeout.Timeout.{Timeout}
+use Rattle.uring_enter.proofs.Common.{AreApart, Changed, Contains, EndsNone, Event, HasCounted, HasNone, IsDueOf, IsEarliest, IsNext, IsNextOf, IsRow, MatchOption, NoneIsOver, Timeout, cases_order, counted_found, due_of, earliest_of, ends_before, false≢true, has_counted, is_other, is_over, is_some, later, leb-false, leb-true, lt-ltb, ltb-false, or_parts, outcome, outcome_at, posted, running, take_more_set, time, with_expiry}
 use Rattle.uring_enter.specs.declared.call.wait.WakeSources.{WakeSources}
 use Rattle.uring_enter.specs.declared.call.wait.Woken.{Woken}
 use Rattle.uring_enter.specs.declared.call.wait.Woken.TheVariants.{TimedOut, Other}
-use Rattle.uring_operations.specs.Entries.Timeouts.{Event, Changed, later, time, posted, running, is_other, with_expiry, ends_before, IsNext, IsNextOf, is_over, outcome, has_counted, NoneIsOver, IsDueOf, IsEarliest, HasNone, IsRow, EndsNone, AreApart}
-use Rattle.uring_enter.specs.Time.Kept.{HasCounted, counted_found, due_of, earliest_of, outcome_at}
 use Rattle.uring_enter.specs.Call.Waits.{has_any, IsWoken, IsPassing, IsPassingBy, woken_of, passing_of}
 
 -- none is among none

@@ -1,8 +1,7 @@
 -- What is kept of a request that runs says what has happened to it.
 use Rattle.std.proofs.Common.{◌≡◌, ◌≤◌, true, false, not, ◌==◌, List, [], ◌∷◌, refl, arith}
-use Rattle.std.proofs.lemmas.Bool.{eq-eqb, and_parts, not-true, false≢true, true≢false}
+use Rattle.uring_enter.proofs.Common.{Around, Encounter, FoundWaiting, HeardWrite, MissedWrite, RingKnows, Took, WasCancelled, WasSeen, WasUpdated, WouldWait, and_parts, around, eq-eqb, false≢true, found_in, has_to_wait, is_known, is_seen, not-true, seen_in, true≢false, waited_in}
 use Rattle.uring_enter.specs.Waiting.Lookouts.{Happening, Found, Started, Left, Touched, Updated, Waited, Moved, Told, Heard, Opened, Ended, Changed, Woke, have_to_wait, lets_go, makes_ready, moments, releases, renews, rounds}
-use Rattle.uring_enter.specs.Waiting.Waiters.{Encounter, Around, FoundWaiting, WouldWait, WasCancelled, WasUpdated, WasSeen, HeardWrite, MissedWrite, Took, around, found_in, waited_in, seen_in, is_known, has_to_wait, is_seen, RingKnows}
 use Rattle.uring_enter.proofs.Counts.{grows, stays, apart, never}
 
 rounds_begin : (log : List Happening) → 1 ≤ rounds log

@@ -1,10 +1,8 @@
 -- Searches below a bound: what an answer tells, and what gives it.
 use Rattle.std.proofs.Common.{◌≡◌, ℕ, zero, suc, ◌<◌, ◌≤◌, Bool, true, false, ◌||◌, ◌==◌, [], ◌∷◌, ◌++◌, cond, Option, Some, None, is_some, refl, sym, ◌∙◌, ap, arith, inl, inr}
-use Rattle.std.specs.List.{list_any}
-use Rattle.std.proofs.lemmas.Bool.{cases_lt, cases_Bool, or_cases, or_from, or_left, or_right, both_ways, eqb-true, eq-eqb, false_from_ne_true}
+use Rattle.uring_entry.proofs.Common.{all_below, both_ways, cases_Bool, cases_lt, eq-eqb, eqb-true, false_from_ne_true, found_or, least_below, list_any, or_cases, or_from, or_left, or_right, some_below}
 use Rattle.std.proofs.lemmas.List.Folds.{list_any-append}
 use Rattle.std.proofs.lemmas.Option.{same_Some, none-some}
-use Rattle.uring_entry.specs.Below.{some_below, least_below, all_below, found_or}
 
 pub some_below_none : (p : ℕ → Bool) (n : ℕ) → ((k : ℕ) → k < n → p k ≡ false)
     → some_below p n ≡ false

@@ -1,10 +1,8 @@
 -- The words of a completion.
 use Rattle.std.proofs.Common.{◌≡◌, ◌↔◌, ℕ, ◌%◌, ◌^◌, ◌<◌, ◌∙◌, sym, ap, refl, subst, arith, List, [], ◌∷◌, ◌++◌, length}
 use Rattle.std.proofs.lemmas.Nat.{from_le_bytes-to_le_bytes_8}
-use Rattle.std.proofs.lemmas.List.{append_cancel_left, append-nil}
+use Rattle.uring_entry.proofs.Common.{AreWords, Cqe, HasWords, append-nil, append_cancel_left, bytes_of, cast_signed, cast_unsigned, completion_of, from_le_bytes, to_le_bytes, w32, w64, without_flags}
 use Rattle.std.proofs.lemmas.Int.{of_z-to_z}
-use Rattle.std.specs.Int.{w32, w64, cast_signed, cast_unsigned, to_le_bytes, from_le_bytes}
-use Rattle.uring_entry.specs.Layout.{Cqe, AreWords, bytes_of, HasWords, completion_of, without_flags}
 
 first_eight : (x y : ℕ) (r s : List ℕ) → to_le_bytes w64 x ++ r ≡ to_le_bytes w64 y ++ s
     → to_le_bytes w64 x ≡ to_le_bytes w64 y

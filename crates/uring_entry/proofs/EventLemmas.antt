@@ -1,9 +1,6 @@
 -- What each event leaves as it was, and who it dooms.
 use Rattle.std.proofs.Common.{◌≡◌, ℕ, ◌+◌, ◌<◌, ◌⊎◌, ℤ, List, length, true, not, ◌&&◌, ◌||◌, ◌==◌, Some, refl, ap, arith, inl, inr}
-use Rattle.std.specs.List.{list_any}
-use Rattle.std.proofs.lemmas.Bool.{and_parts, and_from, or_cases}
-use Rattle.uring_entry.specs.Layout.{Sqe}
-use Rattle.uring_entry.specs.Requests.{Requests, entry_of, has_failed, is_last, is_linked, is_soft, is_joined, some_member, is_in_faulty_group, is_draining, is_after_failure, is_cancelled, is_doomed, is_candidate, target_of, with_accepted, with_started, with_ended}
+use Rattle.uring_entry.proofs.Common.{Requests, Sqe, and_from, and_parts, entry_of, has_failed, is_after_failure, is_cancelled, is_candidate, is_doomed, is_draining, is_in_faulty_group, is_joined, is_last, is_linked, is_soft, list_any, or_cases, some_member, target_of, with_accepted, with_ended, with_started}
 use Rattle.uring_entry.proofs.BelowLemmas.{some_below_some, some_below_in, least_below_tells, IsLeast}
 use Rattle.uring_entry.proofs.RequestLemmas.{entry_of_accepted_other}
 

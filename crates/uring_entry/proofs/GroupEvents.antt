@@ -1,12 +1,7 @@
 -- What each event makes of what is known of a group.
 use Rattle.std.proofs.Common.{◌≡◌, ◌≢◌, ℕ, suc, ◌+◌, ◌<◌, ◌≤◌, ℤ, List, [], ◌∷◌, length, length-append, Bool, true, false, not, ◌&&◌, ◌||◌, ◌==◌, leb, Option, Some, None, refl, sym, ◌∙◌, ap, arith, inl, inr, add-one}
-use Rattle.std.specs.Prelude.{if◌then◌else◌}
-use Rattle.std.proofs.lemmas.Bool.{cases_lt, cases_eq, cases_Bool, and_left, and_right, and_from, or_right, both_ways, le-leb, lt-leb, lt-ltb, le-ltb, eq-eqb, ne_eqb}
-use Rattle.uring_entry.specs.Layout.{Sqe}
-use Rattle.uring_entry.specs.Below.{least_below, found_or}
-use Rattle.uring_entry.specs.Requests.{Requests, entry_of, has_ended, has_failed, is_last, is_linked, is_soft, with_accepted, with_cut, with_ended}
+use Rattle.uring_entry.proofs.Common.{IsGroup, Requests, Sqe, and_from, and_left, and_right, both_ways, cases_Bool, cases_eq, cases_lt, earlier_of, entry_of, eq-eqb, first_broken, first_member, found_or, has_ended, has_failed, if◌then◌else◌, is_last, is_linked, is_soft, le-leb, le-ltb, least_below, lt-leb, lt-ltb, ne_eqb, or_right, with_accepted, with_cut, with_ended}
 use Rattle.uring_entry.specs.Success.{is_success}
-use Rattle.uring_entry.specs.Groups.{IsGroup, first_member, first_broken, earlier_of}
 use Rattle.uring_entry.proofs.BelowLemmas.{least_below_none, least_below_some, least_below_same, least_below_out, least_below_tells}
 use Rattle.uring_entry.proofs.RequestLemmas.{entry_of_accepted_at, entry_of_accepted_other, has_failed_accepted, has_failed_unended, has_failed_same, has_failed_other, added_other, added_same}
 use Rattle.uring_entry.proofs.EventLemmas.{is_last_accepted}

@@ -1,12 +1,6 @@
 -- What is doomed, drains and is ready, from what is known of its group: no more is needed of the members that have ended.
 use Rattle.std.proofs.Common.{◌≡◌, ℕ, zero, suc, ◌<◌, ◌≤◌, min, max, length, Bool, true, false, not, ◌&&◌, ◌||◌, leb, ltb, Option, Some, None, is_some, refl, sym, ◌∙◌, ap, arith, inl, inr}
-use Rattle.std.proofs.lemmas.Bool.{cases_lt, cases_Bool, and_left, and_right, and_from, and_parts, or_from, or_left, or_right, both_ways, le-leb, lt-leb, lt-ltb, le-ltb, leb-true}
-use Rattle.std.proofs.Math.Bool.{and-true, and_assoc}
-use Rattle.uring_entry.specs.Layout.{Sqe}
-use Rattle.uring_entry.specs.Below.{some_below, least_below}
-use Rattle.uring_entry.specs.Requests.{Requests, entry_of, has_ended, has_failed, is_soft, is_drain, is_joined, is_in_group, some_member, is_in_faulty_group, is_draining, is_after_failure, is_cancelled, is_doomed, is_ready, holds_back}
-use Rattle.uring_entry.specs.Preparation.{is_faulty}
-use Rattle.uring_entry.specs.Groups.{IsGroup, first_member, is_before, first_fault, first_drain, first_broken}
+use Rattle.uring_entry.proofs.Common.{IsGroup, Requests, Sqe, and-true, and_assoc, and_from, and_left, and_parts, and_right, both_ways, cases_Bool, cases_lt, entry_of, first_broken, first_drain, first_fault, first_member, has_ended, has_failed, holds_back, is_after_failure, is_before, is_cancelled, is_doomed, is_drain, is_draining, is_faulty, is_in_faulty_group, is_in_group, is_joined, is_ready, is_soft, le-leb, le-ltb, least_below, leb-true, lt-leb, lt-ltb, or_from, or_left, or_right, some_below, some_member}
 use Rattle.uring_entry.proofs.BelowLemmas.{some_below_none, some_below_some, some_below_same, some_below_between, least_below_out, least_below_tells, is_some_least_below}
 use Rattle.uring_entry.proofs.RequestLemmas.{is_joined_yes, is_joined_no, is_ready_yes, is_ready_no}
 

@@ -1,4 +1,5 @@
 -- In the order in which they are best read.
+mod Common
 -- Words and bytes of entries and completions, and set-ups:
 pub mod Payloads
 pub mod CompletionWords

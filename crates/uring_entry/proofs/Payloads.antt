@@ -1,9 +1,7 @@
 -- The 64 bytes of data and the eight words that hold them.
 use Rattle.std.proofs.Common.{◌≡◌, ℕ, zero, suc, ◌+◌, ◌*◌, ◌^◌, ◌<◌, ◌∙◌, sym, ap, subst, List, [], ◌∷◌, ◌++◌, length, take, drop, set, take-add, arith}
 use Rattle.std.proofs.lemmas.Grind.{common_steps, flat_map-append}
-use Rattle.std.proofs.lemmas.List.{take_more_set}
-use Rattle.std.specs.Int.{w64, to_le_bytes}
-use Rattle.uring_entry.specs.Layout.{bytes_of, AreWords}
+use Rattle.uring_entry.proofs.Common.{AreWords, bytes_of, take_more_set, to_le_bytes, w64}
 
 -- eight words and 64 bytes are all of both
 pub all_taken : (i : ℕ) (bytes words : List ℕ) → i ≡ 8 → length bytes ≡ 64 → length words ≡ 8

@@ -1,10 +1,9 @@
 -- Powers of two, and sizes rounded up to them.
 use Rattle.std.proofs.Common.{◌≡◌, ℕ, suc, ◌*◌, ◌/◌, ◌^◌, ◌<◌, ◌≤◌, max, ◌⊎◌, inl, inr, arith}
-use Rattle.std.proofs.lemmas.Bool.{cases_lt}
+use Rattle.uring_entry.proofs.Common.{IsNextPowerOfTwo, IsPowerOfTwo, cases_lt}
 use Rattle.std.proofs.lemmas.Nat.{pow_pos}
 use Rattle.std.proofs.Math.Pow.{pow_mono}
 use Rattle.std.proofs.Math.Nat.{pow-suc}
-use Rattle.std.specs.Int.{IsPowerOfTwo, IsNextPowerOfTwo}
 
 -- a lower power is at most half of a higher one
 half_power : (a b : ℕ) → a < b → 2 * 2 ^ a ≤ 2 ^ b

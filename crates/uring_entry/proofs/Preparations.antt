@@ -1,9 +1,7 @@
 -- What an entry asks for, by its opcode, for the crates above that know cancels alone.
 -- Stable: other crates may import `asks_cancel` and `cancel_asked`.
 use Rattle.std.proofs.Common.{◌≡◌, ℕ, Bool, true, ◌==◌, ap, arith}
-use Rattle.std.proofs.lemmas.Bool.{eqb-true}
-use Rattle.uring_entry.specs.Layout.{Sqe, opcode_of, addr_of}
-use Rattle.uring_entry.specs.Preparation.{is_cancel, is_cancel_all, operation_named, operation_of}
+use Rattle.uring_entry.proofs.Common.{Sqe, addr_of, eqb-true, is_cancel, is_cancel_all, opcode_of, operation_named, operation_of}
 use Rattle.uring_entry.specs.declared.operation.Op.TheVariants.{Cancel}
 use Rattle.uring_entry.specs.declared.operation.opcode.TheConstants.{ASYNC_CANCEL}
 

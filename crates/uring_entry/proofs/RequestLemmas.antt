@@ -1,19 +1,12 @@
 -- What the definitions on requests mean, and what each event changes in them.
 use Rattle.std.proofs.Common.{◌≡◌, ℕ, ◌<◌, ◌≤◌, min, max, ℤ, pos, negsuc, List, [], ◌∷◌, ◌++◌, length, get_or, Bool, true, false, not, ◌&&◌, ◌||◌, leb, Some, None, length-append, ◌==◌, ◌≢◌, refl, sym, ◌∙◌, ap, arith, inl, inr}
-use Rattle.std.specs.List.{list_any}
+use Rattle.uring_entry.proofs.Common.{Requests, Sqe, and_cases, and_from, and_left, and_right, both_ways, cases_Bool, cases_eq, cases_lt, entry_of, eq-eqb, eqb-true, get_or_past, has_ended, has_failed, has_started, holds_back, if◌then◌else◌, int_le, is_after_failure, is_cancel, is_cancel_all, is_cancelled, is_candidate, is_doomed, is_faulty, is_in_faulty_group, is_in_group, is_issuable, is_joined, is_last, is_outstanding, is_ready, is_running, is_target, is_transfer, le-leb, least_of, len_of, list_any, lt-leb, lt-ltb, ne_eqb, not-false, opcode_of, or-false, or_from, or_left, or_parts, or_right, some_member, target_of, targets_of, with_accepted, with_ended, with_started, zero_entry}
 use Rattle.std.specs.Ordering.{int_eq}
-use Rattle.std.specs.Prelude.{int_le, if◌then◌else◌}
 use Rattle.std.proofs.Math.ListN.{get_or-append}
 use Rattle.std.proofs.Math.Seq.{get_or-append_seam}
-use Rattle.std.proofs.lemmas.List.{get_or_past}
 use Rattle.std.proofs.lemmas.List.Folds.{list_any-append}
-use Rattle.std.proofs.lemmas.Bool.{cases_lt, cases_eq, cases_Bool, and_left, and_right, and_from, and_cases, or_parts, or_from, or_left, or_right, both_ways, le-leb, lt-leb, lt-ltb, eq-eqb, eqb-true, ne_eqb, not-false}
-use Rattle.std.proofs.Math.Bool.{or-false}
-use Rattle.uring_entry.specs.Layout.{Sqe, zero_entry, opcode_of, len_of}
 use Rattle.uring_entry.specs.declared.operation.opcode.TheConstants.{READ, WRITE}
 use Rattle.uring_entry.specs.Success.{is_success}
-use Rattle.uring_entry.specs.Requests.{Requests, entry_of, has_started, has_ended, has_failed, is_running, is_outstanding, is_last, is_joined, is_in_group, some_member, is_in_faulty_group, is_after_failure, is_cancelled, is_doomed, is_ready, holds_back, is_issuable, is_candidate, target_of, is_target, targets_of, least_of, with_accepted, with_started, with_ended}
-use Rattle.uring_entry.specs.Preparation.{is_faulty, is_cancel, is_cancel_all, is_transfer}
 use Rattle.uring_entry.proofs.BelowLemmas.{some_below_none, some_below_some, least_below_none, least_below_some, least_below_tells, IsLeast, all_below_in, all_below_there}
 
 -- Groups.

@@ -1,12 +1,6 @@
 -- Why a request stands as it does: from what is known of its group, and what each case says.
 use Rattle.std.proofs.Common.{◌≡◌, ℕ, ◌<◌, ◌≤◌, length, Bool, true, false, not, ◌&&◌, leb, ltb, Option, Some, None, refl, ◌∙◌, ap, subst, arith, inl, inr}
-use Rattle.std.specs.Prelude.{if◌then◌else◌}
-use Rattle.std.proofs.lemmas.Bool.{cases_lt, and_left, and_right, both_ways, lt-ltb, le-ltb, ltb-true}
-use Rattle.std.proofs.Math.Bool.{and-true, and_assoc}
-use Rattle.uring_entry.specs.Below.{least_below}
-use Rattle.uring_entry.specs.Requests.{Requests, entry_of, has_ended, has_failed, is_soft, is_running, is_doomed, is_joined}
-use Rattle.uring_entry.specs.Preparation.{is_faulty}
-use Rattle.uring_entry.specs.Groups.{IsGroup, first_member, is_before, first_fault, first_broken}
+use Rattle.uring_entry.proofs.Common.{IsGroup, Requests, and-true, and_assoc, and_left, and_right, both_ways, cases_lt, entry_of, first_broken, first_fault, first_member, has_ended, has_failed, if◌then◌else◌, is_before, is_doomed, is_faulty, is_joined, is_running, is_soft, le-ltb, least_below, lt-ltb, ltb-true}
 use Rattle.uring_entry.specs.Why.{is_faulty_member, is_failure_before, faulty_member_of, failed_member_of, doom_of, holder_of, since_of, waiting_for, why_of}
 use Rattle.uring_entry.specs.declared.why.Why.{Why}
 use Rattle.uring_entry.specs.declared.why.Why.TheVariants.{NeverAccepted, HasEnded, Runs, IsDoomed, Waits, MayStart}

@@ -1,31 +1,13 @@
 -- That what a crash leaves may be left, and that the next epoch goes on from it.
 use Rattle.std.proofs.Common.{◌≡◌, ℕ, zero, suc, ◌<◌, ◌≤◌, ◌-◌, List, [], ◌∷◌, ◌++◌, length, get_or, length-append, inl, inr, Bool, true, false, cond, Option, Some, None, Result, Ok, Err, refl, sym, subst, ◌∙◌, ap, arith}
-use Rattle.std.specs.Prelude.{pos, ℤ, slice_get, IfOk}
+use Rattle.uring_epochs.proofs.Common.{Answer, AreImages, AreLeft, Change, CrashMachine, Epoch, FileContents, FitsApart, FitsRun, History, IfOk, IsImage, IsImageBy, IsLeftAt, IsLeftBy, IsRun, Log, Nothing, Op, Put, Requests, Setup, Step, Sync, Volume, begun, begun_of, begun_on, change_begun, change_by, change_ended, empty_files, file_at, file_of_bytes, finished, finished_of, first_files, get_or-append_right, get_or-eq_default, get_or_append_left, log_from, log_on, logged, logs_on, max_len, operation_running, pos, shown_length, slice_get, volume_of, with_event, world, ℤ}
 use Rattle.std.specs.declared.alloc.AllocError.{AllocError}
 use Rattle.std.specs.Option.{option_map}
 use Rattle.std.proofs.lemmas.Option.{slice_get-map, slice_get_within, get_or_from_slice_get}
-use Rattle.std.proofs.lemmas.List.{get_or_append_left, get_or-append_right}
 use Rattle.uring_volume.proofs.Painting.{below_or_from}
-use Rattle.uring_entry.specs.Setup.{Setup}
-use Rattle.uring_entry.specs.Requests.{Requests, operation_running}
-use Rattle.uring_entry.specs.declared.operation.Op.{Op}
-use Rattle.uring_files.specs.Operations.{change_by}
-use Rattle.uring_files.specs.declared.change.Change.{Change}
-use Rattle.uring_files.specs.declared.change.Change.TheVariants.{Nothing, Put, Sync}
-use Rattle.std.proofs.Math.ListN.{get_or-eq_default}
-use Rattle.uring_files.specs.Contents.{FileContents, file_of_bytes, empty_files, max_len}
-use Rattle.uring_volume.specs.Images.{IsImage}
-use Rattle.uring_volume.specs.Choices.{IsLeftBy}
-use Rattle.uring_volume.specs.Volume.{Volume, with_event}
 use Rattle.uring_volume.specs.declared.event.Event.{Event}
-use Rattle.uring_core.specs.Core.{FitsApart}
-use Rattle.uring_core.specs.Histories.{History, world}
-use Rattle.uring_core.specs.declared.step.Step.{Step}
 use Rattle.uring_core.specs.declared.step.Step.TheVariants as step
-use Rattle.uring_core.specs.declared.answer.Answer.{Answer}
 use Rattle.uring_core.specs.declared.answer.Answer.TheVariants as answer
-use Rattle.uring_epochs.specs.Logs.{Log, log_on, log_from, logged, shown_length, change_begun, change_ended, begun, begun_of, finished, finished_of}
-use Rattle.uring_epochs.specs.Epochs.{CrashMachine, Epoch, FitsRun, IsRun, AreLeft, AreImages, IsImageBy, IsLeftAt, begun_on, first_files, file_at, logs_on, volume_of}
 use Rattle.uring_epochs.proofs.Noted.{map_same, first_many, first_empty, first_at, logs_at}
 
 -- a log keeps its unit and its first bytes

@@ -1,25 +1,12 @@
 -- That a machine fits an epoch with one event more, and a run with one epoch more.
 use Rattle.std.proofs.Common.{◌≡◌, ℕ, List, ◌∷◌, length, map, Bool, true, false, Option, Some, None, if◌then◌else◌, refl, sym, subst, ◌∙◌, ap}
-use Rattle.uring_entry.specs.Setup.{Setup}
-use Rattle.uring_entry.specs.Preparation.{operation_of}
-use Rattle.uring_entry.specs.Requests.{Requests, entry_of, operation_running}
-use Rattle.uring_entry.specs.declared.operation.Op.{Op}
+use Rattle.uring_epochs.proofs.Common.{Answer, CalledForFrom, CrashMachine, EndsOn, Epoch, FileContents, FitsApart, FitsRun, History, IsFinished, IsLawfulApart, IsNoFinish, IsOutcome, IsRun, Log, Op, Requests, Setup, Step, World, after, entry_of, files_from, finished_as, issued_as, log_from, logged, logs_on, operation_of, operation_running, result_of, with_step, world}
 use Rattle.uring_entry.specs.declared.operation.Outcome.{Outcome}
-use Rattle.uring_files.specs.Contents.{FileContents}
-use Rattle.uring_files.specs.Operations.{after, IsOutcome, result_of}
-use Rattle.uring_core.specs.World.{World}
 use Rattle.uring_core.specs.StepAnswers.{CalledForApart}
-use Rattle.uring_core.specs.CalledFor.{EndsOn}
-use Rattle.uring_core.specs.Core.{FitsApart, IsNoFinish, IsFinished}
-use Rattle.uring_core.specs.Histories.{History, world, IsLawfulApart}
-use Rattle.uring_core.specs.declared.step.Step.{Step}
 use Rattle.uring_core.specs.declared.step.Step.TheVariants as step
-use Rattle.uring_core.specs.declared.answer.Answer.{Answer}
 use Rattle.uring_core.specs.declared.answer.Answer.TheVariants as answer
 use Rattle.uring_core.proofs.FileHistory.{files_kept_from, files_ended}
 use Rattle.uring_core.proofs.Running.{runs_with}
-use Rattle.uring_epochs.specs.Logs.{Log, log_from, logged, issued_as, finished_as}
-use Rattle.uring_epochs.specs.Epochs.{CrashMachine, Epoch, FitsRun, IsRun, CalledForFrom, with_step, files_from, logs_on}
 use Rattle.uring_epochs.specs.Asked.{IsUnrefusedOn}
 use Rattle.uring_epochs.proofs.Noted.{map_same, map_twice}
 

@@ -1,17 +1,9 @@
 -- Histories that are lawful from the files that were there at first.
 use Rattle.std.proofs.Common.{ℕ, Bool, true, false, List, [], ◌∷◌}
-use Rattle.uring_entry.specs.Setup.{Setup}
-use Rattle.uring_entry.specs.Requests.{Requests, is_running}
-use Rattle.uring_files.specs.Contents.{FileContents, empty_files}
-use Rattle.uring_core.specs.World.{World}
+use Rattle.uring_epochs.proofs.Common.{Answer, CalledFor, CalledForFrom, EndsOn, FileContents, History, IsLawful, IsLawfulApart, IsLawfulFrom, Requests, Setup, Step, World, empty_files, files_from, is_running, world}
 use Rattle.uring_core.specs.StepAnswers.{CalledForApart, FinishesApart}
-use Rattle.uring_core.specs.CalledFor.{CalledFor, IsLawful, EndsOn}
-use Rattle.uring_core.specs.Histories.{History, world, IsLawfulApart}
-use Rattle.uring_core.specs.declared.step.Step.{Step}
 use Rattle.uring_core.specs.declared.step.Step.TheVariants as step
-use Rattle.uring_core.specs.declared.answer.Answer.{Answer}
 use Rattle.uring_core.specs.declared.answer.Answer.TheVariants as answer
-use Rattle.uring_epochs.specs.Epochs.{CalledForFrom, IsLawfulFrom, files_from}
 use Rattle.uring_epochs.specs.Laws.{EmptyFilesAreTheCase}
 
 -- from empty files, what is called for is what is called for on a new machine

@@ -1,4 +1,5 @@
 -- In the order in which they are best read.
+mod Common
 -- A log of the requests on one file, and the volume beside it:
 pub mod LogNumbers
 pub mod LogLengths

@@ -1,13 +1,7 @@
 -- What one ended write more makes of what a volume shows.
 use Rattle.std.proofs.Common.{◌≡◌, ◌<◌, ◌≤◌, ◌+◌, ◌-◌, ◌==◌, ℕ, Bool, false, cond, max, List, [], ◌∷◌, ◌++◌, length, get_or, leb, ltb, refl, sym, ap, ◌∙◌, inl, inr, arith}
-use Rattle.std.proofs.Math.ListN.{get_or-eq_default}
-use Rattle.std.proofs.lemmas.Bool.{cases_Bool, and_parts, leb-true, ltb-true, eqb-true, cond-false, false_from_ne_true}
-use Rattle.uring_files.specs.Contents.{overwritten}
-use Rattle.uring_files.specs.Laws.{WritesOver}
-use Rattle.uring_volume.specs.Writes.{Write}
+use Rattle.uring_epochs.proofs.Common.{IsShown, Write, WritesOver, and_parts, byte_over, cases_Bool, cond-false, end_of, ended, eqb-true, false_from_ne_true, get_or-eq_default, is_under, leb-true, length_over, ltb-true, overwritten}
 use Rattle.uring_volume.specs.Events.{History}
-use Rattle.uring_volume.specs.Images.{is_under, end_of, byte_over, length_over}
-use Rattle.uring_volume.specs.Volume.{ended, IsShown}
 use Rattle.uring_volume.proofs.Painting.{below_or_from}
 
 over_last : (byte k : ℕ) (order : List Write) (w : Write)

@@ -1,39 +1,18 @@
 -- What a read of the volume shows is the file of the machine.
 use Rattle.std.proofs.Common.{◌≡◌, ◌+◌, ◌&&◌, ℕ, zero, suc, ℤ, Bool, true, false, cond, List, [], ◌∷◌, ◌++◌, length, take, Option, Some, None, refl, sym, subst, ap, ◌∙◌, inl, inr}
-use Rattle.std.specs.Prelude.{pos, negsuc, replicate, slice_get}
+use Rattle.uring_epochs.proofs.Common.{Answer, Change, EndsOn, Epoch, FileContents, IsLawful, IsLawfulFrom, IsNoFinish, IsOutcome, IsShown, Log, Nothing, Op, Put, Requests, Setup, Step, Sync, SyncEnded, SyncFailed, Volume, WriteEnded, WritesOver, after, and_from, begun_of, both_ways, bytes_after, cases_Bool, change_begun, change_by, change_ended, cond-false, cond-true, empty_file, empty_files, ended, entry_of, file_asked, file_at, file_changed, file_of, files_after, files_from, files_of, finished_of, is_on, is_one_of, is_running, length_over, log_from, log_of, log_on, logged, negsuc, number_of, operation_of, operation_running, overwritten, pos, replicate, requests_of, running_syncs, running_writes, shown_length, slice_get, sync_with, with_event, with_sync, with_write, world, write_ended}
 use Rattle.std.specs.Option.{option_map_or}
 use Rattle.std.specs.Ordering.{int_eq}
 use Rattle.std.proofs.lemmas.Option.{get_or_from_slice_get}
-use Rattle.std.proofs.lemmas.Bool.{cases_Bool, both_ways, cond-true, cond-false, and_from}
 use Rattle.std.proofs.lemmas.Bool.Decides.{Decides-int_eq}
-use Rattle.uring_entry.specs.Setup.{Setup}
-use Rattle.uring_entry.specs.Preparation.{operation_of}
-use Rattle.uring_entry.specs.Requests.{Requests, entry_of, is_running, operation_running}
-use Rattle.uring_entry.specs.declared.operation.Op.{Op}
-use Rattle.uring_files.specs.Contents.{FileContents, empty_file, empty_files, overwritten}
-use Rattle.uring_files.specs.Operations.{file_of, after, file_asked, change_by, bytes_after, IsOutcome}
-use Rattle.uring_files.specs.declared.change.Change.{Change}
-use Rattle.uring_files.specs.declared.change.Change.TheVariants.{Nothing, Put, Sync}
-use Rattle.uring_files.specs.Laws.{is_on, file_changed, WritesOver}
 use Rattle.uring_files.proofs.Changes.{there_before, changes_tell_bytes, changes_are_asked}
-use Rattle.uring_volume.specs.Images.{length_over}
-use Rattle.uring_volume.specs.Volume.{Volume, ended, IsShown, is_one_of, running_writes, running_syncs, with_event, with_write, with_sync}
 use Rattle.uring_volume.specs.declared.event.SyncRange.TheVariants.{Whole}
-use Rattle.uring_volume.specs.declared.event.Event.TheVariants.{WriteEnded, SyncEnded, SyncFailed}
 use Rattle.uring_linux.specs.LinuxRequests.{LinuxRequests}
-use Rattle.uring_core.specs.World.{requests_of}
 use Rattle.uring_core.specs.Histories as core
-use Rattle.uring_core.specs.Histories.{world}
-use Rattle.uring_core.specs.CalledFor.{IsLawful, files_of, files_after, EndsOn}
-use Rattle.uring_core.specs.Core.{IsNoFinish}
-use Rattle.uring_core.specs.declared.step.Step.{Step}
 use Rattle.uring_core.specs.declared.step.Step.TheVariants as step
-use Rattle.uring_core.specs.declared.answer.Answer.{Answer}
 use Rattle.uring_core.specs.declared.answer.Answer.TheVariants as answer
 use Rattle.uring_core.proofs.FileHistory.{files_ended, files_kept_from}
 use Rattle.uring_core.proofs.Moves.{Move, stays, accepts, starts, ends_doomed, ends_cancel, ends_run, move_of}
-use Rattle.uring_epochs.specs.Logs.{Log, log_on, log_from, log_of, logged, number_of, shown_length, change_begun, change_ended, begun_of, finished_of, write_ended, sync_with}
-use Rattle.uring_epochs.specs.Epochs.{Epoch, IsLawfulFrom, files_from, file_at}
 use Rattle.uring_epochs.proofs.LawfulFrom.{lawful_new, apart_from}
 use Rattle.uring_epochs.proofs.LogBytes.{shown_more, shown_same}
 use Rattle.uring_epochs.proofs.EpochCrashes.{from_keeps}

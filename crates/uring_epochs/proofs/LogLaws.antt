@@ -1,16 +1,8 @@
 -- The laws of logs.
 use Rattle.std.proofs.Common.{◌≡◌, ℕ, true, Some, None, sym, ap, ◌∙◌, inl, inr}
-use Rattle.std.proofs.lemmas.Bool.{cases_Bool, cond-true, cond-false}
+use Rattle.uring_epochs.proofs.Common.{Op, Requests, WritesOver, cases_Bool, change_by, cond-false, cond-true, empty_files, entry_of, is_running, log_of, operation_of, operation_running, shown_length, world}
 use Rattle.std.proofs.lemmas.Bool.Decides.{Decides-int_eq}
-use Rattle.uring_entry.specs.Preparation.{operation_of}
-use Rattle.uring_entry.specs.Requests.{Requests, entry_of, is_running, operation_running}
-use Rattle.uring_entry.specs.declared.operation.Op.{Op}
-use Rattle.uring_files.specs.Contents.{empty_files}
-use Rattle.uring_files.specs.Laws.{WritesOver}
-use Rattle.uring_files.specs.Operations.{change_by}
-use Rattle.uring_core.specs.Histories.{world}
 use Rattle.uring_epochs.proofs.LawfulFrom.{lawful_new, apart_from}
-use Rattle.uring_epochs.specs.Logs.{log_of, shown_length}
 use Rattle.uring_epochs.specs.Laws.{RunningWritesRun, RunningSyncsRun, VolumeShowsTheFile, VolumesShowTheFiles}
 use Rattle.uring_epochs.proofs.LogStands.{stands_of}
 use Rattle.uring_epochs.proofs.LogFiles.{shows_of, shows_at}

@@ -1,17 +1,9 @@
 -- How long the file is that a volume shows, and which events a log has, as writes end.
 use Rattle.std.proofs.Common.{◌≡◌, ◌≤◌, ◌+◌, ◌==◌, ℕ, true, false, max, List, [], ◌∷◌, ◌++◌, length, reverse, Result, Ok, Err, refl, ap, ◌∙◌, inl, inr, arith}
-use Rattle.std.proofs.lemmas.Bool.{cases_Bool, cond-true, cond-false}
-use Rattle.std.proofs.lemmas.List.{reverse-append}
+use Rattle.uring_epochs.proofs.Common.{OnOk, Volume, Write, WriteEnded, cases_Bool, cond-false, cond-true, end_of, ended, issued, length_over, named, reverse-append, shown_length, with_event}
 use Rattle.std.proofs.lemmas.List.Elements.{filter-append}
-use Rattle.std.specs.Prelude.{OnOk}
 use Rattle.std.specs.Result.{is_err}
-use Rattle.uring_volume.specs.Writes.{Write}
-use Rattle.uring_volume.specs.Images.{end_of, length_over}
-use Rattle.uring_volume.specs.Choices.{issued, named}
-use Rattle.uring_volume.specs.Volume.{Volume, ended, with_event}
 use Rattle.uring_volume.specs.declared.event.Event.{Event}
-use Rattle.uring_volume.specs.declared.event.Event.TheVariants.{WriteEnded}
-use Rattle.uring_epochs.specs.Logs.{shown_length}
 
 -- some writes, and then others
 over_both : (len : ℕ) (ws vs : List Write) → length_over len (ws ++ vs) ≡ length_over (length_over len ws) vs

@@ -1,9 +1,7 @@
 -- The numbers of a log's requests, and of what runs.
 use Rattle.std.proofs.Common.{◌≡◌, ◌<◌, ◌≤◌, ◌==◌, ◌||◌, ◌⊎◌, ℕ, suc, Bool, true, false, not, List, [], ◌∷◌, ◌++◌, length, refl, sym, subst, ◌∙◌, inl, inr, arith}
-use Rattle.std.proofs.lemmas.Bool.{cases_Bool, both_ways, cond-true, cond-false, or_left, or_right, eqb-true, eq-eqb}
+use Rattle.uring_epochs.proofs.Common.{both_ways, but, cases_Bool, cond-false, cond-true, eq-eqb, eqb-true, is_one_of, number_of, or_left, or_right}
 use Rattle.std.proofs.lemmas.List.Folds.{list_any-append}
-use Rattle.uring_volume.specs.Volume.{but, is_one_of}
-use Rattle.uring_epochs.specs.Logs.{number_of}
 
 pub number_short : (n : ℕ) (q : List ℕ) → number_of n q ≤ length q
 number_short n [] = omega arith

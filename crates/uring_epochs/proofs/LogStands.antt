@@ -1,41 +1,24 @@
 -- What the log of a file keeps: whatever of the file runs on the machine runs on the volume.
 use Rattle.std.proofs.Common.{◌≡◌, ◌<◌, ◌≤◌, ◌==◌, ◌&&◌, ◌||◌, ◌⊎◌, ℕ, ℤ, suc, Bool, true, false, not, cond, List, [], ◌∷◌, ◌++◌, length, take, Option, Some, None, refl, sym, subst, ap, ◌∙◌, inl, inr, arith}
 use Rattle.std.specs.Ordering.{int_eq}
-use Rattle.std.specs.Prelude.{pos}
-use Rattle.std.proofs.lemmas.Bool.{cases_Bool, both_ways, cond-true, cond-false, and_parts, and_from, or_left, or_right, eqb-true, eq-eqb, false_from_ne_true}
-use Rattle.std.proofs.lemmas.List.{append-nil}
+use Rattle.uring_epochs.proofs.Common.{Answer, Change, IsLawfulApart, Log, Nothing, Op, Put, Requests, Setup, Step, Sync, SyncEnded, SyncFailed, Volume, WriteEnded, and_from, and_parts, append-nil, begun_of, both_ways, cases_Bool, change_begun, change_by, change_ended, cond-false, cond-true, entry_of, eq-eqb, eqb-true, false_from_ne_true, finished_of, has_ended, has_started, is_one_of, is_running, issued, log_from, log_of, log_on, logged, named, no_bytes, no_request, number_of, operation_of, operation_running, or_left, or_right, pos, requests_of, running_syncs, running_writes, shown_length, sync_with, with_call, with_ended, with_event, with_started, with_sync, with_write, world, write_ended}
 use Rattle.std.proofs.lemmas.List.Elements.{filter-append}
 use Rattle.std.proofs.lemmas.List.Folds.{list_any-append}
-use Rattle.uring_entry.specs.Setup.{Setup}
-use Rattle.uring_entry.specs.Preparation.{operation_of}
-use Rattle.uring_entry.specs.Requests.{Requests, no_request, entry_of, has_started, has_ended, is_running, operation_running, no_bytes, with_call, with_started, with_ended}
 use Rattle.uring_linux.specs.LinuxRequests.{LinuxRequests}
 use Rattle.uring_rules.specs.Rules.{with_issued_end}
-use Rattle.uring_core.specs.World.{requests_of}
-use Rattle.uring_entry.specs.declared.operation.Op.{Op}
-use Rattle.uring_files.specs.Operations.{change_by}
-use Rattle.uring_files.specs.declared.change.Change.{Change}
 use Rattle.uring_files.proofs.Changes.{change_before}
-use Rattle.uring_files.specs.declared.change.Change.TheVariants.{Nothing, Put, Sync}
 use Rattle.uring_volume.specs.Writes as piece
 use Rattle.uring_volume.specs.Events.{History}
-use Rattle.uring_volume.specs.Choices.{issued, named}
-use Rattle.uring_volume.specs.Volume.{Volume, is_one_of, running_writes, running_syncs, with_event, with_write, with_sync}
-use Rattle.uring_volume.specs.declared.event.Event.TheVariants.{WriteEnded, SyncEnded, SyncFailed}
 use Rattle.uring_volume.specs.declared.event.SyncRange.TheVariants.{Whole}
 use Rattle.uring_core.specs.Events.{started_by, end_told_by}
 use Rattle.uring_core.specs.Histories as core
-use Rattle.uring_core.specs.Histories.{world, IsLawfulApart}
-use Rattle.uring_core.specs.declared.step.Step.{Step}
 use Rattle.uring_core.specs.declared.step.Step.TheVariants as step
-use Rattle.uring_core.specs.declared.answer.Answer.{Answer}
 use Rattle.uring_core.specs.declared.answer.Answer.TheVariants as answer
 use Rattle.uring_core.proofs.ListCounts.{any_new}
 use Rattle.uring_core.proofs.Moves.{Move, stays, accepts, starts, ends_doomed, ends_cancel, ends_run, move_of}
 use Rattle.uring_core.proofs.Running.{entry_stays}
 use Rattle.uring_core.proofs.Sound.{sound_of}
 use Rattle.uring_core.proofs.SoundRequests.{IsSoundRequests}
-use Rattle.uring_epochs.specs.Logs.{Log, log_on, log_from, log_of, logged, number_of, shown_length, change_begun, change_ended, begun_of, finished_of, write_ended, sync_with}
 use Rattle.uring_epochs.proofs.LogLengths.{shown_grows}
 use Rattle.uring_epochs.proofs.LogNumbers.{number_short, number_old, number_once, in_more, in_new, in_but}
 

@@ -1,10 +1,6 @@
 -- Lists of logs in which each, one after the other, is noted, and the first files of an epoch with their logs.
 use Rattle.std.proofs.Common.{◌≡◌, ◌<◌, ◌+◌, ℕ, zero, suc, List, [], ◌∷◌, ◌++◌, length, map, take, drop, get_or, Some, refl, sym, ap, ◌∙◌, arith}
-use Rattle.std.specs.Prelude.{pos, slice_get}
-use Rattle.std.proofs.Math.ListN.{set}
-use Rattle.uring_files.specs.Contents.{FileContents, empty_file, empty_files, file_of_bytes}
-use Rattle.uring_epochs.specs.Logs.{log_on}
-use Rattle.uring_epochs.specs.Epochs.{first_files, logs_on, file_at}
+use Rattle.uring_epochs.proofs.Common.{FileContents, empty_file, empty_files, file_at, file_of_bytes, first_files, log_on, logs_on, pos, set, slice_get}
 
 -- the first of some are changed, and one more is
 pub set_noted : {X : Type 0} (f : X → X) (xs : List X) (i : ℕ) (d : X) → i < length xs

@@ -1,12 +1,6 @@
 -- That no file of a volume gets longer than files may be, and so no image does.
 use Rattle.std.proofs.Common.{◌≤◌, ◌+◌, ◌==◌, ℕ, max, List, [], ◌∷◌, length, refl, sym, subst, inl, inr, arith}
-use Rattle.std.proofs.lemmas.Bool.{cases_Bool, cond-true, cond-false}
-use Rattle.uring_files.specs.Contents.{max_len}
-use Rattle.uring_volume.specs.Writes.{Write}
-use Rattle.uring_volume.specs.Events.{writes}
-use Rattle.uring_volume.specs.Images.{IsIn, IsImage, end_of, length_over}
-use Rattle.uring_volume.specs.Volume.{Volume}
-use Rattle.uring_epochs.specs.Epochs.{IsShort}
+use Rattle.uring_epochs.proofs.Common.{IsImage, IsIn, IsShort, Volume, Write, cases_Bool, cond-false, cond-true, end_of, length_over, max_len, writes}
 
 ends_by : (w : Write) → w.off + length w.bytes ≤ max_len → end_of w ≤ max_len
 ends_by w short = elim (cases_Bool (length w.bytes == 0)) [

@@ -1,17 +1,8 @@
 -- What an operation changes tells what becomes of its file, of whatever operation there is.
 -- Stable: other crates may import what is pub.
 use Rattle.std.proofs.Common.{◌≡◌, ◌≤◌, ℕ, ℤ, Bool, true, false, cond, List, length, Option, Some, None, refl, sym, ap, ◌∙◌, inl, inr}
-use Rattle.std.specs.Option.{option_map, option_map_or}
-use Rattle.std.specs.Ordering.{int_eq}
-use Rattle.std.proofs.lemmas.Bool.{cases_Bool, both_ways, cond-true, cond-false}
-use Rattle.std.proofs.lemmas.Bool.Decides.{Decides-int_eq}
-use Rattle.uring_entry.specs.declared.operation.Op.{Op}
-use Rattle.uring_entry.specs.declared.operation.Outcome.{Outcome}
-use Rattle.uring_files.specs.Contents.{FileContents}
-use Rattle.uring_files.specs.Operations.{after, with_changed, file_of, change_by, bytes_after, IsOutcome}
-use Rattle.uring_files.specs.Laws.{is_on, file_changed, ChangesTellBytes, ChangesAreAsked, ChangesStay}
+use Rattle.uring_files.proofs.Common.{ChangesAreAsked, ChangesStay, ChangesTellBytes, Decides-int_eq, FileContents, IsOutcome, Nothing, Op, Outcome, after, both_ways, bytes_after, cases_Bool, change_by, cond-false, cond-true, file_changed, file_of, int_eq, is_on, option_map, option_map_or, with_changed}
 use Rattle.uring_files.specs.declared.change.Change.{Change}
-use Rattle.uring_files.specs.declared.change.Change.TheVariants.{Nothing}
 use Rattle.uring_files.proofs.OperationCases.{Task, Does, cases}
 use Rattle.uring_files.proofs.StandAlone.{changed_same, changed_other, unlike, others_stay}
 

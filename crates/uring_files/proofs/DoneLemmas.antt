@@ -1,9 +1,8 @@
 -- Operations that were carried out, by the last of them.
 -- Stable: other crates may import what is pub.
 use Rattle.std.proofs.Common.{◌≡◌, List, [], ◌∷◌, ◌++◌, refl}
-use Rattle.uring_files.specs.Contents.{FileContents}
+use Rattle.uring_files.proofs.Common.{FileContents, IsOutcome, after}
 use Rattle.uring_files.specs.Done.{Done, files_left, AreDone}
-use Rattle.uring_files.specs.Operations.{after, IsOutcome}
 
 pub left_snoc : (files : List FileContents) (done : List Done) (d : Done)
     → files_left files (done ++ d ∷ []) ≡ after (files_left files done) d.op d.outcome.res

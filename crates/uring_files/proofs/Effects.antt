@@ -1,17 +1,8 @@
 -- What bytes are put leave of a file, and when nothing is put.
 use Rattle.std.proofs.Common.{◌≡◌, ℕ, ◌+◌, ℤ, pos, neg_ℤ, Bool, true, false, not, cond, Option, Some, None, List, take, refl, sym, ap, ◌∙◌, inl, inr, ◌⊎◌, leb, ltb}
-use Rattle.std.specs.Prelude.{◌==◌}
-use Rattle.std.specs.Ordering.{int_eq}
-use Rattle.std.proofs.lemmas.Bool.{cases_Bool, both_ways, cond-true, and_from, eqb-true, leb-false, lt-ltb}
-use Rattle.std.proofs.lemmas.Bool.Decides.{Decides-int_eq}
+use Rattle.uring_files.proofs.Common.{Decides-int_eq, FileContents, IsOutcome, Nothing, Op, Outcome, Put, and_from, both_ways, bytes_after, cases_Bool, cond-true, ended_with, eqb-true, file_changed, file_of, has_effect, int_eq, is_too_long, leb-false, lt-ltb, max_len, on_file, overwritten, result_of, written, ◌==◌}
 use Rattle.uring_entry.specs.declared.errno.TheConstants.{EFBIG, ENOMEM}
-use Rattle.uring_entry.specs.declared.operation.Op.{Op}
-use Rattle.uring_entry.specs.declared.operation.Outcome.{Outcome}
-use Rattle.uring_files.specs.Contents.{FileContents, overwritten, written, is_too_long, has_effect, max_len}
-use Rattle.uring_files.specs.Operations.{file_of, on_file, ended_with, result_of, bytes_after, IsOutcome}
-use Rattle.uring_files.specs.Laws.{file_changed}
 use Rattle.uring_files.specs.declared.change.Change.{Change}
-use Rattle.uring_files.specs.declared.change.Change.TheVariants.{Nothing, Put}
 
 -- how what is on a file that is there ended: as it does on that file, or for want of memory
 abbrev pub EndedOn : (FileContents → Outcome) → FileContents → Outcome → Type 0

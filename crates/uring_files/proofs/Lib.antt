@@ -1,3 +1,4 @@
+mod Common
 pub mod DoneLemmas
 pub mod Effects
 pub mod OperationCases

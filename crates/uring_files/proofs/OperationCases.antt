@@ -1,20 +1,10 @@
 -- What an operation is on files, in one form: on none, or on one with a task. A new operation is a case of `cases`, `most_of` and `for_files`; what else holds of operations is told of that form, and names none.
 -- Stable: other crates may import all of it.
 use Rattle.std.proofs.Common.{◌≡◌, ℕ, ◌+◌, ◌-◌, ◌^◌, ◌<◌, ◌≤◌, ℤ, pos, negsuc, neg_ℤ, Bool, true, false, not, ◌&&◌, cond, min, Option, Some, None, List, length, take, if◌then◌else◌, refl, sym, ap, subst, ◌∙◌, inl, inr, ◌⊎◌, arith}
-use Rattle.std.specs.Prelude.{nat_lt, ◌==◌}
-use Rattle.std.specs.Option.{option_map_or}
-use Rattle.std.specs.Ordering.{int_eq}
+use Rattle.uring_files.proofs.Common.{FailureChangesNothing, FileContents, IsForFiles, IsOutcome, Nothing, Op, Outcome, Put, after, and_cases, bytes_after, change_by, ended_with, eqb-true, file_asked, file_changed, file_of, has_effect, int_eq, is_lengthening, is_past_end, is_too_long, length-set, ltb-false, max_len, nat_lt, not-false, on_file, option_map_or, overwritten, read_outcome, result_of, true≢false, with_changed, with_writes_synced, written, ◌==◌}
 use Rattle.std.proofs.Math.Nat.{min-le_left}
-use Rattle.std.proofs.lemmas.Bool.{true≢false, and_cases, eqb-true, ltb-false, not-false}
-use Rattle.std.proofs.lemmas.List.{length-set}
 use Rattle.uring_entry.specs.declared.errno.TheConstants.{EBADF, ECANCELED, EFBIG, ENOMEM}
-use Rattle.uring_entry.specs.declared.operation.Op.{Op}
 use Rattle.uring_entry.specs.declared.operation.Op.TheVariants.{Nop, Read, Write, Fsync, Cancel}
-use Rattle.uring_entry.specs.declared.operation.Outcome.{Outcome}
-use Rattle.uring_files.specs.Contents.{FileContents, overwritten, read_outcome, is_too_long, is_past_end, has_effect, max_len, written, with_writes_synced}
-use Rattle.uring_files.specs.declared.change.Change.TheVariants.{Nothing, Put}
-use Rattle.uring_files.specs.Operations.{after, with_changed, file_asked, file_of, on_file, ended_with, result_of, is_lengthening, change_by, bytes_after, IsForFiles, IsOutcome}
-use Rattle.uring_files.specs.Laws.{FailureChangesNothing, file_changed}
 use Rattle.uring_files.proofs.Effects.{on_its_file, short_one, write_leaves, put_on}
 
 -- an end with a number of bytes, which is no great one

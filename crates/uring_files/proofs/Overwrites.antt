@@ -1,11 +1,7 @@
 -- Bytes written over others.
 use Rattle.std.proofs.Common.{◌≡◌, ℕ, ◌+◌, ◌-◌, ◌≤◌, ◌∙◌, ap, subst, max, List, ◌++◌, length, get_or, take, drop, replicate, arith, rules}
 use Rattle.std.proofs.lemmas.Grind.{common_steps, same_number_lists}
-use Rattle.std.proofs.lemmas.Bool.Decides.{nat_tests}
-use Rattle.std.proofs.lemmas.List.{take_all, places}
-use Rattle.std.specs.Prelude.{if◌then◌else◌, ◌==◌, ◌&&◌, nat_le, nat_lt}
-use Rattle.uring_files.specs.Contents.{overwritten}
-use Rattle.uring_files.specs.Laws.{IsWrittenOver}
+use Rattle.uring_files.proofs.Common.{IsWrittenOver, if◌then◌else◌, nat_le, nat_lt, nat_tests, overwritten, places, take_all, ◌&&◌, ◌==◌}
 
 some_bytes : (n : ℕ) (xs ys : List ℕ) → 1 ≤ n → (if n == 0 then xs else ys) ≡ ys
 some_bytes n xs ys some = search rules

@@ -1,14 +1,13 @@
 -- What a prepared entry asks of files, whichever operation it is.
 -- Stable: other crates may import what is pub.
 use Rattle.std.proofs.Common.{◌≡◌, ℕ, ℤ, ◌≤◌, ◌∙◌, refl, sym, arith, Bool, true, false, Option, Some, None, if◌then◌else◌}
-use Rattle.std.proofs.lemmas.Bool.{true≢false, ltb-false, not-false}
+use Rattle.uring_files.proofs.Common.{IsForFiles, file_asked, ltb-false, not-false, true≢false}
 use Rattle.uring_entry.specs.Layout.{Sqe, opcode_of, len_of}
 use Rattle.uring_entry.specs.Preparation.{fault_of, has_fault_of, operation_named, operation_of, is_cancel, is_served, is_transfer, is_on_file}
 use Rattle.uring_entry.proofs.Preparations.{cancel_asked}
 use Rattle.uring_entry.specs.declared.operation.Op.TheVariants.{Cancel}
 use Rattle.uring_entry.specs.declared.fault.Fault.{Fault}
 use Rattle.uring_entry.specs.declared.fault.Fault.TheVariants.{Flags, Opcode, Ioprio, OpFlags, Reserved, Len}
-use Rattle.uring_files.specs.Operations.{IsForFiles, file_asked}
 use Rattle.uring_files.proofs.OperationCases.{most_of, for_files}
 
 -- what isn't found isn't the first

@@ -1,16 +1,8 @@
 -- Each file stands by itself: the laws of `files_stand_alone` as lemmas, of whatever operation there is.
 -- Stable: other crates may import what is pub.
 use Rattle.std.proofs.Common.{◌≡◌, ◌≢◌, ℕ, zero, suc, ℤ, pos, negsuc, Bool, true, false, cond, List, [], ◌∷◌, get_or, refl, sym, ap, ◌∙◌, inl, inr}
-use Rattle.std.specs.Prelude.{slice_get, slice_set}
-use Rattle.std.specs.Option.{option_map, option_map_or}
-use Rattle.std.specs.Ordering.{int_eq}
-use Rattle.std.proofs.lemmas.Bool.{cases_Bool, both_ways}
-use Rattle.std.proofs.lemmas.Bool.Decides.{Decides-int_eq}
+use Rattle.uring_files.proofs.Common.{AgreeAt, Decides-int_eq, EndsStandAlone, FileContents, FilesStandAlone, Op, OthersStay, both_ways, cases_Bool, empty_file, file_of, int_eq, is_on, on_file, option_map, option_map_or, slice_get, slice_set, with_changed}
 use Rattle.std.proofs.lemmas.Cmp.{int_eq_equiv}
-use Rattle.uring_entry.specs.declared.operation.Op.{Op}
-use Rattle.uring_files.specs.Contents.{FileContents, empty_file}
-use Rattle.uring_files.specs.Operations.{file_of, with_changed, on_file}
-use Rattle.uring_files.specs.Laws.{AgreeAt, is_on, OthersStay, FilesStandAlone, EndsStandAlone}
 use Rattle.uring_files.proofs.OperationCases.{Task, Does, cases}
 
 -- what stands at a place after one was set

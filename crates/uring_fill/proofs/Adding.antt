@@ -1,26 +1,12 @@
 -- Events that are added to those that may come next.
 use Rattle.std.proofs.Common.{◌≡◌, ℕ, zero, suc, ◌+◌, ◌-◌, ◌<◌, ◌≤◌, ℤ, pos, Bool, true, false, not, if◌then◌else◌, slice_get, None, List, [], ◌∷◌, ◌++◌, length, drop, Option, Some, refl, sym, ap, subst, ◌∙◌, ◌⊎◌, inl, inr, arith}
-use Rattle.std.specs.Prelude.{Contains, neg_ℤ}
-use Rattle.std.proofs.lemmas.Bool.{cases_lt, and_parts, lt-ltb, and_from, cases_Bool}
+use Rattle.uring_fill.proofs.Common.{Adds, Answer, AreAllNext, AreNext, CalledForApart, Contains, Contains-append_left, Contains-push, Contains-push_cases, Core, Cqe, Event, FinishFits, HasEndsOf, History, IsErrorOf, IsIdle, IsLawfulApart, IsPart, QuietResult, Requests, Setup, Sqe, StandsAt, TellsNext, and_from, and_parts, cases_Bool, cases_lt, completion_for, count_result, entry_of, entry_outstanding, has_ended, has_started, is_asked, is_drain, is_hidden, is_issuable, is_outstanding, is_running, is_stale, lt-ltb, neg_ℤ, no_bytes, posts, put_by_flush, requests_of, seen_in, with_count, with_error, with_none, world}
 use Rattle.std.proofs.lemmas.Option.{same_Some, none-some}
-use Rattle.std.proofs.lemmas.List.Elements.{Contains-append_left, Contains-push, Contains-push_cases}
-use Rattle.uring_entry.specs.Setup.{Setup}
-use Rattle.uring_entry.specs.Layout.{Cqe, Sqe}
 use Rattle.uring_entry.specs.Success.{posts_completion}
-use Rattle.uring_entry.specs.Completions.{put_by_flush, completion_for}
 use Rattle.uring_entry.specs.declared.errno.TheConstants.{EINVAL, EOPNOTSUPP, ECANCELED}
-use Rattle.uring_rules.specs.Rules.{is_issuable, posts}
-use Rattle.uring_core.specs.World.{requests_of}
-use Rattle.uring_entry.specs.Requests.{Requests, is_drain, is_outstanding, is_running, has_started, has_ended, entry_of, entry_outstanding, no_bytes, count_result}
 use Rattle.uring_entry.specs.Preparation.{is_faulty, is_cancel_all}
-use Rattle.uring_core.specs.Core.{Core}
-use Rattle.uring_core.specs.StepAnswers.{CalledForApart}
-use Rattle.uring_core.specs.Histories.{Event, History, world, IsLawfulApart}
 use Rattle.uring_core.specs.declared.step.Step.TheVariants as step
-use Rattle.uring_core.specs.declared.answer.Answer.{Answer}
 use Rattle.uring_core.specs.declared.answer.Answer.TheVariants as answer
-use Rattle.uring_fill.specs.Filling.{is_hidden, seen_in, IsPart}
-use Rattle.uring_fill.specs.Parts.{is_asked, is_stale, StandsAt, Adds, HasEndsOf, IsIdle, AreNext, AreAllNext, FinishFits, TellsNext, IsErrorOf, QuietResult, with_none, with_count, with_error}
 use Rattle.uring_entry.specs.Results.{may_end}
 use Rattle.uring_fill.proofs.Events.{HiddenEvent, idle_one, start, issue_end, finish_end, flush, hidden_event, flush_idle, few_moved, issued_end, part_issue, part_finish, finish_runs, quiet_end, seen_part, part_seen}
 use Rattle.uring_fill.proofs.Issuing.{outstanding_accepted}

@@ -1,7 +1,6 @@
 -- Lists that begin with others.
 use Rattle.std.proofs.Common.{◌≡◌, ℕ, List, [], ◌∷◌, ◌++◌, length, Some, None, refl, sym, ap, subst, ◌∙◌, append_assoc, append-nil, arith}
-use Rattle.std.specs.Prelude.{slice_get}
-use Rattle.uring_fill.specs.Filling.{Begins}
+use Rattle.uring_fill.proofs.Common.{Begins, slice_get}
 
 pub begins_itself : {X : Type 0} (xs : List X) → Begins xs xs
 begins_itself xs = record { rest = []; is = sym (append-nil xs) }

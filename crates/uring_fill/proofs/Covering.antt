@@ -1,20 +1,13 @@
 -- That a search covers all histories: `path_taken` when a path is gone on from, `path_dropped` when it isn't lawful, and `none_left` when none is left.
 use Rattle.std.proofs.Common.{◌≡◌, ℕ, ◌<◌, ◌≤◌, Bool, true, false, List, [], ◌∷◌, ◌++◌, length, map, refl, sym, ap, subst, ◌∙◌, ◌⊎◌, inl, inr, arith, append-nil}
-use Rattle.std.specs.Prelude.{Contains, reverse}
+use Rattle.uring_fill.proofs.Common.{Contains, Contains-append_cases, Contains-append_left, Contains-append_right, Contains-push, Contains-push_cases, Event, GoesOn, HasLonger, History, IsFilling, IsLawfulApart, IsPart, IsReach, IsSearch, IsWhole, OneGoesOn, Setup, completions_in, history_of, history_of_snoc, length-map, map-append, onto, paths_of, reverse, reverse-reverse, seen_in, world}
 use Rattle.std.proofs.Math.ListN.{get_or-map}
-use Rattle.std.proofs.lemmas.List.{length-map, reverse-reverse, map-append}
-use Rattle.std.proofs.lemmas.List.Elements.{Contains-append_left, Contains-append_right, Contains-append_cases, Contains-push, Contains-push_cases}
 use Rattle.std.specs.declared.vec.Vec.{Vec}
 use Rattle.std.specs.declared.alloc.Global.{Global}
-use Rattle.uring_entry.specs.Setup.{Setup}
-use Rattle.uring_core.specs.Histories.{Event, History, world, history_of, IsLawfulApart}
-use Rattle.uring_core.proofs.Following.{history_of_snoc}
-use Rattle.uring_fill.specs.Filling.{seen_in, completions_in, IsFilling, IsPart}
 use Rattle.uring_fill.specs.Found.{HasNone, HasFate, IsFound, filled_by}
 use Rattle.uring_fill.specs.declared.search.Fate.{Fate}
 use Rattle.uring_fill.specs.declared.search.Fate.TheVariants as fate
 use Rattle.uring_fill.specs.declared.search.Reach.{Reach}
-use Rattle.uring_fill.specs.Parts.{paths_of, onto, IsWhole, GoesOn, OneGoesOn, IsReach, IsSearch, HasLonger}
 use Rattle.uring_fill.proofs.Begun.{begins_all}
 use Rattle.uring_fill.proofs.Going.{lawful_onto, goes_by, onto_is}
 

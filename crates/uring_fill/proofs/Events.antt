@@ -1,11 +1,7 @@
 -- Which events go on from a part, and what is so of those that do.
 use Rattle.std.proofs.Common.{◌≡◌, ℕ, ◌+◌, ◌-◌, ◌≤◌, ℤ, pos, Bool, true, false, not, ◌&&◌, ◌||◌, cond, List, [], ◌∷◌, ◌++◌, length, Option, Some, None, if◌then◌else◌, refl, sym, ap, subst, ◌∙◌, inl, inr, arith, rules}
-use Rattle.std.specs.Prelude.{slice_get, drop, is_some, neg_ℤ}
-use Rattle.std.proofs.lemmas.Bool.{cases_lt, and_parts, or_parts, or_left, or_right}
+use Rattle.uring_fill.proofs.Common.{Answer, Begins, CalledForApart, Completions, Core, Cqe, Ending, Event, FinishFits, FinishesApart, GivesAllowed, History, IsErrorOf, IsIdle, IsLawfulApart, IsPart, QuietResult, Requests, Setup, Sqe, StandsAt, TellsNext, World, and_parts, cancel_result, cases_lt, completion_for, completions_in, count_result, doomed_result, drop, ends_doomed, entry_of, has_ended, has_started, is_after_failure, is_drain, is_hidden, is_issuable, is_outstanding, is_running, is_some, is_stale, is_target, length-drop, may_start, neg_ℤ, no_bytes, or_left, or_parts, or_right, posts, put_by_flush, requests_of, result_for, seen_in, slice_get, target_of, targets_of, with_count, with_error, with_flushed, with_none, with_posted, world}
 use Rattle.std.proofs.lemmas.Bool.Decides.{Decides-int_eq}
-use Rattle.std.proofs.lemmas.List.{length-drop}
-use Rattle.uring_entry.specs.Setup.{Setup}
-use Rattle.uring_entry.specs.Layout.{Sqe, Cqe}
 use Rattle.uring_entry.specs.Preparation.{is_faulty, is_cancel, is_cancel_all}
 use Rattle.uring_entry.specs.Success.{is_success, posts_completion}
 use Rattle.uring_entry.specs.declared.errno.TheConstants.{ENOENT, EINVAL, EOPNOTSUPP, EALREADY, ECANCELED}
@@ -13,30 +9,20 @@ use Rattle.uring_entry.specs.Why.{failed_member_of, is_failure_before}
 use Rattle.uring_entry.proofs.BelowLemmas.{is_some_least_below}
 use Rattle.uring_linux.specs.LinuxRequests.{LinuxRequests}
 use Rattle.uring_linux.specs.LinuxRequests as kernel
-use Rattle.uring_rules.specs.Rules.{posts, ends_doomed, may_start, is_issuable, doomed_result, cancel_result}
 use Rattle.uring_rules.proofs.RulesLemmas.{issuable_is}
-use Rattle.uring_entry.specs.Requests.{Requests, Ending, entry_of, has_started, has_ended, is_after_failure, is_drain, is_outstanding, is_running, count_result, result_for, target_of, targets_of, is_target, no_bytes}
-use Rattle.uring_entry.specs.Completions.{Completions, with_posted, with_flushed, put_by_flush, completion_for}
 use Rattle.uring_entry.proofs.RequestLemmas.{one_success}
 use Rattle.uring_entry.specs.Below.{count_below}
 use Rattle.uring_dispatch.proofs.Counting.{length_all_below, count_below_within}
-use Rattle.uring_core.specs.Core.{Core}
-use Rattle.uring_core.specs.World.{World, requests_of}
-use Rattle.uring_core.specs.StepAnswers.{CalledForApart, FinishesApart}
 use Rattle.uring_core.specs.Events.{end_told_by, is_flush, is_store_cq_head}
-use Rattle.uring_core.specs.Histories.{Event, History, world, IsLawfulApart}
 use Rattle.uring_core.specs.declared.step.Step.{Step}
 use Rattle.uring_core.specs.declared.step.Step.TheVariants as step
-use Rattle.uring_core.specs.declared.answer.Answer.{Answer}
 use Rattle.uring_core.specs.declared.answer.Answer.TheVariants as answer
 use Rattle.uring_core.proofs.Changes.{Change, refuses, runs, dooms, cancels, change_of, not_some}
 use Rattle.uring_core.proofs.CompletionMoves.{CompletionMove, stays, ends, flushes, stores_head, completion_move}
 use Rattle.uring_core.proofs.RequestEnds.{doomed_fails}
 use Rattle.uring_core.proofs.Sound.{sound_of}
 use Rattle.uring_core.proofs.SoundRings.{IsSoundCompletions}
-use Rattle.uring_fill.specs.Filling.{is_hidden, seen_in, completions_in, GivesAllowed, Begins, IsPart}
 use Rattle.uring_laws.proofs.LinuxSound.{IsSoundLinux, linux_sound, of_linux, starts_so}
-use Rattle.uring_fill.specs.Parts.{is_stale, StandsAt, TellsNext, FinishFits, IsErrorOf, QuietResult, with_none, with_count, with_error, IsIdle}
 use Rattle.uring_fill.proofs.Begun.{begins_next, after_begun}
 
 -- What an end posts.

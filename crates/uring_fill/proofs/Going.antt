@@ -1,21 +1,9 @@
 -- What stays of a history as it goes on, and what goes on after one that stands for another.
 -- By `CompletionMove`, event by event, and over later events by induction.
 use Rattle.std.proofs.Common.{◌≡◌, ℕ, Bool, true, false, cond, List, [], ◌∷◌, ◌++◌, length, if◌then◌else◌, refl, sym, ap, subst, ◌∙◌, ◌⊎◌, inl, inr}
-use Rattle.std.specs.Prelude.{Contains}
-use Rattle.uring_entry.specs.Setup.{Setup}
-use Rattle.uring_entry.specs.Layout.{Cqe}
-use Rattle.uring_rules.specs.Rules.{posts}
-use Rattle.uring_entry.specs.Requests.{entry_of, outstanding_in}
-use Rattle.uring_entry.specs.Completions.{Completions, with_posted, completion_for}
-use Rattle.uring_core.specs.World.{World, happens}
-use Rattle.uring_core.specs.StepAnswers.{CalledForApart}
-use Rattle.uring_core.specs.Histories.{Event, History, world, history_of, IsLawfulApart}
+use Rattle.uring_fill.proofs.Common.{Answer, AreAllNext, Begins, CalledForApart, Completions, Contains, Cqe, Event, GiveAllowed, GivesAllowed, GoesOn, History, IsIdle, IsLawfulApart, IsPart, IsWhole, Setup, World, completion_for, completions_in, entry_of, happens, history_of, history_of_cons, is_hidden, onto, outstanding_in, posts, seen_in, with_posted, world}
 use Rattle.uring_core.specs.declared.step.Step.{Step}
-use Rattle.uring_core.specs.declared.answer.Answer.{Answer}
 use Rattle.uring_core.proofs.CompletionMoves.{CompletionMove, stays, ends, completion_move}
-use Rattle.uring_core.proofs.Following.{history_of_cons}
-use Rattle.uring_fill.specs.Filling.{is_hidden, seen_in, completions_in, GivesAllowed, GiveAllowed, Begins, IsPart}
-use Rattle.uring_fill.specs.Parts.{onto, IsWhole, GoesOn, IsIdle, AreAllNext}
 use Rattle.uring_fill.proofs.Begun.{begins_itself, begins_more, begins_on}
 
 -- What is posted stays posted.

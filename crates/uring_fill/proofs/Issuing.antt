@@ -1,12 +1,9 @@
 -- What can be issued, as the core tells it.
 use Rattle.std.proofs.Common.{◌≡◌, ℕ, ◌<◌, Bool, true, ◌&&◌, length, Some, arith}
-use Rattle.std.specs.Prelude.{nat_le}
-use Rattle.std.proofs.lemmas.Bool.{le-leb, and_from, and_left, lt-leb}
+use Rattle.uring_fill.proofs.Common.{Requests, and_from, and_left, is_issuable, is_outstanding, issuable_from, le-leb, lt-leb, nat_le}
 use Rattle.uring_core.proofs.SoundRequests.{outstanding_tells}
-use Rattle.uring_entry.specs.Requests.{Requests, is_outstanding}
 use Rattle.uring_entry.proofs.BelowLemmas.{least_below_some}
 use Rattle.uring_linux.specs.LinuxRequests.{LinuxRequests}
-use Rattle.uring_rules.specs.Rules.{is_issuable, issuable_from}
 use Rattle.uring_core.proofs.Issuable.{issuable_outstanding}
 
 -- what is outstanding was accepted

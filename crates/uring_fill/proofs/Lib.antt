@@ -1,4 +1,5 @@
 -- In the order in which they are best read.
+mod Common
 -- Lists that begin with others:
 pub mod Begun
 -- What stays as a history goes on, and goes on after another:

@@ -1,19 +1,10 @@
 -- Events one after the other.
 use Rattle.std.proofs.Common.{◌≡◌, ℕ, suc, ◌+◌, ◌-◌, ◌<◌, ◌≤◌, Bool, List, [], ◌∷◌, ◌++◌, length, take, drop, get_or, if◌then◌else◌, refl, sym, ap, subst, ◌∙◌, inl, inr, arith, append_assoc, append-nil, Option}
-use Rattle.std.proofs.lemmas.List.{take_more, take-append-drop}
+use Rattle.uring_fill.proofs.Common.{CalledForApart, Cqe, Event, History, IsLawfulApart, Setup, cases_lt, completions_in, filter_map-append, history_of, history_of_snoc, onto, take-append-drop, take_more, world}
 use Rattle.std.specs.List.{cons_option}
 use Rattle.std.specs.Option.{option_to_list}
-use Rattle.std.proofs.lemmas.List.Elements.{filter_map-append}
 use Rattle.std.proofs.Math.Seq.{drop-cons}
-use Rattle.std.proofs.lemmas.Bool.{cases_lt}
-use Rattle.uring_entry.specs.Setup.{Setup}
-use Rattle.uring_entry.specs.Layout.{Cqe}
 use Rattle.uring_core.specs.Events.{reaped_by}
-use Rattle.uring_fill.specs.Filling.{completions_in}
-use Rattle.uring_core.specs.StepAnswers.{CalledForApart}
-use Rattle.uring_core.specs.Histories.{Event, History, world, history_of, IsLawfulApart}
-use Rattle.uring_core.proofs.Following.{history_of_snoc}
-use Rattle.uring_fill.specs.Parts.{onto}
 use Rattle.uring_fill.proofs.Going.{lawful_onto, onto_is}
 
 pub at_most_one : (b : Bool) → (if b then 0 else 1) ≤ 1

@@ -1,27 +1,13 @@
 -- What was recorded of calls, and the outcome that it comes to.
 use Rattle.std.proofs.Common.{◌≡◌, ◌+◌, ◌<◌, ℕ, false, List, [], ◌∷◌, ◌++◌, length, map, take, get_or, refl, sym, subst, ap, ◌∙◌}
-use Rattle.std.specs.Prelude.{string_bytes}
-use Rattle.std.proofs.lemmas.List.{map-append, take_more}
+use Rattle.uring_histories.proofs.Common.{Between, Cqe, Fits, GoesThrough, HasMade, History, IsAmid, IsEnded, IsHistoryOf, IsLawful, IsRecorded, Item, Over, Published, Setup, ShowsOnly, Step, all_published_as, call_steps, dropped, files_of, map-append, outstanding_in, published_in, string_bytes, take_more, world}
 use Rattle.std.specs.declared.vec.Vec.{Vec}
 use Rattle.std.specs.declared.alloc.Global.{Global}
-use Rattle.uring_entry.specs.Setup.{Setup}
-use Rattle.uring_entry.specs.Layout.{Cqe}
-use Rattle.uring_entry.specs.Submission.{Published, dropped}
-use Rattle.uring_entry.specs.Requests.{outstanding_in}
-use Rattle.uring_core.specs.CalledFor.{IsLawful, files_of}
-use Rattle.uring_core.specs.Histories.{History, world}
-use Rattle.uring_core.specs.declared.step.Step.{Step}
 use Rattle.uring_core.specs.declared.step.Step.TheVariants as step
-use Rattle.uring_machine.specs.Machine.{Fits}
 use Rattle.uring_outcomes.specs.CallOutcomes.{CallsOutcome, ComesTo}
-use Rattle.uring_outcomes.specs.MoveLaws.{GoesThrough}
 use Rattle.uring_outcomes.specs.Outcomes.{Ending}
-use Rattle.uring_ports.specs.declared.item.Item.{Item}
-use Rattle.uring_ports.specs.Items.{all_published_as}
 use Rattle.uring_play_text.specs.Inputs.{lists_of}
 use Rattle.uring_histories.specs.declared.recording.Recording.{Recording}
-use Rattle.uring_histories.specs.Recordings.{IsRecorded, HasMade, Between, IsAmid, Over, IsEnded, ShowsOnly, call_steps, published_in}
-use Rattle.uring_histories.specs.Shown.{IsHistoryOf}
 use Rattle.uring_histories.proofs.Submitted.{call_made, issue_between, finish_between, over_still}
 
 -- before anything was made

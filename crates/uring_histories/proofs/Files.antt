@@ -1,18 +1,11 @@
 -- The files of a history, and that they are some others by what is told of each.
 use Rattle.std.proofs.Common.{◌≡◌, ℕ, ◌<◌, ◌≤◌, pos, List, [], ◌∷◌, length, Option, Some, None, inl, inr, refl, ◌∙◌, arith}
-use Rattle.std.specs.Prelude.{slice_get}
+use Rattle.uring_histories.proofs.Common.{Ending, Requests, Setup, World, after, entry_of, file_of, files_after, files_of, length-replicate, same_by_descriptors, slice_get, state_of}
 use Rattle.std.specs.Option.{option_map}
 use Rattle.std.proofs.lemmas.Option.{slice_get_cases}
-use Rattle.std.proofs.lemmas.List.{length-replicate}
-use Rattle.uring_entry.specs.Setup.{Setup}
 use Rattle.uring_entry.specs.Preparation.{operation_of}
-use Rattle.uring_entry.specs.Requests.{Requests, Ending, entry_of}
 use Rattle.uring_files.specs.Contents.{FileContents, empty_file, empty_files}
 use Rattle.uring_files.proofs.OperationCases.{many_after}
-use Rattle.uring_files.specs.Operations.{after, file_of, state_of}
-use Rattle.uring_core.specs.World.{World}
-use Rattle.uring_core.specs.CalledFor.{files_after, files_of}
-use Rattle.uring_outcomes.proofs.SameEndings.{same_by_descriptors}
 
 ends_count : (r : Requests) (ends : List Ending) (files : List FileContents)
     → length (files_after r files ends) ≡ length files

@@ -1,11 +1,10 @@
 -- What a check of all bytes says.
 use Rattle.std.proofs.Common.{◌≡◌, ℕ, false, List, ◌++◌, Option, Some, None, Ok, sym, subst, ap, ◌∙◌, append-nil}
-use Rattle.uring_entry.specs.Setup.{Setup}
+use Rattle.uring_histories.proofs.Common.{IsAccepted, Setup}
 use Rattle.uring_check.specs.Checks.{IsChecked, IsVerdict}
 use Rattle.uring_check.specs.declared.ends.Ends.TheVariants.{Given}
 use Rattle.uring_check.specs.declared.verdict.Verdict.{Verdict}
 use Rattle.uring_check.specs.declared.verdict.Verdict.TheVariants as verdict
-use Rattle.uring_histories.specs.Shown.{IsAccepted}
 
 -- bytes that were read to their end, and found lawful
 pub accepted_by : (g : Setup) (bytes : List ℕ) (left held_before held_after : Option (List ℕ)) (v : Verdict)

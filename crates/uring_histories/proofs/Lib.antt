@@ -1,3 +1,4 @@
+mod Common
 pub mod Recorded
 pub mod Submitted
 pub mod Arrived

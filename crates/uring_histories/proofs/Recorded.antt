@@ -1,33 +1,19 @@
 -- Steps that are made and recorded, one after the other.
 use Rattle.std.proofs.Common.{◌≡◌, ◌+◌, ◌<◌, ℕ, zero, suc, Bool, true, false, List, [], ◌∷◌, ◌++◌, length, take, get_or, Some, if◌then◌else◌, refl, sym, subst, ap, ◌∙◌, arith, add-one, inl, inr}
-use Rattle.std.specs.Prelude.{neg_ℤ, string_bytes}
-use Rattle.std.proofs.lemmas.List.{map-append, take_more, length-map, length-take-le}
-use Rattle.uring_entry.specs.Setup.{Setup}
+use Rattle.uring_histories.proofs.Common.{CalledFor, EndsOn, Fits, HasMade, History, IsLawful, IsPlain, IsRecorded, IsUnrefused, Item, MadeAfter, Published, Requests, Setup, Step, World, all_published_as, bad_word, call_steps, entry_of, files_of, is_running, item_steps, length-map, length-take-le, map-append, neg_ℤ, published_as, result_of, steps_of_item, string_bytes, take_more, take_steps, with_entry, world}
 use Rattle.uring_entry.specs.declared.errno.TheConstants.{ENOMEM}
-use Rattle.uring_entry.specs.Submission.{Published, with_entry, bad_word}
 use Rattle.uring_entry.specs.Preparation.{operation_of}
-use Rattle.uring_entry.specs.Requests.{Requests, entry_of, is_running}
 use Rattle.uring_entry.specs.declared.operation.Outcome.{Outcome}
 use Rattle.uring_files.specs.Contents.{FileContents}
-use Rattle.uring_files.specs.Operations.{result_of}
-use Rattle.uring_core.specs.World.{World}
-use Rattle.uring_core.specs.CalledFor.{CalledFor, EndsOn, IsLawful, files_of}
-use Rattle.uring_core.specs.Histories.{History, world}
-use Rattle.uring_core.specs.declared.step.Step.{Step}
 use Rattle.uring_core.specs.declared.step.Step.TheVariants as step
 use Rattle.uring_core.specs.declared.answer.Answer.{Answer}
 use Rattle.uring_core.specs.declared.answer.Answer.TheVariants as answer
 use Rattle.uring_core.proofs.Following.{history_of_snoc}
-use Rattle.uring_laws.specs.Standing.{item_steps}
 use Rattle.uring_laws.proofs.WholeLaws.{lawful_apart}
-use Rattle.uring_machine.specs.Machine.{Fits, IsUnrefused}
-use Rattle.uring_ports.specs.declared.item.Item.{Item}
-use Rattle.uring_ports.specs.Items.{published_as, all_published_as}
 use Rattle.uring_text.specs.Lines.{ended}
 use Rattle.uring_trace.specs.Exchanges.{answer_text, events_of}
 use Rattle.uring_trace.specs.Spelling.{IsStep}
 use Rattle.uring_histories.specs.declared.recording.Recording.{Recording}
-use Rattle.uring_histories.specs.Recordings.{IsRecorded, IsPlain, MadeAfter, HasMade, steps_of_item, take_steps, call_steps}
 
 -- A step that was answered as it is called for, and refused nothing for want of memory.
 

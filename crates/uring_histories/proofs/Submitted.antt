@@ -1,26 +1,16 @@
 -- What the steps of calls, and the moves between them, make of a world.
 -- By the laws of single steps, with the answers that are called for, as in the proofs of moves.
 use Rattle.std.proofs.Common.{◌≡◌, ◌⊎◌, ◌+◌, ◌≤◌, ℕ, zero, suc, ℤ, Bool, true, false, List, [], ◌∷◌, ◌++◌, length, if◌then◌else◌, refl, sym, subst, ap, ◌∙◌, arith, inl, inr}
-use Rattle.std.proofs.lemmas.List.{length_push, map-append}
-use Rattle.uring_entry.specs.Setup.{Setup}
-use Rattle.uring_entry.specs.Layout.{Cqe}
-use Rattle.uring_entry.specs.Submission.{Submission, with_staged, with_filled, with_published, Published, with_entry, bad_word, published_items}
-use Rattle.uring_entry.specs.Requests.{entry_of, no_bytes}
+use Rattle.uring_histories.proofs.Common.{Between, Cqe, GoesThrough, History, IsPlain, MadeAfter, Over, Published, Setup, ShowsOnly, Stands, Step, Submission, World, after_call, bad_word, beginning, call_steps, entry_of, filling, happens, in_call, item_steps, length_push, map-append, no_bytes, published_items, staging, take_steps, taking, with_end_of, with_entry, with_filled, with_item, with_items, with_published, with_staged, world}
 use Rattle.uring_entry.specs.Completions.{with_posted, completion_for}
-use Rattle.uring_core.specs.World.{World, with_end_of, happens, filling, staging, beginning, taking}
 use Rattle.uring_rules.specs.Rules.{posts}
 use Rattle.uring_core.specs.StepAnswers.{CalledForApart, OrAgain}
-use Rattle.uring_core.specs.Histories.{History, world}
-use Rattle.uring_core.specs.declared.step.Step.{Step}
 use Rattle.uring_core.specs.declared.step.Step.TheVariants as step
 use Rattle.uring_core.specs.declared.answer.Answer.{Answer}
 use Rattle.uring_core.specs.declared.answer.Answer.TheVariants as answer
-use Rattle.uring_laws.specs.Standing.{Stands, with_item, with_items, in_call, after_call, item_steps}
 use Rattle.uring_laws.proofs.Standing.{slot_filled, word_staged, tail_publishes, items_published, call_opens, next_taken, call_closes}
 use Rattle.uring_outcomes.specs.CallOutcomes.{items_in}
-use Rattle.uring_outcomes.specs.MoveLaws.{GoesThrough}
 use Rattle.uring_outcomes.proofs.ItemLists.{items_more}
-use Rattle.uring_histories.specs.Recordings.{IsPlain, MadeAfter, Between, Over, ShowsOnly, call_steps, take_steps}
 
 split_made : (g : Setup) (h after : History) (ss ts : List Step) → MadeAfter g h (ss ++ ts) after
     → (mid : History) × MadeAfter g h ss mid × MadeAfter g mid ts after

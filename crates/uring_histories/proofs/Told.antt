@@ -1,19 +1,14 @@
 -- What all bytes of an input tell, and the history of the calls that they tell.
 use Rattle.std.proofs.Common.{◌≡◌, ℕ, List, ◌++◌, map, Option, Some, None, Ok, sym, subst, ap, ◌∙◌, append-nil}
-use Rattle.std.specs.Prelude.{IfSome, string_bytes}
+use Rattle.uring_histories.proofs.Common.{IfSome, IsAccepted, IsHistoryOf, Item, Setup, WritesHistory, all_published_as, published_in, remark_text, string_bytes, whole}
 use Rattle.std.specs.Io.KnownBytes.{Appends}
 use Rattle.std.specs.declared.vec.Vec.{Vec}
 use Rattle.std.specs.declared.string.String.{String}
 use Rattle.std.specs.declared.alloc.Global.{Global}
-use Rattle.uring_entry.specs.Setup.{Setup}
 use Rattle.uring_outcomes.specs.Outcomes.{Ending}
-use Rattle.uring_ports.specs.declared.item.Item.{Item}
-use Rattle.uring_ports.specs.Items.{all_published_as}
 use Rattle.uring_play_text.specs.Inputs.{ReadsCalls, IsTold, lists_of}
-use Rattle.uring_histories.specs.Recordings.{published_in}
 use Rattle.uring_litmus.specs.Lines.{IsLineOf}
 use Rattle.uring_check.specs.SetupLines.{setup_text}
-use Rattle.uring_histories.specs.Shown.{IsAccepted, IsHistoryOf, WritesHistory, remark_text, whole}
 use Rattle.uring_histories.proofs.Arrived.{same_calls}
 
 -- an input that was read to its end tells the calls that were returned

@@ -2,27 +2,11 @@
 -- Each definition on requests and drains reads their lists only by what is found in them, so that the order of what started and ended is read by none.
 -- Stable: other crates may import what is pub.
 use Rattle.std.proofs.Common.{◌≡◌, ℕ, ℤ, true, if◌then◌else◌, List, [], ◌∷◌, ◌++◌, Some, refl, sym, subst, ap, ap₂, ◌∙◌, rules}
-use Rattle.uring_linux.specs.LinuxRequests.{LinuxRequests}
-use Rattle.uring_entry.specs.Setup.{Setup}
-use Rattle.uring_entry.specs.Preparation.{operation_of}
-use Rattle.uring_entry.specs.Submission.{entries_from}
-use Rattle.uring_entry.specs.Completions.{with_posted, completion_for}
-use Rattle.uring_entry.specs.Requests.{Ending, entry_of, is_running, no_bytes}
-use Rattle.uring_linux.specs.Drains.{Drains}
+use Rattle.uring_laws.proofs.Common.{AlikeAnswerAlike, AlikeGoOnAlike, Answer, AreAlike, CalledFor, Change, ChangeAnywhere, Drains, Ending, EndsOn, History, IsLawful, IsLawfulApart, LinuxRequests, Setup, StandAlike, Step, World, after, cancels, change_of, completion_for, dooms, empty_files, ending_of, entries_from, entry_of, files_ended, files_kept, files_of, finishes, happens, is_running, issue_answer, next_answer_of, no_bytes, operation_of, refuses, requests_of, runs, taking_entry_of, taking_of, with_end_of, with_posted, world}
+use Rattle.uring_core.proofs.Changes.{takes, drops, closes}
 use Rattle.uring_rules.specs.Rules.{doomed_result, cancel_result}
-use Rattle.uring_files.specs.Contents.{empty_files}
-use Rattle.uring_files.specs.Operations.{after}
-use Rattle.uring_core.specs.World.{World, requests_of, happens, taking_of, taking_entry_of, ending_of, with_end_of}
-use Rattle.uring_core.specs.StepAnswers.{issue_answer, next_answer_of}
-use Rattle.uring_core.specs.CalledFor.{CalledFor, IsLawful, EndsOn, files_of}
-use Rattle.uring_core.specs.Histories.{History, world, IsLawfulApart}
-use Rattle.uring_core.specs.declared.step.Step.{Step}
 use Rattle.uring_core.specs.declared.step.Step.TheVariants as step
-use Rattle.uring_core.specs.declared.answer.Answer.{Answer}
 use Rattle.uring_core.specs.declared.answer.Answer.TheVariants as answer
-use Rattle.uring_core.proofs.Changes.{Change, refuses, takes, drops, closes, runs, dooms, cancels, finishes, change_of}
-use Rattle.uring_core.proofs.FileHistory.{files_kept, files_ended}
-use Rattle.uring_laws.specs.Swaps.{StandAlike, AreAlike, AlikeAnswerAlike, AlikeGoOnAlike, ChangeAnywhere}
 use Rattle.uring_laws.proofs.AlikeRequests.{AreSame, ReadSame, read_same, listed, outstanding_same, running_same}
 use Rattle.uring_laws.proofs.AlikeRules.{ends_doomed_same, may_start_same, cancel_result_same, posts_same, next_of_same, drains_called_same, drains_ended_same, issued_end_same, end_same, pushed}
 use Rattle.uring_laws.proofs.WholeLaws.{lawful_apart}

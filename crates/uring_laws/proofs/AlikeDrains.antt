@@ -1,13 +1,7 @@
 -- Who is in its turn, and what calls and ends make of the drains, by Linux's rules, reads of the lists of requests only which numbers have ended: who started counts for nothing there.
 use Rattle.std.proofs.Common.{◌≡◌, ℕ, Bool, not, ◌&&◌, ◌||◌, nat_lt, if◌then◌else◌, List, [], ◌∷◌, length, refl, ap, ap₂, ◌∙◌}
-use Rattle.uring_entry.specs.Layout.{Sqe}
+use Rattle.uring_laws.proofs.Common.{Deferred, Drains, Ending, LinuxRequests, Requests, Sqe, after_going_on, deferred_with, has_ended, is_alone, is_faulty_from, is_in_some, is_in_turn, is_joined, is_linked, keeps_back, some_below_same, still_deferred, with_accepted, with_cut, with_deferred, with_entries, with_group, with_last_entry, with_ring}
 use Rattle.uring_entry.specs.Requests as manual
-use Rattle.uring_entry.specs.Requests.{Requests, Ending, has_ended, is_joined, is_linked}
-use Rattle.uring_entry.proofs.BelowLemmas.{some_below_same}
-use Rattle.uring_linux.specs.Drains.{Drains, is_in_some, deferred_with, still_deferred, with_deferred, with_ring}
-use Rattle.uring_linux.specs.Happenings.{with_entries}
-use Rattle.uring_linux.specs.LinuxRequests.{LinuxRequests, after_going_on, is_alone, is_faulty_from, is_in_turn, keeps_back, with_accepted, with_cut, with_group, with_last_entry}
-use Rattle.uring_linux.specs.declared.deferred.Deferred.{Deferred}
 use Rattle.uring_laws.proofs.AlikeRequests.{listed, EndSame}
 
 module _ (r : Requests) (s c : List ℕ) (e : List Ending) (same : EndSame r e) where

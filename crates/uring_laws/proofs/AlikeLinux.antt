@@ -1,13 +1,7 @@
 -- Requests with other lists, of which the definitions read the same, stand alike by Linux's rules too.
 use Rattle.std.proofs.Common.{◌≡◌, ℕ, ◌==◌, ℤ, pos, neg_ℤ, not, ◌&&◌, ◌||◌, if◌then◌else◌, List, length, Option, Some, None, is_some, refl, ap, ap₂, ◌∙◌}
-use Rattle.uring_entry.specs.declared.errno.TheConstants.{ENOENT, EALREADY}
-use Rattle.uring_entry.specs.Layout.{addr_of, user_data_of}
-use Rattle.uring_entry.specs.Preparation.{is_cancel_all}
-use Rattle.uring_entry.specs.Requests.{Requests, Ending, entry_of, is_joined, is_outstanding, is_running, is_soft}
-use Rattle.uring_entry.specs.Why.{failed_member_of, is_failure_before}
-use Rattle.uring_entry.proofs.BelowLemmas.{least_below_same}
-use Rattle.uring_linux.specs.Drains.{Drains, is_in_some}
-use Rattle.uring_linux.specs.LinuxRequests.{breaker_of, cancel_result, first_of, found_by, is_doomed, is_found, is_in_faulty_group, is_in_turn, is_issuable, next_of, posts_after}
+use Rattle.uring_laws.proofs.Common.{Drains, EALREADY, ENOENT, Ending, Requests, addr_of, breaker_of, entry_of, failed_member_of, first_of, found_by, is_cancel_all, is_failure_before, is_found, is_in_some, is_in_turn, is_joined, is_outstanding, is_running, is_soft, least_below_same, posts_after, user_data_of}
+use Rattle.uring_linux.specs.LinuxRequests.{cancel_result, is_doomed, is_in_faulty_group, is_issuable, next_of}
 use Rattle.uring_laws.proofs.AlikeRequests.{ReadSame, listed, after_same, outstanding_same, running_same}
 use Rattle.uring_laws.proofs.AlikeDrains as drains
 

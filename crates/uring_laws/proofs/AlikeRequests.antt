@@ -1,15 +1,6 @@
 -- Requests with other lists, of which the definitions read the same, stand alike by the manual pages' rules: each reads who started, was doomed by a cancel, ended and failed, and nothing else of them.
 use Rattle.std.proofs.Common.{◌≡◌, ℕ, zero, suc, ◌==◌, ℤ, pos, neg_ℤ, Bool, not, ◌&&◌, ◌||◌, nat_lt, if◌then◌else◌, List, [], ◌∷◌, ◌++◌, length, Option, Some, None, refl, sym, ap, ap₂, ◌∙◌, ◌<◌, arith}
-use Rattle.std.specs.List.{list_any}
-use Rattle.std.specs.Option.{option_to_list}
-use Rattle.uring_entry.specs.declared.errno.TheConstants.{EALREADY}
-use Rattle.uring_entry.specs.Layout.{addr_of, user_data_of}
-use Rattle.uring_entry.specs.Below.{all_below}
-use Rattle.uring_entry.specs.Preparation.{is_cancel, is_cancel_all}
-use Rattle.uring_entry.specs.Success.{is_success}
-use Rattle.uring_entry.specs.Requests.{Requests, Ending, entry_of, is_outstanding, is_running, is_doomed, is_after_failure, is_in_faulty_group, some_member, is_joined, is_ready, is_issuable, is_candidate, is_target, is_soft, holds_back, has_started, has_ended, has_failed, is_cancelled, waits_for, target_of, targets_of, result_for, count_result, cancel_result, chosen_by, next_of}
-use Rattle.uring_entry.proofs.BelowLemmas.{some_below_same, least_below_same}
-use Rattle.uring_laws.specs.Swaps.{HaveSame}
+use Rattle.uring_laws.proofs.Common.{EALREADY, Ending, HaveSame, Requests, addr_of, all_below, cancel_result, chosen_by, count_result, entry_of, has_ended, has_failed, has_started, holds_back, is_after_failure, is_cancel, is_cancel_all, is_cancelled, is_candidate, is_doomed, is_in_faulty_group, is_issuable, is_joined, is_outstanding, is_ready, is_running, is_soft, is_success, is_target, least_below_same, list_any, next_of, option_to_list, result_for, some_below_same, some_member, target_of, targets_of, user_data_of, waits_for}
 
 -- Requests with other lists of who started, was doomed and ended.
 

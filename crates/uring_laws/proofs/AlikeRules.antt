@@ -1,15 +1,10 @@
 -- Requests with other lists, of which the definitions read the same, stand alike by the rules of each set-up, if by Linux's the drains stand the same.
 use Rattle.std.proofs.Common.{◌≡◌, ℕ, ◌==◌, ℤ, Bool, true, false, not, ◌&&◌, ◌++◌, ◌∷◌, [], List, refl, sym, ap, ap₂, ◌∙◌, ◌||◌}
-use Rattle.std.specs.List.{list_any}
+use Rattle.uring_laws.proofs.Common.{Drains, Ending, LinuxRequests, Sqe, StandAlike, drains_called, drains_ended, ends_doomed, is_in_some, list_any, may_start, no_bytes, posts}
+use Rattle.uring_rules.specs.Rules.{cancel_result, next_of, with_issued_end}
 use Rattle.std.proofs.lemmas.List.Folds.{list_any-append}
-use Rattle.uring_entry.specs.Layout.{Sqe}
-use Rattle.uring_entry.specs.Requests.{Ending, no_bytes}
 use Rattle.uring_entry.specs.Requests as manual
-use Rattle.uring_linux.specs.Drains.{Drains, is_in_some}
-use Rattle.uring_linux.specs.LinuxRequests.{LinuxRequests}
 use Rattle.uring_linux.specs.LinuxRequests as kernel
-use Rattle.uring_rules.specs.Rules.{ends_doomed, may_start, cancel_result, posts, next_of, with_issued_end, drains_called, drains_ended}
-use Rattle.uring_laws.specs.Swaps.{StandAlike}
 use Rattle.uring_laws.proofs.AlikeRequests.{AreSame, ReadSame, read_same, listed, doomed_same, ready_same, cancel_same, chosen_same, next_same}
 use Rattle.uring_laws.proofs.AlikeLinux as by_linux
 use Rattle.uring_laws.proofs.AlikeDrains.{called_same, going_same}

@@ -1,26 +1,13 @@
 -- Operations that stay apart don't meet: `apart_dont_meet`. What one leaves of a file, the other finds as it was, and both orders leave the same bytes.
 use Rattle.std.proofs.Common.{◌≡◌, ◌≢◌, ℕ, zero, suc, ◌+◌, ◌-◌, ◌<◌, ◌≤◌, ◌==◌, ◌%◌, ◌^◌, min, ℤ, pos, negsuc, neg_ℤ, Bool, true, false, not, ◌&&◌, cond, if◌then◌else◌, List, [], ◌∷◌, length, take, drop, get_or, Option, Some, None, refl, sym, ap, ap₂, ◌∙◌, arith, ◌⊎◌, inl, inr}
-use Rattle.std.specs.Prelude.{slice_set, nat_le, nat_lt}
-use Rattle.std.specs.Option.{option_map, option_map_or}
-use Rattle.std.specs.Ordering.{int_eq}
-use Rattle.std.proofs.lemmas.Bool.{true≢false, cases_Bool, cases_lt, or_cases, or_left, or_right, and_parts, and_right, not-true, leb-true, ltb-true, le-ltb, cond-true}
-use Rattle.std.proofs.lemmas.Bool.Decides.{Decides-int_eq}
+use Rattle.uring_laws.proofs.Common.{ApartDontMeet, Decides-int_eq, EFBIG, FileContents, Fsync, Op, Outcome, Read, Write, after, and_parts, and_right, are_disjoint, are_on_others, cases_Bool, cases_lt, cond-true, empty_file, ended_with, file_asked, file_of, get_or-drop, int_eq, is_too_long, le-ltb, leb-true, length-drop, length-take, ltb-true, nat_le, nat_lt, not-true, on_file, option_map, option_map_or, or_cases, or_left, or_right, overwritten, padded, read_outcome, result_of, slice_set, stay_apart, stay_apart_on_one, true≢false, with_changed, with_writes_synced, written}
 use Rattle.std.proofs.lemmas.Cmp.{int_eq_equiv}
 use Rattle.std.proofs.Math.Bool.{or_comm}
 use Rattle.std.proofs.lemmas.Grind.{same_number_lists}
-use Rattle.std.proofs.lemmas.List.{length-take, length-drop, get_or-drop}
-use Rattle.uring_entry.specs.Layout.{padded}
-use Rattle.uring_entry.specs.declared.errno.TheConstants.{EFBIG}
-use Rattle.uring_entry.specs.declared.operation.Op.{Op}
-use Rattle.uring_entry.specs.declared.operation.Op.TheVariants.{Read, Write, Fsync}
-use Rattle.uring_entry.specs.declared.operation.Outcome.{Outcome}
-use Rattle.uring_files.specs.Contents.{FileContents, empty_file, overwritten, written, with_writes_synced, read_outcome, is_too_long}
-use Rattle.uring_files.specs.Operations.{file_asked, file_of, with_changed, on_file, ended_with, result_of, after}
 use Rattle.uring_files.proofs.OperationCases.{Task, Does, cases}
 use Rattle.uring_files.proofs.Overwrites.{is_written_over}
 use Rattle.uring_files.proofs.StandAlone.{changed_same, changed_other, unlike, others_stay, ends_apart}
 use Rattle.uring_files.specs.Laws.{IsWrittenOver}
-use Rattle.uring_laws.specs.Swaps.{are_disjoint, are_on_others, stay_apart, stay_apart_on_one, ApartDontMeet}
 
 -- Bytes written over others.
 

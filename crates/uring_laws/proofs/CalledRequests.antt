@@ -1,23 +1,9 @@
 -- Who can start before a call accepts entries can start after it, and the other way round, by either's rules. By Linux's no group that was deferred goes on by a call: something else is outstanding then.
 use Rattle.std.proofs.Common.{◌≡◌, ℕ, ◌<◌, ◌≤◌, Bool, true, false, not, ◌&&◌, ◌||◌, nat_lt, if◌then◌else◌, List, [], ◌∷◌, length, refl, sym, ap, ap₂, ◌∙◌, arith, inl, inr, ◌+◌}
-use Rattle.std.proofs.lemmas.Bool.{and_parts, cases_Bool, both_ways, not-true, not-false, lt-ltb, false_from_ne_true, cond_both}
-use Rattle.std.proofs.lemmas.List.{length_push}
+use Rattle.uring_laws.proofs.Common.{Deferred, Drains, HasGoneOn, IsBetween, LinuxRequests, Requests, Sqe, after_going_on, and_parts, both_ways, cases_Bool, cond_both, deferred_with, doom_kept, ends_doomed, entry_kept, false_from_ne_true, has_ended, holds_back, in_pushed, is_alone, is_deferred, is_drain, is_draining, is_faulty_from, is_in_some, is_in_turn, is_joined, is_linked, is_outstanding, is_ready, join_kept, keeps_back, length_push, longer, lt-ltb, may_start, member_kept, not-false, not-true, not_alone, pushed_old, some_below, some_below_in, some_below_same, still_fewer, waits_for, with_accepted, with_call, with_cut, with_deferred, with_entries, with_group, with_last_entry, with_ring}
 use Rattle.uring_laws.proofs.Growth.{IsCut}
-use Rattle.uring_entry.specs.Layout.{Sqe}
 use Rattle.uring_entry.specs.Requests as manual
-use Rattle.uring_entry.specs.Requests.{Requests, has_ended, is_outstanding, is_joined, is_linked, is_draining, is_drain, is_ready, waits_for, holds_back, with_call}
-use Rattle.uring_entry.proofs.BelowLemmas.{some_below_same, some_below_in}
-use Rattle.uring_entry.specs.Below.{some_below}
-use Rattle.uring_linux.specs.declared.deferred.Deferred.{Deferred}
-use Rattle.uring_linux.specs.Drains.{Drains, is_in_some, deferred_with, with_deferred, with_ring}
-use Rattle.uring_linux.specs.LinuxRequests.{LinuxRequests, after_going_on, is_alone, is_deferred, is_faulty_from, is_in_turn, keeps_back, with_accepted, with_cut, with_group, with_last_entry}
-use Rattle.uring_linux.specs.Happenings.{with_entries}
-use Rattle.uring_linux.proofs.Deferring.{HasGoneOn, not_alone}
-use Rattle.uring_linux.proofs.Reaching.{IsBetween}
-use Rattle.uring_rules.specs.Rules.{ends_doomed, may_start}
 use Rattle.uring_rules.specs.RulesCalls.{called_by}
-use Rattle.uring_core.proofs.Groups.{longer, entry_kept, join_kept, member_kept, doom_kept}
-use Rattle.uring_linux.proofs.InOrder.{in_pushed, pushed_old, still_fewer}
 use Rattle.uring_laws.proofs.LinuxSound.{doom_called}
 use Rattle.uring_laws.proofs.StartedRequests.{CanStart}
 use Rattle.uring_laws.proofs.EndedRequests.{unmoved}

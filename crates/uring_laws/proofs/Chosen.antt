@@ -1,27 +1,10 @@
 -- Whom cancels chose, read off a history, by the manual pages' rules.
 use Rattle.std.proofs.Common.{◌≡◌, ℕ, ◌==◌, ℤ, pos, true, false, ◌&&◌, List, [], ◌∷◌, ◌++◌, cond, refl, sym, subst, ap, ◌∙◌, ◌⊎◌, inl, inr, arith}
-use Rattle.std.specs.List.{list_any}
-use Rattle.std.specs.Option.{option_to_list}
-use Rattle.std.specs.Prelude.{int_le}
-use Rattle.std.proofs.lemmas.Bool.{and_parts, or_left, or_right, both_ways, eq-eqb, le-leb}
-use Rattle.std.proofs.lemmas.Bool.Decides.{Decides-int_eq}
+use Rattle.uring_laws.proofs.Common.{Answer, Chose, Decides-int_eq, Event, History, IsChosenIn, IsLawfulApart, Move, Requests, Setup, Step, World, all_success, and_parts, any_both, both_ways, by_manual, cancel_result, choices_of, chose, chosen_by, doomed_fails, doomed_result, ends_cancel, entry_of, eq-eqb, int_le, is_cancel, is_cancelled, is_success, le-leb, list_any, move_of, no_bytes, one_success, option_to_list, or_left, or_right, outstanding_tells, requests_of, target_of, target_there, targets_of, with_issued_end, world}
+use Rattle.uring_core.proofs.Moves.{ends_doomed}
 use Rattle.std.proofs.lemmas.List.Folds.{list_any-append}
-use Rattle.uring_entry.specs.Setup.{Setup}
-use Rattle.uring_entry.specs.Preparation.{is_cancel}
-use Rattle.uring_entry.specs.Success.{is_success}
-use Rattle.uring_entry.specs.Requests.{Requests, entry_of, is_cancelled, target_of, targets_of, choices_of, chosen_by, doomed_result, cancel_result, no_bytes, with_issued_end}
-use Rattle.uring_laws.specs.HistoryLists.{IsChosenIn}
-use Rattle.uring_core.specs.Events.{Chose}
-use Rattle.uring_core.specs.World.{World, requests_of}
-use Rattle.uring_core.specs.Histories.{Event, History, world, IsLawfulApart, by_manual}
-use Rattle.uring_core.specs.declared.step.Step.{Step}
 use Rattle.uring_core.specs.declared.step.Step.TheVariants as step
-use Rattle.uring_core.specs.declared.answer.Answer.{Answer}
 use Rattle.uring_core.specs.declared.answer.Answer.TheVariants as answer
-use Rattle.uring_core.proofs.Moves.{Move, ends_doomed, ends_cancel, move_of}
-use Rattle.uring_core.proofs.RequestEnds.{doomed_fails, chose, any_both}
-use Rattle.uring_core.proofs.SoundRequests.{outstanding_tells}
-use Rattle.uring_entry.proofs.RequestLemmas.{one_success, all_success, target_there}
 use Rattle.uring_laws.proofs.Growth.{event_grows}
 
 -- where a request is newly chosen, the event is the end of a cancel

@@ -1,15 +1,7 @@
 -- The completion ring's lists, read off a history.
 use Rattle.std.proofs.Common.{◌≡◌, [], ◌∷◌, ◌++◌, length, refl, sym, ap, ◌∙◌, rules}
-use Rattle.std.proofs.lemmas.Bool.{cond_both}
-use Rattle.uring_entry.specs.Setup.{Setup}
-use Rattle.uring_rules.specs.Rules.{posts}
-use Rattle.uring_entry.specs.Completions.{Completions}
-use Rattle.uring_core.specs.Events.{reaped_by, is_flush, is_load_cq_tail, is_store_cq_head}
+use Rattle.uring_laws.proofs.Common.{Answer, Completions, Event, History, IsLawfulApart, Setup, Step, World, cond_both, is_flush, is_load_cq_tail, is_store_cq_head, posts, reaped_by, world}
 use Rattle.uring_laws.specs.Direct.{before_last, reaps as reaps_in, stored_head, flushed_head}
-use Rattle.uring_core.specs.World.{World}
-use Rattle.uring_core.specs.Histories.{History, world, IsLawfulApart, Event}
-use Rattle.uring_core.specs.declared.step.Step.{Step}
-use Rattle.uring_core.specs.declared.answer.Answer.{Answer}
 use Rattle.uring_core.proofs.CompletionMoves.{CompletionMove, stays, ends, flushes, sees_tail, reaps, stores_head, completion_move, IsOffCompletions}
 use Rattle.uring_laws.proofs.Telling.{told_same, before_same}
 

@@ -1,20 +1,8 @@
 -- The entries of published positions, read off a history.
 use Rattle.std.proofs.Common.{◌≡◌, ℕ, ◌+◌, ◌-◌, ◌<◌, ◌≤◌, false, not, nat_lt, [], ◌∷◌, ◌++◌, length, map, Option, Some, None, slice_get, get_or, if◌then◌else◌, cond, refl, sym, ap, ◌∙◌, ◌⊎◌, inl, inr, arith}
-use Rattle.std.proofs.lemmas.Bool.{cases_lt, lt-ltb, le-ltb}
-use Rattle.std.proofs.lemmas.List.{length-append, length-map, get_or_append_left, get_or-append_right, get_or-map}
-use Rattle.std.proofs.lemmas.Option.{slice_get_within, slice_get-get_or, get_or_from_slice_get}
-use Rattle.uring_entry.specs.Setup.{Setup}
-use Rattle.uring_entry.specs.Layout.{Sqe}
-use Rattle.uring_entry.specs.Submission.{Place, place_of}
-use Rattle.uring_core.specs.Events.{staged_by, is_store_tail}
-use Rattle.uring_laws.specs.Direct.{staged_words, published_words, slot_content, before_published, published_entry}
-use Rattle.uring_core.specs.World.{World}
-use Rattle.uring_core.specs.Histories.{Event, History, world, IsLawfulApart}
-use Rattle.uring_core.specs.declared.step.Step.{Step}
+use Rattle.uring_laws.proofs.Common.{Answer, Event, History, IsLawfulApart, Place, Setup, Sqe, Step, SubmissionMove, World, before_published, cases_lt, get_or-append_right, get_or-map, get_or_append_left, get_or_from_slice_get, is_store_tail, le-ltb, length-append, length-map, lt-ltb, place_of, published_entry, published_words, slice_get-get_or, slice_get_within, slot_content, staged_by, staged_words, stages, stays, stores, submission_move, world}
 use Rattle.uring_core.specs.declared.step.Step.TheVariants as step
-use Rattle.uring_core.specs.declared.answer.Answer.{Answer}
 use Rattle.uring_core.specs.declared.answer.Answer.TheVariants as answer
-use Rattle.uring_core.proofs.SubmissionMoves.{SubmissionMove, stays, stages, stores, submission_move}
 use Rattle.uring_laws.proofs.DirectSubmission.{DirectSubmission, direct_submission}
 
 abbrev pub EntriesTold : Setup → History → World → Type 0

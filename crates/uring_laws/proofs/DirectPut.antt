@@ -1,17 +1,6 @@
 -- How many completions were put into the ring, read off a history.
 use Rattle.std.proofs.Common.{◌≡◌, ℕ, ◌+◌, ◌-◌, ◌==◌, min, nat_lt, Bool, true, false, ◌&&◌, [], ◌∷◌, length, Some, None, is_some, if◌then◌else◌, cond, refl, ap, ap₂, arith}
-use Rattle.std.proofs.lemmas.Bool.{cond_both}
-use Rattle.uring_entry.specs.Setup.{Setup}
-use Rattle.uring_entry.specs.Layout.{Cqe}
-use Rattle.uring_rules.specs.Rules.{posts}
-use Rattle.uring_entry.specs.Completions.{Completions, with_posted, completion_for}
-use Rattle.uring_entry.specs.Requests.{entry_of}
-use Rattle.uring_core.specs.World.{World}
-use Rattle.uring_core.specs.Histories.{Event, History, world, IsLawfulApart}
-use Rattle.uring_laws.specs.Direct.{with_told, before_last, stored_head, flushed_head}
-use Rattle.uring_laws.specs.HistoryLists.{posts_told, posted_count, put_count}
-use Rattle.uring_core.specs.declared.step.Step.{Step}
-use Rattle.uring_core.specs.declared.answer.Answer.{Answer}
+use Rattle.uring_laws.proofs.Common.{Answer, Completions, Cqe, Event, History, IsLawfulApart, Setup, Step, World, before_last, completion_for, cond_both, entry_of, flushed_head, posted_count, posts, posts_told, put_count, stored_head, with_posted, with_told, world}
 use Rattle.uring_core.proofs.CompletionMoves.{CompletionMove, stays, ends, flushes, completion_move}
 use Rattle.uring_laws.proofs.DirectCompletions.{direct_completions}
 

@@ -1,26 +1,8 @@
 -- The accepted entries, the cuts and the completions posted, read off a history.
 use Rattle.std.proofs.Common.{◌≡◌, ℕ, ◌+◌, ◌<◌, ◌==◌, true, ◌||◌, List, [], ◌∷◌, ◌++◌, length, take, map, sum, Some, None, get_or, cond, refl, sym, ap, ap₂, ◌∙◌, arith, append-nil, take-add}
-use Rattle.std.specs.List.{list_any, filter_map, cons_option}
-use Rattle.std.proofs.lemmas.Bool.{or_left, or_right, eq-eqb}
-use Rattle.std.proofs.lemmas.List.{length-append, take-append-le, get_or_append_left}
-use Rattle.std.proofs.lemmas.List.Elements.{filter_map-append}
-use Rattle.std.proofs.lemmas.List.Sums.{sum_by_push, sum_by-cons}
-use Rattle.uring_entry.specs.Setup.{Setup}
-use Rattle.uring_entry.specs.Layout.{Sqe, zero_entry, user_data_of}
-use Rattle.uring_entry.specs.Success.{posts_completion}
-use Rattle.uring_entry.specs.Submission.{Submission, taken, accepted, entries_of, places_from, place_of}
-use Rattle.uring_entry.specs.Completions.{Completions, with_end}
-use Rattle.uring_entry.specs.Requests.{Ending}
-use Rattle.uring_core.specs.Events.{accepted_by, closes_ring}
-use Rattle.uring_laws.specs.Direct.{told, sums_from, cut_counts, completion_of}
-use Rattle.uring_core.specs.World.{World}
-use Rattle.uring_core.specs.Histories.{History, world, IsLawfulApart, by_manual}
-use Rattle.uring_core.specs.declared.step.Step.{Step}
-use Rattle.uring_core.specs.declared.answer.Answer.{Answer}
-use Rattle.uring_core.proofs.SubmissionMoves.{SubmissionMove, stays, stores, closes, submission_move}
+use Rattle.uring_laws.proofs.Common.{Answer, Completions, Ending, History, IsLawfulApart, IsSound, Setup, Sqe, Step, Submission, SubmissionMove, World, accepted, accepted_by, by_manual, closes, closes_ring, completion_of, cons_option, cut_counts, entries_of, eq-eqb, filter_map, filter_map-append, get_or_append_left, length-append, list_any, or_left, or_right, place_of, places_from, posts_completion, sound_of, stays, stores, submission_move, sum_by-cons, sum_by_push, sums_from, take-append-le, taken, told, user_data_of, with_end, world, zero_entry}
 use Rattle.uring_core.proofs.CompletionMoves.{CompletionMove, stays as stays_off, ends, completion_move}
 use Rattle.uring_laws.proofs.Telling.{told_same}
-use Rattle.uring_core.proofs.Sound.{IsSound, sound_of}
 
 pub record DirectRequests (h : History) (w : World) : Type 0 where
   pub taken_in : w.requests.accepted ≡ accepted w.submission

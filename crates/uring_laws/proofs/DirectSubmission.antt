@@ -1,24 +1,9 @@
 -- The submission ring's lists, read off a history.
 use Rattle.std.proofs.Common.{◌≡◌, ℕ, ◌+◌, ◌≤◌, ◌==◌, Bool, true, false, ◌||◌, eqb, List, [], ◌∷◌, ◌++◌, length, map, sum, count_by, Option, Some, None, unwrap_or, if◌then◌else◌, cond, refl, sym, subst, ap, ap₂, ◌∙◌, arith, append-nil, append_assoc, rules}
-use Rattle.std.specs.Option.{option_or}
-use Rattle.std.proofs.lemmas.Bool.{eq-eqb, ne_eqb, ltb-false}
-use Rattle.std.proofs.lemmas.List.{length_push, map-append}
-use Rattle.uring_entry.specs.Setup.{Setup}
-use Rattle.uring_entry.specs.Layout.{Sqe, zero_entry}
-use Rattle.uring_entry.specs.Submission.{Call, place_of, call_length}
-use Rattle.uring_core.specs.Events.{filled_by, staged_by, takes_position, takes_last, opens_call, opened_by, closes_call, is_store_tail, is_load_head}
-use Rattle.uring_laws.specs.Direct.{last_told, since_last, staged_words, published_words, slot_content, taken_since, entries_taken, has_stopped, open_count, open_call, call_counts, taken_count, loaded_head}
-use Rattle.uring_linux.specs.LinuxRequests.{asks_to_skip}
-use Rattle.uring_core.specs.Stops.{open_taken, taken_entries, some_skips, stops_after}
-use Rattle.uring_core.specs.World.{World}
-use Rattle.uring_core.specs.Histories.{Event, History, world, IsLawfulApart}
-use Rattle.uring_core.specs.declared.step.Step.{Step}
+use Rattle.uring_laws.proofs.Common.{Answer, Call, Event, History, IsLawfulApart, Setup, Sqe, Step, SubmissionMove, World, asks_to_skip, begins, call_counts, call_length, closes, closes_call, drops, entries_taken, eq-eqb, filled_by, fills, has_stopped, is_load_head, is_store_tail, last_told, length_push, loaded_head, loads, ltb-false, map-append, ne_eqb, open_call, open_count, open_taken, opened_by, opens_call, option_or, place_of, published_words, since_last, slot_content, some_skips, sound_of, staged_by, staged_words, stages, stays, stops_after, stores, submission_move, taken_count, taken_entries, taken_since, takes, takes_last, takes_position, world, zero_entry}
 use Rattle.uring_core.specs.declared.step.Step.TheVariants as step
-use Rattle.uring_core.specs.declared.answer.Answer.{Answer}
 use Rattle.uring_core.specs.declared.answer.Answer.TheVariants as answer
-use Rattle.uring_core.proofs.SubmissionMoves.{SubmissionMove, stays, fills, stages, stores, loads, begins, takes, drops, closes, submission_move}
 use Rattle.uring_core.proofs.SoundRings.{IsSoundSubmission, open_count as positions_open}
-use Rattle.uring_core.proofs.Sound.{sound_of}
 use Rattle.uring_laws.proofs.TakenPlaces.{takes_places}
 use Rattle.uring_laws.proofs.Telling.{count_more, count_same, told_same, before_same}
 

@@ -1,22 +1,10 @@
 -- What an end leaves of other requests, by either's rules: who can start, who is to end as doomed and who posts; and the drains that two ends leave, in either order.
 use Rattle.std.proofs.Common.{◌≡◌, ◌≢◌, ℕ, ◌<◌, ◌==◌, ℤ, Bool, true, false, not, ◌&&◌, ◌||◌, nat_lt, if◌then◌else◌, List, [], ◌∷◌, ◌++◌, length, Option, refl, sym, subst, ap, ap₂, ◌∙◌, arith}
-use Rattle.std.specs.List.{list_any}
-use Rattle.std.proofs.lemmas.Bool.{and_from, and_parts, and_right, both_ways, not-true, false_from_ne_true}
-use Rattle.uring_entry.specs.Requests.{Requests, Ending, has_ended, is_outstanding, is_running, is_doomed, is_cancelled, is_in_faulty_group, is_joined, is_ready, some_member, waits_for, no_bytes, with_ended}
-use Rattle.uring_entry.specs.Why.{failed_member_of, is_failure_before}
-use Rattle.uring_entry.proofs.BelowLemmas.{some_below_none, least_below_same}
-use Rattle.uring_entry.proofs.RequestLemmas.{list_any_push, has_ended_same, has_ended_other, is_ready_yes, is_ready_inside, is_running_ended_other}
-use Rattle.uring_linux.specs.declared.deferred.Deferred.{Deferred}
-use Rattle.uring_linux.specs.Drains.{Drains, is_in_some, still_deferred}
+use Rattle.uring_laws.proofs.Common.{Deferred, Drains, Ending, LinuxRequests, Requests, and_from, and_parts, and_right, both_ways, breaker_of, drains_ended, ends_doomed, failed_member_of, false_from_ne_true, faulty_ended, first_of, has_ended, has_ended_other, has_ended_same, is_alone, is_cancelled, is_deferred, is_doomed, is_failure_before, is_in_faulty_group, is_in_some, is_in_turn, is_joined, is_outstanding, is_ready, is_ready_inside, is_ready_yes, is_running, is_running_ended_other, keeps_back, least_below_same, list_any, list_any_push, may_start, no_bytes, not-true, not_alone, posts, posts_after, some_below_none, some_member, still_deferred, still_fewer, waits_for, with_ended}
 use Rattle.uring_linux.specs.LinuxRequests as kernel
-use Rattle.uring_linux.specs.LinuxRequests.{LinuxRequests, breaker_of, first_of, is_alone, is_deferred, is_in_turn, keeps_back, posts_after}
-use Rattle.uring_linux.proofs.Deferring.{not_alone}
-use Rattle.uring_rules.specs.Rules.{ends_doomed, may_start, posts, drains_ended}
 use Rattle.uring_laws.proofs.AlikeDrains.{going_same}
 use Rattle.uring_laws.proofs.AlikeLinux.{after_one}
 use Rattle.std.proofs.Math.Bool.{or_comm}
-use Rattle.uring_linux.proofs.FaultsKept.{faulty_ended}
-use Rattle.uring_linux.proofs.InOrder.{still_fewer}
 use Rattle.uring_laws.proofs.LinuxSound as sound
 use Rattle.uring_laws.proofs.LinuxSound.{IsFirst, after_end, failure_end, doom_ended, doom_stays, first_ended, turn_first, after_stays}
 use Rattle.uring_laws.proofs.StartedRequests.{CanStart}

@@ -2,23 +2,10 @@
 -- By induction over the history: a Finish that ended its request is `files_ended`, and any other event is `files_kept`.
 -- Stable: other crates may import what is pub.
 use Rattle.std.proofs.Common.{◌≡◌, ◌==◌, ℕ, ℤ, Bool, true, false, List, [], ◌∷◌, None, refl, sym, subst, ap, ◌∙◌}
-use Rattle.std.proofs.lemmas.Bool.{eq-eqb}
-use Rattle.uring_entry.specs.Setup.{Setup}
-use Rattle.uring_entry.specs.Preparation.{operation_of}
-use Rattle.uring_entry.specs.Requests.{Requests, entry_of, is_running}
-use Rattle.uring_files.specs.Operations.{file_of, after, IsOutcome}
-use Rattle.uring_core.specs.StepAnswers.{FinishesApart}
-use Rattle.uring_core.specs.CalledFor.{CalledFor, IsLawful, EndsOn, files_of}
-use Rattle.uring_laws.specs.Direct.{with_told}
-use Rattle.uring_files.specs.Done.{Done, files_left, AreDone}
+use Rattle.uring_laws.proofs.Common.{Answer, AreDone, CalledFor, Done, EndsOn, FilesByOperations, FilesByPlace, FinishesApart, History, IsLawful, IsLawfulApart, IsOutcome, LawfulByOperations, PlacesJoin, Requests, Setup, Step, after, done_by, done_in, entry_of, eq-eqb, file_of, files_ended, files_kept, files_left, files_of, first_files, is_running, operation_of, with_told, world}
 use Rattle.uring_files.proofs.DoneLemmas.{left_snoc, done_snoc, done_unsnoc}
-use Rattle.uring_laws.specs.Finishes.{done_by, done_in, first_files, LawfulByOperations, FilesByOperations, PlacesJoin, FilesByPlace}
-use Rattle.uring_core.specs.Histories.{History, world, IsLawfulApart}
-use Rattle.uring_core.specs.declared.step.Step.{Step}
 use Rattle.uring_core.specs.declared.step.Step.TheVariants as step
-use Rattle.uring_core.specs.declared.answer.Answer.{Answer}
 use Rattle.uring_core.specs.declared.answer.Answer.TheVariants as answer
-use Rattle.uring_core.proofs.FileHistory.{files_ended, files_kept}
 use Rattle.uring_laws.proofs.FilesApart.{left_by_own, join_places}
 use Rattle.uring_laws.proofs.WholeLaws.{lawful_apart}
 

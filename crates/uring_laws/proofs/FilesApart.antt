@@ -2,19 +2,9 @@
 -- and operations that were dealt out by their file can be carried out at places with files of their own.
 -- From the lemmas of uring_files that each file stands by itself. Stable: other crates may import what is pub.
 use Rattle.std.proofs.Common.{◌≡◌, ℕ, ◌<◌, ◌==◌, ℤ, Bool, true, false, cond, List, [], ◌∷◌, map, refl, sym, ap, ◌∙◌, inl, inr, arith, subst}
-use Rattle.std.specs.List.{filter}
-use Rattle.std.proofs.lemmas.Bool.{both_ways, eq-eqb, false_from_ne_true, cond_both, cond-true}
-use Rattle.uring_entry.specs.Preparation.{operation_of}
-use Rattle.uring_entry.specs.Requests.{Requests, Ending, entry_of}
-use Rattle.uring_entry.specs.declared.operation.Op.{Op}
-use Rattle.uring_entry.specs.declared.operation.Outcome.{Outcome}
-use Rattle.uring_files.specs.Contents.{FileContents}
+use Rattle.uring_laws.proofs.Common.{AreDone, Done, Ending, FileByItsEnds, FileContents, IsByFile, IsOutcome, Op, Outcome, Requests, after, both_ways, cond-true, cond_both, done_at, ends_of, entry_of, eq-eqb, false_from_ne_true, file_of, files_after, files_left, filter, operation_of}
 use Rattle.uring_files.specs.Laws.{AgreeAt, is_on}
-use Rattle.uring_files.specs.Operations.{file_of, after, IsOutcome}
 use Rattle.uring_files.proofs.StandAlone.{others_stay, files_apart, ends_apart}
-use Rattle.uring_core.specs.CalledFor.{files_after}
-use Rattle.uring_files.specs.Done.{Done, files_left, AreDone}
-use Rattle.uring_laws.specs.Finishes.{ends_of, done_at, IsByFile, FileByItsEnds}
 
 -- The file of a descriptor.
 

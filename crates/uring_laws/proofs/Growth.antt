@@ -2,21 +2,9 @@
 -- By `Move`, event by event (`event_grows`), and over a history by induction (`grows`).
 -- Stable: other crates may import `Grows` with its fields, as `same_entry`, and `event_grows`, `grows`, `lawful_before`.
 use Rattle.std.proofs.Common.{◌≡◌, ℕ, ◌<◌, ◌≤◌, ℤ, Bool, true, false, List, [], ◌∷◌, ◌++◌, length, refl, ◌∙◌, ◌⊎◌, inl, inr, arith, rules}
-use Rattle.uring_entry.specs.Setup.{Setup}
-use Rattle.uring_entry.specs.Layout.{Sqe}
-use Rattle.uring_entry.specs.Requests.{Requests, entry_of, is_joined, is_draining, is_drain, some_member, is_doomed, is_cancelled, with_call, with_started}
-use Rattle.uring_linux.specs.LinuxRequests.{LinuxRequests}
+use Rattle.uring_laws.proofs.Common.{Answer, History, IsChoice, IsLawfulApart, LinuxRequests, Move, Requests, Setup, Sqe, Step, accepts, choice_of, doom_kept, end_doom, end_join, ended_as, ends_cancel, ends_run, entry_kept, entry_of, is_cancelled, is_doomed, is_doomed_started, is_drain, is_draining, is_draining_started, is_joined, is_joined_started, join_kept, list_any, longer, member_kept, move_of, no_choice, requests_of, some_member, sound_of, starts, with_call, with_started, world}
+use Rattle.uring_core.proofs.Moves.{stays, ends_doomed}
 use Rattle.uring_rules.specs.Rules.{doomed_result, cancel_result, with_issued_end}
-use Rattle.uring_core.specs.World.{requests_of}
-use Rattle.uring_core.specs.Histories.{History, world, IsLawfulApart}
-use Rattle.uring_core.specs.declared.step.Step.{Step}
-use Rattle.uring_core.specs.declared.answer.Answer.{Answer}
-use Rattle.uring_core.proofs.Moves.{Move, stays, accepts, starts, ends_doomed, ends_cancel, ends_run, move_of}
-use Rattle.uring_core.proofs.RequestEnds.{IsChoice, ended_as, end_doom, end_join, choice_of, no_choice}
-use Rattle.uring_entry.proofs.EventLemmas.{is_doomed_started, is_joined_started, is_draining_started}
-use Rattle.uring_core.proofs.Groups.{longer, entry_kept, join_kept, member_kept, doom_kept}
-use Rattle.uring_core.proofs.Sound.{sound_of}
-use Rattle.std.specs.List.{list_any}
 use Rattle.std.proofs.Common.{◌==◌}
 
 -- of the requests accepted by then, the entries and the groups stay, and the doomed stay doomed by the manual pages' rules

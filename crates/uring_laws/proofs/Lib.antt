@@ -1,4 +1,5 @@
 -- In the order in which they are best read.
+mod Common
 -- The lists are the history's own:
 pub mod Telling
 pub mod ToldRequests

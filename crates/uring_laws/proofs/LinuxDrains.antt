@@ -1,24 +1,12 @@
 -- By Linux's rules what isn't deferred waits for no drain: whoever may start has nobody before it that a drain puts there. By what has happened, one submission call, start or end after the other.
 use Rattle.std.proofs.Common.{◌≡◌, ℕ, suc, ◌+◌, ◌-◌, ◌<◌, ◌≤◌, ℤ, min, max, length, Bool, true, false, not, ◌&&◌, ◌||◌, ◌==◌, List, [], ◌∷◌, refl, sym, ◌∙◌, ap, subst, arith, inl, inr, length-append, rules}
-use Rattle.std.specs.Prelude.{if◌then◌else◌, nat_lt}
-use Rattle.std.proofs.lemmas.Bool.{cases_lt, cases_Bool, eq-eqb, ne_eqb, lt-ltb, both_ways, and_left, and_right, and_from, and_parts, or_left, or_right, or_cases, or_parts, or_from, not-true, not-false, ltb-true, ltb-false, false_from_ne_true, true_from_ne_false}
-use Rattle.uring_entry.specs.Layout.{Sqe}
+use Rattle.uring_laws.proofs.Common.{Deferred, Drains, End, Happening, IsSettled, LinuxRequests, MayHaveHappened, Requests, Sqe, Start, accepted_settled, after_going_on, all_between, and_from, and_left, and_parts, and_right, both_ways, cases_Bool, cases_lt, deferred_with, drains, entry_of, entry_of_accepted_at, eq-eqb, false_from_ne_true, group_faulty, has_ended, has_fault, healthy_from, if◌then◌else◌, is_alone, is_deferred, is_drain, is_faulty_from, is_first, is_granted_drain, is_in_group, is_in_some, is_joined, is_joined_no, is_joined_yes, is_last, is_let_in, is_linked, is_owed_by, lt-ltb, ltb-false, ltb-true, made_by, may_take, nat_lt, ne_eqb, not-false, not-true, not_alone, or_cases, or_from, or_left, or_parts, or_right, order_higher, order_push, order_still, owes_drain, pushed_new, pushed_old, ring_off, some_below_in, some_below_none, some_below_out, some_below_some, still_deferred, takes_drain, true_from_ne_false, with_accepted, with_cut, with_deferred, with_entries, with_group, with_last_entry, with_ring}
+use Rattle.uring_linux.specs.Happenings.{Call}
+use Rattle.uring_linux.specs.LinuxRequests.{is_in_faulty_group, with_ended}
 use Rattle.uring_entry.specs.Requests as manual
-use Rattle.uring_entry.specs.Requests.{Requests, entry_of, is_linked, is_drain, is_last, is_joined, is_in_group, has_ended}
-use Rattle.uring_entry.proofs.BelowLemmas.{some_below_none, some_below_some, some_below_in, some_below_out}
-use Rattle.uring_entry.proofs.RequestLemmas.{is_joined_no, is_joined_yes, entry_of_accepted_at}
 use Rattle.uring_entry.proofs.GroupEvents.{is_last_cut, is_last_cut_last}
-use Rattle.uring_linux.specs.declared.deferred.Deferred.{Deferred}
-use Rattle.uring_linux.specs.Drains.{Drains, is_in_some, still_deferred, deferred_with, with_deferred, with_ring}
-use Rattle.uring_linux.specs.LinuxRequests.{LinuxRequests, has_fault, is_let_in, is_granted_drain, is_in_faulty_group, is_deferred, is_alone, is_faulty_from, after_going_on, with_group, with_last_entry, with_accepted, with_cut, with_ended}
-use Rattle.uring_linux.specs.Happenings.{Happening, Call, Start, End, with_entries, made_by, MayHaveHappened}
 use Rattle.uring_linux.proofs.WindowEvents.{last_accepted}
-use Rattle.uring_linux.proofs.Deferring.{not_alone}
 use Rattle.uring_linux.proofs.Standings.{fine_let_in}
-use Rattle.uring_linux.proofs.InOrder.{pushed_new, pushed_old, ring_off, order_higher, order_push, order_still}
-use Rattle.uring_linux.proofs.FaultsKept.{group_faulty, healthy_from}
-use Rattle.uring_linux.proofs.Reaching.{IsSettled, accepted_settled, all_between}
-use Rattle.uring_laws.specs.LinuxLaws.{is_first, owes_drain, may_take, is_owed_by, takes_drain, drains}
 use Rattle.uring_laws.proofs.LinuxGroups.{marks, IsTold, AreTold, gone_calm, left_calm}
 use Rattle.uring_laws.proofs.LinuxKept.{HasDrain, Waits, KeepsGroups, accepted_keeps, cut_keeps, started_keeps, ended_keeps, WaitForNone, RingDrains, IsOwed, Holds, IsDrained, more_waits, more_ring, more_told, more_begins, still_holds}
 

@@ -1,14 +1,6 @@
 -- Groups that a drain holds back: where they stand, whether their members ask to drain, and who goes on first.
 use Rattle.std.proofs.Common.{◌≡◌, ℕ, suc, ◌-◌, ◌<◌, ◌≤◌, min, max, length, Bool, true, false, ◌&&◌, ◌||◌, List, [], ◌∷◌, ◌++◌, refl, ap, arith, inl, inr}
-use Rattle.std.specs.Prelude.{if◌then◌else◌}
-use Rattle.std.proofs.lemmas.Bool.{cases_lt, both_ways, and_left, and_right, or_cases, false_from_ne_true}
-use Rattle.uring_entry.specs.Requests.{Requests, entry_of, is_drain, is_last, is_joined, is_in_group}
-use Rattle.uring_entry.proofs.BelowLemmas.{some_below_none}
-use Rattle.uring_entry.proofs.RequestLemmas.{is_joined_yes, is_joined_no}
-use Rattle.uring_linux.specs.declared.deferred.Deferred.{Deferred}
-use Rattle.uring_linux.specs.Drains.{is_among, is_in_some, from_drain, still_deferred}
-use Rattle.uring_linux.proofs.InOrder.{InOrder, among_tells, order_above, drain_before}
-use Rattle.uring_laws.specs.LinuxLaws.{takes_drain, drains}
+use Rattle.uring_laws.proofs.Common.{Deferred, InOrder, Requests, among_tells, and_left, and_right, both_ways, cases_lt, drain_before, drains, entry_of, false_from_ne_true, from_drain, if◌then◌else◌, is_among, is_drain, is_in_group, is_in_some, is_joined, is_joined_no, is_joined_yes, is_last, or_cases, order_above, some_below_none, still_deferred, takes_drain}
 
 -- whether n makes its group drain: it asks to, or takes a drain that is owed
 abbrev pub marks : Requests → ℕ → Bool

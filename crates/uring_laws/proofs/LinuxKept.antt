@@ -1,21 +1,10 @@
 -- Of groups that drain by Linux's rules: what is so of the requests whatever happened, and stays as more is accepted after them.
 use Rattle.std.proofs.Common.{◌≡◌, ℕ, suc, ◌-◌, ◌<◌, ◌≤◌, ℤ, min, max, length, true, false, not, ◌&&◌, ◌||◌, ◌==◌, List, refl, sym, ◌∙◌, ap, ap₂, arith, ◌⊎◌, inl, inr, rules}
-use Rattle.std.specs.Prelude.{nat_le, nat_lt}
-use Rattle.std.proofs.lemmas.Bool.{cases_lt, both_ways, and_from, and_parts}
-use Rattle.uring_entry.specs.Layout.{Sqe}
+use Rattle.uring_laws.proofs.Common.{Deferred, Drains, FaultsKept, Requests, Sqe, accepted_faults, and_from, and_parts, any_kept, both_ways, cases_lt, cut_faults, drains, entry_of, has_ended, has_fault, is_drain, is_first, is_in_group, is_in_some, is_joined, is_joined_no, is_last, is_let_in, is_owed_by, is_past, joined_kept, may_take, nat_le, nat_lt, order_kept, owes_drain, right_kept, some_below_in, some_below_same, some_below_some}
+use Rattle.uring_linux.specs.LinuxRequests.{is_in_faulty_group}
 use Rattle.uring_entry.specs.Requests as manual
-use Rattle.uring_entry.specs.Requests.{Requests, entry_of, is_drain, is_last, is_joined, is_in_group, has_ended}
-use Rattle.uring_entry.proofs.BelowLemmas.{some_below_some, some_below_in, some_below_same}
-use Rattle.uring_entry.proofs.RequestLemmas.{is_joined_no}
 use Rattle.uring_entry.proofs.GroupEvents.{entry_same, is_last_cut}
-use Rattle.uring_linux.specs.declared.deferred.Deferred.{Deferred}
-use Rattle.uring_linux.specs.Drains.{Drains, is_in_some}
-use Rattle.uring_linux.specs.LinuxRequests.{is_past, is_let_in, has_fault, is_in_faulty_group}
 use Rattle.uring_linux.proofs.WindowEvents.{refused_accepted, last_accepted, last_kept}
-use Rattle.uring_linux.proofs.InOrder.{order_kept}
-use Rattle.uring_linux.proofs.FaultsKept.{FaultsKept, joined_kept, right_kept, accepted_faults, cut_faults}
-use Rattle.uring_core.proofs.ListCounts.{any_kept}
-use Rattle.uring_laws.specs.LinuxLaws.{is_first, owes_drain, may_take, is_owed_by, drains}
 use Rattle.uring_laws.proofs.LinuxGroups.{marks, IsTold, AreTold}
 
 -- n's group drains, and has no fault

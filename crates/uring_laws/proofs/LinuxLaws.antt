@@ -1,33 +1,17 @@
 -- The laws of `linux.rt`: doomed requests, links, drains and cancels by Linux's rules.
 use Rattle.std.proofs.Common.{◌≡◌, ℕ, ◌<◌, ◌==◌, neg_ℤ, Bool, true, false, not, ◌&&◌, ◌||◌, List, [], ◌∷◌, ◌++◌, Option, Some, None, length, slice_get, count_by, refl, sym, subst, ◌∙◌, ◌⊎◌, inl, inr, arith}
-use Rattle.std.specs.Ordering.{int_eq}
-use Rattle.std.proofs.lemmas.Bool.{and_right, and_parts, or_parts, cases_Bool, ltb-true, both_ways, false_from_ne_true}
-use Rattle.uring_entry.specs.Setup.{Setup}
-use Rattle.uring_entry.specs.declared.errno.TheConstants.{ECANCELED}
-use Rattle.uring_entry.specs.Requests.{Requests, Ending, has_started, has_ended, is_joined, is_outstanding, least_of}
-use Rattle.uring_linux.specs.Happenings.{Happening, made_by, MayHaveHappened}
-use Rattle.uring_linux.specs.LinuxRequests.{LinuxRequests, is_in_faulty_group, is_doomed, doomed_result, cancel_result, is_deferred}
-use Rattle.uring_core.specs.World.{World, requests_of}
-use Rattle.uring_core.specs.StepAnswers.{IsIssued}
-use Rattle.uring_core.specs.Histories.{History, world, IsLawfulApart}
-use Rattle.uring_core.specs.declared.step.Step.{Step}
+use Rattle.uring_laws.proofs.Common.{Answer, CancelledWereDoomed, CancelsDoomNobody, Change, DeferredDontStart, DoomedNeverRun, DoomedStayDoomed, DrainsHold, ECANCELED, Ending, Happening, HasHappened, History, IsIssued, IsLawfulApart, IsSilent, IsStart, LeastFreeCanGoOn, LeastFreeGoesOn, LinuxRequests, MayHaveHappened, MembersGoInOrder, Move, Requests, Setup, Step, World, accepts, and_parts, and_right, both_ways, by_linux, cancels, cases_Bool, change_of, count_none, dooms, drains, ends_cancel, ends_run, false_from_ne_true, has_ended, has_started, history_happens, int_eq, is_deferred, is_joined, is_outstanding, least_below_out, least_of, ltb-true, made_by, move_of, or_parts, outstanding_tells, refuses, requests_of, runs, sound_of, starts, world}
+use Rattle.uring_laws.specs.LinuxLaws.{waits_for}
+use Rattle.uring_linux.specs.LinuxRequests.{is_in_faulty_group, is_doomed, doomed_result, cancel_result}
+use Rattle.uring_core.proofs.Moves.{stays, ends_doomed}
 use Rattle.uring_core.specs.declared.step.Step.TheVariants as step
-use Rattle.uring_core.specs.declared.answer.Answer.{Answer}
 use Rattle.uring_core.specs.declared.answer.Answer.TheVariants as answer
-use Rattle.uring_core.proofs.Changes.{Change, IsSilent, refuses, runs, dooms, cancels, change_of}
-use Rattle.uring_core.proofs.Moves.{Move, stays, accepts, starts, ends_doomed, ends_cancel, ends_run, move_of}
-use Rattle.uring_core.proofs.ListCounts.{count_none}
-use Rattle.uring_core.proofs.SoundRequests.{outstanding_tells}
-use Rattle.uring_core.proofs.Sound.{sound_of}
 use Rattle.uring_core.proofs.Issuable.{issue_goes}
-use Rattle.uring_entry.proofs.BelowLemmas.{least_below_out}
 use Rattle.uring_linux.specs.Laws.{GoesOn}
 use Rattle.uring_linux.proofs.GoingOn.{goes_on_from}
-use Rattle.uring_laws.specs.LinuxLaws.{DoomedNeverRun, DoomedStayDoomed, CancelledWereDoomed, MembersGoInOrder, IsStart, DeferredDontStart, drains, waits_for, DrainsHold, LeastFreeCanGoOn, LeastFreeGoesOn, CancelsDoomNobody}
 use Rattle.uring_laws.proofs.ToldRequests.{tells_requests}
 use Rattle.uring_laws.proofs.Growth.{grows, event_grows, then_grows, lawful_before, IsCut}
 use Rattle.uring_laws.proofs.OrderLaws.{result_told, end_there, ended_once, refused_no_end, refused_no_run, cancelled_doomed, started_so}
-use Rattle.uring_core.proofs.LinuxHistories.{by_linux, HasHappened, history_happens}
 use Rattle.uring_laws.proofs.LinuxKept.{Waits}
 use Rattle.uring_laws.proofs.LinuxDrains.{waits_for_none}
 use Rattle.uring_laws.proofs.LinuxSound.{IsFirst, IsSoundLinux, turn_first, doom_started, doom_stays, doom_called, Starts, starts_so, linux_sound}

@@ -1,34 +1,10 @@
 -- What holds of the requests of every lawful history by Linux's rules: whoever started or ended did so in its turn, so that it stays as doomed or spared as it was then.
 -- By `Change`, event by event, and over a history by induction (`linux_sound`).
 use Rattle.std.proofs.Common.{◌≡◌, ℕ, ◌+◌, ◌-◌, ◌==◌, ◌<◌, ◌≤◌, ℤ, min, max, List, [], ◌∷◌, length, Bool, true, false, not, ◌&&◌, ◌||◌, if◌then◌else◌, neg_ℤ, refl, sym, subst, ◌∙◌, ap, ap₂, arith, inl, inr}
-use Rattle.std.specs.List.{list_any}
-use Rattle.std.specs.Ordering.{int_eq}
-use Rattle.std.proofs.lemmas.Bool.{and_parts, and_left, and_right, cases_eq, or_from, or_right, both_ways, eqb-true, not-true, not-false, not_from_true, false_from_ne_true}
-use Rattle.std.proofs.lemmas.Bool.Decides.{Decides-int_eq}
+use Rattle.uring_laws.proofs.Common.{Answer, Change, Decides-int_eq, ECANCELED, EINVAL, EOPNOTSUPP, Ending, History, IsLawfulApart, IsSoundRequests, LinuxRequests, Requests, Setup, Sqe, Step, World, and_left, and_parts, and_right, any_kept, any_looser, any_new, asks_to_drain, asks_to_skip, both_ways, by_linux, cancels, cases_eq, change_of, dooms, ending_of, entries_of, entry_kept, entry_of, eqb-true, false_from_ne_true, faulty_ended, finishes, happens, has_ended, has_failed, has_failed_other, has_fault, has_skipped, has_started, int_eq, is_after_failure, is_after_failure_from, is_after_failure_tells, is_deferred, is_failure_before, is_faulty, is_in_group, is_in_turn, is_joined, is_joined_ended, is_joined_no, is_joined_started, is_last, is_refused_drain, is_soft, is_success, join_kept, keeps_back, list_any, list_any_push, longer, no_request, not-false, not-true, not_from_true, or_from, or_right, outstanding_tells, places_from, refuses, requests_of, runs, some_below_between, some_below_out, some_below_same, sound_of, taking_entry_of, taking_of, with_call, with_ended, with_started, world}
+use Rattle.uring_core.proofs.Changes.{takes, drops, closes}
+use Rattle.uring_linux.specs.LinuxRequests.{is_in_faulty_group, is_doomed, doomed_result}
 use Rattle.uring_laws.proofs.Growth.{IsCut}
-use Rattle.uring_entry.specs.Setup.{Setup}
-use Rattle.uring_entry.specs.Layout.{Sqe}
-use Rattle.uring_entry.specs.Success.{is_success}
-use Rattle.uring_entry.specs.Preparation.{is_faulty}
-use Rattle.uring_entry.specs.Submission.{entries_of, places_from}
-use Rattle.uring_entry.specs.declared.errno.TheConstants.{EINVAL, EOPNOTSUPP, ECANCELED}
-use Rattle.uring_entry.specs.Requests.{Requests, Ending, no_request, entry_of, has_started, has_ended, has_failed, is_last, is_soft, is_joined, is_in_group, is_after_failure, with_call, with_started, with_ended}
-use Rattle.uring_entry.specs.Why.{is_failure_before}
-use Rattle.uring_entry.proofs.BelowLemmas.{some_below_same, some_below_between, some_below_out}
-use Rattle.uring_entry.proofs.RequestLemmas.{is_joined_no, list_any_push, has_failed_other}
-use Rattle.uring_entry.proofs.EventLemmas.{is_joined_started, is_joined_ended, is_after_failure_tells, is_after_failure_from}
-use Rattle.uring_linux.specs.LinuxRequests.{LinuxRequests, asks_to_drain, asks_to_skip, has_skipped, is_refused_drain, has_fault, is_in_faulty_group, is_doomed, doomed_result, is_in_turn, keeps_back, is_deferred}
-use Rattle.uring_linux.proofs.FaultsKept.{faulty_ended}
-use Rattle.uring_core.specs.World.{World, requests_of, happens, taking_of, taking_entry_of, ending_of}
-use Rattle.uring_core.specs.Histories.{History, world, IsLawfulApart}
-use Rattle.uring_core.specs.declared.step.Step.{Step}
-use Rattle.uring_core.specs.declared.answer.Answer.{Answer}
-use Rattle.uring_core.proofs.Changes.{Change, refuses, takes, drops, closes, runs, dooms, cancels, finishes, change_of}
-use Rattle.uring_core.proofs.Groups.{longer, entry_kept, join_kept}
-use Rattle.uring_core.proofs.ListCounts.{any_kept, any_new, any_looser}
-use Rattle.uring_core.proofs.SoundRequests.{IsSoundRequests, outstanding_tells}
-use Rattle.uring_core.proofs.Sound.{sound_of}
-use Rattle.uring_core.proofs.LinuxHistories.{by_linux}
 
 -- what is so of each set-up once its rules are Linux's is so of those of which they are
 pub of_linux : (P : Setup → Type 0) → ((g : Setup) → P (by_linux g)) → (g : Setup)

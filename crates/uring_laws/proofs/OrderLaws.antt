@@ -1,28 +1,11 @@
 -- The laws of doomed requests, links and drains, by the manual pages' rules; and what these and those of Linux share.
 use Rattle.std.proofs.Common.{◌≡◌, ℕ, ◌<◌, ◌==◌, ℤ, neg_ℤ, Bool, true, false, not, ◌&&◌, ◌||◌, List, ◌∷◌, ◌++◌, Option, Some, None, length, slice_get, count_by, refl, sym, subst, ap, ◌∙◌, ◌⊎◌, inl, inr, arith}
-use Rattle.std.specs.List.{list_any}
-use Rattle.std.specs.Ordering.{int_eq}
-use Rattle.std.proofs.lemmas.Bool.{and_from, both_ways, eq-eqb, true_from_ne_false, false_from_ne_true, cond_both}
-use Rattle.std.proofs.lemmas.Bool.Decides.{Decides-int_eq}
+use Rattle.uring_laws.proofs.Common.{Answer, Change, Decides-int_eq, ECANCELED, Ending, History, IsEnded, IsLawfulApart, IsSilent, IsSoundManual, LinuxRequests, Requests, Setup, World, and_from, both_ways, by_manual, cancel_result, cancels, change_of, cond_both, count_none, count_result, count_some, doomed_result, dooms, entry_of, eq-eqb, false_from_ne_true, has_ended, has_started, int_eq, is_cancel_all, is_doomed, is_draining, is_joined, list_any, outstanding_tells, refuses, requests_of, result_for, runs, sound_of, started_by, target_of, targets_of, times_ended, true_from_ne_false, waited, waits_for, world}
+use Rattle.uring_laws.specs.Laws.{DoomedNeverRun, IsStart}
 use Rattle.std.proofs.lemmas.Map.Keys.{any_passes_from_place}
-use Rattle.uring_entry.specs.Setup.{Setup}
-use Rattle.uring_entry.specs.declared.errno.TheConstants.{ECANCELED}
-use Rattle.uring_entry.specs.Requests.{Requests, Ending, has_started, has_ended, is_joined, is_draining, is_doomed, waits_for, doomed_result, cancel_result, count_result, result_for, target_of, targets_of, entry_of}
-use Rattle.uring_entry.specs.Preparation.{is_cancel_all}
-use Rattle.uring_linux.specs.LinuxRequests.{LinuxRequests}
 use Rattle.uring_rules.specs.Rules as by_rules
-use Rattle.uring_core.specs.World.{World, requests_of}
-use Rattle.uring_core.specs.StepAnswers.{IsEnded}
-use Rattle.uring_core.specs.Histories.{History, world, IsLawfulApart, by_manual}
-use Rattle.uring_core.specs.Events.{started_by}
-use Rattle.uring_laws.specs.Laws.{DoomedNeverRun, IsStart, times_ended}
 use Rattle.uring_core.specs.declared.step.Step.TheVariants as step
-use Rattle.uring_core.specs.declared.answer.Answer.{Answer}
 use Rattle.uring_core.specs.declared.answer.Answer.TheVariants as answer
-use Rattle.uring_core.proofs.Changes.{Change, change_of, IsSilent, refuses, runs, dooms, cancels}
-use Rattle.uring_core.proofs.SoundRequests.{IsSoundManual, outstanding_tells, waited}
-use Rattle.uring_core.proofs.ListCounts.{count_none, count_some}
-use Rattle.uring_core.proofs.Sound.{sound_of}
 use Rattle.uring_laws.proofs.ToldRequests.{tells_requests}
 use Rattle.uring_laws.proofs.Growth.{Grows, grows, event_grows, then_grows, lawful_before}
 

@@ -2,31 +2,12 @@
 -- The items: from `own_submission`, position by position. The count: what all calls took less the entries among it,
 -- which `takes_places` has; kept from the last close on by induction over the history.
 use Rattle.std.proofs.Common.{◌≡◌, ℕ, suc, ◌+◌, ◌%◌, ◌^◌, ◌<◌, ◌≤◌, false, nat_lt, List, [], ◌∷◌, length, map, take, count_by, get_or, Option, Some, None, slice_get, if◌then◌else◌, refl, sym, subst, ap, ap₂, ◌∙◌, arith}
-use Rattle.std.specs.Prelude.{All}
-use Rattle.std.specs.List.{enumerate_from}
-use Rattle.std.proofs.lemmas.Bool.{ltb-false}
-use Rattle.std.proofs.lemmas.List.{get_or-map, get_or_append_left, length-map, length-take-le, length_push, take-append-le}
-use Rattle.std.proofs.lemmas.List.Elements.{All-nil, All-cons}
-use Rattle.std.proofs.lemmas.List.Sums.{sum_by_push}
-use Rattle.std.proofs.lemmas.Option.{slice_get_within, get_or_from_slice_get}
-use Rattle.uring_entry.specs.Setup.{Setup}
-use Rattle.uring_entry.specs.Layout.{Sqe}
-use Rattle.uring_entry.specs.Submission.{Submission, Call, Place, place_of, taken, dropped_in, item_of, published_items, IsItem}
-use Rattle.uring_core.specs.World.{World, ending_of}
-use Rattle.uring_core.specs.Events.{takes_position, entry_taken_by, closes_call}
-use Rattle.uring_laws.specs.Direct.{with_told, entries_taken, positions_taken, staged_words, published_words, published_entry, slot_content, before_published}
-use Rattle.uring_core.specs.Histories.{Event, History, world, IsLawfulApart}
-use Rattle.uring_laws.specs.HistoryLists.{OwnSubmission}
+use Rattle.uring_laws.proofs.Common.{All, All-cons, All-nil, Answer, Call, Event, History, IsItem, IsLawfulApart, OwnSubmission, Place, Setup, Sqe, Step, Submission, SubmissionMove, World, before_published, closes, closes_call, dropped_in, ending_of, entries_taken, entry_taken_by, enumerate_from, get_or-map, get_or_append_left, get_or_from_slice_get, item_of, length-map, length-take-le, length_push, ltb-false, open_taken, place_of, positions_taken, published_entry, published_items, published_words, reached, slice_get_within, slot_content, sound_of, staged_words, stays, stores, submission_move, sum_by_push, take-append-le, taken, takes_position, with_told, world}
 use Rattle.uring_laws.specs.Published.{items_told, drops_position, positions_dropped, OwnPublished}
-use Rattle.uring_core.specs.declared.step.Step.{Step}
 use Rattle.uring_core.specs.declared.step.Step.TheVariants as step
-use Rattle.uring_core.specs.declared.answer.Answer.{Answer}
 use Rattle.uring_core.specs.declared.answer.Answer.TheVariants as answer
-use Rattle.uring_core.proofs.SubmissionMoves.{SubmissionMove, stays, stores, closes, submission_move}
 use Rattle.uring_laws.proofs.ReadOff.{own_submission}
-use Rattle.uring_core.proofs.Sound.{sound_of}
 use Rattle.uring_core.proofs.SoundRings.{open_count}
-use Rattle.uring_core.specs.Stops.{open_taken, reached}
 use Rattle.uring_laws.proofs.TakenPlaces.{takes_places}
 use Rattle.uring_laws.proofs.Telling.{count_more, count_same, before_same}
 use Rattle.uring_rings.proofs.Places.{entries_and_dropped}

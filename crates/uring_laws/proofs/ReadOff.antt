@@ -1,13 +1,8 @@
 -- The lists of a world are its history's own.
 use Rattle.std.proofs.Common.{sym, ap, ◌∙◌}
-use Rattle.uring_entry.specs.Setup.{Setup}
-use Rattle.uring_core.specs.Histories.{History, world, IsLawfulApart, by_manual}
-use Rattle.uring_laws.specs.HistoryLists.{OwnSubmission, OwnRequests, OwnCompletions, OwnPosted}
+use Rattle.uring_laws.proofs.Common.{History, IsLawfulApart, OwnCompletions, OwnPosted, OwnRequests, OwnSubmission, Setup, before_last, by_manual, completion_of, filter_map, is_load_cq_tail, world}
 use Rattle.uring_laws.proofs.DirectSubmission.{direct_submission, call_direct}
 use Rattle.uring_laws.proofs.DirectCompletions.{direct_completions}
-use Rattle.std.specs.List.{filter_map}
-use Rattle.uring_core.specs.Events.{is_load_cq_tail}
-use Rattle.uring_laws.specs.Direct.{completion_of, before_last}
 use Rattle.uring_laws.proofs.DirectPut.{direct_put, posted_told, lawful_last}
 use Rattle.uring_laws.proofs.DirectRequests.{direct_requests, direct_posted}
 use Rattle.uring_laws.proofs.DirectPlaces.{direct_places}

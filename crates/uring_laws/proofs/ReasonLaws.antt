@@ -1,30 +1,17 @@
 -- What why says, from what each case of it says: proofs of the laws on reasons.
 use Rattle.std.proofs.Common.{◌≡◌, ℕ, ◌<◌, ◌≤◌, length, Bool, true, false, not, ◌&&◌, ◌||◌, nat_lt, Option, Some, None, is_some, unwrap_or, refl, sym, ◌∙◌, ap, ap₂, subst, arith, inl, inr}
-use Rattle.std.specs.Prelude.{if◌then◌else◌, ◌⊎◌, ◌↔◌}
-use Rattle.std.proofs.lemmas.Bool.{cases_lt, and_from, and_parts, both_ways, lt-ltb, le-ltb, not-true, ltb-true}
-use Rattle.uring_entry.specs.Below.{least_below}
-use Rattle.uring_entry.specs.Requests.{Requests, some_member, entry_of, has_ended, is_outstanding, is_running, is_issuable, is_doomed, is_ready, is_in_faulty_group, is_after_failure, is_cancelled, is_joined, is_draining, waits_for, holds_back, doomed_result, cancel_result, no_bytes}
-use Rattle.uring_entry.specs.Preparation.{fault_of}
-use Rattle.uring_entry.specs.Why.{is_faulty_member, is_failure_before, faulty_member_of, failed_member_of, first_doom, doom_of, holder_of, since_of, waiting_for, why_of}
+use Rattle.uring_laws.proofs.Common.{Answer, IsLeast, LinuxRequests, Requests, Setup, World, and_from, and_parts, both_ways, cancel_result, cases_lt, doom_of, doomed_result, entry_of, failed_member_of, fault_of, faulty_member_of, first_doom, has_ended, holder_of, holds_back, if◌then◌else◌, is_after_failure, is_cancel, is_cancelled, is_deferred, is_doomed, is_draining, is_failure_before, is_faulty_member, is_in_faulty_group, is_in_turn, is_issuable, is_joined, is_joined_inside, is_joined_yes, is_outstanding, is_ready, is_ready_inside, is_running, is_some_least_below, issue_answer, keeps_back, le-ltb, least_below, least_below_none, least_below_tells, lt-ltb, ltb-true, no_bytes, not-true, requests_of, since_of, some_member, waiting_for, waits_for, why_of, ◌↔◌, ◌⊎◌}
 use Rattle.uring_entry.specs.declared.fault.Fault.{Fault}
 use Rattle.uring_entry.specs.declared.why.Why.{Why}
 use Rattle.uring_entry.specs.declared.why.Why.TheVariants.{NeverAccepted, HasEnded, Runs, IsDoomed, Waits, MayStart}
 use Rattle.uring_entry.specs.declared.why.Doom.{Doom}
 use Rattle.uring_entry.specs.declared.why.Since.{Since}
 use Rattle.uring_entry.specs.declared.why.Since.TheVariants.{SameGroup, ItDrains, OwnDrains, Deferred}
-use Rattle.uring_entry.proofs.BelowLemmas.{IsLeast, least_below_tells, is_some_least_below, least_below_none}
-use Rattle.uring_entry.proofs.RequestLemmas.{is_joined_yes, is_joined_inside, is_ready_inside}
 use Rattle.uring_entry.proofs.WhyLemmas.{StillWaits, IsTold, told, told_as, why_waiting}
-use Rattle.uring_entry.specs.Preparation.{is_cancel}
-use Rattle.uring_entry.specs.Setup.{Setup}
 use Rattle.uring_linux.specs.LinuxRequests as kernel
-use Rattle.uring_linux.specs.LinuxRequests.{LinuxRequests, is_in_turn, keeps_back, is_deferred}
 use Rattle.uring_linux.specs.LinuxWhy as kernel_why
 use Rattle.uring_linux.specs.LinuxWhy.{kept_back_by, least_free_of}
 use Rattle.uring_rules.specs.Rules as by_rules
-use Rattle.uring_core.specs.World.{World, requests_of}
-use Rattle.uring_core.specs.StepAnswers.{issue_answer}
-use Rattle.uring_core.specs.declared.answer.Answer.{Answer}
 use Rattle.uring_core.specs.declared.answer.Answer.TheVariants as answer
 use Rattle.uring_laws.specs.Reasons.{answer_told, AnswerAgrees, can_be_issued, IsUnstarted, CanStart, IsSince, IsWaiting, IsLeastOf, IsDoomOf, GoesOn}
 

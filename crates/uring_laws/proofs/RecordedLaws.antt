@@ -1,23 +1,8 @@
 -- Laws of answers that were recorded elsewhere: whether one is called for is decided, and a wrong one makes a list unlawful.
 use Rattle.std.proofs.Common.{◌≡◌, ℕ, ◌+◌, ◌<◌, ◌≤◌, Bool, true, false, List, [], ◌∷◌, ◌++◌, take, drop, get_or, neg_ℤ, Some, sym, ap, subst, ◌∙◌, ◌⊎◌, inl, inr, arith}
-use Rattle.std.specs.Prelude.{slice_get}
-use Rattle.std.proofs.lemmas.Bool.{cases_Bool, cases_lt, both_ways}
-use Rattle.std.proofs.lemmas.List.{take_more, take-append-drop, reverse-append}
-use Rattle.std.proofs.lemmas.Option.{slice_get_within, get_or_from_slice_get}
-use Rattle.uring_entry.specs.Setup.{Setup}
-use Rattle.uring_entry.specs.Preparation.{operation_of}
-use Rattle.uring_entry.specs.Requests.{Requests, entry_of, is_running}
-use Rattle.uring_entry.specs.declared.errno.TheConstants.{ENOMEM}
-use Rattle.uring_entry.specs.declared.operation.Op.{Op}
-use Rattle.uring_entry.specs.declared.operation.Outcome.{Outcome}
-use Rattle.uring_files.specs.Contents.{FileContents}
-use Rattle.uring_files.specs.Operations.{is_lengthening, result_of, ended_with, IsOutcome}
-use Rattle.uring_core.specs.StepAnswers.{FinishesApart, OrAgain, begin_answer}
-use Rattle.uring_core.specs.CalledFor.{IsLawful, EndsOn, files_of}
-use Rattle.uring_core.specs.Histories.{Event, History, history_of, IsLawfulApart}
+use Rattle.uring_laws.proofs.Common.{Answer, ENOMEM, EndsOn, Event, FileContents, FinishesApart, History, IsLawful, IsLawfulApart, IsOutcome, Op, OrAgain, Outcome, Requests, Setup, begin_answer, both_ways, cases_Bool, cases_lt, ended_with, entry_of, files_of, get_or_from_slice_get, history_of, is_lengthening, is_running, operation_of, result_of, reverse-append, slice_get, slice_get_within, take-append-drop, take_more}
 use Rattle.uring_laws.specs.Recorded.{CalledIsDecided, CalledIsDecidedApart, WrongIsUnlawful, WrongIsUnlawfulApart}
 use Rattle.uring_core.specs.declared.step.Step.TheVariants as step
-use Rattle.uring_core.specs.declared.answer.Answer.{Answer}
 use Rattle.uring_core.specs.declared.answer.Answer.TheVariants as answer
 use Rattle.uring_core.proofs.SameAnswers.{decided}
 use Rattle.uring_core.proofs.Following.{history_of_snoc}

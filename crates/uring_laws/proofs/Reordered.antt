@@ -1,9 +1,6 @@
 -- Histories of one class: `reordered_alike`, by one pair of events after the other.
 use Rattle.std.proofs.Common.{◌∷◌, ◌++◌, refl, arith}
-use Rattle.uring_entry.specs.Setup.{Setup}
-use Rattle.uring_core.specs.World.{World}
-use Rattle.uring_core.specs.Histories.{world}
-use Rattle.uring_laws.specs.Swaps.{AreAlike, unchanged, swapped, ReorderedAlike}
+use Rattle.uring_laws.proofs.Common.{AreAlike, ReorderedAlike, Setup, World, swapped, unchanged, world}
 use Rattle.uring_laws.proofs.Alike.{change_anywhere}
 use Rattle.uring_laws.proofs.Swapping.{alike_same}
 

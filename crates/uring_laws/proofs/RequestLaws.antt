@@ -1,21 +1,9 @@
 -- The laws `each_ends_once` and `least_can_go_on`.
 -- From what is sound of the requests, and from what can be issued.
 use Rattle.std.proofs.Common.{◌≡◌, ℕ, ◌<◌, ◌≤◌, ◌==◌, Bool, true, false, List, Option, Some, None, length, count_by, refl, sym, subst, inl, inr, arith}
-use Rattle.std.specs.List.{list_any}
-use Rattle.std.proofs.lemmas.Bool.{and_parts, ltb-true, lt-ltb, both_ways, or_cases, false_from_ne_true, true_from_ne_false}
-use Rattle.uring_entry.specs.Setup.{Setup}
-use Rattle.uring_entry.specs.Requests.{Requests, has_ended, is_outstanding, least_of}
-use Rattle.uring_linux.specs.LinuxRequests.{LinuxRequests}
+use Rattle.uring_laws.proofs.Common.{EachEndsOnce, History, IsLawfulApart, IsSoundRequests, LeastCanGoOn, LinuxRequests, Requests, Setup, World, and_parts, both_ways, by_manual, count_none, count_some, false_from_ne_true, has_ended, is_outstanding, least_below_out, least_below_some, least_below_tells, least_of, least_of_goes_on, list_any, lt-ltb, ltb-true, or_cases, requests_of, sound_of, true_from_ne_false, world}
 use Rattle.uring_rules.specs.Rules.{is_issuable, next_of}
-use Rattle.uring_entry.proofs.BelowLemmas.{least_below_out, least_below_some, least_below_tells}
-use Rattle.uring_entry.proofs.RequestLemmas.{least_of_goes_on}
-use Rattle.uring_laws.specs.Laws.{LeastCanGoOn, EachEndsOnce}
 use Rattle.uring_core.proofs.Issuable.{issue_goes, issuable_outstanding}
-use Rattle.uring_core.specs.World.{World, requests_of}
-use Rattle.uring_core.specs.Histories.{History, world, IsLawfulApart, by_manual}
-use Rattle.uring_core.proofs.SoundRequests.{IsSoundRequests}
-use Rattle.uring_core.proofs.ListCounts.{count_none, count_some}
-use Rattle.uring_core.proofs.Sound.{sound_of}
 use Rattle.uring_laws.proofs.ToldRequests.{tells_requests}
 
 -- the least outstanding request is the next, where it can be issued

@@ -1,20 +1,8 @@
 -- The laws `reaped_begin_posted` and `nothing_after_close`, from what is sound.
 use Rattle.std.proofs.Common.{◌≡◌, ℕ, ◌≤◌, true, false, [], ◌∷◌, ◌++◌, length, take, drop, None, is_some, refl, sym, ap, ◌∙◌, cond, arith, append_assoc}
-use Rattle.std.specs.List.{list_any}
-use Rattle.std.proofs.lemmas.Bool.{or_from, or_right}
-use Rattle.std.proofs.lemmas.List.{take-append-drop, take-take, length-drop, length-take}
-use Rattle.uring_entry.specs.Setup.{Setup}
-use Rattle.uring_entry.specs.Completions.{Completions}
-use Rattle.uring_core.specs.World.{World}
-use Rattle.uring_core.specs.Histories.{History, world, IsLawfulApart}
-use Rattle.uring_laws.specs.Laws.{ReapedBeginPosted, in_ring, in_overflow}
-use Rattle.uring_core.specs.Events.{takes_in}
-use Rattle.uring_core.specs.declared.step.Step.{Step}
+use Rattle.uring_laws.proofs.Common.{Answer, Completions, History, IsLawfulApart, IsSoundCompletions, ReapedBeginPosted, Setup, Step, SubmissionMove, World, begins, closes, drops, in_overflow, in_ring, length-drop, length-take, list_any, or_from, or_right, stays, submission_move, take-append-drop, take-take, takes, takes_in, world}
 use Rattle.uring_core.specs.declared.step.Step.TheVariants as step
-use Rattle.uring_core.specs.declared.answer.Answer.{Answer}
 use Rattle.uring_core.specs.declared.answer.Answer.TheVariants as answer
-use Rattle.uring_core.proofs.SubmissionMoves.{SubmissionMove, stays, begins, takes, drops, closes, submission_move}
-use Rattle.uring_core.proofs.SoundRings.{IsSoundCompletions}
 
 pub begin_posted : (size : ℕ) (l : Completions) → IsSoundCompletions size l
     → ReapedBeginPosted size l

@@ -1,20 +1,10 @@
 -- The steps on the submission ring change places with those on requests and completions: `submission_then_rest` and `rest_then_submission`. Neither side reads what the other writes, by either's rules.
 use Rattle.std.proofs.Common.{rules, ◌≡◌, ℕ, ℤ, Bool, true, false, List, ◌∷◌, refl, sym, subst, ap, ◌∙◌}
-use Rattle.uring_entry.specs.Setup.{Setup}
-use Rattle.uring_entry.specs.Submission.{Submission}
-use Rattle.uring_entry.specs.Requests.{Requests, Ending, no_bytes}
-use Rattle.uring_rules.specs.Rules.{with_issued_end, drains_ended}
-use Rattle.uring_entry.specs.Completions.{Completions}
-use Rattle.uring_linux.specs.Drains.{Drains}
-use Rattle.uring_core.specs.World.{World, requests_of, with_end_of, happens}
-use Rattle.uring_core.specs.CalledFor.{CalledFor, IsLawful}
-use Rattle.uring_core.specs.Histories.{History, world}
-use Rattle.uring_core.specs.declared.step.Step.{Step}
+use Rattle.uring_laws.proofs.Common.{Answer, CalledFor, Change, ChangePlaces, Completions, Drains, Ending, History, IsLawful, IsOnRest, IsOnSubmission, Requests, RestThenSubmission, Setup, Step, Submission, SubmissionThenRest, World, cancels, change_of, dooms, drains_ended, happens, no_bytes, refuses, requests_of, with_end_of, world}
+use Rattle.uring_core.proofs.Changes.{takes, drops}
+use Rattle.uring_rules.specs.Rules.{with_issued_end}
 use Rattle.uring_core.specs.declared.step.Step.TheVariants as step
-use Rattle.uring_core.specs.declared.answer.Answer.{Answer}
 use Rattle.uring_core.specs.declared.answer.Answer.TheVariants as answer
-use Rattle.uring_core.proofs.Changes.{Change, refuses, takes, drops, dooms, cancels, change_of}
-use Rattle.uring_laws.specs.Swaps.{ChangePlaces, IsOnSubmission, IsOnRest, SubmissionThenRest, RestThenSubmission}
 use Rattle.uring_laws.proofs.Swapping.{alike_same}
 use Rattle.uring_laws.proofs.WholeLaws.{lawful_apart}
 

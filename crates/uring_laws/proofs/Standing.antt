@@ -2,23 +2,9 @@
 -- Each from the answer that is called for, with `Stands` for what the definitions test; no history is needed.
 -- Stable: other crates may import what is pub.
 use Rattle.std.proofs.Common.{◌≡◌, ℕ, ◌+◌, ◌-◌, ◌<◌, ◌≤◌, Bool, true, false, List, [], ◌∷◌, ◌++◌, length, map, drop, get_or, Option, Some, None, is_some, slice_get, if◌then◌else◌, refl, sym, subst, ap, ap₂, ◌∙◌, ◌⊎◌, inl, inr, arith, append_assoc, append-nil}
-use Rattle.std.specs.Prelude.{All, not, ◌&&◌, ◌==◌, nat_le}
-use Rattle.std.specs.List.{list_any}
+use Rattle.uring_laws.proofs.Common.{All, All-head, All-tail, Answer, CallCloses, CallOpens, CalledForApart, FreeSlotIsFilled, IsItem, ItemsArePublished, OrAgain, Place, PositionIsTaken, Published, Setup, Sqe, Stands, Submission, TailPublishes, WordIsStaged, World, bad_word, call_length, ending, ending_of, ends_after, entry_answer, eq-eqb, happens, in_call, is_busy, is_full, is_spent, item_of, le-ltb, length-append, length-map, list_any, lt-ltb, map-append, nat_le, ne_eqb, not, place_answer, place_of, slice_get-get_or, staged, stops_at_word, sum_by_push, taken, taking, with_closed, with_entry, with_item, with_items, ◌&&◌, ◌==◌}
 use Rattle.std.proofs.Math.ListN.{drop_of_length-le}
-use Rattle.std.proofs.lemmas.Bool.{ne_eqb, eq-eqb, lt-ltb, le-ltb}
-use Rattle.std.proofs.lemmas.List.{length-append, length-map, map-append}
-use Rattle.std.proofs.lemmas.List.Elements.{All-head, All-tail}
-use Rattle.std.proofs.lemmas.List.Sums.{sum_by_push}
-use Rattle.std.proofs.lemmas.Option.{slice_get-get_or}
-use Rattle.uring_entry.specs.Setup.{Setup}
-use Rattle.uring_entry.specs.Layout.{Sqe}
-use Rattle.uring_entry.specs.Submission.{Submission, Place, place_of, taken, staged, is_busy, is_full, with_closed, call_length, Published, with_entry, bad_word, item_of, IsItem}
-use Rattle.uring_core.specs.World.{World, happens, taking, ending, ending_of}
-use Rattle.uring_core.specs.StepAnswers.{CalledForApart, OrAgain, is_spent, place_answer, entry_answer}
-use Rattle.uring_core.specs.Stops.{stops_at_word}
-use Rattle.uring_laws.specs.Standing.{Stands, FreeSlotIsFilled, WordIsStaged, TailPublishes, with_item, with_items, ItemsArePublished, in_call, CallOpens, ends_after, PositionIsTaken, CallCloses}
 use Rattle.uring_core.specs.declared.step.Step.TheVariants as step
-use Rattle.uring_core.specs.declared.answer.Answer.{Answer}
 use Rattle.uring_core.specs.declared.answer.Answer.TheVariants as answer
 use Rattle.uring_core.proofs.NoStops.{goes_on}
 

@@ -1,16 +1,8 @@
 -- What a start leaves as it was, by either's rules: who is doomed, who may start, who posts and how the drains stand. Only who runs changes.
 use Rattle.std.proofs.Common.{◌≡◌, ◌≢◌, ℕ, ℤ, Bool, true, false, not, ◌&&◌, List, [], ◌∷◌, ◌++◌, Option, refl, ap, ap₂, ◌∙◌, arith}
-use Rattle.uring_entry.specs.Layout.{Sqe}
-use Rattle.uring_entry.specs.Preparation.{is_cancel}
+use Rattle.uring_laws.proofs.Common.{LinuxRequests, Requests, Setup, Sqe, World, breaker_of, drains_called, drains_ended, ends_doomed, entry_of, first_of, is_cancel, is_deferred, is_doomed_started, is_in_turn, is_joined, is_outstanding, is_ready, is_running, is_running_started_other, issue_answer, may_start, no_bytes, posts, posts_after, requests_of, some_member}
+use Rattle.uring_linux.specs.LinuxRequests.{is_in_faulty_group, with_started}
 use Rattle.uring_entry.specs.Requests as manual
-use Rattle.uring_entry.specs.Requests.{Requests, entry_of, is_outstanding, is_running, is_joined, is_ready, some_member, no_bytes}
-use Rattle.uring_entry.proofs.EventLemmas.{is_doomed_started}
-use Rattle.uring_entry.proofs.RequestLemmas.{is_running_started_other}
-use Rattle.uring_linux.specs.LinuxRequests.{LinuxRequests, breaker_of, first_of, is_deferred, is_in_faulty_group, is_in_turn, posts_after, with_started}
-use Rattle.uring_rules.specs.Rules.{ends_doomed, may_start, posts, drains_called, drains_ended}
-use Rattle.uring_core.specs.World.{World, requests_of}
-use Rattle.uring_core.specs.StepAnswers.{issue_answer}
-use Rattle.uring_entry.specs.Setup.{Setup}
 use Rattle.uring_core.specs.declared.answer.Answer.TheVariants as answer
 use Rattle.uring_laws.proofs.AlikeDrains.{called_same, going_same}
 use Rattle.uring_laws.proofs.AlikeLinux.{after_one}

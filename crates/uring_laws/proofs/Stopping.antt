@@ -1,27 +1,11 @@
 -- The laws of where submission calls end: from the open call as it is read off the history, and by induction over it.
 use Rattle.std.proofs.Common.{◌≡◌, ◌↔◌, ℕ, ◌+◌, ◌≤◌, ◌<◌, Bool, true, false, cond, eqb, nat_lt, List, [], ◌∷◌, ◌++◌, length, take, count_by, Option, Some, None, is_some, unwrap_or, slice_get, if◌then◌else◌, ◌⊎◌, inl, inr, refl, sym, subst, ap, ap₂, ◌∙◌, arith, append-nil}
-use Rattle.std.proofs.lemmas.Bool.{eqb-true, eqb-false, cases_Bool}
-use Rattle.std.proofs.lemmas.List.{take_at}
-use Rattle.std.proofs.lemmas.List.Sums.{sum_by-cons}
-use Rattle.std.proofs.lemmas.Option.{slice_get-get_or}
-use Rattle.uring_entry.specs.Setup.{Setup}
-use Rattle.uring_entry.specs.Layout.{Sqe}
-use Rattle.uring_entry.specs.Submission.{Call, Place, taken, call_length}
-use Rattle.uring_core.specs.World.{World}
-use Rattle.uring_core.specs.StepAnswers.{entry_answer, place_answer, take_answer, take_answer_in, end_answer, end_answer_in}
-use Rattle.uring_core.specs.Histories.{History, world, IsLawfulApart}
-use Rattle.uring_core.specs.Events.{opened_by}
-use Rattle.uring_laws.specs.Direct.{told, taken_since, has_stopped, open_count}
+use Rattle.uring_laws.proofs.Common.{Answer, Call, History, IsLawfulApart, Place, Setup, Sqe, Step, SubmissionMove, World, begins, call_length, cases_Bool, closes, drops, end_answer, end_answer_in, entry_answer, eqb-false, eqb-true, has_stopped, open_count, open_taken, opened_by, place_answer, slice_get-get_or, sound_of, stays, stops_at_word, submission_move, sum_by-cons, take_answer, take_answer_in, take_at, taken, taken_since, takes, told, world}
 use Rattle.uring_laws.specs.Stopping.{EndsThere, OpenCallEndsThere, CallsTakeAll, drops_word}
-use Rattle.uring_core.specs.declared.step.Step.{Step}
 use Rattle.uring_core.specs.declared.step.Step.TheVariants as step
-use Rattle.uring_core.specs.declared.answer.Answer.{Answer}
 use Rattle.uring_core.specs.declared.answer.Answer.TheVariants as answer
-use Rattle.uring_core.proofs.SubmissionMoves.{SubmissionMove, stays, begins, takes, drops, closes, submission_move}
 use Rattle.uring_core.proofs.SoundRings.{open_count as positions_open}
-use Rattle.uring_core.specs.Stops.{open_taken, stops_at_word}
 use Rattle.uring_core.proofs.NoStops.{goes_on, word_goes_on}
-use Rattle.uring_core.proofs.Sound.{sound_of}
 use Rattle.uring_laws.proofs.DirectSubmission.{IsOpened, direct_submission}
 use Rattle.uring_laws.proofs.Telling.{told_same}
 

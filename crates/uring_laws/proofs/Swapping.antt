@@ -1,30 +1,11 @@
 -- Starts that change places with starts and ends, by either's rules: `starts_change`, `start_then_end` and `end_then_start`.
 -- A start changes nothing that a definition reads but who runs; an end changes who has ended and failed, which counts for those alone that wait for it.
 use Rattle.std.proofs.Common.{◌≡◌, ◌≢◌, ℕ, ℤ, Bool, true, false, ◌&&◌, if◌then◌else◌, List, [], ◌∷◌, ◌++◌, refl, sym, subst, ap, ap₂, ◌∙◌, append-nil, arith, rules}
-use Rattle.std.specs.List.{list_any}
-use Rattle.std.proofs.lemmas.Bool.{and_right, both_ways}
-use Rattle.uring_entry.specs.Setup.{Setup}
-use Rattle.uring_entry.specs.Preparation.{is_cancel, operation_of}
-use Rattle.uring_entry.specs.Success.{is_success}
+use Rattle.uring_laws.proofs.Common.{AreAlike, CalledFor, ChangePlaces, Drains, EndThenStart, Ends, EndsOn, Event, FileContents, History, IsLawful, IsOutcome, Outcome, Requests, Setup, StartThenEnd, StartsChange, Step, World, and_right, both_ways, choices_of, completion_for, doomed_fails, ends_doomed, entry_of, files_kept, files_of, happens, has_ended, is_cancel, is_outstanding, is_running, is_running_started_other, is_running_started_same, is_success, issue_answer, list_any, list_any_push, may_start, no_bytes, operation_of, requests_of, start_of, with_ended, with_posted, with_started, world}
+use Rattle.uring_rules.specs.Rules.{doomed_result, with_issued_end}
 use Rattle.uring_entry.specs.Requests as manual
-use Rattle.uring_entry.specs.Requests.{Requests, entry_of, has_ended, is_outstanding, is_running, choices_of, no_bytes, with_started, with_ended}
-use Rattle.uring_entry.specs.Completions.{with_posted, completion_for}
-use Rattle.uring_entry.specs.declared.operation.Outcome.{Outcome}
-use Rattle.uring_entry.proofs.RequestLemmas.{list_any_push, is_running_started_same, is_running_started_other}
-use Rattle.uring_linux.specs.Drains.{Drains}
-use Rattle.uring_rules.specs.Rules.{ends_doomed, may_start, doomed_result, with_issued_end}
-use Rattle.uring_files.specs.Contents.{FileContents}
-use Rattle.uring_files.specs.Operations.{IsOutcome}
-use Rattle.uring_core.specs.World.{World, requests_of, happens}
-use Rattle.uring_core.specs.StepAnswers.{issue_answer}
-use Rattle.uring_core.specs.CalledFor.{CalledFor, IsLawful, EndsOn, files_of}
-use Rattle.uring_core.specs.Histories.{Event, History, world}
-use Rattle.uring_core.specs.declared.step.Step.{Step}
 use Rattle.uring_core.specs.declared.step.Step.TheVariants as step
 use Rattle.uring_core.specs.declared.answer.Answer.TheVariants as answer
-use Rattle.uring_core.proofs.FileHistory.{files_kept}
-use Rattle.uring_core.proofs.RequestEnds.{doomed_fails}
-use Rattle.uring_laws.specs.Swaps.{AreAlike, ChangePlaces, Ends, StartsChange, StartThenEnd, EndThenStart, start_of}
 use Rattle.uring_laws.proofs.StartedRequests.{CanStart, can_start, start_called, start_before, start_after, ends_doomed_started, posts_started, drains_ended_started}
 use Rattle.uring_laws.proofs.EndedRequests.{start_past, start_ahead, not_ended, not_over, other_than, either_order}
 use Rattle.uring_laws.proofs.WholeLaws.{lawful_apart}

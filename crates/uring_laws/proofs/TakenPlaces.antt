@@ -1,21 +1,7 @@
 -- Which positions were taken.
 use Rattle.std.proofs.Common.{◌≡◌, ◌+◌, false, [], ◌∷◌, ◌++◌, take, map, Some, None, refl, sym, ap, ap₂, ◌∙◌, arith, append-nil}
-use Rattle.std.proofs.lemmas.Bool.{ltb-false}
-use Rattle.std.proofs.lemmas.List.{take-append-le}
-use Rattle.std.proofs.lemmas.List.Sums.{sum_by_push}
-use Rattle.uring_entry.specs.Setup.{Setup, IsWithinLimits}
-use Rattle.uring_entry.specs.Submission.{taken, entries_of, place_of}
-use Rattle.uring_core.specs.Stops.{open_taken, reached}
-use Rattle.uring_core.specs.World.{World}
-use Rattle.uring_core.specs.Histories.{Event, History, world, IsLawfulApart}
-use Rattle.uring_core.specs.Events.{takes_position, entry_taken_by}
-use Rattle.uring_laws.specs.Direct.{entries_taken, positions_taken}
-use Rattle.uring_laws.specs.Laws.{TakenOnceInOrder}
-use Rattle.uring_core.specs.declared.step.Step.{Step}
-use Rattle.uring_core.specs.declared.answer.Answer.{Answer}
-use Rattle.uring_core.proofs.SubmissionMoves.{SubmissionMove, stays, stores, begins, takes, drops, closes, submission_move}
-use Rattle.uring_core.proofs.SoundRings.{IsSoundSubmission, open_count}
-use Rattle.uring_core.proofs.Sound.{sound_of}
+use Rattle.uring_laws.proofs.Common.{Answer, Event, History, IsLawfulApart, IsSoundSubmission, IsWithinLimits, Setup, Step, SubmissionMove, TakenOnceInOrder, World, begins, closes, drops, entries_of, entries_taken, entry_taken_by, ltb-false, open_taken, place_of, positions_taken, reached, sound_of, stays, stores, submission_move, sum_by_push, take-append-le, taken, takes, takes_position, world}
+use Rattle.uring_core.proofs.SoundRings.{open_count}
 use Rattle.uring_core.proofs.TakenEntries.{one_further}
 use Rattle.uring_laws.proofs.Telling.{count_more, count_same, told_same}
 

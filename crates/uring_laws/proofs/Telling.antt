@@ -1,8 +1,7 @@
 -- What an event adds to what a history tells.
 use Rattle.std.proofs.Common.{◌≡◌, ◌+◌, Bool, true, false, cond, ◌∷◌, Option, None, count_by, ap, arith}
 use Rattle.std.proofs.lemmas.Grind.{common_steps}
-use Rattle.uring_core.specs.Histories.{Event, History}
-use Rattle.uring_laws.specs.Direct.{told, with_told, before_last}
+use Rattle.uring_laws.proofs.Common.{Event, History, before_last, told, with_told}
 
 -- a count of events, one event on
 pub count_more : (p : Event → Bool) (e : Event) (h : History) → p e ≡ true

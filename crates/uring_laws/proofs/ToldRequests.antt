@@ -1,17 +1,11 @@
 -- The starts and the ends are those that a history tells.
 use Rattle.std.proofs.Common.{◌≡◌, ℕ, ℤ, Bool, true, false, [], ◌∷◌, refl, arith}
-use Rattle.uring_entry.specs.Setup.{Setup}
-use Rattle.uring_entry.specs.Requests.{Requests, no_bytes}
-use Rattle.uring_linux.specs.LinuxRequests.{LinuxRequests}
+use Rattle.uring_laws.proofs.Common.{Answer, History, IsLawfulApart, LinuxRequests, Move, Requests, Setup, Step, ends_cancel, move_of, no_bytes, requests_of, world}
+use Rattle.uring_core.proofs.Moves.{stays, ends_doomed}
 use Rattle.uring_rules.specs.Rules.{with_issued_end}
-use Rattle.uring_core.specs.World.{requests_of}
-use Rattle.uring_core.specs.Histories.{History, world, IsLawfulApart}
 use Rattle.uring_laws.specs.Direct.{starts as starts_of, ends}
-use Rattle.uring_core.specs.declared.step.Step.{Step}
 use Rattle.uring_core.specs.declared.step.Step.TheVariants as step
-use Rattle.uring_core.specs.declared.answer.Answer.{Answer}
 use Rattle.uring_core.specs.declared.answer.Answer.TheVariants as answer
-use Rattle.uring_core.proofs.Moves.{Move, stays, ends_doomed, ends_cancel, move_of}
 
 pub record TellsRequests (h : History) (r : Requests) : Type 0 where
   pub started : starts_of h ≡ r.started

@@ -1,18 +1,8 @@
 -- Who runs, or is to end as doomed, in a lawful history: by Linux's rules all earlier members of its group have ended, and it isn't deferred.
 use Rattle.std.proofs.Common.{◌≡◌, ℕ, true, not, ◌&&◌, subst}
-use Rattle.std.proofs.lemmas.Bool.{and_parts, both_ways, false_from_ne_true}
-use Rattle.uring_entry.specs.Setup.{Setup}
-use Rattle.uring_entry.specs.Requests.{has_started, has_ended, is_outstanding, is_running}
-use Rattle.uring_linux.specs.LinuxRequests.{LinuxRequests, is_doomed, is_in_turn}
-use Rattle.uring_linux.proofs.Deferring.{held_by, not_doomed}
-use Rattle.uring_linux.proofs.Reaching.{IsBetween, all_between}
-use Rattle.uring_rules.specs.Rules.{ends_doomed}
-use Rattle.uring_core.specs.World.{requests_of}
-use Rattle.uring_core.specs.Histories.{History, world, IsLawfulApart}
-use Rattle.uring_core.proofs.Sound.{sound_of}
-use Rattle.uring_core.proofs.SoundRequests.{outstanding_tells}
+use Rattle.uring_laws.proofs.Common.{History, IsBetween, IsLawfulApart, LinuxRequests, Setup, all_between, and_parts, both_ways, by_linux, ends_doomed, false_from_ne_true, has_ended, has_started, held_by, history_happens, is_in_turn, is_outstanding, is_running, not_doomed, outstanding_tells, requests_of, sound_of, world}
+use Rattle.uring_linux.specs.LinuxRequests.{is_doomed}
 use Rattle.uring_laws.proofs.EndedRequests.{IsApart, not_over}
-use Rattle.uring_core.proofs.LinuxHistories.{by_linux, history_happens}
 use Rattle.uring_laws.proofs.LinuxSound.{IsFirst, of_linux, linux_sound, turn_first}
 
 between_by_linux : (g : Setup) (h : History) → IsLawfulApart (by_linux g) h → IsBetween (requests_of (world (by_linux g) h))

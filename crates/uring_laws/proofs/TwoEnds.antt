@@ -1,23 +1,8 @@
 -- Two ends change places, by either's rules: `finishes_change` and `doomed_ends_change`. The doomed change no file, and stay doomed.
 use Rattle.std.proofs.Common.{◌≡◌, ◌≢◌, ℕ, ℤ, Bool, true, false, if◌then◌else◌, List, ◌∷◌, refl, sym, subst, ap, ap₂, ◌∙◌, ◌⊎◌, inl, inr}
-use Rattle.std.proofs.lemmas.Bool.{both_ways}
-use Rattle.uring_entry.specs.Setup.{Setup}
-use Rattle.uring_entry.specs.Preparation.{operation_of}
-use Rattle.uring_entry.specs.Requests.{Requests, entry_of, has_ended, with_ended}
-use Rattle.uring_entry.specs.Completions.{Completions, with_posted, completion_for}
-use Rattle.uring_entry.specs.declared.operation.Op.{Op}
-use Rattle.uring_entry.specs.declared.operation.Outcome.{Outcome}
-use Rattle.uring_entry.proofs.RequestLemmas.{has_ended_same, is_running_ended_other}
-use Rattle.uring_rules.specs.Rules.{ends_doomed, posts}
-use Rattle.uring_files.specs.Contents.{FileContents, empty_files}
-use Rattle.uring_files.specs.Operations.{after, IsOutcome}
-use Rattle.uring_core.specs.World.{World, requests_of, happens, with_end_of}
-use Rattle.uring_core.specs.CalledFor.{CalledFor, IsLawful, files_of}
-use Rattle.uring_core.specs.Histories.{Event, History, world}
+use Rattle.uring_laws.proofs.Common.{AreAlike, CalledFor, ChangePlaces, Completions, DontMeet, DoomedEndsChange, Event, FileContents, FinishesChange, History, IsIssue, IsLawful, IsOutcome, Op, Outcome, PostsNothing, Requests, Setup, World, after, both_ways, completion_for, empty_files, ends_doomed, entry_of, files_ended, files_kept, files_of, happens, has_ended, has_ended_same, is_running_ended_other, operation_of, posts, requests_of, with_end_of, with_ended, with_posted, world}
 use Rattle.uring_core.specs.declared.step.Step.TheVariants as step
 use Rattle.uring_core.specs.declared.answer.Answer.TheVariants as answer
-use Rattle.uring_core.proofs.FileHistory.{files_kept, files_ended}
-use Rattle.uring_laws.specs.Swaps.{ChangePlaces, AreAlike, DontMeet, PostsNothing, IsIssue, FinishesChange, DoomedEndsChange}
 use Rattle.uring_laws.proofs.Alike.{HaveSameRings, with_files}
 use Rattle.uring_laws.proofs.EndedRequests.{outstanding_end, ends_doomed_stays, posts_end, drains_either}
 use Rattle.uring_laws.proofs.Turns.{GoesOn, running_goes_on, doomed_goes_on}

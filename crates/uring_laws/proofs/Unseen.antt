@@ -1,24 +1,10 @@
 -- A start changes places with each step that is on the rings, by either's rules: `start_then_rings` and `rings_then_start`.
 -- Such a step asks nobody who runs; of the requests it changes at most which are accepted, after all that there are.
 use Rattle.std.proofs.Common.{rules, ◌≡◌, ℕ, ◌<◌, true, not, List, ◌∷◌, length, Some, sym, subst, ap, ◌∙◌}
-use Rattle.std.proofs.lemmas.Bool.{and_parts, ltb-true}
+use Rattle.uring_laws.proofs.Common.{Answer, CalledFor, Change, Drains, IsBetween, IsLawful, IsLawfulApart, IsOnRings, LinuxRequests, RingsThenStart, Setup, Sqe, StartThenRings, Step, World, and_parts, change_of, ending_of, entries_from, happens, has_ended, ltb-true, refuses, requests_of, sound_of, world}
+use Rattle.uring_core.proofs.Changes.{takes, drops, closes}
 use Rattle.uring_laws.proofs.Growth.{IsCut}
-use Rattle.uring_entry.specs.Setup.{Setup}
-use Rattle.uring_entry.specs.Layout.{Sqe}
-use Rattle.uring_entry.specs.Submission.{entries_from}
-use Rattle.uring_entry.specs.Requests.{has_ended}
-use Rattle.uring_linux.specs.Drains.{Drains}
-use Rattle.uring_linux.specs.LinuxRequests.{LinuxRequests}
-use Rattle.uring_linux.proofs.Reaching.{IsBetween}
-use Rattle.uring_core.specs.World.{World, requests_of, happens, ending_of}
-use Rattle.uring_core.specs.CalledFor.{CalledFor, IsLawful}
-use Rattle.uring_core.specs.Histories.{world, IsLawfulApart}
-use Rattle.uring_core.specs.declared.step.Step.{Step}
 use Rattle.uring_core.specs.declared.step.Step.TheVariants as step
-use Rattle.uring_core.specs.declared.answer.Answer.{Answer}
-use Rattle.uring_core.proofs.Changes.{Change, refuses, takes, drops, closes, change_of}
-use Rattle.uring_core.proofs.Sound.{sound_of}
-use Rattle.uring_laws.specs.Swaps.{IsOnRings, StartThenRings, RingsThenStart}
 use Rattle.uring_laws.proofs.StartedRequests.{CanStart, can_start, start_called, drains_called_started}
 use Rattle.uring_laws.proofs.CalledRequests.{start_kept, start_was}
 use Rattle.uring_laws.proofs.Turns.{between}

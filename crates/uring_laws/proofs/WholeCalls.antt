@@ -1,18 +1,9 @@
 -- The law `empty_ring_takes_a_whole_call`: from the laws of single steps, by induction over the items.
 -- `items_go_in` goes on from any history that ends with the ring as it stands, with some words staged.
 use Rattle.std.proofs.Common.{◌≡◌, ℕ, ◌+◌, ◌≤◌, List, [], ◌∷◌, ◌++◌, length, refl, sym, subst, ap, ap₂, ◌∙◌, inl, inr, arith}
-use Rattle.std.specs.List.{zip}
-use Rattle.std.proofs.lemmas.List.{length_push}
-use Rattle.uring_entry.specs.Setup.{Setup}
-use Rattle.uring_entry.specs.Layout.{Sqe}
+use Rattle.uring_laws.proofs.Common.{Answer, Event, History, IsLawfulApart, Published, Setup, Sqe, Stands, Submission, TakesWholeCall, World, after_items, bad_word, history_of, is_spent, item_answers, item_steps, length_push, published_items, staged, with_entry, with_items, with_published, world, zip}
 use Rattle.uring_entry.specs.IndexWords.{word_of}
-use Rattle.uring_entry.specs.Submission.{Submission, staged, with_published, Published, with_entry, bad_word, published_items}
-use Rattle.uring_core.specs.World.{World}
-use Rattle.uring_core.specs.StepAnswers.{is_spent}
-use Rattle.uring_core.specs.Histories.{Event, History, world, history_of, IsLawfulApart}
-use Rattle.uring_laws.specs.Standing.{Stands, with_items, item_steps, item_answers, after_items, TakesWholeCall}
 use Rattle.uring_core.specs.declared.step.Step.TheVariants as step
-use Rattle.uring_core.specs.declared.answer.Answer.{Answer}
 use Rattle.uring_core.specs.declared.answer.Answer.TheVariants as answer
 use Rattle.uring_core.proofs.Following.{history_of_cons}
 use Rattle.uring_laws.proofs.Growth.{lawful_before}

@@ -1,19 +1,8 @@
 -- Histories whose ends are called for by their files too.
 use Rattle.std.proofs.Common.{ℕ, neg_ℤ, Bool, true, false, List, [], ◌∷◌, ◌++◌}
-use Rattle.std.proofs.lemmas.Bool.{true≢false}
-use Rattle.uring_entry.specs.Setup.{Setup}
-use Rattle.uring_entry.specs.Requests.{is_running}
-use Rattle.uring_entry.specs.declared.errno.TheConstants.{ECANCELED}
-use Rattle.uring_files.specs.Contents.{FileContents}
+use Rattle.uring_laws.proofs.Common.{Answer, CalledFor, CalledForApart, ECANCELED, EndsOn, FileContents, FinishesApart, History, IsLawful, IsLawfulApart, Requests, Setup, Step, World, files_of, is_running, true≢false, world}
 use Rattle.uring_files.proofs.OperationCases.{outcome_other}
-use Rattle.uring_core.specs.World.{World}
-use Rattle.uring_core.specs.StepAnswers.{CalledForApart, FinishesApart}
-use Rattle.uring_core.specs.CalledFor.{CalledFor, IsLawful, EndsOn, files_of}
-use Rattle.uring_core.specs.Histories.{History, world, IsLawfulApart}
-use Rattle.uring_entry.specs.Requests.{Requests}
-use Rattle.uring_core.specs.declared.step.Step.{Step}
 use Rattle.uring_core.specs.declared.step.Step.TheVariants as step
-use Rattle.uring_core.specs.declared.answer.Answer.{Answer}
 use Rattle.uring_core.specs.declared.answer.Answer.TheVariants as answer
 
 -- an end on the files is an end apart from them

@@ -1,21 +1,8 @@
 -- A worked history, on which definitions of histories are computed: a call of an fsync and of a bad word, and the fsync carried out.
 -- Each line holds by computing alone: no lemma is used. Nothing cites this file.
 use Rattle.std.proofs.Common.{◌≡◌, ◌+◌, ◌*◌, ◌^◌, pos, Some, true, false, List, [], ◌∷◌, ◌++◌, replicate, take, refl, inl}
-use Rattle.uring_entry.specs.Setup.{Setup}
-use Rattle.uring_entry.specs.Layout.{Sqe, Cqe}
-use Rattle.uring_entry.specs.Submission.{dropped, with_entry, bad_word, published_items}
-use Rattle.uring_entry.specs.Requests.{no_bytes}
-use Rattle.uring_entry.specs.Completions.{Completions, no_completion, with_posted}
-use Rattle.uring_entry.specs.declared.operation.Op.TheVariants.{Fsync}
-use Rattle.uring_core.specs.World.{World}
-use Rattle.uring_core.specs.CalledFor.{IsLawful, files_of}
-use Rattle.uring_laws.specs.Direct.{call_counts, open_call}
-use Rattle.uring_laws.specs.Finishes.{done_in, first_files, ends_of}
-use Rattle.uring_files.specs.Done.{files_left, AreDone}
-use Rattle.uring_core.specs.Histories.{Event, world, history_of}
-use Rattle.uring_laws.specs.Laws.{in_ring, in_overflow}
+use Rattle.uring_laws.proofs.Common.{AreDone, Completions, Cqe, Event, Fsync, IsLawful, Setup, Sqe, Stands, World, after_items, bad_word, call_counts, done_in, dropped, ends_of, files_left, files_of, first_files, history_of, in_overflow, in_ring, item_answers, no_bytes, no_completion, open_call, published_items, with_entry, with_posted, world}
 use Rattle.uring_laws.specs.Published.{items_told, positions_dropped}
-use Rattle.uring_laws.specs.Standing.{Stands, after_items, item_answers}
 use Rattle.uring_core.specs.declared.step.Step.TheVariants as step
 use Rattle.uring_core.specs.declared.answer.Answer.TheVariants as answer
 

@@ -1,13 +1,6 @@
 -- Groups that are deferred: nothing has happened to their members, and once some went on, not all that is outstanding is deferred.
 use Rattle.std.proofs.Common.{◌≡◌, ℕ, suc, ◌-◌, ◌<◌, ◌≤◌, min, max, length, Bool, true, false, not, ◌&&◌, ◌⊎◌, List, [], ◌∷◌, refl, ◌∙◌, ap, arith, inl, inr}
-use Rattle.std.specs.Prelude.{if◌then◌else◌}
-use Rattle.std.proofs.lemmas.Bool.{cases_lt, both_ways, and_left, and_right, and_from, or_from, or_cases, or_left, or_right, lt-ltb, le-leb, false_from_ne_true}
-use Rattle.uring_entry.specs.Requests.{Requests, entry_of, is_last, is_joined, is_in_group, is_soft, is_after_failure, has_started, has_ended, has_failed}
-use Rattle.uring_entry.proofs.BelowLemmas.{some_below_none, some_below_some}
-use Rattle.uring_entry.proofs.RequestLemmas.{is_joined_no, has_failed_unended}
-use Rattle.uring_linux.specs.declared.deferred.Deferred.{Deferred}
-use Rattle.uring_linux.specs.Drains.{is_among, is_in_some, from_drain, still_deferred}
-use Rattle.uring_linux.specs.LinuxRequests.{has_fault, is_in_faulty_group, is_doomed, is_alone, after_going_on}
+use Rattle.uring_linux.proofs.Common.{Deferred, Requests, after_going_on, and_from, and_left, and_right, both_ways, cases_lt, entry_of, false_from_ne_true, from_drain, has_ended, has_failed, has_failed_unended, has_fault, has_started, if◌then◌else◌, is_after_failure, is_alone, is_among, is_doomed, is_in_faulty_group, is_in_group, is_in_some, is_joined, is_joined_no, is_last, is_soft, le-leb, lt-ltb, or_cases, or_from, or_left, or_right, some_below_none, some_below_some, still_deferred}
 use Rattle.uring_linux.proofs.InOrder.{InOrder, among_tells, order_spans, order_above, order_after}
 
 -- nothing has happened to n

@@ -1,15 +1,8 @@
 -- What the dispatcher shows after each event.
 use Rattle.std.proofs.Common.{◌≡◌, ℕ, ◌+◌, length, Bool, true, false, not, ◌&&◌, ◌||◌, ◌==◌, [], ◌∷◌, ◌++◌, refl, sym, ◌∙◌, ap, subst, arith, length-append}
-use Rattle.uring_entry.specs.Layout.{Sqe}
+use Rattle.uring_linux.proofs.Common.{Drains, KeptDrains, LinuxRequests, Request, Requests, Shows, ShowsRequests, Sqe, Tells, Window, accepted_drains, asks_to_skip, cut_drains, dispatch_of, end_of, entry_of, is_drain, is_let_in, is_linked, is_past, new_request, no_drains, some_below, with_entry, with_last_entry, with_request}
+use Rattle.uring_linux.specs.LinuxRequests.{no_request, with_accepted, with_cut}
 use Rattle.uring_entry.specs.Requests as manual
-use Rattle.uring_entry.specs.Requests.{Requests, entry_of, is_linked, is_drain}
-use Rattle.uring_entry.specs.Below.{some_below}
-use Rattle.uring_linux.specs.declared.request.Request.{Request}
-use Rattle.uring_linux.specs.Drains.{Drains, no_drains, with_entry}
-use Rattle.uring_linux.specs.KeptDrains.{KeptDrains, accepted_drains, cut_drains, with_request}
-use Rattle.uring_linux.specs.LinuxRequests.{LinuxRequests, is_past, asks_to_skip, is_let_in, no_request, with_last_entry, with_accepted, with_cut}
-use Rattle.uring_linux.specs.Window.{Window, new_request, end_of, Tells, Shows}
-use Rattle.uring_linux.specs.LinuxDispatch.{dispatch_of, ShowsRequests}
 use Rattle.uring_linux.proofs.WindowCounts.{dispatch_shows}
 use Rattle.uring_linux.proofs.WindowEvents.{roomed, skipped_accepted, tells_new, none_shows}
 

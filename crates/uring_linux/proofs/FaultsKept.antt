@@ -1,15 +1,7 @@
 -- Groups with a fault: which they are stays, as more is accepted after them, starts and ends.
 use Rattle.std.proofs.Common.{◌≡◌, ℕ, suc, ◌<◌, ◌≤◌, ℤ, min, max, length, true, false, not, ◌&&◌, ◌||◌, List, [], ◌∷◌, refl, ◌∙◌, ap, arith, inl, inr, length-append}
-use Rattle.std.specs.Prelude.{nat_le}
-use Rattle.std.proofs.lemmas.Bool.{cases_Bool, both_ways, and_from, and_parts, le-leb, leb-true, false_from_ne_true}
-use Rattle.uring_entry.specs.Layout.{Sqe}
-use Rattle.uring_entry.specs.Preparation.{is_faulty}
+use Rattle.uring_linux.proofs.Common.{Requests, Sqe, and_from, and_parts, both_ways, cases_Bool, entry_of, entry_same, false_from_ne_true, has_fault, is_faulty, is_faulty_from, is_in_faulty_group, is_in_group, is_joined, is_joined_yes, is_last, is_last_cut, is_refused_drain, le-leb, leb-true, nat_le, some_below_in, some_below_out, some_below_same, some_below_some}
 use Rattle.uring_entry.specs.Requests as manual
-use Rattle.uring_entry.specs.Requests.{Requests, entry_of, is_last, is_joined, is_in_group}
-use Rattle.uring_entry.proofs.BelowLemmas.{some_below_some, some_below_in, some_below_out, some_below_same}
-use Rattle.uring_entry.proofs.RequestLemmas.{is_joined_yes}
-use Rattle.uring_entry.proofs.GroupEvents.{entry_same, is_last_cut}
-use Rattle.uring_linux.specs.LinuxRequests.{has_fault, is_refused_drain, is_in_faulty_group, is_faulty_from}
 use Rattle.uring_linux.proofs.WindowEvents.{refused_accepted, last_accepted}
 
 -- the same groups and faults below a bound

@@ -1,16 +1,8 @@
 -- With something outstanding, the least outstanding request that isn't deferred runs or can be issued.
 use Rattle.std.proofs.Common.{◌≡◌, ℕ, ◌<◌, ◌≤◌, length, Bool, true, false, not, ◌&&◌, ◌⊎◌, List, Some, is_some, ◌∙◌, ap, arith, inl, inr}
-use Rattle.std.proofs.lemmas.Bool.{cases_lt, cases_Bool, both_ways, and_left, and_right, and_from, and_parts, and_cases, or_right, not-true, not-false, lt-ltb}
-use Rattle.uring_entry.specs.Below.{some_below}
-use Rattle.uring_entry.specs.Requests.{Requests, is_outstanding, is_running, has_ended, least_of, running_in}
-use Rattle.uring_entry.proofs.BelowLemmas.{IsLeast, some_below_none, some_below_some, some_below_in, is_some_least_below, is_some_value, least_below_tells}
-use Rattle.uring_dispatch.proofs.Counting.{count_below_some}
-use Rattle.uring_linux.specs.declared.deferred.Deferred.{Deferred}
-use Rattle.uring_linux.specs.Drains.{is_in_some}
-use Rattle.uring_linux.specs.LinuxRequests.{LinuxRequests, is_alone, is_in_turn, keeps_back, is_deferred, is_doomed, is_issuable, next_of}
+use Rattle.uring_linux.proofs.Common.{Deferred, IsLeast, LinuxRequests, Requests, and_cases, and_from, and_left, and_parts, and_right, both_ways, cases_Bool, cases_lt, count_below_some, has_ended, is_alone, is_deferred, is_doomed, is_in_some, is_in_turn, is_issuable, is_outstanding, is_running, is_some_least_below, is_some_value, keeps_back, least_below_tells, least_free_of, least_of, lt-ltb, next_of, not-false, not-true, or_right, running_in, some_below, some_below_in, some_below_none, some_below_some}
 use Rattle.uring_linux.specs.Happenings.{Happening, made_by, MayHaveHappened}
 use Rattle.uring_linux.specs.Laws.{GoesOn}
-use Rattle.uring_linux.specs.LinuxWhy.{least_free_of}
 use Rattle.uring_linux.proofs.Deferring.{HasGoneOn, held_by, after_joined}
 use Rattle.uring_linux.proofs.Reaching.{IsSettled, all_between}
 

@@ -1,19 +1,6 @@
 -- What each event makes of what is kept of a group.
 use Rattle.std.proofs.Common.{◌≡◌, ◌≢◌, ℕ, suc, ◌+◌, ◌<◌, ◌≤◌, ℤ, List, length, Bool, true, false, not, ◌&&◌, ◌||◌, ◌==◌, Some, None, sym, ◌∙◌, ap, subst, arith, inl, inr}
-use Rattle.std.specs.Prelude.{if◌then◌else◌}
-use Rattle.std.proofs.lemmas.Bool.{cases_lt, cases_eq, eq-eqb, ne_eqb}
-use Rattle.uring_entry.specs.Layout.{Sqe}
-use Rattle.uring_entry.specs.Below.{found_or}
-use Rattle.uring_entry.specs.Preparation.{is_faulty}
-use Rattle.uring_entry.specs.Success.{is_success}
-use Rattle.uring_entry.specs.Requests.{Requests, entry_of, is_last, is_soft, has_ended, with_accepted, with_cut, with_started, with_ended}
-use Rattle.uring_entry.specs.Groups.{IsGroup, first_member, first_broken, earlier_of}
-use Rattle.uring_entry.proofs.GroupEvents.{entry_same, first_member_same, first_member_more, first_member_none, first_broken_accepted, first_broken_more, first_broken_ended, first_broken_elsewhere, group_accepted, group_joined, group_new, group_cut, group_ended, is_last_cut}
-use Rattle.uring_entry.proofs.GroupLemmas.{groups_apart}
-use Rattle.uring_entry.proofs.RequestLemmas.{has_ended_other, has_ended_same}
-use Rattle.uring_linux.specs.declared.group.Group.{Group}
-use Rattle.uring_linux.specs.LinuxRequests.{has_fault, is_refused_drain}
-use Rattle.uring_linux.specs.Groups.{TellsGroup, Starts, IsGrouped, IsMember, with_member, with_end}
+use Rattle.uring_linux.proofs.Common.{Group, IsGroup, IsGrouped, IsMember, Requests, Sqe, Starts, TellsGroup, cases_eq, cases_lt, earlier_of, entry_of, entry_same, eq-eqb, first_broken, first_broken_accepted, first_broken_elsewhere, first_broken_ended, first_broken_more, first_member, first_member_more, first_member_none, first_member_same, found_or, group_accepted, group_cut, group_ended, group_joined, group_new, groups_apart, has_ended, has_ended_other, has_ended_same, has_fault, if◌then◌else◌, is_faulty, is_last, is_last_cut, is_refused_drain, is_soft, is_success, ne_eqb, with_accepted, with_cut, with_end, with_ended, with_member, with_started}
 use Rattle.uring_linux.proofs.WindowEvents.{refused_accepted, last_accepted, last_kept}
 
 -- An entry is accepted.

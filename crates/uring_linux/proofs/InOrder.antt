@@ -1,9 +1,6 @@
 -- Groups that a drain holds back, one after the other: where their members stand, and who goes on before whom.
 use Rattle.std.proofs.Common.{◌≡◌, ℕ, ◌<◌, ◌≤◌, Bool, true, false, not, ◌&&◌, ◌||◌, List, [], ◌∷◌, ◌++◌, refl, arith, ◌⊎◌, inl, inr}
-use Rattle.std.specs.Prelude.{if◌then◌else◌}
-use Rattle.std.proofs.lemmas.Bool.{both_ways, and_right, and_from, and_parts, or_from, or_left, or_right, or_cases, or_parts, not-false, lt-ltb, le-leb, le-ltb, leb-true, ltb-true}
-use Rattle.uring_linux.specs.declared.deferred.Deferred.{Deferred}
-use Rattle.uring_linux.specs.Drains.{is_among, is_in_some, is_none, from_drain, still_deferred}
+use Rattle.uring_linux.proofs.Common.{Deferred, and_from, and_parts, and_right, both_ways, from_drain, if◌then◌else◌, is_among, is_in_some, is_none, le-leb, le-ltb, leb-true, lt-ltb, ltb-true, not-false, or_cases, or_from, or_left, or_parts, or_right, still_deferred}
 
 -- groups of which this holds, from one number on and before another, one after the other
 abbrev pub InOrder : (Deferred → Type 0) → ℕ → List Deferred → ℕ → Type 0

@@ -1,14 +1,6 @@
 -- What stays so if requests at the front, which have ended in whole groups, are let go.
 use Rattle.std.proofs.Common.{◌≡◌, ℕ, zero, suc, ◌+◌, ◌-◌, ◌<◌, ◌≤◌, length, Bool, false, not, List, [], ◌∷◌, drop, slice_get, Option, Some, refl, sym, ◌∙◌, ap, arith, inl, inr, length-drop}
-use Rattle.std.proofs.lemmas.Bool.{cases_lt, and_right}
-use Rattle.uring_entry.specs.Below.{count_below}
-use Rattle.uring_entry.specs.Requests.{Requests}
-use Rattle.uring_dispatch.proofs.Counting.{count_below_same, count_below_zero, count_below_apart}
-use Rattle.uring_linux.specs.declared.request.Request.{Request}
-use Rattle.uring_linux.specs.Window.{Window, at, end_of, is_unended, runs, unended_among, running_among, Shows, IsOver}
-use Rattle.uring_linux.specs.KeptDrains.{KeptDrains}
-use Rattle.uring_linux.specs.LinuxRequests.{LinuxRequests}
-use Rattle.uring_linux.specs.LinuxDispatch.{dispatch_of, ShowsRequests}
+use Rattle.uring_linux.proofs.Common.{IsOver, KeptDrains, LinuxRequests, Request, Requests, Shows, ShowsRequests, Window, and_right, at, cases_lt, count_below, count_below_apart, count_below_same, count_below_zero, dispatch_of, end_of, is_unended, running_among, runs, unended_among}
 use Rattle.uring_linux.proofs.WindowLemmas.{at_high, kept}
 use Rattle.uring_linux.proofs.WindowEvents.{at_within, roomed}
 use Rattle.uring_linux.proofs.WindowCounts.{at_place, there, dispatch_shows}

@@ -1,4 +1,5 @@
 -- In the order in which they are best read.
+mod Common
 -- What is kept of requests and groups, and what an event makes of it:
 pub mod WindowLemmas
 pub mod MemberLemmas

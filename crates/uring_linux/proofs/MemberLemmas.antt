@@ -1,19 +1,8 @@
 -- What the definitions say of a member, from its group.
 use Rattle.std.proofs.Common.{◌≡◌, ℕ, ◌-◌, ◌<◌, ◌≤◌, length, Bool, false, not, ◌&&◌, leb, Option, Some, None, is_some, refl, sym, ◌∙◌, ap, subst, arith, inl, inr}
-use Rattle.std.specs.Prelude.{if◌then◌else◌}
-use Rattle.std.proofs.lemmas.Bool.{cases_lt, and_left, and_right, and_from, le-leb, lt-leb, lt-ltb, le-ltb}
-use Rattle.std.proofs.Math.Bool.{and-true}
-use Rattle.uring_entry.specs.Requests.{Requests, has_ended, is_last, is_joined, is_in_group}
-use Rattle.uring_entry.specs.Groups.{IsGroup, first_member, is_before, first_broken}
+use Rattle.uring_linux.proofs.Common.{IsGroup, Requests, and-true, and_from, and_left, and_right, cases_lt, faulty_member_of, first_broken, first_member, first_of, has_ended, has_fault, if_before, if◌then◌else◌, in_group_member, is_before, is_in_faulty_group, is_in_group, is_in_turn, is_joined, is_joined_yes, is_last, is_some_least_below, joined_member, keeps_back, le-leb, le-ltb, least_below, least_below_none, least_below_out, least_below_same, least_below_some, least_below_tells, lt-leb, lt-ltb, some_below_some}
 use Rattle.uring_entry.specs.Why.{failed_member_of}
-use Rattle.uring_entry.specs.Below.{least_below}
-use Rattle.uring_entry.proofs.BelowLemmas.{some_below_some, least_below_none, least_below_some, least_below_same, is_some_least_below, least_below_out, least_below_tells}
-use Rattle.uring_entry.proofs.GroupLemmas.{joined_member, in_group_member}
-use Rattle.uring_entry.proofs.RequestLemmas.{is_joined_yes}
 use Rattle.uring_entry.proofs.WhyLemmas.{failed_member_before, failed_member_none}
-use Rattle.uring_linux.specs.LinuxRequests.{has_fault, is_in_faulty_group, is_in_turn, keeps_back, first_of}
-use Rattle.uring_linux.specs.Groups.{if_before}
-use Rattle.uring_linux.specs.LinuxWhy.{faulty_member_of}
 
 -- it is a request's turn if nobody keeps it back
 pub turn_is : (r : Requests) (n : ℕ) → is_in_turn r n ≡ not (is_some (least_below (keeps_back r n) n))

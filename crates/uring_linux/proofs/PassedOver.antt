@@ -1,18 +1,7 @@
 -- What a search may pass over: requests that have ended, and members of a group after one that hasn't.
 use Rattle.std.proofs.Common.{◌≡◌, ℕ, ◌+◌, ◌-◌, ◌<◌, ◌≤◌, Bool, true, false, not, ◌&&◌, Some, refl, ◌∙◌, ap, arith, inl, inr, suc}
-use Rattle.std.proofs.lemmas.Bool.{cases_lt, and_left, and_right, and_from, le-leb}
-use Rattle.uring_entry.specs.Below.{count_below}
-use Rattle.uring_entry.specs.Requests.{Requests, has_ended, is_outstanding}
-use Rattle.uring_entry.proofs.BelowLemmas.{some_below_some}
-use Rattle.uring_entry.proofs.GroupLemmas.{joined_member}
-use Rattle.uring_dispatch.proofs.Counting.{count_below_zero, count_below_apart}
-use Rattle.uring_linux.specs.declared.group.Group.{Group}
-use Rattle.uring_linux.specs.declared.request.Request.{Request}
-use Rattle.uring_linux.specs.Groups.{TellsGroup, IsMember}
-use Rattle.uring_linux.specs.LinuxRequests.{LinuxRequests, keeps_back, is_in_turn, is_issuable}
-use Rattle.uring_linux.specs.Window.{Window, at, end_of, Shows}
+use Rattle.uring_linux.proofs.Common.{Group, IsMember, LinuxRequests, Request, Requests, Shows, TellsGroup, Window, and_from, and_left, and_right, at, cases_lt, count_below, count_below_apart, count_below_zero, end_of, has_ended, is_in_turn, is_issuable, is_outstanding, joined_member, keeps_back, le-leb, one_if, some_below_some}
 use Rattle.uring_linux.proofs.GroupsShown.{kept_from}
-use Rattle.uring_dispatch.specs.Window.{one_if}
 
 -- Before the least that is kept of the first group, all have ended.
 

@@ -1,17 +1,9 @@
 -- What is so of the requests of a ring whatever happened: to the members of deferred groups nothing has happened, and not all that is outstanding is deferred.
 use Rattle.std.proofs.Common.{◌≡◌, ◌≢◌, ℕ, suc, ◌<◌, ◌≤◌, ℤ, length, Bool, true, false, not, ◌||◌, ◌==◌, List, [], ◌∷◌, refl, sym, ◌∙◌, ap, arith, inl, inr, length-append}
-use Rattle.std.specs.Prelude.{if◌then◌else◌, nat_lt}
-use Rattle.std.proofs.lemmas.Bool.{cases_lt, both_ways, and_from, and_parts, or_left, or_cases, or_parts, ltb-true, ltb-false, ne_eqb, lt-ltb, le-leb, false_from_ne_true}
-use Rattle.uring_entry.specs.Layout.{Sqe}
+use Rattle.uring_linux.proofs.Common.{Deferred, Drains, IsNew, LinuxRequests, Requests, Sqe, added_other, after_going_on, and_from, and_parts, both_ways, cases_lt, deferred_with, entry_of, entry_of_accepted_at, false_from_ne_true, has_ended_other, if◌then◌else◌, is_alone, is_among, is_deferred, is_doomed, is_faulty_from, is_in_some, is_in_turn, is_issuable, is_last, is_last_cut_last, is_linked, is_outstanding, is_running, le-leb, lt-ltb, ltb-false, ltb-true, nat_lt, ne_eqb, or_cases, or_left, or_parts, with_deferred, with_group, with_last_entry, with_ring}
+use Rattle.uring_linux.specs.LinuxRequests.{no_request, with_accepted, with_cut, with_started, with_ended}
 use Rattle.uring_entry.specs.Requests as manual
-use Rattle.uring_entry.specs.Requests.{Requests, entry_of, is_linked, is_last, is_outstanding, is_running}
-use Rattle.uring_entry.proofs.RequestLemmas.{added_other, has_ended_other, entry_of_accepted_at}
-use Rattle.uring_entry.proofs.GroupEvents.{is_last_cut_last}
-use Rattle.uring_linux.specs.declared.deferred.Deferred.{Deferred}
-use Rattle.uring_linux.specs.Drains.{Drains, is_among, is_in_some, deferred_with, with_deferred, with_ring}
-use Rattle.uring_linux.specs.LinuxRequests.{LinuxRequests, is_doomed, is_deferred, is_issuable, is_in_turn, is_alone, is_faulty_from, after_going_on, with_group, with_last_entry, no_request, with_accepted, with_cut, with_started, with_ended}
 use Rattle.uring_linux.specs.Happenings.{Happening, Call, Start, End, with_entries, after, made_by, MayHappen, MayHaveHappened}
-use Rattle.uring_linux.specs.Window.{IsNew}
 use Rattle.uring_linux.proofs.WindowEvents.{last_accepted, last_kept, new_cut}
 use Rattle.uring_linux.proofs.Deferring.{IsIdle, IsWaiting, AreWaiting, HasGoneOn, held_by, not_alone, gone_on, not_doomed}
 use Rattle.uring_linux.proofs.InOrder.{order_higher, order_push, order_past, order_still, order_kept}

@@ -1,11 +1,6 @@
 -- What is told of a request, and what a cancel finds, from what is kept.
 use Rattle.std.proofs.Common.{◌≡◌, ℕ, ◌<◌, ◌≤◌, length, Bool, true, false, not, ◌&&◌, leb, ltb, Option, Some, None, is_some, refl, sym, ◌∙◌, ap, arith, inl, inr}
-use Rattle.std.specs.Prelude.{if◌then◌else◌, unwrap_or}
-use Rattle.std.proofs.lemmas.Bool.{and_right, and_from}
-use Rattle.uring_entry.specs.Below.{least_below}
-use Rattle.uring_entry.specs.Groups.{IsGroup, first_member}
-use Rattle.uring_entry.specs.Preparation.{fault_of, is_faulty, operation_of}
-use Rattle.uring_entry.specs.Requests.{Requests, entry_of, has_ended, is_outstanding, is_running}
+use Rattle.uring_linux.proofs.Common.{IsGroup, LinuxRequests, Request, Requests, Shows, Tells, Window, and_from, and_right, at, doom_of, end_of, entry_of, fault_of, first_member, has_ended, if◌then◌else◌, is_deferred, is_doomed, is_faulty, is_outstanding, is_running, joined_member, keeps_back, kept_back_by, least_below, least_below_same, least_free_of, operation_of, unwrap_or, why_of}
 use Rattle.uring_entry.specs.declared.fault.Fault.{Fault}
 use Rattle.uring_entry.specs.declared.operation.Op.{Op}
 use Rattle.uring_entry.specs.declared.operation.Op.TheVariants.{Cancel}
@@ -13,14 +8,8 @@ use Rattle.uring_entry.specs.declared.why.Why.{Why}
 use Rattle.uring_entry.specs.declared.why.Why.TheVariants.{NeverAccepted, HasEnded, Runs, IsDoomed, Waits, MayStart}
 use Rattle.uring_entry.specs.declared.why.Doom.{Doom}
 use Rattle.uring_entry.specs.declared.why.Since.TheVariants.{Deferred}
-use Rattle.uring_entry.proofs.BelowLemmas.{least_below_same}
-use Rattle.uring_entry.proofs.GroupLemmas.{joined_member}
 use Rattle.uring_dispatch.specs.Cancels.{operation_outstanding}
-use Rattle.uring_linux.specs.LinuxRequests.{LinuxRequests, is_doomed, is_deferred, keeps_back}
-use Rattle.uring_linux.specs.declared.request.Request.{Request}
-use Rattle.uring_linux.specs.Window.{Window, at, end_of, Tells, Shows}
 use Rattle.uring_linux.specs.LinuxCancels.{told_for, told_of}
-use Rattle.uring_linux.specs.LinuxWhy.{doom_of, least_free_of, kept_back_by, why_of}
 use Rattle.uring_linux.proofs.Standings.{outside}
 
 -- Members.

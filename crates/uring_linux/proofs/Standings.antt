@@ -1,29 +1,15 @@
 -- How a request stands, from what is kept of it, and what its issue is answered.
 use Rattle.std.proofs.Common.{◌≡◌, ℕ, ◌<◌, ℤ, length, Bool, true, false, not, ◌&&◌, ◌||◌, leb, Option, Some, None, is_some, refl, sym, ◌∙◌, ap, subst, arith, inl, inr, List, set, ◌-◌, ◌≤◌, ◌⊎◌}
-use Rattle.std.specs.Prelude.{if◌then◌else◌, neg_ℤ}
-use Rattle.std.proofs.lemmas.Bool.{cases_lt, cases_Bool, and_left, and_right, and_from, and_parts, or_parts, or_left, both_ways, lt-ltb, le-ltb, le-leb, lt-leb, not-true}
-use Rattle.uring_entry.specs.Preparation.{fault_of, is_faulty, is_cancel, is_cancel_all, operation_of}
+use Rattle.uring_linux.proofs.Common.{Drains, KeptDrains, LinuxDispatch, LinuxRequests, Request, Requests, Shows, ShowsRequests, Tells, Window, after_going_on, and_from, and_left, and_parts, and_right, at, both_ways, cancel_result, cases_Bool, cases_lt, comes_past, dispatch_of, doomed_result, end_of, ended_with, entry_of, fault_of, first_member, found_by, has_ended, has_fault, if◌then◌else◌, is_cancel, is_cancel_all, is_deferred, is_doomed, is_faulty, is_in_faulty_group, is_in_group, is_in_own_group, is_in_turn, is_issuable, is_let_in, is_outstanding, is_running, issued, issued_ready, le-leb, le-ltb, least_below, least_below_same, least_of, lt-leb, lt-ltb, neg_ℤ, not-true, one_if, operation_of, or_left, or_parts, some_below_some}
+use Rattle.uring_linux.specs.LinuxRequests.{with_started, with_ended}
 use Rattle.uring_entry.specs.declared.fault.Fault.{Fault}
 use Rattle.uring_entry.specs.Success as success
-use Rattle.uring_entry.specs.Below.{least_below}
-use Rattle.uring_entry.specs.Groups.{first_member}
 use Rattle.uring_entry.specs.Requests as manual
-use Rattle.uring_entry.specs.Requests.{Requests, entry_of, has_ended, is_outstanding, is_running, is_in_group, least_of}
 use Rattle.uring_entry.specs.declared.errno.TheConstants.{ENOENT, EALREADY}
-use Rattle.uring_entry.proofs.BelowLemmas.{some_below_some, least_below_same}
-use Rattle.uring_entry.proofs.RequestLemmas.{is_in_own_group}
-use Rattle.uring_dispatch.specs.Window.{one_if}
 use Rattle.uring_dispatch.specs.declared.answers.Posts.{Posts}
-use Rattle.uring_linux.specs.declared.request.Request.{Request}
 use Rattle.uring_linux.specs.declared.answers.Issued.{Issued}
 use Rattle.uring_linux.specs.declared.answers.Issued.TheVariants.{Run, Ended, NotReady, Running, Unknown}
-use Rattle.uring_linux.specs.KeptDrains.{KeptDrains}
-use Rattle.uring_linux.specs.Drains.{Drains}
-use Rattle.uring_linux.specs.LinuxRequests.{LinuxRequests, comes_past, is_let_in, has_fault, is_in_faulty_group, is_in_turn, is_doomed, is_deferred, is_issuable, found_by, cancel_result, doomed_result, after_going_on, with_started, with_ended}
 use Rattle.uring_linux.specs.Laws.{is_refusal}
-use Rattle.uring_linux.specs.Issues.{issued, issued_ready, ended_with}
-use Rattle.uring_linux.specs.Window.{Window, at, end_of, Tells, Shows}
-use Rattle.uring_linux.specs.LinuxDispatch.{LinuxDispatch, dispatch_of, ShowsRequests}
 use Rattle.uring_linux.proofs.WindowLemmas.{not_none}
 use Rattle.uring_linux.proofs.WindowCounts.{dispatch_shows}
 use Rattle.uring_linux.proofs.WindowEvents.{at_within, roomed}

@@ -1,16 +1,6 @@
 -- What each event changes in the numbers, and that they stay right.
 use Rattle.std.proofs.Common.{◌≡◌, ℕ, ◌+◌, ◌-◌, ◌<◌, ◌≤◌, length, Bool, true, false, not, ◌&&◌, [], set, Some, None, refl, sym, ◌∙◌, ap, arith, inl, inr, length-set}
-use Rattle.std.proofs.Math.Bool.{and-true}
-use Rattle.std.proofs.lemmas.Bool.{cases_Bool, both_ways, not-true}
-use Rattle.uring_entry.specs.Layout.{Sqe}
-use Rattle.uring_entry.specs.Requests.{is_linked}
-use Rattle.uring_dispatch.specs.Window.{one_if}
-use Rattle.uring_linux.specs.declared.request.Request.{Request}
-use Rattle.uring_linux.specs.Drains.{no_drains}
-use Rattle.uring_linux.specs.KeptDrains.{KeptDrains}
-use Rattle.uring_linux.specs.Window.{Window, new_request, at, end_of, is_unended, runs, unended_among, running_among, IsOpen, Lessens}
-use Rattle.uring_linux.specs.LinuxDispatch.{dispatch_of, IsDispatch}
-use Rattle.uring_linux.specs.Counts.{HasAccepted, HasStarted, HasEnded, HasFinished}
+use Rattle.uring_linux.proofs.Common.{HasAccepted, HasEnded, HasFinished, HasStarted, IsDispatch, IsOpen, KeptDrains, Lessens, Request, Sqe, Window, and-true, at, both_ways, cases_Bool, dispatch_of, end_of, is_linked, is_unended, new_request, no_drains, not-true, one_if, running_among, runs, unended_among}
 use Rattle.uring_linux.proofs.WindowCounts.{unended_none, running_none, at_roomed, count_written, unended_counts, running_counts}
 
 pub open_from : (s : Window) (n : ℕ) (q : Request) (b : Bool) → IsOpen (record s { room = 0 }) n b

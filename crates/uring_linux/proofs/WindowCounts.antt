@@ -1,19 +1,8 @@
 -- How many of the requests that are kept haven't ended, and how many run: what each event changes in that.
 use Rattle.std.proofs.Common.{◌≡◌, ℕ, suc, ◌+◌, ◌-◌, ◌<◌, ◌≤◌, length, Bool, true, false, not, ◌&&◌, List, [], ◌∷◌, ◌++◌, set, slice_get, Option, Some, refl, sym, ◌∙◌, ap, arith, inl, inr, length-append, length-set}
-use Rattle.std.proofs.lemmas.Bool.{cases_Bool, and_right, lt-ltb}
-use Rattle.std.proofs.Math.Bool.{and-true}
-use Rattle.std.proofs.lemmas.Option.{slice_get_cases, slice_get_within}
-use Rattle.uring_entry.specs.Below.{count_below, some_below}
-use Rattle.uring_entry.specs.Requests.{Requests, has_ended, has_started, is_outstanding, is_running, outstanding_in, running_in, entry_of}
-use Rattle.uring_dispatch.specs.Window.{one_if}
-use Rattle.uring_dispatch.proofs.Counting.{count_below_same, count_below_changed, count_below_within, count_below_some, count_below_zero, count_below_apart}
-use Rattle.uring_linux.specs.declared.request.Request.{Request}
-use Rattle.uring_linux.specs.Window.{Window, at, is_unended, runs, unended_among, running_among, Shows, IsOpen}
+use Rattle.uring_linux.proofs.Common.{IsOpen, KeptDrains, LinuxRequests, Request, Requests, Shows, ShowsRequests, Window, and-true, and_right, asks_to_skip, at, cases_Bool, count_below, count_below_apart, count_below_changed, count_below_same, count_below_some, count_below_within, count_below_zero, dispatch_of, entry_of, has_ended, has_started, is_outstanding, is_running, is_unended, lt-ltb, one_if, outstanding_in, running_among, running_in, runs, slice_get_cases, slice_get_within, some_below, unended_among}
 use Rattle.uring_linux.proofs.WindowLemmas.{at_high}
 use Rattle.uring_linux.proofs.WindowEvents.{push_here, push_other, is_set_here, set_other, at_within, roomed}
-use Rattle.uring_linux.specs.KeptDrains.{KeptDrains}
-use Rattle.uring_linux.specs.LinuxRequests.{LinuxRequests, asks_to_skip}
-use Rattle.uring_linux.specs.LinuxDispatch.{dispatch_of, ShowsRequests}
 
 -- how many pass a test
 abbrev among : (Option Request → Bool) → List Request → ℕ

@@ -1,23 +1,9 @@
 -- What each event changes in what is kept.
 use Rattle.std.proofs.Common.{◌≡◌, ◌≢◌, ℕ, suc, ◌+◌, ◌-◌, ◌<◌, ◌≤◌, ℤ, length, Bool, true, false, not, ◌&&◌, ◌||◌, ◌==◌, List, [], ◌∷◌, ◌++◌, set, slice_get, Some, None, refl, sym, ◌∙◌, ap, arith, inl, inr, length-append, length-set, zero}
 use Rattle.std.specs.List.{list_any}
-use Rattle.std.proofs.lemmas.Bool.{cases_lt, cases_eq, ne_eqb, and_left}
-use Rattle.std.proofs.lemmas.Option.{slice_get_past, slice_get-get_or, slice_get_within, same_Some}
+use Rattle.uring_linux.proofs.Common.{IsGrouped, IsNew, IsWithin, Request, Requests, Shows, Sqe, Tells, Window, added_other, and_left, asks_to_drain, asks_to_skip, at, cases_eq, cases_lt, end_of, entry_of, entry_of_accepted_at, entry_of_accepted_other, entry_same, has_ended, has_ended_other, has_ended_same, has_failed_accepted, has_failed_other, has_failed_same, has_failed_unended, has_skipped, is_faulty, is_last, is_last_cut, is_last_cut_last, is_linked, is_refused_drain, is_running_ended_other, is_running_ended_same, is_running_started_other, is_running_started_same, is_success, ne_eqb, new_request, no_request, or-false, same_Some, slice_get-get_or, slice_get_past, slice_get_within, some_below, some_below_same, with_accepted, with_cut, with_ended, with_started}
 use Rattle.std.proofs.lemmas.List.{get_or-set_same, get_or-set_other}
 use Rattle.std.proofs.Math.Seq.{get_or-append_seam}
-use Rattle.uring_entry.specs.Layout.{Sqe}
-use Rattle.uring_entry.specs.Preparation.{is_faulty}
-use Rattle.uring_entry.specs.Success.{is_success}
-use Rattle.uring_entry.specs.Requests.{Requests, no_request, entry_of, is_linked, is_last, has_ended, with_accepted, with_cut, with_started, with_ended}
-use Rattle.uring_entry.proofs.BelowLemmas.{some_below_same}
-use Rattle.uring_entry.specs.Below.{some_below}
-use Rattle.std.proofs.Math.Bool.{or-false}
-use Rattle.uring_entry.proofs.RequestLemmas.{entry_of_accepted_at, entry_of_accepted_other, has_failed_unended, has_failed_accepted, has_ended_other, has_ended_same, has_failed_other, has_failed_same, is_running_started_same, is_running_started_other, is_running_ended_same, is_running_ended_other, added_other}
-use Rattle.uring_entry.proofs.GroupEvents.{entry_same, is_last_cut, is_last_cut_last}
-use Rattle.uring_linux.specs.declared.request.Request.{Request}
-use Rattle.uring_linux.specs.Groups.{IsGrouped}
-use Rattle.uring_linux.specs.LinuxRequests.{asks_to_drain, asks_to_skip, has_skipped, is_refused_drain}
-use Rattle.uring_linux.specs.Window.{Window, new_request, at, end_of, Tells, Shows, IsWithin, IsNew}
 use Rattle.uring_linux.proofs.WindowLemmas.{at_low, at_high}
 
 -- Lists.

@@ -1,15 +1,7 @@
 -- What is kept, by numbers, and what it tells.
 use Rattle.std.proofs.Common.{◌≡◌, ℕ, ◌-◌, ◌<◌, ◌≤◌, length, not, ◌&&◌, ◌||◌, ◌==◌, List, slice_get, Some, None, ◌∙◌, ap, arith, inl, inr}
-use Rattle.std.specs.Prelude.{if◌then◌else◌}
-use Rattle.std.proofs.lemmas.Bool.{lt-ltb, le-ltb}
-use Rattle.std.proofs.lemmas.Option.{slice_get_cases}
-use Rattle.uring_entry.specs.Layout.{user_data_of}
-use Rattle.uring_entry.specs.Preparation.{is_faulty}
-use Rattle.uring_entry.specs.Requests.{Requests, entry_of, is_running}
-use Rattle.uring_linux.specs.declared.request.Request.{Request}
+use Rattle.uring_linux.proofs.Common.{Faulty, IsWithin, Request, Requests, Runs, Tells, Unended, Window, at, entry_of, if◌then◌else◌, is_faulty, is_running, le-ltb, lt-ltb, passes, said, slice_get_cases, user_data_of}
 use Rattle.uring_linux.specs.declared.request.Test.{Test}
-use Rattle.uring_linux.specs.declared.request.Test.TheVariants.{Unended, Faulty, Runs}
-use Rattle.uring_linux.specs.Window.{Window, at, passes, said, Tells, IsWithin}
 
 pub at_low : (s : Window) (n : ℕ) → n < s.first → at s n ≡ None
 unfolding at

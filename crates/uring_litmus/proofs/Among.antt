@@ -1,17 +1,9 @@
 -- Parts that stand among others, one part after the other.
 use Rattle.std.proofs.Common.{◌≡◌, ◌↔◌, ℕ, suc, ◌+◌, ◌-◌, ◌<◌, ◌≤◌, Bool, true, false, List, [], ◌∷◌, ◌++◌, length, take, drop, get_or, refl, sym, ap, subst, ◌∙◌, arith, inl, inr, add-one, drop-cons}
-use Rattle.std.specs.Prelude.{Contains, nat_eq, string_bytes}
+use Rattle.uring_litmus.proofs.Common.{AreAmong, Contains, Contains-push_cases, Global, StandsSome, String, Vec, length-map, lines_in, map-append, nat_eq, slice_get_read, string_bytes, take_all, texts_of}
 use Rattle.std.proofs.Math.ListN.{drop_of_length-le}
 use Rattle.std.proofs.lemmas.Bool.{eq-eqb, eqb-true}
-use Rattle.std.proofs.lemmas.List.Elements.{Contains-push_cases}
-use Rattle.std.specs.declared.vec.Vec.{Vec}
-use Rattle.std.specs.declared.string.String.{String}
-use Rattle.std.specs.declared.alloc.Global.{Global}
-use Rattle.uring_litmus.specs.Parts.{texts_of}
-use Rattle.uring_litmus.specs.Claims.{AreAmong, StandsSome, lines_in}
 use Rattle.uring_litmus.proofs.Texts.{next_taken}
-use Rattle.std.proofs.lemmas.List.{map-append, length-map, take_all}
-use Rattle.std.proofs.lemmas.Option.{slice_get_read}
 use Rattle.uring_litmus.proofs.Places.{to_map, at_place}
 
 -- further parts in front change nothing

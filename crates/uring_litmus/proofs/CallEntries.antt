@@ -1,15 +1,9 @@
 -- The entries of calls, one more at a time.
 use Rattle.std.proofs.Common.{◌≡◌, ℕ, ◌+◌, ◌<◌, List, [], ◌∷◌, ◌++◌, length, map, take, get_or, refl, sym, ap, ◌∙◌}
-use Rattle.std.specs.Option.{option_to_list}
-use Rattle.std.proofs.lemmas.List.{map-append}
-use Rattle.std.proofs.lemmas.List.Elements.{filter_map-append}
-use Rattle.std.specs.declared.vec.Vec.{Vec}
-use Rattle.std.specs.declared.alloc.Global.{Global}
+use Rattle.uring_litmus.proofs.Common.{Global, Vec, accepted_of, entry_of, filter_map-append, lists_of, map-append, option_to_list}
 use Rattle.uring_entry.specs.Layout.{Sqe}
 use Rattle.uring_ports.specs.declared.item.Item.{Item}
 use Rattle.uring_ports.specs.declared.item.Item.TheVariants as item
-use Rattle.uring_play_text.specs.Inputs.{lists_of}
-use Rattle.uring_litmus.specs.Items.{entry_of, accepted_of}
 use Rattle.uring_litmus.proofs.Texts.{next_taken}
 
 one_entry : (x : Item) → accepted_of (x ∷ []) ≡ option_to_list (entry_of x)

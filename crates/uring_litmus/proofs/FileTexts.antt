@@ -1,14 +1,9 @@
 -- The texts of files, one more at a time.
 use Rattle.std.proofs.Common.{◌≡◌, ℕ, zero, suc, ◌+◌, ◌<◌, List, [], ◌∷◌, ◌++◌, length, take, get_or, Option, Some, None, pos, refl, sym, ap, ap₂, ◌∙◌, append_assoc, add-one, arith}
-use Rattle.std.specs.Prelude.{slice_get, MatchOption}
-use Rattle.std.specs.Option.{option_map, option_and_then, option_to_list}
-use Rattle.std.proofs.lemmas.List.{take_more}
-use Rattle.std.proofs.lemmas.Option.{slice_get-get_or}
+use Rattle.uring_litmus.proofs.Common.{MatchOption, byte_of, file_of, file_text, files_texts, option_and_then, option_map, option_to_list, slice_get, slice_get-get_or, state_text, take_more}
 use Rattle.uring_files.specs.Contents.{FileContents}
-use Rattle.uring_files.specs.Operations.{file_of, byte_of}
 use Rattle.uring_files.specs.declared.file.FileState.{FileState}
 use Rattle.uring_text.specs.Tokens.{hex_or_dash}
-use Rattle.uring_litmus.specs.Parts.{state_text, file_text, files_texts}
 
 files_append : (fd : ℕ) (xs : List FileContents) (file : FileContents)
     → files_texts fd (xs ++ file ∷ []) ≡ files_texts fd xs ++ file_text (fd + length xs) file ∷ []

@@ -1,3 +1,4 @@
+mod Common
 pub mod Places
 pub mod Texts
 pub mod CallEntries

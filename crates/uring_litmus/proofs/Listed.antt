@@ -1,21 +1,9 @@
 -- What is listed of calls, and shows what they may come to.
 use Rattle.std.proofs.Common.{◌≡◌, ℕ, zero, suc, Bool, List, [], ◌∷◌, ◌++◌, length, map, Option, Ok, sym, ap, subst, ◌∙◌, refl, arith, append_assoc}
-use Rattle.std.specs.Prelude.{Contains, codes, string_bytes}
-use Rattle.std.specs.List.{AllZip}
+use Rattle.uring_litmus.proofs.Common.{AllZip, AreFound, AreLinesOf, Contains, Ending, Finds, Form, Global, IsLineOf, IsListOf, IsNoted, IsSortedOnce, Lists, ReadsCalls, ShowAll, String, Vec, accepted_of, codes, count_text, length-map, lines_text, lists_of, order_text, string_bytes, texts_of, told_count}
 use Rattle.std.specs.Io.KnownBytes.{Appends}
-use Rattle.std.proofs.lemmas.List.{length-map}
-use Rattle.std.specs.declared.vec.Vec.{Vec}
-use Rattle.std.specs.declared.string.String.{String}
-use Rattle.std.specs.declared.alloc.Global.{Global}
 use Rattle.uring_entry.specs.Setup.{Setup}
 use Rattle.uring_ports.specs.declared.item.Item.{Item}
-use Rattle.uring_play_text.specs.Inputs.{ReadsCalls, lists_of}
-use Rattle.uring_outcomes.specs.Outcomes.{Ending}
-use Rattle.uring_litmus.specs.declared.form.Form.{Form}
-use Rattle.uring_litmus.specs.Items.{accepted_of}
-use Rattle.uring_litmus.specs.Parts.{texts_of}
-use Rattle.uring_litmus.specs.Lines.{AreLinesOf, IsLineOf, IsSortedOnce, ShowAll}
-use Rattle.uring_litmus.specs.Listings.{IsNoted, IsListOf, AreFound, Finds, Lists, lines_text, count_text, told_count, order_text}
 
 -- each line is that of an outcome
 of_line : (form : Form) (endings : List Ending) (lines : List (List ℕ)) → AreLinesOf form endings lines

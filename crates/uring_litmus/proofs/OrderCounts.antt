@@ -1,18 +1,7 @@
 -- The orders of the outcomes that have a line.
 use Rattle.std.proofs.Common.{◌≡◌, ◌↔◌, ◌⊎◌, ℕ, ◌+◌, ◌<◌, ◌≤◌, List, [], ◌∷◌, ◌++◌, length, map, get_or, Option, Some, None, refl, sym, ap, subst, ◌∙◌, arith, append-nil, inl, inr}
-use Rattle.std.specs.Prelude.{Contains, slice_get, string_bytes, zero, suc, false}
-use Rattle.std.specs.Option.{option_to_list, option_map}
+use Rattle.uring_litmus.proofs.Common.{AreLinesOf, Contains, Contains-append_cases, Contains-append_left, Contains-append_right, CountsOrders, Ending, Form, Global, HasBoth, IsLineOf, IsSortedOnce, String, completion_parts, false, joined, length-map, option_map, option_to_list, order_text, slice_get, slice_get-map, slice_get_past, slice_get_read, slice_get_within, string_bytes, suc, texts_of, zero}
 use Rattle.std.proofs.lemmas.Bool.{cases_lt}
-use Rattle.std.proofs.lemmas.List.Elements.{Contains-append_left, Contains-append_right, Contains-append_cases}
-use Rattle.std.proofs.lemmas.List.{length-map}
-use Rattle.std.proofs.lemmas.Option.{slice_get_within, slice_get-map, slice_get_read, slice_get_past}
-use Rattle.std.specs.declared.string.String.{String}
-use Rattle.std.specs.declared.alloc.Global.{Global}
-use Rattle.uring_outcomes.specs.Outcomes.{Ending}
-use Rattle.uring_litmus.specs.declared.form.Form.{Form}
-use Rattle.uring_litmus.specs.Parts.{texts_of, completion_parts}
-use Rattle.uring_litmus.specs.Lines.{joined, AreLinesOf, IsLineOf, IsSortedOnce}
-use Rattle.uring_litmus.specs.Listings.{CountsOrders, HasBoth, order_text}
 
 -- the same below a place
 abbrev pub HasBelow : List (List ℕ) → List (List ℕ) → List ℕ → ℕ → List ℕ → Type 0

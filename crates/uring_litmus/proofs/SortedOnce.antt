@@ -1,19 +1,14 @@
 -- Lines that were sorted, each left once.
 use Rattle.std.proofs.Common.{◌≡◌, ℕ, List, [], ◌∷◌, sym, subst, ◌∙◌}
-use Rattle.std.specs.Prelude.{Contains, string_bytes}
+use Rattle.uring_litmus.proofs.Common.{AllByRecursion, Contains, Global, IsSortedOnce, String, dedup, string_bytes, texts_of}
 use Rattle.std.specs.Ordering.{nat_cmp}
 use Rattle.std.specs.declared.cmp.Ordering.TheVariants.{Less}
 use Rattle.std.specs.Cmp.Lexicographic.{slice_cmp, texts_ties}
-use Rattle.std.specs.List.{AllByRecursion, dedup}
 use Rattle.std.specs.List.Sorted.{IsPermutation, IsSorted, IsStrictlySortedBy}
 use Rattle.std.specs.String.{string_cmp, string_eq, string_cmp_total, string_eq_equiv}
 use Rattle.std.proofs.lemmas.List.Kept.{Any-dedup, Contains-from_dedup, IsStrictlySortedBy-dedup}
 use Rattle.std.proofs.lemmas.List.Sorted.{Contains-permutation, IsPermutation-sym}
 use lib.Pointwise.{bytes_decides}
-use Rattle.std.specs.declared.string.String.{String}
-use Rattle.std.specs.declared.alloc.Global.{Global}
-use Rattle.uring_litmus.specs.Parts.{texts_of}
-use Rattle.uring_litmus.specs.Lines.{IsSortedOnce}
 use Rattle.uring_litmus.proofs.Places.{from_map, to_map}
 
 all_bytes : (s : String Global) (xs : List (String Global))

@@ -1,12 +1,6 @@
 -- Texts in lists, one more at a time.
 use Rattle.std.proofs.Common.{◌≡◌, Bool, true, false, ℕ, ◌+◌, ◌<◌, List, [], ◌∷◌, ◌++◌, length, map, take, get_or, refl, sym, ap, subst, ◌∙◌, append_assoc}
-use Rattle.std.specs.Prelude.{string_bytes}
-use Rattle.std.specs.List.{AllZip}
-use Rattle.std.proofs.lemmas.List.{take_more, map-append}
-use Rattle.std.specs.declared.string.String.{String}
-use Rattle.std.specs.declared.alloc.Global.{Global}
-use Rattle.uring_litmus.specs.Parts.{texts_of}
-use Rattle.uring_litmus.specs.Listings.{IsNoted}
+use Rattle.uring_litmus.proofs.Common.{AllZip, Global, IsNoted, String, map-append, string_bytes, take_more, texts_of}
 
 -- a text is put after others
 pub one_more : (texts : List (String Global)) (text : String Global)

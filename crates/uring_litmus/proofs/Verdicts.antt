@@ -1,26 +1,13 @@
 -- Verdicts on claims of what was found, and outcomes that are chosen among it.
 use Rattle.std.proofs.Common.{◌≡◌, ◌↔◌, ◌+◌, ◌-◌, ◌<◌, ◌≤◌, ℕ, Bool, true, false, not, List, [], ◌∷◌, ◌++◌, length, map, take, get_or, Option, Some, None, Result, Ok, Err, refl, sym, ap, subst, ◌∙◌, inl, inr, arith}
-use Rattle.std.specs.Prelude.{Contains, slice_get, string_bytes, MatchOption}
-use Rattle.std.proofs.lemmas.Option.{slice_get_within, slice_get_read}
-use Rattle.std.specs.Option.{ok_or}
-use Rattle.std.proofs.lemmas.List.Elements.{Contains-push_cases}
-use Rattle.std.proofs.lemmas.List.{map-append, take_all}
-use Rattle.std.specs.declared.string.String.{String}
-use Rattle.std.specs.declared.alloc.Global.{Global}
+use Rattle.uring_litmus.proofs.Common.{AreFound, CanEnd, Contains, Contains-push_cases, Ending, Finds, Form, Global, IsAgainst, IsLineOf, IsShown, IsSoOf, IsSortedOnce, IsVerdict, Judges, MatchOption, ShowsSome, String, accepted_of, completion_parts, files_texts, is_so, map-append, ok_or, parts_in, slice_get, slice_get_read, slice_get_within, so_of, string_bytes, take_all, texts_of}
 use Rattle.uring_entry.specs.Setup.{Setup}
 use Rattle.uring_entry.specs.Layout.{Sqe}
-use Rattle.uring_outcomes.specs.Outcomes.{Ending, CanEnd}
-use Rattle.uring_litmus.specs.declared.form.Form.{Form}
 use Rattle.uring_litmus.specs.declared.claims.Claim.{Claim}
 use Rattle.uring_litmus.specs.declared.claims.Claim.TheVariants as claims
 use Rattle.uring_litmus.specs.declared.judging.Judged.{Judged}
 use Rattle.uring_litmus.specs.declared.judging.Chosen.{Chosen}
 use Rattle.uring_litmus.specs.declared.judging.Chosen.TheVariants as chosen
-use Rattle.uring_litmus.specs.Items.{accepted_of}
-use Rattle.uring_litmus.specs.Parts.{texts_of, completion_parts, files_texts, IsShown}
-use Rattle.uring_litmus.specs.Lines.{IsLineOf, IsSortedOnce}
-use Rattle.uring_litmus.specs.Listings.{AreFound, Finds}
-use Rattle.uring_litmus.specs.Claims.{parts_in, is_so, ShowsSome, IsSoOf, IsAgainst, IsVerdict, Judges, so_of}
 use Rattle.uring_litmus.specs.Choices.{IsChosen, IsPlaceBy, IsPlaceOf, Chooses}
 use Rattle.uring_litmus.proofs.Texts.{next_taken}
 use Rattle.uring_litmus.proofs.Places.{at_place, zip_at}

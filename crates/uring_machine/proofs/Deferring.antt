@@ -1,15 +1,11 @@
 -- By Linux's rules whatever was started comes before whatever is deferred: groups are deferred in their order, go on in that order, and no later group starts before them.
 use Rattle.std.proofs.Common.{◌≡◌, ℕ, suc, ◌+◌, ◌<◌, ◌≤◌, ℤ, length, Bool, true, false, not, ◌||◌, ◌==◌, List, [], ◌∷◌, ◌++◌, refl, sym, ◌∙◌, ap, subst, arith, inl, inr, length-append}
-use Rattle.std.specs.Prelude.{if◌then◌else◌, nat_lt}
-use Rattle.std.proofs.lemmas.Bool.{cases_lt, cases_eq, cases_Bool, both_ways, and_parts, or_cases, or_parts, or_from, not-true, not-false, ltb-true, ltb-false, ne_eqb}
+use Rattle.uring_machine.proofs.Common.{LinuxRequests, Requests, added_other, after_going_on, and_parts, both_ways, cases_Bool, cases_eq, cases_lt, entry_of_accepted_at, has_started, if◌then◌else◌, is_alone, is_deferred, is_doomed, is_faulty_from, is_in_faulty_group, is_in_turn, is_issuable, is_last, is_linked, is_outstanding, ltb-false, ltb-true, nat_lt, ne_eqb, not-false, not-true, or_cases, or_from, or_parts, with_accepted, with_cut, with_ended, with_group, with_last_entry}
 use Rattle.uring_entry.specs.Layout.{Sqe}
 use Rattle.uring_entry.specs.Requests as manual
-use Rattle.uring_entry.specs.Requests.{Requests, is_linked, is_last, is_outstanding, has_started}
-use Rattle.uring_entry.proofs.RequestLemmas.{added_other, entry_of_accepted_at}
 use Rattle.uring_entry.proofs.GroupEvents.{is_last_cut}
 use Rattle.uring_linux.specs.declared.deferred.Deferred.{Deferred}
 use Rattle.uring_linux.specs.Drains.{Drains, is_in_some, still_deferred, deferred_with, with_deferred, with_ring}
-use Rattle.uring_linux.specs.LinuxRequests.{LinuxRequests, is_in_faulty_group, is_doomed, is_in_turn, is_deferred, is_issuable, is_alone, is_faulty_from, after_going_on, with_group, with_last_entry, with_accepted, with_cut, with_ended}
 use Rattle.uring_linux.specs.Happenings.{Happening, Call, Start, End, with_entries, made_by, MayHaveHappened}
 use Rattle.uring_linux.proofs.WindowEvents.{last_accepted}
 use Rattle.uring_linux.proofs.Deferring.{IsWaiting}

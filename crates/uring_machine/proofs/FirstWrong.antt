@@ -1,16 +1,9 @@
 -- The first wrong answer of a list, and what is told of a list where an answer was refused.
 use Rattle.std.proofs.Common.{◌≡◌, ℕ, ◌<◌, ◌≤◌, List, length, take, get_or, Option, Some, refl, sym, subst, arith}
-use Rattle.std.specs.Prelude.{Result, Ok, IsOk, IfOk, OnOk, MatchOption}
+use Rattle.uring_machine.proofs.Common.{CalledFor, CalledForApart, Event, IfOk, IfOk-weaker, IsFirstWrongAnswer, IsFirstWrongApart, IsLawful, IsLawfulApart, IsOk, IsRefused, MatchOption, Ok, OnOk, Refusal, Result, Setup, history_of, world}
 use Rattle.std.specs.declared.alloc.AllocError.{AllocError}
-use Rattle.std.proofs.lemmas.Result.{IfOk-weaker}
 use Rattle.std.proofs.lemmas.Option.{slice_get_read}
-use Rattle.uring_entry.specs.Setup.{Setup}
-use Rattle.uring_core.specs.StepAnswers.{CalledForApart}
-use Rattle.uring_core.specs.CalledFor.{CalledFor, IsLawful}
-use Rattle.uring_core.specs.Histories.{Event, world, history_of, IsLawfulApart}
-use Rattle.uring_core.specs.Recorded.{IsRefused, IsFirstWrongAnswer, IsFirstWrongApart}
 use Rattle.uring_core.specs.declared.wanted.Wanted.{Wanted}
-use Rattle.uring_core.specs.declared.wanted.Refusal.{Refusal}
 use Rattle.uring_core.specs.declared.wanted.Refusal.TheVariants.{Wrong, NoMemory}
 
 pub stops : (refusal : Refusal) (place : ℕ) (r : Result (Option (ℕ × Wanted)) AllocError) (P : Type 0) (Q : ℕ × Wanted → Type 0)

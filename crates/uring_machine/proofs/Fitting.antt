@@ -1,21 +1,10 @@
 -- That a machine fits a history with one more event.
 use Rattle.std.proofs.Common.{◌≡◌, ℕ, ◌≤◌, List, ◌∷◌, Bool, true, false, Some, None, if◌then◌else◌, refl, sym, subst, ◌∙◌, ap}
-use Rattle.uring_entry.specs.Setup.{Setup}
+use Rattle.uring_machine.proofs.Common.{Answer, CalledFor, CalledForApart, Core, EndsOn, FileContents, Fits, FitsApart, History, IsFinished, IsLawful, IsNoFinish, IsOutcome, IsUnrefused, Requests, Setup, Step, World, after, elements_for, elements_for_step, entry_of, files_of, finish_answer, is_running, max_len, operation_running, result_of, world}
 use Rattle.uring_entry.specs.Preparation.{operation_of}
-use Rattle.uring_entry.specs.Requests.{Requests, entry_of, is_running, operation_running}
 use Rattle.uring_entry.specs.declared.operation.Op.{Op}
 use Rattle.uring_entry.specs.declared.operation.Outcome.{Outcome}
-use Rattle.uring_files.specs.Contents.{FileContents, max_len}
-use Rattle.uring_files.specs.Operations.{after, IsOutcome, result_of}
-use Rattle.uring_core.specs.World.{World}
-use Rattle.uring_core.specs.StepAnswers.{CalledForApart}
-use Rattle.uring_core.specs.CalledFor.{CalledFor, IsLawful, EndsOn, files_of}
-use Rattle.uring_core.specs.Core.{Core, FitsApart, IsNoFinish, IsFinished, elements_for}
-use Rattle.uring_core.specs.Histories.{History, world}
-use Rattle.uring_machine.specs.Machine.{Fits, IsUnrefused, elements_for_step, finish_answer}
-use Rattle.uring_core.specs.declared.step.Step.{Step}
 use Rattle.uring_core.specs.declared.step.Step.TheVariants as step
-use Rattle.uring_core.specs.declared.answer.Answer.{Answer}
 use Rattle.uring_core.specs.declared.answer.Answer.TheVariants as answer
 use Rattle.uring_core.proofs.FileHistory.{files_kept, files_ended}
 use Rattle.uring_core.proofs.Running.{runs_with}

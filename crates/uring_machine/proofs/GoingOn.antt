@@ -1,16 +1,10 @@
 -- Where something is outstanding, the least of it runs, or something can be issued: by either's rules.
 use Rattle.std.proofs.Common.{◌≡◌, ℕ, ◌<◌, Bool, true, false, not, ◌&&◌, length, Some, is_some, refl, sym, ◌∙◌, ap, subst, arith, ◌⊎◌, inl, inr}
-use Rattle.std.proofs.lemmas.Bool.{cases_lt, cases_eq, cases_Bool, both_ways, and_from, and_parts, or_cases, lt-ltb}
-use Rattle.uring_entry.specs.Setup.{Setup}
-use Rattle.uring_entry.specs.Requests.{is_outstanding, is_running, has_started, has_ended, least_of}
+use Rattle.uring_machine.proofs.Common.{History, IsLawfulApart, LinuxRequests, Setup, and_from, and_parts, both_ways, cases_Bool, cases_eq, cases_lt, has_ended, has_started, is_deferred, is_outstanding, is_running, least_of, least_of_goes_on, lt-ltb, or_cases, requests_of, world}
 use Rattle.uring_entry.proofs.BelowLemmas.{IsLeast, least_below_tells, is_some_least_below, some_below_some}
-use Rattle.uring_entry.proofs.RequestLemmas.{least_of_goes_on}
-use Rattle.uring_linux.specs.LinuxRequests.{LinuxRequests, is_deferred}
 use Rattle.uring_linux.specs.Happenings.{made_by}
 use Rattle.uring_linux.proofs.GoingOn.{goes_on_from}
 use Rattle.uring_rules.specs.Rules.{is_issuable, next_of}
-use Rattle.uring_core.specs.World.{requests_of}
-use Rattle.uring_core.specs.Histories.{History, world, IsLawfulApart}
 use Rattle.uring_core.proofs.LinuxHistories.{by_linux, HasHappened, history_happens}
 use Rattle.uring_machine.proofs.Deferring.{IsOrdered, all_ordered}
 

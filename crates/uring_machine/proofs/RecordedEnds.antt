@@ -1,28 +1,13 @@
 -- Answers that were recorded elsewhere, with files: what a machine fits after a step was followed, and what is called for as a request ends.
 use Rattle.std.proofs.Common.{◌≡◌, ℕ, ℤ, neg_ℤ, true, false, List, ◌∷◌, Some, None, if◌then◌else◌, refl, sym, ap, subst, ◌∙◌, inl, inr}
-use Rattle.std.specs.Prelude.{Result, Ok, Err, OnOk, IfErr}
-use Rattle.std.proofs.lemmas.Bool.{true≢false}
-use Rattle.uring_entry.specs.Setup.{Setup}
+use Rattle.uring_machine.proofs.Common.{Answer, CalledFor, CalledForApart, Core, EndsOn, Err, FileContents, Fits, FitsApart, History, IfErr, IsFinished, IsLawful, IsNoFinish, IsOutcome, IsRefused, IsShortOfMemory, IsWrong, Machine, MayLackMemory, Meets, Ok, OnOk, Refusal, Requests, Result, Setup, Step, World, after, ended_with, entry_of, files_of, is_lengthening, is_running, no_bytes, operation_running, result_of, resumed, true≢false, world}
 use Rattle.uring_entry.specs.Preparation.{operation_of}
-use Rattle.uring_entry.specs.Requests.{Requests, entry_of, is_running, operation_running, no_bytes}
 use Rattle.uring_entry.specs.declared.errno.TheConstants.{ENOMEM}
 use Rattle.uring_entry.specs.declared.operation.Op.{Op}
 use Rattle.uring_entry.specs.declared.operation.Outcome.{Outcome}
-use Rattle.uring_files.specs.Contents.{FileContents}
-use Rattle.uring_files.specs.Operations.{after, ended_with, is_lengthening, result_of, IsOutcome}
-use Rattle.uring_core.specs.World.{World}
-use Rattle.uring_core.specs.StepAnswers.{CalledForApart}
-use Rattle.uring_core.specs.CalledFor.{CalledFor, IsLawful, EndsOn, files_of}
-use Rattle.uring_core.specs.Core.{Core, FitsApart, IsNoFinish, IsFinished, IsShortOfMemory}
-use Rattle.uring_core.specs.Histories.{History, world}
-use Rattle.uring_machine.specs.Machine.{Machine, Fits, MayLackMemory}
-use Rattle.uring_core.specs.Recorded.{Meets, IsWrong, IsRefused, resumed}
-use Rattle.uring_core.specs.declared.step.Step.{Step}
 use Rattle.uring_core.specs.declared.step.Step.TheVariants as step
-use Rattle.uring_core.specs.declared.answer.Answer.{Answer}
 use Rattle.uring_core.specs.declared.answer.Answer.TheVariants as answer
 use Rattle.uring_core.specs.declared.wanted.Wanted.TheVariants.{Only, EndOrNoMemory}
-use Rattle.uring_core.specs.declared.wanted.Refusal.{Refusal}
 use Rattle.uring_core.specs.declared.wanted.Refusal.TheVariants.{Wrong}
 use Rattle.uring_machine.proofs.Fitting.{step_fits, finish_fits, not_running}
 use Rattle.uring_core.proofs.Running.{runs_with}

@@ -1,25 +1,12 @@
 -- What the steps make that settle requests.
 use Rattle.std.proofs.Common.{◌≡◌, ℕ, ℤ, ◌+◌, ◌-◌, ◌^◌, ◌≤◌, Bool, true, false, List, [], ◌∷◌, ◌++◌, length, Option, Some, None, is_some, refl, sym, subst, ◌∙◌, ap, arith, inl, inr, length-append}
-use Rattle.std.proofs.lemmas.Bool.{and_parts, and_from, both_ways, not-true}
+use Rattle.uring_machine.proofs.Common.{Answer, AreSettling, AreUnrefused, Core, Event, FileContents, FinishesApart, Fits, FitsApart, HasSettled, History, IsEnded, IsIssued, IsLawfulApart, IsSettled, IsSettledIf, IsUnrefused, LinuxRequests, Machine, Requests, Setup, World, and_from, and_parts, both_ways, finishing, has_ended, history_of, history_of_append, history_of_cons, is_issue_or_finish, is_outstanding, is_running, is_running_started_same, issuing, least_of, next_answer_of, no_bytes, not-true, outstanding_in, requests_of, settling_step, started_last, world}
 use Rattle.std.proofs.lemmas.List.Folds.{list_all-append}
-use Rattle.uring_entry.specs.Setup.{Setup}
-use Rattle.uring_entry.specs.Requests.{Requests, has_ended, is_outstanding, is_running, no_bytes, least_of, outstanding_in}
-use Rattle.uring_linux.specs.LinuxRequests.{LinuxRequests}
 use Rattle.uring_rules.specs.Rules.{next_of, with_issued_end}
 use Rattle.uring_entry.proofs.BelowLemmas.{least_below_tells, least_below_out}
-use Rattle.uring_entry.proofs.RequestLemmas.{is_running_started_same}
-use Rattle.uring_core.specs.World.{World, requests_of, issuing, finishing}
-use Rattle.uring_core.specs.StepAnswers.{IsEnded, FinishesApart, next_answer_of, IsIssued}
-use Rattle.uring_core.specs.Histories.{Event, History, world, history_of, IsLawfulApart}
-use Rattle.uring_files.specs.Contents.{FileContents}
-use Rattle.uring_core.specs.Core.{Core, FitsApart}
-use Rattle.uring_machine.specs.Machine.{Machine, Fits, IsUnrefused}
-use Rattle.uring_machine.specs.Settling.{is_issue_or_finish, started_last, settling_step, AreSettling, AreUnrefused, HasSettled, IsSettled, IsSettledIf}
 use Rattle.uring_core.specs.Events.{started_by}
 use Rattle.uring_core.specs.declared.step.Step.TheVariants as step
-use Rattle.uring_core.specs.declared.answer.Answer.{Answer}
 use Rattle.uring_core.specs.declared.answer.Answer.TheVariants as answer
-use Rattle.uring_core.proofs.Following.{history_of_cons, history_of_append}
 use Rattle.uring_core.proofs.Numbers.{few_outstanding}
 use Rattle.uring_core.proofs.Outstanding.{ended_less, none_outstanding, count_below_zero}
 use Rattle.uring_machine.proofs.GoingOn.{least_goes_on}

@@ -1,15 +1,11 @@
 -- What the words ask for, as clap's matches say.
 use Rattle.std.proofs.Common.{◌≡◌, ◌∙◌, ◌||◌, ℕ, Bool, true, false, List, Option, Some, None, refl, ap, ap₂, subst}
-use Rattle.std.specs.Prelude.{codes, option_map, if◌then◌else◌}
-use Rattle.clap.specs.Walk.{Row, Text}
+use Rattle.uring_options.proofs.Common.{AreWorkers, Checks, Explains, Gives, HasMatchesOf, IsCheckedOver, IsGiven, IsPlayedOver, IsRunOver, IsSetupOver, IsTracedOver, Numbers, Plays, Row, Setup, Text, codes, if◌then◌else◌, option_map, subcommand_of, subcommand_rows_of, uring}
 use Rattle.clap.specs.Matches.{subcommand_name_of}
-use Rattle.clap.specs.Simple.{subcommand_of, subcommand_rows_of, HasMatchesOf}
 use Rattle.clap.specs.declared.parser.matches.ArgMatches.{ArgMatches}
 use Rattle.clap.specs.declared.parser.matches.ArgMatches.TheViews.{out-ArgMatches}
-use Rattle.uring_entry.specs.Setup.{Setup}
 use Rattle.uring_options.specs.declared.answers.Options.{Options}
 use Rattle.uring_options.specs.declared.answers.Options.TheVariants.{Explain, Graph, Timeline, Page, Json, Check, CheckEarly, CheckPage, CheckJson, Play, Shared}
-use Rattle.uring_options.specs.CommandLine.{Gives, uring, Explains, Checks, Plays, Numbers, IsCheckedOver, IsGiven, AreWorkers, IsPlayedOver, IsSetupOver, IsTracedOver, IsRunOver}
 use Rattle.uring_options.proofs.CommandOptions.{uring_is_simple}
 
 -- ---- the command

@@ -1,14 +1,9 @@
 -- What the commands' options give, of words that clap finds no fault in.
 use Rattle.std.proofs.Common.{◌≡◌, true, false, List, [], Option, Some, None, refl, inl}
-use Rattle.std.specs.Prelude.{option_map}
-use Rattle.std.specs.List.{find, list_all}
+use Rattle.uring_options.proofs.Common.{Checks, CommandOption, Crashes, Explains, Fills, Lists, Plays, Run, Shape, TakesFor, TakesNamed, Text, Traces, answers_to, app_for, argument_words, built, built_leaf, entered, entered_fault, find, inherited, is_simple, label_of, level_fault, list_all, marked_built, names_of, nothing_held, option_map, own_options, rows_after, rows_at, setup_options, stop_after, subcommand_of, uring, with_leaf_noted}
+use Rattle.clap.specs.Faults.{fault_of, is_simple_and_free}
 use Rattle.std.specs.Option.{option_map_or}
-use Rattle.clap.specs.Faults.{fault_of, level_fault, entered_fault, is_simple_and_free}
-use Rattle.clap.specs.Simple.{Shape, argument_words, built, built_leaf, entered, inherited, marked_built, with_leaf_noted, is_simple, label_of, names_of, rows_at, subcommand_of}
-use Rattle.clap.specs.Walk.{Text, answers_to, nothing_held, rows_after, stop_after}
 use Rattle.clap.proofs.OnLiterals.{clap_on_literals}
-use Rattle.uring_options.specs.CommandLine.{uring, CommandOption, Run, Traces, Explains, Checks, Plays, Crashes, Lists, Fills, app_for, setup_options, own_options}
-use Rattle.uring_options.specs.OptionRows.{TakesFor, TakesNamed}
 use Rattle.uring_options.proofs.OptionTexts.{parsers_for, only_parser, options_taken}
 use Rattle.uring_options.proofs.Walks.{Each, each_among, found_among, is_plain, neither_fails, rows_of_rules}
 

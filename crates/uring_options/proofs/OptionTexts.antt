@@ -1,25 +1,19 @@
 -- What the option of a name gives of words that clap finds no fault in.
 use Rattle.std.proofs.Common.{◌≡◌, ◌∙◌, ◌<◌, ◌≤◌, ◌^◌, ℕ, Bool, true, false, cond, List, [], ◌∷◌, Option, Some, None, Result, Ok, refl, sym, ap, subst, inl, inr, arith}
-use Rattle.std.specs.Prelude.{codes}
-use Rattle.std.specs.List.{find}
+use Rattle.uring_options.proofs.Common.{CommandOption, Gives, IsGiven, IsWithin, ParsesUnsigned, Row, Rule, TakesOption, TakesOptions, Text, codes, find, flag, number, or_cases, parser_for, value_kinds, values_kinds}
+use Rattle.clap.specs.Walk.{rows_of}
 use Rattle.std.specs.Str.{bytes_eq}
-use Rattle.std.specs.Str.Parse.{ParsesUnsigned}
-use Rattle.std.proofs.lemmas.Bool.{or_cases}
 use Rattle.std.proofs.lemmas.Slice.Eq.{bytes_eq-Decides}
 use Rattle.clap.specs.Facts.{parser_of_value}
-use Rattle.clap.specs.Kinds.{value_kinds, values_kinds}
 use Rattle.clap.specs.Lexer.{without_minus}
 use Rattle.clap.specs.Matches.{one_text, ReadsOne}
 use Rattle.clap.specs.Values.{reading_of}
 use Rattle.clap.specs.ValueTests.{accepts}
-use Rattle.clap.specs.Walk.{Row, Rule, Text, rows_of}
 use Rattle.clap.specs.declared.builder.value_parser.ValueParser.{ValueParser}
 use Rattle.clap.specs.declared.parser.matches.Found.{Found}
 use Rattle.clap.proofs.CallerReads.{signed_reads}
 use Rattle.clap.proofs.ValueTestLemmas.{accepts-Accepts}
 use Rattle.clap.proofs.WalkLemmas.{one_text-rows}
-use Rattle.uring_options.specs.CommandLine.{CommandOption, flag, number, Gives, IsWithin, IsGiven}
-use Rattle.uring_options.specs.OptionRows.{parser_for, TakesOption, TakesOptions}
 use Rattle.uring_options.proofs.Walks.{Among, each_among, found_among, Each, IsRowOf, neither_fails}
 
 -- ---- what clap's parser took

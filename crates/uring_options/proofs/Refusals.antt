@@ -1,22 +1,13 @@
 -- When numbers are refused, and what else a command line can end with.
 use Rattle.std.proofs.Common.{◌≡◌, ◌∙◌, ◌*◌, ◌<◌, ◌≤◌, ◌^◌, ◌↔◌, ℕ, zero, suc, List, [], Option, Some, None, Result, Ok, Err, refl, sym, ap, subst, inl, inr, arith}
-use Rattle.std.specs.Prelude.{codes, unwrap_or, IfOk, IfErr, IsErrOf, IsErrAnd}
+use Rattle.uring_options.proofs.Common.{AnswersNamed, AreInRange, AskFor, AskForTooSmall, Gives, HasKind, IfErr, IfErr-weaker, IfOk, IsAmong, IsBadCq, IsErrAnd, IsErrOf, IsFaultOf, IsMemory, IsSetupOver, IsTooSmall, IsWithin, Kinds, Numbers, Row, Setup, Text, Writes, cases_lt, codes, command_rows, digits_value, subcommand_of, unwrap_or, uring, without_leading_plus}
 use Rattle.std.specs.Int.{IsNextPowerOfTwo}
-use Rattle.std.specs.Str.Parse.{digits_value, without_leading_plus}
 use Rattle.std.proofs.Math.Nat.{pow-suc}
-use Rattle.std.proofs.lemmas.Bool.{cases_lt}
-use Rattle.std.proofs.lemmas.Result.{IfErr-weaker}
 use Rattle.clap.specs.Faults.{fault_of}
-use Rattle.clap.specs.Kinds.{Kinds, HasKind, IsAmong}
-use Rattle.clap.specs.Simple.{subcommand_of}
 use Rattle.clap.specs.Values.{kind_of}
-use Rattle.clap.specs.Walk.{Row, Text}
 use Rattle.clap.specs.declared.error.Error.{Error}
 use Rattle.clap.specs.declared.error.kind.ErrorKind.TheVariants.{OutOfMemory}
-use Rattle.uring_entry.specs.Setup.{Setup, IsBadCq}
 use Rattle.uring_entry.proofs.Powers.{rounded_once}
-use Rattle.uring_options.specs.CommandLine.{uring, command_rows, Gives, Numbers, AreInRange, IsWithin, IsSetupOver, Writes, IsTooSmall, AskFor, AskForTooSmall, IsMemory, IsFaultOf}
-use Rattle.uring_options.specs.OptionRows.{AnswersNamed}
 use Rattle.uring_options.specs.declared.answers.Options.{Options}
 use Rattle.uring_options.specs.declared.answers.Options.TheVariants.{Check, CheckPage, CheckJson, Outcomes}
 use Rattle.uring_options.specs.declared.answers.OptionsFault.{OptionsFault}

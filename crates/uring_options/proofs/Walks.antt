@@ -1,15 +1,9 @@
 -- What clap's walk over words without a fault leaves: each row has values that its option's parser took.
 use Rattle.std.proofs.Common.{◌≡◌, ◌∙◌, ◌&&◌, ◌||◌, ℕ, zero, suc, Bool, true, false, cond, List, [], ◌∷◌, ◌++◌, Option, Some, None, refl, sym, ap, subst, ◌⊎◌, inl, inr, append-nil, fold, is_some, length, drop, not, true≢false, arith}
-use Rattle.std.specs.Prelude.{slice_get, encode_utf8}
-use Rattle.std.specs.List.{find, list_all}
+use Rattle.uring_options.proofs.Common.{Held, Kinds, Names, Outcome, Row, Rule, Shape, Step, Text, Waiting, Walk, action_fault, action_of, after_flag, after_step, and_parts, arg_by_id, arg_by_index, arg_by_long, arg_by_short, at_row, attached_value, bundle, bundle_fault, bundle_met, bundle_step, bundle_step_fault, default_fault, default_rows, defaults_fault, done, encode_utf8, find, flag_met, flag_word_fault, flags_fault, given_default_fault, has_long, has_row, has_short, is_empty, is_pending, level_fault, list_all, long_fault, long_met, long_or_other, more_values, ne_eqb, nothing_held, option, option_fault, option_met, option_word, or_else, other_fault, plain, plain_word, positional_fault, positional_held, react_fault, reacted, reading_by, request_kinds, rows_after, set_fault, settle_fault, settled, settled_rows, short_fault, short_met, short_or_plain, slice_get, step_fault, stray_fault, subcommand_met, subcommand_or_other, takes_several, takes_values, to_positional, trailing, turn_fault, use_fault, used, used_as, used_by_id, value, values_fault, values_or_missing, waits, walk, walk_fault, walk_from, walked, walked_from, with_default, with_values, without, word_fault, word_met}
 use Rattle.std.specs.Option.{option_map_or}
 use Rattle.std.specs.Str.{bytes_eq, chars}
-use Rattle.std.proofs.lemmas.Bool.{and_parts, ne_eqb}
 use Rattle.clap.specs.Lexer.{long_of, short_of}
-use Rattle.clap.specs.Walk.{Row, Rule, Text, Held, Walk, Waiting, Outcome, Step, Names, action_of, reading_by, has_row, at_row, with_values, without, used, used_as, values_or_missing, more_values, is_empty, used_by_id, settled_rows, option_word, short_or_plain, has_long, has_short, takes_values, attached_value, arg_by_id, arg_by_long, arg_by_short, arg_by_index, settled, reacted, option_met, flag_met, long_met, short_met, bundle_met, bundle_step, bundle, after_flag, plain_word, long_or_other, subcommand_met, subcommand_or_other, word_met, positional_held, is_pending, takes_several, to_positional, after_step, walked, walked_from, default_rows, walk, walk_from, with_default, nothing_held, rows_after, done, waits, plain, option, trailing, value}
-use Rattle.clap.specs.Simple.{Shape}
-use Rattle.clap.specs.Kinds.{Kinds, or_else, request_kinds}
-use Rattle.clap.specs.Faults.{values_fault, set_fault, default_fault, defaults_fault, given_default_fault, action_fault, use_fault, settle_fault, react_fault, option_fault, long_fault, short_fault, bundle_step_fault, flags_fault, bundle_fault, flag_word_fault, other_fault, word_fault, positional_fault, step_fault, turn_fault, walk_fault, level_fault, stray_fault}
 use Rattle.clap.specs.declared.builder.action.ArgAction.{ArgAction}
 use Rattle.clap.specs.declared.builder.action.ArgAction.TheVariants as action
 use Rattle.clap.specs.declared.error.kind.ErrorKind.TheVariants as kind

@@ -1,21 +1,9 @@
 -- A call that is accepted before another move is made: the move can be made as well, and leads to the same, if no cancel names an entry of the call.
 use Rattle.std.proofs.Common.{◌≡◌, ℕ, zero, suc, ◌-◌, ◌<◌, ◌≤◌, ℤ, Bool, true, false, not, ◌&&◌, ◌||◌, ◌==◌, nat_lt, List, [], ◌∷◌, ◌++◌, length, Option, Some, if◌then◌else◌, refl, sym, ap, ap₂, ◌∙◌, inl, inr, arith, append-nil}
-use Rattle.std.specs.Prelude.{neg_ℤ}
-use Rattle.std.specs.Option.{option_to_list}
-use Rattle.std.proofs.lemmas.Bool.{and_parts, both_ways, cases_lt, lt-ltb, ltb-true, false_from_ne_true, cond-true, cond-false, cases_Bool}
-use Rattle.std.proofs.lemmas.List.{length-append, get_or-append_right}
+use Rattle.uring_outcomes.proofs.Common.{AreUnnamed, ECANCELED, EINVAL, Moment, Requests, Sqe, addr_of, after, and_parts, both_ways, cancel_result, cases_Bool, cases_lt, chosen_by, cond-false, cond-true, count_result, doom_kept, doomed_result, ended_at_once, entry_kept, entry_of, false_from_ne_true, finished, get_or-append_right, has_ended, is_cancel, is_cancel_all, is_candidate, is_doomed, is_faulty, is_finishable, is_issuable, is_outstanding, is_ready, is_running, is_target, issued, least_below_same, length-append, longer, lt-ltb, ltb-true, moved, neg_ℤ, no_bytes, operation_of, option_to_list, posted_with, result_for, result_of, started, target_of, targets_of, user_data_of, with_call, with_ended, zero_entry}
 use Rattle.uring_laws.proofs.Growth.{IsCut}
-use Rattle.uring_entry.specs.Layout.{Sqe, zero_entry, addr_of, user_data_of}
-use Rattle.uring_entry.specs.Preparation.{is_cancel, is_cancel_all, is_faulty, operation_of}
 use Rattle.uring_entry.specs.Below.{least_below, all_below, found_or}
 use Rattle.uring_entry.specs.Success.{is_success}
-use Rattle.uring_entry.specs.declared.errno.TheConstants.{EINVAL, ECANCELED}
-use Rattle.uring_entry.specs.Requests.{Requests, entry_of, has_ended, is_outstanding, is_running, is_doomed, is_ready, is_issuable, is_candidate, target_of, is_target, targets_of, result_for, count_result, cancel_result, chosen_by, doomed_result, no_bytes, with_call, with_ended}
-use Rattle.uring_entry.proofs.BelowLemmas.{least_below_same}
-use Rattle.uring_files.specs.Operations.{after, result_of}
-use Rattle.uring_core.proofs.Groups.{longer, entry_kept, doom_kept}
-use Rattle.uring_outcomes.specs.Moments.{Moment, started, ended_at_once, issued, finished, is_finishable, moved, posted_with}
-use Rattle.uring_outcomes.specs.Direct.{AreUnnamed}
 use Rattle.uring_outcomes.specs.declared.move_of_calls.Move.TheVariants as move
 use Rattle.uring_laws.proofs.AlikeRequests.{all_below_same}
 use Rattle.uring_laws.proofs.CalledRequests.{outstanding_kept, ready_kept}

@@ -1,21 +1,12 @@
 -- A ring that stands empty takes a whole call: from a world, the world after the call, which some lawful history makes.
 -- By the laws of single steps, with the answers that are called for: first the items, then the tail, Begin, each Take, End and LoadHead.
 use Rattle.std.proofs.Common.{◌≡◌, ℕ, ◌+◌, ◌≤◌, Bool, false, zero, suc, List, [], ◌∷◌, ◌++◌, length, Option, nat_lt, if◌then◌else◌, refl, sym, subst, ap, ◌∙◌, inl, arith}
-use Rattle.std.proofs.lemmas.Bool.{le-ltb}
-use Rattle.std.proofs.lemmas.List.{length_push}
-use Rattle.uring_entry.specs.Setup.{Setup}
+use Rattle.uring_outcomes.proofs.Common.{Answer, FileContents, Move, OrAgain, Place, Published, Setup, Submission, World, bad_word, begin_answer, call_length, end_answer, fill_answer, happens, index_answer, is_spent, le-ltb, length_push, place_answer, staged, take_answer, taken, with_entry, with_event, with_published}
 use Rattle.uring_entry.specs.IndexWords.{word_of}
-use Rattle.uring_entry.specs.Submission.{Submission, Place, taken, staged, with_published, call_length, Published, with_entry, bad_word}
-use Rattle.uring_files.specs.Contents.{FileContents}
-use Rattle.uring_core.specs.World.{World, happens}
-use Rattle.uring_core.specs.StepAnswers.{OrAgain, is_spent, fill_answer, index_answer, take_answer, begin_answer, end_answer, place_answer}
 use Rattle.uring_core.specs.declared.step.Step.TheVariants as step
-use Rattle.uring_core.specs.declared.answer.Answer.{Answer}
 use Rattle.uring_core.specs.declared.answer.Answer.TheVariants as answer
 use Rattle.uring_laws.specs.Standing.{Stands, with_items, in_call, after_call}
 use Rattle.uring_laws.proofs.Standing.{slot_filled, word_staged, tail_publishes, call_opens, next_taken, call_closes}
-use Rattle.uring_outcomes.specs.Recorded.{with_event}
-use Rattle.uring_outcomes.specs.declared.move_of_calls.Move.{Move}
 use Rattle.uring_outcomes.specs.declared.move_of_calls.Move.TheVariants as move
 use Rattle.uring_outcomes.proofs.Reaching.{Reaches, step_on, as_well}
 

@@ -1,22 +1,8 @@
 -- That a walk covers all lists of moves: `path_taken` when a path is taken, `no_path` when it can't be made, and `all_found` when none is left.
 use Rattle.std.proofs.Common.{◌≡◌, ℕ, ◌<◌, List, [], ◌∷◌, ◌++◌, length, get_or, map, Option, Some, None, refl, sym, subst, ap, ap₂, ◌∙◌, arith, ◌⊎◌, inl, inr, append_assoc, append-nil}
-use Rattle.std.specs.Prelude.{Contains}
-use Rattle.std.specs.Option.{option_and_then}
-use Rattle.std.proofs.Math.ListN.{get_or-map}
-use Rattle.std.proofs.lemmas.List.{length-map}
-use Rattle.std.proofs.lemmas.List.Elements.{Contains-append_left, Contains-append_right, Contains-push, Contains-push_cases, Contains-get_or}
+use Rattle.uring_outcomes.proofs.Common.{AddsOnce, AreAllEndings, AreDirect, AreEndings, AreNamed, AreOnce, BeginsIn, CanEnd, Contains, Contains-append_left, Contains-append_right, Contains-get_or, Contains-push, Contains-push_cases, Ending, HasLonger, HasNoted, IsCovered, IsDirect, IsOver, IsWalk, Moment, Move, Setup, Sqe, TakesPath, after_moves, among, ending_of, get_or-map, length-map, moved, option_and_then, starting}
 use Rattle.std.proofs.lemmas.List.Quantifiers.{all_pairs_push}
-use Rattle.uring_entry.specs.Setup.{Setup}
-use Rattle.uring_entry.specs.Layout.{Sqe}
-use Rattle.uring_outcomes.specs.Moments.{Moment, starting, moved, after_moves}
-use Rattle.uring_outcomes.specs.CallOutcomes.{IsOver}
-use Rattle.uring_outcomes.specs.Prompt.{AreNamed}
-use Rattle.uring_outcomes.specs.Direct.{IsDirect, AreDirect}
-use Rattle.uring_outcomes.specs.declared.move_of_calls.Move.{Move}
 use Rattle.uring_outcomes.proofs.Directing.{direct_moves_lead}
-use Rattle.uring_outcomes.specs.Outcomes.{Ending, CanEnd, AreEndings, AreAllEndings, AreOnce}
-use Rattle.uring_outcomes.specs.Runs.{among}
-use Rattle.uring_outcomes.specs.Walks.{ending_of, BeginsIn, IsCovered, HasNoted, AddsOnce, IsWalk, TakesPath, HasLonger}
 
 -- Lists.
 

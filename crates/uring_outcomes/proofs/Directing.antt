@@ -1,17 +1,6 @@
 -- The law `direct_moves_lead`: prompt moves are followed by direct ones, which run ahead of them by calls that no cancel tells of.
 use Rattle.std.proofs.Common.{◌≡◌, ℕ, zero, suc, ◌<◌, Bool, false, not, List, [], ◌∷◌, length, Option, Some, None, if◌then◌else◌, refl, sym, subst, ap, ◌∙◌, ◌⊎◌, inl, inr, arith}
-use Rattle.std.specs.Option.{option_and_then}
-use Rattle.std.proofs.lemmas.Bool.{and_parts, both_ways, cases_Bool}
-use Rattle.std.proofs.lemmas.List.Elements.{All-nil, All-cons, All-head, All-tail}
-use Rattle.uring_entry.specs.Layout.{Sqe, user_data_of}
-use Rattle.uring_entry.specs.Preparation.{is_cancel}
-use Rattle.uring_entry.specs.Requests.{entry_of, has_started, has_ended, is_doomed, is_issuable, doomed_result, cancel_result}
-use Rattle.uring_core.proofs.Groups.{entry_kept}
-use Rattle.uring_outcomes.specs.Moments.{Moment, starting, started, ended_at_once, issued, finished, is_finishable, accepted, moved, after_moves}
-use Rattle.uring_outcomes.specs.CallOutcomes.{IsOver}
-use Rattle.uring_outcomes.specs.Prompt.{IsPrompt, ArePrompt}
-use Rattle.uring_outcomes.specs.Direct.{AreUnnamed, IsNextUnnamed, IsDirect, AreDirect, DirectMovesLead}
-use Rattle.uring_outcomes.specs.declared.move_of_calls.Move.{Move}
+use Rattle.uring_outcomes.proofs.Common.{All-cons, All-head, All-nil, All-tail, AreDirect, ArePrompt, AreUnnamed, DirectMovesLead, IsDirect, IsNextUnnamed, IsOver, IsPrompt, Moment, Move, Sqe, accepted, after_moves, and_parts, both_ways, cancel_result, cases_Bool, doomed_result, ended_at_once, entry_kept, entry_of, finished, has_ended, has_started, is_cancel, is_doomed, is_finishable, is_issuable, issued, moved, option_and_then, started, starting, user_data_of}
 use Rattle.uring_outcomes.specs.declared.move_of_calls.Move.TheVariants as move
 use Rattle.uring_outcomes.proofs.MovesLead.{can_of}
 use Rattle.uring_outcomes.proofs.Prompting.{IsCalm, one_calm, first_calm, prompt_moves_lead}

@@ -1,23 +1,12 @@
 -- What ends a walk before its end: an operation that wasn't granted its memory, and calls with more entries than requests have numbers.
 use Rattle.std.proofs.Common.{◌≡◌, ℕ, ◌+◌, ◌≤◌, ◌^◌, Bool, true, false, List, [], ◌∷◌, ◌++◌, length, drop, get_or, Option, Some, None, Result, Ok, Err, if◌then◌else◌, refl, sym, subst, ap, ◌∙◌, arith, ◌<◌}
-use Rattle.std.specs.Prelude.{IfErr, IsErrAnd}
-use Rattle.std.specs.Option.{option_and_then}
-use Rattle.std.proofs.lemmas.List.{length-append}
-use Rattle.std.specs.declared.vec.Vec.{Vec}
-use Rattle.std.specs.declared.alloc.Global.{Global}
-use Rattle.uring_entry.specs.Layout.{Sqe}
-use Rattle.uring_entry.specs.Requests.{entry_of, is_doomed, is_issuable, doomed_result, cancel_result, with_call}
-use Rattle.uring_entry.specs.Preparation.{is_cancel}
-use Rattle.uring_outcomes.specs.Moments.{Moment, starting, accepted, started, ended_at_once, issued, finished, is_finishable, moved, after_moves}
-use Rattle.uring_outcomes.specs.declared.move_of_calls.Move.{Move}
+use Rattle.uring_outcomes.proofs.Common.{Global, IfErr, IsErrAnd, Moment, Move, Run, Sqe, StandsAt, Vec, accepted, after_moves, cancel_result, doomed_result, ended_at_once, entries_of, entry_of, finished, is_cancel, is_doomed, is_finishable, is_issuable, issued, length-append, moved, option_and_then, started, starting, with_call}
 use Rattle.uring_outcomes.specs.declared.move_of_calls.Move.TheVariants as move
 use Rattle.uring_dispatch.specs.declared.errors.ReserveError.{ReserveError}
 use Rattle.uring_dispatch.specs.declared.errors.ReserveError.TheVariants as refused
 use Rattle.uring_outcomes.specs.Faults.{entry_count, IsReason, fault_of}
 use Rattle.uring_outcomes.specs.declared.fault.WalkFault.{WalkFault}
 use Rattle.uring_outcomes.specs.declared.fault.WalkFault.TheVariants as fault
-use Rattle.uring_outcomes.specs.Runs.{entries_of, StandsAt}
-use Rattle.uring_outcomes.specs.declared.run.Run.{Run}
 use Rattle.uring_outcomes.proofs.Moving.{next_left}
 
 -- Each move leaves the number of the entries that are accepted and of those that are left to be.

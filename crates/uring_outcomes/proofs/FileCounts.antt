@@ -1,18 +1,8 @@
 -- Moves change neither the number of files nor, so, that there are few.
 use Rattle.std.proofs.Common.{◌≡◌, ℕ, ◌≤◌, ℤ, Bool, true, false, List, [], ◌∷◌, length, Option, Some, None, if◌then◌else◌, refl, sym, ap, ◌∙◌, arith}
-use Rattle.std.specs.Prelude.{unwrap_or}
-use Rattle.std.specs.Option.{option_and_then}
-use Rattle.std.proofs.lemmas.List.{length-replicate}
-use Rattle.uring_entry.specs.Layout.{Sqe}
-use Rattle.uring_entry.specs.Preparation.{is_cancel, operation_of}
-use Rattle.uring_entry.specs.Requests.{entry_of, is_doomed, is_issuable, doomed_result, cancel_result}
-use Rattle.uring_files.specs.Contents.{empty_file, empty_files}
+use Rattle.uring_outcomes.proofs.Common.{IsReached, Moment, Move, Sqe, accepted, after_moves, cancel_result, doomed_result, empty_file, empty_files, ended_at_once, entry_of, finished, is_cancel, is_doomed, is_finishable, is_issuable, issued, length-replicate, moved, operation_of, option_and_then, result_of, started, starting, unwrap_or}
 use Rattle.uring_files.proofs.OperationCases.{many_after}
-use Rattle.uring_files.specs.Operations.{result_of}
-use Rattle.uring_outcomes.specs.Moments.{Moment, starting, accepted, started, ended_at_once, issued, finished, is_finishable, moved, after_moves}
-use Rattle.uring_outcomes.specs.declared.move_of_calls.Move.{Move}
 use Rattle.uring_outcomes.specs.declared.move_of_calls.Move.TheVariants as move
-use Rattle.uring_outcomes.specs.Runs.{IsReached}
 
 issue_count : (m : Moment) (n : ℕ) (doomed cancel : Bool) (as_doomed as_cancel : ℤ)
     → length (if doomed then ended_at_once m n as_doomed else (if cancel then ended_at_once m n as_cancel else started m n)).files ≡ length m.files

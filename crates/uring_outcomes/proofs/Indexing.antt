@@ -1,14 +1,8 @@
 -- Endings and the places that are noted for their marks: what is there is found, and what is added is noted.
 use Rattle.std.proofs.Common.{◌≡◌, ℕ, ◌+◌, Bool, true, false, List, [], ◌∷◌, ◌++◌, Some, None, refl, sym, subst, ap, ◌∙◌, cond}
-use Rattle.std.specs.Prelude.{Contains, IsSomeAnd, slice_get, nat_eq}
+use Rattle.uring_outcomes.proofs.Common.{Contains, Contains-append_left, Contains-push, Ending, Global, HasPlace, IsSomeAnd, NotesPlace, Vec, both_ways, eq-eqb, eqb-true, nat_eq, slice_get}
 use Rattle.std.specs.HashMap.{HashMap, get}
-use Rattle.std.specs.declared.vec.Vec.{Vec}
-use Rattle.std.specs.declared.alloc.Global.{Global}
-use Rattle.std.proofs.lemmas.Bool.{eq-eqb, eqb-true, both_ways}
 use Rattle.std.proofs.lemmas.Option.{slice_get-get_or, slice_get_within, get_or_from_slice_get}
-use Rattle.std.proofs.lemmas.List.Elements.{Contains-append_left, Contains-push}
-use Rattle.uring_outcomes.specs.Outcomes.{Ending}
-use Rattle.uring_outcomes.specs.Index.{HasPlace, NotesPlace}
 
 -- what stands in a list stands at a place of it
 pub place_of : (xs : List Ending) (e : Ending) → Contains xs e → (k : ℕ) × (slice_get xs k ≡ Some e)

@@ -1,15 +1,11 @@
 -- Lists of items and of places: which entries they have, how many are dropped, and how calls are cut.
 use Rattle.std.proofs.Common.{◌≡◌, ℕ, ◌+◌, ◌≤◌, Bool, List, [], ◌∷◌, ◌++◌, length, take, drop, map, sum, Option, Some, None, cond, refl, sym, ap, ap₂, ◌∙◌, arith, append-nil}
-use Rattle.std.specs.Prelude.{is_none}
+use Rattle.uring_outcomes.proofs.Common.{Place, Published, Sqe, Submission, bad_in, bad_word, drop-append_seam, drop-map, dropped_in, entries_from, entries_in, entry_in, is_bad, is_none, item_of, items_in, places_from, published_items, take-length, take-map, taken, with_entry}
+use Rattle.uring_entry.specs.Submission.{entries_of}
 use Rattle.std.specs.List.{cons_option}
-use Rattle.std.proofs.Math.Seq.{drop-append_seam, take-length}
-use Rattle.std.proofs.lemmas.List.{drop-map, take-map}
 use Rattle.std.proofs.lemmas.List.Concat.{length-flat_map}
 use Rattle.std.proofs.lemmas.List.Sums.{sum-map, sum_by-cons}
 use Rattle.std.proofs.lemmas.Grind.{flat_map-append}
-use Rattle.uring_entry.specs.Layout.{Sqe}
-use Rattle.uring_entry.specs.Submission.{Submission, Place, taken, entries_of, entries_from, places_from, dropped_in, Published, with_entry, bad_word, item_of, published_items}
-use Rattle.uring_outcomes.specs.CallOutcomes.{items_in, entry_in, entries_in, is_bad, bad_in}
 
 abbrev pub item : Place → Published
 item place = item_of place.word place.entry

@@ -1,4 +1,5 @@
 -- In the order in which they are best read.
+mod Common
 pub mod ItemLists
 -- Moves are made by histories:
 pub mod Reaching

@@ -1,26 +1,12 @@
 -- A lawful history of the manual pages' rules that refuses no memory makes moves: each event is a move, or changes nothing of a moment.
 -- By cases on `Change`: the close of a call is an accepting, an issue and a finish that isn't refused are moves, and all else is silent.
 use Rattle.std.proofs.Common.{◌≡◌, ℕ, ◌+◌, ◌≤◌, ℤ, Bool, true, false, not, ◌&&◌, ◌||◌, nat_lt, List, [], ◌∷◌, ◌++◌, length, take, drop, map, Option, Some, None, if◌then◌else◌, refl, sym, subst, ap, ap₂, ◌∙◌, arith, append_assoc, append-nil}
-use Rattle.std.specs.Option.{option_and_then}
-use Rattle.std.proofs.Math.Seq.{take-add}
-use Rattle.std.proofs.lemmas.Bool.{lt-ltb, and_parts, cond-true, and_from}
-use Rattle.std.proofs.lemmas.List.{length-map, length-take-le, map-append, drop-map, take-map, take-append-le, length-drop}
+use Rattle.uring_outcomes.proofs.Common.{Answer, Call, FileContents, History, IsLawful, Moment, Move, Outcome, Published, RefusesNone, Requests, Setup, Sqe, Submission, World, after, after_moves, and_from, and_parts, by_manual, cancel_result, cond-true, doomed_result, drop-map, empty_files, ended_at_once, entries_from, entries_in, entry_of, files_of, finished, happens, is_cancel, is_finishable, is_running, items_in, length-drop, length-map, length-take-le, lt-ltb, map-append, moved, moves_in, no_bytes, operation_of, option_and_then, place_of, places_from, published_items, result_of, starting, take-add, take-append-le, take-map, taken, taking_entry_of, taking_of, with_call, with_event, world}
+use Rattle.uring_core.specs.World.{ending_of}
 use Rattle.std.proofs.lemmas.List.Sums.{sum_by_push}
-use Rattle.uring_entry.specs.Setup.{Setup}
-use Rattle.uring_entry.specs.Layout.{Sqe}
-use Rattle.uring_entry.specs.Preparation.{is_cancel, operation_of}
-use Rattle.uring_entry.specs.Submission.{Submission, Call, taken, entries_from, places_from, Published, published_items, place_of}
-use Rattle.uring_entry.specs.Requests.{Requests, entry_of, is_running, doomed_result, cancel_result, no_bytes, with_call}
-use Rattle.uring_entry.specs.declared.operation.Outcome.{Outcome}
-use Rattle.uring_files.specs.Contents.{FileContents, empty_files}
-use Rattle.uring_files.specs.Operations.{after, result_of}
-use Rattle.uring_core.specs.World.{World, happens, taking_of, taking_entry_of, ending_of}
-use Rattle.uring_core.specs.CalledFor.{IsLawful, files_of}
 use Rattle.uring_core.specs.Core.{IsNoFinish}
-use Rattle.uring_core.specs.Histories.{History, world, by_manual}
 use Rattle.uring_core.specs.declared.step.Step.{Step}
 use Rattle.uring_core.specs.declared.step.Step.TheVariants as step
-use Rattle.uring_core.specs.declared.answer.Answer.{Answer}
 use Rattle.uring_core.specs.declared.answer.Answer.TheVariants as answer
 use Rattle.uring_core.proofs.Changes.{Change, IsSilent, refuses, stores, takes, drops, closes, runs, dooms, cancels, finishes, change_of}
 use Rattle.uring_core.proofs.FileHistory.{files_kept, files_ended}
@@ -28,10 +14,6 @@ use Rattle.uring_core.proofs.Sound.{IsSound, sound_of}
 use Rattle.uring_core.proofs.SoundRings.{open_count}
 use Rattle.uring_laws.proofs.WholeLaws.{lawful_apart}
 use Rattle.uring_machine.specs.Machine.{IsUnrefused, finish_answer}
-use Rattle.uring_outcomes.specs.Moments.{Moment, starting, finished, ended_at_once, is_finishable, moved, after_moves}
-use Rattle.uring_outcomes.specs.CallOutcomes.{items_in, entries_in, RefusesNone}
-use Rattle.uring_outcomes.specs.Recorded.{with_event, moves_in}
-use Rattle.uring_outcomes.specs.declared.move_of_calls.Move.{Move}
 use Rattle.uring_outcomes.specs.declared.move_of_calls.Move.TheVariants as move
 use Rattle.uring_outcomes.proofs.ItemLists.{item, entries_back, items_more}
 use Rattle.uring_outcomes.proofs.MovesMade.{moment_of, posted_by_end}

@@ -1,32 +1,11 @@
 -- Each list of moves is made by some lawful history of the manual pages' rules: from a world that shows the moment, move by move.
 use Rattle.std.proofs.Common.{◌≡◌, ℕ, ◌+◌, ◌-◌, ◌^◌, ◌≤◌, ℤ, Bool, true, false, not, ◌&&◌, ◌||◌, nat_lt, List, [], ◌∷◌, ◌++◌, length, map, Some, None, if◌then◌else◌, refl, sym, subst, ap, ◌∙◌, arith, append_assoc, append-nil}
-use Rattle.std.specs.Prelude.{All, unwrap_or}
-use Rattle.std.specs.Option.{option_and_then}
-use Rattle.std.proofs.lemmas.Bool.{and_parts, le-ltb}
-use Rattle.std.proofs.lemmas.List.{length-append, length-map, map-append}
-use Rattle.std.proofs.lemmas.List.Elements.{All-head, All-tail}
-use Rattle.uring_entry.specs.Setup.{Setup}
-use Rattle.uring_entry.specs.Layout.{Sqe}
-use Rattle.uring_entry.specs.Preparation.{is_cancel, operation_of}
-use Rattle.uring_entry.specs.Submission.{Submission, taken, entries_from, Published, with_entry, bad_word, published_items}
-use Rattle.uring_entry.specs.Requests.{Requests, entry_of, is_outstanding, is_running, is_doomed, is_ready, is_issuable, doomed_result, cancel_result, no_bytes, with_call}
-use Rattle.uring_entry.specs.Completions.{Completions, with_end}
-use Rattle.uring_entry.specs.declared.operation.Outcome.{Outcome}
-use Rattle.uring_files.specs.Contents.{FileContents}
-use Rattle.uring_files.specs.Operations.{after, result_of}
-use Rattle.uring_core.specs.World.{World, happens}
-use Rattle.uring_core.specs.Histories.{by_manual}
-use Rattle.uring_core.specs.StepAnswers.{issue_answer}
+use Rattle.uring_outcomes.proofs.Common.{All, All-head, All-tail, Answer, Completions, FileContents, Moment, Move, Outcome, Published, Requests, Setup, Sqe, Submission, World, after, after_moves, and_parts, bad_word, by_manual, cancel_result, doomed_result, ended_at_once, entries_from, entries_in, entry_of, finished, happens, is_cancel, is_doomed, is_finishable, is_issuable, is_outstanding, is_ready, is_running, issue_answer, issued, items_in, le-ltb, length-append, length-map, map-append, no_bytes, operation_of, option_and_then, posted_with, published_items, result_of, started, taken, unwrap_or, with_call, with_end, with_entry, with_event}
 use Rattle.uring_core.specs.declared.step.Step.TheVariants as step
-use Rattle.uring_core.specs.declared.answer.Answer.{Answer}
 use Rattle.uring_core.specs.declared.answer.Answer.TheVariants as answer
 use Rattle.uring_laws.specs.Standing.{Stands, with_item, with_items, after_call}
 use Rattle.uring_laws.proofs.Standing.{items_published}
-use Rattle.uring_outcomes.specs.Moments.{Moment, posted_with, started, ended_at_once, issued, finished, is_finishable, after_moves}
-use Rattle.uring_outcomes.specs.CallOutcomes.{items_in, entries_in}
 use Rattle.uring_outcomes.specs.MoveLaws.{GoesThrough}
-use Rattle.uring_outcomes.specs.Recorded.{with_event}
-use Rattle.uring_outcomes.specs.declared.move_of_calls.Move.{Move}
 use Rattle.uring_outcomes.specs.declared.move_of_calls.Move.TheVariants as move
 use Rattle.uring_outcomes.proofs.ItemLists.{item, items_after, items_more, few_entries}
 use Rattle.uring_outcomes.proofs.Reaching.{Reaches, step_on, finish_on, ends_as_called}

@@ -1,32 +1,14 @@
 -- What the dispatcher answers, and the moves that it makes: `issue_moves`, `accept_moves` and `finish_moves`.
 -- What the run stands at after them.
 use Rattle.std.proofs.Common.{◌≡◌, ℕ, suc, ◌+◌, ◌<◌, ◌≤◌, ℤ, neg_ℤ, Bool, true, false, not, ◌&&◌, ◌||◌, nat_lt, nat_le, if◌then◌else◌, List, [], ◌∷◌, ◌++◌, length, drop, get_or, Option, Some, None, refl, sym, subst, ap, ◌∙◌, arith, inl, inr}
-use Rattle.std.specs.Option.{option_and_then}
-use Rattle.std.specs.declared.vec.Vec.{Vec}
-use Rattle.std.specs.declared.alloc.Global.{Global}
-use Rattle.std.proofs.Math.ListN.{get_or-map}
-use Rattle.std.proofs.Math.Seq.{drop-cons}
-use Rattle.std.proofs.lemmas.List.{drop_all, length-map}
-use Rattle.std.proofs.lemmas.Bool.{and_parts, lt-ltb, le-leb, ltb-true, leb-true, false_from_ne_true}
-use Rattle.uring_entry.specs.Layout.{Sqe}
-use Rattle.uring_entry.specs.Preparation.{is_cancel, operation_of}
-use Rattle.uring_entry.specs.Requests.{Requests, entry_of, has_started, has_ended, is_outstanding, is_running, is_doomed, is_ready, is_issuable, doomed_result, cancel_result, with_call, operation_running, entry_outstanding}
-use Rattle.uring_entry.specs.declared.errno.TheConstants.{ENOMEM}
-use Rattle.uring_entry.specs.declared.operation.Op.{Op}
-use Rattle.uring_entry.specs.declared.operation.Outcome.{Outcome}
-use Rattle.uring_entry.proofs.BelowLemmas.{least_below_some}
-use Rattle.uring_files.specs.Contents.{FileContents}
-use Rattle.uring_files.specs.Operations.{IsOutcome, result_of}
+use Rattle.uring_outcomes.proofs.Common.{ENOMEM, FileContents, Global, IsOutcome, IsReached, MadeAs, Moment, Move, Op, Outcome, Requests, Sqe, Vec, accepted, and_parts, cancel_result, doomed_result, drop-cons, drop_all, ended_at_once, entries_of, entry_of, entry_outstanding, false_from_ne_true, finished, get_or-map, has_ended, has_started, is_cancel, is_doomed, is_finishable, is_issuable, is_outstanding, is_ready, is_running, issued, le-leb, least_below_some, leb-true, length-map, lt-ltb, ltb-true, moved, operation_of, operation_running, option_and_then, result_of, started, starting, with_call}
 use Rattle.uring_dispatch.specs.Issuable.{issuable_from}
 use Rattle.uring_dispatch.specs.IssueAndFinish as asked
 use Rattle.uring_dispatch.specs.declared.answers.Issued.{Issued}
 use Rattle.uring_dispatch.specs.declared.answers.Issued.TheVariants.{Run, Ended, NotReady, Running, Unknown}
-use Rattle.uring_outcomes.specs.Moments.{Moment, starting, accepted, started, ended_at_once, issued, finished, is_finishable, moved}
-use Rattle.uring_outcomes.specs.declared.move_of_calls.Move.{Move}
 use Rattle.uring_outcomes.specs.declared.move_of_calls.Move.TheVariants as move
 use Rattle.uring_outcomes.proofs.MovesLead.{one_move_more, can_then}
 use Rattle.uring_outcomes.proofs.SoundMoments.{IsSoundMoment, moment_sound}
-use Rattle.uring_outcomes.specs.Runs.{entries_of, IsReached, MadeAs}
 
 -- What was made.
 

@@ -1,13 +1,6 @@
 -- Whether no entry of the next call has a user data that a cancel names.
 use Rattle.std.proofs.Common.{◌≡◌, ℕ, ◌+◌, ◌<◌, ◌≤◌, false, true, List, [], ◌∷◌, length, take, drop, get_or, sym, subst, ap, ◌∙◌}
-use Rattle.std.specs.declared.vec.Vec.{Vec}
-use Rattle.std.specs.declared.alloc.Global.{Global}
-use Rattle.std.proofs.lemmas.Bool.{both_ways}
-use Rattle.std.proofs.lemmas.List.Elements.{All-more}
-use Rattle.uring_entry.specs.Layout.{Sqe, user_data_of}
-use Rattle.uring_outcomes.specs.Moments.{Moment}
-use Rattle.uring_outcomes.specs.Direct.{AreUnnamed, IsNextUnnamed}
-use Rattle.uring_outcomes.specs.Runs.{among, entries_of}
+use Rattle.uring_outcomes.proofs.Common.{All-more, AreUnnamed, Global, IsNextUnnamed, Moment, Sqe, Vec, among, both_ways, entries_of, user_data_of}
 use Rattle.uring_outcomes.proofs.Moving.{next_left, none_left}
 
 -- the entries so far, and one more

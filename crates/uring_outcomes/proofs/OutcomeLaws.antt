@@ -1,21 +1,8 @@
 -- The laws of `laws.rt`: from `history_comes`, and from `moves_made` with all completions reaped after it.
 use Rattle.std.proofs.Common.{◌≡◌, false, ℕ, ◌%◌, ◌^◌, ◌≤◌, List, [], ◌∷◌, ◌++◌, length, take, drop, map, sum, refl, sym, ap, ap₂, ◌∙◌, arith, append-nil}
-use Rattle.std.proofs.Math.Seq.{take-length, take-append_seam, drop-append_seam}
-use Rattle.std.proofs.lemmas.List.{take-map}
+use Rattle.uring_outcomes.proofs.Common.{CallsOutcome, ComesTo, FileContents, IsPowerOfTwo, Moment, Move, Published, Setup, Submission, World, after_moves, at_first, bad_in, by_manual, drop-append_seam, dropped, empty_files, entries_in, files_of, items_in, moves_in, outstanding_in, published_items, starting, take-append_seam, take-length, take-map, taken, world}
 use Rattle.std.proofs.lemmas.Nat.{pow_pos}
-use Rattle.std.specs.Int.{IsPowerOfTwo}
-use Rattle.uring_entry.specs.Setup.{Setup}
-use Rattle.uring_entry.specs.Submission.{Submission, taken, dropped, Published, published_items}
-use Rattle.uring_entry.specs.Requests.{outstanding_in}
-use Rattle.uring_files.specs.Contents.{FileContents, empty_files}
-use Rattle.uring_core.specs.World.{World, at_first}
-use Rattle.uring_core.specs.CalledFor.{files_of}
-use Rattle.uring_core.specs.Histories.{world, by_manual}
 use Rattle.uring_core.proofs.ByRules.{of_manual}
-use Rattle.uring_outcomes.specs.Moments.{Moment, starting, after_moves}
-use Rattle.uring_outcomes.specs.CallOutcomes.{CallsOutcome, ComesTo, items_in, entries_in, bad_in}
-use Rattle.uring_outcomes.specs.Recorded.{moves_in}
-use Rattle.uring_outcomes.specs.declared.move_of_calls.Move.{Move}
 use Rattle.uring_outcomes.specs.MoveLaws.{HistoriesAreMoves, MovesAreHistories, IsPlayed}
 use Rattle.uring_outcomes.proofs.ItemLists.{item, dropped_back, length_items}
 use Rattle.uring_outcomes.proofs.MovesMade.{moment_of, Between, moves_made}

@@ -1,31 +1,13 @@
 -- The law `prompt_moves_lead`: moves are followed by prompt ones, which start each request that no cancel names only where the others finish it.
 -- What runs stays ready and is never doomed, so that it may start as late. Which requests were started is read of a cancel alone, of those that it names.
 use Rattle.std.proofs.Common.{◌≡◌, ℕ, ◌+◌, ◌-◌, ◌<◌, ℤ, pos, Bool, true, false, not, ◌&&◌, ◌||◌, ◌==◌, nat_lt, List, [], ◌∷◌, ◌++◌, length, get_or, Option, Some, None, if◌then◌else◌, refl, sym, subst, ap, ap₂, ◌∙◌, ◌⊎◌, inl, inr, arith}
-use Rattle.std.specs.Prelude.{All, unwrap_or}
+use Rattle.uring_outcomes.proofs.Common.{All, All-head, All-tail, AreNamed, ArePrompt, EALREADY, IsOver, IsPrompt, Moment, Move, NamesAll, PromptMovesLead, Requests, Setup, Sqe, accepted, addr_of, after_moves, and_from, and_parts, both_ways, cancel_result, cases_Bool, cases_lt, chosen_by, cond-false, cond-true, count_result, doomed_result, ended_at_once, entry_of, eq-eqb, eqb-true, false_from_ne_true, finished, get_or-append-add, get_or-eq_default, get_or_append_left, has_ended, has_started, is_after_failure, is_cancel, is_cancel_all, is_candidate, is_doomed, is_finishable, is_issuable, is_joined, is_named, is_outstanding, is_ready, is_running, is_target, issued, least_below_same, least_below_tells, list_any_push, moved, neg_ℤ, no_bytes, operation_of, option_and_then, or_right, result_for, result_of, some_member, started, starting, target_of, targets_of, unwrap_or, user_data_of, with_call, with_ended, with_started, zero_entry}
 use Rattle.std.specs.List.{list_any}
-use Rattle.std.specs.Prelude.{neg_ℤ}
-use Rattle.std.specs.Option.{option_and_then}
-use Rattle.std.proofs.lemmas.Bool.{and_from, and_parts, both_ways, cases_Bool, cases_lt, eqb-true, eq-eqb, false_from_ne_true, cond-true, cond-false, or_right}
-use Rattle.std.proofs.lemmas.List.{get_or_append_left, get_or-append-add}
-use Rattle.std.proofs.Math.ListN.{get_or-eq_default}
-use Rattle.std.proofs.lemmas.List.Elements.{All-head, All-tail}
-use Rattle.uring_entry.specs.Setup.{Setup}
-use Rattle.uring_entry.specs.Layout.{Sqe, zero_entry, addr_of, user_data_of}
-use Rattle.uring_entry.specs.Preparation.{is_cancel, is_cancel_all, operation_of}
-use Rattle.uring_entry.specs.declared.errno.TheConstants.{EALREADY}
-use Rattle.uring_entry.specs.Requests.{Requests, entry_of, has_started, has_ended, is_outstanding, is_running, is_doomed, is_after_failure, some_member, is_joined, is_ready, is_issuable, is_candidate, target_of, is_target, targets_of, result_for, count_result, cancel_result, chosen_by, doomed_result, no_bytes, with_call, with_started, with_ended}
-use Rattle.uring_entry.proofs.BelowLemmas.{least_below_same, least_below_tells}
-use Rattle.uring_entry.proofs.RequestLemmas.{list_any_push}
-use Rattle.uring_files.specs.Operations.{result_of}
 use Rattle.uring_core.proofs.ListCounts.{any_new, any_kept}
 use Rattle.uring_laws.proofs.AlikeRequests.{all_below_same}
 use Rattle.uring_laws.proofs.StartedRequests.{ready_started}
 use Rattle.uring_laws.proofs.EndedRequests.{ready_end}
 use Rattle.uring_laws.proofs.CalledRequests.{ready_kept}
-use Rattle.uring_outcomes.specs.Moments.{Moment, starting, started, ended_at_once, issued, finished, is_finishable, accepted, moved, after_moves}
-use Rattle.uring_outcomes.specs.CallOutcomes.{IsOver}
-use Rattle.uring_outcomes.specs.Prompt.{is_named, IsPrompt, ArePrompt, NamesAll, AreNamed, PromptMovesLead}
-use Rattle.uring_outcomes.specs.declared.move_of_calls.Move.{Move}
 use Rattle.uring_outcomes.specs.declared.move_of_calls.Move.TheVariants as move
 use Rattle.uring_outcomes.proofs.MovesLead.{one_move_more, can_then, can_of, issuable_so}
 use Rattle.uring_outcomes.proofs.SoundMoments.{IsSoundMoment, one_sound, first_moment, kept_on}

@@ -1,27 +1,14 @@
 -- Worlds that lawful histories make which refuse no memory, with the files that they leave: what one step more makes of them.
 -- `step_on` and `finish_on` make the history longer; who uses them speaks of worlds alone.
 use Rattle.std.proofs.Common.{◌≡◌, ℕ, Bool, true, false, List, [], ◌∷◌, ◌++◌, if◌then◌else◌, refl, sym, subst, ap, ◌∙◌, inl}
-use Rattle.uring_entry.specs.Setup.{Setup}
-use Rattle.uring_entry.specs.Preparation.{operation_of}
-use Rattle.uring_entry.specs.Requests.{entry_of, is_running}
-use Rattle.uring_entry.specs.declared.operation.Op.{Op}
-use Rattle.uring_entry.specs.declared.operation.Outcome.{Outcome}
-use Rattle.uring_files.specs.Contents.{FileContents, empty_files}
-use Rattle.uring_files.specs.Operations.{after, result_of}
-use Rattle.uring_core.specs.World.{World, at_first, happens}
-use Rattle.uring_core.specs.CalledFor.{CalledFor, EndsOn, IsLawful, files_of}
+use Rattle.uring_outcomes.proofs.Common.{Answer, CalledFor, EndsOn, FileContents, History, IsLawful, Move, Op, Outcome, RefusesNone, Setup, World, after, at_first, empty_files, entry_of, files_of, happens, is_running, moves_in, operation_of, result_of, with_event, world}
 use Rattle.uring_core.specs.Core.{IsNoFinish}
-use Rattle.uring_core.specs.Histories.{History, world}
 use Rattle.uring_core.specs.declared.step.Step.{Step}
 use Rattle.uring_core.specs.declared.step.Step.TheVariants as step
-use Rattle.uring_core.specs.declared.answer.Answer.{Answer}
 use Rattle.uring_core.specs.declared.answer.Answer.TheVariants as answer
 use Rattle.uring_core.proofs.FileHistory.{files_kept, files_ended}
 use Rattle.uring_laws.proofs.WholeLaws.{lawful_apart}
 use Rattle.uring_machine.specs.Machine.{IsUnrefused, finish_answer}
-use Rattle.uring_outcomes.specs.CallOutcomes.{RefusesNone}
-use Rattle.uring_outcomes.specs.Recorded.{with_event, moves_in}
-use Rattle.uring_outcomes.specs.declared.move_of_calls.Move.{Move}
 use Rattle.uring_outcomes.specs.declared.move_of_calls.Move.TheVariants as move
 
 -- some lawful history that refuses no memory, of these moves, makes this world and leaves these files

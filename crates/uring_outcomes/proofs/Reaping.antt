@@ -1,18 +1,9 @@
 -- The application reaps all that was posted, one completion after the other: each time the dispatcher flushes, and the application loads the tail, reaps, and stores the head.
 use Rattle.std.proofs.Common.{◌≡◌, ℕ, ◌+◌, ◌-◌, ◌≤◌, List, [], ◌∷◌, ◌++◌, length, Some, None, if◌then◌else◌, refl, sym, ap, ◌∙◌, arith, append_assoc, append-nil, slice_get}
-use Rattle.std.proofs.lemmas.Bool.{ne_eqb}
-use Rattle.std.proofs.lemmas.List.{length-append}
-use Rattle.uring_entry.specs.Setup.{Setup}
+use Rattle.uring_outcomes.proofs.Common.{Answer, Completions, Cqe, FileContents, Move, Setup, World, happens, length-append, ne_eqb, next_to_reap, put_by_flush, reap_answer_of, with_flushed, with_head_stored, with_reaped, with_tail_loaded}
 use Rattle.uring_entry.specs.IndexWords.{word_of}
-use Rattle.uring_entry.specs.Layout.{Cqe}
-use Rattle.uring_entry.specs.Completions.{Completions, with_flushed, with_tail_loaded, with_reaped, with_head_stored, put_by_flush, next_to_reap}
-use Rattle.uring_files.specs.Contents.{FileContents}
-use Rattle.uring_core.specs.World.{World, happens}
-use Rattle.uring_core.specs.StepAnswers.{reap_answer_of}
 use Rattle.uring_core.specs.declared.step.Step.TheVariants as step
-use Rattle.uring_core.specs.declared.answer.Answer.{Answer}
 use Rattle.uring_core.specs.declared.answer.Answer.TheVariants as answer
-use Rattle.uring_outcomes.specs.declared.move_of_calls.Move.{Move}
 use Rattle.uring_outcomes.proofs.Reaching.{Reaches, step_on}
 
 -- a world like another, in which all that was posted was reaped

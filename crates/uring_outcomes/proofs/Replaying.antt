@@ -1,19 +1,8 @@
 -- Moves that are made one after the other, and the moves that can be made next.
 use Rattle.std.proofs.Common.{◌≡◌, ℕ, suc, ◌+◌, ◌<◌, ◌≤◌, Bool, true, false, List, [], ◌∷◌, ◌++◌, length, take, drop, get_or, Option, Some, None, refl, sym, subst, ap, ◌∙◌, arith, inl, inr}
-use Rattle.std.specs.Prelude.{Contains}
-use Rattle.std.specs.Option.{option_and_then}
-use Rattle.std.proofs.lemmas.List.{take_more, take-append-drop, get_or_default}
-use Rattle.std.proofs.Math.Seq.{drop-cons}
-use Rattle.std.proofs.lemmas.Bool.{cases_lt}
-use Rattle.uring_entry.specs.Layout.{Sqe}
-use Rattle.uring_entry.specs.Requests.{is_issuable}
-use Rattle.uring_outcomes.specs.Moments.{Moment, is_finishable, moved, after_moves}
-use Rattle.uring_outcomes.specs.declared.move_of_calls.Move.{Move}
+use Rattle.uring_outcomes.proofs.Common.{Contains, HasBelow, HasNext, IsNextUnnamed, IsQuiet, LedTo, MadeAs, Moment, Move, Run, Sqe, Stands, StandsAt, after_moves, among, cases_lt, drop-cons, get_or_default, is_finishable, is_issuable, moved, option_and_then, take-append-drop, take_more}
 use Rattle.uring_outcomes.specs.declared.move_of_calls.Move.TheVariants as move
 use Rattle.uring_outcomes.proofs.MovesLead.{one_move_more}
-use Rattle.uring_outcomes.specs.Direct.{IsNextUnnamed}
-use Rattle.uring_outcomes.specs.Runs.{among, StandsAt, Stands, MadeAs, LedTo, HasNext, IsQuiet, HasBelow}
-use Rattle.uring_outcomes.specs.declared.run.Run.{Run}
 use Rattle.uring_outcomes.proofs.Covering.{moves_after}
 use Rattle.uring_outcomes.proofs.Moving.{not_made, issue_can, finish_can, issuable_accepted, finishable_tells}
 

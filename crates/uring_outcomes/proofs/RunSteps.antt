@@ -2,30 +2,15 @@
 use Rattle.std.proofs.Common.{◌≡◌, ℕ, ◌+◌, ◌<◌, ◌≤◌, ℤ, true, List, [], ◌∷◌, ◌++◌, length, drop, get_or, Option, Some, None, if◌then◌else◌, refl, sym, subst, ap, ap₂, ◌∙◌, arith}
 use Rattle.std.specs.Borrow.{Bor}
 use Rattle.std.specs.Slice.{IsItemAt}
-use Rattle.std.specs.declared.vec.Vec.{Vec}
-use Rattle.std.specs.declared.alloc.Global.{Global}
-use Rattle.uring_entry.specs.Setup.{Setup}
-use Rattle.uring_entry.specs.Layout.{Sqe, Cqe}
+use Rattle.uring_outcomes.proofs.Common.{Cqe, Dispatch, FinishCounts, Global, IsForFiles, MadeAs, Moment, Move, Op, Outcome, Requests, Run, Setup, ShowsRequests, Sqe, StandsAt, Vec, after, completion_for, empty_files, ended_at_once, entries_of, entry_of, entry_outstanding, finished, is_running, moved, no_bytes, no_request, operation_of, operation_running, posted_with, result_of, started, starting, with_call, with_ended, with_issued_end, with_started}
 use Rattle.uring_entry.specs.Success.{posts_completion}
-use Rattle.uring_entry.specs.Completions.{completion_for}
-use Rattle.uring_entry.specs.Preparation.{operation_of}
-use Rattle.uring_entry.specs.Requests.{Requests, no_request, entry_of, is_running, no_bytes, with_call, with_started, with_ended, with_issued_end, operation_running, entry_outstanding}
-use Rattle.uring_entry.specs.declared.operation.Op.{Op}
-use Rattle.uring_entry.specs.declared.operation.Outcome.{Outcome}
-use Rattle.uring_files.specs.Contents.{empty_files}
-use Rattle.uring_files.specs.Operations.{IsForFiles, after, result_of}
-use Rattle.uring_dispatch.specs.Dispatch.{Dispatch, ShowsRequests, FinishCounts}
 use Rattle.uring_dispatch.specs.IssueAndFinish as asked
 use Rattle.uring_dispatch.specs.declared.answers.Issued.{Issued}
 use Rattle.uring_dispatch.specs.declared.answers.Issued.TheVariants as answer
 use Rattle.uring_dispatch.specs.declared.answers.Finished.{Finished}
 use Rattle.uring_dispatch.specs.declared.answers.Finished.TheVariants as finish
-use Rattle.uring_outcomes.specs.Moments.{Moment, starting, started, ended_at_once, finished, posted_with, moved}
-use Rattle.uring_outcomes.specs.declared.move_of_calls.Move.{Move}
 use Rattle.uring_outcomes.specs.declared.move_of_calls.Move.TheVariants as move
 use Rattle.uring_outcomes.proofs.SoundMoments.{asks_files}
-use Rattle.uring_outcomes.specs.Runs.{entries_of, StandsAt, MadeAs}
-use Rattle.uring_outcomes.specs.declared.run.Run.{Run}
 use Rattle.uring_outcomes.proofs.Moving.{made_so, reached_on, sound_at, issue_moves, entry_told, told_if_outstanding, accept_moves, runs_told, running_outstanding, finish_moves}
 
 -- The run stands at the moment after a move.

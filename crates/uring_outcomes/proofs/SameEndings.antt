@@ -1,17 +1,11 @@
 -- That two endings are the same: completion by completion, and each file by what is told of it.
 use Rattle.std.proofs.Common.{◌≡◌, ℕ, suc, ◌-◌, ◌<◌, ◌≤◌, ℤ, pos, Bool, true, ◌&&◌, List, [], ◌∷◌, length, Option, Some, None, refl, sym, ap, ap₂, ◌∙◌, arith}
-use Rattle.std.specs.Prelude.{nat_eq, slice_get}
-use Rattle.std.specs.Option.{option_map, option_and_then}
+use Rattle.uring_outcomes.proofs.Common.{Cqe, Ending, FileContents, and_from, and_parts, byte_of, eq-eqb, eqb-true, file_of, nat_eq, option_and_then, option_map, slice_get, state_of}
 use Rattle.std.specs.Bool.{Decides}
 use Rattle.std.specs.Ordering.{int_eq}
-use Rattle.std.proofs.lemmas.Bool.{eq-eqb, eqb-true, and_parts, and_from}
 use Rattle.std.proofs.lemmas.Bool.Decides.{Decides-int_eq}
 use lib.Pointwise.{pointwise, bytes_decides}
-use Rattle.uring_entry.specs.Layout.{Cqe}
-use Rattle.uring_files.specs.Contents.{FileContents}
-use Rattle.uring_files.specs.Operations.{file_of, state_of, byte_of}
 use Rattle.uring_files.specs.declared.file.FileState.{FileState}
-use Rattle.uring_outcomes.specs.Outcomes.{Ending}
 
 -- Completions.
 

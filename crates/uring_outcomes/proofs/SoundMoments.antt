@@ -1,25 +1,14 @@
 -- What is so of the requests of each moment that moves lead to: they are sound, and no cancel was started, so that what runs can be asked of files.
 -- By cases on the move, from what each event keeps of requests.
 use Rattle.std.proofs.Common.{◌≡◌, ℕ, ◌==◌, Bool, true, false, not, ◌&&◌, ◌||◌, nat_lt, List, [], ◌∷◌, length, Option, Some, None, if◌then◌else◌, refl, subst, ap, ◌∙◌, inl, inr}
-use Rattle.std.specs.Option.{option_and_then}
-use Rattle.std.specs.Prelude.{unwrap_or}
-use Rattle.std.proofs.lemmas.Bool.{and_from, and_parts, both_ways, eqb-true, false_from_ne_true}
-use Rattle.uring_entry.specs.Setup.{Setup}
-use Rattle.uring_entry.specs.Layout.{Sqe}
-use Rattle.uring_entry.specs.Preparation.{fault_of, is_cancel, operation_of}
-use Rattle.uring_entry.specs.Requests.{Requests, no_request, entry_of, has_started, is_outstanding, is_running, is_doomed, is_ready, is_issuable, doomed_result, cancel_result, with_call, with_started}
-use Rattle.uring_entry.proofs.RequestLemmas.{is_doomed_own_fault}
-use Rattle.uring_files.specs.Operations.{IsForFiles, result_of}
+use Rattle.uring_outcomes.proofs.Common.{IsForFiles, Moment, Move, Requests, Setup, Sqe, accepted, after_moves, and_from, and_parts, both_ways, call_manual, call_sound, cancel_result, doomed_result, ended_at_once, entry_of, eqb-true, false_from_ne_true, fault_of, finished, has_started, is_cancel, is_doomed, is_doomed_own_fault, is_finishable, is_issuable, is_outstanding, is_ready, is_running, issued, moved, no_request, operation_of, option_and_then, result_of, started, starting, unwrap_or, with_call, with_started}
 use Rattle.uring_files.proofs.Prepared.{prepared}
 use Rattle.uring_core.proofs.Changes.{not_some}
 use Rattle.uring_core.proofs.ListCounts.{any_new}
 use Rattle.uring_core.proofs.Running.{entry_stays}
 use Rattle.uring_core.proofs.SoundRequests.{IsSoundRequests, IsSoundManual, first_requests, first_manual, start_sound, start_manual, outstanding_tells}
 use Rattle.uring_core.proofs.RequestEnds.{finish_sound, finish_manual, issued_end_sound, doom_manual, cancel_manual}
-use Rattle.uring_core.proofs.Groups.{call_sound, call_manual}
-use Rattle.uring_outcomes.specs.Moments.{Moment, starting, started, ended_at_once, issued, finished, is_finishable, accepted, moved, after_moves}
 use Rattle.uring_outcomes.proofs.MovesLead.{can_of}
-use Rattle.uring_outcomes.specs.declared.move_of_calls.Move.{Move}
 use Rattle.uring_outcomes.specs.declared.move_of_calls.Move.TheVariants as move
 
 pub record IsSoundMoment (r : Requests) : Type 0 where

@@ -1,27 +1,9 @@
 -- The walk's functions: lists of paths as they are pushed and popped, and what is so once no path is left.
 use Rattle.std.proofs.Common.{◌≡◌, ℕ, ◌+◌, ◌<◌, Bool, true, false, not, ◌&&◌, ◌||◌, List, [], ◌∷◌, ◌++◌, length, take, get_or, Option, Some, None, Result, Ok, Err, if◌then◌else◌, refl, sym, subst, ap, ap₂, ◌∙◌, append-nil, arith}
-use Rattle.std.specs.Prelude.{IfOk, nat_eq}
+use Rattle.uring_outcomes.proofs.Common.{All-more, All-push, AreAllEndings, AreNamed, Ending, Global, Goes, HasNoted, IfOk, IsIndexed, IsOver, IsWalk, LedTo, MadeAs, Moment, Move, NamesAll, Setup, Sqe, StandsAt, Vec, addr_of, after_moves, among, and_parts, both_ways, entries_of, eq-eqb, has_ended, has_started, is_cancel, is_doomed, is_issuable, is_outstanding, is_ready, is_running, list_any_push, lt-ltb, map-append, moved, nat_eq, or_left, or_right, outstanding_in, paths_of, starting, take_more, waiting}
 use Rattle.std.proofs.lemmas.List.Folds.{list_any-append}
-use Rattle.std.specs.declared.vec.Vec.{Vec}
-use Rattle.std.specs.declared.alloc.Global.{Global}
-use Rattle.std.proofs.lemmas.Bool.{and_parts, both_ways, lt-ltb, eq-eqb, or_left, or_right}
-use Rattle.std.proofs.lemmas.List.{take_more, map-append}
-use Rattle.std.proofs.lemmas.List.Elements.{All-push, All-more}
-use Rattle.uring_entry.specs.Setup.{Setup}
-use Rattle.uring_entry.specs.Layout.{Sqe, addr_of}
-use Rattle.uring_entry.proofs.RequestLemmas.{list_any_push}
-use Rattle.uring_entry.specs.Preparation.{is_cancel}
-use Rattle.uring_entry.specs.Requests.{has_started, has_ended, is_outstanding, is_running, is_doomed, is_ready, is_issuable, outstanding_in}
 use Rattle.uring_dispatch.proofs.Counting.{count_below_some}
-use Rattle.uring_outcomes.specs.Moments.{Moment, starting, moved, after_moves}
-use Rattle.uring_outcomes.specs.CallOutcomes.{IsOver}
-use Rattle.uring_outcomes.specs.Prompt.{NamesAll, AreNamed}
-use Rattle.uring_outcomes.specs.declared.move_of_calls.Move.{Move}
 use Rattle.uring_outcomes.specs.declared.move_of_calls.Move.TheVariants as move
-use Rattle.uring_outcomes.specs.Outcomes.{Ending, AreAllEndings}
-use Rattle.uring_outcomes.specs.Index.{IsIndexed}
-use Rattle.uring_outcomes.specs.Runs.{among, entries_of, StandsAt, MadeAs, LedTo}
-use Rattle.uring_outcomes.specs.Walks.{paths_of, waiting, IsWalk, HasNoted, Goes}
 use Rattle.uring_outcomes.specs.declared.walk.Walk.{Walk}
 use Rattle.uring_outcomes.proofs.Moving.{none_accepted, issue_can, finish_can, issuable_accepted, finishable_tells}
 use Rattle.uring_outcomes.proofs.Replaying.{made_tells, not_made_tells, led_first}

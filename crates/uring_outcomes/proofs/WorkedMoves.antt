@@ -1,14 +1,7 @@
 -- Worked moves, on which the definitions are computed: two no-ops, loose and in a chain.
 -- Each line holds by computing alone: no lemma is used. Nothing cites this file.
 use Rattle.std.proofs.Common.{◌≡◌, ℕ, ◌*◌, ◌^◌, List, [], ◌∷◌, Option, Some, None, map, replicate, refl, false}
-use Rattle.std.specs.Option.{option_map}
-use Rattle.uring_entry.specs.Setup.{Setup}
-use Rattle.uring_entry.specs.Layout.{Sqe}
-use Rattle.uring_entry.specs.Requests.{is_doomed, is_ready, is_after_failure, some_member, is_joined}
-use Rattle.uring_entry.specs.Submission.{Published, with_entry, bad_word}
-use Rattle.uring_outcomes.specs.Moments.{Moment, starting, after_moves}
-use Rattle.uring_outcomes.specs.CallOutcomes.{entries_in, bad_in, items_in}
-use Rattle.uring_outcomes.specs.declared.move_of_calls.Move.{Move}
+use Rattle.uring_outcomes.proofs.Common.{Moment, Move, Published, Setup, Sqe, after_moves, bad_in, bad_word, entries_in, is_after_failure, is_doomed, is_joined, is_ready, items_in, option_map, some_member, starting, with_entry}
 use Rattle.uring_outcomes.specs.declared.move_of_calls.Move.TheVariants.{Accept, Issue, Finish}
 
 abbrev setup : Setup

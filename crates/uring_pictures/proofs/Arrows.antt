@@ -1,12 +1,9 @@
 -- The parts of a graph, one by one.
 use Rattle.std.proofs.Common.{◌≡◌, ℕ, suc, ◌+◌, List, ◌++◌, Bool, Option, Some, None, refl, ap, sym, ◌∙◌, append_assoc, arith}
-use Rattle.std.specs.Prelude.{codes, if◌then◌else◌, is_some}
-use Rattle.uring_entry.specs.Layout.{Sqe}
-use Rattle.uring_entry.specs.Requests.{Requests, is_last, entry_outstanding}
+use Rattle.uring_pictures.proofs.Common.{Requests, Sqe, arrows_below, arrows_text, call_of, codes, entry_outstanding, first_of, if◌then◌else◌, in_chain, is_chained, is_last, is_some, line_text, member_before, node_text, placed_text, row_text}
 use Rattle.uring_linux.specs.LinuxRequests.{LinuxRequests}
 use Rattle.uring_rules.specs.Rules.{why_of}
 use Rattle.uring_entry.specs.declared.why.Why.{Why}
-use Rattle.uring_pictures.specs.Graphs.{arrows_below, arrows_text, call_of, first_of, is_chained, member_before, placed_text, in_chain, node_text, line_text, row_text}
 
 -- a part, and what is after it
 two_parts : (front so after part more : List ℕ) → so ≡ front ++ part → after ≡ so ++ more

@@ -1,17 +1,11 @@
 -- What a step makes of the entries and cuts that are kept.
 use Rattle.std.proofs.Common.{◌≡◌, ℕ, ℤ, ◌+◌, ◌<◌, ◌≤◌, Bool, true, false, not, ◌&&◌, List, [], ◌∷◌, ◌++◌, length, take, Option, Some, None, refl, sym, ap, subst, ◌∙◌, arith}
-use Rattle.std.specs.Prelude.{if◌then◌else◌}
+use Rattle.uring_pictures.proofs.Common.{Accepted, Closes, Event, HasAll, History, IsLawfulApart, Keeping, Keeps, MakesStep, Requests, Setup, Sqe, entry_of, entry_outstanding, has_ended, if◌then◌else◌, is_outstanding, is_taken, length-append, lt-ltb, take-append-le, take_all, take_more, with_call, world, zero_entry}
 use Rattle.std.specs.Option.{option_to_list}
-use Rattle.std.proofs.lemmas.Bool.{lt-ltb}
-use Rattle.std.proofs.lemmas.List.{take_more, take_all, take-append-le, length-append}
-use Rattle.uring_entry.specs.Setup.{Setup}
-use Rattle.uring_entry.specs.Layout.{Sqe, zero_entry}
 use Rattle.uring_entry.specs.Submission.{Call, entries_from}
-use Rattle.uring_entry.specs.Requests.{Requests, entry_of, entry_outstanding, is_outstanding, has_ended, with_call}
 use Rattle.uring_linux.specs.LinuxRequests.{LinuxRequests}
 use Rattle.uring_rules.specs.Rules.{with_issued_end}
 use Rattle.uring_core.specs.World.{World, requests_of, ending, ending_of}
-use Rattle.uring_core.specs.Histories.{Event, History, world, IsLawfulApart}
 use Rattle.uring_core.specs.StepAnswers.{end_answer_in}
 use Rattle.uring_core.specs.declared.step.Step.{Step}
 use Rattle.uring_core.specs.declared.step.Step.TheVariants as step
@@ -21,8 +15,6 @@ use Rattle.uring_core.proofs.Moves.{Move, stays, accepts, starts, ends_doomed, e
 use Rattle.uring_core.proofs.Sound.{sound_of}
 use Rattle.uring_core.proofs.SoundRequests.{IsSoundRequests}
 use Rattle.uring_machine.specs.Machine.{Machine, Fits}
-use Rattle.uring_pictures.specs.Following.{Closes, HasAll, Keeping, Keeps, MakesStep, is_taken}
-use Rattle.uring_pictures.specs.declared.accepted.Accepted.{Accepted}
 
 -- no call closes by this step
 abbrev pub ClosesNone : Step → Answer → Type 0

@@ -1,3 +1,4 @@
+mod Common
 pub mod Calls
 pub mod Moments
 pub mod Arrows

@@ -1,10 +1,7 @@
 -- The members of chains that a graph names.
 use Rattle.std.proofs.Common.{◌≡◌, ℕ, zero, suc, Bool, true, false, Option, Some, None, refl, subst, arith, inl, inr}
-use Rattle.std.specs.Prelude.{is_some, if◌then◌else◌}
-use Rattle.std.proofs.lemmas.Bool.{both_ways, cases_Bool, cases_lt}
-use Rattle.uring_entry.specs.Requests.{Requests, entry_outstanding, is_last, is_joined}
+use Rattle.uring_pictures.proofs.Common.{Requests, both_ways, cases_Bool, cases_lt, entry_outstanding, first_of, if◌then◌else◌, is_joined, is_last, is_some, member_before}
 use Rattle.uring_entry.proofs.RequestLemmas.{is_joined_yes, is_joined_no, is_joined_inside}
-use Rattle.uring_pictures.specs.Graphs.{first_of, member_before}
 use Rattle.uring_pictures.specs.Members.{IsFirst, IsBefore}
 
 -- a member after which the group goes on is joined with the next request too, and one that is joined with the next is with this one

@@ -1,8 +1,6 @@
 -- What a moment keeps, byte by byte and line by line.
 use Rattle.std.proofs.Common.{◌≡◌, ◌≢◌, ℕ, ◌+◌, ◌-◌, ◌^◌, min, true, false, List, [], ◌∷◌, ◌++◌, length, Option, Some, None, refl, sym, ap, subst, ◌∙◌, arith}
-use Rattle.std.specs.Prelude.{if◌then◌else◌}
-use Rattle.uring_entry.specs.Setup.{Setup}
-use Rattle.uring_core.specs.Histories.{History, history_of}
+use Rattle.uring_pictures.proofs.Common.{Accepted, Followed, Following, History, Keeps, MakesStep, ReadsLine, Setup, does_count, history_of, if◌then◌else◌, up_to}
 use Rattle.uring_core.specs.declared.step.Step.{Step}
 use Rattle.uring_text.specs.Lines.{with_last}
 use Rattle.uring_text.specs.KeptLine.{KeptLine, kept_of}
@@ -11,9 +9,6 @@ use Rattle.uring_trace.specs.Spelling.{IsStep, IsBad}
 use Rattle.uring_trace.specs.Exchanges.{Exchange, events_of}
 use Rattle.uring_trace.specs.Explanations.{line_number}
 use Rattle.uring_trace.proofs.Sessions.{one_more}
-use Rattle.uring_pictures.specs.Following.{Keeps, MakesStep, ReadsLine, Following, Followed}
-use Rattle.uring_pictures.specs.Moments.{does_count, up_to}
-use Rattle.uring_pictures.specs.declared.accepted.Accepted.{Accepted}
 
 -- What becomes of a line: a step, or none.
 

@@ -1,19 +1,11 @@
 -- What is drawn of all that was read.
 use Rattle.std.proofs.Common.{◌≡◌, ℕ, Bool, List, [], ◌++◌, Option, Ok, Err, sym, ap, subst, ◌∙◌}
-use Rattle.std.specs.Prelude.{OnOk}
-use Rattle.std.specs.Io.KnownBytes.{Appends}
-use Rattle.uring_entry.specs.Setup.{Setup}
+use Rattle.uring_pictures.proofs.Common.{Accepted, Appends, Explainer, History, Keeps, OnOk, ReadsAll, ReadsBoth, Setup, graph_of, history_of, is_linux_at, linux_at, world}
 use Rattle.uring_core.specs.CalledFor.{IsLawful}
 use Rattle.uring_core.specs.World.{requests_of}
-use Rattle.uring_core.specs.Histories.{History, history_of, world}
 use Rattle.uring_text.specs.Writing.{WritesText}
 use Rattle.uring_trace.specs.Exchanges.{events_of}
-use Rattle.uring_trace.specs.declared.explainer.Explainer.{Explainer}
-use Rattle.uring_pictures.specs.Graphs.{graph_of}
 use Rattle.uring_pictures.specs.Drawings.{Reads, Draws}
-use Rattle.uring_pictures.specs.Following.{Keeps, is_linux_at, linux_at}
-use Rattle.uring_pictures.specs.Readings.{ReadsAll, ReadsBoth}
-use Rattle.uring_pictures.specs.declared.accepted.Accepted.{Accepted}
 use Rattle.uring_pictures.specs.declared.moment.Moment.{Moment}
 use Rattle.uring_pictures.proofs.Streams.{Done, Known}
 

@@ -1,17 +1,12 @@
 -- What is read while nothing is answered.
 use Rattle.std.proofs.Common.{◌≡◌, ℕ, Bool, List, [], ◌++◌, Option, Result, Ok, Err, sym, subst}
-use Rattle.std.specs.Prelude.{OnOk}
-use Rattle.std.specs.Io.KnownBytes.{Consumes, Appends, Keeps, IsAtEnd}
+use Rattle.uring_pictures.proofs.Common.{Appends, Consumes, EndsIn, EndsLine, Explainer, HasEnded, HasTold, IsAtEnd, OnOk, ReadsAll, Setup, TakesIn, append-nil}
+use Rattle.std.specs.Io.KnownBytes.{Keeps}
 use Rattle.std.proofs.KnownBytes.{Consumes-nil, Appends-nil, Appends-trans, Consumes-trans, Consumes-kept}
-use Rattle.std.proofs.lemmas.List.{append-nil}
-use Rattle.uring_entry.specs.Setup.{Setup}
 use Rattle.uring_text.specs.declared.trace_fault.TraceFault.{TraceFault}
-use Rattle.uring_trace.specs.declared.explainer.Explainer.{Explainer}
 use Rattle.uring_text.specs.Writing.{WritesText}
 use Rattle.uring_trace.specs.Explanations.{telling_on}
-use Rattle.uring_trace.specs.Explaining.{HasTold, HasEnded}
 use Rattle.uring_trace.proofs.ExplainStreams.{nothing_yet}
-use Rattle.uring_pictures.specs.Readings.{TakesIn, EndsIn, EndsLine, ReadsAll}
 
 abbrev pub Done : Type 0
 Done = Result (Unit {0}) TraceFault

@@ -1,12 +1,7 @@
 -- What the explainer and the moment have taken in together.
 use Rattle.std.proofs.Common.{ℕ, Bool, List, [], Option, sym, subst}
-use Rattle.std.proofs.lemmas.List.{append-nil}
-use Rattle.std.specs.Io.KnownBytes.{Consumes, Keeps, IsAtEnd}
-use Rattle.uring_entry.specs.Setup.{Setup}
-use Rattle.uring_trace.specs.Explaining.{HasTold}
-use Rattle.uring_trace.specs.declared.explainer.Explainer.{Explainer}
-use Rattle.uring_pictures.specs.Following.{Follows, HasFollowed}
-use Rattle.uring_pictures.specs.Readings.{TakesBoth, EndsBoth, ReadsBoth}
+use Rattle.uring_pictures.proofs.Common.{Consumes, EndsBoth, Explainer, Follows, HasFollowed, HasTold, IsAtEnd, ReadsBoth, Setup, TakesBoth, append-nil}
+use Rattle.std.specs.Io.KnownBytes.{Keeps}
 use Rattle.uring_pictures.specs.declared.moment.Moment.{Moment}
 use Rattle.uring_pictures.proofs.Streams.{Known, Far, far_start, far_again, far_on, far_end}
 

@@ -1,17 +1,12 @@
 -- All bytes tell something.
 use Rattle.std.proofs.Common.{◌≡◌, ℕ, zero, suc, ◌+◌, ◌*◌, ◌-◌, ◌<◌, ◌≤◌, ◌^◌, ltb, eqb, List, [], ◌∷◌, ◌++◌, length, take, drop, get_or, Option, Some, None, Ok, Err, refl, sym, ap, subst, ◌∙◌, append_assoc, arith, length-append, length-drop, reverse, ◌⊎◌, inl, inr}
 use mathlib.Core.List.{head-eq_of_cons-eq}
-use Rattle.std.specs.Prelude.{codes, replicate, MatchOption}
-use Rattle.std.specs.List.{AllByRecursion}
+use Rattle.uring_play_text.proofs.Common.{AllByRecursion, AreWords, Goes, IsBadLine, IsBadWord, IsItemLine, IsNoBadWord, IsNoItem, IsTold, Item, MatchOption, PlayFault, SpellsItem, Splits, Sqe, Tells, Told, append-nil, bytes_of, cases_Bool, codes, eqb-false, eqb-true, header, length-take, ltb-false, ltb-true, nil_from_length, one_call, padded, replicate, reverse-append, take-append-drop, true≢false, with_last}
 use Rattle.std.specs.Str.{bytes_eq}
 use Rattle.std.specs.Int.{w64, to_le_bytes, from_le_bytes}
 use Rattle.std.proofs.lemmas.Nat.{le_bytes_8}
-use Rattle.std.proofs.lemmas.Bool.{ltb-true, ltb-false, eqb-true, eqb-false, cases_Bool, true≢false}
 use Rattle.std.proofs.lemmas.Slice.Eq.{bytes_eq-Decides}
-use Rattle.std.proofs.lemmas.List.{append-nil, nil_from_length, take-append-drop, length-take, reverse-append}
-use Rattle.uring_entry.specs.Layout.{Sqe, header, padded, bytes_of, AreWords}
 use Rattle.uring_entry.specs.declared.operation.opcode.TheConstants.{WRITE}
-use Rattle.uring_text.specs.Lines.{Splits, with_last}
 use Rattle.uring_text.specs.Tokens.{tokens_of}
 use Rattle.uring_text.specs.Spelling.{SpellsNumber, IsNoNumber}
 use Rattle.uring_text.specs.Forms.{Form, Parts, kinds_of, SayParts, IsEntryNamed, SpellsEntry, IsNoEntry}
@@ -22,13 +17,7 @@ use Rattle.uring_text.proofs.FormLaws.{form_found, form_again}
 use Rattle.uring_text.proofs.PartLaws.{data_said, entry_said}
 use Rattle.uring_text.proofs.Spellings.{read_number_tells}
 use Rattle.uring_text.proofs.Splits.{split_more, split_end}
-use Rattle.uring_ports.specs.declared.item.Item.{Item}
 use Rattle.uring_ports.specs.declared.item.Item.TheVariants as item
-use Rattle.uring_play_text.specs.declared.play_fault.PlayFault.{PlayFault}
-use Rattle.uring_play_text.specs.ItemLines.{SpellsItem, IsItemLine, IsBadLine}
-use Rattle.uring_play_text.specs.LineReads.{IsBadWord, IsNoBadWord, IsNoItem}
-use Rattle.uring_play_text.specs.Inputs.{Told, Tells, IsTold}
-use Rattle.uring_play_text.specs.Scripts.{Goes, one_call}
 use Rattle.uring_play_text.specs.declared.play_fault.PlayFault.TheVariants as fault
 use Rattle.uring_play_text.proofs.ItemLaws.{bad_is_none, below}
 use Rattle.uring_play_text.proofs.ScriptLaws.{at_start, so_far, blank_more, item_more, bad_first, long_first, fault_stays}

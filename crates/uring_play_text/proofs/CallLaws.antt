@@ -1,12 +1,7 @@
 -- Blocks and calls, line by line.
 use Rattle.std.proofs.Common.{◌≡◌, ℕ, suc, ◌<◌, Bool, true, false, cond, List, [], ◌∷◌, ◌++◌, length, refl, sym, ap, subst, ◌∙◌, arith}
-use Rattle.std.specs.List.{slice_split, onto_first}
+use Rattle.uring_play_text.proofs.Common.{AreCalls, AreItemLines, IsCall, IsItemLine, Item, last_block, one_call, onto_first, slice_split}
 use Rattle.std.proofs.lemmas.List.Splits.{slice_split-cons_yes, slice_split-cons_no, length-slice_split}
-use Rattle.uring_ports.specs.declared.item.Item.{Item}
-use Rattle.uring_play_text.specs.ItemLines.{IsItemLine}
-use Rattle.uring_play_text.specs.Calls.{AreItemLines, IsCall, AreCalls}
-use Rattle.uring_play_text.specs.Faults.{last_block}
-use Rattle.uring_play_text.specs.Scripts.{one_call}
 
 -- an element put after the last part
 abbrev pub onto_last : {X : Type 0} → X → List (List X) → List (List X)

@@ -1,9 +1,8 @@
 -- What the tokens of an item's line spell.
 use Rattle.std.proofs.Common.{◌≡◌, ℕ, ◌<◌, ◌≤◌, ◌^◌, false, List, [], ◌∷◌, length, refl, sym, ap, subst, ◌∙◌, arith}
 use mathlib.Core.List.{head-eq_of_cons-eq, tail-eq_of_cons-eq}
-use Rattle.std.specs.Prelude.{codes}
+use Rattle.uring_play_text.proofs.Common.{IsItemLine, IsNoBadWord, IsNoItem, Item, SpellsItem, Sqe, codes, is_blank, ne_eqb, true≢false}
 use Rattle.std.specs.Str.{bytes_eq}
-use Rattle.std.proofs.lemmas.Bool.{ne_eqb, true≢false}
 use Rattle.std.proofs.lemmas.Slice.Eq.{bytes_eq-Decides}
 use Rattle.uring_text.specs.Tokens.{tokens_of}
 use Rattle.uring_text.specs.Spelling.{SpellsNumber}
@@ -11,12 +10,7 @@ use Rattle.uring_text.specs.Forms.{name_text, SpellsEntry}
 use Rattle.uring_text.specs.declared.forms.Name.{Name}
 use Rattle.uring_text.specs.declared.forms.Name.TheVariants as name
 use Rattle.uring_text.proofs.Spellings.{number_once, spelled_once}
-use Rattle.uring_entry.specs.Layout.{Sqe}
-use Rattle.uring_ports.specs.declared.item.Item.{Item}
 use Rattle.uring_ports.specs.declared.item.Item.TheVariants as item
-use Rattle.uring_play_text.specs.ItemLines.{SpellsItem, IsItemLine}
-use Rattle.uring_play_text.specs.Calls.{is_blank}
-use Rattle.uring_play_text.specs.LineReads.{IsNoBadWord, IsNoItem}
 
 -- no form is named so
 

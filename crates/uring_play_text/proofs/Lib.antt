@@ -1,3 +1,4 @@
+mod Common
 pub mod ItemLaws
 pub mod CallLaws
 pub mod ScriptLaws

@@ -1,17 +1,9 @@
 -- Lines tell one thing at most.
 use Rattle.std.proofs.Common.{◌≡◌, ℕ, ◌+◌, ◌<◌, ◌≤◌, Bool, true, false, cond, List, [], ◌∷◌, ◌++◌, length, Ok, Err, refl, sym, ap, subst, ◌∙◌, arith, reverse, ◌⊎◌, inl, inr}
-use Rattle.std.specs.List.{slice_split, onto_first}
+use Rattle.uring_play_text.proofs.Common.{AreCalls, AreItemLines, HasLines, IsBadFirst, IsBadLine, IsCall, IsItemLine, IsLongFirst, IsTold, Item, PlayFault, Reaches, SpellsCalls, Tells, Told, blocks_of, is_blank, last_block, ne_eqb, onto_first, open_block, slice_split, with_last}
 use Rattle.std.proofs.lemmas.List.Splits.{slice_split-cons_no, length-slice_split}
-use Rattle.std.proofs.lemmas.Bool.{ne_eqb}
-use Rattle.uring_text.specs.Lines.{with_last}
 use Rattle.uring_text.proofs.LineLaws.{split_once}
-use Rattle.uring_ports.specs.declared.item.Item.{Item}
-use Rattle.uring_play_text.specs.declared.play_fault.PlayFault.{PlayFault}
 use Rattle.uring_play_text.specs.declared.play_fault.PlayFault.TheVariants as fault
-use Rattle.uring_play_text.specs.ItemLines.{IsItemLine, IsBadLine}
-use Rattle.uring_play_text.specs.Calls.{is_blank, blocks_of, AreItemLines, IsCall, AreCalls, SpellsCalls}
-use Rattle.uring_play_text.specs.Faults.{last_block, open_block, Reaches, IsBadFirst, IsLongFirst}
-use Rattle.uring_play_text.specs.Inputs.{Told, Tells, HasLines, IsTold}
 use Rattle.uring_play_text.proofs.ItemLaws.{line_once, item_not_blank}
 
 abbrev Line : Type 0

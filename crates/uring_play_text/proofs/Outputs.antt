@@ -1,9 +1,7 @@
 -- The text of completions, line by line.
 use Rattle.std.proofs.Common.{◌≡◌, ℕ, ◌+◌, ◌<◌, List, [], ◌∷◌, ◌++◌, length, take, get_or, sym, ap, ◌∙◌, append_assoc}
-use Rattle.std.proofs.lemmas.List.{append-nil, take_more}
-use Rattle.uring_entry.specs.Layout.{Cqe}
+use Rattle.uring_play_text.proofs.Common.{Cqe, append-nil, ended, take_more}
 use Rattle.uring_text.specs.Completions.{completion_text}
-use Rattle.uring_text.specs.Lines.{ended}
 use Rattle.uring_play_text.specs.Outputs.{lines_text}
 
 lines_append : (cs : List Cqe) (c : Cqe)

@@ -1,25 +1,16 @@
 -- What a reading takes in, byte by byte.
 use Rattle.std.proofs.Common.{◌≡◌, ◌≢◌, ℕ, List, [], ◌∷◌, ◌++◌, Option, Some, None, Result, Ok, Err, refl, sym, ap, subst, reverse}
-use Rattle.std.specs.Prelude.{◌<◌, ◌≤◌, length, MatchOption, IfSome}
+use Rattle.uring_play_text.proofs.Common.{Consumes, Gathers, Has, HasLines, Holds, IfSome, IsAtEnd, IsEarly, IsGiven, IsReturned, Item, Keeps, MatchOption, PlayFault, ReadsAll, ReadsCalls, ReadsIn, Returns, TakesIn, append-nil, length, reverse-append, with_last, ◌<◌, ◌≤◌}
 use Rattle.std.specs.Borrow.{Bor}
-use Rattle.std.specs.Io.KnownBytes.{Consumes, IsAtEnd, Keeps}
 use Rattle.std.proofs.KnownBytes.{Consumes-trans, Consumes-kept}
-use Rattle.std.proofs.lemmas.List.{append-nil, reverse-append}
 use Rattle.std.specs.declared.vec.Vec.{Vec}
 use Rattle.std.specs.declared.alloc.Global.{Global}
 use Rattle.uring_entry.specs.Setup.{Setup}
-use Rattle.uring_text.specs.Lines.{with_last}
 use Rattle.uring_text.specs.KeptLine.{KeptLine, kept_of}
 use Rattle.uring_text.proofs.Splits.{split_end, last_some}
-use Rattle.uring_ports.specs.declared.item.Item.{Item}
-use Rattle.uring_play_text.specs.declared.play_fault.PlayFault.{PlayFault}
 use Rattle.uring_play_text.specs.declared.play_fault.PlayFault.TheVariants as fault
 use Rattle.uring_play_text.specs.declared.script.Script.{Script}
 use Rattle.uring_play_text.specs.declared.reading.Reading.{Reading}
-use Rattle.uring_play_text.specs.LineReads.{IsGiven}
-use Rattle.uring_play_text.specs.Inputs.{HasLines, IsReturned, ReadsAll, ReadsCalls}
-use Rattle.uring_play_text.specs.Scripts.{Gathers, IsEarly, Returns}
-use Rattle.uring_play_text.specs.Readings.{Holds, Has, TakesIn, ReadsIn}
 
 -- what is given of a kept line
 pub given_of : (kept : KeptLine) (given : Option (Bor (List ℕ)))

@@ -1,17 +1,10 @@
 -- What a script gathers, line by line.
 use Rattle.std.proofs.Common.{◌≡◌, ◌≢◌, ℕ, ◌+◌, ◌<◌, ◌≤◌, List, [], ◌∷◌, ◌++◌, length, Option, Some, None, Result, Ok, Err, refl, sym, ap, subst, ◌∙◌, append_assoc, arith, length-append, inl, inr}
-use Rattle.std.specs.Prelude.{IsSome}
+use Rattle.uring_play_text.proofs.Common.{Adds, AreCalls, EndsCall, Gathers, Goes, IsAt, IsBadFirst, IsBadLine, IsItemLine, IsLongFirst, IsSome, Item, PlayFault, Reaches, SpellsCalls, Tells, is_blank, last_block, lists_of, one_call, open_block}
 use Rattle.std.specs.declared.vec.Vec.{Vec}
 use Rattle.std.specs.declared.alloc.Global.{Global}
-use Rattle.uring_ports.specs.declared.item.Item.{Item}
-use Rattle.uring_play_text.specs.declared.play_fault.PlayFault.{PlayFault}
 use Rattle.uring_play_text.specs.declared.play_fault.PlayFault.TheVariants as fault
-use Rattle.uring_play_text.specs.ItemLines.{IsItemLine, IsBadLine}
-use Rattle.uring_play_text.specs.Calls.{is_blank, AreCalls, SpellsCalls}
-use Rattle.uring_play_text.specs.Faults.{Reaches, IsBadFirst, IsLongFirst, open_block, last_block}
-use Rattle.uring_play_text.specs.Inputs.{Tells, lists_of}
 use Rattle.uring_play_text.specs.declared.script.Script.{Script}
-use Rattle.uring_play_text.specs.Scripts.{Goes, IsAt, one_call, Gathers, EndsCall, Adds}
 use Rattle.uring_play_text.proofs.ItemLaws.{item_not_blank}
 use Rattle.uring_play_text.proofs.CallLaws.{onto_last, split_yes, split_no, last_is, calls_more, items_more, as_many, last_of}
 

@@ -1,26 +1,19 @@
 -- The laws of `laws.rt`: from `told`, and from `moves_made` with all completions reaped after it.
 use Rattle.std.proofs.Common.{◌≡◌, false, ℕ, ℤ, ◌≤◌, List, [], ◌∷◌, ◌++◌, length, take, drop, map, refl, sym, subst, ap, ap₂, ◌∙◌, arith, append_assoc}
-use Rattle.std.specs.Prelude.{pos, slice_index_or}
+use Rattle.uring_power.proofs.Common.{AreLeft, CanShow, Crash, HasBegun, IsImage, Log, Moment, Setup, after_moves, empty_log, log_along, log_of, map-append, pos, slice_index_or, starting, take-append-drop}
 use Rattle.std.proofs.Math.Seq.{take-append_seam, drop-append_seam}
-use Rattle.std.proofs.lemmas.List.{map-append, take-append-drop}
 use Rattle.std.proofs.lemmas.Grind.{flat_map-append}
-use Rattle.uring_entry.specs.Setup.{Setup}
 use Rattle.uring_entry.specs.Submission.{Submission, taken, Published, published_items}
 use Rattle.uring_files.specs.Contents.{FileContents, empty_files}
 use Rattle.uring_core.specs.World.{World, at_first}
 use Rattle.uring_core.specs.CalledFor.{files_of}
 use Rattle.uring_core.specs.Histories.{History, world, by_manual}
 use Rattle.uring_core.proofs.ByRules.{of_manual}
-use Rattle.uring_volume.specs.Images.{IsImage}
-use Rattle.uring_epochs.specs.Logs.{Log, empty_log, log_of}
-use Rattle.uring_outcomes.specs.Moments.{Moment, starting, after_moves}
 use Rattle.uring_outcomes.specs.CallOutcomes.{items_in, entries_in}
 use Rattle.uring_outcomes.specs.Recorded.{moves_in}
 use Rattle.uring_outcomes.proofs.MovesMade.{moment_of, moves_made}
 use Rattle.uring_outcomes.proofs.Reaping.{AllReaped, all_reaped}
 use Rattle.uring_outcomes.proofs.OutcomeLaws.{same_cut, all_taken, first_between, some_size}
-use Rattle.uring_power.specs.Shown.{Crash, HasBegun, AreLeft}
-use Rattle.uring_power.specs.Moves.{log_along, CanShow}
 use Rattle.uring_power.specs.Laws.{HistoriesShowMoves, MovesShowHistories, IsSeen}
 use Rattle.uring_power.proofs.LogMoves.{IsTold, told}
 

@@ -1,18 +1,10 @@
 -- What a history of the manual pages' rules has made of the log of a file, its moves make of it.
 -- By cases on `Change`: a request that starts begins on the log by both, one that is finished ends there, and no other event changes anything.
 use Rattle.std.proofs.Common.{◌≡◌, ℕ, ℤ, Bool, true, false, not, ◌||◌, ◌==◌, List, [], ◌∷◌, ◌++◌, map, Option, Some, None, if◌then◌else◌, refl, sym, subst, ap, ap₂, ◌∙◌, append_assoc}
-use Rattle.std.specs.Prelude.{unwrap_or}
-use Rattle.std.specs.Option.{option_and_then}
+use Rattle.uring_power.proofs.Common.{Log, Moment, Move, Op, Requests, Setup, Sqe, after_moves, begun, begun_of, empty_log, entry_of, finished, finished_of, has_ended, has_started, is_cancel, is_doomed, is_outstanding, is_running, log_along, log_moved, log_of, log_past, logged, map-append, moved, operation_of, operation_running, option_and_then, result_of, starting, unwrap_or, with_started}
 use Rattle.std.proofs.lemmas.Bool.{and_parts, and_from, or_left, or_right, eq-eqb}
-use Rattle.std.proofs.lemmas.List.{map-append}
 use Rattle.std.proofs.lemmas.List.Folds.{list_any-append}
-use Rattle.uring_entry.specs.Setup.{Setup}
-use Rattle.uring_entry.specs.Layout.{Sqe}
-use Rattle.uring_entry.specs.Preparation.{is_cancel, operation_of}
-use Rattle.uring_entry.specs.Requests.{Requests, entry_of, has_started, has_ended, is_outstanding, is_running, is_doomed, operation_running, with_started}
-use Rattle.uring_entry.specs.declared.operation.Op.{Op}
 use Rattle.uring_entry.specs.declared.operation.Outcome.{Outcome}
-use Rattle.uring_files.specs.Operations.{result_of}
 use Rattle.uring_core.specs.World.{World, happens}
 use Rattle.uring_core.specs.CalledFor.{IsLawful, files_of}
 use Rattle.uring_core.specs.Histories.{History, world, by_manual}
@@ -23,15 +15,11 @@ use Rattle.uring_core.specs.declared.answer.Answer.TheVariants as answer
 use Rattle.uring_core.proofs.Changes.{Change, IsSilent, refuses, closes, runs, dooms, cancels, finishes, change_of}
 use Rattle.uring_laws.proofs.WholeLaws.{lawful_apart}
 use Rattle.uring_machine.specs.Machine.{IsUnrefused}
-use Rattle.uring_epochs.specs.Logs.{Log, empty_log, log_of, logged, begun, begun_of, finished, finished_of}
-use Rattle.uring_outcomes.specs.Moments.{Moment, starting, moved, after_moves}
 use Rattle.uring_outcomes.specs.CallOutcomes.{entries_in, RefusesNone}
 use Rattle.uring_outcomes.specs.Recorded.{with_event, moves_in}
-use Rattle.uring_outcomes.specs.declared.move_of_calls.Move.{Move}
 use Rattle.uring_outcomes.specs.declared.move_of_calls.Move.TheVariants as move
 use Rattle.uring_outcomes.proofs.MovesMade.{moment_of}
 use Rattle.uring_outcomes.proofs.MovesLead.{HasCome, come_at_first, comes_after, one_move_more, silent_makes_none}
-use Rattle.uring_power.specs.Moves.{log_moved, log_past, log_along}
 
 -- One move more.
 

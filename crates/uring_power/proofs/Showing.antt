@@ -1,31 +1,13 @@
 -- What may be left of files, with one file more; and what is shown after moves, by the logs that they make.
 use Rattle.std.proofs.Common.{◌≡◌, ℕ, suc, ◌+◌, ◌<◌, pos, Bool, true, false, ◌||◌, inl, inr, List, [], ◌∷◌, ◌++◌, length, get_or, map, Option, Some, None, Result, Ok, Err, if◌then◌else◌, refl, sym, subst, ap, ap₂, ◌∙◌, arith}
-use Rattle.std.specs.Prelude.{Contains, slice_get, slice_index_or, IfErr, IsErrAnd}
-use Rattle.std.specs.Option.{option_map}
-use Rattle.std.proofs.lemmas.List.{length-append, length-map, get_or_append_left}
+use Rattle.uring_power.proofs.Common.{AreLeftOf, AreShown, Contains, Cqe, Crash, HasMade, IfErr, IsCrowdedBy, IsErrAnd, IsImage, IsIn, IsReason, IsShownAfter, IsTooMany, Log, Moment, Move, Op, Setup, Shows, Sqe, Widens, empty_log, entry_of, file_at, first_at, first_files, first_many, get_or_append_left, is_cancel, is_doomed, length-append, length-map, log_along, log_moved, log_on, log_past, logs_after, logs_at, logs_on, moved, operation_of, option_map, result_of, slice_get, slice_index_or, spread_over, starting, with_file}
 use Rattle.std.proofs.Math.Seq.{get_or-append_seam}
 use Rattle.std.proofs.lemmas.Option.{slice_get-map, slice_get_within, slice_get_read}
-use Rattle.uring_entry.specs.Setup.{Setup}
-use Rattle.uring_entry.specs.Layout.{Sqe, Cqe}
-use Rattle.uring_entry.specs.Requests.{entry_of, is_doomed}
-use Rattle.uring_entry.specs.Preparation.{is_cancel, operation_of}
-use Rattle.uring_entry.specs.declared.operation.Op.{Op}
 use Rattle.uring_files.specs.Contents.{FileContents}
-use Rattle.uring_files.specs.Operations.{result_of}
-use Rattle.uring_volume.specs.Images.{IsImage, IsIn}
 use Rattle.uring_volume.specs.Listing.{AreTheImages}
-use Rattle.uring_epochs.specs.Epochs.{first_files, logs_on, file_at}
-use Rattle.uring_epochs.specs.Logs.{Log, empty_log, log_on}
 use Rattle.uring_epochs.proofs.EpochCrashes.{Keeps, begun_keeps, finished_keeps}
-use Rattle.uring_epochs.proofs.Noted.{first_many, first_at, logs_at}
-use Rattle.uring_outcomes.specs.Moments.{Moment, starting, moved}
-use Rattle.uring_outcomes.specs.declared.move_of_calls.Move.{Move}
 use Rattle.uring_outcomes.specs.declared.move_of_calls.Move.TheVariants as move
-use Rattle.uring_power.specs.Shown.{Crash}
-use Rattle.uring_power.specs.Moves.{log_moved, log_past, log_along}
 use Rattle.uring_outcomes.specs.declared.run.Run.{Run}
-use Rattle.uring_power.specs.Found.{IsReason}
-use Rattle.uring_power.specs.Trials.{logs_after, HasMade, AreLeftOf, Shows, AreShown, Widens, IsTooMany, IsCrowdedBy, IsShownAfter, with_file, spread_over}
 use Rattle.uring_power.specs.declared.fault.CrashFault.{CrashFault}
 use Rattle.uring_power.specs.declared.fault.CrashFault.TheVariants.{Memory, Spent, Images}
 use Rattle.uring_power.proofs.Lists.{IsGot, Before, Last, got, got_before, got_last, HasLast, has_last, contained, is_in, in_map, from_map, in_spread, from_spread}

@@ -1,17 +1,8 @@
 -- That a walk covers all lists of moves: `path_taken` when a path is taken, `no_path` when it can't be made, and `all_found` when none is left.
 use Rattle.std.proofs.Common.{◌≡◌, ℕ, List, [], ◌∷◌, ◌++◌, map, Option, Some, None, refl, sym, subst, ap, ◌∙◌, arith, ◌⊎◌, inl, inr, append_assoc, append-nil}
-use Rattle.std.specs.Prelude.{Contains}
-use Rattle.std.specs.Option.{option_and_then}
+use Rattle.uring_power.proofs.Common.{AreAllCrashes, AreShown, BeginsIn, Contains, Crash, IsShownAfter, IsWalk, Moment, Move, Setup, Sqe, TakesPath, after_moves, logs_after, moved, option_and_then, starting}
 use Rattle.std.proofs.lemmas.List.Elements.{Contains-append_left, Contains-append_right, Contains-append_cases, Contains-push_cases}
-use Rattle.uring_entry.specs.Setup.{Setup}
-use Rattle.uring_entry.specs.Layout.{Sqe}
-use Rattle.uring_outcomes.specs.Moments.{Moment, starting, moved, after_moves}
-use Rattle.uring_outcomes.specs.declared.move_of_calls.Move.{Move}
-use Rattle.uring_outcomes.specs.Walks.{BeginsIn}
 use Rattle.uring_outcomes.proofs.Covering.{moves_after}
-use Rattle.uring_power.specs.Shown.{Crash}
-use Rattle.uring_power.specs.Found.{AreAllCrashes}
-use Rattle.uring_power.specs.Trials.{logs_after, AreShown, IsShownAfter, IsWalk, TakesPath}
 use Rattle.uring_power.proofs.Lists.{none_there, contained, is_in, in_map}
 use Rattle.uring_power.proofs.Showing.{shown_after, shows_after}
 

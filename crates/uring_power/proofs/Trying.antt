@@ -1,31 +1,15 @@
 -- What a trial has made after a move: the run stands as the moves lead, and each log is what they make of it.
 use Rattle.std.proofs.Common.{◌≡◌, ℕ, ◌+◌, ◌<◌, ℤ, Bool, true, false, not, ◌&&◌, ◌||◌, ◌==◌, List, [], ◌∷◌, ◌++◌, length, take, drop, get_or, map, Option, Some, None, Result, Ok, Err, if◌then◌else◌, refl, sym, subst, ap, ap₂, ◌∙◌}
-use Rattle.std.specs.Prelude.{IfOk, IfSome}
-use Rattle.std.specs.Option.{option_and_then}
+use Rattle.uring_power.proofs.Common.{HasMade, HasTried, IfOk, IfSome, IsForFiles, Log, MadeAs, Moment, Move, Op, Requests, Setup, Sqe, StandsAt, after_moves, begun, begun_of, called_in, cancel_result, doomed_result, ended_at_once, entry_of, finished_of, first_files, has_ended, has_started, is_cancel, is_doomed, is_issuable, is_outstanding, is_ready, is_running, issued, log_along, log_moved, logs_after, logs_on, map_alike, map_same, map_twice, moved, operation_of, operation_running, option_and_then, started, starting, take-append-drop, take_more, with_issued_end}
 use Rattle.std.proofs.lemmas.Bool.{and_parts, or_left, or_right, eq-eqb}
-use Rattle.std.proofs.lemmas.List.{take_more, take-append-drop}
 use Rattle.std.proofs.lemmas.List.Folds.{list_any-append}
-use Rattle.uring_entry.specs.Setup.{Setup}
-use Rattle.uring_entry.specs.Layout.{Sqe}
-use Rattle.uring_entry.specs.Preparation.{is_cancel, operation_of}
-use Rattle.uring_entry.specs.Requests.{Requests, entry_of, has_started, has_ended, is_running, is_outstanding, is_doomed, is_ready, is_issuable, doomed_result, cancel_result, operation_running, with_issued_end}
-use Rattle.uring_entry.specs.declared.operation.Op.{Op}
-use Rattle.uring_files.specs.Operations.{IsForFiles}
-use Rattle.uring_epochs.specs.Epochs.{first_files, logs_on}
-use Rattle.uring_epochs.specs.Logs.{Log, begun, begun_of, finished_of}
-use Rattle.uring_epochs.proofs.Noted.{map_same, map_twice, map_alike}
-use Rattle.uring_outcomes.specs.Moments.{Moment, starting, issued, ended_at_once, started, moved, after_moves}
-use Rattle.uring_outcomes.specs.declared.move_of_calls.Move.{Move}
 use Rattle.uring_outcomes.specs.declared.move_of_calls.Move.TheVariants as move
 use Rattle.uring_outcomes.proofs.MovesLead.{one_move_more}
-use Rattle.uring_outcomes.specs.Runs.{StandsAt, MadeAs, called_in}
 use Rattle.uring_outcomes.proofs.Moving.{issue_can, finish_can, finishable_tells}
 use Rattle.uring_outcomes.specs.declared.run.Run.{Run}
 use Rattle.uring_outcomes.proofs.Replaying.{IsMade, made_tells, not_made_tells}
 use Rattle.uring_outcomes.proofs.RunSteps.{running_asks}
 use Rattle.uring_outcomes.proofs.Covering.{moves_after}
-use Rattle.uring_power.specs.Moves.{log_moved, log_along}
-use Rattle.uring_power.specs.Trials.{logs_after, HasMade, HasTried}
 use Rattle.uring_power.proofs.LogMoves.{log_more, runs_now, running_op_is}
 
 -- What an issue makes of a log.

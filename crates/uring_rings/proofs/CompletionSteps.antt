@@ -1,15 +1,6 @@
 -- What each call of the completion ring leaves shows the lists after its event.
 use Rattle.std.proofs.Common.{◌≡◌, ◌≢◌, ℕ, ◌+◌, ◌-◌, ◌%◌, ◌^◌, ◌<◌, ◌≤◌, Bool, true, false, eqb, ltb, List, [], ◌∷◌, ◌++◌, length, take, drop, set, get_or, cond, min, Some, None, sym, ap, ◌∙◌, subst, inl, inr, arith, ne_eqb, ltb-false, ltb-true, eqb-true}
-use Rattle.std.proofs.lemmas.Bool.{cases_lt, and_parts}
-use Rattle.std.proofs.lemmas.List.{nil_from_length, length_push, length-drop, take-append-le, drop-append-le, take_more, drop_more, get_or_append_left, get_or_default}
-use Rattle.std.proofs.lemmas.Option.{slice_get-get_or}
-use Rattle.std.specs.Int.{IsPowerOfTwo}
-use Rattle.std.specs.List.{slice_get}
-use Rattle.uring_entry.specs.Layout.{Cqe}
-use Rattle.uring_entry.specs.Setup.{Setup}
-use Rattle.uring_entry.specs.IndexWords.{word_of}
-use Rattle.uring_entry.specs.Completions.{Completions, has_room, with_posted, with_reaped, next_to_reap, put_by_flush}
-use Rattle.uring_rings.specs.Cq.{Cq, IsCq, ShowsCompletions}
+use Rattle.uring_rings.proofs.Common.{Completions, Cq, Cqe, IsCq, IsPowerOfTwo, Setup, ShowsCompletions, and_parts, cases_lt, drop-append-le, drop_more, get_or_append_left, get_or_default, has_room, length-drop, length_push, next_to_reap, nil_from_length, put_by_flush, slice_get, slice_get-get_or, take-append-le, take_more, with_posted, with_reaped, word_of}
 use Rattle.uring_rings.proofs.Counts.{distance_of_words, word_after, cells_after_write}
 
 -- How many completions were put above the head last loaded.

@@ -2,13 +2,11 @@
 -- By arithmetic on remainders alone: nothing here knows of a ring.
 -- Stable: rings as shared words are to cite these lemmas too.
 use Rattle.std.proofs.Common.{◌≡◌, ◌≢◌, List, length, set, get_or, ℕ, ◌+◌, ◌-◌, ◌*◌, ◌/◌, ◌%◌, ◌^◌, ◌<◌, ◌≤◌, sym, ap, ◌∙◌, subst, ⊎_elim, arith}
-use Rattle.std.proofs.lemmas.Bool.{cases_lt, cases_eq, cases_order}
+use Rattle.uring_rings.proofs.Common.{IsPowerOfTwo, cases_eq, cases_lt, cases_order, get_or-set_other}
 use Rattle.std.proofs.lemmas.Nat.{and_mask, pow_below, mod_below, div-add-mod'}
 use Rattle.std.proofs.lemmas.Grind.{get_or-set_at}
-use Rattle.std.proofs.lemmas.List.{get_or-set_other}
 use Rattle.std.proofs.Math.Pow.{mod-mod-pow}
 use Rattle.std.specs.Int.RustNames.{bit_and}
-use Rattle.std.specs.Int.{IsPowerOfTwo}
 
 -- The number that leads from the word of one count to the word of another is their difference.
 pub distance_of_words : (s a b d : ℕ) → d < 2 ^ 32 → b ≤ a → a < b + 2 ^ 32

@@ -2,8 +2,7 @@
 -- By induction over the list: nothing here knows of a ring.
 -- Stable: rings as shared words are to cite these lemmas too.
 use Rattle.std.proofs.Common.{◌≡◌, ℕ, ◌-◌, ◌%◌, ◌<◌, ◌≤◌, List, [], ◌∷◌, ◌++◌, length, get_or, zero, suc, refl, sym, ap, ◌∙◌, arith}
-use Rattle.std.proofs.lemmas.List.{get_or_read}
-use Rattle.std.specs.List.{slice_get}
+use Rattle.uring_rings.proofs.Common.{get_or_read, slice_get}
 
 pub slice_get_append_left : {A : Type 0} (xs ys : List A) (k : ℕ) → k < length xs
     → slice_get (xs ++ ys) k ≡ slice_get xs k

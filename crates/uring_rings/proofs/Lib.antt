@@ -1,3 +1,4 @@
+mod Common
 pub mod Counts
 pub mod Elements
 pub mod Places

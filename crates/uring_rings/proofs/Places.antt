@@ -1,14 +1,10 @@
 -- The entries and the dropped words among published places.
 use Rattle.std.proofs.Common.{◌≡◌, ℕ, ◌+◌, ◌<◌, List, [], ◌∷◌, ◌++◌, length, take, drop, get_or, cond, Option, Some, None, refl, ap, ◌∙◌, arith, suc}
-use Rattle.std.proofs.lemmas.List.{take_more, get_or-drop, length-drop, length_push, append-nil}
+use Rattle.uring_rings.proofs.Common.{Place, Sqe, append-nil, cons_option, dropped_in, entries_of, get_or-drop, get_or_from_slice_get, length-drop, length_push, slice_get, slice_get_within, take_more}
 use Rattle.std.proofs.lemmas.List.Elements.{filter_map-append}
 use Rattle.std.proofs.lemmas.List.Sums.{sum_by-append, sum_by-cons}
-use Rattle.std.proofs.lemmas.Option.{slice_get_within, get_or_from_slice_get}
 use Rattle.std.proofs.Math.Seq.{take-add}
-use Rattle.std.specs.List.{slice_get, cons_option}
 use Rattle.std.specs.Prelude.{is_none}
-use Rattle.uring_entry.specs.Layout.{Sqe}
-use Rattle.uring_entry.specs.Submission.{Place, entries_of, dropped_in}
 
 one_more : (o : Option Sqe) (xs : List Sqe) (m n : ℕ) → length xs + m ≡ n
     → length (cons_option o xs) + (cond (is_none o) 1 0 + m) ≡ suc n

@@ -1,18 +1,11 @@
 -- What the submission calls take, and what their end leaves.
 use Rattle.std.proofs.Common.{◌≡◌, ◌≢◌, ℕ, ◌+◌, ◌-◌, ◌%◌, ◌^◌, ◌<◌, ◌≤◌, Bool, length, take, drop, get_or, cond, Option, Some, None, refl, sym, ap, ◌∙◌, subst, arith, eq-eqb, ne_eqb, lt-ltb, le-ltb, ltb}
-use Rattle.std.proofs.lemmas.List.{length-drop, length-take-le}
+use Rattle.uring_rings.proofs.Common.{Call, Place, Setup, ShowsSubmission, Sq, Sqe, Submission, dropped, dropped_in, entries_of, length-drop, length-take-le, pending, place_of, places_from, progress, same_Some, slice_get, taken, with_closed, word_of}
 use Rattle.std.proofs.lemmas.List.Sums.{sum_by_push}
-use Rattle.std.proofs.lemmas.Option.{same_Some}
-use Rattle.std.specs.List.{slice_get}
 use Rattle.std.specs.Option.{option_map, option_and_then, IfSome}
-use Rattle.uring_entry.specs.Layout.{Sqe}
-use Rattle.uring_entry.specs.Setup.{Setup}
-use Rattle.uring_entry.specs.IndexWords.{word_of}
-use Rattle.uring_entry.specs.Submission.{Submission, Place, Call, taken, pending, dropped, dropped_in, place_of, entries_of, places_from, with_closed}
 use Rattle.uring_rings.specs.declared.answers.TakeAnswer.TheVariants.{Entry as Given, Dropped, NoMore}
 use Rattle.uring_rings.specs.declared.answers.EndAnswer.TheVariants.{Taken as Closed, NotAll}
 use Rattle.uring_rings.specs.declared.sq.OpenCall.{OpenCall}
-use Rattle.uring_rings.specs.Sq.{Sq, ShowsSubmission, progress}
 use Rattle.uring_rings.specs.SqAnswers.{take_answer, take_in, given, taken_on, end_of, end_answer, closed_on}
 use Rattle.uring_rings.proofs.Counts.{word_after}
 use Rattle.uring_rings.proofs.Places.{entry_more, dropped_more, entries_and_dropped, dropped_beyond}

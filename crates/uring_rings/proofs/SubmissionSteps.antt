@@ -1,17 +1,8 @@
 -- What each call of the submission ring leaves shows the lists after its event.
 use Rattle.std.proofs.Common.{◌≡◌, ◌≢◌, ℕ, ◌+◌, ◌-◌, ◌%◌, ◌^◌, ◌<◌, ◌≤◌, false, eqb, List, [], ◌∷◌, ◌++◌, length, take, drop, map, set, get_or, cond, Option, Some, None, zero, suc, refl, sym, ap, ◌∙◌, subst, ⊎_elim, arith, eq-eqb, ne_eqb}
-use Rattle.std.proofs.lemmas.Bool.{cases_eq, cases_lt}
+use Rattle.uring_rings.proofs.Common.{Call, IsPowerOfTwo, IsSq, Place, Setup, ShowsSubmission, Sq, Sqe, Submission, cases_eq, cases_lt, drop-append-le, dropped_in, entries_of, get_or-set_other, get_or_append_left, get_or_from_slice_get, get_or_push, is_busy, length-append, length-drop, length-map, length-set, pending, place_of, places_from, progress, same_Some, slice_get, slice_get-get_or, staged, take-append-le, taken, with_filled, with_published, with_staged, word_of, words}
 use Rattle.std.proofs.lemmas.Grind.{get_or-set_at}
-use Rattle.std.proofs.lemmas.List.{get_or_append_left, get_or_push, length-map, length-append, length-drop, length-set, take-append-le, drop-append-le, get_or-set_other}
-use Rattle.std.proofs.lemmas.Option.{get_or_from_slice_get, slice_get-get_or, same_Some}
-use Rattle.std.specs.Int.{IsPowerOfTwo}
-use Rattle.std.specs.List.{slice_get}
 use Rattle.std.specs.Option.{option_map, IfSome}
-use Rattle.uring_entry.specs.Layout.{Sqe}
-use Rattle.uring_entry.specs.Setup.{Setup}
-use Rattle.uring_entry.specs.IndexWords.{word_of}
-use Rattle.uring_entry.specs.Submission.{Submission, Place, Call, taken, staged, pending, dropped_in, place_of, entries_of, places_from, is_busy, with_filled, with_staged, with_published}
-use Rattle.uring_rings.specs.Sq.{Sq, IsSq, ShowsSubmission, words, progress}
 use Rattle.uring_rings.proofs.Elements.{slice_get_append_left, slice_get_append_right}
 use Rattle.uring_rings.proofs.Counts.{distance_of_words, word_after, cells_after_write}
 use Rattle.uring_rings.proofs.SubmissionWords.{length_words, words_indexed, words_stored, size_limit, not_named}

@@ -1,15 +1,7 @@
 -- The words that were published or staged, by their positions, and the cells that hold them.
 use Rattle.std.proofs.Common.{◌≡◌, ◌≢◌, ℕ, ◌+◌, ◌-◌, ◌%◌, ◌^◌, ◌<◌, ◌≤◌, true, false, eqb, List, [], ◌∷◌, ◌++◌, length, drop, map, get_or, Some, None, refl, sym, ap, ◌∙◌, arith, eq-eqb, ne_eqb}
-use Rattle.std.proofs.lemmas.List.{get_or_append_left, get_or-map, get_or-drop, length-map, length-append, length-drop, append_assoc, map-append, append-nil}
+use Rattle.uring_rings.proofs.Common.{IsSq, Place, Setup, ShowsSubmission, Sq, Sqe, Submission, append-nil, append_assoc, false≢true, get_or-drop, get_or-map, get_or_append_left, get_or_from_slice_get, is_busy, length-append, length-drop, length-map, map-append, place_of, slice_get, slice_get-get_or, slice_get_within, staged, with_published, with_staged, word_of, words}
 use Rattle.std.proofs.lemmas.List.Folds.{list_any_at, list_any_none}
-use Rattle.std.proofs.lemmas.Bool.{false≢true}
-use Rattle.std.proofs.lemmas.Option.{slice_get_within, get_or_from_slice_get, slice_get-get_or}
-use Rattle.std.specs.List.{slice_get}
-use Rattle.uring_entry.specs.Layout.{Sqe}
-use Rattle.uring_entry.specs.Setup.{Setup}
-use Rattle.uring_entry.specs.IndexWords.{word_of}
-use Rattle.uring_entry.specs.Submission.{Submission, Place, staged, place_of, with_published, with_staged, is_busy}
-use Rattle.uring_rings.specs.Sq.{Sq, IsSq, ShowsSubmission, words}
 use Rattle.uring_rings.proofs.Counts.{word_after, distance_of_words}
 
 -- there are as many words as staged positions

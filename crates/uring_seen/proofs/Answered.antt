@@ -1,22 +1,13 @@
 -- What is told of lines, by what the search came to.
 use Rattle.std.proofs.Common.{◌≡◌, ◌++◌, ◌+◌, ℕ, List, [], ◌∷◌, length, refl, sym, ap, subst, ◌∙◌, append_assoc, append-nil, arith, inl, inr}
-use Rattle.std.specs.Prelude.{codes, decimal, reverse, ◌==◌}
-use Rattle.std.proofs.lemmas.List.{reverse-reverse}
+use Rattle.uring_seen.proofs.Common.{AreAnswered, AreShown, Begins, Event, Fills, HasNoFilling, History, IsAnswered, IsBadLine, IsFar, IsFilling, IsHiddenLine, IsLawfulApart, IsSaid, IsToldBy, IsToldOf, Names, Reads, SaysFirst, Setup, ShowsNever, Tells, TellsFar, codes, decimal, history_of, lines_in, reverse, reverse-reverse, seen_in, setup_text, visible, ◌==◌}
 use Rattle.std.proofs.lemmas.List.Splits.{length-slice_split}
-use Rattle.uring_entry.specs.Setup.{Setup}
-use Rattle.uring_core.specs.Histories.{Event, History, history_of, IsLawfulApart}
 use Rattle.uring_text.specs.Lines.{joined}
-use Rattle.uring_check.specs.SetupLines.{IsSaid}
 use Rattle.uring_check.specs.declared.setup_line.Said.{Said}
-use Rattle.uring_fill.specs.Filling.{seen_in, Begins, IsFilling}
 use Rattle.uring_fill.specs.Found.{HasNone, IsFound}
 use Rattle.uring_fill.specs.Parts.{IsReach}
 use Rattle.uring_fill.specs.declared.search.Filled.{Filled}
 use Rattle.uring_fill.proofs.Begun.{begins_all}
-use Rattle.uring_seen.specs.Seen.{visible, AreShown, Fills}
-use Rattle.uring_seen.specs.Sights.{Reads, ShowsNever, IsBadLine, IsHiddenLine}
-use Rattle.uring_check.specs.SetupLines.{setup_text}
-use Rattle.uring_seen.specs.Told.{IsFar, Tells, TellsFar, HasNoFilling, Names, IsToldOf, IsToldBy, SaysFirst, IsAnswered, AreAnswered, lines_in}
 use Rattle.uring_seen.specs.declared.filling.Told.{Told}
 use Rattle.uring_seen.specs.declared.filling.Verdict.{Verdict}
 use Rattle.uring_seen.specs.declared.filling.Verdict.TheVariants as verdict

@@ -1,20 +1,10 @@
 -- The lines of a history that shows the first ones of the steps that were seen.
 use Rattle.std.proofs.Common.{◌≡◌, ◌++◌, ℕ, ◌+◌, ◌<◌, ◌≤◌, Bool, true, false, List, [], ◌∷◌, length, take, drop, get_or, if◌then◌else◌, refl, sym, ap, subst, ◌∙◌, arith, append_assoc, append-nil, Some}
-use Rattle.std.specs.Prelude.{codes, slice_get}
-use Rattle.std.proofs.lemmas.List.{reverse-append, length-append, take-append-drop}
-use Rattle.uring_entry.specs.Setup.{Setup}
-use Rattle.uring_core.specs.Histories.{Event, History, history_of}
-use Rattle.uring_core.specs.declared.step.Step.{Step}
+use Rattle.uring_seen.proofs.Common.{AreLinesOf, ArePaired, Begins, Event, History, IsLineIf, IsLineOf, Setup, Shows, Step, Tells, codes, hidden_text, history_of, is_hidden, length-append, reverse-append, seen_in, setup_text, slice_get, take-append-drop, text_of}
 use Rattle.uring_core.specs.declared.step.Step.TheVariants as step
 use Rattle.uring_text.specs.Lines.{ended, joined}
-use Rattle.uring_trace.specs.Text.{text_of}
-use Rattle.uring_fill.specs.Filling.{is_hidden, seen_in, Begins}
 use Rattle.uring_fill.proofs.Seeing.{taken_next}
 use Rattle.uring_fill.proofs.Begun.{begins_itself, begins_more, begins_on}
-use Rattle.uring_seen.specs.Seen.{Shows}
-use Rattle.uring_seen.specs.Sights.{ArePaired}
-use Rattle.uring_check.specs.SetupLines.{setup_text}
-use Rattle.uring_seen.specs.Told.{AreLinesOf, IsLineIf, IsLineOf, Tells, hidden_text}
 
 -- ---- pairs
 

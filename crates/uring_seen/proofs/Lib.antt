@@ -1,4 +1,5 @@
 -- In the order in which they are best read.
+mod Common
 -- Texts, and what a step with the text of an answer shows:
 pub mod Texts
 pub mod Showing

@@ -1,13 +1,6 @@
 -- What a line shows, by what was made of it.
 use Rattle.std.proofs.Common.{ℕ, List, ◌∷◌, sym, subst}
-use Rattle.uring_core.specs.Core.{Core, FitsApart}
-use Rattle.uring_core.specs.Histories.{History}
-use Rattle.uring_core.specs.declared.step.Step.{Step}
-use Rattle.uring_trace.specs.Text.{text_of}
-use Rattle.uring_check.specs.Records.{IsRecord, IsNoRecord}
-use Rattle.uring_seen.specs.Seen.{Shows}
-use Rattle.uring_seen.specs.Sights.{submitted, IsOnly, IsSeenAs, IsSight, IsSightOfNone}
-use Rattle.uring_seen.specs.declared.sight.Sight.{Sight}
+use Rattle.uring_seen.proofs.Common.{Core, FitsApart, History, IsNoRecord, IsOnly, IsRecord, IsSeenAs, IsSight, IsSightOfNone, Shows, Sight, Step, submitted, text_of}
 use Rattle.uring_seen.specs.declared.sight.Sight.TheVariants as sight
 
 -- a line that is no step with an answer

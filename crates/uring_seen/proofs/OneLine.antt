@@ -1,22 +1,7 @@
 -- What lines show, one after the other: they are all that a lawful history shows of which they are the lines.
 use Rattle.std.proofs.Common.{◌≡◌, ◌++◌, ℕ, ◌+◌, ◌<◌, ◌≤◌, Bool, true, false, List, [], ◌∷◌, length, take, drop, get_or, map, if◌then◌else◌, refl, sym, ap, subst, ◌∙◌, inl, inr, Some}
 use mathlib.Core.List.{head-eq_of_cons-eq, tail-eq_of_cons-eq}
-use Rattle.std.specs.Prelude.{reverse, slice_get, option_map}
-use Rattle.std.proofs.lemmas.List.{length-map, reverse-append, take-append-drop, take_all, take_more}
-use Rattle.std.proofs.lemmas.Option.{get_or_from_slice_get, slice_get-get_or, slice_get-map, slice_get_within}
-use Rattle.uring_entry.specs.Setup.{Setup}
-use Rattle.uring_core.specs.Core.{Core, FitsApart}
-use Rattle.uring_core.specs.StepAnswers.{CalledForApart}
-use Rattle.uring_core.specs.Histories.{Event, History, world, history_of, IsLawfulApart}
-use Rattle.uring_core.specs.declared.step.Step.{Step}
-use Rattle.uring_core.specs.declared.answer.Answer.{Answer}
-use Rattle.uring_trace.specs.Text.{text_of}
-use Rattle.uring_check.specs.Records.{IsRecord, IsPassed}
-use Rattle.uring_check.proofs.Splitting.{record_once}
-use Rattle.uring_fill.specs.Filling.{is_hidden, seen_in}
-use Rattle.uring_seen.specs.Seen.{visible, IsBare, Shows, AreShown}
-use Rattle.uring_seen.specs.Sights.{submitted, MayShow, IsOnly, HasNoAnswer, IsSight, Reads, ShowsNever, IsHiddenLine, IsBadLine, ArePaired}
-use Rattle.uring_seen.specs.declared.sight.Sight.{Sight}
+use Rattle.uring_seen.proofs.Common.{Answer, ArePaired, AreShown, CalledForApart, Core, Event, FitsApart, HasNoAnswer, History, IsBadLine, IsBare, IsHiddenLine, IsLawfulApart, IsOnly, IsPassed, IsRecord, IsSight, MayShow, Reads, Setup, Shows, ShowsNever, Sight, Step, get_or_from_slice_get, history_of, is_hidden, length-map, option_map, record_once, reverse, reverse-append, seen_in, slice_get, slice_get-get_or, slice_get-map, slice_get_within, submitted, take-append-drop, take_all, take_more, text_of, visible, world}
 use Rattle.uring_seen.specs.declared.sight.Sight.TheVariants as sight
 use Rattle.uring_seen.proofs.HistoryLines.{paired_more}
 

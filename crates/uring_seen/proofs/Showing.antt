@@ -1,23 +1,11 @@
 -- What a step with the text of an answer shows.
 use Rattle.std.proofs.Common.{◌≡◌, ℕ, Bool, true, false, List, ◌∷◌, Option, Some, None, drop, ◌<◌, ◌^◌, is_some, if◌then◌else◌, get_or, refl, sym, ap, subst, ◌∙◌, inl, inr, arith}
-use Rattle.uring_entry.specs.Setup.{Setup}
-use Rattle.uring_entry.specs.Layout.{Cqe}
+use Rattle.uring_seen.proofs.Common.{Answer, CalledForApart, Core, Cqe, FitsApart, HasNoAnswer, History, IsBare, IsGuess, IsGuessed, IsNoFinish, IsOnly, IsSeenAs, IsSure, OrAgain, Setup, Step, World, begin_answer, call_length, is_hidden, is_spent, is_submitting, next_answer_of, reap_answer_of, requests_of, submitted, text_of, world}
 use Rattle.uring_entry.specs.Completions.{next_to_reap}
 use Rattle.uring_rules.specs.Rules.{next_of}
-use Rattle.uring_entry.specs.Submission.{call_length}
-use Rattle.uring_core.specs.World.{World, requests_of}
-use Rattle.uring_core.specs.Core.{Core, FitsApart, IsNoFinish}
-use Rattle.uring_core.specs.StepAnswers.{CalledForApart, OrAgain, begin_answer, is_spent, reap_answer_of, next_answer_of}
-use Rattle.uring_core.specs.Histories.{History, world}
-use Rattle.uring_core.specs.declared.step.Step.{Step}
 use Rattle.uring_core.specs.declared.step.Step.TheVariants as step
-use Rattle.uring_core.specs.declared.answer.Answer.{Answer}
 use Rattle.uring_core.specs.declared.answer.Answer.TheVariants as answer
-use Rattle.uring_trace.specs.Text.{text_of}
 use Rattle.uring_check.proofs.SameTexts.{begin_once}
-use Rattle.uring_fill.specs.Filling.{is_hidden}
-use Rattle.uring_seen.specs.Seen.{IsBare}
-use Rattle.uring_seen.specs.Sights.{is_submitting, submitted, IsSure, IsGuess, IsGuessed, IsOnly, HasNoAnswer, IsSeenAs}
 use Rattle.uring_seen.specs.declared.sight.Sight.TheVariants as sight
 use Rattle.uring_seen.proofs.Sides.{may_submitted}
 use Rattle.uring_seen.proofs.Texts.{number_once, completion_once}

@@ -1,22 +1,11 @@
 -- What the submission ring and the calls tell of a history: as much as its events do that are of them alone.
 use Rattle.std.proofs.Common.{◌≡◌, ◌++◌, ℕ, ℤ, Bool, true, false, List, [], ◌∷◌, Option, Some, None, if◌then◌else◌, refl, sym, ap, subst, ◌∙◌}
-use Rattle.uring_entry.specs.Setup.{Setup}
-use Rattle.uring_entry.specs.Layout.{Sqe}
-use Rattle.uring_entry.specs.Submission.{Submission, Call, entries_from}
-use Rattle.uring_entry.specs.Requests.{Requests}
+use Rattle.uring_seen.proofs.Common.{Answer, Call, CalledForApart, History, MayShow, Requests, Setup, Sqe, Step, Submission, World, beginning, closing, ending, ending_of, entries_from, filling, finishing, happens, is_hidden, is_submitting, issuing, reaping, requests_of, staging, submitted, taking, taking_entry_of, taking_of, visible, world}
 use Rattle.uring_entry.specs.Completions.{Completions}
 use Rattle.uring_linux.specs.LinuxRequests.{LinuxRequests}
 use Rattle.uring_rules.specs.Rules.{with_issued_end}
-use Rattle.uring_core.specs.World.{World, requests_of, happens, filling, staging, beginning, taking, taking_of, taking_entry_of, ending, ending_of, issuing, finishing, reaping, closing}
-use Rattle.uring_core.specs.StepAnswers.{CalledForApart}
-use Rattle.uring_core.specs.Histories.{History, world}
-use Rattle.uring_core.specs.declared.step.Step.{Step}
 use Rattle.uring_core.specs.declared.step.Step.TheVariants as step
-use Rattle.uring_core.specs.declared.answer.Answer.{Answer}
 use Rattle.uring_core.specs.declared.answer.Answer.TheVariants as answer
-use Rattle.uring_fill.specs.Filling.{is_hidden}
-use Rattle.uring_seen.specs.Seen.{visible}
-use Rattle.uring_seen.specs.Sights.{is_submitting, submitted, MayShow}
 
 -- two worlds with the same submission ring and calls
 record SameSide (w v : World) : Type 0 where

@@ -1,25 +1,17 @@
 -- The texts of completions and numbers, each of one alone.
 use Rattle.std.proofs.Common.{◌≡◌, ◌≢◌, ℕ, ℤ, ◌+◌, ◌<◌, ◌^◌, true, false, List, [], ◌∷◌, ◌++◌, drop, Some, refl, sym, ap, subst, ◌∙◌, append_assoc, arith}
 use mathlib.Core.List.{head-eq_of_cons-eq, tail-eq_of_cons-eq}
-use Rattle.std.specs.Prelude.{codes, decimal}
+use Rattle.uring_seen.proofs.Common.{Cqe, IsBare, IsCompletion, IsFile, IsFramed, IsNoCompletion, IsNoNumber, IsParted, IsUnframed, IsUnparted, SpellsNumber, and_parts, append_cancel_right, codes, decimal, no_bytes, text_of}
 use Rattle.std.specs.Char.{is_ascii_digit}
 use Rattle.std.specs.Fmt.{signed_decimal}
 use Rattle.std.specs.List.{AllByRecursion, list_all}
-use Rattle.std.proofs.lemmas.Bool.{and_parts}
 use Rattle.std.proofs.lemmas.Fmt.{digits_decimal}
-use Rattle.std.proofs.lemmas.List.{append_cancel_right}
-use Rattle.uring_entry.specs.Layout.{Cqe}
-use Rattle.uring_entry.specs.Requests.{no_bytes}
 use Rattle.uring_core.specs.declared.answer.Answer.TheVariants as answer
 use Rattle.uring_core.specs.declared.step.Step.TheVariants as step
 use Rattle.uring_text.specs.Completions.{completion_text}
 use Rattle.uring_text.specs.Reading.{number_of, file_of}
-use Rattle.uring_text.specs.Spelling.{IsFile, SpellsNumber, IsNoNumber}
 use Rattle.uring_text.proofs.NumberLaws.{number_again, file_again}
 use Rattle.uring_text.proofs.Numbers.{own}
-use Rattle.uring_trace.specs.Text.{text_of}
-use Rattle.uring_seen.specs.Seen.{IsBare}
-use Rattle.uring_seen.specs.Sights.{IsCompletion, IsNoCompletion, IsFramed, IsUnframed, IsParted, IsUnparted}
 
 abbrev pub HasNoBlank : List ℕ → Type 0
 HasNoBlank xs = AllByRecursion (λ b. b ≢ 32) xs

@@ -1,23 +1,12 @@
 -- Completions by their texts, with their bytes.
 use Rattle.std.proofs.Common.{◌≡◌, ℕ, zero, suc, ◌<◌, ◌≤◌, ◌+◌, ◌-◌, List, [], ◌∷◌, ◌++◌, length, map, take, drop, replicate, ◌/◌, Option, Some, None, refl, sym, ap, subst, ◌∙◌, append_assoc, arith}
 use Rattle.std.specs.List.{AllByRecursion}
-use Rattle.std.proofs.lemmas.List.{length-append, length-drop}
-use Rattle.std.proofs.lemmas.Option.{same_Some}
-use Rattle.uring_entry.specs.Layout.{Cqe}
-use Rattle.uring_entry.specs.Requests.{no_bytes}
-use Rattle.std.specs.Prelude.{codes, MatchOption}
+use Rattle.uring_seen.proofs.Common.{AreBytes, CompletesTo, Cqe, HasText, IsPadded, MatchOption, append_cancel_left, blank_completion, bytes_eq-Decides, codes, false_from_ne_true, front_of, le-ltb, length-append, length-drop, lt-ltb, ne_eqb, no_bytes, same_Some, take-append-drop}
 use Rattle.std.specs.Str.{bytes_eq}
-use Rattle.std.proofs.lemmas.Bool.{false_from_ne_true, le-ltb, lt-ltb, ne_eqb}
-use Rattle.std.proofs.lemmas.List.{take-append-drop}
-use Rattle.std.proofs.lemmas.Slice.Eq.{bytes_eq-Decides}
 use Rattle.uring_text.proofs.HexLaws.{data_again, data_found, hex_found}
 use Rattle.uring_text.specs.Completions.{before_others, completion_text, trimmed}
 use Rattle.uring_text.specs.Reading.{data_of, hex_of}
-use Rattle.uring_text.specs.Spelling.{AreBytes}
 use Rattle.uring_text.specs.Tokens.{hex_or_dash}
-use Rattle.std.proofs.lemmas.List.{append_cancel_left}
-use Rattle.uring_early.specs.Bare.{blank_completion}
-use Rattle.uring_seen.specs.Written.{CompletesTo, HasText, IsPadded, front_of}
 
 -- ---- bytes without the zeros at their end
 

@@ -1,33 +1,16 @@
 -- The events of lines, one after the other: any lawful history of the lines has them, but for the bytes of its finishes.
 use Rattle.std.proofs.Common.{◌≡◌, ◌++◌, ℕ, ◌+◌, ◌≤◌, Bool, true, false, List, [], ◌∷◌, length, take, drop, map, Some, refl, sym, ap, subst, ◌∙◌, inl, inr}
 use mathlib.Core.List.{head-eq_of_cons-eq, tail-eq_of_cons-eq}
-use Rattle.std.specs.Prelude.{reverse, slice_get}
-use Rattle.std.proofs.lemmas.List.{length-map, reverse-append, take_all}
-use Rattle.uring_entry.specs.Setup.{Setup}
-use Rattle.uring_core.specs.Core.{Core, FitsApart}
-use Rattle.uring_core.specs.Histories.{Event, History, world, history_of, IsLawfulApart}
-use Rattle.uring_core.specs.StepAnswers.{CalledForApart}
-use Rattle.uring_core.specs.World.{World}
-use Rattle.uring_core.specs.declared.answer.Answer.{Answer}
+use Rattle.uring_seen.proofs.Common.{Answer, AreWritten, CalledForApart, Core, Event, FitsApart, History, IsEarlyBy, IsEarlyIn, IsEarlyOf, IsEarlyText, IsFoundBare, IsLawfulApart, IsNeverWritten, IsNoRecord, IsOnlyWritten, IsPassed, IsRecord, IsSaid, IsSightOfNone, IsSized, IsWritten, IsWrittenAs, IsWrittenSight, ReadsWritten, SaysFirst, Setup, Sight, Step, World, bare, blank, blank_answer, early_of, history_of, length-map, lines_in, record_once, reverse, reverse-append, slice_get, take_all, text_of, world}
 use Rattle.uring_core.specs.declared.answer.Answer.TheVariants as answer
-use Rattle.uring_core.specs.declared.step.Step.{Step}
 use Rattle.uring_core.specs.declared.step.Step.TheVariants as step
-use Rattle.uring_trace.specs.Text.{text_of}
-use Rattle.uring_check.specs.Records.{IsRecord, IsNoRecord, IsPassed}
-use Rattle.uring_check.proofs.Splitting.{record_once}
 use Rattle.uring_text.specs.Remarks.{is_remark}
-use Rattle.uring_early.specs.Bare.{IsFoundBare, bare, blank, blank_answer}
 use Rattle.uring_early.specs.declared.decision.Found.{Found}
 use Rattle.uring_early.specs.declared.decision.Found.TheVariants as found
 use Rattle.uring_early.proofs.BlankWorlds.{called_blank, world_same}
 use Rattle.uring_early.proofs.Loosening.{blanks_bare}
-use Rattle.uring_seen.specs.Written.{AreWritten, IsEarlyBy, IsEarlyIn, IsEarlyOf, IsEarlyText, IsNeverWritten, IsOnlyWritten, IsSized, IsWritten, IsWrittenAs, IsWrittenSight, ReadsWritten, early_of}
-use Rattle.uring_check.specs.SetupLines.{IsSaid}
 use Rattle.uring_check.specs.declared.setup_line.Said.{Said}
-use Rattle.uring_seen.specs.Sights.{IsSightOfNone}
-use Rattle.uring_seen.specs.Told.{SaysFirst, lines_in}
 use Rattle.uring_seen.specs.declared.early.Early.{Early}
-use Rattle.uring_seen.specs.declared.sight.Sight.{Sight}
 use Rattle.uring_seen.specs.declared.sight.Sight.TheVariants as sight
 use Rattle.uring_seen.proofs.Answered.{some_line}
 use Rattle.uring_seen.proofs.OneLine.{one_more, split_lines}

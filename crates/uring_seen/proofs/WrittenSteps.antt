@@ -1,24 +1,9 @@
 -- What a step with the text of an answer is, of a core that knows no bytes.
 use Rattle.std.proofs.Common.{◌≡◌, ℕ, ℤ, Bool, true, false, List, ◌∷◌, Option, Some, None, drop, is_some, get_or, refl, sym, ap, subst, ◌∙◌, inl, inr, arith}
-use Rattle.std.proofs.lemmas.Option.{same_Some}
-use Rattle.uring_entry.specs.Layout.{Cqe}
-use Rattle.uring_entry.specs.Requests.{is_running, no_bytes}
-use Rattle.uring_entry.specs.Setup.{Setup}
-use Rattle.uring_entry.specs.Submission.{call_length}
-use Rattle.uring_core.specs.Core.{Core, FitsApart, IsNoFinish}
-use Rattle.uring_core.specs.Histories.{Event, History, world}
-use Rattle.uring_core.specs.StepAnswers.{CalledForApart, FinishesApart, OrAgain, begin_answer, is_spent}
-use Rattle.uring_core.specs.World.{World}
-use Rattle.uring_core.specs.declared.answer.Answer.{Answer}
+use Rattle.uring_seen.proofs.Common.{Answer, CalledForApart, CompletesTo, Core, Cqe, Event, FinishesApart, FitsApart, HasText, History, IsCompleted, IsFile, IsFinishAnswer, IsFollowed, IsNeverWritten, IsNoFinish, IsOneStep, IsSized, IsWrittenAs, OrAgain, Setup, Sight, Step, World, bare, begin_answer, blank_answer, blank_completion, call_length, is_running, is_spent, no_bytes, same_Some, text_of, world}
 use Rattle.uring_core.specs.declared.answer.Answer.TheVariants as answer
-use Rattle.uring_core.specs.declared.step.Step.{Step}
 use Rattle.uring_core.specs.declared.step.Step.TheVariants as step
-use Rattle.uring_text.specs.Spelling.{IsFile}
-use Rattle.uring_trace.specs.Text.{text_of}
 use Rattle.uring_check.proofs.SameTexts.{begin_once}
-use Rattle.uring_early.specs.Bare.{bare, blank_answer, blank_completion}
-use Rattle.uring_seen.specs.Written.{CompletesTo, HasText, IsCompleted, IsFinishAnswer, IsFollowed, IsNeverWritten, IsOneStep, IsSized, IsWrittenAs}
-use Rattle.uring_seen.specs.declared.sight.Sight.{Sight}
 use Rattle.uring_seen.specs.declared.sight.Sight.TheVariants as sight
 use Rattle.uring_seen.proofs.Showing.{again_answer, begun, call_again, IsBegun}
 use Rattle.uring_seen.proofs.Texts.{signed_once}

@@ -1,11 +1,8 @@
 -- The tokens of a line, one after another.
 use Rattle.std.proofs.Common.{◌≡◌, ℕ, ◌+◌, ◌<◌, true, false, eqb, List, [], ◌∷◌, ◌++◌, length, take, drop, get_or, map, sym, ap, ◌∙◌, append_assoc, append-nil, arith}
-use Rattle.std.specs.Prelude.{Option, Some, None, IfSome, IfNone}
+use Rattle.uring_text.proofs.Common.{All, IfNone, IfSome, None, Option, Some, drop_more, map-append, take-append-drop, tokens_of}
 use Rattle.std.specs.Borrow.{Bor}
-use Rattle.std.specs.List.{All}
-use Rattle.std.proofs.lemmas.List.{drop_more, take-append-drop, map-append}
 use Rattle.std.proofs.lemmas.List.Splits.{slice_split_at}
-use Rattle.uring_text.specs.Tokens.{tokens_of}
 
 -- no byte is a blank
 abbrev pub HasNoBlank : List ℕ → Type 0

@@ -1,10 +1,7 @@
 -- A form has one entry.
 use Rattle.std.proofs.Common.{◌≡◌, ℕ, List, ◌++◌, take, drop, sym, ap, ◌∙◌}
-use Rattle.std.proofs.lemmas.List.{take-append-drop}
-use Rattle.uring_entry.specs.Layout.{Sqe, HasData}
+use Rattle.uring_text.proofs.Common.{Form, HasData, IsEntryNamed, IsEntryOf, Name, Parts, Sqe, take-append-drop}
 use Rattle.uring_entry.proofs.CompletionWords.{same_words}
-use Rattle.uring_text.specs.Forms.{Form, Parts, IsEntryNamed, IsEntryOf}
-use Rattle.uring_text.specs.declared.forms.Name.{Name}
 use Rattle.uring_text.specs.declared.forms.Name.TheVariants as name
 
 -- the first eight words, and the bytes of the others

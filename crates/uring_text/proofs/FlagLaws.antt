@@ -1,17 +1,10 @@
 -- Flags are read of just the tokens that are their letters.
 use Rattle.std.proofs.Common.{◌≡◌, ◌≢◌, ℕ, ◌+◌, ◌<◌, Bool, true, false, cond, eqb, ◌||◌, List, [], ◌∷◌, length, Some, None, refl, sym, ap, ◌∙◌, arith, inl, inr}
-use Rattle.std.specs.Prelude.{sum_by, codes}
-use Rattle.std.specs.List.{AllByRecursion, list_all, list_any}
-use Rattle.std.specs.Str.{bytes_eq}
+use Rattle.uring_text.proofs.Common.{AllByRecursion, AreFlags, NoneAgain, and_parts, bytes_eq, bytes_eq-Decides, cases_Bool, codes, eqb-false, eqb-true, flag_value, flags_of, letters_of, list_all, list_any, ne_eqb, or_cases, or_parts, same_Some, sum_by}
 use Rattle.std.specs.Int.RustNames.{bit_and, bit_or}
 use Rattle.std.specs.Int.Bits.{and_zero_l}
-use Rattle.std.proofs.lemmas.Bool.{eqb-true, eqb-false, ne_eqb, cases_Bool, and_parts, or_cases, or_parts}
 use Rattle.std.proofs.lemmas.List.Sums.{sum_by-cons}
 use Rattle.std.proofs.lemmas.Nat.{and_or_self, and_or_apart, or_disjoint}
-use Rattle.std.proofs.lemmas.Slice.Eq.{bytes_eq-Decides}
-use Rattle.std.proofs.lemmas.Option.{same_Some}
-use Rattle.uring_text.specs.Tokens.{flag_value, NoneAgain, AreFlags}
-use Rattle.uring_text.specs.Reading.{letters_of, flags_of}
 use Rattle.uring_text.proofs.Options.{chosen, no_dash, test_some, unless_some}
 
 abbrev letters : List ℕ

@@ -1,16 +1,9 @@
 -- The form that is read of tokens is the one that they spell.
 use Rattle.std.proofs.Common.{◌≡◌, ℕ, ◌^◌, ◌≤◌, List, [], ◌∷◌, Some, refl, sym, ap, subst, ◌∙◌, arith, inl, inr}
-use Rattle.std.specs.Prelude.{find}
-use Rattle.std.specs.Option.{option_map}
-use Rattle.std.specs.Str.{bytes_eq}
-use Rattle.std.proofs.lemmas.Slice.Eq.{bytes_eq-Decides}
-use Rattle.uring_text.specs.Spelling.{SpellsNumber}
-use Rattle.uring_text.specs.Forms.{Form, Parts, names, name_text, kinds_of, SaysPart, SayParts, SpellsForm}
-use Rattle.uring_text.specs.declared.forms.Name.{Name}
+use Rattle.uring_text.proofs.Common.{Form, Name, Parts, SayParts, SaysPart, SpellsForm, SpellsNumber, bytes_eq, bytes_eq-Decides, data_of, file_of, find, flags_of, form_named, form_of, hex_of, kinds_of, name_of, name_text, names, number_of, option_map, part_of, parts_of, ◌>>=◌}
 use Rattle.uring_text.specs.declared.forms.Name.TheVariants as name
 use Rattle.uring_text.specs.declared.place.Kind.{Kind}
 use Rattle.uring_text.specs.declared.place.Kind.TheVariants as kind
-use Rattle.uring_text.specs.Reading.{◌>>=◌, number_of, file_of, flags_of, data_of, hex_of, part_of, parts_of, name_of, form_named, form_of}
 use Rattle.uring_text.proofs.Options.{bind_some, chosen, mapped}
 use Rattle.uring_text.proofs.NumberLaws.{number_found, number_again, file_found, file_again}
 use Rattle.uring_text.proofs.FlagLaws.{flags_found, flags_again}

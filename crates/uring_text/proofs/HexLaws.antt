@@ -1,18 +1,10 @@
 -- Bytes are read of just the tokens that are their lower case digits.
 use Rattle.std.proofs.Common.{◌≡◌, ℕ, zero, suc, ◌+◌, ◌-◌, ◌*◌, ◌/◌, ◌%◌, ◌<◌, ◌≤◌, true, false, cond, ltb, eqb, ◌&&◌, List, [], ◌∷◌, length, Option, Some, None, Result, Ok, Err, refl, sym, ap, subst, ◌∙◌, arith, inl, inr}
-use Rattle.std.specs.Prelude.{codes, slice_index, nat_le}
-use Rattle.std.specs.List.{AllByRecursion, list_any}
+use Rattle.uring_text.proofs.Common.{AllByRecursion, AreBytes, IsBytes, and_from, and_parts, both_ways, bytes_eq, bytes_eq-Decides, cases_eq, codes, data_of, decode_of, decode_pairs, decode_sized, digit_or_error, encode_lower, encode_with, eqb-false, hex_digit_value, hex_of, hex_or_dash, is_capital, le-leb, le-ltb, leb-true, list_any, lower_digits, ltb-false, nat_le, ne_eqb, or_parts, pair_value, same_Some, slice_index, value_at}
+use Rattle.hex.specs.Hex.{◌>>=◌}
 use Rattle.std.specs.Result.{result_ok}
-use Rattle.std.specs.Str.{bytes_eq}
-use Rattle.std.proofs.lemmas.Bool.{ltb-false, le-ltb, eqb-false, ne_eqb, cases_eq, leb-true, le-leb, and_parts, and_from, both_ways, or_parts}
-use Rattle.std.proofs.lemmas.Slice.Eq.{bytes_eq-Decides}
-use Rattle.std.proofs.lemmas.Option.{same_Some}
 use Rattle.hex.specs.declared.error.FromHexError.{FromHexError}
-use Rattle.hex.specs.Hex.{◌>>=◌, IsBytes, decode_sized, decode_of, decode_pairs, pair_value, value_at, digit_or_error, encode_with, encode_lower, lower_digits, hex_digit_value}
 use Rattle.hex.proofs.HexLemmas.{decode_sized-encode_lower, decode_sized-ok, decode_sized-twice, decode_of-ok, decode_of-even, length-encode_with}
-use Rattle.uring_text.specs.Tokens.{hex_or_dash}
-use Rattle.uring_text.specs.Spelling.{AreBytes}
-use Rattle.uring_text.specs.Reading.{is_capital, hex_of, data_of}
 use Rattle.uring_text.proofs.Options.{test_some, chosen, no_dash, unless_some}
 
 -- what holds of each number below one

@@ -1,8 +1,6 @@
 -- Bytes as hexadecimal digits, byte by byte.
 use Rattle.std.proofs.Common.{◌≡◌, ℕ, ◌+◌, ◌<◌, ◌≤◌, List, [], ◌∷◌, ◌++◌, length, drop, sym, ap, ◌∙◌, append_assoc, append-nil}
-use Rattle.std.specs.Prelude.{slice_index, ◌/◌, ◌%◌}
-use Rattle.std.proofs.lemmas.List.{at_drop_more, at_drop_all}
-use Rattle.hex.specs.Hex.{encode_with, encode_lower, lower_digits}
+use Rattle.uring_text.proofs.Common.{at_drop_all, at_drop_more, encode_lower, encode_with, lower_digits, slice_index, ◌%◌, ◌/◌}
 
 -- a byte's two digits, and those of the bytes after it
 pub hex_more : (all mid new bytes : List ℕ) (i b : ℕ) → i < length bytes → b ≡ slice_index bytes i

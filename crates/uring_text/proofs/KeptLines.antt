@@ -1,7 +1,6 @@
 -- What is kept of a line, byte by byte.
 use Rattle.std.proofs.Common.{◌≡◌, ℕ, ◌<◌, ◌≤◌, Bool, true, false, ltb, List, [], ◌∷◌, ◌++◌, length, take, sym, ap, ◌∙◌, arith}
-use Rattle.std.proofs.lemmas.Bool.{lt-ltb, le-ltb, ltb-false}
-use Rattle.std.proofs.lemmas.List.{take_all, take-append-le, length-append, length-take}
+use Rattle.uring_text.proofs.Common.{le-ltb, length-append, length-take, lt-ltb, ltb-false, take-append-le, take_all}
 use Rattle.uring_text.specs.KeptLine.{KeptLine, kept_of}
 
 -- the kept lines that fields make

@@ -1,4 +1,5 @@
 -- In the order in which they are best read.
+mod Common
 -- Bytes, and steps that may give nothing:
 pub mod Options
 pub mod Bytes

@@ -1,17 +1,11 @@
 -- A number is read of just the token that is its decimal form.
 use Rattle.std.proofs.Common.{◌≡◌, ℕ, zero, suc, ◌^◌, ◌<◌, ◌≤◌, true, ltb, eqb, List, [], ◌∷◌, length, get_or, Option, Some, None, refl, sym, ap, subst, ◌∙◌, arith, inl, inr}
 use Rattle.std.specs.Char.{is_ascii_digit}
-use Rattle.std.specs.List.{list_all}
-use Rattle.std.specs.Option.{option_map}
-use Rattle.std.specs.Prelude.{ℤ, pos, negsuc, MatchOption}
+use Rattle.uring_text.proofs.Common.{IsFile, MatchOption, cases_eq, eq-eqb, eqb-true, file_of, is_numeral, list_all, lt-ltb, ltb-true, ne_eqb, negative_of, negsuc, number_of, option_map, pos, same_Some, ℤ, ◌>>=◌}
 use Rattle.std.specs.Str.Parse.{digits_value}
 use Rattle.std.specs.Fmt.{decimal, signed_decimal}
-use Rattle.std.proofs.lemmas.Bool.{ltb-true, lt-ltb, eqb-true, eq-eqb, ne_eqb, cases_eq}
 use Rattle.std.proofs.lemmas.Fmt.{decimal-digits_value, digits_decimal, first_decimal, decimal_nonempty, decimal_digit, decimal_is_IsNumeral}
 use Rattle.std.proofs.lemmas.Str.Parse.{digit_at}
-use Rattle.std.proofs.lemmas.Option.{same_Some}
-use Rattle.uring_text.specs.Spelling.{IsFile}
-use Rattle.uring_text.specs.Reading.{◌>>=◌, is_numeral, number_of, negative_of, file_of}
 use Rattle.uring_text.proofs.Options.{bind_some, test_some, chosen, mapped}
 use Rattle.uring_text.proofs.Numbers.{own, numeral_digits, some_length, number_parts, file_other}
 

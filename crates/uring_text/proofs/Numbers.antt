@@ -1,19 +1,12 @@
 -- Words that are numbers.
 use Rattle.std.proofs.Common.{◌≡◌, ℕ, ◌^◌, ◌<◌, ◌≤◌, true, ltb, eqb, ◌&&◌, List, [], ◌∷◌, length, get_or, Some, None, Result, Ok, Err, refl, ap, arith, inl, inr, rules}
-use Rattle.std.specs.Str.{IsUtf8}
+use Rattle.uring_text.proofs.Common.{IsUtf8, and_parts, cases_Bool, cases_lt, eqb-true, file_of, is_numeral, le-ltb, list_all, lt-ltb, ltb-true, ne_eqb, nil_from_length, number_of, option_map, pos, same_Some}
 use Rattle.std.specs.Char.{is_ascii_digit}
-use Rattle.std.specs.List.{list_all}
 use Rattle.std.specs.Str.Parse.{digits_value, ParsesUnsigned}
 use Rattle.std.specs.Result.{OkIff, result_ok}
-use Rattle.std.proofs.lemmas.Bool.{and_parts, ltb-true, lt-ltb, le-ltb, cases_Bool, cases_lt, eqb-true, ne_eqb}
 use Rattle.std.proofs.lemmas.Fmt.{IsAscii-from_digits}
 use Rattle.std.proofs.lemmas.Str.{IsUtf8-from_ascii}
 use Rattle.std.proofs.lemmas.Str.Parse.{IsNumeralModel, numerals_by_value, parse_digits}
-use Rattle.std.specs.Option.{option_map}
-use Rattle.std.specs.Prelude.{pos}
-use Rattle.uring_text.specs.Reading.{is_numeral, number_of, file_of}
-use Rattle.std.proofs.lemmas.List.{nil_from_length}
-use Rattle.std.proofs.lemmas.Option.{same_Some}
 use Rattle.uring_text.proofs.Options.{test_some, chosen, some}
 
 pub own : IsNumeralModel (λ ds. list_all is_ascii_digit ds ≡ true) (digits_value 10)

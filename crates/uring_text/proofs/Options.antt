@@ -1,12 +1,6 @@
 -- Steps that may give nothing.
 use Rattle.std.proofs.Common.{◌≡◌, ℕ, Bool, true, false, cond, List, Option, Some, None, refl, ◌⊎◌, inl, inr}
-use Rattle.std.specs.Prelude.{codes}
-use Rattle.std.specs.Option.{option_map}
-use Rattle.std.specs.Str.{bytes_eq}
-use Rattle.std.proofs.lemmas.Bool.{cases_Bool}
-use Rattle.std.proofs.lemmas.Option.{same_Some}
-use Rattle.std.proofs.lemmas.Slice.Eq.{bytes_eq-Decides}
-use Rattle.uring_text.specs.Reading.{◌>>=◌}
+use Rattle.uring_text.proofs.Common.{bytes_eq, bytes_eq-Decides, cases_Bool, codes, option_map, same_Some, ◌>>=◌}
 
 -- the value of a step that gave something
 pub bind_some : {A B : Type 0} (o : Option A) (f : A → Option B) (y : B) → (o >>= f) ≡ Some y

@@ -1,10 +1,7 @@
 -- The bytes that the tokens of a form say: of a write up to 64, of all of an entry 128.
 use Rattle.std.proofs.Common.{◌≡◌, ◌≤◌, ℕ, List, [], ◌∷◌, Some, sym, ap, subst, ◌∙◌, arith}
-use Rattle.uring_text.specs.Spelling.{AreBytes}
-use Rattle.uring_text.specs.Forms.{Parts, kinds_of, SayParts}
-use Rattle.uring_text.specs.declared.forms.Name.{Name}
+use Rattle.uring_text.proofs.Common.{AreBytes, Fits, Name, Parts, SayParts, kinds_of, parts_of}
 use Rattle.uring_text.specs.declared.forms.Name.TheVariants as name
-use Rattle.uring_text.specs.Reading.{parts_of, Fits}
 use Rattle.uring_text.proofs.FormLaws.{parts_found}
 
 abbrev bytes_in : Parts → List ℕ

@@ -1,11 +1,6 @@
 -- What is read of tokens is the entry or the number that they spell.
 use Rattle.std.proofs.Common.{◌≡◌, ℕ, ◌^◌, ◌≤◌, List, Option, Some, None, refl, sym, ap, subst, ◌∙◌}
-use Rattle.std.specs.Prelude.{MatchOption}
-use Rattle.std.proofs.lemmas.Option.{same_Some}
-use Rattle.uring_entry.specs.Layout.{Sqe}
-use Rattle.uring_text.specs.Spelling.{SpellsNumber, IsNoNumber}
-use Rattle.uring_text.specs.Forms.{Form, IsEntryOf, SpellsEntry, IsNoEntry}
-use Rattle.uring_text.specs.Reading.{ReadsEntry, number_of, form_of}
+use Rattle.uring_text.proofs.Common.{Form, IsEntryOf, IsNoEntry, IsNoNumber, MatchOption, ReadsEntry, SpellsEntry, SpellsNumber, Sqe, form_of, number_of, same_Some}
 use Rattle.uring_text.proofs.NumberLaws.{number_found, number_again}
 use Rattle.uring_text.proofs.FormLaws.{form_found, form_again}
 use Rattle.uring_text.proofs.EntryLaws.{entry_once}

@@ -1,7 +1,6 @@
 -- The lines of bytes as bytes come in.
 use Rattle.std.proofs.Common.{◌≡◌, ◌≢◌, ℕ, List, [], ◌∷◌, ◌++◌, refl, sym, ap, ◌∙◌, append_assoc}
-use Rattle.std.specs.List.{AllByRecursion}
-use Rattle.std.proofs.lemmas.List.{append-nil}
+use Rattle.uring_text.proofs.Common.{AllByRecursion, append-nil}
 use Rattle.uring_text.specs.Lines.{IsUnbroken, Splits, with_last, joined}
 
 unbroken_more : (line : List ℕ) (b : ℕ) → b ≢ 10 → IsUnbroken line → IsUnbroken (line ++ b ∷ [])

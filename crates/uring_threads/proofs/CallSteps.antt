@@ -1,22 +1,9 @@
 -- How the steps of a submission call are answered, and what they make: from the laws of the call of the positions that wait.
 use Rattle.std.proofs.Common.{◌≡◌, ℕ, zero, suc, ◌+◌, ◌-◌, ◌<◌, ◌≤◌, false, true, Bool, List, [], ◌∷◌, length, drop, get_or, Some, None, if◌then◌else◌, refl, sym, subst, ap, ◌∙◌, inl, inr, arith}
-use Rattle.std.proofs.Math.ListN.{drop_of_length-le}
-use Rattle.std.proofs.lemmas.List.{drop_more}
-use Rattle.std.proofs.lemmas.List.Sums.{sum_by_push}
+use Rattle.uring_threads.proofs.Common.{Answer, Appends, CalledForApart, Grows, IsFirst, Kept, Place, Setup, Stands, Submission, World, after_call, beginning, call_closes, call_opens, calls_after, calls_counted, calls_left, drop_more, drop_of_length-le, ends_after, ends_of, happens, in_call, is_spent, none_counted, now, place_answer, position_taken, sum_by_push, taken}
 use Rattle.std.proofs.lemmas.Option.{slice_get-get_or}
-use Rattle.uring_core.specs.World.{World, happens, beginning}
-use Rattle.uring_core.specs.StepAnswers.{CalledForApart, is_spent, place_answer}
-use Rattle.uring_entry.specs.Setup.{Setup}
-use Rattle.uring_entry.specs.Submission.{Submission, Place, taken}
-use Rattle.uring_laws.specs.Standing.{Stands, in_call, after_call, ends_after}
-use Rattle.uring_laws.proofs.Standing.{call_opens, call_closes, position_taken}
 use Rattle.uring_core.specs.declared.step.Step.TheVariants as step
-use Rattle.uring_core.specs.declared.answer.Answer.{Answer}
 use Rattle.uring_core.specs.declared.answer.Answer.TheVariants as answer
-use Rattle.uring_threads.specs.Calls.{calls_after, calls_left, ends_of}
-use Rattle.uring_threads.specs.Kept.{Kept, now, Grows}
-use Rattle.uring_threads.specs.Taking.{IsFirst}
-use Rattle.uring_threads.specs.Tallies.{Appends, none_counted, calls_counted}
 use Rattle.uring_threads.specs.declared.calls.CallMade.TheVariants as made
 use Rattle.uring_threads.proofs.TraceSteps.{grown, appends_one, appends_then}
 

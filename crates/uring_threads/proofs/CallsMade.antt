@@ -1,32 +1,13 @@
 -- What calls that are made one after the other leave: which are left, how the ring stands, what they append, and which rows of steps they are.
 use Rattle.std.proofs.Common.{◌≡◌, ℕ, zero, suc, ◌+◌, ◌-◌, ◌≤◌, Bool, true, false, not, ◌&&◌, List, [], ◌∷◌, ◌++◌, length, map, drop, sum, Some, None, is_some, if◌then◌else◌, nat_lt, nat_le, refl, sym, subst, ap, ap₂, ◌∙◌, inl, inr, arith, append_assoc, append-nil, length-drop, ◌<◌}
-use Rattle.std.proofs.Math.ListN.{drop_of_length-le}
+use Rattle.uring_threads.proofs.Common.{Appends, AreBegun, AreTaken, HasBegun, HaveMade, Intake, IsFirst, IsUnmoved, Item, Kept, Published, Records, Setup, Sqe, Stands, Step, Submission, World, after_call, after_calls, all_published_as, bad_word, call_row, calls_after, calls_counted, calls_left, calls_of, calls_row, cases_Bool, drop_of_length-le, ends_after, ends_after_item, ends_of, is_spent, items_fresh, items_keep, items_row, le-leb, length-map, lt-leb, lt-ltb, ltb-false, ltb-true, now, refused_row, steps_of, sum_by-cons, taken, with_entry, with_item, with_items, with_items_published, with_published, words_of}
+use Rattle.uring_entry.specs.Submission.{place_of}
 use Rattle.std.proofs.Math.Seq.{drop-append_seam}
-use Rattle.std.proofs.lemmas.Bool.{cases_Bool, lt-ltb, lt-leb, le-leb, ltb-true, ltb-false}
-use Rattle.std.proofs.lemmas.List.{length-map}
-use Rattle.std.proofs.lemmas.List.Sums.{sum_by-cons}
-use Rattle.uring_entry.specs.Setup.{Setup}
-use Rattle.uring_entry.specs.Layout.{Sqe}
-use Rattle.uring_entry.specs.Submission.{Submission, Published, with_entry, bad_word, place_of, taken, with_published}
 use Rattle.uring_core.specs.Stops.{stops_at_word}
-use Rattle.uring_core.specs.World.{World}
-use Rattle.uring_laws.specs.Standing.{Stands, after_call, ends_after, with_item, with_items}
-use Rattle.uring_laws.proofs.Standing.{words_of, items_fresh, items_keep}
-use Rattle.uring_ports.specs.Items.{all_published_as}
-use Rattle.uring_ports.specs.declared.item.Item.{Item}
 use Rattle.uring_ports.specs.declared.item.Item.TheVariants as item
-use Rattle.uring_threads.specs.Calls.{calls_after, calls_of, calls_left, ends_after_item, ends_of, after_calls, AreBegun, calls_row, refused_row}
-use Rattle.uring_threads.specs.Kept.{Kept, now, IsUnmoved}
-use Rattle.uring_threads.specs.Taking.{HaveMade, IsFirst, HasBegun}
-use Rattle.uring_threads.specs.Tallies.{calls_counted, Appends}
 use Rattle.uring_threads.specs.declared.calls.CallMade.TheVariants as made
 use Rattle.uring_threads.proofs.TraceSteps.{appends_none, appends_then, still, unmoved_now}
-use Rattle.uring_core.specs.StepAnswers.{is_spent}
-use Rattle.uring_core.specs.declared.step.Step.{Step}
 use Rattle.uring_core.specs.declared.step.Step.TheVariants as step
-use Rattle.uring_threads.specs.EventRows.{Records, AreTaken, call_row, items_row, steps_of}
-use Rattle.uring_threads.specs.Rows.{with_items_published}
-use Rattle.uring_threads.specs.declared.intake.Intake.{Intake}
 use Rattle.uring_threads.specs.declared.intake.Intake.TheVariants as intake
 use Rattle.uring_threads.proofs.Recording.{call_more, call_refused, records_none, records_then}
 

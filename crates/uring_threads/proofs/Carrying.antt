@@ -1,38 +1,13 @@
 -- What the lanes of the workers have carried, as the trace goes on; a lane for jobs that shows no room has carried as many as it holds, so as many requests were started.
 use Rattle.std.proofs.Common.{◌≡◌, ◌≢◌, ℕ, ◌<◌, ◌==◌, cond, List, [], ◌∷◌, ◌++◌, length, get_or, count_by, Option, Some, None, ℤ, refl, sym, subst, ap, ap₂, ◌∙◌, inl, inr, arith, ◌+◌, ◌≤◌}
-use Rattle.std.specs.List.{filter}
-use Rattle.std.proofs.lemmas.Bool.{cases_eq}
-use Rattle.std.proofs.lemmas.List.Sums.{sum_by-append, length-filter, count_by-le-length}
-use Rattle.uring_entry.specs.Setup.{Setup}
-use Rattle.uring_entry.specs.Requests.{no_bytes}
-use Rattle.uring_entry.specs.declared.operation.Op.{Op}
-use Rattle.uring_laws.specs.Finishes.{done_in, done_by}
-use Rattle.uring_core.specs.Histories.{Event, History, world, history_of}
-use Rattle.uring_core.specs.StepAnswers.{IsEnded}
-use Rattle.uring_core.specs.World.{World, issuing}
-use Rattle.uring_laws.specs.Direct.{with_told}
+use Rattle.uring_threads.proofs.Common.{Answer, Appends, AreTakenIn, Bool, Collects, Err, Event, Grows, HasCarried, HaveCarried, History, HoldJobs, IfOk, IsEnded, IsSent, Job, Kept, None, Ok, OnlyPosts, Op, OthersStay, Result, Setup, SomeIsFull, Tally, WorkLanes, World, cases_eq, count_by-le-length, done_by, done_by_worker, done_in, filter, history, history_of, history_of_cons, issues_request, issuing, job_by, job_in, jobs_at, jobs_in, jobs_sent, jobs_to, length-append, length-filter, length-set, next_in, no_bytes, now, place_of, results_of, results_received, set, starts_request, sum_by-append, takes_result, with_told, world, ◌⊎◌}
 use Rattle.uring_core.specs.declared.step.Step.TheVariants as step
-use Rattle.uring_core.specs.declared.answer.Answer.{Answer}
 use Rattle.uring_core.specs.declared.answer.Answer.TheVariants as answer
-use Rattle.uring_core.proofs.Following.{history_of_cons}
-use Rattle.uring_workers.specs.declared.job.Job.{Job}
-use Rattle.uring_workers.specs.declared.work_lanes.WorkLanes.{WorkLanes}
-use Rattle.uring_threads.specs.Collected.{Collects, OthersStay}
-use Rattle.std.proofs.Math.ListN.{set}
-use Rattle.std.proofs.lemmas.List.{length-set, length-append}
-use Rattle.uring_threads.specs.Dispatched.{HasCarried, HaveCarried, AreTakenIn}
-use Rattle.uring_workers.specs.WorkLanes.{IsSent, jobs_sent, results_received, HoldJobs, SomeIsFull}
 use Rattle.uring_threads.specs.Issued.{IssuedAs}
-use Rattle.uring_threads.specs.Delivered.{OnlyPosts}
 use Rattle.uring_threads.proofs.Posting.{end_posts, accepted_issued}
 use Rattle.uring_threads.proofs.TraceSteps.{grown, grown_history, longer_history}
-use Rattle.uring_threads.specs.Kept.{Kept, now, Grows, history, next_in}
-use Rattle.uring_threads.specs.Tallies.{Tally, Appends, issues_request, takes_result, starts_request}
-use Rattle.uring_workers.specs.Work.{place_of, results_of}
-use Rattle.uring_threads.specs.Dealt.{job_by, jobs_in, jobs_at, jobs_to, done_by_worker, job_in}
 use Rattle.uring_threads.proofs.Sent.{one_more_at, none_more_at}
 use Rattle.uring_threads.proofs.SameLanes.{set_cases}
-use Rattle.std.specs.Prelude.{◌⊎◌, None, Result, Ok, Err, IfOk, Bool}
 use Rattle.uring_workers.proofs.LaneFacts.{lane_full}
 use Rattle.uring_threads.proofs.Times.{times, times_append, times_counts}
 

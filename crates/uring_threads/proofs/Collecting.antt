@@ -1,40 +1,17 @@
 -- What is sent and taken in, as a result is taken in: the operation is the last of its worker's, and all else stays; and how many results of each worker a turn takes in.
 use Rattle.std.proofs.Common.{◌≡◌, ℕ, ◌+◌, ◌<◌, arith, Bool, true, false, List, [], ◌∷◌, length, if◌then◌else◌, refl, sym, subst, ap, ap₂, ◌∙◌, inl, inr, ◌*◌, ◌≤◌, get_or}
-use Rattle.std.specs.Prelude.{slice_index_or, Result, Ok, Err, OnErr}
+use Rattle.uring_threads.proofs.Common.{Answer, Appends, AreSameLanes, AreTakenIn, CanBeTaken, Collects, CollectsNext, CollectsSeen, Done, Err, Grows, HaveCarried, IsLawfulApart, IsTakenIn, IsUnmoved, IsWork, JobResult, Kept, NextStays, NoneComes, Ok, OnErr, OnlyPosts, OnlyReceives, OthersStay, Repeats, Result, Setup, TakesFewResults, TakesSeen, Tally, Wait, WorkLanes, World, both_ways, cases_eq, cases_lt, done_by_worker, done_in, entry_of, finish_of, finishes_counted, history, is_running, jobs_to, length_push, most_results, now, operation_of, place_of, results_received, results_seen, results_taken_in, set, slice_index_or, with_ended}
 use mathlib.Core.List.{IsPrefix}
-use Rattle.std.proofs.lemmas.Bool.{both_ways, cases_eq, cases_lt}
-use Rattle.std.proofs.lemmas.List.{length_push}
-use Rattle.uring_entry.specs.Preparation.{operation_of}
-use Rattle.uring_entry.specs.Requests.{entry_of, is_running, with_ended}
-use Rattle.uring_entry.specs.Setup.{Setup}
 use Rattle.uring_entry.proofs.RequestLemmas.{is_running_ended_same, is_running_ended_other}
 use Rattle.uring_core.specs.Core.{IsFinished}
-use Rattle.uring_core.specs.World.{World}
-use Rattle.uring_files.specs.Done.{Done}
-use Rattle.uring_laws.specs.Finishes.{done_in}
-use Rattle.uring_core.specs.Histories.{IsLawfulApart}
 use Rattle.uring_core.specs.declared.step.Step.TheVariants as step
-use Rattle.uring_core.specs.declared.answer.Answer.{Answer}
 use Rattle.uring_core.specs.declared.answer.Answer.TheVariants as answer
-use Rattle.uring_workers.specs.declared.job.JobResult.{JobResult}
-use Rattle.uring_threads.specs.Collected.{CanBeTaken, OthersStay, Collects, CollectsNext, CollectsSeen, NextStays, NoneComes, Wait, TakesSeen}
-use Rattle.uring_threads.specs.Delivered.{OnlyPosts}
-use Rattle.uring_threads.specs.Kept.{Kept, now, Grows, IsUnmoved, history}
-use Rattle.uring_threads.specs.Settled.{IsWork, IsTakenIn, finish_of}
-use Rattle.uring_workers.specs.Work.{place_of}
-use Rattle.uring_threads.specs.Dealt.{jobs_to, done_by_worker}
-use Rattle.uring_threads.specs.Tallies.{finishes_counted, results_taken_in, Tally, Appends, TakesFewResults, most_results}
 use Rattle.uring_threads.proofs.Sent.{one_more_at, none_more_at}
 use Rattle.uring_threads.proofs.Posting.{end_posts}
 use Rattle.uring_threads.proofs.Recording.{records_one}
 use Rattle.uring_threads.proofs.Repeating.{repeats_none, repeats_then}
 use Rattle.uring_threads.proofs.Settling.{results_run}
 use Rattle.uring_threads.proofs.TraceSteps.{grown, grown_history, appends_one, unmoved_is, still}
-use Rattle.std.proofs.Math.ListN.{set}
-use Rattle.uring_workers.specs.WorkLanes.{AreSameLanes, OnlyReceives, results_received, results_seen}
-use Rattle.uring_threads.specs.Dispatched.{AreTakenIn, HaveCarried}
-use Rattle.uring_threads.specs.EventRows.{Repeats}
-use Rattle.uring_workers.specs.declared.work_lanes.WorkLanes.{WorkLanes}
 use Rattle.uring_threads.proofs.Carrying.{carried_set, done_stays}
 use Rattle.uring_threads.proofs.SameLanes.{lanes_none, lanes_then, lanes_set, set_cases}
 

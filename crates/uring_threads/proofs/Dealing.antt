@@ -1,16 +1,10 @@
 -- The laws of `workers_join`: work is dealt out by files, and joined by the laws of uring_laws on places.
 use Rattle.std.proofs.Common.{◌≡◌, ℕ, ◌<◌, ◌%◌, ℤ, pos, negsuc, Bool, true, false, cond, nat_lt, Option, Some, None, sym, ◌∙◌, ap, arith}
-use Rattle.std.specs.Option.{option_map_or}
+use Rattle.uring_threads.proofs.Common.{DealtByFile, FilesByWorker, IsDealtByFile, Op, Setup, WorkersJoin, file_asked, option_map_or, place_of, place_of_file, true≢false}
 use Rattle.std.specs.Ordering.{int_eq}
-use Rattle.std.proofs.lemmas.Bool.{true≢false}
 use Rattle.std.proofs.lemmas.Bool.Decides.{Decides-int_eq}
-use Rattle.uring_entry.specs.Setup.{Setup}
-use Rattle.uring_entry.specs.declared.operation.Op.{Op}
-use Rattle.uring_files.specs.Operations.{file_asked}
 use Rattle.uring_files.specs.Laws.{is_on}
 use Rattle.uring_laws.proofs.FileLaws.{places_join, files_by_place}
-use Rattle.uring_workers.specs.Work.{place_of_file, place_of}
-use Rattle.uring_threads.specs.Dealt.{IsDealtByFile, DealtByFile, WorkersJoin, FilesByWorker}
 
 -- what is on a file is its worker's
 on_asked : (workers files : ℕ) (fd : ℤ) (asked : Option ℤ) → option_map_or (int_eq fd) asked false ≡ true

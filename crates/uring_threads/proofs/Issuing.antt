@@ -1,28 +1,15 @@
 -- How the Issue of the next request is answered, and the loop of issues: lanes are looked at, and then a request is issued.
 use Rattle.std.proofs.Common.{◌≡◌, ℕ, Bool, true, List, Some, None, length, ℤ, refl, sym, subst, ap, ◌∙◌, cond, ◌+◌, ◌<◌, ◌≤◌, get_or, arith}
-use Rattle.uring_entry.specs.Preparation.{operation_of}
-use Rattle.uring_entry.specs.Requests.{entry_of, is_running, operation_running}
+use Rattle.uring_threads.proofs.Common.{Answer, AreSameLanes, CalledForApart, Grows, HasCarried, HaveCarried, IsEnded, IsIssued, IsLookedAt, IsUnmoved, Kept, Repeats, Tally, WorkLanes, count_by-le-length, entry_of, is_issuable, is_running, issues_counted, issues_request, length-append, next_in, next_of, none_counted, now, operation_of, operation_running, requests_of, results_received}
 use Rattle.uring_linux.specs.LinuxRequests.{LinuxRequests}
-use Rattle.uring_rules.specs.Rules.{is_issuable, next_of}
-use Rattle.uring_core.specs.World.{requests_of}
 use Rattle.uring_entry.proofs.RequestLemmas.{is_running_started_same}
 use Rattle.uring_entry.proofs.BelowLemmas.{least_below_tells}
-use Rattle.uring_core.specs.StepAnswers.{CalledForApart, IsEnded, IsIssued}
 use Rattle.uring_core.proofs.Issuable.{issue_goes, issued_ends, issuable_outstanding}
 use Rattle.uring_core.proofs.SoundRequests.{outstanding_tells}
 use Rattle.uring_core.specs.declared.step.Step.TheVariants as step
-use Rattle.uring_core.specs.declared.answer.Answer.{Answer}
 use Rattle.uring_core.specs.declared.answer.Answer.TheVariants as answer
-use Rattle.uring_threads.specs.Kept.{Kept, Grows, now, next_in, IsUnmoved}
 use Rattle.uring_threads.proofs.TraceSteps.{grown, appends_none}
-use Rattle.std.proofs.lemmas.List.{length-append}
-use Rattle.std.proofs.lemmas.List.Sums.{count_by-le-length}
-use Rattle.uring_threads.specs.Dispatched.{HasCarried, HaveCarried}
-use Rattle.uring_threads.specs.EventRows.{Repeats}
-use Rattle.uring_workers.specs.WorkLanes.{AreSameLanes, IsLookedAt, results_received}
-use Rattle.uring_threads.specs.Tallies.{Tally, none_counted, issues_counted, issues_request}
 use Rattle.uring_workers.proofs.LaneFacts.{looked_results}
-use Rattle.uring_workers.specs.declared.work_lanes.WorkLanes.{WorkLanes}
 use Rattle.uring_threads.proofs.Carrying.{quiet_stays, carried_stays}
 use Rattle.uring_threads.proofs.SameLanes.{lanes_then}
 

@@ -1,16 +1,7 @@
 -- What a list of items makes of a ring that stands between calls: it stands after each of them, and after they are published.
 use Rattle.std.proofs.Common.{◌≡◌, ℕ, ◌+◌, ◌<◌, ◌≤◌, List, [], ◌∷◌, ◌++◌, length, take, get_or, refl, sym, subst, ap, ◌∙◌, arith}
-use Rattle.std.proofs.lemmas.List.{length-map, map-append, length_push, length-take-le, take_more}
-use Rattle.uring_entry.specs.Submission.{Submission, Published, with_entry, bad_word}
-use Rattle.uring_core.specs.World.{World, happens}
-use Rattle.uring_laws.specs.Standing.{Stands, with_item, with_items}
-use Rattle.uring_laws.proofs.Standing.{tail_publishes}
+use Rattle.uring_threads.proofs.Common.{Answer, Grows, Item, Kept, Published, Stands, Submission, World, all_published_as, bad_word, happens, length-map, length-take-le, length_push, map-append, now, on_submission, published_as, tail_publishes, take_more, with_entry, with_item, with_item_put, with_items, with_items_published, with_items_put}
 use Rattle.uring_core.specs.declared.step.Step.TheVariants as step
-use Rattle.uring_core.specs.declared.answer.Answer.{Answer}
-use Rattle.uring_ports.specs.Items.{published_as, all_published_as}
-use Rattle.uring_ports.specs.declared.item.Item.{Item}
-use Rattle.uring_threads.specs.Kept.{Kept, now, Grows}
-use Rattle.uring_threads.specs.Rows.{on_submission, with_item_put, with_items_put, with_items_published}
 use Rattle.uring_threads.proofs.TraceSteps.{grown}
 
 -- the ring stands after items are put, with a word staged for each

@@ -1,11 +1,6 @@
 -- What is kept stays in its place, so that events that were recorded stay as they are.
 use Rattle.std.proofs.Common.{◌≡◌, ℕ, zero, suc, ◌+◌, ◌<◌, ◌≤◌, List, [], ◌∷◌, ◌++◌, length, get_or, refl, sym, ap, subst, arith, ◌∙◌, length-append, inl, inr}
-use Rattle.std.proofs.lemmas.Bool.{cases_eq, eq-eqb, ne_eqb}
-use Rattle.std.proofs.lemmas.List.{map-append, length-map}
-use Rattle.std.specs.Prelude.{vec_capacity}
-use Rattle.std.specs.List.{AllByRecursion}
-use Rattle.uring_entry.specs.Layout.{Sqe}
-use Rattle.uring_core.specs.Histories.{Event}
+use Rattle.uring_threads.proofs.Common.{AllByRecursion, Event, Sqe, cases_eq, eq-eqb, length-map, map-append, ne_eqb, vec_capacity}
 use Rattle.uring_core.specs.declared.step.Step.TheVariants as step
 use Rattle.uring_core.specs.declared.answer.Answer.TheVariants as answer
 use Rattle.uring_threads.specs.declared.brief.Brief.{Brief}

@@ -1,4 +1,5 @@
 -- In the order in which they are best read.
+mod Common
 -- Events in few bytes:
 pub mod Keeping
 -- What steps of the trace make, one by one and so many times:

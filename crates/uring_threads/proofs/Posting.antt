@@ -1,17 +1,7 @@
 -- What ends of requests and a delivery leave of the rings: ends leave them as they were, but for what is posted.
 use Rattle.std.proofs.Common.{◌≡◌, ℕ, ℤ, Bool, true, false, List, if◌then◌else◌, refl, ◌∙◌, sym, subst, ap}
-use Rattle.uring_entry.specs.Setup.{Setup}
-use Rattle.uring_entry.specs.Requests.{Requests, entry_of}
-use Rattle.uring_entry.specs.Completions.{with_posted, completion_for, with_flushed, with_tail_loaded, with_head_stored}
-use Rattle.uring_rules.specs.Rules.{posts, with_issued_end}
-use Rattle.uring_core.specs.World.{World, with_end_of}
-use Rattle.uring_threads.specs.Delivered.{OnlyPosts, KeepsAllBut, on_completions, with_reaped_all}
-use Rattle.uring_entry.specs.Layout.{Cqe}
-use Rattle.uring_core.specs.declared.answer.Answer.{Answer}
+use Rattle.uring_threads.proofs.Common.{Answer, Appends, Cqe, Grows, IsDelivered, IsUnmoved, KeepsAllBut, Kept, OnlyPosts, Requests, Setup, World, completion_for, entry_of, none_counted, now, on_completions, posts, reaps_counted, with_end_of, with_flushed, with_head_stored, with_issued_end, with_posted, with_reaped_all, with_tail_loaded}
 use Rattle.uring_core.specs.declared.step.Step.TheVariants as step
-use Rattle.uring_threads.specs.Kept.{Kept, now, Grows, IsUnmoved}
-use Rattle.uring_threads.specs.Tallies.{Appends, none_counted, reaps_counted}
-use Rattle.uring_threads.specs.Turns.{IsDelivered}
 use Rattle.uring_threads.proofs.TraceSteps.{grown, unmoved_now, appends_one, appends_then, appends_after, both_none, none_both}
 
 pub end_posts : (g : Setup) (w : World) (n : ℕ) (res : ℤ) (bytes : List ℕ)

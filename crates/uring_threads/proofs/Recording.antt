@@ -1,25 +1,11 @@
 -- What each event adds to the steps of the trace, and how rows of steps add up.
 use Rattle.std.proofs.Common.{◌≡◌, ℕ, ◌+◌, ◌<◌, List, [], ◌∷◌, ◌++◌, map, take, length, inl, get_or, replicate, sum, zero, suc, refl, sym, subst, ap, ap₂, ◌∙◌, arith, append_assoc, append-nil}
-use Rattle.std.specs.Prelude.{Result, IfOk}
-use Rattle.std.proofs.lemmas.List.{map-append, replicate_more, take_more, length-take-le}
-use Rattle.std.proofs.lemmas.List.Sums.{sum_by-cons, sum_by_push}
-use Rattle.uring_entry.specs.Setup.{Setup}
-use Rattle.uring_entry.specs.Submission.{Submission}
-use Rattle.uring_core.specs.declared.step.Step.{Step}
+use Rattle.uring_threads.proofs.Common.{Answer, AreOfTurn, Grows, IfOk, Intake, IsAgain, IsPulled, IsTaken, IsUnmoved, Item, Kept, Pulls, Put, Records, RecordsIntake, RecordsTurn, Repeats, Result, Setup, Step, Submission, Tally, Turn, call_row, calls_row, delivery_row, item_row, items_row, length-take-le, map-append, now, refused_row, replicate_more, step_of, steps_of, sum_by-cons, sum_by_push, take_more}
 use Rattle.uring_core.specs.declared.step.Step.TheVariants as step
-use Rattle.uring_core.specs.declared.answer.Answer.{Answer}
-use Rattle.uring_ports.specs.declared.item.Item.{Item}
 use Rattle.uring_ports.specs.declared.pulled.Pulled.{Pulled}
 use Rattle.uring_ports.specs.declared.pulled.Pulled.TheVariants as pulled
-use Rattle.uring_ports.specs.Ports.{Put, Pulls}
-use Rattle.uring_threads.specs.EventRows.{step_of, steps_of, Records, item_row, items_row, call_row, delivery_row, AreOfTurn, IsAgain, IsPulled, IsTaken, RecordsIntake, RecordsTurn, Repeats}
-use Rattle.uring_threads.specs.Calls.{calls_row, refused_row}
-use Rattle.uring_threads.specs.Kept.{Kept, now, Grows, IsUnmoved}
-use Rattle.uring_threads.specs.Tallies.{Tally}
 use Rattle.uring_threads.specs.declared.calls.CallMade.TheVariants as made
-use Rattle.uring_threads.specs.declared.intake.Intake.{Intake}
 use Rattle.uring_threads.specs.declared.intake.Intake.TheVariants as intake
-use Rattle.uring_threads.specs.declared.turns.Turn.{Turn}
 
 -- one event
 pub records_one : (a b : Kept) (s : Step) (x : Answer) → Grows a b (s, x) → Records a b (s ∷ [])

@@ -1,14 +1,7 @@
 -- One kind of step, so many times: results that are taken in, and requests that are issued.
 use Rattle.std.proofs.Common.{◌≡◌, ℕ, ◌+◌, Bool, true, false, not, cond, List, [], ◌∷◌, ◌++◌, map, length, count_by, suc, refl, sym, subst, ap, ◌∙◌, arith, append-nil}
-use Rattle.std.proofs.lemmas.List.{append_cancel_left, length-map, map-append, nil_from_length}
-use Rattle.std.proofs.lemmas.List.Sums.{sum_by-append}
-use Rattle.uring_core.specs.Histories.{Event}
-use Rattle.uring_core.specs.declared.step.Step.{Step}
+use Rattle.uring_threads.proofs.Common.{Event, IsUnmoved, Kept, OnlyPosts, Repeats, Step, Tally, append_cancel_left, both, finishes_counted, is_refused, issues_counted, issues_request, length-map, map-append, nil_from_length, none_counted, now, step_of, steps_of, sum_by-append, takes_result}
 use Rattle.uring_core.specs.declared.step.Step.TheVariants as step
-use Rattle.uring_threads.specs.Delivered.{OnlyPosts}
-use Rattle.uring_threads.specs.EventRows.{step_of, steps_of, Repeats}
-use Rattle.uring_threads.specs.Kept.{Kept, now, IsUnmoved}
-use Rattle.uring_threads.specs.Tallies.{Tally, both, none_counted, finishes_counted, issues_counted, is_refused, issues_request, takes_result}
 use Rattle.uring_threads.proofs.Posting.{posts_none, posts_then}
 use Rattle.uring_threads.proofs.Recording.{records_none, records_then}
 use Rattle.uring_threads.proofs.TraceSteps.{appends_none, appends_then, both_none, unmoved_now}

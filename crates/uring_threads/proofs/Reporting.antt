@@ -1,47 +1,14 @@
 -- What is reported once all ends are settled, from what ties them to the trace.
 use Rattle.std.proofs.Common.{◌≡◌, ◌↔◌, ℕ, ℤ, zero, suc, ◌+◌, ◌<◌, ◌≤◌, ◌==◌, Bool, Some, true, false, List, [], ◌∷◌, ◌++◌, length, map, flat_map, take, drop, get_or, All, count_by, cond, if◌then◌else◌, refl, sym, subst, ap, ap₂, ◌∙◌, arith, inl, inr, append_assoc, append-nil, length-drop}
-use Rattle.std.specs.List.{list_any, slice_get}
+use Rattle.uring_threads.proofs.Common.{AreItems, AreSettled, AreTogether, BeginsCalls, ClosesOnlyAllTaken, Completions, Cqe, DeliversReaped, Event, FinishesAll, HasOneClose, HaveLooked, HaveSeenAll, Intake, IsItem, IsKernel, IsLawful, IsSameKernel, Item, Job, JobResult, Kept, Kernel, LeavesCompletions, LeavesItems, LeavesRunning, OnlyPosts, PublishesItems, Put, Report, Setup, Sizes, Stands, Submission, TakesAll, Tied, WorkLanes, Worker, World, all_published_as, all_untaken, all_waiting, calls_left, calls_of, closes_ring, completion_for, entry_of, finish_of, flat_map-append, has_job, history, history_of, history_of_snoc, is_running, is_shut, items_of_calls, job_of, jobs_of, left_by, length-append, length-map, list_any, map-append, now, or_cases, or_left, or_right, posts, published_as, published_items, sum_by-cons, take_all, take_more, taken, unreaped, untaken_at, waiting_in, with_end_of, with_posted, world}
+use Rattle.std.specs.List.{slice_get}
 use Rattle.std.proofs.Math.Seq.{drop-append_seam, take-append_seam}
-use Rattle.std.proofs.lemmas.Bool.{or_cases, or_left, or_right}
-use Rattle.std.proofs.lemmas.Grind.{flat_map-append}
-use Rattle.std.proofs.lemmas.List.{map-append, length-map, length-append, take_more, take_all}
-use Rattle.std.proofs.lemmas.List.Sums.{sum_by-cons}
 use Rattle.std.proofs.lemmas.Option.{slice_get_within, get_or_from_slice_get}
-use Rattle.uring_entry.specs.Completions.{Completions, unreaped, with_posted, completion_for}
-use Rattle.uring_rules.specs.Rules.{posts}
-use Rattle.uring_core.specs.CalledFor.{IsLawful}
 use Rattle.uring_laws.specs.Laws.{ReapedBeginPosted, in_ring, in_overflow}
-use Rattle.uring_ports.specs.Items.{all_published_as, published_as, AreItems}
 use Rattle.uring_ports.specs.AppEnd.{AppEnd}
-use Rattle.uring_ports.specs.Ports.{Put, Sizes, items_of_calls, LeavesItems, LeavesCompletions}
-use Rattle.uring_ports.specs.declared.item.Item.{Item}
-use Rattle.uring_threads.specs.Collected.{TakesAll}
 use Rattle.std.proofs.lemmas.List.Folds.{list_any-append}
-use Rattle.uring_entry.specs.Layout.{Cqe}
-use Rattle.uring_entry.specs.Requests.{entry_of, is_running}
-use Rattle.uring_entry.specs.Setup.{Setup}
-use Rattle.uring_entry.specs.Submission.{Submission, taken, published_items, IsItem}
-use Rattle.uring_core.specs.Histories.{Event, world, history_of}
-use Rattle.uring_core.specs.World.{World, with_end_of}
-use Rattle.uring_core.proofs.Following.{history_of_snoc}
-use Rattle.uring_laws.specs.Standing.{Stands}
 use mathlib.Core.List.{IsPrefix}
-use Rattle.uring_threads.specs.Calls.{calls_of, calls_left}
-use Rattle.uring_threads.specs.Delivered.{OnlyPosts}
-use Rattle.uring_threads.specs.Turns.{Tied, waiting_in, is_shut}
-use Rattle.uring_threads.specs.Kernel.{Kernel, IsKernel}
-use Rattle.uring_threads.specs.Kept.{Kept, now, history}
-use Rattle.uring_threads.specs.Report.{Report, AreTogether, IsSameKernel, left_by, FinishesAll, LeavesRunning, PublishesItems, BeginsCalls, HasOneClose, ClosesOnlyAllTaken, DeliversReaped, untaken_at, all_untaken, has_job, all_waiting}
-use Rattle.uring_threads.specs.Settled.{finish_of}
-use Rattle.uring_threads.specs.SettledWorker.{AreSettled, HaveLooked, HaveSeenAll}
-use Rattle.uring_threads.specs.Tallies.{closes_ring}
-use Rattle.uring_workers.specs.Work.{jobs_of, job_of}
-use Rattle.uring_workers.specs.Worker.{Worker}
-use Rattle.uring_threads.specs.declared.intake.Intake.{Intake}
 use Rattle.uring_threads.specs.declared.intake.Intake.TheVariants as intake
-use Rattle.uring_workers.specs.declared.job.Job.{Job}
-use Rattle.uring_workers.specs.declared.job.JobResult.{JobResult}
-use Rattle.uring_workers.specs.declared.work_lanes.WorkLanes.{WorkLanes}
 use Rattle.uring_threads.proofs.CallsMade.{none_left}
 use Rattle.uring_threads.proofs.Tying.{closes_append, all_first}
 use Rattle.uring_threads.proofs.Posting.{posts_none, posts_then, end_posts}

@@ -1,26 +1,11 @@
 -- Lanes and workers by their numbers: whoever has the same numbers is the other end.
 use Rattle.std.proofs.Common.{◌≡◌, ℕ, suc, ◌<◌, ◌≤◌, List, [], ◌∷◌, length, map, get_or, refl, sym, subst, ap, ap₂, ◌∙◌, arith}
-use Rattle.std.specs.Prelude.{slice_set}
-use Rattle.std.proofs.lemmas.List.{get_or-map, length-map, length-set, get_or_default}
+use Rattle.uring_threads.proofs.Common.{AreSameLanes, AreTogether, Cqe, Event, HaveCarried, HaveCarriedNone, HaveFiles, HaveLooked, HoldJobs, HoldResults, Intake, IsKernel, IsSameKernel, Kept, Kernel, Put, Setup, Sizes, WorkLanes, Worker, calls_after, get_or-map, get_or_default, length-map, length-set, nothing_put, numbers_of_lanes, sizes_of, slice_set}
 use Rattle.uring_ports.specs.AppEnd.{AppEnd}
-use Rattle.uring_entry.specs.Layout.{Cqe}
-use Rattle.uring_entry.specs.Setup.{Setup}
-use Rattle.uring_core.specs.Histories.{Event}
-use Rattle.uring_ports.specs.Ports.{Put, Sizes, nothing_put, sizes_of}
-use Rattle.uring_threads.specs.Calls.{calls_after}
 use Rattle.uring_threads.specs.Opening.{kernel_at_first}
-use Rattle.uring_threads.specs.declared.intake.Intake.{Intake}
 use Rattle.uring_threads.specs.declared.intake.Intake.TheVariants as intake
-use Rattle.uring_workers.specs.WorkLanes.{AreSameLanes, HaveCarriedNone, HoldJobs, HoldResults, numbers_of_lanes}
-use Rattle.uring_threads.specs.Dispatched.{HaveCarried}
-use Rattle.uring_threads.specs.Kept.{Kept}
-use Rattle.uring_threads.specs.Kernel.{Kernel, IsKernel}
 use Rattle.uring_workers.specs.Pairings.{pairing_of}
-use Rattle.uring_threads.specs.Report.{AreTogether, IsSameKernel}
-use Rattle.uring_threads.specs.SettledWorker.{HaveFiles, HaveLooked}
 use Rattle.uring_workers.specs.Opened.{AreLanesOf}
-use Rattle.uring_workers.specs.Worker.{Worker}
-use Rattle.uring_workers.specs.declared.work_lanes.WorkLanes.{WorkLanes}
 use Rattle.uring_workers.proofs.Working.{same_ring}
 use Rattle.uring_threads.proofs.SameLanes.{set_cases}
 

@@ -2,40 +2,19 @@
 -- And of what is left at a place: of the jobs sent to it, those after the operations that were carried out are of the requests that run.
 -- By `Moves` and induction over the history, and by counting how often a number stands among what was sent, carried out and started.
 use Rattle.std.proofs.Common.{◌≡◌, ℕ, ◌<◌, ◌≤◌, ◌==◌, ℤ, List, [], ◌∷◌, ◌++◌, length, map, Bool, true, false, not, cond, None, if◌then◌else◌, refl, sym, subst, ◌∙◌, ap, arith, inl, inr, ◌≢◌, ◌+◌, ◌&&◌, append-nil}
-use Rattle.std.specs.Prelude.{slice_index_or}
-use Rattle.std.specs.List.{list_any, filter}
-use Rattle.std.specs.Option.{option_map}
-use Rattle.std.proofs.lemmas.Bool.{and_parts, both_ways, eqb-true, eq-eqb, or_left, or_right, cases_Bool, false_from_ne_true, not-true}
-use Rattle.std.proofs.lemmas.List.{map-append, length-append}
-use Rattle.uring_entry.specs.Setup.{Setup}
-use Rattle.uring_entry.specs.Layout.{Sqe, zero_entry}
-use Rattle.uring_entry.specs.Preparation.{operation_of, is_cancel}
-use Rattle.uring_entry.specs.Requests.{Requests, Ending, entry_of, has_started, has_ended, is_outstanding, is_running, no_bytes, with_call}
+use Rattle.uring_threads.proofs.Common.{Answer, CalledForApart, Done, Ending, History, IsLawfulApart, Job, Op, Requests, Setup, Sqe, Step, World, and_parts, both_ways, cancel_result, cases_Bool, done_at, done_by, done_in, doomed_result, entry_of, eq-eqb, eqb-true, false_from_ne_true, filter, has_ended, has_started, is_cancel, is_outstanding, is_running, issue_answer, job_in, jobs_at, jobs_in, jobs_of, length-append, list_any, map-append, may_start, no_bytes, not-true, operation_of, option_map, or_left, or_right, requests_of, slice_index_or, with_call, with_issued_end, with_told, world, zero_entry}
 use Rattle.uring_linux.specs.LinuxRequests.{LinuxRequests}
 use Rattle.uring_rules.specs.Rules as by_rules
-use Rattle.uring_rules.specs.Rules.{may_start, doomed_result, cancel_result, with_issued_end}
-use Rattle.uring_core.specs.World.{World, requests_of}
 use Rattle.uring_core.specs.Events.{started_by, end_told_by}
-use Rattle.uring_laws.specs.Direct.{with_told}
-use Rattle.uring_files.specs.Done.{Done}
-use Rattle.uring_laws.specs.Finishes.{done_by, done_in, done_at}
-use Rattle.uring_core.specs.Histories.{History, world, IsLawfulApart}
-use Rattle.uring_core.specs.StepAnswers.{CalledForApart, issue_answer}
-use Rattle.uring_core.specs.declared.step.Step.{Step}
 use Rattle.uring_core.specs.declared.step.Step.TheVariants as step
-use Rattle.uring_core.specs.declared.answer.Answer.{Answer}
 use Rattle.uring_core.specs.declared.answer.Answer.TheVariants as answer
 use Rattle.uring_core.proofs.ListCounts.{any_new}
 use Rattle.uring_core.proofs.Moves.{Move, stays, accepts, starts, ends_doomed, ends_cancel, ends_run, move_of}
 use Rattle.uring_core.proofs.Running.{entry_stays}
 use Rattle.uring_core.proofs.Sound.{sound_of}
 use Rattle.uring_core.proofs.SoundRequests.{IsSoundRequests, outstanding_tells, idle_tells}
-use Rattle.uring_workers.specs.declared.job.Job.{Job}
-use Rattle.uring_threads.specs.Dealt.{job_in, jobs_in, jobs_at}
 use Rattle.uring_threads.proofs.Times.{times, times_append, times_told, times_counts, times_some, times_any, none_passes}
 use Rattle.std.proofs.lemmas.List.Elements.{filter-append}
-use Rattle.uring_entry.specs.declared.operation.Op.{Op}
-use Rattle.uring_workers.specs.Work.{jobs_of}
 
 -- Jobs: one for each request that started.
 

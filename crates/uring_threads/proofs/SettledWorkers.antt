@@ -1,28 +1,10 @@
 -- Settling the workers: all results that wait at one are taken in, one after the other, and then those of the next, while the others' wait.
 use Rattle.std.proofs.Common.{◌≡◌, ℕ, ◌+◌, ◌<◌, ◌≤◌, List, [], ◌∷◌, ◌++◌, length, map, refl, sym, subst, ap, ◌∙◌, arith, append_assoc, append-nil, ap₂, ◌*◌, take, drop, get_or}
-use Rattle.std.proofs.lemmas.List.{length-append, length-map, map-append, nil_from_length, length-set, get_or-set_other, take_all, take_more, length-take-le, get_or_default}
-use Rattle.uring_workers.specs.declared.job.JobResult.{JobResult}
-use Rattle.uring_threads.specs.Collected.{TakesAll, Wait}
-use Rattle.uring_threads.specs.Kept.{Kept, Grows, history}
-use Rattle.uring_threads.specs.Settled.{finish_of, IsWork, with_taken_in, IsSettled}
-use Rattle.uring_entry.specs.Setup.{Setup}
-use Rattle.uring_files.specs.Done.{Done, AreDone}
-use Rattle.uring_core.specs.Histories.{History, IsLawfulApart}
-use Rattle.uring_workers.specs.declared.job.Job.{Job}
-use Rattle.uring_workers.specs.WorkLanes.{jobs_sent, results_received, results_held}
-use Rattle.uring_workers.specs.declared.work_lanes.WorkLanes.{WorkLanes}
-use Rattle.uring_threads.specs.Dispatched.{HasCarried, HaveCarried}
-use Rattle.uring_threads.specs.SettledWorker.{IsSettledAt, HaveSeenAll, settled_work, works_of}
-use Rattle.uring_threads.specs.Dealt.{jobs_to, done_by_worker}
-use Rattle.uring_workers.specs.Work.{jobs_of, results_of}
-use Rattle.uring_core.proofs.Following.{history_of_cons}
+use Rattle.uring_threads.proofs.Common.{AreDone, Done, Grows, HasCarried, HaveCarried, HaveSeenAll, History, IsLawfulApart, IsRight, IsSettled, IsSettledAt, IsWork, Job, JobResult, Kept, Looks, Setup, TakesAll, Wait, WorkLanes, Worker, all_waiting, done_by_worker, finish_of, get_or-set_other, get_or_default, history, history_of_cons, jobs_of, jobs_sent, jobs_to, length-append, length-map, length-set, length-take-le, map-append, nil_from_length, results_held, results_of, results_received, settled_work, slice_set, take_all, take_more, waiting_at, with_taken_in, works_of}
 use Rattle.uring_threads.proofs.Settling.{IsDrained, drain, none_waits, same_work}
 use Rattle.uring_threads.proofs.TraceSteps.{longer_history}
-use Rattle.std.specs.Prelude.{slice_set}
 use Rattle.uring_workers.specs.Opened.{AreLanesOf}
-use Rattle.uring_threads.specs.Report.{waiting_at, all_waiting}
 use Rattle.uring_workers.specs.Pairings.{pairing_of}
-use Rattle.uring_workers.specs.Worker.{Worker, IsRight, Looks}
 use Rattle.uring_files.specs.Contents.{empty_files}
 use Rattle.uring_threads.proofs.SameLanes.{set_cases}
 use Rattle.uring_threads.proofs.Carrying.{others_carried}

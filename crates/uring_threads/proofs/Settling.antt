@@ -1,26 +1,8 @@
 -- The laws of settling: a result that waits can be taken in, and once none waits the history is settled.
 -- From what is left at a place (`LeftAt`), worker by worker.
 use Rattle.std.proofs.Common.{◌≡◌, ◌≢◌, ℕ, zero, suc, ◌+◌, ◌<◌, ◌≤◌, ◌==◌, List, [], ◌∷◌, ◌++◌, map, drop, Bool, true, false, cond, refl, sym, subst, ◌∙◌, ap, arith, inl, inr, append_assoc, append-nil}
-use Rattle.std.specs.Prelude.{slice_index_or}
-use Rattle.std.proofs.lemmas.Bool.{eqb-true, eq-eqb, cases_eq}
-use Rattle.std.proofs.lemmas.List.{map-append}
-use Rattle.uring_entry.specs.Setup.{Setup}
-use Rattle.uring_entry.specs.Layout.{Sqe}
-use Rattle.uring_entry.specs.Preparation.{operation_of}
-use Rattle.uring_entry.specs.Requests.{Requests, entry_of}
-use Rattle.uring_entry.specs.declared.operation.Op.{Op}
-use Rattle.uring_files.specs.Operations.{file_of}
-use Rattle.uring_files.specs.Done.{Done, files_left, AreDone}
-use Rattle.uring_laws.specs.Finishes.{done_in, done_at, first_files}
-use Rattle.uring_core.specs.Histories.{History, world, IsLawfulApart, history_of}
-use Rattle.uring_core.specs.StepAnswers.{FinishesApart}
+use Rattle.uring_threads.proofs.Common.{AreDone, Done, FinishesApart, History, IsDealtByFile, IsLawfulApart, IsWork, Job, JobResult, NoneWaits, Op, Requests, ResultsRun, Settles, Setup, Sqe, Work, cases_eq, done_at, done_by_worker, done_in, entry_of, eq-eqb, eqb-true, file_of, files_left, finish_of, first_files, history_of, history_of_append, history_of_cons, job_in, job_of, jobs_at, jobs_of, jobs_to, map-append, operation_of, place_of, place_of_file, result_of, results_of, slice_index_or, waiting_of, with_taken_in, world}
 use Rattle.uring_core.specs.declared.answer.Answer.TheVariants as answer
-use Rattle.uring_core.proofs.Following.{history_of_cons, history_of_append}
-use Rattle.uring_workers.specs.declared.job.Job.{Job}
-use Rattle.uring_workers.specs.declared.job.JobResult.{JobResult}
-use Rattle.uring_workers.specs.Work.{place_of_file, place_of, jobs_of, results_of, result_of, job_of}
-use Rattle.uring_threads.specs.Dealt.{job_in, jobs_at, jobs_to, done_by_worker, IsDealtByFile}
-use Rattle.uring_threads.specs.Settled.{Work, IsWork, ResultsRun, NoneWaits, Settles, finish_of, with_taken_in, waiting_of}
 use Rattle.uring_threads.proofs.Dealing.{dealt_by_file, workers_join, files_by_worker, file_within}
 use Rattle.uring_threads.proofs.Sent.{op_at, left_own, left_runs, runs_left, one_more_at, none_more_at, jobs_are_starts, AreOf, done_is_of}
 use Rattle.uring_threads.proofs.Times.{times, times_append, times_some, times_any}

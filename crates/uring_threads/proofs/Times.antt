@@ -1,9 +1,6 @@
 -- How often a test passes in a list, counted by the list's form: in two lists together, and with one more element.
 use Rattle.std.proofs.Common.{◌≡◌, ℕ, ◌+◌, ◌≤◌, List, [], ◌∷◌, ◌++◌, Bool, true, false, cond, count_by, Option, Some, None, refl, arith, inl, inr}
-use Rattle.std.specs.List.{list_any}
-use Rattle.std.proofs.lemmas.Bool.{or_cases, or_left, or_right, or_parts, cases_Bool, cond-true, cond-false}
-use Rattle.std.proofs.lemmas.List.Sums.{sum_by-cons}
-use Rattle.uring_laws.specs.Direct.{with_told}
+use Rattle.uring_threads.proofs.Common.{cases_Bool, cond-false, cond-true, list_any, or_cases, or_left, or_parts, or_right, sum_by-cons, with_told}
 
 abbrev pub times : {X : Type 0} → (X → Bool) → List X → ℕ
 times p [] = 0

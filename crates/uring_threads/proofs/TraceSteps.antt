@@ -1,15 +1,6 @@
 -- What a step makes of the trace's world, and how tallies add up.
 use Rattle.std.proofs.Common.{◌≡◌, ◌+◌, List, [], ◌∷◌, ◌++◌, length, count_by, cond, refl, sym, ap, ap₂, ◌∙◌, arith, append_assoc, append-nil, add-zero, zero-add}
-use Rattle.std.proofs.lemmas.List.{length_push}
-use Rattle.std.proofs.lemmas.List.Sums.{sum_by-append}
-use Rattle.uring_entry.specs.Setup.{Setup}
-use Rattle.uring_core.specs.World.{happens}
-use Rattle.uring_core.specs.Histories.{Event, history_of, world}
-use Rattle.uring_core.proofs.Following.{history_of_append, history_of_snoc}
-use Rattle.uring_core.specs.declared.step.Step.{Step}
-use Rattle.uring_core.specs.declared.answer.Answer.{Answer}
-use Rattle.uring_threads.specs.Kept.{Kept, now, history, Grows, IsUnmoved}
-use Rattle.uring_threads.specs.Tallies.{Tally, tally_of, both, none_counted, Appends, stages_item, issues_request, takes_result, reaps_completion, begins_call, closes_ring, is_refused}
+use Rattle.uring_threads.proofs.Common.{Answer, Appends, Event, Grows, IsUnmoved, Kept, Setup, Step, Tally, begins_call, both, closes_ring, happens, history, history_of, history_of_append, history_of_snoc, is_refused, issues_request, length_push, none_counted, now, reaps_completion, stages_item, sum_by-append, takes_result, tally_of, world}
 
 -- the world after one event more
 pub grown : (a b : Kept) (s : Step) (x : Answer) → Grows a b (s, x)

@@ -1,33 +1,9 @@
 -- The parts of a turn put together: what went through the dispatcher's hands stays tied to its trace, and what they appended adds up.
 use Rattle.std.proofs.Common.{add-zero, zero-add, ◌≡◌, ℕ, List, [], ◌++◌, refl, sym, subst, ap, ◌∙◌, arith, false, true}
-use Rattle.std.specs.Prelude.{◌+◌, ◌-◌, ◌^◌, length, nat_lt, Result, Ok, IfOk, OnErr, IsErr, IsOk}
-use Rattle.std.proofs.lemmas.Bool.{false≢true}
-use Rattle.std.proofs.lemmas.Result.{IfOk-weaker, IfOk-from_err}
-use Rattle.uring_entry.specs.Requests.{Requests}
-use Rattle.uring_entry.specs.Setup.{Setup}
-use Rattle.uring_entry.specs.Layout.{Cqe, Sqe}
-use Rattle.uring_entry.specs.Submission.{Submission, published_items}
-use Rattle.uring_laws.specs.Standing.{Stands}
-use Rattle.uring_ports.specs.Ports.{Put, Sizes}
+use Rattle.uring_threads.proofs.Common.{Appends, AreOfTurn, AreSameLanes, AreTies, ClosesOnce, Counts, Cqe, HasServed, HaveCarried, IfOk, IfOk-from_err, IfOk-weaker, Intake, IsDelivered, IsErr, IsGivenUpAsSpent, IsKernel, IsOk, IsUnmoved, KeepsAllBut, Kept, Kernel, Ok, OnErr, OnlyPosts, Put, Records, RecordsIntake, RecordsTurn, Repeats, Requests, Result, Setup, Sizes, Sqe, Stands, Submission, TakesFewResults, TakesIn, Tally, Tied, Turn, Turns, WorkLanes, World, calls_left, delivery_row, false≢true, finishes_counted, issues_counted, length, nat_lt, next_in, next_of, now, published_items, reaps_counted, requests_of, waiting_in, ◌+◌, ◌-◌, ◌^◌}
 use Rattle.uring_linux.specs.Drains.{Drains}
-use Rattle.uring_rules.specs.Rules.{next_of}
-use Rattle.uring_core.specs.World.{World, requests_of}
 use Rattle.uring_core.specs.declared.step.Step.TheVariants as step
-use Rattle.uring_workers.specs.WorkLanes.{AreSameLanes}
-use Rattle.uring_workers.specs.declared.work_lanes.WorkLanes.{WorkLanes}
-use Rattle.uring_threads.specs.Calls.{calls_left}
-use Rattle.uring_threads.specs.Delivered.{KeepsAllBut, OnlyPosts}
-use Rattle.uring_threads.specs.Dispatched.{HaveCarried}
-use Rattle.uring_threads.specs.EventRows.{AreOfTurn, Records, RecordsIntake, RecordsTurn, Repeats, delivery_row}
-use Rattle.uring_threads.specs.Kept.{Kept, now, IsUnmoved, next_in}
-use Rattle.uring_threads.specs.Kernel.{Kernel, IsKernel}
-use Rattle.uring_threads.specs.Served.{HasServed, Turns}
-use Rattle.uring_threads.specs.Taking.{TakesIn}
-use Rattle.uring_threads.specs.Tallies.{Tally, Appends, TakesFewResults, issues_counted, finishes_counted, reaps_counted}
-use Rattle.uring_threads.specs.Turns.{AreTies, Counts, IsDelivered, IsGivenUpAsSpent, Tied, ClosesOnce, waiting_in}
-use Rattle.uring_threads.specs.declared.intake.Intake.{Intake}
 use Rattle.uring_threads.specs.declared.intake.Intake.TheVariants as intake
-use Rattle.uring_threads.specs.declared.turns.Turn.{Turn}
 use Rattle.uring_threads.proofs.Carrying.{quiet_stays, carried_stays, next_is_none}
 use Rattle.uring_threads.proofs.Tying.{once_stays}
 use Rattle.uring_threads.proofs.Collecting.{on_err, few_between}

@@ -1,35 +1,15 @@
 -- What ties the dispatcher's lists to its trace: what was pulled stays tied to the submission ring, and the trace has one Close once the close mark was pulled, and none before.
 use Rattle.std.proofs.Common.{◌≡◌, ℕ, ◌+◌, ◌<◌, ◌≤◌, true, false, List, [], ◌∷◌, ◌++◌, length, map, flat_map, refl, sym, subst, ap, ap₂, ◌∙◌, arith, append_assoc, append-nil, count_by, cond}
-use Rattle.std.proofs.lemmas.Grind.{flat_map-append}
-use Rattle.std.proofs.lemmas.List.{map-append, length-map, length-append, get_or_append_left}
-use Rattle.uring_entry.specs.Submission.{Submission, Place, Published, item_of, IsItem}
-use Rattle.uring_core.specs.World.{World, closing}
-use Rattle.uring_core.specs.StepAnswers.{close_answer, is_spent}
-use Rattle.uring_laws.specs.Standing.{Stands, with_items}
-use Rattle.uring_ports.specs.Items.{all_published_as, published_as}
-use Rattle.uring_ports.specs.Ports.{Put, items_of_calls, Pulls, with_call, with_close}
+use Rattle.uring_threads.proofs.Common.{All, Answer, Appends, ClosesOnce, Event, Grows, HasBegun, HaveMade, Intake, IsGivenUpAsSpent, IsItem, IsUnmoved, Item, Kept, None, Place, Published, Pulls, Put, Setup, Stands, Submission, TakesIn, Tally, Tied, World, all_published_as, awaits_memory, calls_left, calls_of, close_answer, closes_ring, closing, flat_map-append, get_or_append_left, if◌then◌else◌, is_shut, is_some, is_spent, item_of, items_of_calls, items_published, length-append, length-map, map-append, now, published_as, sum_by-append, tail_publishes, with_close, with_items, with_items_published}
+use Rattle.uring_ports.specs.Ports.{with_call}
 use Rattle.uring_ports.specs.declared.pulled.Pulled.{Pulled}
-use Rattle.uring_ports.specs.declared.item.Item.{Item}
-use Rattle.uring_threads.specs.Calls.{calls_of, calls_left}
-use Rattle.uring_threads.specs.Taking.{HaveMade, HasBegun, TakesIn}
-use Rattle.uring_threads.specs.Turns.{Tied, IsGivenUpAsSpent, is_shut, ClosesOnce, awaits_memory}
 use Rattle.uring_threads.proofs.CallsMade.{items_keep_calls, none_left, published_left, calls_add_up, kept_after}
-use Rattle.uring_entry.specs.Setup.{Setup}
 use Rattle.uring_core.specs.declared.step.Step.TheVariants as step
-use Rattle.uring_core.specs.declared.answer.Answer.{Answer}
 use Rattle.uring_core.specs.declared.answer.Answer.TheVariants as answer
-use Rattle.uring_threads.specs.Kept.{Kept, IsUnmoved, Grows, now}
-use Rattle.uring_threads.specs.Rows.{with_items_published}
-use Rattle.uring_threads.specs.Tallies.{Appends, Tally, closes_ring}
 use Rattle.uring_threads.proofs.ItemSteps.{items_stand}
 use Rattle.uring_threads.proofs.TraceSteps.{grown, unmoved_now, appends_none, appends_then}
-use Rattle.uring_laws.proofs.Standing.{items_published, tail_publishes}
-use Rattle.std.specs.Prelude.{All, None, is_some, if◌then◌else◌}
 use Rattle.std.proofs.lemmas.List.Elements.{All-tail}
-use Rattle.uring_threads.specs.declared.intake.Intake.{Intake}
 use Rattle.uring_threads.specs.declared.intake.Intake.TheVariants as intake
-use Rattle.std.proofs.lemmas.List.Sums.{sum_by-append}
-use Rattle.uring_core.specs.Histories.{Event}
 
 -- calls were begun that take what waited
 given_up : (w : World) (i : Intake) → ((count : ℕ) → i ≡ intake.Spent count → is_spent w count ≡ true)

@@ -1,17 +1,8 @@
 -- The file of a descriptor, of a history that workers have settled, is that of its worker.
 use Rattle.std.proofs.Common.{◌≡◌, ℕ, ◌<◌, ℤ, List, length, get_or, sym, subst, ap, ◌∙◌}
-use Rattle.std.specs.Prelude.{slice_get}
-use Rattle.std.specs.Option.{option_map, option_and_then}
-use Rattle.std.proofs.lemmas.List.{get_or_default}
+use Rattle.uring_threads.proofs.Common.{AreSettled, HaveFiles, IsRight, Kept, Worker, byte_of, file_of, files_left, files_of, get_or_default, now, option_and_then, option_map, place_of_file, slice_get, state_of}
 use Rattle.uring_files.specs.Contents.{FileContents, empty_files}
 use Rattle.uring_files.specs.Laws.{AgreeAt}
-use Rattle.uring_files.specs.Operations.{file_of, state_of, byte_of}
-use Rattle.uring_core.specs.CalledFor.{files_of}
-use Rattle.uring_files.specs.Done.{files_left}
-use Rattle.uring_threads.specs.Kept.{Kept, now}
-use Rattle.uring_threads.specs.SettledWorker.{AreSettled, HaveFiles}
-use Rattle.uring_workers.specs.Work.{place_of_file}
-use Rattle.uring_workers.specs.Worker.{Worker, IsRight}
 
 pub file_at : (kept : Kept) (files : ℕ) (workers : List Worker) (fd : ℤ) (place : ℕ) (d e : Worker)
     → kept.setup.files ≡ files → AreSettled kept workers

@@ -1,19 +1,13 @@
 -- The text of whom a cancel of all chooses.
 use Rattle.std.proofs.Common.{◌≡◌, ℕ, suc, ◌+◌, Bool, true, false, not, ◌&&◌, List, [], ◌∷◌, ◌++◌, Option, Some, None, refl, sym, ap, ◌∙◌, append_assoc, arith}
-use Rattle.std.specs.Prelude.{◌==◌, codes, length, nat_lt, option_map, if◌then◌else◌}
-use Rattle.std.proofs.lemmas.List.{append-nil}
-use Rattle.std.specs.Fmt.{decimal}
+use Rattle.uring_trace.proofs.Common.{Requests, Sqe, Why, addr_of, append-nil, chose_text, chosen_for, chosen_of, codes, decimal, entry_of, entry_outstanding, has_ended, if◌then◌else◌, is_doomed, is_open, is_outstanding, is_running, is_target, length, nat_lt, option_map, said, sought_by, spaced, targets_of, user_data_of, ◌==◌}
 use Rattle.uring_entry.specs.Below.{all_below}
-use Rattle.uring_entry.specs.Layout.{Sqe, addr_of, user_data_of}
 use Rattle.uring_entry.specs.Preparation.{is_cancel_all}
-use Rattle.uring_entry.specs.Requests.{Requests, entry_of, entry_outstanding, has_ended, is_doomed, is_outstanding, is_running, is_target, targets_of}
 use Rattle.uring_entry.specs.Why.{why_of, waiting_for, holder_of, doom_of}
 use Rattle.uring_linux.specs.LinuxRequests.{LinuxRequests}
 use Rattle.uring_rules.specs.Rules as rules
-use Rattle.uring_entry.specs.declared.why.Why.{Why}
 use Rattle.uring_entry.specs.declared.why.Why.TheVariants.{NeverAccepted, HasEnded, Runs, IsDoomed, Waits, MayStart}
 use Rattle.uring_entry.specs.declared.why.Doom.{Doom}
-use Rattle.uring_trace.specs.Chosen.{chose_text, chosen_for, chosen_of, is_open, said, sought_by, spaced}
 
 -- ---- numbers after spaces
 

@@ -1,33 +1,19 @@
 -- What an explainer keeps, byte by byte and line by line.
 use Rattle.std.proofs.Common.{◌≡◌, ◌≢◌, ℕ, ◌+◌, ◌-◌, ◌^◌, min, Bool, true, false, ◌||◌, List, [], ◌∷◌, ◌++◌, length, Option, Result, Ok, Err, refl, sym, ap, subst, ◌∙◌, append_assoc, arith}
-use Rattle.std.specs.Prelude.{IfOk}
+use Rattle.uring_trace.proofs.Common.{AppendsLine, Asked, Bad, Explaining, Explains, ExplainsBeginning, ExplainsEnded, ExplainsWholeBy, Fits, History, IfOk, IsBad, IsGrantedTo, IsStep, KeptLine, Machine, Made, Remark, Saying, Step, Telling, TellsShown, TellsStep, Why, after_text, append-nil, bad_note, codes, ended, event_in, events_in, history_of, is_bad, joined, kept_of, line_number, lines_in, noted_of, option_to_list, told_of, with_event, with_last, world}
 use Rattle.std.specs.List.{list_any}
-use Rattle.std.specs.Option.{option_to_list}
-use Rattle.std.proofs.lemmas.List.{append-nil}
 use Rattle.uring_entry.specs.Setup.{Setup}
 use Rattle.uring_core.specs.CalledFor.{IsLawful}
-use Rattle.uring_core.specs.Histories.{History, history_of, world}
-use Rattle.uring_machine.specs.Machine.{Machine, Fits}
 use Rattle.uring_machine.specs.Settling.{AreUnrefused}
 use Rattle.uring_core.specs.declared.answer.Answer.{Answer}
-use Rattle.uring_core.specs.declared.step.Step.{Step}
-use Rattle.uring_entry.specs.declared.why.Why.{Why}
 use Rattle.uring_dispatch.specs.declared.answers.Found.{Found}
-use Rattle.uring_trace.specs.Chosen.{after_text}
 use Rattle.uring_trace.specs.Reasons.{kept_reason, reason_text}
 use Rattle.uring_trace.specs.Text.{text_of}
 use Rattle.uring_trace.specs.declared.reason_text.Reason.{Reason}
-use Rattle.uring_trace.specs.Spelling.{IsStep, IsBad}
-use Rattle.uring_text.specs.Lines.{with_last, joined, ended}
-use Rattle.uring_text.specs.KeptLine.{KeptLine, kept_of}
 use Rattle.uring_text.specs.Remarks.{is_remark}
-use Rattle.uring_trace.specs.Sessions.{with_event}
-use Rattle.std.specs.Prelude.{codes}
 use Rattle.std.proofs.Math.Bool.{or-false, or-true, or_comm}
 use Rattle.uring_trace.specs.Questions.{IsQuestion, IsNoQuestion}
 use Rattle.uring_trace.specs.declared.questions.Question.{Question}
-use Rattle.uring_trace.specs.Explanations.{Saying, Made, Asked, Remark, Bad, event_in, lines_in, events_in, Telling, Explains, ExplainsWholeBy, ExplainsEnded, ExplainsBeginning, told_of, noted_of, bad_note, line_number, is_bad}
-use Rattle.uring_trace.specs.Explaining.{AppendsLine, TellsStep, TellsShown, Explaining, IsGrantedTo}
 use Rattle.uring_text.proofs.Splits.{split_more, split_end, split_whole, last_some}
 use Rattle.uring_trace.proofs.Sessions.{one_more, unrefused_more}
 

@@ -1,14 +1,11 @@
 -- What explain reads and writes.
 use Rattle.std.proofs.Common.{◌≡◌, ℕ, Bool, List, [], ◌++◌, Option, Result, Ok, Err, refl, sym, ap, subst, ◌∙◌, append_assoc, arith, inl, inr}
-use Rattle.std.specs.Io.KnownBytes.{Consumes, Appends, Keeps, IsAtEnd}
+use Rattle.uring_trace.proofs.Common.{Appends, Consumes, ExplainsBeginning, ExplainsLess, ExplainsWholeBy, HasToldBy, IsAtEnd, IsExplained, Keeps, ReadsWhole, Telling, TookBoth, WritesBoth, WritesPair, WritesTexts, WroteBoth, append-nil}
 use Rattle.std.proofs.KnownBytes.{Consumes-nil, Appends-nil, Appends-trans, Consumes-trans, Consumes-kept}
-use Rattle.std.proofs.lemmas.List.{append-nil}
 use Rattle.uring_text.specs.declared.trace_fault.TraceFault.{TraceFault}
 use Rattle.uring_text.specs.declared.trace_fault.TraceFault.TheVariants as fault
 use Rattle.uring_trace.specs.declared.explainer.Explainer.{Explainer}
 use Rattle.uring_text.specs.Writing.{WritesText}
-use Rattle.uring_trace.specs.Explanations.{Telling, IsExplained, ExplainsWholeBy, ExplainsBeginning, ExplainsLess, WritesBoth, ReadsWhole}
-use Rattle.uring_trace.specs.Explaining.{HasToldBy, TookBoth, WritesTexts, WritesPair, WroteBoth}
 use Rattle.uring_trace.proofs.ExplainLines.{explain_beginning, explain_ended}
 
 abbrev Done : Type 0

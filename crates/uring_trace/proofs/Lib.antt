@@ -1,3 +1,4 @@
+mod Common
 pub mod Spellings
 pub mod Sessions
 pub mod QuestionLines

@@ -1,7 +1,6 @@
 -- What a line asks for.
 use Rattle.std.proofs.Common.{◌≡◌, ℕ, ◌^◌, List, ◌++◌, drop, Option, Some, None, sym, ap, ◌∙◌, arith}
-use Rattle.std.specs.Prelude.{ℤ, codes, MatchOption}
-use Rattle.std.specs.Fmt.{decimal, signed_decimal}
+use Rattle.uring_trace.proofs.Common.{MatchOption, codes, decimal, signed_decimal, ℤ}
 use Rattle.uring_text.specs.Reading.{file_of, number_of}
 use Rattle.uring_trace.specs.Questions.{Asks}
 use Rattle.uring_trace.specs.declared.questions.Question.TheVariants as question

@@ -1,23 +1,13 @@
 -- What a session keeps, byte by byte and line by line.
 use Rattle.std.proofs.Common.{◌≡◌, ◌≢◌, ℕ, Bool, List, [], ◌∷◌, ◌++◌, Option, Some, None, refl, sym, ap, subst, ◌∙◌, append_assoc}
-use Rattle.std.specs.Prelude.{codes}
-use Rattle.std.specs.Option.{option_to_list}
-use Rattle.std.proofs.lemmas.List.{append-nil}
+use Rattle.uring_trace.proofs.Common.{Answers, AppendsAnswer, Event, Exchange, Fits, History, Holds, IsBad, IsGranted, IsStep, IsUnrefused, KeptLine, Machine, Manner, Step, answer_text, append-nil, codes, ended, events_of, history_of, joined, kept_of, lines_of, option_to_list, step_text, with_event, world}
 use Rattle.uring_entry.specs.Setup.{Setup}
 use Rattle.uring_core.specs.CalledFor.{IsLawful}
-use Rattle.uring_core.specs.Histories.{Event, History, world, history_of}
 use Rattle.uring_core.proofs.Following.{history_of_snoc}
-use Rattle.uring_machine.specs.Machine.{Machine, Fits, IsUnrefused}
 use Rattle.uring_machine.specs.Settling.{AreUnrefused}
 use Rattle.uring_machine.proofs.Settling.{unrefused_append}
 use Rattle.uring_core.specs.declared.answer.Answer.{Answer}
-use Rattle.uring_core.specs.declared.step.Step.{Step}
-use Rattle.uring_trace.specs.Spelling.{IsStep, IsBad}
 use Rattle.uring_trace.specs.Text.{text_of}
-use Rattle.uring_text.specs.Lines.{joined, ended}
-use Rattle.uring_trace.specs.Exchanges.{Exchange, Manner, Answers, answer_text, lines_of, events_of, step_text}
-use Rattle.uring_text.specs.KeptLine.{KeptLine, kept_of}
-use Rattle.uring_trace.specs.Sessions.{AppendsAnswer, Holds, IsGranted, with_event}
 use Rattle.uring_trace.specs.Traces.{IsWhole, IsBeginning, IsEnded}
 use Rattle.uring_text.proofs.Splits.{split_more, split_end, split_whole, last_some}
 

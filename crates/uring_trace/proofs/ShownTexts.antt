@@ -1,13 +1,8 @@
 -- The text of what is shown.
 use Rattle.std.proofs.Common.{◌≡◌, Bool, ℕ, zero, suc, ◌+◌, List, [], ◌∷◌, ◌++◌, Option, take, refl, sym, ap, ◌∙◌, append_assoc, arith}
-use Rattle.std.specs.Prelude.{slice_get, Some}
-use Rattle.std.proofs.lemmas.List.{append-nil}
-use Rattle.uring_entry.specs.Layout.{Cqe, Sqe}
-use Rattle.uring_entry.specs.Requests.{entry_outstanding}
+use Rattle.uring_trace.proofs.Common.{Cqe, Some, Sqe, Why, append-nil, entry_outstanding, list_text, listed_text, row_text, rows_below, slice_get}
 use Rattle.uring_linux.specs.LinuxRequests.{LinuxRequests}
 use Rattle.uring_rules.specs.Rules.{why_of}
-use Rattle.uring_entry.specs.declared.why.Why.{Why}
-use Rattle.uring_trace.specs.Shown.{list_text, listed_text, row_text, rows_below}
 
 -- one completion more
 pub list_more : (cs : List Cqe) (i : ℕ)

@@ -1,20 +1,13 @@
 -- What is read of a line's tokens is what they spell.
 use Rattle.std.proofs.Common.{◌≡◌, ℕ, ◌^◌, ◌<◌, ◌≤◌, Bool, true, false, cond, eqb, List, [], ◌∷◌, length, Option, Some, None, refl, sym, ap, subst, ◌∙◌, arith, inl, inr}
-use Rattle.std.specs.Prelude.{codes, find, Decides, MatchOption}
+use Rattle.uring_trace.proofs.Common.{Decides, IsBad, IsStep, MatchOption, Spells, Sqe, Step, bytes_eq-Decides, codes, decimal, eqb-true, find, name_of, nil_from_length, steps}
 use Rattle.std.specs.Option.{option_map}
 use Rattle.std.specs.Bool.{MatchBool}
 use Rattle.std.specs.Str.{bytes_eq}
-use Rattle.std.specs.Fmt.{decimal}
-use Rattle.std.proofs.lemmas.Bool.{eqb-true}
-use Rattle.std.proofs.lemmas.List.{nil_from_length}
-use Rattle.std.proofs.lemmas.Slice.Eq.{bytes_eq-Decides}
 use Rattle.std.proofs.lemmas.Option.{same_Some}
-use Rattle.uring_entry.specs.Layout.{Sqe}
-use Rattle.uring_core.specs.declared.step.Step.{Step}
 use Rattle.uring_core.specs.declared.step.Step.TheVariants as step
 use Rattle.uring_text.specs.Tokens.{tokens_of}
 use Rattle.uring_text.specs.Forms.{Form, SpellsForm, IsEntryOf}
-use Rattle.uring_trace.specs.Spelling.{name_of, steps, Spells, IsStep, IsBad}
 use Rattle.uring_text.specs.Reading.{number_of, form_of}
 use Rattle.uring_trace.specs.Reading.{ReadsStep, ReadsFill, step_named, alone, numbered, step_of_one, step_of_two}
 use Rattle.uring_text.proofs.Options.{bind_some, chosen, mapped}

@@ -1,13 +1,10 @@
 -- The outcomes of a trace.
 use Rattle.std.proofs.Common.{◌≡◌, ℕ, ◌<◌, List, length, [], ◌++◌, Option, Result, Ok, Err, refl, sym, ap, subst, ◌∙◌, append_assoc, inl, inr}
-use Rattle.std.specs.Io.KnownBytes.{Consumes, Appends, Keeps, IsAtEnd}
+use Rattle.uring_trace.proofs.Common.{Appends, Consumes, Has, IsAtEnd, Keeps, Manner, TookIn, append-nil}
 use Rattle.std.proofs.KnownBytes.{Consumes-nil, Appends-nil, Appends-trans, Consumes-trans, Consumes-kept}
-use Rattle.std.proofs.lemmas.List.{append-nil}
 use Rattle.uring_text.specs.declared.trace_fault.TraceFault.{TraceFault}
 use Rattle.uring_text.specs.declared.trace_fault.TraceFault.TheVariants as fault
 use Rattle.uring_trace.specs.declared.session.Session.{Session}
-use Rattle.uring_trace.specs.Exchanges.{Manner}
-use Rattle.uring_trace.specs.Sessions.{Has, TookIn}
 use Rattle.uring_text.specs.Writing.{WritesText}
 use Rattle.uring_trace.specs.Traces.{Traces, Writes, ReadsAll, IsWhole, IsBeginning, IsCutShort}
 use Rattle.uring_trace.proofs.Sessions.{held_beginning, held_ended}

@@ -1,24 +1,14 @@
 -- A failure in a chain, by either's rules.
 use Rattle.std.proofs.Common.{◌≡◌, ◌≢◌, ℕ, ◌+◌, ◌<◌, ◌≤◌, ℤ, negsuc, Bool, true, false, not, ◌&&◌, ◌==◌, nat_lt, List, ◌∷◌, length, if◌then◌else◌, refl, sym, subst, ◌∙◌, ap, arith, inl, inr}
-use Rattle.std.proofs.lemmas.Bool.{and_parts, and_left, and_right, and_from, or_right, cases_eq, cases_Bool, not-true}
-use Rattle.uring_entry.specs.Setup.{Setup}
-use Rattle.uring_entry.specs.Preparation.{is_cancel}
-use Rattle.uring_entry.specs.Requests.{Requests, entry_of, has_ended, is_outstanding, is_running, is_last, is_joined, is_after_failure, no_bytes, with_ended}
+use Rattle.uring_uses.proofs.Common.{Answer, History, IsLawfulApart, IsNextInChain, Requests, Setup, World, and_from, and_left, and_parts, and_right, cases_Bool, cases_eq, ends_doomed, entry_of, has_ended, has_ended_other, has_ended_same, has_failed_same, is_after_failure, is_cancel, is_doomed_after, is_in_turn, is_joined, is_joined_inside, is_joined_yes, is_last, is_outstanding, is_running, is_running_ended_other, issue_answer, keeps_back, may_start, never_success, no_bytes, not-true, or_right, requests_of, with_ended, world}
+use Rattle.uring_rules.specs.Rules.{doomed_result, cancel_result}
 use Rattle.uring_entry.proofs.BelowLemmas.{some_below_none}
-use Rattle.uring_entry.proofs.RequestLemmas.{is_joined_yes, is_joined_inside, is_doomed_after, has_ended_same, has_ended_other, is_running_ended_other, has_failed_same, never_success}
 use Rattle.uring_entry.proofs.EventLemmas.{is_joined_ended, is_after_failure_from}
-use Rattle.uring_linux.specs.LinuxRequests.{is_in_turn, keeps_back}
-use Rattle.uring_rules.specs.Rules.{ends_doomed, may_start, doomed_result, cancel_result}
-use Rattle.uring_core.specs.World.{World, requests_of}
-use Rattle.uring_core.specs.Histories.{History, world, IsLawfulApart}
 use Rattle.uring_core.specs.declared.step.Step.TheVariants as step
-use Rattle.uring_core.specs.StepAnswers.{issue_answer}
-use Rattle.uring_core.specs.declared.answer.Answer.{Answer}
 use Rattle.uring_core.specs.declared.answer.Answer.TheVariants as answer
 use Rattle.uring_core.proofs.ListCounts.{any_kept}
 use Rattle.uring_core.proofs.LinuxHistories.{by_linux}
 use Rattle.uring_laws.proofs.LinuxSound.{IsFirst, linux_sound}
-use Rattle.uring_uses.specs.Simulations.{IsNextInChain}
 
 module _ (r : Requests) (n below : ℕ) (bytes : List ℕ) (next : IsNextInChain r n) where
   -- who failed with a negative result has the next after its failure, if a soft link joins them

@@ -1,3 +1,4 @@
+mod Common
 pub mod Waiting
 pub mod Replaying
 pub mod Turns

@@ -1,21 +1,13 @@
 -- The same steps have the same answers, unless memory is refused.
 use Rattle.std.proofs.Common.{◌≡◌, ℕ, neg_ℤ, Bool, true, false, List, [], ◌∷◌, ◌++◌, length, ◌⊎◌, inl, inr, refl, sym, subst, ◌∙◌, ap, arith}
-use Rattle.std.proofs.lemmas.List.{append-nil}
-use Rattle.std.specs.List.{list_any, zip}
+use Rattle.uring_uses.proofs.Common.{Answer, Event, History, OrAgain, Requests, Setup, World, append-nil, begin_answer, history_of, is_running, list_any, or_left, or_right, world, zip}
 use Rattle.std.specs.Ordering.{int_eq}
-use Rattle.std.proofs.lemmas.Bool.{or_left, or_right}
-use Rattle.uring_entry.specs.Setup.{Setup}
-use Rattle.uring_entry.specs.Requests.{Requests, is_running}
 use Rattle.uring_entry.specs.declared.errno.TheConstants.{ENOMEM}
 use Rattle.uring_entry.specs.declared.operation.Outcome.{Outcome}
 use Rattle.uring_files.specs.Contents.{FileContents}
-use Rattle.uring_core.specs.World.{World}
-use Rattle.uring_core.specs.StepAnswers.{OrAgain, begin_answer}
-use Rattle.uring_core.specs.Histories.{Event, History, world, history_of}
 use Rattle.uring_core.specs.CalledFor.{CalledFor, EndsOn, IsLawful, files_of}
 use Rattle.uring_core.specs.declared.step.Step.{Step}
 use Rattle.uring_core.specs.declared.step.Step.TheVariants as step
-use Rattle.uring_core.specs.declared.answer.Answer.{Answer}
 use Rattle.uring_core.specs.declared.answer.Answer.TheVariants as answer
 use Rattle.uring_core.proofs.Following.{history_of_cons}
 use Rattle.uring_uses.specs.Replays.{is_out_of_memory, AreReplays}

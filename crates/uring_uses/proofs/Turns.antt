@@ -1,29 +1,18 @@
 -- What one turn of a simulation makes.
 use Rattle.std.proofs.Common.{◌≡◌, ℕ, ◌+◌, ◌≤◌, ℤ, Bool, true, false, List, [], ◌∷◌, ◌++◌, length, Option, Some, None, is_some, if◌then◌else◌, refl, sym, subst, ◌∙◌, ap, arith, ◌⊎◌, inl, inr, append_assoc}
-use Rattle.std.proofs.lemmas.Bool.{and_parts, and_from, both_ways, not-true, cases_eq}
+use Rattle.uring_uses.proofs.Common.{Answer, FinishesApart, HasRun, History, IsEnded, IsIdle, IsIssued, IsLawfulApart, LinuxRequests, NoneRuns, Requests, Setup, World, and_from, and_parts, both_ways, cases_eq, entry_of, has_ended, is_outstanding, is_running, is_running_ended_other, is_running_ended_same, is_running_started_other, is_running_started_same, issue_answer, least_of, next_answer_of, no_bytes, not-true, operation_of, operation_running, outstanding_in, requests_of, with_ended, with_issued_end, with_started, world}
 use Rattle.std.proofs.lemmas.List.Folds.{list_all-append}
-use Rattle.uring_entry.specs.Preparation.{operation_of}
-use Rattle.uring_entry.specs.Requests.{Requests, entry_of, has_ended, is_outstanding, is_running, no_bytes, least_of, with_started, with_ended, operation_running, outstanding_in}
 use Rattle.uring_entry.proofs.BelowLemmas.{least_below_out}
-use Rattle.uring_entry.proofs.RequestLemmas.{is_running_started_same, is_running_started_other, is_running_ended_same, is_running_ended_other}
-use Rattle.uring_entry.specs.Setup.{Setup}
-use Rattle.uring_linux.specs.LinuxRequests.{LinuxRequests}
 use Rattle.uring_rules.specs.Rules as by_rules
-use Rattle.uring_rules.specs.Rules.{with_issued_end}
-use Rattle.uring_core.specs.World.{World, requests_of}
-use Rattle.uring_core.specs.StepAnswers.{IsEnded, FinishesApart, issue_answer, next_answer_of, IsIssued}
-use Rattle.uring_core.specs.Histories.{History, world, IsLawfulApart}
 use Rattle.uring_core.specs.Core.{Core, FitsApart}
 use Rattle.uring_machine.specs.Settling.{is_issue_or_finish}
 use Rattle.uring_machine.proofs.GoingOn.{least_goes_on}
 use Rattle.uring_core.specs.declared.step.Step.TheVariants as step
-use Rattle.uring_core.specs.declared.answer.Answer.{Answer}
 use Rattle.uring_core.specs.declared.answer.Answer.TheVariants as answer
 use Rattle.uring_core.proofs.Outstanding.{ended_less, none_outstanding, count_below_zero}
 use Rattle.uring_core.proofs.ByRules.{issuable_tells}
 use Rattle.uring_core.proofs.Issuable.{next_tells}
 use Rattle.uring_core.proofs.Issuable.{issue_goes, issued_ends}
-use Rattle.uring_uses.specs.Simulations.{NoneRuns, HasRun, IsIdle}
 
 -- The next request.
 

@@ -1,7 +1,6 @@
 -- A list copied element by element.
 use Rattle.std.proofs.Common.{◌≡◌, ℕ, ◌+◌, List, [], ◌∷◌, ◌++◌, take, Some, None, inl, inr, sym, ◌∙◌, ap, arith}
-use Rattle.std.specs.List.{slice_get}
-use Rattle.std.proofs.lemmas.List.{take_more, take_all}
+use Rattle.uring_uses.proofs.Common.{slice_get, take_all, take_more}
 use Rattle.std.proofs.lemmas.Option.{slice_get_cases, slice_get_within, get_or_from_slice_get}
 
 -- one element more

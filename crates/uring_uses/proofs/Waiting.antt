@@ -1,19 +1,10 @@
 -- A request that runs waits for nobody.
 use Rattle.std.proofs.Common.{◌≡◌, ℕ, ◌<◌, ℤ, Bool, true, false, not, ◌&&◌, if◌then◌else◌, refl, subst}
-use Rattle.uring_entry.specs.Requests.{Requests, entry_of, has_ended, is_outstanding, is_running, is_doomed, is_ready, is_joined, waits_for, doomed_result, cancel_result, no_bytes}
-use Rattle.uring_entry.specs.Preparation.{is_cancel}
-use Rattle.uring_entry.proofs.RequestLemmas.{is_ready_inside}
-use Rattle.std.proofs.lemmas.Bool.{and_parts}
-use Rattle.uring_entry.specs.Setup.{Setup}
-use Rattle.uring_linux.specs.LinuxRequests.{LinuxRequests}
+use Rattle.uring_uses.proofs.Common.{LinuxRequests, Requests, Setup, World, and_parts, by_manual, cancel_result, doomed_result, ends_doomed, entry_of, has_ended, is_cancel, is_doomed, is_joined, is_outstanding, is_ready, is_ready_inside, is_running, issue_answer, may_start, no_bytes, requests_of, waits_for}
 use Rattle.uring_rules.specs.Rules as by_rule
-use Rattle.uring_rules.specs.Rules.{ends_doomed, may_start}
-use Rattle.uring_core.specs.World.{World, requests_of}
-use Rattle.uring_core.specs.Histories.{by_manual}
 use Rattle.uring_core.proofs.ByRules.{is_by_manual}
 use Rattle.uring_core.proofs.SoundRequests.{ready_first}
 use Rattle.uring_laws.proofs.LinuxSound.{turn_first}
-use Rattle.uring_core.specs.StepAnswers.{issue_answer}
 use Rattle.uring_core.specs.declared.answer.Answer.TheVariants as answer
 
 run_ready : (outstanding running doomed ready cancel : Bool) (as_doomed as_cancel : ℤ)

@@ -1,14 +1,6 @@
 -- What a choice leaves is an image, and each image is what some choice leaves.
 use Rattle.std.proofs.Common.{◌≡◌, ◌==◌, ◌/◌, ℕ, Bool, true, false, ◌&&◌, List, [], ◌∷◌, length, refl, sym, subst, ap, ◌∙◌, inl, inr}
-use Rattle.std.specs.Prelude.{slice_index}
-use Rattle.std.specs.List.{filter}
-use Rattle.std.proofs.lemmas.Bool.{or_from, or_parts, and_left, and_right, ne_eqb}
-use Rattle.uring_volume.specs.Writes.{Write}
-use Rattle.uring_volume.specs.declared.event.Event.TheVariants.{WriteIssued, WriteEnded, SyncIssued, SyncEnded, SyncFailed}
-use Rattle.uring_volume.specs.Events.{History, writes, has_ended, is_before}
-use Rattle.uring_volume.specs.Images.{IsIn, IsInOrder, is_on, byte_over, length_over, MayBeLeft, IsImage}
-use Rattle.uring_volume.specs.Choices.{IsLawful, issued, chosen, IsChosen}
-use Rattle.uring_volume.specs.Laws.{ChosenIsImage, ImageIsChosen}
+use Rattle.uring_volume.proofs.Common.{ChosenIsImage, History, ImageIsChosen, IsChosen, IsImage, IsIn, IsInOrder, IsLawful, MayBeLeft, SyncEnded, SyncFailed, SyncIssued, Write, WriteEnded, WriteIssued, and_left, and_right, byte_over, chosen, filter, has_ended, is_before, is_on, issued, length_over, ne_eqb, or_from, or_parts, slice_index, writes}
 use Rattle.uring_volume.proofs.Units.{in_filter, of_filter, filter_in_order}
 use Rattle.uring_volume.proofs.Fitting.{in_left, in_right, in_either, append_in_order, FitsIn, chosen_fits, AreApart, apart_filter, numbers, fits_chosen}
 

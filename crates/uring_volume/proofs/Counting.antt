@@ -1,7 +1,6 @@
 -- How long a list is in which each thing comes once.
 use Rattle.std.proofs.Common.{◌≡◌, ◌≤◌, ℕ, suc, List, [], ◌∷◌, length, refl, sym, subst, ap, ◌∙◌, inl, inr, arith}
-use Rattle.uring_volume.specs.Images.{IsIn}
-use Rattle.uring_volume.specs.Listing.{IsEachOnce, ListsAreAsLong}
+use Rattle.uring_volume.proofs.Common.{IsEachOnce, IsIn, ListsAreAsLong}
 
 -- a list without one of its elements
 record IsLess (x : List ℕ) (ys : List (List ℕ)) : Type 0 where

@@ -1,16 +1,9 @@
 -- What a crash of a sound volume leaves.
 use Rattle.std.proofs.Common.{◌≡◌, ◌↔◌, ◌<◌, ℕ, suc, min, List, length, reverse, refl, sym, subst, ap, ◌∙◌, arith}
-use Rattle.uring_volume.specs.Writes.{Write}
-use Rattle.uring_volume.specs.declared.event.Event.{Event}
-use Rattle.uring_volume.specs.Images.{IsImage}
-use Rattle.uring_volume.specs.Choices.{part, IsLeftBy, AreBelow}
-use Rattle.uring_volume.specs.Laws.{IsKept, IsReadBack}
-use Rattle.uring_volume.specs.Volume.{Volume, IsSound}
+use Rattle.uring_volume.proofs.Common.{AreBelow, AreTheImages, Event, IsImage, IsKept, IsLeftBy, IsReadBack, IsSound, Volume, Write, images_of, part}
 use Rattle.uring_volume.proofs.ReadBack.{read_back}
 use Rattle.uring_volume.proofs.Chosen.{chosen_is_image}
 use Rattle.uring_volume.proofs.Flat.{left_once, image_has_choice}
-use Rattle.uring_volume.specs.Listing.{AreTheImages}
-use Rattle.uring_volume.specs.Ways.{images_of}
 use Rattle.uring_volume.proofs.Files.{are_the_images}
 
 -- an image of a volume's fields, as one of the volume

@@ -1,17 +1,7 @@
 -- The list of all images: what may be left of each unit, side by side, for each length.
 use Rattle.std.proofs.Common.{◌≡◌, ◌==◌, ◌+◌, ◌-◌, ◌*◌, ◌/◌, ◌≤◌, ◌<◌, ℕ, zero, suc, min, true, List, [], ◌∷◌, ◌++◌, length, map, get_or, take, drop, refl, sym, subst, ap, ◌∙◌, inl, inr, arith}
-use Rattle.std.specs.Prelude.{slice_index}
-use Rattle.std.specs.List.{filter}
-use Rattle.std.proofs.lemmas.Bool.{cond-false, ne_eqb}
-use Rattle.std.proofs.lemmas.List.{ext_get_or, length-append, length-take, length-drop, get_or-take, get_or-drop, take-append-drop, get_or_append_left, get_or-append_right, length-map}
+use Rattle.uring_volume.proofs.Common.{AreTheImages, History, IsEachOnce, IsImage, IsIn, IsLawful, MayBeLeft, UnitIsLeft, Write, byte_over, bytes_from, bytes_over, chosen, cond-false, div-lt_iff_lt-mul, ext_get_or, files_of, filter, fronts, get_or-append_right, get_or-drop, get_or-take, get_or_append_left, images_of, is_on, issued, joined, length-append, length-drop, length-map, length-take, lengths_of, lt-mul-div-succ, mul-div-le, mul-suc, mul_comm, ne_eqb, slice_index, suc-mul, take-append-drop, unit_contents, units_in, zero-mul}
 use Rattle.std.proofs.Math.Seq.{take-append_seam, drop-append_seam}
-use Rattle.std.proofs.Math.Nat.{mul-suc, suc-mul, zero-mul, mul_comm, mul-div-le, lt-mul-div-succ, div-lt_iff_lt-mul}
-use Rattle.uring_volume.specs.Writes.{Write}
-use Rattle.uring_volume.specs.Events.{History}
-use Rattle.uring_volume.specs.Images.{IsIn, is_on, byte_over, MayBeLeft, UnitIsLeft, IsImage}
-use Rattle.uring_volume.specs.Choices.{IsLawful, issued, chosen}
-use Rattle.uring_volume.specs.Listing.{IsEachOnce, AreTheImages}
-use Rattle.uring_volume.specs.Ways.{bytes_over, bytes_from, unit_contents, joined, fronts, lengths_of, units_in, files_of, images_of}
 use Rattle.uring_volume.proofs.Painting.{below_or_from, in_unit}
 use Rattle.uring_volume.proofs.Fitting.{in_left, in_right, in_either, AreApart, apart_filter}
 use Rattle.uring_volume.proofs.Chosen.{issued_apart, in_issued, of_issued, left_of_fit, fit_of_left, on_of, on_into, chosen_left}

@@ -1,11 +1,6 @@
 -- What may be left of some writes, wherever they lie: a choice gives it, and it is what some choice gives.
 use Rattle.std.proofs.Common.{◌≡◌, ◌==◌, ℕ, Bool, true, false, not, List, [], ◌∷◌, ◌++◌, ◌⊎◌, refl, sym, subst, ap, ◌∙◌, inl, inr}
-use Rattle.std.specs.List.{filter, list_any}
-use Rattle.std.proofs.lemmas.Bool.{cases_Bool, both_ways, false_from_ne_true, cond-true, cond-false, or_from, or_left, or_right, eqb-true, eq-eqb, ne_eqb, not-true, not_from_false}
-use Rattle.uring_volume.specs.Writes.{Write}
-use Rattle.uring_volume.specs.Events.{History, is_before, is_safe}
-use Rattle.uring_volume.specs.Images.{IsIn, IsInOrder}
-use Rattle.uring_volume.specs.Choices.{waits_for_one, has_safe, up_to_safe, named, without, chosen}
+use Rattle.uring_volume.proofs.Common.{History, IsIn, IsInOrder, Write, both_ways, cases_Bool, chosen, cond-false, cond-true, eq-eqb, eqb-true, false_from_ne_true, filter, has_safe, is_before, is_safe, list_any, named, ne_eqb, not-true, not_from_false, or_from, or_left, or_right, up_to_safe, waits_for_one, without}
 use Rattle.uring_volume.proofs.Units.{in_filter, of_filter, filter_in_order}
 
 -- Tests of lists.

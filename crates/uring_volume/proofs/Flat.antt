@@ -1,14 +1,6 @@
 -- A choice as one list of numbers, for each image.
 use Rattle.std.proofs.Common.{◌≡◌, ◌==◌, ◌<◌, ◌/◌, ℕ, zero, suc, List, [], ◌∷◌, ◌++◌, length, refl, sym, ap, ◌∙◌, inl, inr, arith}
-use Rattle.std.specs.Prelude.{slice_index}
-use Rattle.std.specs.List.{filter}
-use Rattle.std.proofs.Math.Nat.{div-le_self}
-use Rattle.std.proofs.lemmas.Bool.{cond-false, ne_eqb}
-use Rattle.std.proofs.lemmas.List.{ext_get_or}
-use Rattle.uring_volume.specs.Writes.{Write}
-use Rattle.uring_volume.specs.Events.{History, writes}
-use Rattle.uring_volume.specs.Images.{IsIn, is_on, byte_over, length_over, IsImage}
-use Rattle.uring_volume.specs.Choices.{IsLawful, issued, chosen, part, IsChosen, IsLeftBy, AreBelow}
+use Rattle.uring_volume.proofs.Common.{AreBelow, History, IsChosen, IsImage, IsIn, IsLawful, IsLeftBy, Write, byte_over, chosen, cond-false, div-le_self, ext_get_or, filter, is_on, issued, length_over, ne_eqb, part, slice_index, writes}
 use Rattle.uring_volume.proofs.Fitting.{in_either}
 use Rattle.uring_volume.proofs.Chosen.{NameWrites, image_is_named}
 

@@ -1,16 +1,8 @@
 -- A search through events for a write that can be folded.
 use Rattle.std.proofs.Common.{◌≡◌, ◌+◌, ◌<◌, ℕ, suc, Bool, true, false, List, [], ◌∷◌, length, get_or, take, reverse, refl, ap, ◌∙◌, arith}
-use Rattle.std.specs.List.{list_any}
-use Rattle.std.proofs.lemmas.Bool.{or_from}
-use Rattle.std.proofs.lemmas.List.Folds.{list_any-append}
+use Rattle.uring_volume.proofs.Common.{Event, History, IsFoldable, Write, WriteIssued, issued, list_any, list_any-append, or_from}
 use Rattle.uring_volume.proofs.Steps.{issued_more}
 use Rattle.uring_volume.proofs.Puts.{is_any}
-use Rattle.uring_volume.specs.Writes.{Write}
-use Rattle.uring_volume.specs.declared.event.Event.{Event}
-use Rattle.uring_volume.specs.declared.event.Event.TheVariants.{WriteIssued}
-use Rattle.uring_volume.specs.Events.{History}
-use Rattle.uring_volume.specs.Choices.{issued}
-use Rattle.uring_volume.specs.Folds.{IsFoldable}
 use Rattle.uring_volume.proofs.Folded.{issued_at}
 
 -- A search through events.

@@ -1,12 +1,6 @@
 -- The test tells which write can be folded.
 use Rattle.std.proofs.Common.{◌≡◌, ◌==◌, ◌+◌, ◌<◌, ◌≤◌, ℕ, min, max, true, false, not, ◌&&◌, length, ap, inl, inr, arith}
-use Rattle.std.specs.List.{list_any}
-use Rattle.std.proofs.lemmas.Bool.{cases_Bool, both_ways, false_from_ne_true, or_cases, or_left, or_right, and_from, and_parts, eqb-false, ne_eqb, not-true, not_from_false, lt-ltb, ltb-true, leb-true, le-leb}
-use Rattle.uring_volume.specs.Writes.{Write}
-use Rattle.uring_volume.specs.Events.{History, writes, is_before, is_safe}
-use Rattle.uring_volume.specs.Images.{IsIn, is_under}
-use Rattle.uring_volume.specs.Choices.{IsLawful, issued}
-use Rattle.uring_volume.specs.Folds.{IsFoldable, overlap, is_in_way, can_fold}
+use Rattle.uring_volume.proofs.Common.{History, IsFoldable, IsIn, IsLawful, Write, and_from, and_parts, both_ways, can_fold, cases_Bool, eqb-false, false_from_ne_true, is_before, is_in_way, is_safe, is_under, issued, le-leb, leb-true, list_any, lt-ltb, ltb-true, ne_eqb, not-true, not_from_false, or_cases, or_left, or_right, overlap, writes}
 use Rattle.uring_volume.proofs.Chosen.{in_issued, of_issued, one_number}
 use Rattle.uring_volume.proofs.Puts.{any_is, is_any}
 

@@ -1,19 +1,8 @@
 -- What a volume keeps when a write is folded.
 use Rattle.std.proofs.Common.{◌≡◌, ◌==◌, ◌<◌, ◌≤◌, ℕ, zero, suc, Bool, true, false, not, ◌||◌, List, [], ◌∷◌, ◌++◌, length, get_or, reverse, refl, sym, subst, ap, ◌∙◌, inl, inr, arith}
-use Rattle.std.specs.Prelude.{Result, Ok, Err}
+use Rattle.uring_volume.proofs.Common.{Err, Event, History, IsFoldable, IsFoldedFrom, IsHeld, IsIn, IsLawful, IsOneFolded, IsOver, IsSound, Ok, Result, SyncEnded, SyncFailed, SyncIssued, Volume, Write, WriteEnded, WriteIssued, append-nil, append_assoc, both_ways, but, can_fold, cases_Bool, cond-false, cond_both, eq-eqb, eqb-false, eqb-true, false_from_ne_true, filter, has_ended, is_of_write, is_one_of, is_safe, issued, list_any, or_cases, or_left, or_parts, or_right, reverse-append, running_syncs, running_writes, without_write, writes}
 use Rattle.std.specs.declared.alloc.AllocError.{AllocError}
-use Rattle.std.specs.List.{list_any, filter}
-use Rattle.std.proofs.lemmas.Bool.{cases_Bool, both_ways, false_from_ne_true, cond-false, cond_both, or_cases, or_parts, or_left, or_right, eqb-true, eqb-false, eq-eqb}
-use Rattle.std.proofs.lemmas.List.{reverse-append, append-nil, append_assoc}
 use Rattle.std.proofs.lemmas.List.Elements.{filter-append}
-use Rattle.uring_volume.specs.Writes.{Write}
-use Rattle.uring_volume.specs.declared.event.Event.{Event}
-use Rattle.uring_volume.specs.declared.event.Event.TheVariants.{WriteIssued, WriteEnded, SyncIssued, SyncEnded, SyncFailed}
-use Rattle.uring_volume.specs.Events.{History, writes, has_ended, is_safe}
-use Rattle.uring_volume.specs.Images.{IsIn}
-use Rattle.uring_volume.specs.Choices.{IsLawful, issued}
-use Rattle.uring_volume.specs.Volume.{Volume, but, is_one_of, running_writes, running_syncs, IsSound, IsHeld}
-use Rattle.uring_volume.specs.Folds.{IsFoldable, IsOver, is_of_write, without_write, can_fold, IsOneFolded, IsFoldedFrom}
 use Rattle.uring_volume.proofs.Fitting.{in_left, in_right}
 use Rattle.uring_volume.proofs.Chosen.{in_issued, of_issued, one_number}
 use Rattle.uring_volume.proofs.Numbers.{is_in_but, one_more}

@@ -1,14 +1,6 @@
 -- A write that is folded into the first bytes changes no image: it lies under all others in each list that may be left.
 use Rattle.std.proofs.Common.{◌≡◌, ◌==◌, ◌-◌, ◌≤◌, ◌<◌, ℕ, max, Bool, true, false, not, ◌&&◌, List, [], ◌∷◌, ◌++◌, length, refl, sym, subst, ap, ◌∙◌, inl, inr, arith}
-use Rattle.std.specs.Prelude.{slice_index}
-use Rattle.std.specs.List.{filter}
-use Rattle.std.proofs.lemmas.Bool.{cases_Bool, both_ways, false_from_ne_true, cond-true, cond-false, or_cases, or_left, or_right, and_from, and_parts, eqb-true, eqb-false, eq-eqb, ne_eqb, not-true, not_from_false}
-use Rattle.uring_volume.specs.Writes.{Write}
-use Rattle.uring_volume.specs.declared.event.Event.TheVariants.{WriteIssued, WriteEnded, SyncIssued, SyncEnded, SyncFailed}
-use Rattle.uring_volume.specs.Events.{History, writes, has_ended, lies_in, is_before, is_covered, is_given_up, is_safe}
-use Rattle.uring_volume.specs.Images.{IsIn, IsInOrder, is_under, is_on, end_of, byte_over, length_over, MayBeLeft, UnitIsLeft, IsImage}
-use Rattle.uring_volume.specs.Choices.{IsLawful}
-use Rattle.uring_volume.specs.Folds.{IsFoldable, IsOver, without_write, FoldChangesNone}
+use Rattle.uring_volume.proofs.Common.{FoldChangesNone, History, IsFoldable, IsImage, IsIn, IsInOrder, IsLawful, IsOver, MayBeLeft, SyncEnded, SyncFailed, SyncIssued, UnitIsLeft, Write, WriteEnded, WriteIssued, and_from, and_parts, both_ways, byte_over, cases_Bool, cond-false, cond-true, end_of, eq-eqb, eqb-false, eqb-true, false_from_ne_true, filter, has_ended, is_before, is_covered, is_given_up, is_on, is_safe, is_under, length_over, lies_in, ne_eqb, not-true, not_from_false, or_cases, or_left, or_right, slice_index, without_write, writes}
 use Rattle.uring_volume.proofs.Units.{in_filter, of_filter, filter_in_order}
 use Rattle.uring_volume.proofs.ReadBack.{over, on_from, len_grows, end_within}
 use Rattle.uring_volume.proofs.Rest.{length_below}

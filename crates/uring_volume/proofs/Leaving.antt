@@ -1,12 +1,6 @@
 -- What a crash has written is the image that the choice leaves.
 use Rattle.std.proofs.Common.{◌≡◌, ◌<◌, ◌≤◌, ◌+◌, ◌-◌, ◌/◌, ℕ, zero, suc, List, [], ◌∷◌, ◌++◌, length, get_or, replicate, refl, ap, ◌∙◌, arith}
-use Rattle.std.specs.List.{filter}
-use Rattle.std.proofs.lemmas.List.{length-append, length-replicate}
-use Rattle.uring_volume.specs.Writes.{Write}
-use Rattle.uring_volume.specs.Events.{History}
-use Rattle.uring_volume.specs.Images.{is_on, byte_over, length_over}
-use Rattle.uring_volume.specs.Choices.{issued, chosen, part, IsLeftBy}
-use Rattle.uring_volume.specs.Volume.{ended, IsShown}
+use Rattle.uring_volume.proofs.Common.{History, IsLeftBy, IsShown, Write, byte_over, chosen, ended, filter, is_on, issued, length-append, length-replicate, length_over, part}
 use Rattle.uring_volume.proofs.ReadBack.{len_grows}
 
 zeros : (n k : ℕ) → get_or {A = ℕ} (replicate n 0) k 0 ≡ 0

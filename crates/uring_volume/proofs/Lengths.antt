@@ -1,15 +1,6 @@
 -- The lengths that may be left: each is that of the fewest writes, or of the fewest with one more.
 use Rattle.std.proofs.Common.{◌≡◌, ◌==◌, ◌≤◌, ℕ, max, Bool, true, false, ◌&&◌, ◌||◌, List, [], ◌∷◌, ◌⊎◌, refl, sym, subst, inl, inr, arith}
-use Rattle.std.specs.Prelude.{nat_eq}
-use Rattle.std.specs.List.{filter}
-use Rattle.std.proofs.lemmas.Bool.{both_ways, or_cases, or_left, or_right, and_from, and_parts, eqb-true, eq-eqb}
-use Rattle.uring_volume.specs.Writes.{Write}
-use Rattle.uring_volume.specs.Events.{History, has_ended, is_before, is_safe}
-use Rattle.uring_volume.specs.declared.event.Event.TheVariants.{WriteIssued, WriteEnded, SyncIssued, SyncEnded, SyncFailed}
-use Rattle.uring_volume.specs.Images.{IsIn, IsInOrder, end_of, length_over}
-use Rattle.uring_volume.specs.Choices.{IsLawful, issued}
-use Rattle.uring_volume.specs.Listing.{IsEachOnce}
-use Rattle.uring_volume.specs.Ways.{put_by, goes_with, is_needed, fewest, fewest_with, lengths_by, lengths_of}
+use Rattle.uring_volume.proofs.Common.{History, IsEachOnce, IsIn, IsInOrder, IsLawful, SyncEnded, SyncFailed, SyncIssued, Write, WriteEnded, WriteIssued, and_from, and_parts, both_ways, end_of, eq-eqb, eqb-true, fewest, fewest_with, filter, goes_with, has_ended, is_before, is_needed, is_safe, issued, length_over, lengths_by, lengths_of, nat_eq, or_cases, or_left, or_right, put_by}
 use Rattle.uring_volume.proofs.Units.{in_filter, of_filter, filter_in_order}
 use Rattle.uring_volume.proofs.Painting.{below_or_from}
 use Rattle.uring_volume.proofs.ReadBack.{len_grows, end_within}

@@ -1,4 +1,5 @@
 -- In the order in which they are best read.
+mod Common
 -- Lists of events, of references and of numbers:
 pub mod Steps
 pub mod Seeking

@@ -1,12 +1,7 @@
 -- Which history allows no image that another doesn't: the laws of syncs and of the events that change none.
 use Rattle.std.proofs.Common.{◌≡◌, ◌==◌, ℕ, Bool, true, not, ◌&&◌, ◌||◌, List, [], ◌∷◌, ◌++◌, refl, sym, subst, ap, ◌∙◌, inl, inr}
-use Rattle.std.proofs.lemmas.Bool.{or_cases, or_left, or_right, or_from, and_right, not_from_true}
-use Rattle.uring_volume.specs.Writes.{Write}
-use Rattle.uring_volume.specs.Events.{History, writes, has_ended, lies_in, meets, is_before, is_covered, is_reached, is_given_up, is_safe}
+use Rattle.uring_volume.proofs.Common.{ChangesNone, FailedIsNeverSafe, History, IsImage, IsIn, IsInOrder, MayBeLeft, SyncAddsNone, SyncEnded, SyncFailed, SyncIssued, Write, WriteEnded, WriteIssued, and_right, has_ended, is_before, is_covered, is_given_up, is_reached, is_safe, lies_in, meets, not_from_true, or_cases, or_from, or_left, or_right, writes}
 use Rattle.uring_volume.specs.declared.event.SyncRange.{SyncRange}
-use Rattle.uring_volume.specs.declared.event.Event.TheVariants.{WriteIssued, WriteEnded, SyncIssued, SyncEnded, SyncFailed}
-use Rattle.uring_volume.specs.Images.{IsIn, IsInOrder, MayBeLeft, IsImage}
-use Rattle.uring_volume.specs.Laws.{SyncAddsNone, ChangesNone, FailedIsNeverSafe}
 
 -- The history g has the writes of h, in the same order, and each write that is safe in g is safe in h.
 pub record IsNoTighter (g h : History) : Type 0 where

@@ -1,13 +1,7 @@
 -- What a volume's calls keep: each write has a number of its own, and the lists of what runs are those of the history.
 use Rattle.std.proofs.Common.{◌≡◌, ◌==◌, ◌<◌, ◌≤◌, ◌+◌, ℕ, Bool, true, false, not, ◌||◌, List, [], ◌∷◌, ◌++◌, ◌⊎◌, length, reverse, refl, sym, subst, ap, ◌∙◌, inl, inr, arith}
-use Rattle.std.proofs.lemmas.Bool.{cases_Bool, both_ways, cond-true, cond-false, or_left, or_right, eqb-true, false_from_ne_true}
-use Rattle.std.proofs.lemmas.List.{length-reverse}
-use Rattle.std.proofs.lemmas.List.Folds.{list_any-append}
+use Rattle.uring_volume.proofs.Common.{Event, History, IsHeld, SyncEnded, SyncFailed, Volume, WriteEnded, both_ways, but, cases_Bool, cond-false, cond-true, elements_to_begin, eqb-true, false_from_ne_true, has_ended, is_one_of, length-reverse, list_any-append, or_left, or_right, running_syncs, running_writes, with_event, with_sync, with_write}
 use Rattle.uring_volume.specs.declared.event.SyncRange.{SyncRange}
-use Rattle.uring_volume.specs.declared.event.Event.{Event}
-use Rattle.uring_volume.specs.declared.event.Event.TheVariants.{WriteEnded, SyncEnded, SyncFailed}
-use Rattle.uring_volume.specs.Events.{History, has_ended}
-use Rattle.uring_volume.specs.Volume.{Volume, but, is_one_of, running_writes, running_syncs, with_event, with_write, with_sync, IsHeld, elements_to_begin}
 
 pub or_either : (x y : Bool) → (x || y) ≡ true → (x ≡ true) ⊎ (y ≡ true)
 or_either true y is = inl refl

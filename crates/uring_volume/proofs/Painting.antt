@@ -1,10 +1,6 @@
 -- Bytes of a file that a write doesn't touch.
 use Rattle.std.proofs.Common.{◌≡◌, ◌<◌, ◌≤◌, ◌+◌, ◌*◌, ◌/◌, ℕ, false, List, ◌++◌, length, get_or, take, drop, ◌⊎◌, ap, ◌∙◌, inl, inr, arith, ltb}
-use Rattle.std.proofs.Math.Nat.{div-eq_of_lt-le, mul_comm, add-mul, one-mul}
-use Rattle.std.proofs.lemmas.List.{append-nil, take_all, drop_all}
-use Rattle.std.proofs.lemmas.Bool.{cases_Bool, and_from, both_ways, le-leb, lt-ltb, ltb-true, ltb-false}
-use Rattle.uring_volume.specs.Writes.{Write}
-use Rattle.uring_volume.specs.Images.{is_under}
+use Rattle.uring_volume.proofs.Common.{Write, add-mul, and_from, append-nil, both_ways, cases_Bool, div-eq_of_lt-le, drop_all, is_under, le-leb, lt-ltb, ltb-false, ltb-true, mul_comm, one-mul, take_all}
 
 pub below_or_from : (k n : ℕ) → (k < n) ⊎ (n ≤ k)
 below_or_from k n = elim (cases_Bool (ltb k n)) [

@@ -1,8 +1,6 @@
 -- The parts of a choice: what stands before the first 0, and what stands after it.
 use Rattle.std.proofs.Common.{◌≡◌, ◌==◌, ◌<◌, ◌-◌, ℕ, zero, suc, List, [], ◌∷◌, length, get_or, take, drop, refl, sym, ap, ◌∙◌, arith}
-use Rattle.std.proofs.lemmas.List.{take_all, length-drop}
-use Rattle.std.proofs.lemmas.Bool.{cond-true, cond-false, eq-eqb, ne_eqb}
-use Rattle.uring_volume.specs.Choices.{part}
+use Rattle.uring_volume.proofs.Common.{cond-false, cond-true, eq-eqb, length-drop, ne_eqb, part, take_all}
 
 -- no 0 stands below index i
 abbrev pub NoneBelow : List ℕ → ℕ → Type 0

@@ -1,13 +1,6 @@
 -- Lists to which each thing is put once.
 use Rattle.std.proofs.Common.{◌≡◌, ◌==◌, ℕ, Bool, true, false, ◌&&◌, List, [], ◌∷◌, ◌++◌, ◌⊎◌, refl, sym, subst, ap, ◌∙◌, inl, inr}
-use Rattle.std.specs.Prelude.{nat_eq}
-use Rattle.std.specs.List.{list_any}
-use Rattle.std.specs.Cmp.Lexicographic.{pointwise, same_text}
-use Rattle.std.proofs.lemmas.Bool.{both_ways, cond_both, or_cases, or_left, or_right, and_from, and_parts, eqb-true, eq-eqb}
-use Rattle.uring_volume.specs.Writes.{Write}
-use Rattle.uring_volume.specs.Images.{IsIn}
-use Rattle.uring_volume.specs.Listing.{IsEachOnce}
-use Rattle.uring_volume.specs.Ways.{Way, same_write, same_way, put_by}
+use Rattle.uring_volume.proofs.Common.{IsEachOnce, IsIn, Way, Write, and_from, and_parts, both_ways, cond_both, eq-eqb, eqb-true, list_any, nat_eq, or_cases, or_left, or_right, pointwise, put_by, same_text, same_way, same_write}
 use Rattle.uring_volume.proofs.Fitting.{in_left, in_right, in_either}
 
 pub any_is : {X : Type 0} (p : X → Bool) (xs : List X) → list_any p xs ≡ true

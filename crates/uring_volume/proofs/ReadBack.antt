@@ -1,12 +1,6 @@
 -- A safe write that none has overlapped since is read back.
 use Rattle.std.proofs.Common.{◌≡◌, ◌==◌, ◌<◌, ◌≤◌, ◌+◌, ◌-◌, ◌*◌, ◌/◌, ℕ, min, max, true, false, cond, List, [], ◌∷◌, length, refl, sym, subst, ap, ◌∙◌, inl, inr, arith}
-use Rattle.std.specs.Prelude.{slice_index}
-use Rattle.std.proofs.lemmas.Bool.{and_from, and_parts, both_ways, false_from_ne_true, cond-true, cond-false, le-leb, lt-ltb, leb-true, ltb-true, ne_eqb}
-use Rattle.std.proofs.Math.Nat.{mul-div-le, lt-div-mul-add}
-use Rattle.uring_volume.specs.Writes.{Write}
-use Rattle.uring_volume.specs.Events.{History, is_before}
-use Rattle.uring_volume.specs.Images.{IsIn, IsInOrder, is_under, is_on, end_of, byte_over, length_over, UnitIsLeft}
-use Rattle.uring_volume.specs.Laws.{SafeIsReadBack}
+use Rattle.uring_volume.proofs.Common.{History, IsIn, IsInOrder, SafeIsReadBack, UnitIsLeft, Write, and_from, and_parts, both_ways, byte_over, cond-false, cond-true, end_of, false_from_ne_true, is_before, is_on, is_under, le-leb, leb-true, length_over, lt-div-mul-add, lt-ltb, ltb-true, mul-div-le, ne_eqb, slice_index}
 
 -- a byte, with one write over it
 abbrev pub over : ℕ → Write → ℕ → ℕ

@@ -1,8 +1,7 @@
 -- What holds of a result, by how the call ended.
 use Rattle.std.proofs.Common.{◌≡◌, true, false, refl}
-use Rattle.std.specs.Prelude.{Result, Ok, Err, IfOk, IsOk, OnOk}
+use Rattle.uring_volume.proofs.Common.{Err, IfOk, IsOk, Ok, OnOk, Result, both_ways}
 use Rattle.std.specs.Result.{is_err}
-use Rattle.std.proofs.lemmas.Bool.{both_ways}
 
 -- what holds if the call succeeded, when it did
 pub not_err : {T E : Type 0} (r : Result T E) (P : Type 0) → is_err r ≡ false → OnOk r P → P

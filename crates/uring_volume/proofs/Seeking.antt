@@ -1,16 +1,6 @@
 -- A search through a list, and loops over lists of references.
 use Rattle.std.proofs.Common.{◌≡◌, ◌+◌, ◌-◌, ◌*◌, ◌<◌, ◌≤◌, ℕ, zero, suc, min, max, Bool, true, false, ◌&&◌, cond, List, [], ◌∷◌, ◌++◌, length, map, get_or, take, drop, replicate, refl, sym, ap, ◌∙◌, inl, inr, arith}
-use Rattle.std.specs.Prelude.{Result, Ok, Err, OnOk}
-use Rattle.std.specs.List.{list_any, filter}
-use Rattle.std.specs.Cmp.Lexicographic.{pointwise}
-use Rattle.std.proofs.lemmas.Bool.{cases_Bool, cond-true, cond-false, or_from, or_left, or_right}
-use Rattle.std.proofs.lemmas.List.{ext_get_or, take_more, drop_more, drop_all, map-append, length-append, length-replicate, length-take, length-drop, get_or-take, get_or-drop, get_or_past}
-use Rattle.std.proofs.lemmas.List.Folds.{list_any-append}
-use Rattle.std.proofs.Math.Nat.{mul-le-mul_left}
-use Rattle.uring_volume.specs.Writes.{Write}
-use Rattle.uring_volume.specs.Images.{byte_over, end_of, length_over}
-use Rattle.uring_volume.specs.Events.{History}
-use Rattle.uring_volume.specs.Ways.{bytes_over, bytes_from, put_by, unit_contents, fronts}
+use Rattle.uring_volume.proofs.Common.{Err, History, Ok, OnOk, Result, Write, byte_over, bytes_from, bytes_over, cases_Bool, cond-false, cond-true, drop_all, drop_more, end_of, ext_get_or, filter, fronts, get_or-drop, get_or-take, get_or_past, length-append, length-drop, length-replicate, length-take, length_over, list_any, list_any-append, map-append, mul-le-mul_left, or_from, or_left, or_right, pointwise, put_by, take_more, unit_contents}
 use Rattle.uring_volume.proofs.Painting.{below_or_from}
 use Rattle.uring_volume.proofs.Leaving.{padded}
 use Rattle.uring_volume.proofs.Files.{length_bytes_over, bytes_over_at, length_bytes_from, bytes_from_at, length_joined}

@@ -1,11 +1,9 @@
 -- A list whose elements that pass a test are moved before the others, in place.
 use Rattle.std.proofs.Common.{◌≡◌, ◌<◌, ◌≤◌, ◌+◌, ◌-◌, ℕ, suc, Bool, true, false, not, List, [], ◌∷◌, ◌++◌, cond, length, get_or, take, drop, append_assoc, refl, sym, ap, ◌∙◌, arith}
-use Rattle.std.specs.List.{filter}
+use Rattle.uring_volume.proofs.Common.{append-nil, cond-false, cond-true, drop-append-le, drop_all, drop_at, drop_more, filter, get_or-append_right, get_or-drop, length-append, length-take-le, take-append-le, take_all, take_at, take_more}
 use borrow.Rule.Slice.PartMut.{put_mid}
-use Rattle.std.proofs.lemmas.List.{take_more, drop_more, append-nil, take_all, drop_all, take_at, drop_at, take-append-le, drop-append-le, length-append, length-take-le, get_or-append_right, get_or-drop}
 use Rattle.std.proofs.lemmas.List.Elements.{filter-append}
 use Rattle.std.proofs.lemmas.List.Filters.{length-filter_both, length-filter_more}
-use Rattle.std.proofs.lemmas.Bool.{cond-true, cond-false}
 
 pub past_first : {X : Type 0} (xs ys : List X) (m : ℕ) → take (length xs + m) (xs ++ ys) ≡ xs ++ take m ys
 past_first [] ys m = let none : 0 + m ≡ m = omega arith in ap (λ n. take n ys) none

@@ -1,11 +1,6 @@
 -- A list of events, the newest first, grows by one at its head.
 use Rattle.std.proofs.Common.{◌≡◌, ◌<◌, ◌+◌, ℕ, List, [], ◌∷◌, ◌++◌, length, get_or, take, reverse, refl, sym, ap, ◌∙◌}
-use Rattle.std.proofs.lemmas.List.{take_more, reverse-append}
-use Rattle.uring_volume.specs.Writes.{Write}
-use Rattle.uring_volume.specs.declared.event.Event.{Event}
-use Rattle.uring_volume.specs.declared.event.Event.TheVariants.{WriteIssued, WriteEnded, SyncIssued, SyncEnded, SyncFailed}
-use Rattle.uring_volume.specs.Events.{History}
-use Rattle.uring_volume.specs.Choices.{issued}
+use Rattle.uring_volume.proofs.Common.{Event, History, SyncEnded, SyncFailed, SyncIssued, Write, WriteEnded, WriteIssued, issued, reverse-append, take_more}
 
 pub newest : {X : Type 0} (xs : List X) (i : ℕ) (d : X) → i < length xs
     → reverse (take (i + 1) xs) ≡ get_or xs i d ∷ reverse (take i xs)

@@ -1,14 +1,8 @@
 -- Lists of references, and which of their writes a choice takes.
 use Rattle.std.proofs.Common.{◌≡◌, ◌<◌, ◌≤◌, ◌+◌, ◌-◌, ℕ, zero, suc, Bool, true, false, List, [], ◌∷◌, ◌++◌, length, get_or, map, take, drop, take-add, append_assoc, refl, sym, subst, ap, ◌∙◌, inl, inr, add-one, arith}
-use Rattle.std.specs.List.{filter, list_any}
-use Rattle.std.proofs.lemmas.List.{take_more, take_all, drop_all, append-nil, map-append, take-map, length-map, length-drop, length-take-le}
-use Rattle.std.proofs.lemmas.List.Folds.{list_any-append}
+use Rattle.uring_volume.proofs.Common.{History, Write, append-nil, cases_Bool, chosen, cond-false, cond-true, drop_all, filter, has_safe, is_safe, length-drop, length-map, length-take-le, list_any, list_any-append, map-append, named, or_from, or_left, or_right, take-map, take_all, take_more, up_to_safe, waits_for_one, without}
 use Rattle.std.proofs.Math.Seq.{drop-cons}
-use Rattle.std.proofs.lemmas.Bool.{cases_Bool, cond-true, cond-false, or_from, or_left, or_right}
-use Rattle.uring_volume.specs.Writes.{Write}
-use Rattle.uring_volume.specs.Events.{History, is_safe}
 use borrow.Rule.Slice.PartMut.{put_mid}
-use Rattle.uring_volume.specs.Choices.{has_safe, up_to_safe, waits_for_one, named, without, chosen}
 use Rattle.uring_volume.proofs.Sorting.{past_first, after_first}
 
 pub filter_of_map : {X Y : Type 0} (f : X → Y) (p : Y → Bool) (xs : List X)

@@ -1,13 +1,6 @@
 -- An image of larger units is one of smaller ones: of what is left of a large unit, what lies on the small one is left of that.
 use Rattle.std.proofs.Common.{◌≡◌, ◌<◌, ◌≤◌, ◌+◌, ◌-◌, ◌*◌, ◌/◌, ℕ, min, max, Bool, true, false, cond, List, [], ◌∷◌, length, refl, sym, subst, ap, ◌∙◌, inl, inr, arith}
-use Rattle.std.specs.Prelude.{slice_index}
-use Rattle.std.specs.List.{filter}
-use Rattle.std.proofs.lemmas.Bool.{cases_Bool, both_ways, false_from_ne_true, cond-true, cond-false, cond_both, lt-ltb, ltb-true}
-use Rattle.std.proofs.Math.Nat.{mul-div-le, lt-div-mul-add, div-div-eq-div-mul, mul-le-mul_left}
-use Rattle.uring_volume.specs.Writes.{Write}
-use Rattle.uring_volume.specs.Events.{History}
-use Rattle.uring_volume.specs.Images.{IsIn, IsInOrder, is_under, is_on, byte_over, UnitIsLeft}
-use Rattle.uring_volume.specs.Laws.{SmallerUnitsAllowIt}
+use Rattle.uring_volume.proofs.Common.{History, IsIn, IsInOrder, SmallerUnitsAllowIt, UnitIsLeft, Write, both_ways, byte_over, cases_Bool, cond-false, cond-true, cond_both, div-div-eq-div-mul, false_from_ne_true, filter, is_on, is_under, lt-div-mul-add, lt-ltb, ltb-true, mul-div-le, mul-le-mul_left, slice_index}
 use Rattle.uring_volume.proofs.ReadBack.{on_from}
 
 pub in_filter : (p : Write → Bool) (x : Write) (xs : List Write) → IsIn x xs → p x ≡ true

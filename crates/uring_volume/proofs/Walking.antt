@@ -1,15 +1,6 @@
 -- The ways through some writes lead to what each list that fits leaves, and to nothing else.
 use Rattle.std.proofs.Common.{◌≡◌, ◌≤◌, ◌<◌, ℕ, zero, suc, Bool, false, not, cond, List, [], ◌∷◌, ◌++◌, ◌⊎◌, length, refl, sym, subst, ap, inl, inr, arith}
-use Rattle.std.specs.Prelude.{nat_eq}
-use Rattle.std.specs.List.{filter}
-use Rattle.std.specs.Cmp.Lexicographic.{pointwise}
-use Rattle.std.proofs.lemmas.Bool.{both_ways, false_from_ne_true, cond-false, cond_both, eq-eqb}
-use Rattle.uring_volume.specs.Writes.{Write}
-use Rattle.uring_volume.specs.Events.{History, is_safe}
-use Rattle.uring_volume.specs.Images.{IsIn}
-use Rattle.uring_volume.specs.Choices.{waits_for_one, has_safe, named, without}
-use Rattle.uring_volume.specs.Listing.{IsEachOnce}
-use Rattle.uring_volume.specs.Ways.{Way, way, same_way, put_by, bytes_over, stepped, steps_of, next_ways, found_at, found_by, contents_of}
+use Rattle.uring_volume.proofs.Common.{History, IsEachOnce, IsIn, Way, Write, both_ways, bytes_over, cond-false, cond_both, contents_of, eq-eqb, false_from_ne_true, filter, found_at, found_by, has_safe, is_safe, named, nat_eq, next_ways, pointwise, put_by, same_way, stepped, steps_of, waits_for_one, way, without}
 use Rattle.uring_volume.proofs.Fitting.{lacks, FitsIn, AreApart, apart_filter, named_is, first_is_free, rest_fits, place_fits, none_in, not_in}
 use Rattle.uring_volume.proofs.Puts.{in_put_old, in_put_new, of_put, put_once, ways_tell, bytes_tell}
 

@@ -1,14 +1,6 @@
 -- A history without one of its writes tells the same of all others.
 use Rattle.std.proofs.Common.{◌≡◌, ◌==◌, ℕ, not, ◌&&◌, ◌||◌, [], ◌∷◌, ◌++◌, refl, sym, subst, ap, ◌∙◌, inl, inr, rules}
-use Rattle.std.specs.List.{filter}
-use Rattle.std.proofs.lemmas.Bool.{cases_Bool, cond_both, eqb-true, eqb-false, ne_eqb, not-true, not_from_false}
-use Rattle.uring_volume.specs.Writes.{Write}
-use Rattle.uring_volume.specs.declared.event.Event.{Event}
-use Rattle.uring_volume.specs.declared.event.Event.TheVariants.{WriteIssued, WriteEnded, SyncIssued, SyncEnded, SyncFailed}
-use Rattle.uring_volume.specs.Events.{History, writes, has_ended, is_before, is_covered, is_reached, is_given_up, is_safe}
-use Rattle.uring_volume.specs.Images.{IsIn}
-use Rattle.uring_volume.specs.Choices.{IsLawful}
-use Rattle.uring_volume.specs.Folds.{without_write}
+use Rattle.uring_volume.proofs.Common.{Event, History, IsIn, IsLawful, SyncEnded, SyncFailed, SyncIssued, Write, WriteEnded, WriteIssued, cases_Bool, cond_both, eqb-false, eqb-true, filter, has_ended, is_before, is_covered, is_given_up, is_reached, is_safe, ne_eqb, not-true, not_from_false, without_write, writes}
 use Rattle.uring_volume.proofs.Units.{in_filter, of_filter}
 use Rattle.uring_volume.proofs.Fitting.{lacks}
 

@@ -1,11 +1,7 @@
 -- What positions more do to the calls that positions hold.
 use Rattle.std.proofs.Common.{◌≡◌, ◌↔◌, ◌<◌, Bool, true, false, List, [], ◌∷◌, ◌++◌, length, refl, sym, ◌∙◌, ap, subst, arith, append-nil}
-use Rattle.std.proofs.lemmas.Bool.{false≢true}
-use Rattle.uring_ports.specs.declared.item.Item.{Item}
+use Rattle.uring_words.proofs.Common.{AreWhole, AreWholeFrom, Item, LeavesItems, Position, Put, all_more, calls_of, false≢true, has_close_mark, items_of, items_of_calls, places_of, put_of, with_call, with_close}
 use Rattle.uring_ports.specs.Messages.{with_first}
-use Rattle.uring_ports.specs.Ports.{Put, items_of_calls, places_of, with_call, with_close, LeavesItems}
-use Rattle.uring_words.specs.Submission.Calls.{calls_of, has_close_mark, put_of, items_of, AreWholeFrom, AreWhole, all_more}
-use Rattle.uring_words.specs.declared.submission.view.Position.{Position}
 use Rattle.uring_words.specs.declared.submission.view.Position.TheVariants as position
 
 pub more_length : (xs : List Item) → length (all_more xs) ≡ length xs

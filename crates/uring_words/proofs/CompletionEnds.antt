@@ -1,18 +1,13 @@
 -- The first cell that an end of the completion ring holds.
 use Rattle.std.proofs.Common.{◌≡◌, ℕ, ◌+◌, ◌%◌, ◌^◌, ◌<◌, List, [], ◌∷◌, ◌++◌, length, sym, ◌∙◌, ap, subst, arith, length-append}
 use mathlib.Core.Option.{none}
-use Rattle.atomic_table.specs.Seated.{TableId}
-use Rattle.atomic_table.specs.Table.{Allows, rest, step}
+use Rattle.uring_words.proofs.Common.{Allows, BothAgree, IsReader, TableId, View, held_from, place_of, rest, step}
+use Rattle.uring_words.specs.Completion.Ends.{End, IsWriter}
 use Rattle.uring_entry.specs.Layout.{Cqe}
-use Rattle.uring_words.specs.Completion.Ends.{End, IsReader, IsWriter}
 use Rattle.uring_words.specs.Completion.Layout.{head_index, tail_index}
-use Rattle.uring_words.specs.Completion.Rule.{BothAgree}
 use Rattle.uring_words.specs.Completion.Steps.{StoresHead, StoresTail}
-use Rattle.uring_words.specs.Places.{place_of}
-use Rattle.uring_words.specs.Slots.{held_from}
 use Rattle.uring_words.specs.declared.completion.view.AppSide.{AppSide}
 use Rattle.uring_words.specs.declared.completion.view.KernelSide.{KernelSide}
-use Rattle.uring_words.specs.declared.sides.View.{View}
 use Rattle.uring_words.proofs.CompletionPlays.{stores_head, stores_tail}
 use Rattle.uring_words.proofs.SlotActs.{first_held, is_first}
 

@@ -1,22 +1,14 @@
 -- What each step of a seat of the completion ring's table asks. v is what the seat knows, and held what it holds.
-use Rattle.std.specs.Prelude.{replicate}
-use Rattle.std.specs.Int.{IsPowerOfTwo}
+use Rattle.uring_words.proofs.Common.{Agree, Allows, BothAgree, IsPowerOfTwo, StandFrom, View, app_has, at_first, gives, held_from, keeps, last_of, opening, place_of, put_back, replicate, set-get_or, step, word_of}
 use Rattle.std.proofs.Common.{◌≡◌, ℕ, ◌+◌, ◌^◌, ◌<◌, ◌≤◌, true, List, [], ◌∷◌, ◌++◌, length, get_or, set, refl, sym, ◌∙◌, ap, ap₂, subst, arith, length-append, get_or-set_other, get_or-set_same}
-use Rattle.std.proofs.lemmas.List.{set-get_or}
 use mathlib.Core.Option.{Option, none, some}
-use Rattle.atomic_table.specs.Table.{opening, step, keeps, gives, put_back, Allows}
-use Rattle.uring_entry.specs.IndexWords.{word_of}
 use Rattle.uring_entry.specs.Layout.{Cqe}
 use Rattle.uring_ports.specs.Dropped.{WereHad}
 use Rattle.uring_words.specs.Completion.Layout.{tail_index, head_index, dropped_index}
-use Rattle.uring_words.specs.Completion.Rule.{last_of, Agree, BothAgree, at_first}
 use Rattle.uring_words.specs.Completion.Steps.{put_first, dropped_stored, head_loaded, all_given, tail_loaded, got_first, dropped_loaded, StoresTail, StoresDropped, LoadsHead, GivesAll, LoadsTail, StoresHead, LoadsDropped}
-use Rattle.uring_words.specs.Places.{place_of}
-use Rattle.uring_words.specs.Slots.{app_has, held_from, StandFrom}
 use Rattle.uring_words.specs.declared.completion.view.AppSide.{AppSide}
 use Rattle.uring_words.specs.declared.completion.view.KernelSide.{KernelSide}
 use Rattle.uring_words.specs.declared.sides.Shape.{Shape}
-use Rattle.uring_words.specs.declared.sides.View.{View}
 use Rattle.uring_words.proofs.DroppedWords.{last_after, had_more, had_last}
 use Rattle.uring_words.proofs.FirstTable.{first_lists}
 use Rattle.uring_words.proofs.Handing.{take_valid, take_moves, all_valid, all_here, all_moves}

@@ -1,24 +1,12 @@
 -- Calls as they are written, published, read and taken.
 use Rattle.std.proofs.Common.{◌≡◌, ℕ, ◌+◌, ◌%◌, ◌^◌, ◌<◌, ◌≤◌, true, false, List, [], ◌∷◌, ◌++◌, drop, take, length, refl, sym, ◌∙◌, ap, subst, arith, length-append, length-take-le, take_all, take-append-drop}
-use Rattle.std.proofs.lemmas.List.{length-drop}
+use Rattle.uring_words.proofs.Common.{Allows, AreRead, AreWhole, End, Holder, HoldsKnown, IsWriter, Item, Position, Pulls, ReaderRests, ReadsCall, StoresHead, StoresTail, TableId, View, Writes, all_more, has_close_mark, head_stored, held_from, items_of, length-drop, place_of, put_of, rest, step, tail_after, tail_stored, turned, with_call, with_first_after, word_of}
 use mathlib.Core.Option.{none}
-use Rattle.atomic_table.specs.Seated.{TableId}
-use Rattle.atomic_table.specs.Table.{Allows, rest, step, turned}
-use Rattle.uring_entry.specs.IndexWords.{word_of}
-use Rattle.uring_ports.specs.declared.item.Item.{Item}
 use Rattle.uring_ports.specs.declared.pulled.Pulled.{Pulled}
 use Rattle.uring_ports.specs.declared.pulled.Pulled.TheVariants as pulled
-use Rattle.uring_ports.specs.Ports.{Pulls, with_call}
-use Rattle.uring_words.specs.Places.{place_of}
-use Rattle.uring_words.specs.Slots.{held_from}
-use Rattle.uring_words.specs.Submission.Calls.{AreWhole, all_more, has_close_mark, items_of, put_of}
-use Rattle.uring_words.specs.Submission.Ends.{AreRead, End, HoldsKnown, IsWriter, ReaderRests, ReadsCall, Writes, tail_after}
 use Rattle.uring_words.specs.Submission.Rule.{BothAgree}
-use Rattle.uring_words.specs.Submission.Steps.{Holder, with_first_after, head_stored, tail_stored, StoresHead, StoresTail}
-use Rattle.uring_words.specs.declared.sides.View.{View}
 use Rattle.uring_words.specs.declared.submission.view.AppSide.{AppSide}
 use Rattle.uring_words.specs.declared.submission.view.KernelSide.{KernelSide}
-use Rattle.uring_words.specs.declared.submission.view.Position.{Position}
 use Rattle.uring_words.specs.declared.submission.view.Position.TheVariants as position
 use Rattle.uring_words.proofs.CallLemmas.{holds_call, holds_close, more_length, more_append, never_open, close_is_first}
 use Rattle.uring_words.proofs.Plays.{stores_head, stores_tail}

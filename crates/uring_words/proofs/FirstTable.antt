@@ -1,11 +1,8 @@
 -- A new table of either ring: nothing was put, and every place is free.
-use Rattle.std.specs.Prelude.{replicate}
+use Rattle.uring_words.proofs.Common.{IsPowerOfTwo, StandFrom, length-map, length-replicate, replicate}
 use Rattle.std.proofs.Common.{◌≡◌, ℕ, zero, suc, ◌+◌, ◌<◌, ◌≤◌, ◌^◌, ◌%◌, List, [], ◌∷◌, length, map, refl, ◌∙◌, arith}
-use Rattle.std.proofs.lemmas.List.{length-map, length-replicate}
-use Rattle.std.specs.Int.{IsPowerOfTwo}
 use mathlib.Core.Option.{Option, some}
 use lib.ListN.{get_elem?}
-use Rattle.uring_words.specs.Slots.{StandFrom}
 use Rattle.uring_words.proofs.RingLists.{ListsAgree}
 use Rattle.uring_words.proofs.Standing.{some_size, place_below}
 

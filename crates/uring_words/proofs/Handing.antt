@@ -2,11 +2,9 @@
 use Rattle.std.proofs.Common.{◌≡◌, ℕ, suc, ◌+◌, ◌^◌, ◌≤◌, List, [], ◌∷◌, ◌++◌, map, length, take, drop, set, refl, sym, ◌∙◌, ap, ap₂, subst, arith, length-append}
 use Rattle.std.proofs.Math.Seq.{take-append_seam, drop-append_seam}
 use mathlib.Core.List.{map-append}
-use Rattle.std.specs.Int.{IsPowerOfTwo}
+use Rattle.uring_words.proofs.Common.{IsPowerOfTwo, StandFrom, Valid, held_from, homes_after}
 use mathlib.Core.Option.{Option, some}
 use lib.ListN.{get_elem?}
-use Rattle.atomic_table.specs.Table.{homes_after, Valid}
-use Rattle.uring_words.specs.Slots.{held_from, StandFrom}
 use Rattle.uring_words.proofs.SlotActs.{takes_all, changes, changes-homes, with_given, with_taken, gives_all-valid, with_given-length, with_taken-length, Moves, stands_given, stands_taken, given_stand, taken_valid, more_valid, more_stands}
 use Rattle.uring_words.proofs.Standing.{next_turn}
 

@@ -1,4 +1,5 @@
 -- In the order in which they are best read.
+mod Common
 -- Places and tables:
 pub mod Standing
 pub mod Tables

@@ -1,20 +1,11 @@
 -- What each step of a seat of the submission ring's table asks. v is what the seat knows, and held what it holds.
-use Rattle.std.specs.Prelude.{replicate}
-use Rattle.std.specs.Int.{IsPowerOfTwo}
+use Rattle.uring_words.proofs.Common.{Allows, AreWhole, GivesAll, IsPowerOfTwo, LoadsHead, LoadsTail, Position, StandFrom, StoresHead, StoresTail, View, all_given, app_has, head_loaded, head_stored, held_from, kernel_has, opening, replicate, set-get_or, step, tail_loaded, tail_stored, with_first_after, word_of}
 use Rattle.std.proofs.Common.{◌<◌, ◌∷◌, ◌≡◌, ℕ, ◌+◌, ◌≤◌, ◌^◌, true, List, [], ◌++◌, length, set, refl, sym, ◌∙◌, ap, subst, arith, length-append}
-use Rattle.std.proofs.lemmas.List.{set-get_or}
 use mathlib.Core.Option.{Option, none}
-use Rattle.atomic_table.specs.Table.{opening, step, Allows}
-use Rattle.uring_entry.specs.IndexWords.{word_of}
-use Rattle.uring_words.specs.Slots.{app_has, held_from, kernel_has, StandFrom}
-use Rattle.uring_words.specs.Submission.Calls.{AreWhole}
 use Rattle.uring_words.specs.Submission.Rule.{Agree, BothAgree, at_first}
-use Rattle.uring_words.specs.Submission.Steps.{with_first_after, tail_stored, head_loaded, all_given, tail_loaded, head_stored, StoresTail, LoadsHead, GivesAll, LoadsTail, StoresHead}
 use Rattle.uring_words.specs.declared.sides.Shape.{Shape}
-use Rattle.uring_words.specs.declared.sides.View.{View}
 use Rattle.uring_words.specs.declared.submission.view.AppSide.{AppSide}
 use Rattle.uring_words.specs.declared.submission.view.KernelSide.{KernelSide}
-use Rattle.uring_words.specs.declared.submission.view.Position.{Position}
 use Rattle.uring_words.proofs.FirstTable.{first_lists}
 use Rattle.uring_words.proofs.Handing.{take_valid, take_moves, give_valid, give_done, give_moves, all_valid, all_here, all_moves, held-length, same_parts, same_slots}
 use Rattle.uring_words.proofs.RingLists.{ListsAgree, put_many, keeps_tail_stored, keeps_head_stored, keeps_head_loaded, keeps_all_given, keeps_tail_loaded}

@@ -1,9 +1,7 @@
 -- The steps on the table of either ring, by what its sides know: what was taken of the ring, what is known to stand after that, and what was put. Each keeps what they agree on.
 use Rattle.std.proofs.Common.{◌≡◌, ℕ, ◌+◌, ◌^◌, ◌≤◌, List, [], ◌++◌, length, set, get_or, sym, ◌∙◌, ap, subst, arith, append_assoc, append-nil, length-append, length-set, get_or-set_other, get_or-set_same}
-use Rattle.std.specs.Int.{IsPowerOfTwo}
+use Rattle.uring_words.proofs.Common.{IsPowerOfTwo, StandFrom, word_of}
 use mathlib.Core.Option.{Option}
-use Rattle.uring_entry.specs.IndexWords.{word_of}
-use Rattle.uring_words.specs.Slots.{StandFrom}
 use Rattle.uring_words.proofs.Handing.{stand_later}
 use Rattle.uring_words.proofs.SlotActs.{Moves, stand_both}
 

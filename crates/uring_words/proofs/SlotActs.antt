@@ -1,14 +1,8 @@
 -- Acts that hand on slots one after the other, and what they leave at home.
 use Rattle.std.proofs.Common.{◌≡◌, ◌≢◌, ℕ, ◌+◌, ◌%◌, ◌<◌, ◌≤◌, ◌^◌, List, [], ◌∷◌, ◌++◌, length, set, refl, sym, ◌∙◌, ap, subst, arith, length-append, length-set, ⊎_elim}
-use Rattle.std.proofs.lemmas.Bool.{cases_lt}
-use Rattle.std.specs.Int.{IsPowerOfTwo}
+use Rattle.uring_words.proofs.Common.{Act, IsPowerOfTwo, StandFrom, Valid, carried_after, cases_lt, chain, gives, held_from, homes_after, keeps, place_of, rest, set_else, set_here, takes, word_of}
 use mathlib.Core.Option.{Option, none, some}
 use lib.ListN.{get_elem?}
-use Rattle.atomic_table.specs.Table.{Act, keeps, takes, gives, chain, homes_after, carried_after, Valid, rest}
-use Rattle.atomic_table.proofs.Lists.{set_here, set_else}
-use Rattle.uring_entry.specs.IndexWords.{word_of}
-use Rattle.uring_words.specs.Places.{place_of}
-use Rattle.uring_words.specs.Slots.{held_from, StandFrom}
 use Rattle.uring_words.proofs.Standing.{some_size, place_below, at_place, apart}
 
 module _ {S : Type 0} where

@@ -1,13 +1,9 @@
 -- A step that keeps the agreement keeps the rule, and so do the cutting of the first seat and the joining of two: of any table whose slots the two sides hand to each other.
 use Rattle.std.proofs.Common.{◌≡◌, ◌≢◌, ℕ, true, List, length, get_or, map, set, refl, sym, ◌∙◌, subst, ⊎_elim}
-use Rattle.std.proofs.lemmas.Bool.{false≢true}
+use Rattle.uring_words.proofs.Common.{Act, Allows, Joins, Me, SidesAgree, Splits, Valid, View, app_has, at_set, carried_after, false≢true, homes_after, kernel_has, opening, parts_of_both}
 use mathlib.Core.Option.{Option, some}
 use lib.ListN.{get_elem?}
-use Rattle.atomic_table.specs.Table.{Act, Me, opening, homes_after, carried_after, Valid, Allows, Splits, Joins}
-use Rattle.atomic_table.proofs.Lists.{at_set}
 use Rattle.uring_words.specs.Sides.{Knows, both_know, app_part, kernel_part, both_parts, spent_with}
-use Rattle.uring_words.specs.Slots.{SidesAgree, app_has, kernel_has, parts_of_both}
-use Rattle.uring_words.specs.declared.sides.View.{View}
 use Rattle.uring_words.proofs.Seats.{at_longer, only_seat, set_seats}
 use Rattle.uring_words.proofs.SlotActs.{changes, changes-carried}
 

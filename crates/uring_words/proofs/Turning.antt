@@ -1,9 +1,6 @@
 -- The first slot that a seat holds goes after the others.
-use Rattle.std.proofs.lemmas.List.{drop_more, take_more}
+use Rattle.uring_words.proofs.Common.{drop_more, held_from, place_of, rest, take_more, turned}
 use Rattle.std.proofs.Common.{◌≡◌, ℕ, ◌+◌, ◌<◌, List, [], ◌∷◌, ◌++◌, drop, take, length, get_or, sym, ◌∙◌, ap, arith, append_assoc}
-use Rattle.atomic_table.specs.Table.{rest, turned}
-use Rattle.uring_words.specs.Places.{place_of}
-use Rattle.uring_words.specs.Slots.{held_from}
 
 module _ {S : Type 0} where
   -- one element of a list, with those in front of it and those after it

@@ -1,5 +1,4 @@
-use Rattle.uring_core.specs.Histories.{History, IsLawfulApart}
-use Rattle.uring_core.proofs.ByRules.{of_manual}
+use Rattle.uring_laws.proofs.Common.{History, IsLawfulApart, of_manual}
 use Rattle.uring_laws.specs.Laws.{DoomedNeverRun, DoomedStayDoomed, CancelledWereDoomed}
 use Rattle.uring_laws.proofs.OrderLaws.{never_run, were_doomed, stay_doomed}
 use Rattle.uring_laws.proofs.doomed_never_run.Goals as goal

@@ -1,9 +1,5 @@
 use Rattle.std.proofs.Common.{◌≡◌, ℕ, true}
-use Rattle.uring_entry.specs.Requests.{is_outstanding}
-use Rattle.uring_core.specs.World.{World}
-use Rattle.uring_core.specs.Histories.{world}
-use Rattle.uring_core.proofs.ByRules.{of_manual}
-use Rattle.uring_laws.specs.Laws.{LeastCanGoOn}
+use Rattle.uring_laws.proofs.Common.{LeastCanGoOn, World, is_outstanding, of_manual, world}
 use Rattle.uring_laws.proofs.RequestLaws.{least_goes_on}
 use Rattle.uring_laws.proofs.least_can_go_on.Goals as goal
 

@@ -1,5 +1,4 @@
-use Rattle.uring_core.proofs.ByRules.{of_manual}
-use Rattle.uring_laws.specs.Laws.{LinksAndDrainsHold}
+use Rattle.uring_laws.proofs.Common.{LinksAndDrainsHold, of_manual}
 use Rattle.uring_laws.proofs.OrderLaws.{waits}
 use Rattle.uring_laws.proofs.links_and_drains_hold.Goals as goal
 

@@ -1,8 +1,6 @@
 use Rattle.uring_laws.proofs.ReadOff.{own_submission, own_requests, own_completions, own_posted}
 use Rattle.uring_laws.proofs.Chosen.{chosen_in, chosen_stays}
-use Rattle.uring_core.specs.Histories.{History, IsLawfulApart}
-use Rattle.uring_core.proofs.ByRules.{of_manual}
-use Rattle.uring_laws.specs.HistoryLists.{OwnPosted, OwnCancelled}
+use Rattle.uring_laws.proofs.Common.{History, IsLawfulApart, OwnCancelled, OwnPosted, of_manual}
 use Rattle.uring_laws.proofs.lists_are_the_historys_own.Goals as goal
 
 pub returns : goal.returns

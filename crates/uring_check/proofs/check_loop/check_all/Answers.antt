@@ -1,10 +1,8 @@
 use Rattle.std.proofs.Common.{◌≡◌, Result, Ok, Err, sym, ap, ◌∙◌, rules}
-use Rattle.std.specs.Prelude.{string_bytes}
-use Rattle.std.proofs.lemmas.Bool.{false≢true}
+use Rattle.uring_check.proofs.Common.{Verdict, false≢true, string_bytes}
 use Rattle.uring_check.proofs.Readings.{part_checked, unsaid_checked, cut_checked, whole_checked}
 use Rattle.uring_text.specs.declared.trace_fault.TraceFault.{TraceFault}
 use Rattle.uring_text.specs.declared.trace_fault.TraceFault.TheVariants as fault
-use Rattle.uring_check.specs.declared.verdict.Verdict.{Verdict}
 use Rattle.uring_check.proofs.check_loop.check_all.Goals as goal
 
 -- the fault, if there is one

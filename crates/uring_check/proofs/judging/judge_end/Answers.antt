@@ -1,9 +1,7 @@
 use Rattle.std.proofs.Common.{refl, sym, subst, w32, ◌∙◌, rules}
-use Rattle.std.proofs.lemmas.Bool.{both_ways}
+use Rattle.uring_check.proofs.Common.{MayGive, both_ways, no_bytes}
 use Rattle.std.proofs.lemmas.Int.{to_z-of_z}
-use Rattle.uring_entry.specs.Requests.{no_bytes}
 use Rattle.uring_core.specs.declared.answer.Answer.TheVariants as answer
-use Rattle.uring_check.specs.Rules.{MayGive}
 use Rattle.uring_check.proofs.GrantedAnswers.{any_apart, any_finishes}
 use Rattle.uring_check.proofs.WantedAnswers.{end_refused}
 use Rattle.uring_check.proofs.judging.judge_end.Goals as goal

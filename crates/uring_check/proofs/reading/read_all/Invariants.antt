@@ -1,6 +1,5 @@
 use Rattle.std.proofs.Common.{Bool, [], ◌-◌, ◌^◌}
-use Rattle.uring_check.specs.Rules.{Rules}
-use Rattle.uring_check.specs.Checking.{Has}
+use Rattle.uring_check.proofs.Common.{Has, Rules}
 use Rattle.uring_check.proofs.Readings.{So}
 use Rattle.uring_check.proofs.reading.read_all.Given as goal
 

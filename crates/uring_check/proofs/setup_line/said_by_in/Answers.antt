@@ -1,7 +1,5 @@
 use Rattle.std.proofs.Common.{◌≡◌, false, length, refl}
-use Rattle.std.specs.Prelude.{nat_le}
-use Rattle.std.proofs.lemmas.Bool.{lt-leb}
-use Rattle.std.proofs.lemmas.Result.{IfOk-weaker}
+use Rattle.uring_check.proofs.Common.{IfOk-weaker, lt-leb, nat_le}
 use Rattle.uring_check.proofs.setup_line.said_by_in.Goals as goal
 
 pub returns-in-Some-clause-said : goal.returns-in-Some-clause-said

@@ -1,6 +1,5 @@
 use Rattle.std.proofs.Common.{◌≡◌, true, length}
-use Rattle.std.specs.Prelude.{nat_le}
-use Rattle.std.proofs.lemmas.Bool.{le-leb}
+use Rattle.uring_check.proofs.Common.{le-leb, nat_le}
 use Rattle.uring_check.proofs.setup_line.said_short.Goals as goal
 
 pub returns-clause-said : goal.returns-clause-said

@@ -1,8 +1,5 @@
 use Rattle.std.proofs.Common.{◌≡◌, ◌++◌, List, ℕ, refl, ap, ap₂, ◌∙◌, append_assoc}
-use Rattle.std.specs.Prelude.{codes, string_bytes}
-use Rattle.std.specs.Fmt.{decimal}
-use Rattle.uring_check.specs.SetupLines.{end_text}
-use Rattle.std.proofs.lemmas.Result.{on_ok_weaker}
+use Rattle.uring_check.proofs.Common.{codes, decimal, end_text, on_ok_weaker, string_bytes}
 use Rattle.uring_check.proofs.setup_text.push_setup.Goals as goal
 
 -- what is appended in five parts, four of a name and a number

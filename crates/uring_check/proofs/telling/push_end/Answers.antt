@@ -1,7 +1,5 @@
 use Rattle.std.proofs.Common.{◌≡◌, ◌++◌, List, ℕ, refl, ap, ◌∙◌, append_assoc}
-use Rattle.std.proofs.lemmas.Result.{on_ok_weaker}
-use Rattle.std.specs.Prelude.{codes, string_bytes}
-use Rattle.uring_check.specs.Reports.{operation_text}
+use Rattle.uring_check.proofs.Common.{codes, on_ok_weaker, operation_text, string_bytes}
 use Rattle.uring_check.proofs.telling.push_end.Goals as goal
 
 two_parts : (old one new u v : List ℕ) → one ≡ old ++ u → new ≡ one ++ v → new ≡ old ++ (u ++ v)

@@ -1,9 +1,7 @@
 use Rattle.std.proofs.Common.{◌≡◌, ◌++◌, ◌∷◌, [], List, ℕ, refl, ap, ◌∙◌, append_assoc}
-use Rattle.std.specs.Prelude.{codes, string_bytes}
-use Rattle.std.proofs.lemmas.Result.{on_ok_weaker}
+use Rattle.uring_check.proofs.Common.{codes, line_text, on_ok_weaker, string_bytes}
 use Rattle.uring_trace.specs.Flaws.{line_flaw}
 use Rattle.uring_trace.specs.declared.flaws.Language.TheVariants as language
-use Rattle.uring_check.specs.Reports.{line_text}
 use Rattle.uring_check.proofs.telling.tell_bad.Goals as goal
 
 -- a line's number and what is wrong with the line, appended in four parts

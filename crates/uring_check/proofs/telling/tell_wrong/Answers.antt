@@ -1,9 +1,6 @@
 use Rattle.std.proofs.Common.{◌≡◌, ◌++◌, ◌∷◌, [], List, ℕ, refl, ap, ◌∙◌, append_assoc}
-use Rattle.std.specs.Prelude.{codes, string_bytes}
-use Rattle.std.proofs.lemmas.Result.{on_ok_weaker}
+use Rattle.uring_check.proofs.Common.{codes, completion_wanted, line_text, on_ok_weaker, reasons_by, string_bytes, wanted_text}
 use Rattle.uring_text.specs.Visible.{visible_line}
-use Rattle.uring_check.specs.Checking.{reasons_by}
-use Rattle.uring_check.specs.Reports.{completion_wanted, line_text, wanted_text}
 use Rattle.uring_check.proofs.telling.tell_wrong.Goals as goal
 
 -- a line, what is wanted in its place and why, appended in six parts

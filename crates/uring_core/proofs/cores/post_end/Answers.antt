@@ -1,11 +1,6 @@
 use Rattle.std.proofs.Common.{sym, subst, rules}
-use Rattle.std.specs.Int.{w32}
-use Rattle.std.proofs.lemmas.Int.{to_z-of_z}
-use Rattle.uring_entry.specs.Layout.{Cqe}
-use Rattle.uring_entry.specs.Completions.{with_posted}
-use Rattle.uring_rings.specs.Cq.{ShowsCompletions}
+use Rattle.uring_core.proofs.Common.{Cqe, ShowsCompletions, to_z-of_z, w32, with_posted, with_told}
 use Rattle.uring_dispatch.specs.declared.answers.Posts.{Posts}
-use Rattle.uring_core.specs.Told.{with_told}
 use Rattle.uring_core.proofs.cores.post_end.Goals as goal
 
 pub returns-in-Completion-clause-shows : goal.returns-in-Completion-clause-shows

@@ -1,7 +1,5 @@
 use Rattle.std.proofs.Common.{ℤ, [], w32, subst, rules}
-use Rattle.std.proofs.lemmas.Int.{to_z-of_z}
-use Rattle.std.proofs.lemmas.Result.{IfOk-weaker}
-use Rattle.uring_crash.specs.Following.{Follows}
+use Rattle.uring_crash.proofs.Common.{Follows, IfOk-weaker, to_z-of_z}
 use Rattle.uring_crash.proofs.crash_run.crash.Goals as goal
 
 pub returns : goal.returns

@@ -1,6 +1,5 @@
 use Rattle.std.proofs.Common.{[], ℕ, ℤ, ◌-◌, ◌^◌}
-use Rattle.uring_entry.specs.Setup.{Setup}
-use Rattle.uring_crash.specs.Following.{Follows}
+use Rattle.uring_crash.proofs.Common.{Follows, Setup}
 use Rattle.uring_crash.proofs.Runs.{Far}
 use Rattle.uring_crash.proofs.crash_run.read_all.Given as goal
 

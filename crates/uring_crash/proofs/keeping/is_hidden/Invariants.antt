@@ -1,7 +1,5 @@
 use Rattle.std.proofs.Common.{◌≡◌, take, reverse}
-use Rattle.std.specs.List.{list_any}
-use Rattle.uring_volume.specs.Choices.{issued}
-use Rattle.uring_crash.specs.Keeping.{lies_over}
+use Rattle.uring_crash.proofs.Common.{issued, lies_over, list_any}
 use Rattle.uring_crash.proofs.keeping.is_hidden.Given as goal
 
 abbrev pub invariant-loop-event : goal.invariant-loop-event

@@ -1,6 +1,5 @@
 use Rattle.std.proofs.Common.{◌≡◌, ◌+◌, ◌<◌, ℕ, true, reverse}
-use Rattle.std.specs.Prelude.{slice_index}
-use Rattle.uring_crash.specs.Keeping.{keeps_byte}
+use Rattle.uring_crash.proofs.Common.{keeps_byte, slice_index}
 use Rattle.uring_crash.proofs.keeping.keeps_bytes.Given as goal
 
 abbrev pub invariant-loop-j : goal.invariant-loop-j

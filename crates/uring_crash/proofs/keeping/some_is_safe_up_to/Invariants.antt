@@ -1,7 +1,5 @@
 use Rattle.std.proofs.Common.{◌≡◌, take, reverse}
-use Rattle.std.specs.List.{list_any}
-use Rattle.uring_volume.specs.Choices.{issued}
-use Rattle.uring_crash.specs.Keeping.{is_safe_up_to}
+use Rattle.uring_crash.proofs.Common.{is_safe_up_to, issued, list_any}
 use Rattle.uring_crash.proofs.keeping.some_is_safe_up_to.Given as goal
 
 abbrev pub invariant-loop-event : goal.invariant-loop-event

@@ -1,7 +1,5 @@
 use Rattle.std.proofs.Common.{◌≡◌, take, reverse}
-use Rattle.std.specs.List.{list_any}
-use Rattle.uring_volume.specs.Choices.{issued}
-use Rattle.uring_crash.specs.Keeping.{may_show_other}
+use Rattle.uring_crash.proofs.Common.{issued, list_any, may_show_other}
 use Rattle.uring_crash.proofs.keeping.some_may_show_other.Given as goal
 
 abbrev pub invariant-loop-event : goal.invariant-loop-event

@@ -1,6 +1,5 @@
 use Rattle.std.proofs.Common.{List, ℕ, sym, subst, ◌∙◌}
-use Rattle.std.specs.Prelude.{string_bytes}
-use Rattle.std.specs.Io.KnownBytes.{Appends}
+use Rattle.uring_crash.proofs.Common.{Appends, string_bytes}
 use Rattle.uring_crash.proofs.Replies.{is_answered, is_bad_line}
 use Rattle.uring_crash.proofs.questions.answer.Goals as goal
 

@@ -1,6 +1,4 @@
-use Rattle.std.specs.Prelude.{codes}
-use Rattle.uring_crash.specs.Crashes.{image_text}
-use Rattle.uring_crash.specs.Questions.{kept_text}
+use Rattle.uring_crash.proofs.Common.{codes, image_text, kept_text}
 use Rattle.uring_crash.proofs.Replies.{four_parts}
 use Rattle.uring_crash.proofs.questions.text_of_image_without.Goals as goal
 

@@ -1,7 +1,5 @@
 use Rattle.std.proofs.Common.{◌++◌, ℕ, List, length, map, take, sym, ap, ◌∙◌}
-use Rattle.std.proofs.lemmas.List.{take_all, length-map}
-use Rattle.uring_crash.specs.Crashes.{image_text}
-use Rattle.uring_crash.specs.Questions.{image_lines, count_text}
+use Rattle.uring_crash.proofs.Common.{count_text, image_lines, image_text, length-map, take_all}
 use Rattle.uring_crash.proofs.Replies.{lines_more}
 use Rattle.uring_crash.proofs.questions.text_of_images.Goals as goal
 

@@ -1,6 +1,5 @@
 use Rattle.std.proofs.Common.{◌≡◌, map, take}
-use Rattle.std.specs.Prelude.{string_bytes}
-use Rattle.uring_crash.specs.Questions.{image_lines}
+use Rattle.uring_crash.proofs.Common.{image_lines, string_bytes}
 use Rattle.uring_crash.proofs.questions.text_of_images.Given as goal
 
 abbrev pub invariant-loop-image : goal.invariant-loop-image

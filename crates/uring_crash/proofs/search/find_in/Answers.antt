@@ -1,7 +1,5 @@
 use Rattle.std.proofs.Common.{◌≡◌, ℕ, List, map, inl, inr, sym, subst, ◌∙◌, rules}
-use Rattle.std.proofs.lemmas.List.{take_all}
-use Rattle.uring_volume.specs.Images.{IsIn}
-use Rattle.uring_crash.specs.Keeping.{Holds}
+use Rattle.uring_crash.proofs.Common.{Holds, IsIn, take_all}
 use Rattle.uring_crash.proofs.Searches.{more_seen, is_among}
 use Rattle.uring_crash.proofs.search.find_in.Goals as goal
 

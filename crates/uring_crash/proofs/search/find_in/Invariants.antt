@@ -1,6 +1,5 @@
 use Rattle.std.proofs.Common.{ℕ, map, take, List}
-use Rattle.uring_volume.specs.Images.{IsIn}
-use Rattle.uring_crash.specs.Keeping.{Holds}
+use Rattle.uring_crash.proofs.Common.{Holds, IsIn}
 use Rattle.uring_crash.proofs.search.find_in.Given as goal
 
 abbrev pub invariant-loop-image : goal.invariant-loop-image

@@ -1,7 +1,6 @@
 use Rattle.std.proofs.Common.{◌≡◌, ◌<◌, ℕ, [], reverse, sym, subst, rules}
 use Rattle.uring_volume.specs.Events as volume
-use Rattle.uring_volume.specs.Images.{IsImage}
-use Rattle.uring_crash.specs.Keeping.{IsPlain}
+use Rattle.uring_crash.proofs.Common.{IsImage, IsPlain}
 use Rattle.uring_crash.proofs.Watching.{told_of}
 use Rattle.uring_crash.proofs.search.is_plain.Goals as goal
 

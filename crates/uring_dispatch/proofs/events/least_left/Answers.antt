@@ -1,6 +1,5 @@
 use Rattle.std.proofs.Common.{ap, ◌∙◌, arith, inl, inr}
-use Rattle.std.proofs.lemmas.Bool.{cases_eq}
-use Rattle.uring_dispatch.specs.Window.{at}
+use Rattle.uring_dispatch.proofs.Common.{at, cases_eq}
 use Rattle.uring_dispatch.proofs.events.least_left.Goals as goal
 
 pub returns-then-group-n : goal.returns-then-group-n

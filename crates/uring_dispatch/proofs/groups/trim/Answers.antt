@@ -1,10 +1,5 @@
 use Rattle.std.proofs.Common.{◌≡◌, ◌<◌, ◌∙◌, ap, arith, length, refl, sym, subst, List, true}
-use Rattle.std.specs.Option.{option_to_list}
-use Rattle.std.specs.VecDeque.{deque_len}
-use Rattle.std.specs.List.{list_any}
-use Rattle.uring_number_set.proofs.BlockLemmas.{popped}
-use Rattle.uring_dispatch.specs.declared.group.Barrier.{Barrier}
-use Rattle.uring_dispatch.specs.Groups.{covers, IsSorted, IsBeyond}
+use Rattle.uring_dispatch.proofs.Common.{Barrier, IsBeyond, IsSorted, covers, deque_len, list_any, option_to_list, popped}
 use Rattle.uring_dispatch.proofs.GroupsKept.{sorted_pop, starts_at_no, starts_at_yes, head_at, covered_pop, beyond_pop}
 use Rattle.uring_dispatch.proofs.groups.trim.Goals as goal
 

@@ -1,8 +1,6 @@
 use Rattle.std.proofs.Common.{◌≡◌, ◌<◌, ◌*◌, ◌-◌, ◌%◌, ◌^◌, eqb, ap, sym, ◌∙◌, arith, inl, inr}
-use Rattle.std.specs.Int.{bit_at}
+use Rattle.uring_dispatch.proofs.Common.{bit_at, bit_at-zero, bit_at_ones, bit_at_ones_above, cases_lt, eq-eqb, le-ltb, lt-ltb}
 use Rattle.std.proofs.Math.Pow.{pow-lt}
-use Rattle.std.proofs.lemmas.Bool.{cases_lt, eq-eqb, lt-ltb, le-ltb}
-use Rattle.std.proofs.lemmas.Nat.Bits.{bit_at-zero, bit_at_ones, bit_at_ones_above}
 use Rattle.uring_dispatch.proofs.issuable.below.Goals as goal
 
 pub returns-then-limit-place : goal.returns-then-limit-place

@@ -1,9 +1,5 @@
 use Rattle.std.proofs.Common.{◌≡◌, ◌+◌, ◌<◌, ◌^◌, ℕ, suc, Bool, eqb, arith, ap, sym, subst, inl, inr, ◌∙◌}
-use Rattle.std.specs.Int.{bit_at}
-use Rattle.std.proofs.lemmas.Bool.{cases_eq, eq-eqb, ne_eqb}
-use Rattle.std.proofs.lemmas.Nat.Bits.{bit_at-lt, shr_and_one}
-use Rattle.uring_entry.specs.Below.{count_below}
-use Rattle.uring_dispatch.specs.Window.{one_if}
+use Rattle.uring_dispatch.proofs.Common.{bit_at, bit_at-lt, cases_eq, count_below, eq-eqb, ne_eqb, one_if, shr_and_one}
 use Rattle.uring_dispatch.proofs.Counting.{ones_counted}
 use Rattle.uring_dispatch.proofs.issuable.nth_bit.Goals as goal
 

@@ -1,6 +1,5 @@
 use Rattle.std.proofs.Common.{◌≡◌, ◌+◌, ◌==◌}
-use Rattle.std.specs.Int.{bit_at}
-use Rattle.uring_entry.specs.Below.{count_below}
+use Rattle.uring_dispatch.proofs.Common.{bit_at, count_below}
 use Rattle.uring_dispatch.proofs.issuable.nth_bit.Given as goal
 
 abbrev pub invariant-loop-i : goal.invariant-loop-i

@@ -1,9 +1,5 @@
 use Rattle.std.proofs.Common.{◌≡◌, ℤ, Bool, true, false, not, ◌&&◌, ◌||◌, refl}
-use Rattle.std.specs.Prelude.{if◌then◌else◌}
-use Rattle.uring_entry.specs.declared.operation.Op.{Op}
-use Rattle.uring_entry.specs.Preparation.{is_cancel, operation_of}
-use Rattle.uring_entry.specs.Requests.{entry_of, is_outstanding, is_running, is_doomed, is_ready, doomed_result, cancel_result}
-use Rattle.uring_dispatch.specs.declared.answers.Issued.TheVariants.{Run, Ended, NotReady, Running, Unknown}
+use Rattle.uring_dispatch.proofs.Common.{Ended, NotReady, Op, Run, Running, Unknown, cancel_result, doomed_result, entry_of, if◌then◌else◌, is_cancel, is_doomed, is_outstanding, is_ready, is_running, operation_of}
 use Rattle.uring_dispatch.specs.Laws.{is_refusal}
 use Rattle.uring_dispatch.proofs.laws.issuable_is_not_refused.Goals as goal
 

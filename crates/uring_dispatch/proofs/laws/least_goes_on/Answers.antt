@@ -1,5 +1,4 @@
-use Rattle.std.proofs.lemmas.Bool.{or_cases}
-use Rattle.uring_entry.proofs.RequestLemmas.{least_of_goes_on}
+use Rattle.uring_dispatch.proofs.Common.{least_of_goes_on, or_cases}
 use Rattle.uring_dispatch.proofs.laws.least_goes_on.Goals as goal
 
 pub returns : goal.returns

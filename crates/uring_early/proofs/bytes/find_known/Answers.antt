@@ -1,10 +1,5 @@
 use Rattle.std.proofs.Common.{◌≡◌, [], ℕ, List, true, false, ap, sym, subst, ◌∙◌, rules}
-use Rattle.std.proofs.lemmas.Bool.{not-true, not-false}
-use Rattle.uring_entry.specs.Setup.{Setup}
-use Rattle.uring_core.specs.Histories.{history_of, IsLawfulApart}
-use Rattle.uring_early.specs.declared.mark.Mark.{Mark}
-use Rattle.uring_early.specs.Search.{IsFated}
-use Rattle.uring_early.specs.Bare.{IsFoundBare, IssuesMeet, known_marks}
+use Rattle.uring_early.proofs.Common.{IsFated, IsFoundBare, IsLawfulApart, IssuesMeet, Mark, Setup, history_of, known_marks, not-false, not-true}
 use Rattle.uring_early.proofs.Deciding.{decided_blank, refused_blank}
 use Rattle.uring_early.proofs.bytes.find_known.Goals as goal
 

@@ -1,6 +1,5 @@
 use Rattle.std.proofs.Common.{◌≡◌, ◌≤◌, Some, take, vec_len}
-use Rattle.std.specs.Prelude.{slice_get}
-use Rattle.uring_files.specs.Contents.{FileContents}
+use Rattle.uring_early.proofs.Common.{FileContents, slice_get}
 use Rattle.uring_early.proofs.copies.bytes_of.Given as goal
 
 abbrev pub invariant-loop-at : goal.invariant-loop-at

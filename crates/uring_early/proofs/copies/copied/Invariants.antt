@@ -1,6 +1,5 @@
 use Rattle.std.proofs.Common.{◌≡◌, ◌<◌, ℕ, length, get_or}
-use Rattle.uring_files.specs.Contents.{empty_file}
-use Rattle.uring_early.specs.Moves.{plain}
+use Rattle.uring_early.proofs.Common.{empty_file, plain}
 use Rattle.uring_early.proofs.copies.copied.Given as goal
 
 abbrev pub invariant-loop-fd : goal.invariant-loop-fd

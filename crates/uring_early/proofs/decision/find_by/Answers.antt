@@ -1,11 +1,5 @@
 use Rattle.std.proofs.Common.{◌≡◌, ℕ, true, [], List, ap, sym, subst, ◌∙◌, rules}
-use Rattle.std.proofs.lemmas.Bool.{not-false}
-use Rattle.uring_entry.specs.Setup.{Setup}
-use Rattle.uring_core.specs.Histories.{history_of, IsLawfulApart}
-use Rattle.uring_early.specs.declared.mark.Mark.{Mark}
-use Rattle.uring_early.specs.Search.{IsFated}
-use Rattle.uring_early.specs.Decided.{IsFound}
-use Rattle.uring_early.specs.Marks.{marks_after}
+use Rattle.uring_early.proofs.Common.{IsFated, IsFound, IsLawfulApart, Mark, Setup, history_of, marks_after, not-false}
 use Rattle.uring_early.proofs.Timelines.{decided}
 use Rattle.uring_early.proofs.decision.find_by.Goals as goal
 

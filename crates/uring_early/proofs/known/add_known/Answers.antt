@@ -1,11 +1,5 @@
 use Rattle.std.proofs.Common.{◌≡◌, ◌+◌, false, true, take, [], ◌∷◌, ◌++◌, List, ap, sym, subst, ◌∙◌, arith, rules}
-use Rattle.std.proofs.lemmas.Bool.{not-true, not-false}
-use Rattle.uring_entry.specs.Setup.{Setup}
-use Rattle.uring_core.specs.Core.{FitsApart}
-use Rattle.uring_core.specs.Histories.{history_of, world}
-use Rattle.uring_core.proofs.Following.{history_of_snoc}
-use Rattle.uring_early.specs.declared.mark.Mark.{Mark}
-use Rattle.uring_early.specs.Bare.{IssueMeets, IssuesMeet, known_by, known_mark, known_marks}
+use Rattle.uring_early.proofs.Common.{FitsApart, IssueMeets, IssuesMeet, Mark, Setup, history_of, history_of_snoc, known_by, known_mark, known_marks, not-false, not-true, world}
 use Rattle.uring_early.proofs.Knowing.{issues_more, known_more, wrong_known}
 use Rattle.uring_early.proofs.Marking.{taken_next}
 use Rattle.uring_early.proofs.known.add_known.Goals as goal

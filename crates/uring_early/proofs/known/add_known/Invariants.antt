@@ -1,7 +1,5 @@
 use Rattle.std.proofs.Common.{◌≡◌, [], take}
-use Rattle.uring_core.specs.Core.{FitsApart}
-use Rattle.uring_core.specs.Histories.{history_of}
-use Rattle.uring_early.specs.Bare.{IssuesMeet, known_marks}
+use Rattle.uring_early.proofs.Common.{FitsApart, IssuesMeet, history_of, known_marks}
 use Rattle.uring_early.proofs.known.add_known.Given as goal
 
 -- the events so far are a lawful history, their marks are there, and their issues have the bytes that are known

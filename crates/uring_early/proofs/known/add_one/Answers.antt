@@ -1,9 +1,5 @@
 use Rattle.std.proofs.Common.{◌≡◌, ◌∷◌, [], ◌++◌, false, true, ℕ, List, Option, ap, sym, subst, ◌∙◌, rules}
-use Rattle.std.proofs.lemmas.Bool.{both_ways, not-true, not-false}
-use Rattle.uring_entry.specs.Setup.{Setup}
-use Rattle.uring_core.specs.Histories.{world}
-use Rattle.uring_early.specs.declared.mark.Mark.{Mark}
-use Rattle.uring_early.specs.Bare.{IssueMeets, known_by, known_mark, posted_in}
+use Rattle.uring_early.proofs.Common.{IssueMeets, Mark, Setup, both_ways, known_by, known_mark, not-false, not-true, posted_in, world}
 use Rattle.uring_early.proofs.Knowing.{known_is}
 use Rattle.uring_early.proofs.known.add_one.Goals as goal
 

@@ -1,11 +1,5 @@
 use Rattle.std.proofs.Common.{◌≡◌, ◌+◌, false, true, take, [], ◌∷◌, ◌++◌, List, ap, sym, subst, ◌∙◌, arith, rules}
-use Rattle.std.proofs.lemmas.Bool.{not-true, not-false}
-use Rattle.uring_entry.specs.Setup.{Setup}
-use Rattle.uring_core.specs.Core.{FitsApart}
-use Rattle.uring_core.specs.Histories.{history_of, world}
-use Rattle.uring_core.proofs.Following.{history_of_snoc}
-use Rattle.uring_early.specs.declared.mark.Mark.{Mark}
-use Rattle.uring_early.specs.Marks.{mark_by, marks_after}
+use Rattle.uring_early.proofs.Common.{FitsApart, Mark, Setup, history_of, history_of_snoc, mark_by, marks_after, not-false, not-true, world}
 use Rattle.uring_early.proofs.Marking.{marks_more, taken_next, wrong_from}
 use Rattle.uring_early.proofs.marks.add_marks.Goals as goal
 

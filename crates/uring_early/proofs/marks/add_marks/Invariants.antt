@@ -1,7 +1,5 @@
 use Rattle.std.proofs.Common.{◌≡◌, [], take}
-use Rattle.uring_core.specs.Core.{FitsApart}
-use Rattle.uring_core.specs.Histories.{history_of}
-use Rattle.uring_early.specs.Marks.{marks_after}
+use Rattle.uring_early.proofs.Common.{FitsApart, history_of, marks_after}
 use Rattle.uring_early.proofs.marks.add_marks.Given as goal
 
 -- the events so far are a lawful history, and their marks are there

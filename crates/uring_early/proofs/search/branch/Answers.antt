@@ -1,8 +1,6 @@
 use Rattle.std.proofs.Common.{List, ap, map, sym, subst, ◌++◌, ◌∙◌}
-use Rattle.std.specs.Prelude.{Contains}
+use Rattle.uring_early.proofs.Common.{Contains, IsPlaced, MayTakeAt, Taker, seat_of, seats_of, took_at}
 use Rattle.uring_early.specs.declared.state.State.{State}
-use Rattle.uring_early.specs.declared.takers.Taker.{Taker}
-use Rattle.uring_early.specs.Search.{IsPlaced, MayTakeAt, seat_of, seats_of, took_at}
 use Rattle.uring_early.proofs.Searching.{taken_all}
 use Rattle.uring_early.proofs.search.branch.Goals as goal
 

@@ -1,6 +1,5 @@
 use Rattle.std.proofs.Common.{◌∷◌, [], ap, ◌∙◌, rules}
-use Rattle.std.proofs.lemmas.List.{map-append}
-use Rattle.uring_early.specs.Search.{seat_of, seats_of}
+use Rattle.uring_early.proofs.Common.{map-append, seat_of, seats_of}
 use Rattle.uring_early.proofs.Searching.{passed_one, dropped_one}
 use Rattle.uring_early.proofs.search.pass.Goals as goal
 

@@ -1,6 +1,5 @@
 use Rattle.std.proofs.Common.{◌≡◌, false, true, is_some, sym, ◌∙◌, rules}
-use Rattle.std.proofs.lemmas.Bool.{not-true, not-false}
-use Rattle.uring_files.specs.Operations.{IsForFiles, is_lengthening}
+use Rattle.uring_early.proofs.Common.{IsForFiles, is_lengthening, not-false, not-true}
 use Rattle.uring_early.proofs.Adding.{adds_called, adds_for, adds_refused, ready_by}
 use Rattle.uring_early.proofs.takers.add_takers.Goals as goal
 

@@ -1,10 +1,6 @@
 use Rattle.std.proofs.Common.{◌≡◌, ap, sym, subst, ◌∙◌, ◌+◌, ◌++◌, ◌∷◌, [], arith, get_or, take, List, None}
-use Rattle.std.proofs.lemmas.List.{take_all, take_more}
+use Rattle.uring_early.proofs.Common.{Adds, FileContents, Running, Taker, take_all, take_more}
 use Rattle.uring_entry.specs.declared.operation.Op.TheVariants.{Nop}
-use Rattle.uring_early.specs.declared.takers.Taker.{Taker}
-use Rattle.uring_files.specs.Contents.{FileContents}
-use Rattle.uring_early.specs.declared.running.Running.{Running}
-use Rattle.uring_early.specs.Search.{Adds}
 use Rattle.uring_early.proofs.Adding.{MayBe, SoFar, so_far_all, so_far_more, so_far_same}
 use Rattle.uring_early.proofs.takers.takers_of.Goals as goal
 use Rattle.uring_early.proofs.takers.takers_of.Goals.{then-one-awaited+in_ok-add_takers, else-one-awaited}

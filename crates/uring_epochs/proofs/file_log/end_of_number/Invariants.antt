@@ -1,6 +1,5 @@
 use Rattle.std.proofs.Common.{◌≡◌, take, reverse}
-use Rattle.uring_volume.specs.Choices.{issued, named}
-use Rattle.uring_volume.specs.Images.{length_over}
+use Rattle.uring_epochs.proofs.Common.{issued, length_over, named}
 use Rattle.uring_epochs.proofs.file_log.end_of_number.Given as goal
 
 abbrev pub invariant-loop-i : goal.invariant-loop-i

@@ -1,8 +1,5 @@
 use Rattle.std.proofs.Common.{◌≡◌, ◌+◌, ℕ, suc, List, [], length, map, take, get_or, sym, ap, ◌∙◌, arith}
-use Rattle.std.proofs.Math.ListN.{set}
-use Rattle.std.proofs.lemmas.List.{get_or-map, length-map}
-use Rattle.uring_files.specs.Contents.{FileContents, file_of_bytes}
-use Rattle.uring_epochs.specs.Epochs.{first_files}
+use Rattle.uring_epochs.proofs.Common.{FileContents, file_of_bytes, first_files, get_or-map, length-map, set}
 use Rattle.uring_epochs.proofs.Noted.{first_many, first_empty, first_put}
 use Rattle.uring_epochs.proofs.first_files.make_files.Goals as goal
 

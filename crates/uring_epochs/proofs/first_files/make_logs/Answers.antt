@@ -1,8 +1,6 @@
 use Rattle.std.proofs.Common.{◌≡◌, ◌∷◌, ◌++◌, ◌<◌, ◌^◌, ◌+◌, [], ℕ, ℤ, List, suc, length, map, get_or, w32, sym, ap, ◌∙◌, arith}
-use Rattle.std.specs.Prelude.{pos}
+use Rattle.uring_epochs.proofs.Common.{Log, first_files, log_on, logs_on, pos}
 use Rattle.std.proofs.lemmas.Int.{to_z_pos}
-use Rattle.uring_epochs.specs.Logs.{Log, log_on}
-use Rattle.uring_epochs.specs.Epochs.{first_files, logs_on}
 use Rattle.uring_epochs.proofs.Noted.{logs_more, logs_many, first_many}
 use Rattle.uring_epochs.proofs.first_files.make_logs.Goals as goal
 

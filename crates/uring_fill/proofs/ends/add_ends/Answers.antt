@@ -1,6 +1,5 @@
 use Rattle.std.proofs.Common.{◌≡◌, length, arith}
-use Rattle.uring_core.specs.Histories.{world}
-use Rattle.uring_fill.specs.Parts.{HasEndsOf}
+use Rattle.uring_fill.proofs.Common.{HasEndsOf, world}
 use Rattle.uring_fill.proofs.Seeing.{descend}
 use Rattle.uring_fill.proofs.Adding.{adds_then, ends_kept, accepted_ends}
 use Rattle.uring_fill.proofs.ends.add_ends.Goals as goal

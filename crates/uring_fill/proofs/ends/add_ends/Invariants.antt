@@ -1,6 +1,5 @@
 use Rattle.std.proofs.Common.{ℕ, ◌+◌, ◌<◌, ◌≤◌, List}
-use Rattle.uring_core.specs.Histories.{Event, History}
-use Rattle.uring_fill.specs.Parts.{StandsAt, Adds, HasEndsOf}
+use Rattle.uring_fill.proofs.Common.{Adds, Event, HasEndsOf, History, StandsAt}
 use Rattle.uring_fill.proofs.ends.add_ends.Given as goal
 
 -- the ends of the last requests so far are there

@@ -1,10 +1,7 @@
 use Rattle.std.proofs.Common.{◌≡◌, ℤ, [], ◌∷◌, ◌++◌, ap, subst, ◌∙◌, rules}
-use Rattle.std.specs.Int.{w32}
-use Rattle.std.proofs.lemmas.Int.{to_z-of_z}
+use Rattle.uring_fill.proofs.Common.{Answer, FinishFits, to_z-of_z, w32}
 use Rattle.uring_core.specs.declared.step.Step.TheVariants as step
 use Rattle.uring_core.specs.declared.answer.Answer.TheVariants as answer
-use Rattle.uring_core.specs.declared.answer.Answer.{Answer}
-use Rattle.uring_fill.specs.Parts.{FinishFits}
 use Rattle.uring_fill.proofs.Events.{finish_part}
 use Rattle.uring_fill.proofs.Adding.{adds_one}
 use Rattle.uring_fill.proofs.ends.add_finish.Goals as goal

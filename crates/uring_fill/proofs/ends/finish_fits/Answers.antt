@@ -1,10 +1,6 @@
 use Rattle.std.proofs.Common.{◌≡◌, ℤ, true, false, Some, ap, sym, subst, ◌∙◌, rules}
-use Rattle.std.specs.Int.{w32}
-use Rattle.std.proofs.lemmas.Int.{to_z-of_z}
-use Rattle.std.proofs.lemmas.Bool.{not-false}
+use Rattle.uring_fill.proofs.Common.{Cqe, completion_for, not-false, to_z-of_z, w32}
 use Rattle.uring_entry.specs.Success as success
-use Rattle.uring_entry.specs.Completions.{completion_for}
-use Rattle.uring_entry.specs.Layout.{Cqe}
 use Rattle.uring_entry.specs.Results as results
 use Rattle.uring_fill.proofs.Adding.{fits_told, fits_quiet}
 use Rattle.uring_fill.proofs.ends.finish_fits.Goals as goal

@@ -1,9 +1,5 @@
 use Rattle.std.proofs.Common.{◌≡◌, ℤ, false, subst, rules, arith, None}
-use Rattle.std.specs.Int.{w32}
-use Rattle.std.specs.Prelude.{Contains}
-use Rattle.std.proofs.lemmas.Int.{to_z-of_z}
-use Rattle.uring_rules.specs.Rules.{posts}
-use Rattle.uring_core.specs.Histories.{world}
+use Rattle.uring_fill.proofs.Common.{Contains, posts, to_z-of_z, w32, world}
 use Rattle.uring_fill.proofs.Adding.{issued_as, adds_none, adds_then, counts_next}
 use Rattle.uring_fill.proofs.issued.add_counts.Goals as goal
 

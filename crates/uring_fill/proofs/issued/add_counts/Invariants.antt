@@ -1,11 +1,5 @@
 use Rattle.std.proofs.Common.{◌≡◌, ℕ, ◌+◌, ◌<◌, true, false, Option}
-use Rattle.std.specs.Prelude.{Contains}
-use Rattle.uring_entry.specs.Layout.{Cqe}
-use Rattle.uring_entry.specs.Requests.{is_outstanding, count_result}
-use Rattle.uring_rules.specs.Rules.{posts}
-use Rattle.uring_core.specs.Core.{FitsApart}
-use Rattle.uring_core.specs.Histories.{History, world}
-use Rattle.uring_fill.specs.Parts.{Adds}
+use Rattle.uring_fill.proofs.Common.{Adds, Contains, Cqe, FitsApart, History, count_result, is_outstanding, posts, world}
 use Rattle.uring_fill.proofs.Adding.{issued_as}
 use Rattle.uring_fill.proofs.issued.add_counts.Given as goal
 

@@ -1,12 +1,7 @@
 use Rattle.std.proofs.Common.{◌≡◌, ℤ, [], ◌∷◌, ◌++◌, ap, sym, ◌∙◌, rules}
-use Rattle.std.specs.Int.{w32}
-use Rattle.std.proofs.lemmas.Int.{to_z-of_z}
-use Rattle.uring_entry.specs.Requests.{no_bytes, entry_of}
-use Rattle.uring_rules.specs.Rules.{posts}
-use Rattle.uring_core.specs.Histories.{world}
+use Rattle.uring_fill.proofs.Common.{Answer, entry_of, no_bytes, posts, to_z-of_z, w32, world}
 use Rattle.uring_core.specs.declared.step.Step.TheVariants as step
 use Rattle.uring_core.specs.declared.answer.Answer.TheVariants as answer
-use Rattle.uring_core.specs.declared.answer.Answer.{Answer}
 use Rattle.uring_fill.proofs.Events.{issue_part}
 use Rattle.uring_fill.proofs.Adding.{adds_one, issued_as, issued_outstanding, quiet_tells}
 use Rattle.uring_fill.proofs.issued.add_quiet.Goals as goal

@@ -1,6 +1,5 @@
 use Rattle.std.proofs.Common.{◌≡◌, false, None}
-use Rattle.uring_rules.specs.Rules.{posts}
-use Rattle.uring_core.specs.Histories.{world}
+use Rattle.uring_fill.proofs.Common.{posts, world}
 use Rattle.uring_fill.proofs.Adding.{adds_then, counts_all}
 use Rattle.uring_fill.proofs.issued.add_skipped.Goals as goal
 

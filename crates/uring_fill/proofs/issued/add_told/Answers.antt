@@ -1,12 +1,7 @@
 use Rattle.std.proofs.Common.{◌≡◌, ℤ, Some, [], ◌∷◌, ◌++◌, ap, ◌∙◌, rules}
-use Rattle.std.specs.Int.{w32}
-use Rattle.std.proofs.lemmas.Int.{to_z-of_z}
-use Rattle.uring_entry.specs.Layout.{Cqe, Sqe}
-use Rattle.uring_entry.specs.Completions.{completion_for}
-use Rattle.uring_entry.specs.Requests.{no_bytes}
+use Rattle.uring_fill.proofs.Common.{Answer, Cqe, Sqe, completion_for, no_bytes, to_z-of_z, w32}
 use Rattle.uring_core.specs.declared.step.Step.TheVariants as step
 use Rattle.uring_core.specs.declared.answer.Answer.TheVariants as answer
-use Rattle.uring_core.specs.declared.answer.Answer.{Answer}
 use Rattle.uring_fill.proofs.Events.{issue_part}
 use Rattle.uring_fill.proofs.Adding.{adds_one, issued_as}
 use Rattle.uring_fill.proofs.issued.add_told.Goals as goal

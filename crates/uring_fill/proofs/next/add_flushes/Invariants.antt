@@ -1,8 +1,7 @@
 use Rattle.std.proofs.Common.{ℕ, ◌<◌}
-use Rattle.std.specs.Prelude.{Contains}
+use Rattle.uring_fill.proofs.Common.{Adds, Contains}
 use Rattle.uring_core.specs.declared.step.Step.TheVariants as step
 use Rattle.uring_core.specs.declared.answer.Answer.TheVariants as answer
-use Rattle.uring_fill.specs.Parts.{Adds}
 use Rattle.uring_fill.proofs.next.add_flushes.Given as goal
 
 -- the flushes that move fewer are there

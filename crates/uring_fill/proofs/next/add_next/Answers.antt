@@ -1,10 +1,7 @@
 use Rattle.std.proofs.Common.{◌≡◌, length, slice_get, ap, ◌∙◌}
-use Rattle.std.specs.Prelude.{Contains}
-use Rattle.uring_entry.specs.Requests.{entry_outstanding}
-use Rattle.uring_core.specs.Histories.{history_of, world}
+use Rattle.uring_fill.proofs.Common.{Contains, StandsAt, entry_outstanding, history_of, is_asked, world}
 use Rattle.uring_core.specs.declared.step.Step.TheVariants as step
 use Rattle.uring_core.specs.declared.answer.Answer.TheVariants as answer
-use Rattle.uring_fill.specs.Parts.{StandsAt, is_asked}
 use Rattle.uring_fill.proofs.Adding.{all_next, ends_kept, none_right, by_asked}
 use Rattle.uring_fill.proofs.next.add_next.Goals as goal
 

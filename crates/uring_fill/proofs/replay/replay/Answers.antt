@@ -1,6 +1,5 @@
 use Rattle.std.proofs.Common.{◌≡◌, false, take, arith, rules}
-use Rattle.std.proofs.lemmas.Bool.{not-true}
-use Rattle.uring_core.specs.Histories.{history_of}
+use Rattle.uring_fill.proofs.Common.{history_of, not-true}
 use Rattle.uring_fill.proofs.Seeing.{wrong_from}
 use Rattle.uring_fill.proofs.replay.replay.Goals as goal
 

@@ -1,6 +1,5 @@
 use Rattle.std.proofs.Common.{◌≡◌, take}
-use Rattle.uring_core.specs.Core.{FitsApart}
-use Rattle.uring_core.specs.Histories.{history_of}
+use Rattle.uring_fill.proofs.Common.{FitsApart, history_of}
 use Rattle.uring_fill.proofs.replay.replay.Given as goal
 
 -- the events so far are a lawful history

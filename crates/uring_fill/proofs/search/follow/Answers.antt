@@ -1,8 +1,6 @@
 use Rattle.std.proofs.Common.{sym, subst, ◌∷◌, ◌++◌, []}
 use Rattle.std.proofs.lemmas.Result.{IfOk-weaker}
-use Rattle.uring_core.specs.Histories.{history_of}
-use Rattle.uring_fill.specs.Filling.{IsFilling}
-use Rattle.uring_fill.specs.Parts.{paths_of, IsSearch}
+use Rattle.uring_fill.proofs.Common.{IsFilling, IsSearch, history_of, paths_of}
 use Rattle.uring_fill.proofs.search.follow.Goals as goal
 
 pub visit-found-requires : goal.visit-found-requires

@@ -1,6 +1,5 @@
 use Rattle.std.proofs.Common.{[], ◌∷◌, ◌++◌, map, ap, ◌∙◌, arith}
-use Rattle.std.proofs.lemmas.List.{take_all}
-use Rattle.uring_fill.specs.Parts.{paths_of}
+use Rattle.uring_fill.proofs.Common.{paths_of, take_all}
 use Rattle.uring_fill.proofs.search.push_longer.Goals as goal
 
 pub returns : goal.returns

@@ -1,6 +1,5 @@
 use Rattle.std.proofs.Common.{◌≡◌, true, rules}
-use Rattle.std.proofs.lemmas.Bool.{not-false}
-use Rattle.uring_fill.specs.Parts.{paths_of}
+use Rattle.uring_fill.proofs.Common.{not-false, paths_of}
 use Rattle.uring_fill.proofs.Covering.{begins, fate_found, open_search}
 use Rattle.uring_fill.proofs.search.search_all.Goals as goal
 

@@ -1,8 +1,5 @@
 use Rattle.std.proofs.Common.{◌≡◌, true, false, rules}
-use Rattle.std.proofs.lemmas.Bool.{not-true, not-false}
-use Rattle.uring_core.specs.Histories.{history_of}
-use Rattle.uring_fill.specs.Filling.{IsPart}
-use Rattle.uring_fill.specs.Parts.{paths_of}
+use Rattle.uring_fill.proofs.Common.{IsPart, history_of, not-false, not-true, paths_of}
 use Rattle.uring_fill.proofs.Covering.{path_dropped, visited_part, visited_reach, visited_fills, visited_on}
 use Rattle.uring_fill.proofs.search.visit.Goals as goal
 

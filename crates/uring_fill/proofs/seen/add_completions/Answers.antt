@@ -1,6 +1,5 @@
 use Rattle.std.proofs.Common.{ap, ◌++◌, ◌∙◌, arith}
-use Rattle.std.proofs.lemmas.List.{take_all}
-use Rattle.uring_fill.specs.Filling.{completions_in}
+use Rattle.uring_fill.proofs.Common.{completions_in, take_all}
 use Rattle.uring_fill.proofs.Seeing.{completions_next}
 use Rattle.uring_fill.proofs.seen.add_completions.Goals as goal
 

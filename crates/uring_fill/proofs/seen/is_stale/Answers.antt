@@ -1,6 +1,5 @@
 use Rattle.std.proofs.Common.{ap, ◌∙◌, arith}
-use Rattle.std.proofs.lemmas.List.{take_all}
-use Rattle.uring_core.specs.Histories.{history_of}
+use Rattle.uring_fill.proofs.Common.{history_of, take_all}
 use Rattle.uring_fill.specs.Parts as parts
 use Rattle.uring_fill.proofs.seen.is_stale.Goals as goal
 

@@ -1,6 +1,5 @@
 use Rattle.std.proofs.Common.{◌≡◌, ◌≤◌, length, take}
-use Rattle.uring_core.specs.Histories.{history_of}
-use Rattle.uring_fill.specs.Filling.{seen_in}
+use Rattle.uring_fill.proofs.Common.{history_of, seen_in}
 use Rattle.uring_fill.proofs.seen.seen_among.Given as goal
 
 abbrev pub invariant-loop-event : goal.invariant-loop-event

@@ -1,9 +1,5 @@
 use Rattle.std.proofs.Common.{◌≡◌, ◌<◌, true, length, arith}
-use Rattle.std.specs.Prelude.{Contains}
-use Rattle.uring_entry.specs.Requests.{entry_outstanding}
-use Rattle.uring_rules.specs.Rules.{is_issuable}
-use Rattle.uring_core.specs.World.{requests_of}
-use Rattle.uring_core.specs.Histories.{world}
+use Rattle.uring_fill.proofs.Common.{Contains, entry_outstanding, is_issuable, requests_of, world}
 use Rattle.uring_core.specs.declared.step.Step.TheVariants as step
 use Rattle.uring_core.specs.declared.answer.Answer.TheVariants as answer
 use Rattle.uring_fill.specs.Parts as parts

@@ -1,13 +1,8 @@
 use Rattle.std.proofs.Common.{◌≡◌, ℕ, ◌+◌, ◌<◌, ◌≤◌, true, List}
-use Rattle.std.specs.Prelude.{Contains}
-use Rattle.uring_entry.specs.Requests.{entry_outstanding}
-use Rattle.uring_rules.specs.Rules.{is_issuable}
-use Rattle.uring_core.specs.World.{requests_of}
-use Rattle.uring_core.specs.Histories.{Event, History, world}
+use Rattle.uring_fill.proofs.Common.{Adds, Contains, Event, History, StandsAt, entry_outstanding, is_issuable, requests_of, world}
 use Rattle.uring_core.specs.declared.step.Step.TheVariants as step
 use Rattle.uring_core.specs.declared.answer.Answer.TheVariants as answer
 use Rattle.uring_fill.specs.Parts as parts
-use Rattle.uring_fill.specs.Parts.{StandsAt, Adds}
 use Rattle.uring_fill.proofs.starts.add_starts.Given as goal
 
 -- the starts of the last requests so far are there

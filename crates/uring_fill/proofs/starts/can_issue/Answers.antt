@@ -1,8 +1,6 @@
 use Rattle.std.proofs.Common.{◌∙◌}
 use Rattle.std.proofs.lemmas.Option.{same_Some, none-some}
-use Rattle.std.proofs.lemmas.Bool.{eq-eqb}
-use Rattle.uring_core.specs.Histories.{world}
-use Rattle.uring_core.specs.World.{requests_of}
+use Rattle.uring_fill.proofs.Common.{eq-eqb, requests_of, world}
 use Rattle.uring_fill.proofs.Issuing.{issuable_first}
 use Rattle.uring_fill.proofs.starts.can_issue.Goals as goal
 

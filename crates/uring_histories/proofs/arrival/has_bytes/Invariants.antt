@@ -1,8 +1,5 @@
 use Rattle.std.proofs.Common.{◌≡◌, ◌<◌, ℕ}
-use Rattle.uring_files.specs.Operations.{byte_of}
-use Rattle.uring_core.specs.CalledFor.{files_of}
-use Rattle.uring_core.specs.Histories.{History, world}
-use Rattle.uring_machine.specs.Machine.{Fits}
+use Rattle.uring_histories.proofs.Common.{Fits, History, byte_of, files_of, world}
 use Rattle.uring_histories.proofs.arrival.has_bytes.Given as goal
 
 abbrev pub invariant-loop-at : goal.invariant-loop-at

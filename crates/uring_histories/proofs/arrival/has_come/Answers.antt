@@ -1,7 +1,5 @@
 use Rattle.std.proofs.Common.{◌≡◌, length, arith}
-use Rattle.uring_entry.specs.Requests.{outstanding_in}
-use Rattle.uring_core.specs.Histories.{world}
-use Rattle.uring_outcomes.proofs.SameEndings.{same_by_places}
+use Rattle.uring_histories.proofs.Common.{outstanding_in, same_by_places, world}
 use Rattle.uring_histories.proofs.arrival.has_come.Goals as goal
 
 pub returns : goal.returns

@@ -1,8 +1,5 @@
 use Rattle.std.proofs.Common.{◌≡◌, ◌<◌, ℕ, pos}
-use Rattle.uring_files.specs.Operations.{file_of}
-use Rattle.uring_core.specs.CalledFor.{files_of}
-use Rattle.uring_core.specs.Histories.{History, world}
-use Rattle.uring_machine.specs.Machine.{Fits}
+use Rattle.uring_histories.proofs.Common.{Fits, History, file_of, files_of, world}
 use Rattle.uring_histories.proofs.arrival.has_each.Given as goal
 
 abbrev pub invariant-loop-fd : goal.invariant-loop-fd

@@ -1,9 +1,7 @@
 use Rattle.std.proofs.Common.{rules}
 use Rattle.std.specs.Int.{w32}
 use Rattle.std.proofs.lemmas.Int.{to_z-of_z}
-use Rattle.uring_outcomes.proofs.SameEndings.{same_of_states}
-use Rattle.uring_core.specs.CalledFor.{files_of}
-use Rattle.uring_core.specs.Histories.{world}
+use Rattle.uring_histories.proofs.Common.{files_of, same_of_states, world}
 use Rattle.uring_histories.proofs.arrival.has_file.Goals as goal
 
 pub returns-then-same_state : goal.returns-then-same_state

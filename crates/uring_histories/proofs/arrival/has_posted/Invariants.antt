@@ -1,7 +1,5 @@
 use Rattle.std.proofs.Common.{◌≡◌, ◌<◌, ℕ, []}
-use Rattle.std.specs.Prelude.{slice_get}
-use Rattle.uring_core.specs.Histories.{History, world}
-use Rattle.uring_machine.specs.Machine.{Fits}
+use Rattle.uring_histories.proofs.Common.{Fits, History, slice_get, world}
 use Rattle.uring_histories.proofs.arrival.has_posted.Given as goal
 
 abbrev pub invariant-loop-place : goal.invariant-loop-place

@@ -1,8 +1,5 @@
 use Rattle.std.proofs.Common.{take, ap, rules, arith}
-use Rattle.std.proofs.lemmas.List.{take_all}
-use Rattle.uring_laws.specs.Standing.{item_steps}
-use Rattle.uring_ports.specs.Items.{published_as, all_published_as}
-use Rattle.uring_histories.specs.Recordings.{steps_of_item}
+use Rattle.uring_histories.proofs.Common.{all_published_as, item_steps, published_as, steps_of_item, take_all}
 use Rattle.uring_histories.proofs.Recorded.{made_after, same_made, none_made, items_more}
 use Rattle.uring_histories.proofs.calls.put_items.Goals as goal
 

@@ -1,9 +1,5 @@
 use Rattle.std.proofs.Common.{take}
-use Rattle.uring_entry.specs.Setup.{Setup}
-use Rattle.uring_core.specs.Histories.{History}
-use Rattle.uring_laws.specs.Standing.{item_steps}
-use Rattle.uring_ports.specs.Items.{all_published_as}
-use Rattle.uring_histories.specs.Recordings.{IsRecorded, HasMade}
+use Rattle.uring_histories.proofs.Common.{HasMade, History, IsRecorded, Setup, all_published_as, item_steps}
 use Rattle.uring_histories.proofs.calls.put_items.Given as goal
 
 abbrev pub invariant-loop-slot : goal.invariant-loop-slot

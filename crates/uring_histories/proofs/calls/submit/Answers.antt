@@ -1,9 +1,6 @@
 use Rattle.std.proofs.Common.{[], ◌∷◌}
-use Rattle.std.proofs.lemmas.Result.{on_ok_weaker}
+use Rattle.uring_histories.proofs.Common.{all_published_as, call_steps, item_steps, on_ok_weaker, take_steps}
 use Rattle.uring_core.specs.declared.step.Step.TheVariants as step
-use Rattle.uring_laws.specs.Standing.{item_steps}
-use Rattle.uring_ports.specs.Items.{all_published_as}
-use Rattle.uring_histories.specs.Recordings.{take_steps, call_steps}
 use Rattle.uring_histories.proofs.Recorded.{made_after, same_made, steps_for, whole_call}
 use Rattle.uring_histories.proofs.calls.submit.Goals as goal
 

@@ -1,6 +1,4 @@
-use Rattle.uring_entry.specs.Setup.{Setup}
-use Rattle.uring_core.specs.Histories.{History}
-use Rattle.uring_histories.specs.Recordings.{IsRecorded, HasMade, take_steps}
+use Rattle.uring_histories.proofs.Common.{HasMade, History, IsRecorded, Setup, take_steps}
 use Rattle.uring_histories.proofs.calls.take_all.Given as goal
 
 abbrev pub invariant-loop-taken : goal.invariant-loop-taken

@@ -1,6 +1,5 @@
 use Rattle.std.proofs.Common.{sym, ◌∙◌}
-use Rattle.std.specs.Prelude.{string_bytes}
-use Rattle.std.proofs.lemmas.Result.{IfOk-weaker}
+use Rattle.uring_histories.proofs.Common.{IfOk-weaker, string_bytes}
 use Rattle.uring_histories.proofs.Told.{shown_all}
 use Rattle.uring_histories.proofs.history.write_history.Goals as goal
 

@@ -1,8 +1,5 @@
 use Rattle.std.proofs.Common.{◌≡◌, length, arith, rules}
-use Rattle.std.proofs.lemmas.List.{length-map}
-use Rattle.std.proofs.lemmas.Result.{on_ok_weaker}
-use Rattle.uring_outcomes.specs.MoveLaws.{GoesThrough}
-use Rattle.uring_ports.specs.Items.{published_as, all_published_as}
+use Rattle.uring_histories.proofs.Common.{GoesThrough, all_published_as, length-map, on_ok_weaker, published_as}
 use Rattle.uring_histories.proofs.Arrived.{amid_call}
 use Rattle.uring_histories.proofs.replay.accept.Goals as goal
 

@@ -1,6 +1,5 @@
 use Rattle.std.proofs.Common.{subst, arith}
-use Rattle.std.proofs.lemmas.List.{take_all}
-use Rattle.uring_histories.specs.Recordings.{IsAmid, published_in}
+use Rattle.uring_histories.proofs.Common.{IsAmid, published_in, take_all}
 use Rattle.uring_histories.proofs.replay.make_moves.Goals as goal
 
 pub returns : goal.returns

@@ -1,8 +1,5 @@
 use Rattle.std.proofs.Common.{List}
-use Rattle.uring_entry.specs.Setup.{Setup}
-use Rattle.uring_entry.specs.Layout.{Cqe}
-use Rattle.uring_entry.specs.Submission.{Published}
-use Rattle.uring_histories.specs.Recordings.{IsEnded}
+use Rattle.uring_histories.proofs.Common.{Cqe, IsEnded, Published, Setup}
 use Rattle.uring_histories.proofs.replay.reap_all.Given as goal
 
 abbrev pub invariant-loop-turn : goal.invariant-loop-turn

@@ -1,5 +1,4 @@
-use Rattle.uring_core.specs.Histories.{History, IsLawfulApart}
-use Rattle.uring_laws.specs.LinuxLaws.{DoomedNeverRun, DoomedStayDoomed, CancelledWereDoomed}
+use Rattle.uring_laws.proofs.Common.{CancelledWereDoomed, DoomedNeverRun, DoomedStayDoomed, History, IsLawfulApart}
 use Rattle.uring_laws.proofs.LinuxSound.{of_linux}
 use Rattle.uring_laws.proofs.LinuxLaws.{never_run, stay_doomed, were_doomed}
 use Rattle.uring_laws.proofs.linux.doomed_are_never_started.Goals as goal

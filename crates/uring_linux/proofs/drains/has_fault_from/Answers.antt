@@ -1,8 +1,5 @@
 use Rattle.std.proofs.Common.{leb, ◌&&◌, is_some, ◌∙◌, ap, arith}
-use Rattle.uring_entry.specs.Below.{some_below}
-use Rattle.uring_entry.specs.Groups.{first_member}
-use Rattle.uring_entry.proofs.BelowLemmas.{is_some_least_below}
-use Rattle.uring_linux.specs.LinuxRequests.{has_fault, is_faulty_from}
+use Rattle.uring_linux.proofs.Common.{first_member, has_fault, is_faulty_from, is_some_least_below, some_below}
 use Rattle.uring_linux.proofs.drains.has_fault_from.Goals as goal
 
 pub returns-in-Some : goal.returns-in-Some

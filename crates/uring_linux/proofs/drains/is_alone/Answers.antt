@@ -1,9 +1,5 @@
 use Rattle.std.proofs.Common.{not, ◌&&◌, length, sym, ◌∙◌, ap, arith}
-use Rattle.std.proofs.lemmas.Bool.{and_left, and_from}
-use Rattle.uring_entry.specs.Requests.{has_ended}
-use Rattle.uring_entry.proofs.BelowLemmas.{some_below_none, some_below_some}
-use Rattle.uring_linux.specs.Drains.{is_in_some}
-use Rattle.uring_linux.specs.LinuxRequests.{is_alone}
+use Rattle.uring_linux.proofs.Common.{and_from, and_left, has_ended, is_alone, is_in_some, some_below_none, some_below_some}
 use Rattle.uring_linux.proofs.drains.is_alone.Goals as goal
 
 pub loop-n-init : goal.loop-n-init

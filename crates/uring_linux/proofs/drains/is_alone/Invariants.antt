@@ -1,7 +1,5 @@
 use Rattle.std.proofs.Common.{◌≡◌, ℕ, ◌<◌, not, ◌&&◌, false}
-use Rattle.uring_entry.specs.Requests.{Requests, has_ended}
-use Rattle.uring_linux.specs.Drains.{is_in_some}
-use Rattle.uring_linux.specs.Window.{Shows}
+use Rattle.uring_linux.proofs.Common.{Requests, Shows, has_ended, is_in_some}
 use Rattle.uring_linux.proofs.drains.is_alone.Given as goal
 
 abbrev pub invariant-loop-n : goal.invariant-loop-n

@@ -1,7 +1,6 @@
 use Rattle.std.proofs.Common.{◌≡◌, map, take}
 use Rattle.uring_outcomes.specs.Runs.{entries_of}
-use Rattle.uring_play_text.specs.Inputs.{lists_of}
-use Rattle.uring_litmus.specs.Items.{accepted_of}
+use Rattle.uring_litmus.proofs.Common.{accepted_of, lists_of}
 use Rattle.uring_litmus.proofs.calls.entries_in.Given as goal
 
 abbrev pub invariant-loop-call : goal.invariant-loop-call

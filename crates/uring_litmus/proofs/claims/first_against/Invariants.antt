@@ -1,7 +1,5 @@
 use Rattle.std.proofs.Common.{take}
-use Rattle.std.specs.Prelude.{Contains}
-use Rattle.uring_outcomes.specs.Outcomes.{Ending}
-use Rattle.uring_litmus.specs.Claims.{IsSoOf, lines_in}
+use Rattle.uring_litmus.proofs.Common.{Contains, Ending, IsSoOf, lines_in}
 use Rattle.uring_litmus.proofs.claims.first_against.Given as goal
 
 abbrev pub invariant-loop-at : goal.invariant-loop-at

@@ -1,5 +1,4 @@
-use Rattle.uring_litmus.specs.Claims.{lines_in}
-use Rattle.uring_litmus.specs.Parts.{texts_of}
+use Rattle.uring_litmus.proofs.Common.{lines_in, texts_of}
 use Rattle.uring_litmus.proofs.Verdicts.{so_if, whole_is}
 use Rattle.uring_litmus.proofs.claims.is_so_of.Goals as goal
 

@@ -1,6 +1,5 @@
 use Rattle.std.proofs.Common.{rules, arith}
-use Rattle.uring_litmus.specs.Parts.{texts_of}
-use Rattle.uring_litmus.specs.Claims.{AreAmong}
+use Rattle.uring_litmus.proofs.Common.{AreAmong, texts_of}
 use Rattle.uring_litmus.proofs.Among.{one_part, last_part}
 use Rattle.uring_litmus.proofs.claims.shows.Goals as goal
 

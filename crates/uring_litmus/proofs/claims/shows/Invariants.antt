@@ -1,6 +1,5 @@
 use Rattle.std.proofs.Common.{◌↔◌, drop}
-use Rattle.uring_litmus.specs.Parts.{texts_of}
-use Rattle.uring_litmus.specs.Claims.{AreAmong}
+use Rattle.uring_litmus.proofs.Common.{AreAmong, texts_of}
 use Rattle.uring_litmus.proofs.claims.shows.Given as goal
 
 abbrev pub invariant-loop-part : goal.invariant-loop-part

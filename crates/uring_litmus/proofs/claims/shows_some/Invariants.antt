@@ -1,6 +1,5 @@
 use Rattle.std.proofs.Common.{take}
-use Rattle.uring_litmus.specs.Parts.{texts_of}
-use Rattle.uring_litmus.specs.Claims.{StandsSome, lines_in}
+use Rattle.uring_litmus.proofs.Common.{StandsSome, lines_in, texts_of}
 use Rattle.uring_litmus.proofs.claims.shows_some.Given as goal
 
 abbrev pub invariant-loop-line : goal.invariant-loop-line

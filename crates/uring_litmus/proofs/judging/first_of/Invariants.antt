@@ -1,6 +1,5 @@
 use Rattle.std.proofs.Common.{take}
-use Rattle.std.specs.Prelude.{Contains}
-use Rattle.uring_litmus.specs.Parts.{texts_of}
+use Rattle.uring_litmus.proofs.Common.{Contains, texts_of}
 use Rattle.uring_litmus.proofs.judging.first_of.Given as goal
 
 abbrev pub invariant-loop-at : goal.invariant-loop-at

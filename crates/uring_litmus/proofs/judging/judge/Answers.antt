@@ -1,5 +1,4 @@
-use Rattle.std.proofs.lemmas.Result.{IfOk-weaker}
-use Rattle.uring_litmus.specs.Claims.{lines_in}
+use Rattle.uring_litmus.proofs.Common.{IfOk-weaker, lines_in}
 use Rattle.uring_litmus.proofs.Verdicts.{judges}
 use Rattle.uring_litmus.proofs.judging.judge.Goals as goal
 

@@ -1,7 +1,5 @@
 use Rattle.std.proofs.Common.{◌<◌, ◌-◌, inl, inr, rules, arith}
-use Rattle.std.proofs.lemmas.List.{length-map}
-use Rattle.std.specs.Prelude.{string_bytes}
-use Rattle.uring_litmus.specs.Parts.{texts_of}
+use Rattle.uring_litmus.proofs.Common.{length-map, string_bytes, texts_of}
 use Rattle.uring_litmus.proofs.OrderCounts.{text_at}
 use Rattle.uring_litmus.proofs.Verdicts.{found_by}
 use Rattle.uring_litmus.proofs.judging.place_by.Goals as goal

@@ -1,5 +1,4 @@
-use Rattle.std.proofs.lemmas.Result.{IfOk-weaker}
-use Rattle.uring_litmus.specs.Parts.{texts_of}
+use Rattle.uring_litmus.proofs.Common.{IfOk-weaker, texts_of}
 use Rattle.uring_litmus.proofs.judging.place_of.Goals as goal
 
 pub returns : goal.returns

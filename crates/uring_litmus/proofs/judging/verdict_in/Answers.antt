@@ -1,6 +1,5 @@
 use Rattle.std.proofs.Common.{rules}
-use Rattle.std.proofs.lemmas.Option.{slice_get_within}
-use Rattle.uring_litmus.specs.Claims.{lines_in}
+use Rattle.uring_litmus.proofs.Common.{lines_in, slice_get_within}
 use Rattle.uring_litmus.proofs.Verdicts.{said_some, said_none, fails_of, stands_of}
 use Rattle.uring_litmus.proofs.judging.verdict_in.Goals as goal
 

@@ -1,6 +1,5 @@
 use Rattle.std.proofs.Common.{rules}
-use Rattle.uring_litmus.specs.Lines.{IsLineOf}
-use Rattle.uring_litmus.specs.Parts.{texts_of}
+use Rattle.uring_litmus.proofs.Common.{IsLineOf, texts_of}
 use Rattle.uring_litmus.proofs.Texts.{zip_more}
 use Rattle.uring_litmus.proofs.lines.each_line.Goals as goal
 

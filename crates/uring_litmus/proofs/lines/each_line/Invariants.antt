@@ -1,6 +1,5 @@
 use Rattle.std.proofs.Common.{take}
-use Rattle.uring_litmus.specs.Parts.{texts_of}
-use Rattle.uring_litmus.specs.Lines.{AreLinesOf}
+use Rattle.uring_litmus.proofs.Common.{AreLinesOf, texts_of}
 use Rattle.uring_litmus.proofs.lines.each_line.Given as goal
 
 abbrev pub invariant-loop-ending : goal.invariant-loop-ending

@@ -1,7 +1,5 @@
 use Rattle.std.proofs.Common.{◌≡◌, ◌++◌, take}
-use Rattle.std.specs.Prelude.{flat_map, string_bytes}
-use Rattle.uring_litmus.specs.Parts.{texts_of}
-use Rattle.uring_litmus.specs.Lines.{parted}
+use Rattle.uring_litmus.proofs.Common.{flat_map, parted, string_bytes, texts_of}
 use Rattle.uring_litmus.proofs.lines.push_rest.Given as goal
 
 abbrev pub invariant-loop-part : goal.invariant-loop-part

@@ -1,6 +1,5 @@
 use Rattle.std.proofs.Common.{◌++◌, ap, subst, ◌∙◌}
-use Rattle.uring_litmus.specs.Parts.{texts_of}
-use Rattle.uring_litmus.specs.Lines.{IsSortedOnce}
+use Rattle.uring_litmus.proofs.Common.{IsSortedOnce, texts_of}
 use Rattle.uring_litmus.proofs.lines.sorted_of.Goals as goal
 
 pub returns : goal.returns

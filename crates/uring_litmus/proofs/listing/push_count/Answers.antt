@@ -1,7 +1,6 @@
 use Rattle.std.proofs.Common.{List, ℕ, ◌++◌, append_assoc, ap, sym, ◌∙◌}
-use Rattle.std.specs.Prelude.{codes, string_bytes}
+use Rattle.uring_litmus.proofs.Common.{codes, on_ok_weaker, string_bytes}
 use Rattle.std.specs.Fmt.{decimal}
-use Rattle.std.proofs.lemmas.Result.{on_ok_weaker}
 use Rattle.uring_litmus.proofs.listing.push_count.Goals as goal
 
 pub returns : goal.returns

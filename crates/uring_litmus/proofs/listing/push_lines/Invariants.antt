@@ -1,7 +1,5 @@
 use Rattle.std.proofs.Common.{◌≡◌, ◌++◌, take}
-use Rattle.std.specs.Prelude.{string_bytes}
-use Rattle.uring_litmus.specs.Parts.{texts_of}
-use Rattle.uring_litmus.specs.Listings.{lines_text}
+use Rattle.uring_litmus.proofs.Common.{lines_text, string_bytes, texts_of}
 use Rattle.uring_litmus.proofs.listing.push_lines.Given as goal
 
 abbrev pub invariant-loop-line : goal.invariant-loop-line

@@ -1,5 +1,4 @@
-use Rattle.std.specs.Prelude.{string_bytes}
-use Rattle.std.proofs.lemmas.Result.{IfOk-weaker}
+use Rattle.uring_litmus.proofs.Common.{IfOk-weaker, string_bytes}
 use Rattle.uring_litmus.proofs.Listed.{list_text}
 use Rattle.uring_litmus.proofs.listing.text_by.Goals as goal
 

@@ -1,6 +1,5 @@
 use Rattle.std.proofs.Common.{rules, true}
-use Rattle.uring_litmus.specs.Parts.{texts_of}
-use Rattle.uring_litmus.specs.Listings.{IsNoted}
+use Rattle.uring_litmus.proofs.Common.{IsNoted, texts_of}
 use Rattle.uring_litmus.proofs.Texts.{zip_texts}
 use Rattle.uring_litmus.proofs.orders.note_all.Goals as goal
 

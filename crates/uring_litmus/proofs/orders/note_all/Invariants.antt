@@ -1,7 +1,5 @@
 use Rattle.std.proofs.Common.{take, true}
-use Rattle.std.specs.List.{AllZip}
-use Rattle.uring_litmus.specs.Parts.{texts_of}
-use Rattle.uring_litmus.specs.Listings.{IsNoted}
+use Rattle.uring_litmus.proofs.Common.{AllZip, IsNoted, texts_of}
 use Rattle.uring_litmus.proofs.orders.note_all.Given as goal
 
 abbrev pub invariant-loop-line : goal.invariant-loop-line

@@ -1,6 +1,5 @@
 use Rattle.std.proofs.Common.{map, rules}
-use Rattle.uring_litmus.specs.Parts.{texts_of}
-use Rattle.uring_litmus.specs.Listings.{order_text}
+use Rattle.uring_litmus.proofs.Common.{order_text, texts_of}
 use Rattle.uring_litmus.proofs.Texts.{zip_same}
 use Rattle.uring_litmus.proofs.orders.noted.Goals as goal
 

@@ -1,8 +1,5 @@
 use Rattle.std.proofs.Common.{true, List, ℕ, subst, ap, ◌∙◌}
-use Rattle.std.specs.List.{AllZip}
-use Rattle.std.proofs.lemmas.Result.{IfOk-weaker}
-use Rattle.uring_litmus.specs.Parts.{texts_of}
-use Rattle.uring_litmus.specs.Listings.{IsNoted}
+use Rattle.uring_litmus.proofs.Common.{AllZip, IfOk-weaker, IsNoted, texts_of}
 use Rattle.uring_litmus.proofs.OrderCounts.{orders_are}
 use Rattle.uring_litmus.proofs.orders.noted_by.Goals as goal
 

@@ -1,7 +1,5 @@
 use Rattle.std.proofs.Common.{ap, rules, arith}
-use Rattle.std.specs.Prelude.{string_bytes}
-use Rattle.std.proofs.lemmas.List.{length-map}
-use Rattle.uring_litmus.specs.Parts.{texts_of}
+use Rattle.uring_litmus.proofs.Common.{length-map, string_bytes, texts_of}
 use Rattle.uring_litmus.proofs.OrderCounts.{none_below, one_below, all_below, text_at}
 use Rattle.uring_litmus.proofs.orders.orders_of.Goals as goal
 

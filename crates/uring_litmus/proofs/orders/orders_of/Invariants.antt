@@ -1,6 +1,5 @@
 use Rattle.std.proofs.Common.{◌↔◌, ℕ, List}
-use Rattle.std.specs.Prelude.{Contains}
-use Rattle.uring_litmus.specs.Parts.{texts_of}
+use Rattle.uring_litmus.proofs.Common.{Contains, texts_of}
 use Rattle.uring_litmus.proofs.OrderCounts.{HasBelow}
 use Rattle.uring_litmus.proofs.orders.orders_of.Given as goal
 

@@ -1,7 +1,5 @@
 use Rattle.std.proofs.Common.{◌++◌, ap, sym, ◌∙◌, rules}
-use Rattle.std.specs.Option.{option_to_list}
-use Rattle.std.proofs.lemmas.Result.{on_ok_weaker}
-use Rattle.uring_litmus.specs.Parts.{texts_of}
+use Rattle.uring_litmus.proofs.Common.{on_ok_weaker, option_to_list, texts_of}
 use Rattle.uring_litmus.proofs.OrderCounts.{text_at, no_text_at}
 use Rattle.uring_litmus.proofs.orders.push_at.Goals as goal
 

@@ -1,6 +1,5 @@
 use Rattle.std.proofs.Common.{◌≡◌, true, false, sym, ◌∙◌}
-use Rattle.std.proofs.lemmas.Result.{on_ok_weaker}
-use Rattle.uring_litmus.specs.Parts.{texts_of}
+use Rattle.uring_litmus.proofs.Common.{on_ok_weaker, texts_of}
 use Rattle.uring_litmus.proofs.OrderCounts.{added_if, kept_if}
 use Rattle.uring_litmus.proofs.orders.push_if.Goals as goal
 

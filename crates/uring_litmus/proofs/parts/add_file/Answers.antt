@@ -1,6 +1,5 @@
 use Rattle.std.proofs.Common.{pos, ap, ◌∙◌}
-use Rattle.uring_files.specs.Operations.{file_of}
-use Rattle.uring_litmus.specs.Parts.{texts_of}
+use Rattle.uring_litmus.proofs.Common.{file_of, texts_of}
 use Rattle.uring_litmus.proofs.Texts.{one_more}
 use Rattle.uring_litmus.proofs.FileTexts.{one_file}
 use Rattle.uring_litmus.proofs.parts.add_file.Goals as goal

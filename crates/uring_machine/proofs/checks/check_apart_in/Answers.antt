@@ -1,9 +1,5 @@
 use Rattle.std.proofs.Common.{◌+◌, subst, arith}
-use Rattle.std.proofs.lemmas.Bool.{false≢true}
-use Rattle.std.specs.Prelude.{IfOk, MatchOption}
-use Rattle.uring_core.specs.Histories.{IsLawfulApart, history_of}
-use Rattle.uring_core.specs.Recorded.{IsFirstWrongApart}
-use Rattle.uring_entry.specs.Setup.{Setup}
+use Rattle.uring_machine.proofs.Common.{IfOk, IsFirstWrongApart, IsLawfulApart, MatchOption, Setup, false≢true, history_of}
 use Rattle.uring_machine.proofs.checks.check_apart_in.Goals as goal
 
 pub returns-clause-found : goal.returns-clause-found

@@ -1,6 +1,5 @@
 use Rattle.std.proofs.Common.{◌≡◌, take}
-use Rattle.uring_core.specs.Histories.{history_of}
-use Rattle.uring_machine.specs.Machine.{Fits}
+use Rattle.uring_machine.proofs.Common.{Fits, history_of}
 use Rattle.uring_machine.proofs.checks.first_wrong.Given as goal
 
 -- the answers so far were followed

@@ -1,6 +1,5 @@
 use Rattle.std.proofs.Common.{◌≡◌, take}
-use Rattle.uring_core.specs.Core.{FitsApart}
-use Rattle.uring_core.specs.Histories.{history_of}
+use Rattle.uring_machine.proofs.Common.{FitsApart, history_of}
 use Rattle.uring_machine.proofs.checks.first_wrong_apart.Given as goal
 
 -- the answers so far were followed

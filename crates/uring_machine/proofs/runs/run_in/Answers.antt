@@ -1,12 +1,6 @@
 use Rattle.std.proofs.Common.{ℕ, ◌<◌, ◌≡◌, ◌+◌, ◌++◌, List, [], ◌∷◌, length, take, get_or, sym, subst, ◌∙◌, arith}
 use Rattle.std.specs.List.{zip}
-use Rattle.uring_entry.specs.Setup.{Setup}
-use Rattle.uring_core.specs.Histories.{History, world, history_of}
-use Rattle.uring_core.specs.declared.step.Step.{Step}
-use Rattle.uring_core.specs.declared.answer.Answer.{Answer}
-use Rattle.uring_core.proofs.Following.{follow_next, zip_next}
-use Rattle.uring_machine.specs.Machine.{IsUnrefused, elements_for_step}
-use Rattle.uring_machine.specs.Settling.{AreUnrefused}
+use Rattle.uring_machine.proofs.Common.{Answer, AreUnrefused, History, IsUnrefused, Setup, Step, elements_for_step, follow_next, history_of, world, zip_next}
 use Rattle.uring_machine.proofs.Settling.{unrefused_append}
 use Rattle.uring_machine.proofs.runs.run_in.Goals as goal
 

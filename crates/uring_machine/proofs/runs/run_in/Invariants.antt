@@ -1,8 +1,6 @@
 use Rattle.std.proofs.Common.{◌≡◌, ℕ, ◌≤◌, ◌++◌, length, take, vec_len, vec_capacity}
 use Rattle.std.specs.List.{zip}
-use Rattle.uring_core.specs.Histories.{History, history_of}
-use Rattle.uring_machine.specs.Machine.{Fits}
-use Rattle.uring_machine.specs.Settling.{AreUnrefused}
+use Rattle.uring_machine.proofs.Common.{AreUnrefused, Fits, History, history_of}
 use Rattle.uring_machine.proofs.runs.run_in.Given as goal
 
 -- an answer a step, room for the rest, none of them for want of memory that is granted, and the history so far

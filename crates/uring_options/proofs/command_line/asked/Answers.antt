@@ -1,6 +1,5 @@
 use Rattle.std.proofs.Common.{None, Some, sym, subst}
-use Rattle.clap.specs.Words.{found_of, rows_of}
-use Rattle.uring_options.specs.OptionRows.{AnswersNamed, TakesNamed}
+use Rattle.uring_options.proofs.Common.{AnswersNamed, TakesNamed, found_of, rows_of}
 use Rattle.uring_options.proofs.CommandLine.{named_by}
 use Rattle.uring_options.proofs.CommandOptions.{words_taken}
 use Rattle.uring_options.proofs.command_line.asked.Goals as goal

@@ -1,7 +1,6 @@
 use Rattle.std.proofs.Common.{◌∙◌, [], ◌∷◌, ap}
-use Rattle.std.proofs.lemmas.Result.{IfOk-weaker}
+use Rattle.uring_options.proofs.Common.{Checks, Crashes, Explains, Fills, IfOk-weaker, Lists, Plays, Traces, with_commands_of}
 use Rattle.clap.specs.Simple.{App, app_of}
-use Rattle.uring_options.specs.CommandLine.{Traces, Explains, Checks, Plays, Crashes, Lists, Fills, with_commands_of}
 use Rattle.uring_options.proofs.CommandRows.{Stand, rows_stand}
 use Rattle.uring_options.proofs.commands.uring_command.Goals as goal
 

@@ -1,5 +1,4 @@
-use Rattle.clap.specs.Words.{found_of}
-use Rattle.std.specs.Str.Parse.{ParsesUnsigned, ExplainsUnsignedError, HasUnsignedDigitsIfOk}
+use Rattle.uring_options.proofs.Common.{ExplainsUnsignedError, HasUnsignedDigitsIfOk, ParsesUnsigned, found_of}
 use Rattle.uring_options.proofs.OptionTexts.{number_given}
 use Rattle.uring_options.proofs.values.given_number.Goals as goal
 

@@ -1,10 +1,5 @@
 use Rattle.std.proofs.Common.{◌≤◌, ℕ, List, Option, arith}
-use Rattle.std.specs.Prelude.{codes}
-use Rattle.std.proofs.lemmas.Result.{IfOk-weaker, IfErr-weaker}
-use Rattle.clap.specs.Words.{found_of, rows_of}
-use Rattle.clap.specs.Walk.{Row, Text}
-use Rattle.uring_options.specs.CommandLine.{Gives, GivesNumbers, IsWithin, number, setup_options}
-use Rattle.uring_options.specs.OptionRows.{TakesOption, TakesOptions}
+use Rattle.uring_options.proofs.Common.{Gives, GivesNumbers, IfErr-weaker, IfOk-weaker, IsWithin, Row, TakesOption, TakesOptions, Text, codes, found_of, number, rows_of, setup_options}
 use Rattle.uring_options.proofs.values.setup_of.Goals as goal
 
 -- the number was read of the option of this name

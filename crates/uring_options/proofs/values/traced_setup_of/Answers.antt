@@ -1,6 +1,5 @@
 use Rattle.std.proofs.Common.{ap, ◌∙◌}
-use Rattle.clap.specs.Words.{found_of, rows_of}
-use Rattle.uring_entry.specs.Setup.{Setup}
+use Rattle.uring_options.proofs.Common.{Setup, found_of, rows_of}
 use Rattle.uring_options.proofs.CommandLine.{traced_over}
 use Rattle.uring_options.proofs.values.traced_setup_of.Goals as goal
 

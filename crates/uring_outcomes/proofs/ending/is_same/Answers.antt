@@ -1,7 +1,6 @@
 use Rattle.std.proofs.Common.{◌≡◌, sym, ap, ◌∙◌}
-use Rattle.std.proofs.lemmas.Bool.{both_ways}
+use Rattle.uring_outcomes.proofs.Common.{Ending, both_ways}
 use Rattle.std.proofs.lemmas.Slice.Eq.{slice_eq-Decides}
-use Rattle.uring_outcomes.specs.Outcomes.{Ending}
 use Rattle.uring_outcomes.proofs.SameEndings.{completion_decides, ending_by}
 use Rattle.uring_outcomes.proofs.ending.is_same.Goals as goal
 

@@ -1,10 +1,6 @@
 use Rattle.std.proofs.Common.{◌≡◌, ◌≤◌, length, ap, sym, subst, ◌∙◌}
 use Rattle.std.proofs.lemmas.Result.{IfOk-weaker}
-use Rattle.std.specs.declared.vec.Vec.{Vec}
-use Rattle.std.specs.declared.alloc.Global.{Global}
-use Rattle.uring_entry.specs.Layout.{Cqe}
-use Rattle.uring_outcomes.specs.Outcomes.{Ending}
-use Rattle.uring_outcomes.specs.Walks.{AddsOnce, ending_of}
+use Rattle.uring_outcomes.proofs.Common.{AddsOnce, Cqe, Ending, Global, Vec, ending_of}
 use Rattle.uring_outcomes.proofs.Covering.{noted_over}
 use Rattle.uring_outcomes.proofs.SameEndings.{ending_by}
 use Rattle.uring_outcomes.proofs.FileCounts.{few_files}

@@ -1,6 +1,5 @@
 use Rattle.std.proofs.Common.{◌≡◌, sym, ◌∙◌, rules}
-use Rattle.std.specs.Int.{w32}
-use Rattle.std.proofs.lemmas.Int.{to_z-of_z}
+use Rattle.uring_outcomes.proofs.Common.{to_z-of_z, w32}
 use Rattle.uring_outcomes.proofs.SameEndings.{state_decides, same_of_states, bytes_alike}
 use Rattle.uring_outcomes.proofs.ending.same_file.Goals as goal
 

@@ -1,12 +1,5 @@
 use Rattle.std.proofs.Common.{◌≡◌, ℕ, false, true, [], ◌∷◌, ◌++◌, take, sym, subst, ap, ◌∙◌, arith}
-use Rattle.std.specs.declared.vec.Vec.{Vec}
-use Rattle.std.specs.declared.alloc.Global.{Global}
-use Rattle.std.proofs.lemmas.Bool.{ne_eqb, both_ways}
-use Rattle.std.proofs.lemmas.List.{take_all}
-use Rattle.uring_entry.specs.Layout.{addr_of}
-use Rattle.uring_entry.specs.Preparation.{is_cancel}
-use Rattle.uring_outcomes.specs.Prompt.{NamesAll}
-use Rattle.uring_outcomes.specs.Runs.{among}
+use Rattle.uring_outcomes.proofs.Common.{Global, NamesAll, Vec, addr_of, among, both_ways, is_cancel, ne_eqb, take_all}
 use Rattle.uring_outcomes.proofs.Walking.{among_kept, among_pushed, names_kept, names_more}
 use Rattle.uring_outcomes.proofs.names.add_named.Goals as goal
 use Rattle.uring_outcomes.proofs.names.add_named.Goals.{then-opcode-eq-ASYNC_CANCEL+in_ok-push_name, else-opcode-eq-ASYNC_CANCEL}

@@ -1,6 +1,5 @@
 use Rattle.std.proofs.Common.{◌≡◌, ℕ, true, take}
-use Rattle.uring_outcomes.specs.Prompt.{NamesAll}
-use Rattle.uring_outcomes.specs.Runs.{among}
+use Rattle.uring_outcomes.proofs.Common.{NamesAll, among}
 use Rattle.uring_outcomes.proofs.names.add_named.Given as goal
 
 -- those of the entries so far are there, and none went

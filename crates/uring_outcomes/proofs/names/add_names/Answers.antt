@@ -1,6 +1,5 @@
 use Rattle.std.proofs.Common.{subst, arith, take}
-use Rattle.uring_outcomes.specs.Prompt.{NamesAll}
-use Rattle.uring_outcomes.specs.Runs.{among, entries_of}
+use Rattle.uring_outcomes.proofs.Common.{NamesAll, among, entries_of}
 use Rattle.uring_outcomes.proofs.Walking.{named_kept, named_more}
 use Rattle.uring_outcomes.proofs.names.add_names.Goals as goal
 

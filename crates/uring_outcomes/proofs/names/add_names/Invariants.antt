@@ -1,6 +1,5 @@
 use Rattle.std.proofs.Common.{take}
-use Rattle.uring_outcomes.specs.Prompt.{AreNamed}
-use Rattle.uring_outcomes.specs.Runs.{among, entries_of}
+use Rattle.uring_outcomes.proofs.Common.{AreNamed, among, entries_of}
 use Rattle.uring_outcomes.proofs.names.add_names.Given as goal
 
 -- those of the calls so far are there

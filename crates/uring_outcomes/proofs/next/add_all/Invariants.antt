@@ -1,8 +1,6 @@
 use Rattle.std.proofs.Common.{◌≡◌, Some}
-use Rattle.std.specs.Prelude.{Contains}
-use Rattle.uring_outcomes.specs.Moments.{Moment, moved}
+use Rattle.uring_outcomes.proofs.Common.{Contains, HasBelow, Moment, StandsAt, entries_of, moved}
 use Rattle.uring_outcomes.specs.declared.move_of_calls.Move.TheVariants as move
-use Rattle.uring_outcomes.specs.Runs.{entries_of, StandsAt, HasBelow}
 use Rattle.uring_outcomes.proofs.next.add_all.Given as goal
 
 -- what can be made of the requests so far is there

@@ -1,7 +1,5 @@
 use Rattle.std.proofs.Common.{◌≡◌, false, true, refl, sym, subst, ap, ◌∙◌, arith}
-use Rattle.std.proofs.lemmas.List.{take_all}
-use Rattle.uring_outcomes.specs.Direct.{AreUnnamed}
-use Rattle.uring_outcomes.specs.Runs.{among}
+use Rattle.uring_outcomes.proofs.Common.{AreUnnamed, among, take_all}
 use Rattle.uring_outcomes.proofs.NextCalls.{unnamed_more, one_named}
 use Rattle.uring_outcomes.proofs.next.are_unnamed.Goals as goal
 

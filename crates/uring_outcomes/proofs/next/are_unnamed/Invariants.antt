@@ -1,6 +1,5 @@
 use Rattle.std.proofs.Common.{take}
-use Rattle.uring_outcomes.specs.Direct.{AreUnnamed}
-use Rattle.uring_outcomes.specs.Runs.{among}
+use Rattle.uring_outcomes.proofs.Common.{AreUnnamed, among}
 use Rattle.uring_outcomes.proofs.next.are_unnamed.Given as goal
 
 abbrev pub invariant-loop-entry : goal.invariant-loop-entry

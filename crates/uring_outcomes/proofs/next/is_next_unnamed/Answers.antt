@@ -1,6 +1,5 @@
 use Rattle.std.proofs.Common.{◌≡◌, false, true, sym, subst}
-use Rattle.uring_outcomes.specs.Direct.{AreUnnamed}
-use Rattle.uring_outcomes.specs.Runs.{among}
+use Rattle.uring_outcomes.proofs.Common.{AreUnnamed, among}
 use Rattle.uring_outcomes.proofs.NextCalls.{next_unnamed, unnamed_next, none_next}
 use Rattle.uring_outcomes.proofs.RunSteps.{call_there}
 use Rattle.uring_outcomes.proofs.next.is_next_unnamed.Goals as goal

@@ -1,8 +1,5 @@
 use Rattle.std.proofs.Common.{◌≡◌, Bool, true, false, Some, None, if◌then◌else◌, sym, ap, ◌∙◌, rules}
-use Rattle.std.proofs.lemmas.Bool.{not-true, not-false}
-use Rattle.uring_entry.specs.Layout.{Sqe, user_data_of}
-use Rattle.uring_entry.specs.Requests.{is_outstanding, entry_of}
-use Rattle.uring_outcomes.specs.Runs.{among}
+use Rattle.uring_outcomes.proofs.Common.{Sqe, among, entry_of, is_outstanding, not-false, not-true, user_data_of}
 use Rattle.uring_outcomes.proofs.next.is_quiet.Goals as goal
 
 -- what is there is the entry

@@ -1,5 +1,4 @@
-use Rattle.std.proofs.lemmas.Bool.{both_ways}
-use Rattle.uring_outcomes.specs.Runs.{entries_of}
+use Rattle.uring_outcomes.proofs.Common.{both_ways, entries_of}
 use Rattle.uring_outcomes.proofs.Replaying.{next_accept, next_finish}
 use Rattle.uring_outcomes.proofs.next.only_move.Goals as goal
 

@@ -1,6 +1,5 @@
 use Rattle.std.proofs.Common.{◌≡◌, ◌+◌, ◌++◌, take}
-use Rattle.uring_entry.specs.Requests.{Requests}
-use Rattle.uring_dispatch.specs.Dispatch.{ShowsRequests}
+use Rattle.uring_outcomes.proofs.Common.{Requests, ShowsRequests}
 use Rattle.uring_outcomes.proofs.run.accept_call.Given as goal
 
 -- the entries so far are accepted, and there is room for the rest

@@ -1,6 +1,5 @@
 use Rattle.std.proofs.Common.{◌≡◌, ◌<◌, false, true, length, sym, ◌∙◌, arith}
-use Rattle.std.proofs.lemmas.Bool.{eqb-true, eq-eqb}
-use Rattle.uring_entry.specs.Requests.{outstanding_in}
+use Rattle.uring_outcomes.proofs.Common.{eq-eqb, eqb-true, outstanding_in}
 use Rattle.uring_outcomes.proofs.Moving.{none_left, some_left}
 use Rattle.uring_outcomes.proofs.walk.is_over.Goals as goal
 

@@ -1,6 +1,5 @@
 use Rattle.std.proofs.Common.{◌≡◌, ◌≤◌, sym, subst, arith}
-use Rattle.uring_outcomes.specs.Outcomes.{AreAllEndings}
-use Rattle.uring_outcomes.specs.Runs.{entries_of}
+use Rattle.uring_outcomes.proofs.Common.{AreAllEndings, entries_of}
 use Rattle.uring_outcomes.proofs.walk.outcomes_within_in.Goals as goal
 
 pub take_all-requires : goal.take_all-requires

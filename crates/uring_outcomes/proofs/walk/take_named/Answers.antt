@@ -1,6 +1,5 @@
 use Rattle.std.proofs.Common.{subst, sym}
-use Rattle.uring_outcomes.specs.Prompt.{AreNamed}
-use Rattle.uring_outcomes.specs.Runs.{among, entries_of}
+use Rattle.uring_outcomes.proofs.Common.{AreNamed, among, entries_of}
 use Rattle.uring_outcomes.proofs.Walking.{both_ok, over}
 use Rattle.uring_outcomes.proofs.walk.take_named.Goals as goal
 

@@ -1,5 +1,4 @@
-use Rattle.uring_outcomes.specs.Runs.{entries_of}
-use Rattle.uring_outcomes.specs.Walks.{Goes}
+use Rattle.uring_outcomes.proofs.Common.{Goes, entries_of}
 use Rattle.uring_outcomes.proofs.walk.take_turns.Given as goal
 
 abbrev pub invariant-turns : goal.invariant-turns

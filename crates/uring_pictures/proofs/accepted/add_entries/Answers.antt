@@ -1,6 +1,5 @@
 use Rattle.std.proofs.Common.{◌<◌, ◌≤◌, ◌∙◌, arith, rules}
-use Rattle.std.proofs.lemmas.List.{take_all}
-use Rattle.uring_core.specs.Histories.{world}
+use Rattle.uring_pictures.proofs.Common.{take_all, world}
 use Rattle.uring_pictures.proofs.Calls.{entry_added}
 use Rattle.uring_pictures.proofs.accepted.add_entries.Goals as goal
 

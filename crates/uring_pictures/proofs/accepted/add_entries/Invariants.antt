@@ -1,7 +1,6 @@
 use Rattle.std.proofs.Common.{◌≡◌, ◌≤◌, length, take}
-use Rattle.uring_core.specs.Histories.{History, world}
+use Rattle.uring_pictures.proofs.Common.{HasAll, History, world}
 use Rattle.uring_machine.specs.Machine.{Fits}
-use Rattle.uring_pictures.specs.Following.{HasAll}
 use Rattle.uring_pictures.proofs.accepted.add_entries.Given as goal
 
 -- the entries so far

@@ -1,6 +1,5 @@
 use Rattle.std.proofs.Common.{◌≡◌, [], ℕ, take, subst, rules}
-use Rattle.std.specs.Io.KnownBytes.{Consumes}
-use Rattle.std.proofs.lemmas.Result.{IfOk-weaker}
+use Rattle.uring_pictures.proofs.Common.{Consumes, IfOk-weaker}
 use Rattle.uring_pictures.proofs.Together.{both_start, both_end, both_on, both_again}
 use Rattle.uring_pictures.proofs.drawing.read_all.Goals as goal
 

@@ -1,7 +1,5 @@
 use Rattle.std.proofs.Common.{[], ◌-◌, ◌^◌, ℕ, Option}
-use Rattle.uring_entry.specs.Setup.{Setup}
-use Rattle.uring_trace.specs.Explaining.{HasTold}
-use Rattle.uring_pictures.specs.Following.{Follows}
+use Rattle.uring_pictures.proofs.Common.{Follows, HasTold, Setup}
 use Rattle.uring_pictures.proofs.Together.{FarBoth}
 use Rattle.uring_pictures.proofs.drawing.read_all.Given as goal
 

@@ -1,5 +1,4 @@
-use Rattle.std.specs.Prelude.{codes, string_bytes, decimal}
-use Rattle.std.proofs.lemmas.Result.{on_ok_weaker}
+use Rattle.uring_pictures.proofs.Common.{codes, decimal, on_ok_weaker, string_bytes}
 use Rattle.uring_trace.specs.Reasons.{since_text}
 use Rattle.uring_pictures.proofs.Arrows.{framed}
 use Rattle.uring_pictures.proofs.graph_text.push_arrow.Goals as goal

@@ -1,7 +1,5 @@
 use Rattle.std.proofs.Common.{◌≡◌, refl, sym, rules}
-use Rattle.std.proofs.lemmas.List.{append-nil}
-use Rattle.uring_pictures.specs.Following.{is_linux_at, linux_at}
-use Rattle.uring_pictures.specs.Graphs.{arrows_below}
+use Rattle.uring_pictures.proofs.Common.{append-nil, arrows_below, is_linux_at, linux_at}
 use Rattle.uring_pictures.proofs.Arrows.{arrows_more, up_to_same}
 use Rattle.uring_pictures.proofs.graph_text.push_arrows.Goals as goal
 

@@ -1,8 +1,5 @@
 use Rattle.std.proofs.Common.{◌≡◌, ◌++◌}
-use Rattle.std.specs.Prelude.{string_bytes}
-use Rattle.uring_core.specs.Histories.{History}
-use Rattle.uring_pictures.specs.Following.{Keeps, is_linux_at, linux_at, requests_at}
-use Rattle.uring_pictures.specs.Graphs.{arrows_below, member_before}
+use Rattle.uring_pictures.proofs.Common.{History, Keeps, arrows_below, is_linux_at, linux_at, member_before, requests_at, string_bytes}
 use Rattle.uring_pictures.proofs.graph_text.push_arrows.Given as goal
 
 -- the lines so far, and the member before the next request

@@ -1,7 +1,5 @@
 use Rattle.std.proofs.Common.{length}
-use Rattle.std.proofs.lemmas.Result.{on_ok_weaker}
-use Rattle.uring_pictures.specs.Following.{is_linux_at, linux_at}
-use Rattle.uring_pictures.specs.Graphs.{nodes_below, arrows_below}
+use Rattle.uring_pictures.proofs.Common.{arrows_below, is_linux_at, linux_at, nodes_below, on_ok_weaker}
 use Rattle.uring_pictures.proofs.Arrows.{up_to_same, whole_graph}
 use Rattle.uring_pictures.proofs.graph_text.push_graph.Goals as goal
 

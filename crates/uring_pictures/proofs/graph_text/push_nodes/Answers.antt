@@ -1,7 +1,5 @@
 use Rattle.std.proofs.Common.{◌≡◌, refl, sym, rules}
-use Rattle.std.proofs.lemmas.List.{append-nil}
-use Rattle.uring_pictures.specs.Following.{is_linux_at, linux_at}
-use Rattle.uring_pictures.specs.Graphs.{nodes_below, row_text}
+use Rattle.uring_pictures.proofs.Common.{append-nil, is_linux_at, linux_at, nodes_below, row_text}
 use Rattle.uring_pictures.proofs.Arrows.{part_more, up_to_same}
 use Rattle.uring_pictures.proofs.graph_text.push_nodes.Goals as goal
 

@@ -1,8 +1,5 @@
 use Rattle.std.proofs.Common.{◌≡◌, ◌++◌}
-use Rattle.std.specs.Prelude.{string_bytes}
-use Rattle.uring_core.specs.Histories.{History}
-use Rattle.uring_pictures.specs.Following.{Keeps, is_linux_at, linux_at, requests_at}
-use Rattle.uring_pictures.specs.Graphs.{nodes_below, first_of}
+use Rattle.uring_pictures.proofs.Common.{History, Keeps, first_of, is_linux_at, linux_at, nodes_below, requests_at, string_bytes}
 use Rattle.uring_pictures.proofs.graph_text.push_nodes.Given as goal
 
 -- the lines so far, and the first member of the chain of the next request

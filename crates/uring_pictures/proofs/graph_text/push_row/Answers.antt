@@ -1,10 +1,5 @@
 use Rattle.std.proofs.Common.{◌++◌, Option, sym, ap, ◌∙◌}
-use Rattle.std.specs.Prelude.{string_bytes}
-use Rattle.std.proofs.lemmas.List.{append-nil}
-use Rattle.std.proofs.lemmas.Result.{on_ok_weaker}
-use Rattle.uring_entry.specs.Layout.{Sqe}
-use Rattle.uring_pictures.specs.Following.{is_linux_at, linux_at}
-use Rattle.uring_pictures.specs.Graphs.{line_text}
+use Rattle.uring_pictures.proofs.Common.{Sqe, append-nil, is_linux_at, line_text, linux_at, on_ok_weaker, string_bytes}
 use Rattle.uring_pictures.proofs.Arrows.{row_placed}
 use Rattle.uring_pictures.proofs.graph_text.push_row.Goals as goal
 

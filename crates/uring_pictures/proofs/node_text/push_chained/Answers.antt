@@ -1,6 +1,4 @@
-use Rattle.std.specs.Prelude.{codes, string_bytes, decimal}
-use Rattle.std.proofs.lemmas.Result.{on_ok_weaker}
-use Rattle.uring_pictures.specs.Graphs.{node_text}
+use Rattle.uring_pictures.proofs.Common.{codes, decimal, node_text, on_ok_weaker, string_bytes}
 use Rattle.uring_pictures.proofs.Arrows.{framed}
 use Rattle.uring_pictures.proofs.node_text.push_chained.Goals as goal
 

@@ -1,8 +1,5 @@
-use Rattle.std.specs.Prelude.{codes, string_bytes, decimal}
-use Rattle.std.proofs.lemmas.Result.{on_ok_weaker}
-use Rattle.uring_entry.specs.Layout.{user_data_of}
+use Rattle.uring_pictures.proofs.Common.{codes, decimal, flags_text, on_ok_weaker, standing_text, string_bytes, user_data_of}
 use Rattle.uring_text.specs.Forms.{operation_text}
-use Rattle.uring_pictures.specs.Graphs.{flags_text, standing_text}
 use Rattle.uring_pictures.proofs.Arrows.{labelled}
 use Rattle.uring_pictures.proofs.node_text.push_label.Goals as goal
 

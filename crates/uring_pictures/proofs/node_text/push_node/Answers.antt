@@ -1,6 +1,4 @@
-use Rattle.std.specs.Prelude.{codes, string_bytes, decimal}
-use Rattle.std.proofs.lemmas.Result.{on_ok_weaker}
-use Rattle.uring_pictures.specs.Graphs.{label_text, shape_of}
+use Rattle.uring_pictures.proofs.Common.{codes, decimal, label_text, on_ok_weaker, shape_of, string_bytes}
 use Rattle.uring_pictures.proofs.Arrows.{six_parts}
 use Rattle.uring_pictures.proofs.node_text.push_node.Goals as goal
 

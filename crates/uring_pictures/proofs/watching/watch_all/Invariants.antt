@@ -1,6 +1,5 @@
 use Rattle.std.proofs.Common.{[], ◌-◌, ◌^◌}
-use Rattle.uring_entry.specs.Setup.{Setup}
-use Rattle.uring_trace.specs.Explaining.{HasTold}
+use Rattle.uring_pictures.proofs.Common.{HasTold, Setup}
 use Rattle.uring_pictures.proofs.Streams.{Far}
 use Rattle.uring_pictures.proofs.watching.watch_all.Given as goal
 

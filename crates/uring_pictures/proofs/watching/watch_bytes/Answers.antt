@@ -1,7 +1,5 @@
 use Rattle.std.proofs.Common.{◌≡◌, ◌<◌, ◌+◌, ℕ, List, [], ◌∷◌, ◌++◌, length, take, get_or, sym, ap, subst, ◌∙◌, append_assoc, rules}
-use Rattle.std.proofs.lemmas.List.{take_more}
-use Rattle.std.specs.Prelude.{string_bytes}
-use Rattle.uring_trace.specs.Explaining.{HasTold}
+use Rattle.uring_pictures.proofs.Common.{HasTold, string_bytes, take_more}
 use Rattle.uring_pictures.proofs.watching.watch_bytes.Goals as goal
 
 pub loop-byte-preserved : goal.loop-byte-preserved

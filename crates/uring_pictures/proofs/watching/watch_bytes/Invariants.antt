@@ -1,7 +1,5 @@
 use Rattle.std.proofs.Common.{ℕ, List, ◌++◌, take}
-use Rattle.std.specs.Prelude.{string_bytes}
-use Rattle.uring_entry.specs.Setup.{Setup}
-use Rattle.uring_trace.specs.Explaining.{HasTold}
+use Rattle.uring_pictures.proofs.Common.{HasTold, Setup, string_bytes}
 use Rattle.uring_pictures.proofs.watching.watch_bytes.Given as goal
 
 -- the bytes so far are taken in

@@ -1,6 +1,5 @@
 use Rattle.std.proofs.Common.{[], ◌∷◌, take, ◌++◌, arith, ap, sym, subst, ◌∙◌}
-use Rattle.std.proofs.lemmas.List.{take_more}
-use Rattle.uring_power.specs.Trials.{AreShown, IsCrowdedBy}
+use Rattle.uring_power.proofs.Common.{AreShown, IsCrowdedBy, take_more}
 use Rattle.uring_power.proofs.Showing.{shown_first, shown_more, crowded, err_told}
 use Rattle.uring_power.proofs.crash.crashes_of.Goals as goal
 

@@ -1,6 +1,5 @@
 use Rattle.std.proofs.Common.{ℕ, map, Vec, Global, arith}
-use Rattle.uring_power.specs.Shown.{Crash}
-use Rattle.uring_power.specs.Trials.{with_file}
+use Rattle.uring_power.proofs.Common.{Crash, with_file}
 use Rattle.uring_power.proofs.Lists.{spread_more}
 use Rattle.uring_power.proofs.crash.spread.Goals as goal
 

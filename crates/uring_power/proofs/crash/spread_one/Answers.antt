@@ -1,7 +1,5 @@
 use Rattle.std.proofs.Common.{ℕ, [], ◌∷◌, ◌++◌, map, Vec, Global, arith, ap, sym, ◌∙◌}
-use Rattle.std.proofs.lemmas.List.{take_all}
-use Rattle.uring_power.specs.Shown.{Crash}
-use Rattle.uring_power.specs.Trials.{with_file}
+use Rattle.uring_power.proofs.Common.{Crash, take_all, with_file}
 use Rattle.uring_power.proofs.Lists.{map_more, map_map}
 use Rattle.uring_power.proofs.crash.spread_one.Goals as goal
 

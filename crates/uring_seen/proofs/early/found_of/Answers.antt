@@ -1,6 +1,5 @@
 use Rattle.std.proofs.Common.{map, sym, subst}
-use Rattle.std.specs.Prelude.{reverse}
-use Rattle.uring_seen.specs.Written.{IsEarlyOf}
+use Rattle.uring_seen.proofs.Common.{IsEarlyOf, reverse}
 use Rattle.uring_seen.proofs.WrittenLines.{early_found}
 use Rattle.uring_seen.proofs.early.found_of.Goals as goal
 

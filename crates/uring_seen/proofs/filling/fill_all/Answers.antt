@@ -1,6 +1,5 @@
 use Rattle.std.proofs.Common.{map}
-use Rattle.std.proofs.lemmas.Result.{IfOk-weaker}
-use Rattle.uring_trace.proofs.ExplainLines.{if_ok_both}
+use Rattle.uring_seen.proofs.Common.{IfOk-weaker, if_ok_both}
 use Rattle.uring_seen.proofs.Answered.{said_answered}
 use Rattle.uring_seen.proofs.filling.fill_all.Goals as goal
 

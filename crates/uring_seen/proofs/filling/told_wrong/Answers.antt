@@ -1,7 +1,5 @@
 use Rattle.std.proofs.Common.{List, map, subst}
-use Rattle.uring_trace.proofs.ExplainLines.{if_ok_both}
-use Rattle.uring_core.specs.Histories.{Event, history_of}
-use Rattle.uring_seen.specs.Told.{IsFar}
+use Rattle.uring_seen.proofs.Common.{Event, IsFar, history_of, if_ok_both}
 use Rattle.uring_seen.proofs.Answered.{never_none, told_nothing}
 use Rattle.uring_seen.proofs.filling.told_wrong.Goals as goal
 

@@ -1,7 +1,6 @@
 use Rattle.std.proofs.Common.{refl}
 use Rattle.uring_core.specs.declared.answer.Answer.TheVariants as answer
-use Rattle.uring_trace.specs.Text.{text_of}
-use Rattle.uring_seen.specs.Sights.{submitted}
+use Rattle.uring_seen.proofs.Common.{submitted, text_of}
 use Rattle.uring_seen.proofs.Showing.{again_wrong, begin_shown}
 use Rattle.uring_seen.proofs.sight.sight_of_again.Goals as goal
 

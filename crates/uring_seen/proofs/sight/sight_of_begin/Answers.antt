@@ -1,7 +1,5 @@
 use Rattle.std.proofs.Common.{List, ℕ, sym, subst, ◌∙◌}
-use Rattle.std.proofs.lemmas.Bool.{false≢true}
-use Rattle.std.proofs.lemmas.Result.{IfOk-weaker}
-use Rattle.uring_seen.specs.Sights.{submitted, IsSeenAs}
+use Rattle.uring_seen.proofs.Common.{IfOk-weaker, IsSeenAs, false≢true, submitted}
 use Rattle.uring_seen.proofs.Showing.{begin_no_finish, begin_shown, begin_wrong}
 use Rattle.uring_seen.proofs.sight.sight_of_begin.Goals as goal
 

@@ -1,6 +1,5 @@
 use Rattle.std.proofs.Common.{sym, ◌∙◌}
-use Rattle.std.proofs.lemmas.Bool.{false≢true}
-use Rattle.uring_seen.specs.Sights.{submitted}
+use Rattle.uring_seen.proofs.Common.{false≢true, submitted}
 use Rattle.uring_seen.proofs.Showing.{sure_no_finish, sure_shown, sure_wrong}
 use Rattle.uring_seen.proofs.sight.sight_of_sure.Goals as goal
 

@@ -1,8 +1,5 @@
 use Rattle.std.proofs.Common.{◌≡◌, ℕ, List, length, map, take, sym, subst, arith, Some}
-use Rattle.std.specs.Prelude.{slice_get}
-use Rattle.std.proofs.lemmas.List.{take_all}
-use Rattle.uring_core.specs.Histories.{history_of}
-use Rattle.uring_fill.specs.Filling.{is_hidden, seen_in}
+use Rattle.uring_seen.proofs.Common.{history_of, is_hidden, seen_in, slice_get, take_all}
 use Rattle.uring_seen.proofs.HistoryLines.{LineThere, IsWritten, line_there, count_more, nothing_written, one_at_most, one_written}
 use Rattle.uring_seen.proofs.writing.push_events.Goals as goal
 

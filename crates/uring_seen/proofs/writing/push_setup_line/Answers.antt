@@ -1,6 +1,5 @@
 use Rattle.std.proofs.Common.{◌++◌, List, ℕ, ap, ◌∙◌}
-use Rattle.std.proofs.lemmas.Result.{on_ok_weaker}
-use Rattle.uring_check.specs.SetupLines.{setup_text}
+use Rattle.uring_seen.proofs.Common.{on_ok_weaker, setup_text}
 use Rattle.uring_seen.proofs.writing.push_setup_line.Goals as goal
 
 pub returns : goal.returns

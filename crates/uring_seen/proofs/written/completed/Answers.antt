@@ -1,7 +1,6 @@
 use Rattle.std.proofs.Common.{◌≡◌, ◌++◌, ℕ, List, Some, None, ap, subst, ◌∙◌, rules}
 use Rattle.std.proofs.lemmas.Bool.Decides.{Decides-eqb}
-use Rattle.std.proofs.lemmas.Slice.Eq.{strip_prefix_is}
-use Rattle.uring_seen.specs.Written.{front_of}
+use Rattle.uring_seen.proofs.Common.{front_of, strip_prefix_is}
 use Rattle.uring_seen.proofs.WrittenCompletions.{completes_padded, data_none, front_none}
 use Rattle.uring_seen.proofs.written.completed.Goals as goal
 

@@ -1,5 +1,4 @@
-use Rattle.std.proofs.lemmas.Result.{IfOk-weaker}
-use Rattle.uring_check.proofs.Splitting.{bad_none, recorded}
+use Rattle.uring_seen.proofs.Common.{IfOk-weaker, bad_none, recorded}
 use Rattle.uring_seen.proofs.WrittenLines.{none_sight, step_sight}
 use Rattle.uring_seen.proofs.written.look.Goals as goal
 

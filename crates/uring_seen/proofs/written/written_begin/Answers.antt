@@ -1,6 +1,5 @@
 use Rattle.std.proofs.Common.{sym, ◌∙◌}
-use Rattle.std.proofs.lemmas.Bool.{false≢true}
-use Rattle.std.proofs.lemmas.Result.{IfOk-weaker}
+use Rattle.uring_seen.proofs.Common.{IfOk-weaker, false≢true}
 use Rattle.uring_seen.proofs.Showing.{begin_no_finish}
 use Rattle.uring_seen.proofs.WrittenSteps.{again_followed, begin_never, begin_written}
 use Rattle.uring_seen.proofs.written.written_begin.Goals as goal

@@ -1,6 +1,5 @@
 use Rattle.std.proofs.Common.{◌≡◌, true, false, sym, ◌∙◌, rules}
-use Rattle.std.proofs.lemmas.Bool.{false≢true, not-true, not-false}
-use Rattle.std.proofs.lemmas.Result.{IfOk-weaker}
+use Rattle.uring_seen.proofs.Common.{IfOk-weaker, false≢true, not-false, not-true}
 use Rattle.uring_seen.proofs.WrittenSteps.{completed_full, completed_none}
 use Rattle.uring_seen.proofs.written.written_completion.Goals as goal
 

@@ -1,11 +1,7 @@
 use Rattle.std.proofs.Common.{◌≡◌, refl, sym, subst, ◌∙◌, rules}
-use Rattle.std.proofs.lemmas.Bool.{false≢true}
-use Rattle.std.proofs.lemmas.Result.{IfOk-weaker}
-use Rattle.uring_entry.specs.Requests.{no_bytes}
-use Rattle.uring_core.specs.declared.answer.Answer.{Answer}
+use Rattle.uring_seen.proofs.Common.{Answer, IfOk-weaker, IsFollowed, false≢true, no_bytes}
 use Rattle.uring_core.specs.declared.answer.Answer.TheVariants as answer
 use Rattle.uring_core.specs.declared.step.Step.TheVariants as step
-use Rattle.uring_seen.specs.Written.{IsFollowed}
 use Rattle.uring_seen.proofs.WrittenSteps.{finish_followed, no_answer, no_finish}
 use Rattle.uring_seen.proofs.written.written_finish.Goals as goal
 

@@ -1,6 +1,5 @@
 use Rattle.std.proofs.Common.{map, arith}
-use Rattle.uring_core.specs.Histories.{history_of}
-use Rattle.uring_early.specs.Bare.{blank}
+use Rattle.uring_seen.proofs.Common.{blank, history_of}
 use Rattle.uring_seen.proofs.OneLine.{line_at}
 use Rattle.uring_seen.proofs.WrittenLines.{all_written, bad_written, none_written, passed_written, shown_written, wrong_written}
 use Rattle.uring_seen.proofs.written_reading.read_written.Goals as goal

@@ -1,9 +1,7 @@
 use Rattle.std.proofs.Common.{◌≡◌, ◌++◌, ℕ, List, drop, ap, ap₂, sym, ◌∙◌, append_assoc, rules}
-use Rattle.std.specs.Prelude.{codes, string_bytes}
+use Rattle.uring_text.proofs.Common.{codes, column_after, drop-map, stop_text, string_bytes}
 use Rattle.std.specs.Borrow.{Bor}
-use Rattle.std.proofs.lemmas.List.{drop-map}
 use Rattle.std.proofs.lemmas.Result.{on_ok_weaker}
-use Rattle.uring_text.specs.Flaws.{stop_text, column_after}
 use Rattle.uring_text.specs.Places.{place_text}
 use Rattle.uring_text.proofs.Cutting.{words}
 use Rattle.uring_text.proofs.flaw.push_flaw_in.Goals as goal

@@ -1,9 +1,7 @@
 use Rattle.std.proofs.Common.{◌≡◌, ◌∷◌, List, ℕ, ◌+◌, ◌-◌, false, eqb, eq-eqb, length, take, drop, ap, sym, subst, ◌∙◌, arith}
-use Rattle.std.proofs.lemmas.Bool.{ne_eqb}
-use Rattle.std.proofs.lemmas.List.{take_all, length-drop}
+use Rattle.uring_text.proofs.Common.{length-drop, ne_eqb, take_all, tokens_of}
 use Rattle.std.proofs.lemmas.List.Elements.{All-more}
 use Rattle.std.proofs.lemmas.List.Splits.{slice_split_none}
-use Rattle.uring_text.specs.Tokens.{tokens_of}
 use Rattle.uring_text.proofs.Cutting.{HasNoBlank, cut_at}
 use Rattle.uring_text.proofs.tokens.first_token.Goals as goal
 

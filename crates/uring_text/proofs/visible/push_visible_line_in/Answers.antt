@@ -1,7 +1,6 @@
 use Rattle.std.proofs.Common.{◌≡◌, ◌++◌, ◌∷◌, [], List, ℕ, ap, sym, ◌∙◌, append_assoc, rules}
-use Rattle.std.specs.Prelude.{string_bytes}
+use Rattle.uring_text.proofs.Common.{last_byte, string_bytes, visible, visible_line}
 use Rattle.std.proofs.lemmas.Result.{on_ok_weaker}
-use Rattle.uring_text.specs.Visible.{visible, last_byte, visible_line}
 use Rattle.uring_text.proofs.VisibleLaws.{visible_last}
 use Rattle.uring_text.proofs.visible.push_visible_line_in.Goals as goal
 

@@ -1,8 +1,5 @@
 use Rattle.std.proofs.Common.{◌≡◌, ◌+◌, ◌*◌, ◌≤◌, ℕ, List, false, length}
-use Rattle.uring_threads.specs.Calls.{calls_left, calls_row}
-use Rattle.uring_threads.specs.EventRows.{Records}
-use Rattle.uring_threads.specs.Kept.{now}
-use Rattle.uring_threads.specs.Taking.{HaveMade}
+use Rattle.uring_threads.proofs.Common.{HaveMade, Records, calls_left, calls_row, now}
 use Rattle.uring_threads.proofs.calls.begin_calls.Given as goal
 
 -- calls were made, each with at most four events for a position, and so many positions are left

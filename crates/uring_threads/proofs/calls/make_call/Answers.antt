@@ -1,13 +1,7 @@
 use Rattle.std.proofs.Common.{◌≡◌, ℕ, ◌+◌, ◌∷◌, [], drop, refl, ap, ◌∙◌, sym, subst, arith}
-use Rattle.uring_entry.specs.Setup.{Setup}
-use Rattle.uring_entry.specs.Submission.{taken}
-use Rattle.uring_laws.specs.Standing.{Stands, in_call}
-use Rattle.uring_core.specs.World.{World, beginning}
+use Rattle.uring_threads.proofs.Common.{Setup, Stands, World, beginning, calls_after, calls_counted, calls_left, ends_of, in_call, now, taken}
 use Rattle.uring_core.specs.declared.step.Step.TheVariants as step
-use Rattle.uring_threads.specs.Calls.{calls_after, calls_left, ends_of}
-use Rattle.uring_threads.specs.Kept.{now}
 use Rattle.uring_threads.specs.declared.calls.CallMade.TheVariants as made
-use Rattle.uring_threads.specs.Tallies.{calls_counted}
 use Rattle.uring_threads.proofs.CallSteps.{begun_cases, begun_spent, opened_now, closed_now, opened_first, call_counts}
 use Rattle.uring_threads.proofs.Recording.{records_one, call_recorded}
 use Rattle.uring_threads.proofs.TraceSteps.{appends_one, grown, grown_length}

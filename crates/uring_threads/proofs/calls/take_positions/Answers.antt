@@ -1,9 +1,5 @@
 use Rattle.std.proofs.Common.{◌≡◌, ◌+◌, ◌∷◌, drop, true, false, if◌then◌else◌, refl, ap, subst, ◌∙◌, arith}
-use Rattle.uring_entry.specs.Submission.{Submission, taken}
-use Rattle.uring_laws.specs.Standing.{in_call}
-use Rattle.uring_threads.specs.Calls.{calls_after, calls_left, ends_of}
-use Rattle.uring_threads.specs.Kept.{now}
-use Rattle.uring_threads.specs.Tallies.{none_counted}
+use Rattle.uring_threads.proofs.Common.{Submission, calls_after, calls_left, ends_of, in_call, none_counted, now, taken}
 use Rattle.uring_threads.proofs.CallSteps.{all_taken, between_stands, ended_there, ends_as, gone_on, none_after, took_of}
 use Rattle.uring_core.specs.declared.step.Step.TheVariants as step
 use Rattle.uring_threads.proofs.Recording.{records_more}

@@ -1,11 +1,6 @@
 use Rattle.std.proofs.Common.{◌≡◌, ◌+◌, ◌≤◌, drop, length, replicate}
-use Rattle.uring_entry.specs.Submission.{taken}
-use Rattle.uring_laws.specs.Standing.{in_call}
+use Rattle.uring_threads.proofs.Common.{Appends, Records, calls_after, calls_left, ends_of, in_call, none_counted, now, taken}
 use Rattle.uring_core.specs.declared.step.Step.TheVariants as step
-use Rattle.uring_threads.specs.Calls.{calls_after, calls_left, ends_of}
-use Rattle.uring_threads.specs.EventRows.{Records}
-use Rattle.uring_threads.specs.Kept.{now}
-use Rattle.uring_threads.specs.Tallies.{Appends, none_counted}
 use Rattle.uring_threads.proofs.calls.take_positions.Given as goal
 
 -- so many positions of the call are taken, each with one event, and none ended it

@@ -1,7 +1,4 @@
-use Rattle.std.specs.Prelude.{◌≡◌}
-use Rattle.uring_workers.specs.WorkLanes.{OnlyReceives, results_received}
-use Rattle.uring_threads.specs.Collected.{Collects}
-use Rattle.uring_threads.specs.Dispatched.{AreTakenIn}
+use Rattle.uring_threads.proofs.Common.{AreTakenIn, Collects, OnlyReceives, results_received, ◌≡◌}
 use Rattle.uring_threads.proofs.collect.collect.Given as goal
 
 abbrev pub invariant-loop-count : goal.invariant-loop-count

@@ -1,8 +1,5 @@
 use Rattle.std.proofs.Common.{◌≡◌, ◌+◌, ◌<◌, rules, length, get_or, refl, subst, arith}
-use Rattle.std.proofs.lemmas.Bool.{false≢true}
-use Rattle.std.proofs.lemmas.Result.{IfOk-from_err}
-use Rattle.uring_workers.specs.WorkLanes.{results_received}
-use Rattle.uring_threads.specs.Dispatched.{AreTakenIn}
+use Rattle.uring_threads.proofs.Common.{AreTakenIn, IfOk-from_err, false≢true, results_received}
 use Rattle.uring_threads.proofs.Collecting.{on_err, collects_at, collects_nothing, few_in_all, seen_at, seen_in_all}
 use Rattle.uring_threads.proofs.collect.collect_all.Goals as goal
 

@@ -1,8 +1,5 @@
 use Rattle.std.proofs.Common.{refl, subst, length, arith, ◌+◌}
-use Rattle.std.proofs.lemmas.Bool.{false≢true}
-use Rattle.uring_threads.specs.Collected.{CanBeTaken, NextStays}
-use Rattle.uring_threads.specs.Kept.{Grows}
-use Rattle.uring_threads.specs.Settled.{finish_of}
+use Rattle.uring_threads.proofs.Common.{CanBeTaken, Grows, NextStays, false≢true, finish_of}
 use Rattle.uring_threads.proofs.Collecting.{collects_first, collects_none, collects_then, first_known, none_stays, on_err, takes_in}
 use Rattle.uring_threads.proofs.TraceSteps.{still}
 use Rattle.uring_threads.proofs.collect.collect_one.Given.{Over}

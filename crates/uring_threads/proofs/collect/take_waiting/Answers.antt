@@ -1,7 +1,5 @@
 use Rattle.std.proofs.Common.{rules, ◌≡◌, [], ◌∷◌, ◌++◌, subst, arith}
-use Rattle.uring_workers.specs.WorkLanes.{results_received, results_seen}
-use Rattle.uring_workers.specs.declared.work_lanes.WorkLanes.{WorkLanes}
-use Rattle.uring_threads.specs.Collected.{TakesAll, Wait}
+use Rattle.uring_threads.proofs.Common.{TakesAll, Wait, WorkLanes, results_received, results_seen}
 use Rattle.uring_threads.proofs.Collecting.{first_waits, next_waits, takes_in}
 use Rattle.uring_threads.proofs.SettledWorkers.{drains_none, drains_one, room_left, drained}
 use Rattle.uring_threads.proofs.collect.take_waiting.Goals as goal

@@ -1,9 +1,6 @@
 use Rattle.std.proofs.Common.{◌≡◌, ◌+◌, ◌≤◌, length, replicate}
-use Rattle.uring_threads.specs.Delivered.{on_completions, with_reaped_all}
+use Rattle.uring_threads.proofs.Common.{Appends, Records, now, on_completions, reaps_counted, with_reaped_all}
 use Rattle.uring_core.specs.declared.step.Step.TheVariants as step
-use Rattle.uring_threads.specs.EventRows.{Records}
-use Rattle.uring_threads.specs.Kept.{now}
-use Rattle.uring_threads.specs.Tallies.{Appends, reaps_counted}
 use Rattle.uring_threads.proofs.deliveries.reap_all.Given as goal
 
 -- so many were reaped, and each was handed on

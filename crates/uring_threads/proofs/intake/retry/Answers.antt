@@ -1,9 +1,6 @@
 use Rattle.uring_threads.proofs.Tying.{waits_not, once_begun, once_unmoved, begun_completions, call_waits, completions_after, takes_after, takes_calls, takes_nothing, tied_again, tied_still}
-use Rattle.std.proofs.lemmas.Bool.{false≢true}
+use Rattle.uring_threads.proofs.Common.{ClosesOnce, IsAgain, false≢true, now}
 use Rattle.std.proofs.Common.{[], inl, inr, refl, sym, subst, arith, length, ◌+◌, ◌*◌}
-use Rattle.uring_threads.specs.EventRows.{IsAgain}
-use Rattle.uring_threads.specs.Kept.{now}
-use Rattle.uring_threads.specs.Turns.{ClosesOnce}
 use Rattle.uring_threads.proofs.Recording.{none_again, records_none}
 use Rattle.uring_threads.proofs.CallsMade.{row_begun}
 use Rattle.uring_threads.proofs.TraceSteps.{appends_after, still}

@@ -1,9 +1,5 @@
-use Rattle.std.proofs.lemmas.Bool.{false≢true}
+use Rattle.uring_threads.proofs.Common.{IsTaken, Setup, Tied, false≢true, is_shut, now}
 use Rattle.std.proofs.Common.{[], ◌∙◌, sym, subst, ap, refl, arith, length, ◌+◌, ◌*◌}
-use Rattle.uring_entry.specs.Setup.{Setup}
-use Rattle.uring_threads.specs.EventRows.{IsTaken}
-use Rattle.uring_threads.specs.Kept.{now}
-use Rattle.uring_threads.specs.Turns.{Tied, is_shut}
 use Rattle.uring_threads.proofs.Collecting.{on_err}
 use Rattle.uring_threads.proofs.Recording.{again_recorded, intake_recorded, none_pulled, pulled_as, records_none, records_then}
 use Rattle.uring_threads.proofs.Tying.{completions_after, once_unmoved, pulled_at, takes_after, takes_nothing, takes_then}

@@ -1,12 +1,6 @@
 use Rattle.std.proofs.Common.{◌∙◌, [], ◌∷◌, length, ap, refl, sym, subst, arith}
-use Rattle.uring_laws.specs.Standing.{Stands}
-use Rattle.uring_core.specs.World.{World}
+use Rattle.uring_threads.proofs.Common.{ClosesOnce, IsTaken, Pulls, Stands, Tied, World, awaits_memory, close_counted, now, waiting_in}
 use Rattle.uring_core.specs.declared.step.Step.TheVariants as step
-use Rattle.uring_ports.specs.Ports.{Pulls}
-use Rattle.uring_threads.specs.EventRows.{IsTaken}
-use Rattle.uring_threads.specs.Kept.{now}
-use Rattle.uring_threads.specs.Tallies.{close_counted}
-use Rattle.uring_threads.specs.Turns.{ClosesOnce, Tied, awaits_memory, waiting_in}
 use Rattle.uring_threads.proofs.Recording.{records_none, records_one}
 use Rattle.uring_threads.proofs.CallsMade.{row_taken}
 use Rattle.uring_threads.proofs.Tying.{once_begun, once_shut, once_stays, begun_completions, closed_world, takes_calls, takes_nothing, takes_then, tied_shut, tied_taken}

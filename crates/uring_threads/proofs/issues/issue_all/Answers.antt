@@ -1,9 +1,6 @@
-use Rattle.std.proofs.lemmas.Bool.{false≢true}
+use Rattle.uring_threads.proofs.Common.{AreSameLanes, HaveCarried, IsUnmoved, Kept, false≢true}
 use Rattle.std.proofs.Common.{length, ap, arith, ◌+◌}
 use Rattle.uring_core.specs.declared.step.Step.TheVariants as step
-use Rattle.uring_threads.specs.Dispatched.{HaveCarried}
-use Rattle.uring_threads.specs.Kept.{Kept, IsUnmoved}
-use Rattle.uring_workers.specs.WorkLanes.{AreSameLanes}
 use Rattle.uring_threads.proofs.Collecting.{on_err}
 use Rattle.uring_threads.proofs.Issuing.{looked_on, issued_length}
 use Rattle.uring_threads.proofs.Repeating.{repeats_none, repeats_still, repeats_then}

@@ -1,9 +1,6 @@
 use Rattle.std.proofs.Common.{◌≤◌, ◌^◌, length}
 use Rattle.uring_core.specs.declared.step.Step.TheVariants as step
-use Rattle.uring_threads.specs.Dispatched.{HaveCarried}
-use Rattle.uring_threads.specs.EventRows.{Repeats}
-use Rattle.uring_workers.specs.WorkLanes.{AreSameLanes}
-use Rattle.uring_threads.specs.Tallies.{issues_counted}
+use Rattle.uring_threads.proofs.Common.{AreSameLanes, HaveCarried, Repeats, issues_counted}
 use Rattle.uring_threads.proofs.issues.issue_all.Given as goal
 
 -- so many requests were issued, each with an event of its own

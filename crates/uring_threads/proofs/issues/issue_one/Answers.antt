@@ -1,7 +1,6 @@
 use Rattle.std.proofs.Common.{[], ◌∷◌, ◌≡◌, ◌<◌, length, subst, sym, ap, ◌∙◌}
-use Rattle.uring_entry.specs.Setup.{Setup}
+use Rattle.uring_threads.proofs.Common.{Setup, place_of}
 use Rattle.uring_threads.specs.Issued.{IssuedAs}
-use Rattle.uring_workers.specs.Work.{place_of}
 use Rattle.uring_threads.proofs.Carrying.{carried_run, carried_stays, ended_stays, issued_posts}
 use Rattle.uring_threads.proofs.Dealing.{dealt_by_file}
 use Rattle.uring_threads.proofs.issues.issue_one.Goals as goal

@@ -1,7 +1,5 @@
 use Rattle.std.proofs.Common.{rules, arith, ◌≤◌, refl, sym, subst, ap, ◌∙◌, vec_capacity}
-use Rattle.std.proofs.lemmas.Grind.{common_steps}
-use Rattle.uring_entry.specs.Setup.{Setup}
-use Rattle.uring_threads.specs.Kernel.{Kernel, IsKernel}
+use Rattle.uring_threads.proofs.Common.{IsKernel, Kernel, Setup, common_steps}
 use Rattle.uring_threads.specs.declared.intake.Intake.TheVariants as intake
 use Rattle.uring_threads.proofs.SameEnds.{at_first, is_at_first, opened_together}
 use Rattle.uring_threads.proofs.opening.ends_in.Goals as goal

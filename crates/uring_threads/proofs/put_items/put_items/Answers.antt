@@ -1,10 +1,5 @@
 use Rattle.std.proofs.Common.{◌<◌, length, subst, sym, refl, ap, ◌∙◌, arith}
-use Rattle.uring_entry.specs.Setup.{Setup}
-use Rattle.uring_laws.specs.Standing.{Stands}
-use Rattle.uring_core.specs.World.{World}
-use Rattle.uring_ports.specs.Items.{published_as}
-use Rattle.uring_threads.specs.Kept.{now}
-use Rattle.uring_threads.specs.Rows.{with_item_put}
+use Rattle.uring_threads.proofs.Common.{Setup, Stands, World, now, published_as, with_item_put}
 use Rattle.uring_threads.proofs.ItemSteps.{put_stands, items_more}
 use Rattle.uring_threads.proofs.Recording.{items_recorded}
 use Rattle.uring_threads.proofs.TraceSteps.{appends_then}

@@ -1,9 +1,5 @@
 use Rattle.std.proofs.Common.{◌≡◌, ◌+◌, ◌*◌, ◌≤◌, length, take}
-use Rattle.uring_ports.specs.Items.{all_published_as}
-use Rattle.uring_threads.specs.EventRows.{Records, items_row}
-use Rattle.uring_threads.specs.Kept.{now}
-use Rattle.uring_threads.specs.Rows.{with_items_put}
-use Rattle.uring_threads.specs.Tallies.{Appends, items_counted}
+use Rattle.uring_threads.proofs.Common.{Appends, Records, all_published_as, items_counted, items_row, now, with_items_put}
 use Rattle.uring_threads.proofs.put_items.put_items.Given as goal
 
 -- the items so far are put, with at most two events each

@@ -1,6 +1,5 @@
 use Rattle.std.proofs.Common.{vec_capacity, vec_len, sym, ◌∙◌, arith}
-use Rattle.uring_entry.specs.Completions.{unreaped}
-use Rattle.uring_threads.specs.Kept.{now, history}
+use Rattle.uring_threads.proofs.Common.{history, now, unreaped}
 use Rattle.uring_threads.proofs.Reporting.{room_for_next, one_more_listed, all_listed}
 use Rattle.uring_threads.proofs.report.list_unreaped.Goals as goal
 

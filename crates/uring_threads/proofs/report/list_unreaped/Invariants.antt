@@ -1,6 +1,5 @@
 use Rattle.std.proofs.Common.{◌≡◌, ◌≤◌, take, vec_capacity, vec_len}
-use Rattle.uring_entry.specs.Completions.{unreaped}
-use Rattle.uring_threads.specs.Kept.{now}
+use Rattle.uring_threads.proofs.Common.{now, unreaped}
 use Rattle.uring_threads.proofs.report.list_unreaped.Given as goal
 
 -- as many were listed as the loop has come

@@ -1,7 +1,5 @@
 use Rattle.std.proofs.Common.{◌≤◌, ap, subst, sym, ◌∙◌}
-use Rattle.std.proofs.lemmas.Bool.{false≢true}
-use Rattle.uring_ports.specs.Ports.{LeavesCompletions, LeavesItems, Sizes}
-use Rattle.uring_threads.specs.Kernel.{Kernel}
+use Rattle.uring_threads.proofs.Common.{Kernel, LeavesCompletions, LeavesItems, Sizes, false≢true}
 use Rattle.uring_threads.proofs.Reporting.{TellsEnds, tells_ends}
 use Rattle.uring_threads.proofs.SameEnds.{lanes_to_settle, carried_to_settle}
 use Rattle.uring_threads.proofs.settle_ends.settle_in.Given.{Over}

@@ -1,6 +1,5 @@
 use Rattle.std.proofs.Common.{◌≡◌, ◌++◌, sym, ap, ◌∙◌}
-use Rattle.uring_workers.specs.WorkLanes.{jobs_sent, results_seen}
-use Rattle.uring_workers.specs.Work.{jobs_of, results_of}
+use Rattle.uring_threads.proofs.Common.{jobs_of, jobs_sent, results_of, results_seen}
 use Rattle.uring_threads.proofs.SettledWorkers.{settled_at}
 use Rattle.uring_threads.proofs.settle_work.settle_worker.Goals as goal
 

@@ -1,22 +1,10 @@
 use Rattle.std.proofs.Common.{◌≡◌, ℕ, subst, sym, refl, ap, ◌∙◌, length, arith}
-use Rattle.std.specs.Prelude.{◌⊎◌, None, Result, Ok, Err}
+use Rattle.uring_threads.proofs.Common.{DeliversMost, Err, IfOk-from_err, IsDelivered, Kernel, None, Ok, PullsMost, Put, Result, Setup, Sizes, SomeIsFull, TakesIn, Turn, awaits_memory, dropped, now, ◌⊎◌}
 use Rattle.std.specs.declared.alloc.AllocError.{AllocError}
-use Rattle.std.proofs.lemmas.Result.{IfOk-from_err}
-use Rattle.uring_entry.specs.Setup.{Setup}
-use Rattle.uring_entry.specs.Submission.{dropped}
 use Rattle.uring_ports.specs.Dropped.{with_word}
-use Rattle.uring_ports.specs.Ports.{Put, Sizes}
 use Rattle.uring_ports.specs.Seen.{HasLooked}
-use Rattle.uring_workers.specs.WorkLanes.{SomeIsFull}
-use Rattle.uring_threads.specs.Kept.{now}
-use Rattle.uring_threads.specs.Kernel.{Kernel}
-use Rattle.uring_threads.specs.Served.{DeliversMost, PullsMost}
-use Rattle.uring_threads.specs.Taking.{TakesIn}
-use Rattle.uring_threads.specs.Turns.{IsDelivered}
 use Rattle.uring_threads.proofs.Turning.{HasDelivered, HasTaken, delivers_none, goes, goes_collected, goes_issued, goes_taken, has_taken, refused, same_next, turned}
 use Rattle.uring_threads.proofs.Tying.{waits_not}
-use Rattle.uring_threads.specs.Turns.{awaits_memory}
-use Rattle.uring_threads.specs.declared.turns.Turn.{Turn}
 use Rattle.uring_threads.proofs.turns.make_turn.Given.{Over}
 use Rattle.uring_threads.proofs.turns.make_turn.Goals.{After-take_in}
 use Rattle.uring_threads.proofs.turns.make_turn.Goals as goal

@@ -1,8 +1,6 @@
 use Rattle.std.proofs.Common.{◌≡◌, ◌++◌, List, ℕ, w32, ap, ◌∙◌, append_assoc, rules}
 use Rattle.std.proofs.lemmas.Int.{to_z-of_z}
-use Rattle.std.specs.Prelude.{codes, string_bytes}
-use Rattle.std.specs.Fmt.{signed_decimal}
-use Rattle.std.proofs.lemmas.Result.{on_ok_weaker}
+use Rattle.uring_trace.proofs.Common.{codes, on_ok_weaker, signed_decimal, string_bytes}
 use Rattle.uring_trace.proofs.answer_text.push_ended.Goals as goal
 
 two_parts : (old one new u v : List ℕ) → one ≡ old ++ u → new ≡ one ++ v → new ≡ old ++ (u ++ v)

@@ -1,6 +1,5 @@
 use Rattle.std.proofs.Common.{sym, ap, ◌∙◌}
-use Rattle.uring_core.specs.Histories.{world}
-use Rattle.uring_core.specs.World.{requests_of}
+use Rattle.uring_trace.proofs.Common.{requests_of, world}
 use Rattle.uring_rules.specs.Rules.{why_of}
 use Rattle.uring_trace.proofs.ChosenTexts.{target_told}
 use Rattle.uring_trace.proofs.chosen.is_target_of.Goals as goal

@@ -1,6 +1,5 @@
 use Rattle.std.proofs.Common.{◌≡◌, List, ℕ, true, false, length, sym, ap, ◌∙◌, rules}
-use Rattle.std.specs.Prelude.{◌==◌}
-use Rattle.std.proofs.lemmas.Result.{on_ok_weaker}
+use Rattle.uring_trace.proofs.Common.{on_ok_weaker, ◌==◌}
 use Rattle.uring_trace.proofs.ChosenTexts.{said_next}
 use Rattle.uring_trace.proofs.chosen.push_target.Goals as goal
 

@@ -1,11 +1,7 @@
 use Rattle.std.proofs.Common.{◌≡◌}
-use Rattle.std.specs.Prelude.{string_bytes}
+use Rattle.uring_trace.proofs.Common.{History, addr_of, entry_of, is_target, said, string_bytes, world}
 use Rattle.uring_core.specs.Core.{FitsApart}
-use Rattle.uring_core.specs.Histories.{History, world}
 use Rattle.uring_entry.specs.Below.{all_below}
-use Rattle.uring_entry.specs.Layout.{addr_of}
-use Rattle.uring_entry.specs.Requests.{entry_of, is_target}
-use Rattle.uring_trace.specs.Chosen.{said}
 use Rattle.uring_trace.proofs.chosen.push_targets.Given as goal
 
 -- the targets so far

@@ -1,6 +1,5 @@
 use Rattle.std.proofs.Common.{ℕ, [], ◌-◌, ◌^◌}
-use Rattle.uring_trace.specs.Explanations.{Telling}
-use Rattle.uring_trace.specs.Explaining.{HasToldBy, IsGrantedTo}
+use Rattle.uring_trace.proofs.Common.{HasToldBy, IsGrantedTo, Telling}
 use Rattle.uring_trace.proofs.ExplainStreams.{Far}
 use Rattle.uring_trace.proofs.explain_loop.explain_all.Given as goal
 

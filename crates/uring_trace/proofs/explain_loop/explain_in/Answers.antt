@@ -1,6 +1,5 @@
 use Rattle.std.proofs.Common.{true, false, rules}
-use Rattle.std.specs.Prelude.{IsTrue}
-use Rattle.uring_trace.specs.Explanations.{telling_on}
+use Rattle.uring_trace.proofs.Common.{IsTrue, telling_on}
 use Rattle.uring_trace.proofs.ExplainStreams.{none_read}
 use Rattle.uring_trace.proofs.explain_loop.explain_in.Goals as goal
 

@@ -1,7 +1,5 @@
 use Rattle.std.proofs.Common.{arith}
-use Rattle.std.proofs.lemmas.Result.{on_ok_weaker}
-use Rattle.uring_core.specs.Histories.{world}
-use Rattle.uring_machine.specs.Machine.{elements_for_step}
+use Rattle.uring_trace.proofs.Common.{elements_for_step, on_ok_weaker, world}
 use Rattle.uring_trace.proofs.ExplainLines.{line_reasoned}
 use Rattle.uring_trace.proofs.explainer.tell_step.Goals as goal
 

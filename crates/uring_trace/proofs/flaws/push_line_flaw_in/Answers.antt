@@ -1,6 +1,5 @@
 use Rattle.std.proofs.Common.{◌≡◌, true, ltb, length}
-use Rattle.std.proofs.lemmas.Bool.{lt-ltb}
-use Rattle.std.proofs.lemmas.Result.{on_ok_weaker}
+use Rattle.uring_trace.proofs.Common.{lt-ltb, on_ok_weaker}
 use Rattle.uring_trace.proofs.flaws.push_line_flaw_in.Goals as goal
 
 pub returns-in-None-clause-bytes : goal.returns-in-None-clause-bytes

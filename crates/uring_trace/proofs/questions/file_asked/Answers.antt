@@ -1,7 +1,6 @@
 use Rattle.std.proofs.Common.{◌≡◌, ◌++◌, Some}
-use Rattle.std.specs.Prelude.{codes}
+use Rattle.uring_trace.proofs.Common.{codes, strip_prefix_is}
 use Rattle.std.proofs.lemmas.Bool.Decides.{Decides-eqb}
-use Rattle.std.proofs.lemmas.Slice.Eq.{strip_prefix_is}
 use Rattle.uring_trace.proofs.QuestionLines.{file_words}
 use Rattle.uring_trace.proofs.questions.file_asked.Goals as goal
 

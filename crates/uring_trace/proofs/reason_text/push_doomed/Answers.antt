@@ -1,6 +1,5 @@
 use Rattle.std.proofs.Common.{◌≡◌, ◌++◌, List, ℕ, Result, ap, ◌∙◌, append_assoc}
-use Rattle.std.specs.Prelude.{codes, OnOk}
-use Rattle.std.proofs.lemmas.Result.{on_ok_weaker}
+use Rattle.uring_trace.proofs.Common.{OnOk, codes, on_ok_weaker}
 use Rattle.uring_trace.proofs.reason_text.push_doomed.Goals as goal
 
 -- what dooms a request, appended after the word for it

@@ -1,5 +1,4 @@
-use Rattle.uring_core.specs.Histories.{world}
-use Rattle.uring_core.specs.World.{requests_of}
+use Rattle.uring_trace.proofs.Common.{requests_of, world}
 use Rattle.uring_trace.proofs.ShownTexts.{rows_more}
 use Rattle.uring_trace.proofs.requests_text.push_requests.Goals as goal
 

@@ -1,11 +1,6 @@
 use Rattle.std.proofs.Common.{◌≡◌, ◌++◌}
-use Rattle.std.specs.Prelude.{string_bytes, codes}
-use Rattle.std.specs.Fmt.{decimal}
+use Rattle.uring_trace.proofs.Common.{History, codes, decimal, outstanding_in, requests_of, rows_below, string_bytes, world}
 use Rattle.uring_core.specs.Core.{FitsApart}
-use Rattle.uring_core.specs.Histories.{History, world}
-use Rattle.uring_core.specs.World.{requests_of}
-use Rattle.uring_entry.specs.Requests.{outstanding_in}
-use Rattle.uring_trace.specs.Shown.{rows_below}
 use Rattle.uring_trace.proofs.requests_text.push_requests.Given as goal
 
 -- the requests so far

@@ -1,7 +1,5 @@
 use Rattle.std.proofs.Common.{◌≡◌, ◌++◌, Bool, true, false, List, ℕ, ap, ◌∙◌, append_assoc, rules}
-use Rattle.std.specs.Prelude.{codes}
-use Rattle.std.proofs.lemmas.Result.{on_ok_weaker}
-use Rattle.uring_trace.specs.Exchanges.{step_text}
+use Rattle.uring_trace.proofs.Common.{codes, on_ok_weaker, step_text}
 use Rattle.uring_trace.proofs.session.push_step.Goals as goal
 
 -- a line and what stands between it and its answer

@@ -1,7 +1,5 @@
 use Rattle.std.proofs.Common.{◌≡◌, ◌++◌, List, ℕ, refl, ap, ◌∙◌, append_assoc}
-use Rattle.std.specs.Prelude.{codes, string_bytes}
-use Rattle.std.specs.Fmt.{decimal}
-use Rattle.std.proofs.lemmas.Result.{on_ok_weaker}
+use Rattle.uring_trace.proofs.Common.{codes, decimal, on_ok_weaker, string_bytes}
 use Rattle.uring_trace.proofs.shown_text.push_counts.Goals as goal
 
 -- what is appended in five parts, each of a word and a number

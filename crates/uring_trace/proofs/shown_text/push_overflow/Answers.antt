@@ -1,5 +1,4 @@
-use Rattle.uring_core.specs.Histories.{world}
-use Rattle.uring_trace.specs.Shown.{overflow_of}
+use Rattle.uring_trace.proofs.Common.{overflow_of, world}
 use Rattle.uring_trace.proofs.ShownTexts.{overflow_more}
 use Rattle.uring_trace.proofs.shown_text.push_overflow.Goals as goal
 

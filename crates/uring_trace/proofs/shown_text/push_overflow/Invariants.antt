@@ -1,9 +1,5 @@
 use Rattle.std.proofs.Common.{◌≡◌, ◌++◌, take}
-use Rattle.std.specs.Prelude.{string_bytes, codes, length}
-use Rattle.std.specs.Fmt.{decimal}
-use Rattle.uring_core.specs.Histories.{History, world}
-use Rattle.uring_machine.specs.Machine.{Fits}
-use Rattle.uring_trace.specs.Shown.{list_text, overflow_of}
+use Rattle.uring_trace.proofs.Common.{Fits, History, codes, decimal, length, list_text, overflow_of, string_bytes, world}
 use Rattle.uring_trace.proofs.shown_text.push_overflow.Given as goal
 
 -- the completions so far

@@ -1,6 +1,5 @@
 use Rattle.std.proofs.Common.{ℕ, [], ◌-◌, ◌^◌}
-use Rattle.uring_trace.specs.Exchanges.{Manner}
-use Rattle.uring_trace.specs.Sessions.{Has, IsGranted}
+use Rattle.uring_trace.proofs.Common.{Has, IsGranted, Manner}
 use Rattle.uring_trace.proofs.Traces.{So}
 use Rattle.uring_trace.proofs.trace_loop.answer_all.Given as goal
 

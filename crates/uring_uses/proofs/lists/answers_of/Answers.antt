@@ -1,9 +1,7 @@
 use Rattle.std.proofs.Common.{[], ◌++◌, subst, ◌∙◌}
-use Rattle.std.proofs.lemmas.List.{append-nil}
+use Rattle.uring_uses.proofs.Common.{append-nil, history_of, zip}
 use Rattle.std.proofs.lemmas.Result.{IfOk-weaker}
-use Rattle.std.specs.List.{zip}
 use Rattle.uring_core.specs.CalledFor.{IsLawful}
-use Rattle.uring_core.specs.Histories.{history_of}
 use Rattle.uring_uses.proofs.lists.answers_of.Goals as goal
 
 pub returns-clause-lawful : goal.returns-clause-lawful

@@ -1,8 +1,6 @@
 use Rattle.std.proofs.Common.{◌∷◌, [], ◌++◌, length, subst, sym, ap, arith, ◌∙◌, length-drop}
-use Rattle.std.proofs.lemmas.List.{take_all}
-use Rattle.uring_entry.specs.Setup.{IsWithinLimits}
+use Rattle.uring_uses.proofs.Common.{IsWithinLimits, history_of, take_all, world}
 use Rattle.uring_entry.specs.Completions.{unreaped}
-use Rattle.uring_core.specs.Histories.{world, history_of}
 use Rattle.uring_uses.proofs.Unreaped.{copied_some, copied_none}
 use Rattle.uring_uses.proofs.settling.settled_rest.Goals as goal
 use Rattle.uring_uses.proofs.settling.settled_rest.Goals.{in-Some+in_ok-push, in_default}

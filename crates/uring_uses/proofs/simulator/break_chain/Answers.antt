@@ -1,7 +1,5 @@
 use Rattle.std.proofs.Common.{◌≡◌, ◌+◌, ◌∷◌, negsuc, if◌then◌else◌, subst, ◌∙◌, ap}
-use Rattle.uring_entry.specs.Requests.{no_bytes}
-use Rattle.uring_core.specs.StepAnswers.{issue_answer}
-use Rattle.uring_core.specs.Histories.{world}
+use Rattle.uring_uses.proofs.Common.{issue_answer, no_bytes, world}
 use Rattle.uring_core.specs.declared.step.Step.TheVariants as step
 use Rattle.uring_core.specs.declared.answer.Answer.TheVariants as answer
 use Rattle.uring_uses.proofs.Broken.{cancelled_after}

@@ -1,6 +1,5 @@
 use Rattle.std.proofs.Common.{◌≤◌, ◌++◌, refl, ap, arith, ◌∙◌}
-use Rattle.uring_entry.specs.Requests.{outstanding_in}
-use Rattle.uring_core.specs.Histories.{world}
+use Rattle.uring_uses.proofs.Common.{outstanding_in, world}
 use Rattle.uring_uses.proofs.Turns.{run_none, run_more, run_all}
 use Rattle.uring_uses.proofs.simulator.simulate.Goals as goal
 

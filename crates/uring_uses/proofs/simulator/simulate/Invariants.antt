@@ -1,7 +1,6 @@
 use Rattle.std.proofs.Common.{◌≡◌}
 use Rattle.uring_core.specs.Core.{FitsApart}
-use Rattle.uring_core.specs.Histories.{History, world}
-use Rattle.uring_uses.specs.Simulations.{NoneRuns, HasRun}
+use Rattle.uring_uses.proofs.Common.{HasRun, History, NoneRuns, world}
 use Rattle.uring_uses.proofs.simulator.simulate.Given as goal
 
 -- a request was ended each time

@@ -1,6 +1,5 @@
 use Rattle.std.proofs.Common.{◌+◌, ◌∙◌, length, drop, ap, add-one, arith}
-use Rattle.std.proofs.lemmas.List.{drop_all}
-use Rattle.uring_volume.specs.Choices.{part}
+use Rattle.uring_volume.proofs.Common.{drop_all, part}
 use Rattle.uring_volume.proofs.Parts.{NoneBelow, part_first, part_later, part_all, part_none, all_after}
 use Rattle.uring_volume.proofs.crash.first_part.Goals as goal
 

@@ -1,7 +1,5 @@
 use Rattle.std.proofs.Common.{◌≡◌, ◌<◌, ◌≤◌, ◌+◌, ◌/◌, ℕ, length, reverse, get_or}
-use Rattle.std.specs.List.{filter}
-use Rattle.uring_volume.specs.Images.{is_on, byte_over}
-use Rattle.uring_volume.specs.Choices.{issued, chosen, part}
+use Rattle.uring_volume.proofs.Common.{byte_over, chosen, filter, is_on, issued, part}
 use Rattle.uring_volume.proofs.crash.leave_units.Given as goal
 
 abbrev pub invariant-loop-i : goal.invariant-loop-i

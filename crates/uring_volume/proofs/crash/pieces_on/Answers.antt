@@ -1,8 +1,5 @@
 use Rattle.std.proofs.Common.{◌++◌, ◌∷◌, [], map, take, reverse, sym, ap, ◌∙◌, arith}
-use Rattle.std.specs.List.{filter}
-use Rattle.std.proofs.lemmas.List.{map-append}
-use Rattle.uring_volume.specs.Images.{is_on}
-use Rattle.uring_volume.specs.Choices.{issued}
+use Rattle.uring_volume.proofs.Common.{filter, is_on, issued, map-append}
 use Rattle.uring_volume.proofs.Steps.{issued_more, issued_same}
 use Rattle.uring_volume.proofs.Sorting.{passes, fails}
 use Rattle.uring_volume.proofs.crash.pieces_on.Goals as goal

@@ -1,8 +1,5 @@
 use Rattle.std.proofs.Common.{◌≡◌, ◌≤◌, length, map, take, reverse}
-use Rattle.std.specs.Prelude.{vec_len, vec_capacity}
-use Rattle.std.specs.List.{filter}
-use Rattle.uring_volume.specs.Images.{is_on}
-use Rattle.uring_volume.specs.Choices.{issued}
+use Rattle.uring_volume.proofs.Common.{filter, is_on, issued, vec_capacity, vec_len}
 use Rattle.uring_volume.proofs.crash.pieces_on.Given as goal
 
 abbrev pub invariant-loop-event : goal.invariant-loop-event

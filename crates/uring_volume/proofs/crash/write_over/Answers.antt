@@ -1,6 +1,5 @@
 use Rattle.std.proofs.Common.{◌≡◌, ◌<◌, ◌≤◌, ◌+◌, ◌-◌, cond, length, get_or, sym, ap, ◌∙◌, inl, inr, arith}
-use Rattle.std.proofs.lemmas.Bool.{cases_Bool, cond-true, cond-false, and_parts, leb-true, ltb-true}
-use Rattle.uring_volume.specs.Images.{is_under}
+use Rattle.uring_volume.proofs.Common.{and_parts, cases_Bool, cond-false, cond-true, is_under, leb-true, ltb-true}
 use Rattle.uring_volume.proofs.Painting.{unchanged, past}
 use Rattle.uring_volume.proofs.crash.write_over.Goals as goal
 

@@ -1,6 +1,5 @@
 use Rattle.std.proofs.Common.{reverse, sym, ap, ◌∙◌}
-use Rattle.std.specs.List.{list_any}
-use Rattle.uring_volume.specs.Folds.{can_fold}
+use Rattle.uring_volume.proofs.Common.{can_fold, list_any}
 use Rattle.uring_volume.proofs.Steps.{issued_same}
 use Rattle.uring_volume.proofs.Folded.{issued_at}
 use Rattle.uring_volume.proofs.FoldSearch.{none_later}

@@ -1,7 +1,5 @@
 use Rattle.std.proofs.Common.{◌≡◌, false, take, reverse}
-use Rattle.std.specs.List.{list_any}
-use Rattle.uring_volume.specs.Choices.{issued}
-use Rattle.uring_volume.specs.Folds.{can_fold}
+use Rattle.uring_volume.proofs.Common.{can_fold, issued, list_any}
 use Rattle.uring_volume.proofs.fold.first_foldable.Given as goal
 
 abbrev pub invariant-loop-event : goal.invariant-loop-event

@@ -1,8 +1,6 @@
 use Rattle.std.proofs.Common.{rules, ◌≡◌, true, not, reverse, subst, ap, ◌∙◌}
 use Rattle.std.proofs.lemmas.Fn.{filter_same}
-use Rattle.uring_volume.specs.Images.{IsIn}
-use Rattle.uring_volume.specs.Choices.{issued}
-use Rattle.uring_volume.specs.Folds.{is_of_write, can_fold, without_write}
+use Rattle.uring_volume.proofs.Common.{IsIn, can_fold, is_of_write, issued, without_write}
 use Rattle.uring_volume.proofs.Folded.{reverse_filter}
 use Rattle.uring_volume.proofs.fold.fold_first.Goals as goal
 

@@ -1,6 +1,5 @@
 use Rattle.std.proofs.Common.{reverse, sym, ap, ◌∙◌}
-use Rattle.std.specs.List.{list_any}
-use Rattle.uring_volume.specs.Folds.{is_in_way}
+use Rattle.uring_volume.proofs.Common.{is_in_way, list_any}
 use Rattle.uring_volume.proofs.Steps.{issued_same}
 use Rattle.uring_volume.proofs.FoldSearch.{none_later, some_issued}
 use Rattle.uring_volume.proofs.fold.has_one_in_way.Goals as goal

@@ -1,7 +1,5 @@
 use Rattle.std.proofs.Common.{◌≡◌, false, take, reverse}
-use Rattle.std.specs.List.{list_any}
-use Rattle.uring_volume.specs.Choices.{issued}
-use Rattle.uring_volume.specs.Folds.{is_in_way}
+use Rattle.uring_volume.proofs.Common.{is_in_way, issued, list_any}
 use Rattle.uring_volume.proofs.fold.has_one_in_way.Given as goal
 
 abbrev pub invariant-loop-event : goal.invariant-loop-event

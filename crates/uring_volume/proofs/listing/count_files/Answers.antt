@@ -1,6 +1,5 @@
 use Rattle.std.proofs.Common.{◌≡◌, ◌+◌, length, get_or, drop, reverse, ap, ◌∙◌, arith}
-use Rattle.std.proofs.lemmas.List.{drop_more, drop_all, length-append}
-use Rattle.uring_volume.specs.Ways.{fronts, units_in, files_of}
+use Rattle.uring_volume.proofs.Common.{drop_all, drop_more, files_of, fronts, length-append, units_in}
 use Rattle.uring_volume.proofs.listing.count_files.Goals as goal
 
 pub loop-len-preserved : goal.loop-len-preserved

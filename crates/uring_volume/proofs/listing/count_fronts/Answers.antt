@@ -1,6 +1,5 @@
 use Rattle.std.proofs.Common.{rules, ◌≡◌, ◌-◌, ◌^◌, min, length, map, reverse, sym, ap, ◌∙◌, arith}
-use Rattle.std.proofs.lemmas.List.{length-map}
-use Rattle.uring_volume.specs.Ways.{fronts}
+use Rattle.uring_volume.proofs.Common.{fronts, length-map}
 use Rattle.uring_volume.proofs.Seeking.{count_more}
 use Rattle.uring_volume.proofs.listing.count_fronts.Goals as goal
 

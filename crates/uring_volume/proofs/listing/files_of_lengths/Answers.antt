@@ -1,6 +1,5 @@
 use Rattle.std.proofs.Common.{◌+◌, ◌++◌, map, drop, reverse, append_assoc, sym, ap, ◌∙◌}
-use Rattle.std.proofs.lemmas.List.{drop_more, drop_all, map-append, append-nil}
-use Rattle.uring_volume.specs.Ways.{files_of}
+use Rattle.uring_volume.proofs.Common.{append-nil, drop_all, drop_more, files_of, map-append}
 use Rattle.uring_volume.proofs.listing.files_of_lengths.Goals as goal
 
 pub loop-len-preserved : goal.loop-len-preserved

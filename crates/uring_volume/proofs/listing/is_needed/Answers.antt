@@ -1,6 +1,5 @@
 use Rattle.std.proofs.Common.{◌&&◌, reverse, sym, ◌∙◌}
-use Rattle.uring_volume.specs.Ways.{goes_with}
-use Rattle.uring_volume.specs.Events.{is_safe}
+use Rattle.uring_volume.proofs.Common.{goes_with, is_safe}
 use Rattle.uring_volume.proofs.Seeking.{one_is, none_more}
 use Rattle.uring_volume.proofs.listing.is_needed.Goals as goal
 

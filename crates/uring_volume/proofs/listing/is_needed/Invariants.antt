@@ -1,8 +1,5 @@
 use Rattle.std.proofs.Common.{◌≡◌, false, map, take, reverse}
-use Rattle.uring_volume.specs.Ways.{goes_with}
-use Rattle.uring_volume.specs.Events.{is_safe}
-use Rattle.std.specs.List.{list_any}
-use Rattle.std.specs.Prelude.{◌&&◌}
+use Rattle.uring_volume.proofs.Common.{goes_with, is_safe, list_any, ◌&&◌}
 use Rattle.uring_volume.proofs.listing.is_needed.Given as goal
 
 abbrev pub invariant-loop-safe : goal.invariant-loop-safe

@@ -1,7 +1,5 @@
 use Rattle.std.proofs.Common.{◌≡◌, map, drop, reverse}
-use Rattle.std.specs.List.{filter}
-use Rattle.uring_volume.specs.Images.{length_over}
-use Rattle.uring_volume.specs.Ways.{is_needed}
+use Rattle.uring_volume.proofs.Common.{filter, is_needed, length_over}
 use Rattle.uring_volume.proofs.listing.least_length.Given as goal
 
 abbrev pub invariant-loop-piece : goal.invariant-loop-piece

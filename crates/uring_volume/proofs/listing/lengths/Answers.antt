@@ -1,7 +1,5 @@
 use Rattle.std.proofs.Common.{◌+◌, map, drop, reverse, sym, ap, ◌∙◌}
-use Rattle.std.specs.Prelude.{nat_eq}
-use Rattle.uring_volume.specs.Images.{length_over}
-use Rattle.uring_volume.specs.Ways.{put_by, fewest_with, lengths_by}
+use Rattle.uring_volume.proofs.Common.{fewest_with, length_over, lengths_by, nat_eq, put_by}
 use Rattle.uring_volume.proofs.Seeking.{dropped}
 use Rattle.uring_volume.proofs.listing.lengths.Goals as goal
 

@@ -1,6 +1,5 @@
 use Rattle.std.proofs.Common.{◌≡◌, ◌∷◌, [], map, drop, reverse}
-use Rattle.uring_volume.specs.Images.{length_over}
-use Rattle.uring_volume.specs.Ways.{fewest, lengths_by}
+use Rattle.uring_volume.proofs.Common.{fewest, length_over, lengths_by}
 use Rattle.uring_volume.proofs.listing.lengths.Given as goal
 
 abbrev pub invariant-loop-piece : goal.invariant-loop-piece

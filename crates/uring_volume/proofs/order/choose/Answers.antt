@@ -1,7 +1,6 @@
 use Rattle.std.proofs.Common.{◌+◌, ◌-◌, ◌++◌, length, map, take, drop, get_or, reverse, sym, ap, ◌∙◌, arith}
-use Rattle.std.proofs.lemmas.List.{drop_more, length-drop}
+use Rattle.uring_volume.proofs.Common.{chosen, drop_more, length-drop}
 use borrow.Rule.Slice.PartMut.{same_len_mid}
-use Rattle.uring_volume.specs.Choices.{chosen}
 use Rattle.uring_volume.proofs.Taking.{others_of, one_chosen, none_chosen, all_chosen}
 use Rattle.uring_volume.proofs.order.choose.Goals as goal
 use Rattle.uring_volume.proofs.order.choose.Goals.{then-not-has_one_before, else-not-has_one_before}

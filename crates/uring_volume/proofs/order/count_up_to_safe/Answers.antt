@@ -1,6 +1,5 @@
 use Rattle.std.proofs.Common.{◌≡◌, ◌-◌, suc, arith, sym, ◌∙◌, subst, false, map, drop, reverse}
-use Rattle.uring_volume.specs.Events.{is_safe}
-use Rattle.uring_volume.specs.Choices.{has_safe}
+use Rattle.uring_volume.proofs.Common.{has_safe, is_safe}
 use Rattle.uring_volume.proofs.Taking.{last_safe, one_less, none_safe}
 use Rattle.uring_volume.proofs.order.count_up_to_safe.Goals as goal
 

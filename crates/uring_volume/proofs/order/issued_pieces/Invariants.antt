@@ -1,6 +1,5 @@
 use Rattle.std.proofs.Common.{◌≡◌, ◌≤◌, length, map, take, reverse}
-use Rattle.std.specs.Prelude.{vec_len, vec_capacity}
-use Rattle.uring_volume.specs.Choices.{issued}
+use Rattle.uring_volume.proofs.Common.{issued, vec_capacity, vec_len}
 use Rattle.uring_volume.proofs.order.issued_pieces.Given as goal
 
 abbrev pub invariant-loop-event : goal.invariant-loop-event

@@ -1,6 +1,5 @@
 use Rattle.std.proofs.Common.{◌≡◌, map, take, reverse}
-use Rattle.uring_volume.specs.Choices.{issued}
-use Rattle.uring_volume.specs.Volume.{ended}
+use Rattle.uring_volume.proofs.Common.{ended, issued}
 use Rattle.uring_volume.proofs.show.ended_pieces.Given as goal
 
 abbrev pub invariant-loop-event : goal.invariant-loop-event

@@ -1,7 +1,6 @@
 use Rattle.std.proofs.Common.{rules, ◌≡◌, ◌==◌, true, not, length, ◌∙◌, ap, sym, arith}
 use Rattle.std.proofs.lemmas.Fn.{filter_same}
-use Rattle.std.proofs.lemmas.Bool.{cond-true}
-use Rattle.uring_volume.specs.Volume.{but, is_one_of}
+use Rattle.uring_volume.proofs.Common.{but, cond-true, is_one_of}
 use Rattle.uring_volume.proofs.Numbers.{but_is_shorter}
 use Rattle.uring_volume.proofs.volume.take_out.Goals as goal
 

@@ -1,6 +1,5 @@
 use Rattle.std.proofs.Common.{◌+◌, ◌&&◌, map, drop, ap, sym, ◌∙◌}
-use Rattle.std.specs.Cmp.Lexicographic.{pointwise}
-use Rattle.uring_volume.specs.Ways.{same_write}
+use Rattle.uring_volume.proofs.Common.{pointwise, same_write}
 use Rattle.uring_volume.proofs.Seeking.{pairs_from, pairs_end}
 use Rattle.uring_volume.proofs.ways.are_same_writes.Goals as goal
 

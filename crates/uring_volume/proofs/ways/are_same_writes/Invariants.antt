@@ -1,6 +1,5 @@
 use Rattle.std.proofs.Common.{◌≡◌, map, drop}
-use Rattle.std.specs.Cmp.Lexicographic.{pointwise}
-use Rattle.uring_volume.specs.Ways.{same_write}
+use Rattle.uring_volume.proofs.Common.{pointwise, same_write}
 use Rattle.uring_volume.proofs.ways.are_same_writes.Given as goal
 
 abbrev pub invariant-loop-i : goal.invariant-loop-i

@@ -1,6 +1,5 @@
 use Rattle.std.proofs.Common.{ap, sym, ◌∙◌}
-use Rattle.std.specs.Prelude.{nat_eq}
-use Rattle.std.specs.Cmp.Lexicographic.{pointwise}
+use Rattle.uring_volume.proofs.Common.{nat_eq, pointwise}
 use Rattle.uring_volume.proofs.Seeking.{one_is, none_more}
 use Rattle.uring_volume.proofs.ways.has_bytes.Goals as goal
 

@@ -1,7 +1,5 @@
 use Rattle.std.proofs.Common.{◌≡◌, false, map, take}
-use Rattle.std.specs.Prelude.{nat_eq}
-use Rattle.std.specs.List.{list_any}
-use Rattle.std.specs.Cmp.Lexicographic.{pointwise}
+use Rattle.uring_volume.proofs.Common.{list_any, nat_eq, pointwise}
 use Rattle.uring_volume.proofs.ways.has_bytes.Given as goal
 
 abbrev pub invariant-loop-one : goal.invariant-loop-one

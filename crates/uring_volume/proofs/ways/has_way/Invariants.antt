@@ -1,6 +1,5 @@
 use Rattle.std.proofs.Common.{◌≡◌, false, map, take}
-use Rattle.std.specs.List.{list_any}
-use Rattle.uring_volume.specs.Ways.{way, same_way}
+use Rattle.uring_volume.proofs.Common.{list_any, same_way, way}
 use Rattle.uring_volume.proofs.ways.has_way.Given as goal
 
 abbrev pub invariant-loop-way : goal.invariant-loop-way

@@ -1,7 +1,5 @@
 use Rattle.std.proofs.Common.{map, sym, ap, ◌∙◌}
-use Rattle.std.specs.Prelude.{nat_eq}
-use Rattle.std.specs.List.{list_any}
-use Rattle.std.specs.Cmp.Lexicographic.{pointwise}
+use Rattle.uring_volume.proofs.Common.{list_any, nat_eq, pointwise}
 use Rattle.uring_volume.proofs.Seeking.{put_new, on_ok}
 use Rattle.uring_volume.proofs.ways.put_bytes.Goals as goal
 

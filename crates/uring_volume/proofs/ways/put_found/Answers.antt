@@ -1,9 +1,5 @@
 use Rattle.std.proofs.Common.{◌+◌, ◌≡◌, cond, map, drop, reverse, sym, ap, ◌∙◌}
-use Rattle.std.specs.Prelude.{nat_eq}
-use Rattle.std.specs.Cmp.Lexicographic.{pointwise}
-use Rattle.std.proofs.lemmas.Bool.{cond-true, cond-false}
-use Rattle.uring_volume.specs.Choices.{has_safe}
-use Rattle.uring_volume.specs.Ways.{way, put_by, found_at}
+use Rattle.uring_volume.proofs.Common.{cond-false, cond-true, found_at, has_safe, nat_eq, pointwise, put_by, way}
 use Rattle.uring_volume.proofs.Seeking.{dropped}
 use Rattle.uring_volume.proofs.ways.put_found.Goals as goal
 use Rattle.uring_volume.proofs.ways.put_found.Goals.{then-not-has_safe+in_ok-put_bytes, else-not-has_safe}

@@ -1,6 +1,5 @@
 use Rattle.std.proofs.Common.{rules, ◌++◌, length, map, take, drop, ap, ◌∙◌}
-use Rattle.uring_volume.specs.Choices.{without}
-use Rattle.uring_volume.specs.Ways.{way, same_way, put_by, bytes_over}
+use Rattle.uring_volume.proofs.Common.{bytes_over, put_by, same_way, way, without}
 use Rattle.uring_volume.proofs.Painting.{written_back}
 use Rattle.uring_volume.proofs.Seeking.{on_ok}
 use Rattle.uring_volume.proofs.ways.put_step.Goals as goal

@@ -1,7 +1,5 @@
 use Rattle.std.proofs.Common.{◌≡◌, ◌+◌, cond, map, drop, reverse, sym, ap, ◌∙◌}
-use Rattle.std.proofs.lemmas.Bool.{cond-true, cond-false}
-use Rattle.uring_volume.specs.Choices.{waits_for_one}
-use Rattle.uring_volume.specs.Ways.{way, same_way, put_by, stepped, steps_of}
+use Rattle.uring_volume.proofs.Common.{cond-false, cond-true, put_by, same_way, stepped, steps_of, waits_for_one, way}
 use Rattle.uring_volume.proofs.Seeking.{dropped}
 use Rattle.uring_volume.proofs.ways.put_steps.Goals as goal
 use Rattle.uring_volume.proofs.ways.put_steps.Goals.{then-not-has_one_before+in_ok-put_step, else-not-has_one_before}

@@ -1,6 +1,5 @@
 use Rattle.std.proofs.Common.{map, refl, sym, ap, ◌∙◌}
-use Rattle.std.specs.List.{list_any}
-use Rattle.uring_volume.specs.Ways.{way, same_way}
+use Rattle.uring_volume.proofs.Common.{list_any, same_way, way}
 use Rattle.uring_volume.proofs.Seeking.{put_new, on_ok}
 use Rattle.uring_volume.proofs.ways.put_way.Goals as goal
 

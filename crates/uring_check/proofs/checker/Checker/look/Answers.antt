@@ -1,6 +1,5 @@
 use Rattle.std.proofs.Common.{subst}
-use Rattle.std.proofs.lemmas.Result.{on_ok_weaker}
-use Rattle.uring_check.specs.Records.{IsNoRecord}
+use Rattle.uring_check.proofs.Common.{IsNoRecord, on_ok_weaker}
 use Rattle.uring_check.proofs.Splitting.{bad_none}
 use Rattle.uring_check.proofs.checker.Checker.look.Goals as goal
 

@@ -1,6 +1,5 @@
 use Rattle.std.proofs.Common.{refl, subst}
-use Rattle.std.proofs.lemmas.Result.{on_ok_weaker}
-use Rattle.uring_trace.proofs.ExplainLines.{if_ok_both}
+use Rattle.uring_check.proofs.Common.{if_ok_both, on_ok_weaker}
 use Rattle.uring_check.proofs.FirstLines.{Goes, took_first, took_missed, took_setup}
 use Rattle.uring_check.proofs.checker.Checker.take_first.Goals as goal
 

@@ -1,9 +1,7 @@
 use Rattle.std.proofs.Common.{◌≡◌, ◌≢◌, ℕ, List, [], false, refl}
-use Rattle.std.specs.Prelude.{IsTrue, string_bytes}
-use Rattle.std.proofs.lemmas.Result.{IfOk-weaker}
+use Rattle.uring_check.proofs.Common.{IfOk-weaker, IsTrue, false≢true, string_bytes}
 use Rattle.uring_text.specs.KeptLine.{kept_of}
 use Rattle.uring_check.proofs.Readings.{ended_last, ended_none}
-use Rattle.std.proofs.lemmas.Bool.{false≢true}
 use Rattle.uring_check.proofs.reading.Reading.end.Goals as goal
 
 pub returns-then-is_empty-clause-verdict : goal.returns-then-is_empty-clause-verdict

@@ -1,7 +1,5 @@
 use Rattle.std.proofs.Common.{◌≡◌, ◌<◌, ◌+◌, ℕ, List, [], ◌∷◌, ◌++◌, length, take, get_or, sym, ap, subst, ◌∙◌, append_assoc, rules}
-use Rattle.std.proofs.lemmas.Bool.{false≢true}
-use Rattle.std.proofs.lemmas.List.{take_more}
-use Rattle.uring_check.specs.Checking.{Has}
+use Rattle.uring_check.proofs.Common.{Has, false≢true, take_more}
 use Rattle.uring_check.proofs.reading.Reading.feed.Goals as goal
 use Rattle.uring_check.proofs.reading.Reading.feed.Goals.{then-byte-eq10+in_ok-end_line, else-byte-eq10}
 

@@ -1,6 +1,5 @@
 use Rattle.std.proofs.Common.{Bool, ℕ, List, ◌++◌, take}
-use Rattle.uring_check.specs.Rules.{Rules}
-use Rattle.uring_check.specs.Checking.{Has}
+use Rattle.uring_check.proofs.Common.{Has, Rules}
 use Rattle.uring_check.proofs.reading.Reading.feed.Given as goal
 
 -- what was to be shown, as far as the loop has come

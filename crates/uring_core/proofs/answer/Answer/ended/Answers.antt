@@ -1,6 +1,5 @@
 use Rattle.std.proofs.Common.{refl, rules}
-use Rattle.std.specs.Int.{w32}
-use Rattle.std.proofs.lemmas.Int.{to_z-of_z}
+use Rattle.uring_core.proofs.Common.{to_z-of_z, w32}
 use Rattle.uring_core.proofs.answer.Answer.ended.Goals as goal
 
 pub returns : goal.returns

@@ -1,7 +1,6 @@
 use Rattle.std.proofs.Common.{◌+◌, refl, sym, ◌∙◌, ap, arith, Err, inl}
 use Rattle.uring_core.specs.declared.answer.Answer.TheVariants as answer
-use Rattle.uring_core.specs.World.{requests_of}
-use Rattle.uring_core.specs.Histories.{world}
+use Rattle.uring_core.proofs.Common.{requests_of, world}
 use Rattle.uring_core.proofs.CoreSteps.{core_after}
 use Rattle.uring_core.proofs.CoreCalls.{opens_within, opens_with, again_goes, call_goes, on_success, not_refused}
 use Rattle.uring_core.proofs.cores.Core.begin.Goals as goal

@@ -1,9 +1,5 @@
 use Rattle.std.proofs.Common.{◌≡◌, true, false, cond, is_some, ◌∷◌, refl, sym, ap, ◌∙◌}
-use Rattle.uring_entry.specs.Setup.{Setup}
-use Rattle.uring_entry.specs.Submission.{Submission}
-use Rattle.uring_rings.specs.Sq.{ShowsSubmission}
-use Rattle.uring_core.specs.Histories.{History}
-use Rattle.uring_core.specs.Core.{Core, FitsApart}
+use Rattle.uring_core.proofs.Common.{Core, FitsApart, History, Setup, ShowsSubmission, Submission}
 use Rattle.uring_core.specs.declared.step.Step.TheVariants as step
 use Rattle.uring_core.specs.declared.answer.Answer.TheVariants as answer
 use Rattle.uring_core.proofs.CoreSteps.{core_after}

@@ -1,18 +1,9 @@
 use Rattle.std.proofs.Common.{◌≡◌, ◌∷◌, Bool, cond, eqb, length, Option, Some, None, refl, sym, ap, subst, ◌∙◌, inl, inr}
-use Rattle.std.proofs.lemmas.Bool.{cases_Bool}
-use Rattle.uring_entry.specs.Setup.{Setup}
-use Rattle.uring_entry.specs.IndexWords.{word_of}
-use Rattle.uring_entry.specs.Submission.{Submission, Call, taken, entries_from, dropped, with_closed}
-use Rattle.uring_rings.specs.Sq.{Sq, ShowsSubmission}
+use Rattle.uring_core.proofs.Common.{Call, Core, FitsApart, History, Setup, ShowsSubmission, Sq, Submission, World, cases_Bool, dropped, end_answer_in, end_told, entries_from, taken, with_closed, word_of, world}
 use Rattle.uring_rings.specs.SqAnswers as ring
 use Rattle.uring_rings.specs.declared.answers.Taken.{Taken}
 use Rattle.uring_rings.specs.declared.answers.EndAnswer.{EndAnswer}
 use Rattle.uring_rings.specs.declared.answers.EndAnswer.TheVariants as ended_as
-use Rattle.uring_core.specs.World.{World}
-use Rattle.uring_core.specs.Told.{end_told}
-use Rattle.uring_core.specs.StepAnswers.{end_answer_in}
-use Rattle.uring_core.specs.Histories.{History, world}
-use Rattle.uring_core.specs.Core.{Core, FitsApart}
 use Rattle.uring_core.specs.declared.step.Step.TheVariants as step
 use Rattle.uring_core.specs.declared.answer.Answer.TheVariants as answer
 use Rattle.uring_core.proofs.CoreSteps.{core_after}

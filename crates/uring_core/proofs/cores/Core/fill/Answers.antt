@@ -1,17 +1,8 @@
 use Rattle.std.proofs.Common.{◌≡◌, ℕ, refl, ap, ◌∙◌, inl, inr}
-use Rattle.std.proofs.lemmas.Bool.{cases_lt, lt-ltb, le-ltb, lt-leb, le-leb}
-use Rattle.uring_entry.specs.Setup.{Setup}
-use Rattle.uring_entry.specs.Layout.{Sqe}
-use Rattle.uring_entry.specs.Submission.{is_busy, with_filled}
-use Rattle.uring_rings.specs.Sq.{Sq, ShowsSubmission}
+use Rattle.uring_core.proofs.Common.{Core, Setup, ShowsSubmission, ShowsWorld, Sq, Sqe, World, cases_lt, fill_answer, fill_told, filling, is_busy, le-leb, le-ltb, lt-leb, lt-ltb, with_filled, world}
 use Rattle.uring_rings.specs.SqAnswers as ring
 use Rattle.uring_rings.specs.declared.answers.FillAnswer.{FillAnswer}
 use Rattle.uring_rings.specs.declared.answers.FillAnswer.TheVariants as fill
-use Rattle.uring_core.specs.World.{World, filling}
-use Rattle.uring_core.specs.StepAnswers.{fill_answer}
-use Rattle.uring_core.specs.Histories.{world}
-use Rattle.uring_core.specs.Told.{fill_told}
-use Rattle.uring_core.specs.Core.{Core, ShowsWorld}
 use Rattle.uring_core.specs.declared.step.Step.TheVariants as step
 use Rattle.uring_core.proofs.CoreSteps.{on_submission, SubmissionStep, told_if, core_after}
 use Rattle.uring_core.proofs.cores.Core.fill.Goals as goal

@@ -1,9 +1,6 @@
 use Rattle.std.proofs.Common.{◌≡◌, Some, refl, subst, rules}
-use Rattle.std.specs.Int.{w32}
-use Rattle.std.proofs.lemmas.Int.{to_z-of_z}
+use Rattle.uring_core.proofs.Common.{requests_of, to_z-of_z, w32, world}
 use Rattle.uring_rules.specs.RulesIssues.{posted_by}
-use Rattle.uring_core.specs.World.{requests_of}
-use Rattle.uring_core.specs.Histories.{world}
 use Rattle.uring_core.proofs.CoreSteps.{core_after}
 use Rattle.uring_core.proofs.CoreEnds.{finish_goes, ended_as_posted}
 use Rattle.uring_core.proofs.cores.Core.finish.Goals as goal

@@ -1,9 +1,6 @@
 use Rattle.std.proofs.Common.{◌∷◌, not, sym, subst, ap, ◌∙◌, rules}
-use Rattle.std.specs.Int.{w32}
-use Rattle.std.proofs.lemmas.Int.{to_z-of_z}
+use Rattle.uring_core.proofs.Common.{FitsApart, to_z-of_z, w32, world}
 use Rattle.std.proofs.lemmas.Result.{IfErr-weaker}
-use Rattle.uring_core.specs.Histories.{world}
-use Rattle.uring_core.specs.Core.{FitsApart}
 use Rattle.uring_core.specs.declared.step.Step.TheVariants as step
 use Rattle.uring_core.specs.declared.answer.Answer.TheVariants as answer
 use Rattle.uring_core.proofs.RecordedAnswers.{ended_since, idle_refused_apart}

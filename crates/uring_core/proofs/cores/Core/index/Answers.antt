@@ -1,13 +1,8 @@
 use Rattle.std.proofs.Common.{◌≡◌, ℕ, Option, Some, None, refl, ap, ◌∙◌}
-use Rattle.uring_entry.specs.Submission.{Submission, Call, with_staged}
-use Rattle.uring_rings.specs.Sq.{Sq, ShowsSubmission}
+use Rattle.uring_core.proofs.Common.{Call, Core, ShowsSubmission, ShowsWorld, Sq, Submission, World, held_by, index_told, staging, with_staged, world}
 use Rattle.uring_rings.specs.SqAnswers as ring
 use Rattle.uring_rings.specs.declared.answers.IndexAnswer.{IndexAnswer}
 use Rattle.uring_rings.specs.declared.answers.IndexAnswer.TheVariants as index
-use Rattle.uring_core.specs.World.{World, staging}
-use Rattle.uring_core.specs.Histories.{world}
-use Rattle.uring_core.specs.Told.{index_told}
-use Rattle.uring_core.specs.Core.{Core, ShowsWorld, held_by}
 use Rattle.uring_core.specs.declared.step.Step.TheVariants as step
 use Rattle.uring_core.proofs.CoreSteps.{on_submission, SubmissionStep, told_if, core_after}
 use Rattle.uring_core.proofs.cores.Core.index.Goals as goal

@@ -1,6 +1,5 @@
 use Rattle.std.proofs.Common.{refl, rules}
-use Rattle.std.specs.Int.{w32}
-use Rattle.std.proofs.lemmas.Int.{to_z-of_z}
+use Rattle.uring_core.proofs.Common.{to_z-of_z, w32}
 use Rattle.uring_core.proofs.CoreSteps.{core_after}
 use Rattle.uring_core.proofs.CoreEnds.{run_goes, issue_ended_goes}
 use Rattle.uring_core.proofs.cores.Core.issue.Goals as goal

@@ -1,9 +1,5 @@
 use Rattle.std.proofs.Common.{◌≡◌, ℕ, Option, Some, None, refl, ap}
-use Rattle.uring_entry.specs.IndexWords.{word_of}
-use Rattle.uring_entry.specs.Submission.{Submission, Call, taken, with_head_loaded}
-use Rattle.uring_rings.specs.Sq.{Sq}
-use Rattle.uring_core.specs.Histories.{world}
-use Rattle.uring_core.specs.Core.{Core, held_by}
+use Rattle.uring_core.proofs.Common.{Call, Core, Sq, Submission, held_by, taken, with_head_loaded, word_of, world}
 use Rattle.uring_core.specs.declared.step.Step.TheVariants as step
 use Rattle.uring_core.specs.declared.answer.Answer.TheVariants as answer
 use Rattle.uring_core.proofs.CoreSteps.{on_submission, SubmissionStep, core_after}

@@ -1,7 +1,5 @@
 use Rattle.std.proofs.Common.{ap, ◌∙◌}
-use Rattle.uring_rules.specs.Rules.{next_of}
-use Rattle.uring_core.specs.World.{requests_of}
-use Rattle.uring_core.specs.Histories.{world}
+use Rattle.uring_core.proofs.Common.{next_of, requests_of, world}
 use Rattle.uring_core.proofs.cores.Core.next.Goals as goal
 
 pub returns : goal.returns

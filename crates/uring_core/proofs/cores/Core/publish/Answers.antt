@@ -1,7 +1,5 @@
 use Rattle.std.proofs.Common.{◌∙◌, subst}
-use Rattle.uring_entry.specs.Setup.{Setup}
-use Rattle.uring_core.specs.Core.{FitsApart}
-use Rattle.uring_core.specs.WholeCalls.{after_head, after_entries}
+use Rattle.uring_core.proofs.Common.{FitsApart, Setup, after_entries, after_head}
 use Rattle.uring_core.specs.declared.step.Step.TheVariants as step
 use Rattle.uring_core.proofs.WholeCalls.{as_called, submission_then}
 use Rattle.uring_core.proofs.cores.Core.publish.Goals as goal

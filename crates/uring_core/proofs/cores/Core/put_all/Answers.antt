@@ -1,7 +1,5 @@
 use Rattle.std.proofs.Common.{take, subst, ◌∙◌, arith}
-use Rattle.uring_entry.specs.Setup.{Setup}
-use Rattle.uring_core.specs.Core.{FitsApart}
-use Rattle.uring_core.specs.WholeCalls.{after_index, after_fill, after_entries}
+use Rattle.uring_core.proofs.Common.{FitsApart, Setup, after_entries, after_fill, after_index}
 use Rattle.uring_core.proofs.WholeCalls.{entries_next, submission_then}
 use Rattle.uring_core.proofs.cores.Core.put_all.Goals as goal
 

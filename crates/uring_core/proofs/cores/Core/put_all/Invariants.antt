@@ -1,7 +1,5 @@
 use Rattle.std.proofs.Common.{◌≡◌, take}
-use Rattle.uring_core.specs.Core.{FitsApart}
-use Rattle.uring_core.specs.Histories.{History}
-use Rattle.uring_core.specs.WholeCalls.{after_entries}
+use Rattle.uring_core.proofs.Common.{FitsApart, History, after_entries}
 use Rattle.uring_core.proofs.cores.Core.put_all.Given as goal
 
 -- the entries so far are put in

@@ -1,11 +1,5 @@
 use Rattle.std.proofs.Common.{◌≡◌, Option, Some, None, refl, ap}
-use Rattle.uring_entry.specs.Layout.{Cqe}
-use Rattle.uring_entry.specs.Completions.{next_to_reap, with_reaped}
-use Rattle.uring_rings.specs.Cq.{Cq, ShowsCompletions, KeepsMemory, after_reap}
-use Rattle.uring_core.specs.World.{World, reaping}
-use Rattle.uring_core.specs.StepAnswers.{reap_answer_of}
-use Rattle.uring_core.specs.Histories.{world}
-use Rattle.uring_core.specs.Core.{Core, ShowsWorld}
+use Rattle.uring_core.proofs.Common.{Core, Cq, Cqe, KeepsMemory, ShowsCompletions, ShowsWorld, World, after_reap, next_to_reap, reap_answer_of, reaping, with_reaped, world}
 use Rattle.uring_core.specs.declared.step.Step.TheVariants as step
 use Rattle.uring_core.proofs.CoreSteps.{on_completions, CompletionStep, core_after}
 use Rattle.uring_core.proofs.cores.Core.reap_next.Goals as goal

@@ -1,6 +1,5 @@
 use Rattle.std.proofs.Common.{◌+◌, ◌∙◌, arith}
-use Rattle.std.proofs.lemmas.Grind.{common_steps, drop_more_same}
-use Rattle.std.proofs.lemmas.List.{drop-set-lt}
+use Rattle.uring_core.proofs.Common.{common_steps, drop-set-lt, drop_more_same}
 use Rattle.uring_core.proofs.WholeCalls.{reaps_next, memory_then}
 use Rattle.uring_core.proofs.cores.Core.reap_shown.Goals as goal
 

@@ -1,7 +1,5 @@
 use Rattle.std.proofs.Common.{◌≡◌, take, drop, length}
-use Rattle.uring_core.specs.Core.{FitsApart, HasNoLessMemory}
-use Rattle.uring_core.specs.Histories.{History}
-use Rattle.uring_core.specs.WholeCalls.{after_reaps}
+use Rattle.uring_core.proofs.Common.{FitsApart, HasNoLessMemory, History, after_reaps}
 use Rattle.uring_core.proofs.cores.Core.reap_shown.Given as goal
 
 -- so many completions are reaped, and the other places are as they were

@@ -1,9 +1,5 @@
 use Rattle.std.proofs.Common.{◌≡◌, ℕ, length, refl, ap}
-use Rattle.uring_entry.specs.IndexWords.{word_of}
-use Rattle.uring_entry.specs.Completions.{with_head_stored}
-use Rattle.uring_rings.specs.Cq.{Cq}
-use Rattle.uring_core.specs.Histories.{world}
-use Rattle.uring_core.specs.Core.{Core}
+use Rattle.uring_core.proofs.Common.{Core, Cq, with_head_stored, word_of, world}
 use Rattle.uring_core.specs.declared.step.Step.TheVariants as step
 use Rattle.uring_core.specs.declared.answer.Answer.TheVariants as answer
 use Rattle.uring_core.proofs.CoreSteps.{on_completions, CompletionStep, core_after}

@@ -1,10 +1,5 @@
 use Rattle.std.proofs.Common.{◌≡◌, ℕ, ◌+◌, ◌≤◌, List, ◌++◌, length, take, drop, Option, Some, None, refl, ap, arith, IfSome}
-use Rattle.std.proofs.lemmas.Grind.{common_steps}
-use Rattle.uring_entry.specs.IndexWords.{word_of}
-use Rattle.uring_entry.specs.Submission.{Submission, Call, Place, staged, taken, pending, entries_of, with_published}
-use Rattle.uring_rings.specs.Sq.{Sq}
-use Rattle.uring_core.specs.Histories.{world}
-use Rattle.uring_core.specs.Core.{Core, held_by}
+use Rattle.uring_core.proofs.Common.{Call, Core, Place, Sq, Submission, common_steps, entries_of, held_by, pending, staged, taken, with_published, word_of, world}
 use Rattle.uring_core.specs.declared.step.Step.TheVariants as step
 use Rattle.uring_core.specs.declared.answer.Answer.TheVariants as answer
 use Rattle.uring_core.proofs.TakenEntries.{stored_entries}

@@ -1,13 +1,7 @@
 use Rattle.std.proofs.Common.{ℕ, ◌≤◌, length, Err, sym, subst, ◌∙◌, arith}
-use Rattle.uring_entry.specs.Setup.{Setup}
-use Rattle.uring_entry.specs.Submission.{call_length}
-use Rattle.uring_core.specs.Core.{Core, FitsApart, IsShortFor, elements_for_call}
-use Rattle.uring_core.specs.Histories.{world}
-use Rattle.uring_core.specs.StepAnswers.{OrAgain, begin_answer}
-use Rattle.uring_core.specs.WholeCalls.{after_published, after_takes, after_begin, IsMadeAsTold}
+use Rattle.uring_core.proofs.Common.{Answer, Core, FitsApart, IsMadeAsTold, IsShortFor, OrAgain, Setup, after_begin, after_published, after_takes, begin_answer, call_length, elements_for_call, world}
 use Rattle.uring_core.specs.declared.cores.submit.NotSubmitted.TheVariants as refused
 use Rattle.uring_core.specs.declared.step.Step.TheVariants as step
-use Rattle.uring_core.specs.declared.answer.Answer.{Answer}
 use Rattle.uring_core.specs.declared.answer.Answer.TheVariants as answer
 use Rattle.uring_core.proofs.WholeCalls.{as_called, opened_called, short_for_more, more_elements, submission_keeps, memory_then, one_refusal, begin_refused}
 use Rattle.uring_core.proofs.cores.Core.submit_in.Goals as goal

@@ -1,18 +1,8 @@
-use Rattle.std.specs.Option.{option_and_then}
+use Rattle.uring_core.proofs.Common.{Call, Core, FitsApart, History, Setup, ShowsSubmission, Sq, Sqe, Submission, World, cases_Bool, option_and_then, take_answer_in, take_told, taken, world}
 use Rattle.std.proofs.Common.{◌≡◌, ◌∷◌, ◌+◌, Bool, cond, eqb, Option, Some, None, slice_get, refl, sym, ap, subst, ◌∙◌, arith, inl, inr}
-use Rattle.std.proofs.lemmas.Bool.{cases_Bool}
-use Rattle.uring_entry.specs.Setup.{Setup}
-use Rattle.uring_entry.specs.Layout.{Sqe}
-use Rattle.uring_entry.specs.Submission.{Submission, Call, taken}
-use Rattle.uring_rings.specs.Sq.{Sq, ShowsSubmission}
 use Rattle.uring_rings.specs.SqAnswers as ring
 use Rattle.uring_rings.specs.declared.answers.TakeAnswer.{TakeAnswer}
 use Rattle.uring_rings.specs.declared.answers.TakeAnswer.TheVariants as took_as
-use Rattle.uring_core.specs.World.{World}
-use Rattle.uring_core.specs.Told.{take_told}
-use Rattle.uring_core.specs.StepAnswers.{take_answer_in}
-use Rattle.uring_core.specs.Histories.{History, world}
-use Rattle.uring_core.specs.Core.{Core, FitsApart}
 use Rattle.uring_core.specs.declared.step.Step.TheVariants as step
 use Rattle.uring_core.specs.declared.answer.Answer.TheVariants as answer
 use Rattle.uring_core.proofs.CoreSteps.{core_after}

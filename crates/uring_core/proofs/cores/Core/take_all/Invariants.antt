@@ -1,7 +1,5 @@
 use Rattle.std.proofs.Common.{◌≡◌}
-use Rattle.uring_core.specs.Core.{FitsApart, HasNoLessMemory}
-use Rattle.uring_core.specs.Histories.{History}
-use Rattle.uring_core.specs.WholeCalls.{after_takes}
+use Rattle.uring_core.proofs.Common.{FitsApart, HasNoLessMemory, History, after_takes}
 use Rattle.uring_core.proofs.cores.Core.take_all.Given as goal
 
 -- so many positions are taken

@@ -1,6 +1,5 @@
 use Rattle.std.proofs.Common.{ap, ◌∙◌}
-use Rattle.uring_rules.specs.Rules.{found_by}
-use Rattle.uring_core.specs.Histories.{world}
+use Rattle.uring_core.proofs.Common.{found_by, world}
 use Rattle.uring_core.proofs.cores.Core.would_find.Goals as goal
 
 pub returns : goal.returns

@@ -1,7 +1,6 @@
 use Rattle.std.proofs.Common.{ap, ◌∙◌, rules, w32}
-use Rattle.std.proofs.lemmas.Int.{to_z-of_z}
+use Rattle.uring_core.proofs.Common.{to_z-of_z, world}
 use Rattle.uring_rules.specs.Posting.{would_post}
-use Rattle.uring_core.specs.Histories.{world}
 use Rattle.uring_core.proofs.cores.Core.would_post.Goals as goal
 
 pub returns : goal.returns

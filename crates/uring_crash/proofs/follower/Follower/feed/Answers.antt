@@ -1,6 +1,5 @@
 use Rattle.std.proofs.Common.{◌≡◌, ◌<◌, ◌+◌, ℕ, List, [], ◌∷◌, ◌++◌, length, take, get_or, sym, ap, subst, ◌∙◌, append_assoc, rules}
-use Rattle.std.proofs.lemmas.List.{take_more}
-use Rattle.uring_crash.specs.Following.{Follows}
+use Rattle.uring_crash.proofs.Common.{Follows, take_more}
 use Rattle.uring_crash.proofs.follower.Follower.feed.Goals as goal
 
 pub loop-byte-preserved : goal.loop-byte-preserved

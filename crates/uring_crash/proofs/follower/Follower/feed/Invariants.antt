@@ -1,6 +1,5 @@
 use Rattle.std.proofs.Common.{ℕ, ℤ, List, ◌++◌, take}
-use Rattle.uring_entry.specs.Setup.{Setup}
-use Rattle.uring_crash.specs.Following.{Follows}
+use Rattle.uring_crash.proofs.Common.{Follows, Setup}
 use Rattle.uring_crash.proofs.follower.Follower.feed.Given as goal
 
 -- what was taken in, as far as the loop has come

@@ -1,6 +1,5 @@
 use Rattle.std.proofs.Common.{ℤ, [], w32, subst, rules}
-use Rattle.std.proofs.lemmas.Int.{to_z-of_z}
-use Rattle.uring_crash.specs.Watches.{Watches}
+use Rattle.uring_crash.proofs.Common.{Watches, to_z-of_z}
 use Rattle.uring_crash.proofs.FollowedLines.{follows_none}
 use Rattle.uring_crash.proofs.follower.Follower.new.Goals as goal
 

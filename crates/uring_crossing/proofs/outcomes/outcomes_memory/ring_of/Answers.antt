@@ -1,6 +1,5 @@
 use Rattle.std.proofs.Common.{◌≤◌, ℕ, subst, sym}
-use Rattle.std.specs.Prelude.{All}
-use Rattle.std.proofs.lemmas.Bool.{both_ways}
+use Rattle.uring_crossing.proofs.Common.{All, both_ways}
 use Rattle.uring_crossing.proofs.Starts.{no_walk_long}
 use Rattle.uring_crossing.proofs.outcomes.outcomes_memory.ring_of.Goals as goal
 

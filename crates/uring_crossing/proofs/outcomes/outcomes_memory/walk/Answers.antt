@@ -1,9 +1,8 @@
 use Rattle.std.proofs.Common.{◌≡◌, List, length, map, ap, ◌∙◌, arith}
 use Rattle.std.specs.declared.vec.Vec.{Vec}
 use Rattle.std.specs.declared.alloc.Global.{Global}
-use Rattle.uring_entry.specs.Layout.{Sqe}
+use Rattle.uring_crossing.proofs.Common.{Sqe, cut}
 use Rattle.uring_outcomes.specs.Faults.{entry_count}
-use Rattle.uring_crossing.specs.CoreWords.Cuts.{cut}
 use Rattle.uring_crossing.proofs.Cutting.{cut_within}
 use Rattle.uring_crossing.proofs.outcomes.outcomes_memory.walk.Goals as goal
 

@@ -1,6 +1,5 @@
 use Rattle.std.proofs.Common.{◌++◌, List, ℕ, ap, ◌∙◌}
-use Rattle.std.specs.Prelude.{string_bytes}
-use Rattle.std.proofs.lemmas.Result.{on_ok_weaker}
+use Rattle.uring_crossing.proofs.Common.{on_ok_weaker, string_bytes}
 use Rattle.uring_crossing.proofs.FlagSpellings.{five_parts, parts_of}
 use Rattle.uring_crossing.proofs.traces.flag_letters.push_letters.Goals as goal
 

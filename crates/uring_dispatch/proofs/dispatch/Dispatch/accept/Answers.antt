@@ -1,6 +1,5 @@
 use Rattle.std.proofs.Common.{ap, arith}
-use Rattle.std.proofs.lemmas.Bool.{false≢true}
-use Rattle.uring_dispatch.specs.Dispatch.{Dispatch}
+use Rattle.uring_dispatch.proofs.Common.{Dispatch, false≢true}
 use Rattle.uring_dispatch.proofs.Views.{held_from, shows_held, room_fewer}
 use Rattle.uring_dispatch.proofs.dispatch.Dispatch.accept.Goals as goal
 

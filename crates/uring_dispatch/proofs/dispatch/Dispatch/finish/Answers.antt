@@ -1,6 +1,5 @@
 use Rattle.std.proofs.Common.{rules}
-use Rattle.std.specs.Int.{w32}
-use Rattle.std.proofs.lemmas.Int.{to_z-of_z}
+use Rattle.uring_dispatch.proofs.Common.{to_z-of_z, w32}
 use Rattle.uring_dispatch.proofs.Issues.{finished_none, finished_some}
 use Rattle.uring_dispatch.proofs.dispatch.Dispatch.finish.Goals as goal
 

@@ -1,6 +1,5 @@
 use Rattle.std.proofs.Common.{arith, ap, ◌∙◌, refl}
-use Rattle.std.proofs.lemmas.Bool.{false≢true}
-use Rattle.uring_dispatch.specs.Dispatch.{Dispatch}
+use Rattle.uring_dispatch.proofs.Common.{Dispatch, false≢true}
 use Rattle.uring_dispatch.proofs.Views.{held_from, shows_held, same_view, counts_records}
 use Rattle.uring_dispatch.proofs.Alike.{held_alike, alike_records}
 use Rattle.uring_dispatch.proofs.dispatch.Dispatch.reserve_in.Goals as goal

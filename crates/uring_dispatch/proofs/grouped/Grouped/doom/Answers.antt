@@ -1,7 +1,5 @@
 use Rattle.std.proofs.Common.{sym, ◌∙◌, ap}
-use Rattle.std.proofs.lemmas.Bool.{le-ltb}
-use Rattle.uring_entry.specs.Groups.{is_before}
-use Rattle.uring_entry.specs.Preparation.{fault_of}
+use Rattle.uring_dispatch.proofs.Common.{fault_of, is_before, le-ltb}
 use Rattle.uring_dispatch.proofs.WhyHeld.{doom_own, doom_member, doom_failed, doom_else}
 use Rattle.uring_dispatch.proofs.HeldLemmas.{in_group}
 use Rattle.uring_dispatch.proofs.grouped.Grouped.doom.Goals as goal

@@ -1,10 +1,5 @@
 use Rattle.std.proofs.Common.{◌≡◌, ◌≤◌, ◌∙◌, sym, Some, arith, ℕ}
-use Rattle.uring_dispatch.specs.declared.group.Group.{Group}
-use Rattle.uring_dispatch.specs.Window.{Window}
-use Rattle.uring_entry.specs.Requests.{Requests}
-use Rattle.uring_dispatch.specs.Groups.{Groups, group_at, drain_of, IsFirstDraining}
-use Rattle.uring_dispatch.specs.Held.{AreHeld}
-use Rattle.uring_entry.proofs.GroupLemmas.{first_member_inside}
+use Rattle.uring_dispatch.proofs.Common.{AreHeld, Group, Groups, IsFirstDraining, Requests, Window, drain_of, first_member_inside, group_at}
 use Rattle.uring_dispatch.proofs.WhyHeld.{first_of_all, first_draining_is, first_own}
 use Rattle.uring_dispatch.proofs.HeldLemmas.{in_group}
 use Rattle.uring_dispatch.proofs.grouped.Grouped.first_holder.Goals as goal

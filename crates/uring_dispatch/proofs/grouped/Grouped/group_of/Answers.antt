@@ -1,8 +1,5 @@
 use Rattle.std.proofs.Common.{ap, is_some, sym, ◌∙◌}
-use Rattle.std.proofs.lemmas.Bool.{both_ways}
-use Rattle.std.proofs.lemmas.Option.{same_Some}
-use Rattle.uring_dispatch.specs.Groups.{group_at}
-use Rattle.uring_dispatch.specs.declared.request.Request.{Request}
+use Rattle.uring_dispatch.proofs.Common.{Request, both_ways, group_at, same_Some}
 use Rattle.uring_dispatch.proofs.HeldLemmas.{linked}
 use Rattle.uring_dispatch.proofs.grouped.Grouped.group_of.Goals as goal
 

@@ -1,7 +1,5 @@
 use Rattle.std.proofs.Common.{sym, ◌∙◌, ap, not, arith, inl, inr}
-use Rattle.std.proofs.lemmas.Bool.{cases_Bool, both_ways}
-use Rattle.uring_entry.proofs.BelowLemmas.{is_some_value}
-use Rattle.uring_dispatch.specs.Window.{at}
+use Rattle.uring_dispatch.proofs.Common.{at, both_ways, cases_Bool, is_some_value}
 use Rattle.uring_dispatch.proofs.HeldLemmas.{not_least, after_barrier, not_alone, ready_held, in_group}
 use Rattle.uring_dispatch.proofs.grouped.Grouped.is_ready.Goals as goal
 

@@ -1,8 +1,6 @@
 use Rattle.std.proofs.Common.{arith, ap, refl}
-use Rattle.std.proofs.lemmas.Bool.{false≢true}
+use Rattle.uring_dispatch.proofs.Common.{Groups, Window, end_of, false≢true}
 use Rattle.std.proofs.lemmas.Result.{on_ok_weaker}
-use Rattle.uring_dispatch.specs.Window.{Window, end_of}
-use Rattle.uring_dispatch.specs.Groups.{Groups}
 use Rattle.uring_dispatch.proofs.Alike.{sound_alike, alike_from, reserved_window, reserved_groups}
 use Rattle.uring_dispatch.proofs.Sizes.{window_few, groups_few}
 use Rattle.uring_dispatch.proofs.grouped.Grouped.reserve_in.Goals as goal

@@ -1,9 +1,5 @@
 use Rattle.std.proofs.Common.{◌∙◌, ap, is_some, None, arith, not, ◌&&◌, inl, inr, false}
-use Rattle.std.proofs.lemmas.Bool.{false≢true}
-use Rattle.uring_entry.specs.Requests.{is_soft, entry_of}
-use Rattle.uring_entry.specs.Layout.{Sqe}
-use Rattle.uring_entry.specs.Groups.{earlier_of}
-use Rattle.uring_dispatch.specs.Groups.{Groups}
+use Rattle.uring_dispatch.proofs.Common.{Groups, Sqe, earlier_of, entry_of, false≢true, is_soft}
 use Rattle.uring_dispatch.proofs.WindowFront.{within_end}
 use Rattle.uring_dispatch.proofs.WaitingLemmas.{stands_ended}
 use Rattle.uring_dispatch.proofs.HeldLemmas.{within_group, least_before}

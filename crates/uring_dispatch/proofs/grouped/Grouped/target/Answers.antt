@@ -1,6 +1,5 @@
 use Rattle.std.proofs.Common.{sym, ◌∙◌, arith, below_more, inl, inr}
-use Rattle.std.proofs.lemmas.Bool.{cases_lt}
-use Rattle.uring_entry.proofs.RequestLemmas.{target_of_none, target_of_some}
+use Rattle.uring_dispatch.proofs.Common.{cases_lt, target_of_none, target_of_some}
 use Rattle.uring_dispatch.proofs.HeldLemmas.{candidate_none}
 use Rattle.uring_dispatch.proofs.ByData.{outside}
 use Rattle.uring_dispatch.proofs.WindowFront.{within_end}

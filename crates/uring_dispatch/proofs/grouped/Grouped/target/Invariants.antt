@@ -1,7 +1,5 @@
 use Rattle.std.proofs.Common.{◌≡◌, ℕ, ◌<◌, false}
-use Rattle.uring_entry.specs.Layout.{addr_of}
-use Rattle.uring_entry.specs.Requests.{Requests, entry_of, is_candidate}
-use Rattle.uring_dispatch.specs.Held.{AreHeld}
+use Rattle.uring_dispatch.proofs.Common.{AreHeld, Requests, addr_of, entry_of, is_candidate}
 use Rattle.uring_dispatch.proofs.grouped.Grouped.target.Given as goal
 
 abbrev pub invariant-loop-m : goal.invariant-loop-m

@@ -1,6 +1,5 @@
 use Rattle.std.proofs.Common.{Some, None, true, false, sym, ◌∙◌, ap}
-use Rattle.uring_entry.specs.Layout.{addr_of}
-use Rattle.uring_entry.specs.declared.operation.Op.TheVariants.{Cancel}
+use Rattle.uring_dispatch.proofs.Common.{Cancel, addr_of}
 use Rattle.uring_dispatch.proofs.Views.{finds_gone, finds_by, finds_other}
 use Rattle.uring_dispatch.proofs.grouped.Grouped.would_find.Goals as goal
 

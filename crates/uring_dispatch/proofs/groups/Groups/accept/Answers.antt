@@ -1,7 +1,5 @@
 use Rattle.std.proofs.Common.{arith, ap, sym, ◌∙◌}
-use Rattle.std.proofs.lemmas.Option.{same_Some}
-use Rattle.uring_dispatch.specs.declared.group.Group.{Group}
-use Rattle.uring_dispatch.specs.Groups.{Groups, with_barrier}
+use Rattle.uring_dispatch.proofs.Common.{Group, Groups, same_Some, with_barrier}
 use Rattle.uring_dispatch.proofs.GroupsKept.{IsAccepted, accept_groups, accept_front, beyond_with, only_key, last_kept}
 use Rattle.uring_dispatch.proofs.groups.Groups.accept.Goals as goal
 

@@ -1,11 +1,5 @@
 use Rattle.std.proofs.Common.{◌≡◌, sym, ◌∙◌, ap, subst, rules, arith}
-use Rattle.std.specs.Int.{w32}
-use Rattle.std.specs.Prelude.{int_le, pos}
-use Rattle.std.proofs.lemmas.Int.{to_z-of_z}
-use Rattle.uring_entry.specs.Requests.{entry_of, no_bytes, with_cancelled, chosen_by}
-use Rattle.uring_entry.specs.Success.{is_success}
-use Rattle.uring_dispatch.specs.Window.{at, runs, one_if}
-use Rattle.uring_dispatch.specs.Groups.{Groups}
+use Rattle.uring_dispatch.proofs.Common.{Groups, at, chosen_by, entry_of, int_le, is_success, no_bytes, one_if, pos, runs, to_z-of_z, w32, with_cancelled}
 use Rattle.uring_dispatch.proofs.WindowFront.{keyless}
 use Rattle.uring_dispatch.proofs.WindowLemmas.{at_keyed}
 use Rattle.uring_dispatch.proofs.Choosing.{cancel_succeeds}

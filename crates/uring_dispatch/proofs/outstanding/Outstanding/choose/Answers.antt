@@ -1,6 +1,5 @@
 use Rattle.std.proofs.Common.{arith, refl}
-use Rattle.uring_entry.proofs.BelowLemmas.{is_some_value}
-use Rattle.uring_dispatch.specs.Window.{at, chosen}
+use Rattle.uring_dispatch.proofs.Common.{at, chosen, is_some_value}
 use Rattle.uring_dispatch.proofs.Changes.{write_sound, choose_held}
 use Rattle.uring_dispatch.proofs.WaitingLemmas.{tell_outstanding, restarted_listed}
 use Rattle.uring_dispatch.proofs.Choosing.{choose_same}

@@ -1,6 +1,5 @@
 use Rattle.std.proofs.Common.{refl, sym, ◌∙◌, subst, true, false}
-use Rattle.uring_entry.specs.Requests.{with_cancelled}
-use Rattle.uring_dispatch.specs.Grouped.{Shows}
+use Rattle.uring_dispatch.proofs.Common.{Shows, with_cancelled}
 use Rattle.uring_dispatch.proofs.Choosing.{held_failing, one_chosen, chosen_noted, chosen_both, runs_held, result_some}
 use Rattle.uring_dispatch.proofs.ByData.{spans_noted}
 use Rattle.uring_dispatch.proofs.outstanding.Outstanding.choose_target.Goals as goal

@@ -1,8 +1,6 @@
 use Rattle.std.proofs.Common.{ℕ, refl, inl, inr, sym, ◌∙◌, ap, subst, List, length, arith}
-use Rattle.uring_entry.specs.Requests.{with_cancelled}
-use Rattle.uring_dispatch.specs.Grouped.{Shows}
+use Rattle.uring_dispatch.proofs.Common.{Shows, and_left, cases_lt, with_cancelled}
 use Rattle.uring_dispatch.proofs.Choosing.{chosen_noted, chosen_nobody, chosen_both, chosen_none, chosen_more, chosen_past, chosen_all}
-use Rattle.std.proofs.lemmas.Bool.{cases_lt, and_left}
 use Rattle.uring_dispatch.proofs.HeldLemmas.{candidate_none}
 use Rattle.uring_dispatch.proofs.ByData.{spans_noted, outside}
 use Rattle.uring_dispatch.proofs.outstanding.Outstanding.choose_targets.Goals as goal

@@ -1,6 +1,5 @@
 use Rattle.std.proofs.Common.{◌≡◌, ◌+◌, ◌*◌, sym, ◌∙◌, ap, refl, arith, count_ones}
-use Rattle.uring_entry.specs.Below.{count_below}
-use Rattle.uring_dispatch.specs.Limits.{can_go}
+use Rattle.uring_dispatch.proofs.Common.{can_go, count_below}
 use Rattle.uring_dispatch.proofs.Counting.{block_counted, count_below_within}
 use Rattle.uring_dispatch.proofs.IssuableLemmas.{count_start, count_end}
 use Rattle.uring_dispatch.proofs.outstanding.Outstanding.count.Goals as goal

@@ -1,9 +1,5 @@
 use Rattle.std.proofs.Common.{◌≡◌, sym, ◌∙◌, ap, arith, refl, rules, Some}
-use Rattle.std.specs.Int.{w32}
-use Rattle.std.proofs.lemmas.Int.{to_z-of_z}
-use Rattle.uring_entry.specs.Layout.{Sqe}
-use Rattle.uring_entry.specs.Success.{is_success}
-use Rattle.uring_dispatch.specs.Window.{at, runs, one_if}
+use Rattle.uring_dispatch.proofs.Common.{Sqe, at, is_success, one_if, runs, to_z-of_z, w32}
 use Rattle.uring_dispatch.specs.IssueAndFinish.{posts_of}
 use Rattle.uring_dispatch.proofs.WindowLemmas.{at_keyed}
 use Rattle.uring_dispatch.proofs.HeldLemmas.{running_none, running_some}

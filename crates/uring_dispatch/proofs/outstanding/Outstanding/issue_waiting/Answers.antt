@@ -1,13 +1,8 @@
 use Rattle.std.proofs.Common.{◌≡◌, Some, sym, ◌∙◌, ap, refl, is_some, rules, arith}
-use Rattle.std.specs.Int.{w32}
-use Rattle.std.proofs.lemmas.Int.{to_z-of_z}
-use Rattle.uring_entry.specs.Layout.{addr_of}
-use Rattle.uring_entry.specs.Requests.{entry_of, no_bytes}
-use Rattle.uring_dispatch.specs.Window.{at, runs, one_if, started}
+use Rattle.uring_dispatch.proofs.Common.{addr_of, at, entry_of, never_success, no_bytes, one_if, runs, started, to_z-of_z, w32}
 use Rattle.uring_dispatch.proofs.Changes.{write_sound, start_held}
 use Rattle.uring_dispatch.proofs.HeldLemmas.{shown_within}
 use Rattle.uring_dispatch.proofs.WaitingLemmas.{tell_outstanding, idle_listed, forgotten_keeps, restarted_listed}
-use Rattle.uring_entry.proofs.RequestLemmas.{never_success}
 use Rattle.uring_dispatch.proofs.Choosing.{ends_failing}
 use Rattle.uring_dispatch.proofs.Issues.{op_none, op_some, issued_faulty, issued_doomed, issued_not_ready, issued_cancel, issued_run}
 use Rattle.uring_entry.proofs.Preparations.{cancel_asked}

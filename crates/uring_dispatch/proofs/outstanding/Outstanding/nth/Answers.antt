@@ -1,7 +1,5 @@
 use Rattle.std.proofs.Common.{◌≡◌, ◌+◌, ◌-◌, ◌*◌, sym, ◌∙◌, ap, refl, arith, count_ones}
-use Rattle.std.proofs.lemmas.Bool.{eq-eqb}
-use Rattle.uring_entry.specs.Below.{count_below}
-use Rattle.uring_dispatch.specs.Limits.{can_go}
+use Rattle.uring_dispatch.proofs.Common.{can_go, count_below, eq-eqb}
 use Rattle.uring_dispatch.proofs.Counting.{block_counted, block_before}
 use Rattle.uring_dispatch.proofs.IssuableLemmas.{count_start, count_end, nth_is, nth_past}
 use Rattle.uring_dispatch.proofs.outstanding.Outstanding.nth.Goals as goal

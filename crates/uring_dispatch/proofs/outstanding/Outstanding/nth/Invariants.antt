@@ -1,6 +1,5 @@
 use Rattle.std.proofs.Common.{◌≡◌, ◌+◌, ◌*◌}
-use Rattle.uring_entry.specs.Below.{count_below}
-use Rattle.uring_dispatch.specs.Limits.{can_go}
+use Rattle.uring_dispatch.proofs.Common.{can_go, count_below}
 use Rattle.uring_dispatch.proofs.outstanding.Outstanding.nth.Given as goal
 
 abbrev pub invariant-loop-place : goal.invariant-loop-place

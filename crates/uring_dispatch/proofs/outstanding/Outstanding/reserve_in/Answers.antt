@@ -1,6 +1,5 @@
 use Rattle.std.proofs.Common.{◌+◌, arith}
-use Rattle.std.proofs.lemmas.Bool.{false≢true}
-use Rattle.uring_dispatch.specs.Window.{end_of}
+use Rattle.uring_dispatch.proofs.Common.{end_of, false≢true}
 use Rattle.uring_dispatch.proofs.Alike.{listed_alike, alike_records}
 use Rattle.uring_dispatch.proofs.AcceptsListed.{same_listed}
 use Rattle.uring_dispatch.proofs.ByData.{found_on, found_renewed, goes_alike}

@@ -1,6 +1,5 @@
 use Rattle.std.proofs.Common.{Some, arith, sym, ◌∙◌, ap, is_some}
-use Rattle.std.proofs.lemmas.Option.{same_Some}
-use Rattle.uring_dispatch.specs.Window.{Window, key_at, found_by, at, chosen}
+use Rattle.uring_dispatch.proofs.Common.{Window, at, chosen, found_by, key_at, same_Some}
 use Rattle.uring_dispatch.proofs.WindowLemmas.{write_changes}
 use Rattle.uring_dispatch.proofs.WindowFront.{by_key, keyless, choose_window}
 use Rattle.uring_dispatch.proofs.window.Window.choose.Goals as goal

@@ -1,7 +1,5 @@
 use Rattle.std.proofs.Common.{◌-◌, arith, ◌∙◌, ap, None}
-use Rattle.std.proofs.lemmas.List.{length-set}
-use Rattle.slab.specs.Slab.{slab_len}
-use Rattle.uring_dispatch.specs.Window.{Window, key_at}
+use Rattle.uring_dispatch.proofs.Common.{Window, key_at, length-set, slab_len}
 use Rattle.uring_dispatch.proofs.WindowLemmas.{key_at_within, end_changes, end_window, trim_changes, trim_window}
 use Rattle.uring_dispatch.proofs.WindowFront.{by_key, ended_counted}
 use Rattle.uring_dispatch.proofs.window.Window.end_one.Goals as goal

@@ -1,6 +1,5 @@
 use Rattle.std.proofs.Common.{◌<◌, ◌-◌, sym, ◌∙◌, arith, None, refl, length, inl, inr}
-use Rattle.std.proofs.lemmas.List.{get_or_read}
-use Rattle.std.proofs.lemmas.Bool.{false≢true, cases_lt}
+use Rattle.uring_dispatch.proofs.Common.{cases_lt, false≢true, get_or_read}
 use Rattle.uring_dispatch.proofs.WindowLemmas.{key_at_low, key_at_high, key_at_past}
 use Rattle.uring_dispatch.proofs.WindowFront.{found_key}
 use Rattle.uring_dispatch.proofs.window.Window.key.Goals as goal

@@ -1,6 +1,5 @@
 use Rattle.std.proofs.Common.{◌≡◌, true, Some, arith, sym, ◌∙◌, ap, subst, is_some}
-use Rattle.std.proofs.lemmas.Option.{same_Some}
-use Rattle.uring_dispatch.specs.Window.{Window, key_at, found_by, at, runs, started}
+use Rattle.uring_dispatch.proofs.Common.{Window, at, found_by, key_at, runs, same_Some, started}
 use Rattle.uring_dispatch.proofs.WindowLemmas.{write_changes}
 use Rattle.uring_dispatch.proofs.WindowFront.{by_key, start_window, running_fits}
 use Rattle.uring_dispatch.proofs.window.Window.start.Goals as goal

@@ -1,8 +1,6 @@
 use Rattle.std.proofs.Common.{ap, map, ◌∙◌}
-use Rattle.uring_files.specs.Contents.{FileContents, empty_files}
-use Rattle.uring_early.specs.declared.running.Running.{Running}
+use Rattle.uring_early.proofs.Common.{FileContents, Running, empty_files, plain}
 use Rattle.std.proofs.Common.{List}
-use Rattle.uring_early.specs.Moves.{plain}
 use Rattle.uring_early.proofs.Plain.{plain_new}
 use Rattle.uring_early.proofs.state.State.new.Goals as goal
 

@@ -1,9 +1,5 @@
 use Rattle.std.proofs.Common.{List, ap, sym, subst, map, ◌∙◌}
-use Rattle.uring_entry.specs.declared.operation.Op.{Op}
-use Rattle.uring_files.specs.Contents.{FileContents}
-use Rattle.uring_files.specs.Operations.{IsForFiles, IsOutcome, after}
-use Rattle.uring_early.specs.declared.running.Running.{Running}
-use Rattle.uring_early.specs.Moves.{look, op_of, plain, with_taken}
+use Rattle.uring_early.proofs.Common.{FileContents, IsForFiles, IsOutcome, Op, Running, after, look, op_of, plain, with_taken}
 use Rattle.uring_early.proofs.Plain.{after_plain, outcome_back}
 use Rattle.uring_early.proofs.state.State.take.Goals as goal
 

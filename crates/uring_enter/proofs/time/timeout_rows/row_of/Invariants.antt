@@ -1,6 +1,5 @@
 use Rattle.std.proofs.Common.{◌≡◌, take}
-use Rattle.std.specs.Prelude.{Contains}
-use Rattle.uring_operations.specs.declared.entries.timeout.Timeout.{Timeout}
+use Rattle.uring_enter.proofs.Common.{Contains, Timeout}
 use Rattle.uring_enter.proofs.time.timeout_rows.row_of.Given as goal
 
 abbrev pub invariant-loop-i : goal.invariant-loop-i

@@ -1,9 +1,8 @@
 use Rattle.std.proofs.Common.{◌≡◌, ◌<◌, ◌≤◌, ◌||◌, ◌∙◌, ap, sym, subst, arith, length, take, slice_index_or}
 use Rattle.std.specs.List.{list_any}
 use Rattle.std.proofs.lemmas.List.Folds.{list_any_more}
-use Rattle.std.proofs.lemmas.List.{get_or_default}
+use Rattle.uring_enter.proofs.Common.{PollRow, get_or_default}
 use Rattle.uring_enter.proofs.JoiningRuns.{up_to_more}
-use Rattle.uring_enter.specs.declared.waiting.joining.PollRow.{PollRow}
 use Rattle.uring_enter.specs.Waiting.Joining as spec
 use Rattle.uring_enter.proofs.waiting.joining.join_neighbours.Goals as goal
 

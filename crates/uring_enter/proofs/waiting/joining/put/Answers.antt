@@ -1,6 +1,5 @@
 use Rattle.std.proofs.Common.{◌-◌, arith, ap, ◌∙◌}
-use Rattle.std.proofs.lemmas.List.{get_or_default}
-use Rattle.uring_enter.specs.declared.waiting.joining.PollRow.{PollRow}
+use Rattle.uring_enter.proofs.Common.{PollRow, get_or_default}
 use Rattle.uring_enter.proofs.JoiningRuns.{up_to_joined, once_joined, once_pushed, up_to_pushed}
 use Rattle.uring_enter.proofs.waiting.joining.put.Goals as goal
 use Rattle.uring_enter.proofs.waiting.joining.put.Goals.{else-kept-gt0-via-then-kept-gt0+else-rows-kept, else-kept-gt0-via-else-kept-gt0}

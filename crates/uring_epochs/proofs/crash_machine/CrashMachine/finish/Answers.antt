@@ -1,9 +1,6 @@
 use Rattle.std.proofs.Common.{◌≤◌, List, Some, length, map, refl, sym, ap, ◌∙◌, arith}
 use Rattle.std.specs.Vec.{with_items}
-use Rattle.std.proofs.lemmas.List.{with_items_is, length-map}
-use Rattle.uring_files.specs.Contents.{max_len}
-use Rattle.uring_epochs.specs.Logs.{Log, finished_as}
-use Rattle.uring_epochs.specs.Epochs.{CrashMachine}
+use Rattle.uring_epochs.proofs.Common.{CrashMachine, Log, finished_as, length-map, max_len, with_items_is}
 use Rattle.uring_epochs.proofs.EpochSteps.{finish_fits, finish_unrefused}
 use Rattle.uring_epochs.proofs.crash_machine.CrashMachine.finish.Goals as goal
 

@@ -1,9 +1,7 @@
 use Rattle.std.proofs.Common.{List, length, map, refl, sym, ap, ◌∙◌}
 use Rattle.std.specs.Vec.{with_items}
-use Rattle.std.proofs.lemmas.List.{with_items_is}
+use Rattle.uring_epochs.proofs.Common.{CrashMachine, Log, issued_as, with_items_is}
 use Rattle.uring_volume.proofs.Results.{not_err}
-use Rattle.uring_epochs.specs.Logs.{Log, issued_as}
-use Rattle.uring_epochs.specs.Epochs.{CrashMachine}
 use Rattle.uring_epochs.proofs.EpochSteps.{issue_fits}
 use Rattle.uring_epochs.proofs.crash_machine.CrashMachine.issue.Goals as goal
 

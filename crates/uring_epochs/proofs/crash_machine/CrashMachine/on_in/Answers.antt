@@ -1,7 +1,5 @@
 use Rattle.std.proofs.Common.{ℕ, false, List, length, map, sym, ap, ◌∙◌}
-use Rattle.uring_entry.specs.Setup.{Setup}
-use Rattle.uring_epochs.specs.Logs.{Log}
-use Rattle.uring_epochs.specs.Epochs.{CrashMachine, first_files, logs_on}
+use Rattle.uring_epochs.proofs.Common.{CrashMachine, Log, Setup, first_files, logs_on}
 use Rattle.uring_epochs.proofs.Noted.{first_many, logs_many}
 use Rattle.uring_epochs.proofs.EpochCrashes.{on_fits}
 use Rattle.uring_epochs.proofs.crash_machine.CrashMachine.on_in.Goals as goal

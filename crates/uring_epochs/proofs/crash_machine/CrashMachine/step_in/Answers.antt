@@ -1,8 +1,6 @@
 use Rattle.std.proofs.Common.{ℕ, ◌≤◌, refl, arith}
-use Rattle.uring_core.specs.Core.{elements_for}
-use Rattle.uring_core.specs.Histories.{world}
+use Rattle.uring_epochs.proofs.Common.{CrashMachine, elements_for, world}
 use Rattle.uring_core.proofs.Following.{no_finish}
-use Rattle.uring_epochs.specs.Epochs.{CrashMachine}
 use Rattle.uring_epochs.proofs.EpochSteps.{other_fits, other_unrefused}
 use Rattle.uring_epochs.proofs.crash_machine.CrashMachine.step_in.Goals as goal
 

@@ -1,10 +1,7 @@
 use Rattle.std.proofs.Common.{rules, ◌≡◌, ◌∷◌, ◌∙◌, ap, sym, false}
 use Rattle.std.specs.Result.{is_err}
-use Rattle.std.proofs.lemmas.Bool.{cond-true}
+use Rattle.uring_epochs.proofs.Common.{Volume, WriteEnded, cond-true, issued, with_event}
 use Rattle.uring_volume.specs.Events.{History}
-use Rattle.uring_volume.specs.Choices.{issued}
-use Rattle.uring_volume.specs.Volume.{Volume, with_event}
-use Rattle.uring_volume.specs.declared.event.Event.TheVariants.{WriteEnded}
 use Rattle.uring_epochs.proofs.LogLengths.{shown_longer, turned_more}
 use Rattle.uring_epochs.proofs.file_log.FileLog.end_write.Goals as goal
 

@@ -1,8 +1,6 @@
 use Rattle.std.proofs.Common.{◌==◌, ◌≡◌, ◌+◌, ◌-◌, ◌<◌, false, arith, sym, ◌∙◌, ap, subst}
-use Rattle.uring_linux.specs.LinuxDispatch.{LinuxDispatch, ShowsRequests}
+use Rattle.uring_linux.proofs.Common.{HasAccepted, LinuxDispatch, ShowsRequests, dispatch_of}
 use Rattle.uring_linux.proofs.Dispatches.{dispatch_accepted}
-use Rattle.uring_linux.specs.LinuxDispatch.{dispatch_of}
-use Rattle.uring_linux.specs.Counts.{HasAccepted}
 use Rattle.uring_linux.proofs.WindowCounts.{count_within, unended_counts}
 use Rattle.uring_linux.proofs.Tallies.{accepted_counts, accepted_dispatch}
 use Rattle.uring_linux.proofs.dispatch.LinuxDispatch.accept.Goals as goal

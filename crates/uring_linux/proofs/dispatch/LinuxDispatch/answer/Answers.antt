@@ -1,11 +1,6 @@
-use Rattle.std.specs.Prelude.{option_copied}
+use Rattle.uring_linux.proofs.Common.{Drains, IsOpen, LinuxDispatch, ShowsRequests, ended_with, is_in_some, option_copied, to_z-of_z}
 use Rattle.std.proofs.Common.{rules, w32, arith, sym, ◌∙◌, ap, subst, true, false, refl}
-use Rattle.std.proofs.lemmas.Int.{to_z-of_z}
-use Rattle.uring_linux.specs.Issues.{ended_with}
-use Rattle.uring_linux.specs.LinuxDispatch.{LinuxDispatch, ShowsRequests}
-use Rattle.uring_linux.specs.Window.{IsOpen}
 use Rattle.uring_linux.proofs.WindowCounts.{open_at}
-use Rattle.uring_linux.specs.Drains.{Drains, is_in_some}
 use Rattle.uring_linux.proofs.WindowEvents.{at_within}
 use Rattle.uring_linux.proofs.Standings.{shown, outside_ended, outstanding_ended, outstanding_going, asked, healthy}
 use Rattle.uring_linux.proofs.dispatch.LinuxDispatch.answer.Goals as goal

@@ -1,11 +1,5 @@
 use Rattle.std.proofs.Common.{◌≡◌, rules, w32, arith, ◌&&◌, true, false, not, sym, ◌∙◌, ap, subst}
-use Rattle.std.proofs.lemmas.Bool.{both_ways, not-true}
-use Rattle.std.proofs.lemmas.Int.{to_z-of_z}
-use Rattle.std.proofs.Math.Bool.{and-true}
-use Rattle.uring_dispatch.specs.Window.{one_if}
-use Rattle.uring_linux.specs.LinuxDispatch.{LinuxDispatch, ShowsRequests, dispatch_of}
-use Rattle.uring_linux.specs.Counts.{HasEnded, HasFinished}
-use Rattle.uring_linux.specs.Window.{at, is_unended, IsOpen}
+use Rattle.uring_linux.proofs.Common.{HasEnded, HasFinished, IsOpen, LinuxDispatch, ShowsRequests, and-true, at, both_ways, dispatch_of, is_unended, not-true, one_if, to_z-of_z}
 use Rattle.uring_linux.proofs.Tallies.{open_from, never_open, ended_counts, finished_counts, ended_dispatch}
 use Rattle.uring_linux.proofs.WindowCounts.{at_roomed, unended_one, count_some, running_counts}
 use Rattle.uring_linux.proofs.Standings.{shown, outside_ended, dispatch_ended}

@@ -1,6 +1,5 @@
 use Rattle.std.proofs.Common.{rules, w32}
-use Rattle.std.proofs.lemmas.Int.{to_z-of_z}
-use Rattle.uring_entry.specs.Requests.{is_running}
+use Rattle.uring_linux.proofs.Common.{is_running, to_z-of_z}
 use Rattle.uring_linux.proofs.Standings.{some_running, running_outstanding}
 use Rattle.uring_linux.proofs.dispatch.LinuxDispatch.end_running.Goals as goal
 

@@ -1,7 +1,5 @@
 use Rattle.std.proofs.Common.{sym, ◌∙◌, ap, subst, Some, None}
-use Rattle.std.specs.Prelude.{if◌then◌else◌}
-use Rattle.uring_entry.specs.Requests.{entry_of}
-use Rattle.uring_linux.specs.LinuxDispatch.{LinuxDispatch, ShowsRequests}
+use Rattle.uring_linux.proofs.Common.{LinuxDispatch, ShowsRequests, entry_of, if◌then◌else◌}
 use Rattle.uring_linux.proofs.Standings.{shown, outside_ended, outstanding_ended, outstanding_going}
 use Rattle.uring_linux.proofs.dispatch.LinuxDispatch.entry.Goals as goal
 

@@ -1,7 +1,5 @@
 use Rattle.std.proofs.Common.{not, ◌&&◌, sym, subst}
-use Rattle.uring_entry.specs.Requests.{is_outstanding, is_running}
-use Rattle.uring_linux.specs.LinuxRequests.{is_in_turn, goes_on}
-use Rattle.uring_linux.specs.LinuxDispatch.{LinuxDispatch, ShowsRequests}
+use Rattle.uring_linux.proofs.Common.{LinuxDispatch, ShowsRequests, goes_on, is_in_turn, is_outstanding, is_running}
 use Rattle.uring_linux.proofs.Standings.{shown, busy_issuable}
 use Rattle.uring_linux.proofs.dispatch.LinuxDispatch.is_issuable.Goals as goal
 

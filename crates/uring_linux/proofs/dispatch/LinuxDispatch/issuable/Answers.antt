@@ -1,8 +1,5 @@
 use Rattle.std.proofs.Common.{◌≡◌, length, sym, ◌∙◌, ap, arith}
-use Rattle.uring_entry.specs.Below.{count_below}
-use Rattle.uring_dispatch.proofs.Counting.{count_below_zero, length_all_below}
-use Rattle.uring_linux.specs.LinuxRequests.{is_issuable}
-use Rattle.uring_linux.specs.LinuxDispatch.{LinuxDispatch}
+use Rattle.uring_linux.proofs.Common.{LinuxDispatch, count_below, count_below_zero, is_issuable, length_all_below}
 use Rattle.uring_linux.proofs.PassedOver.{passed_issuable, count_passed}
 use Rattle.uring_linux.proofs.Standings.{gone_issuable, shown_as}
 use Rattle.uring_linux.proofs.dispatch.LinuxDispatch.issuable.Goals as goal

@@ -1,7 +1,5 @@
 use Rattle.std.proofs.Common.{◌≡◌, ◌-◌, ◌≤◌}
-use Rattle.uring_entry.specs.Below.{count_below}
-use Rattle.uring_linux.specs.LinuxRequests.{LinuxRequests, is_issuable}
-use Rattle.uring_linux.specs.LinuxDispatch.{ShowsRequests}
+use Rattle.uring_linux.proofs.Common.{LinuxRequests, ShowsRequests, count_below, is_issuable}
 use Rattle.uring_linux.proofs.dispatch.LinuxDispatch.issuable.Given as goal
 
 abbrev pub invariant-loop-k : goal.invariant-loop-k

@@ -1,6 +1,5 @@
 use Rattle.std.proofs.Common.{rules, w32, sym}
-use Rattle.std.proofs.lemmas.Int.{to_z-of_z}
-use Rattle.uring_entry.specs.Requests.{no_bytes}
+use Rattle.uring_linux.proofs.Common.{no_bytes, to_z-of_z}
 use Rattle.uring_linux.proofs.Standings.{ended_outstanding}
 use Rattle.uring_linux.proofs.dispatch.LinuxDispatch.issue.Goals as goal
 

@@ -1,8 +1,5 @@
 use Rattle.std.proofs.Common.{arith, not, sym, ◌∙◌, ap, subst}
-use Rattle.uring_entry.specs.Groups.{first_member}
-use Rattle.uring_linux.specs.declared.request.Test.TheVariants.{Unended}
-use Rattle.uring_linux.specs.Window.{said}
-use Rattle.uring_linux.specs.LinuxDispatch.{LinuxDispatch, ShowsRequests}
+use Rattle.uring_linux.proofs.Common.{LinuxDispatch, ShowsRequests, Unended, first_member, said}
 use Rattle.uring_linux.proofs.MemberLemmas.{first_member_later}
 use Rattle.uring_linux.proofs.Standings.{shown, least_is}
 use Rattle.uring_linux.proofs.dispatch.LinuxDispatch.least.Goals as goal

@@ -1,8 +1,5 @@
 use Rattle.std.proofs.Common.{leb, ◌&&◌, length, sym, ◌∙◌, ap, arith, inl, inr}
-use Rattle.std.proofs.lemmas.Bool.{cases_lt, and_left, and_right, and_from, le-leb, lt-leb}
-use Rattle.uring_entry.proofs.BelowLemmas.{least_below_none, least_below_some}
-use Rattle.uring_linux.specs.LinuxRequests.{is_issuable}
-use Rattle.uring_linux.specs.LinuxDispatch.{LinuxDispatch}
+use Rattle.uring_linux.proofs.Common.{LinuxDispatch, and_from, and_left, and_right, cases_lt, is_issuable, le-leb, least_below_none, least_below_some, lt-leb}
 use Rattle.uring_linux.proofs.PassedOver.{passed_issuable}
 use Rattle.uring_linux.proofs.Standings.{gone_issuable, shown_as}
 use Rattle.uring_linux.proofs.dispatch.LinuxDispatch.next_issuable.Goals as goal

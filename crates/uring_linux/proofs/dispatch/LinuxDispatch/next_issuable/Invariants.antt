@@ -1,6 +1,5 @@
 use Rattle.std.proofs.Common.{◌≡◌, ℕ, ◌-◌, ◌<◌, ◌≤◌, ◌&&◌, leb, false}
-use Rattle.uring_linux.specs.LinuxRequests.{LinuxRequests, is_issuable}
-use Rattle.uring_linux.specs.LinuxDispatch.{ShowsRequests}
+use Rattle.uring_linux.proofs.Common.{LinuxRequests, ShowsRequests, is_issuable}
 use Rattle.uring_linux.proofs.dispatch.LinuxDispatch.next_issuable.Given as goal
 
 abbrev pub invariant-loop-k : goal.invariant-loop-k

@@ -1,9 +1,5 @@
 use Rattle.std.proofs.Common.{◌≡◌, length, slice_get, sym, ◌∙◌, ap, arith}
-use Rattle.std.proofs.lemmas.Option.{slice_get_past}
-use Rattle.uring_entry.specs.Below.{count_below, all_below}
-use Rattle.uring_dispatch.proofs.Counting.{count_below_zero, length_all_below, get_all_below}
-use Rattle.uring_linux.specs.LinuxRequests.{is_issuable}
-use Rattle.uring_linux.specs.LinuxDispatch.{LinuxDispatch}
+use Rattle.uring_linux.proofs.Common.{LinuxDispatch, all_below, count_below, count_below_zero, get_all_below, is_issuable, length_all_below, slice_get_past}
 use Rattle.uring_linux.proofs.PassedOver.{passed_issuable, count_passed}
 use Rattle.uring_linux.proofs.Standings.{gone_issuable, one_more, shown_as}
 use Rattle.uring_linux.proofs.dispatch.LinuxDispatch.nth_issuable.Goals as goal

@@ -1,10 +1,5 @@
 use Rattle.std.proofs.Common.{rules, w32, true, not, sym, ◌∙◌, ap, subst, Some, None}
-use Rattle.std.specs.Prelude.{if◌then◌else◌, option_copied}
-use Rattle.std.proofs.lemmas.Bool.{and_right}
-use Rattle.std.proofs.lemmas.Int.{to_z-of_z}
-use Rattle.uring_linux.specs.Issues.{posts_of}
-use Rattle.uring_linux.specs.LinuxDispatch.{LinuxDispatch, ShowsRequests}
-use Rattle.uring_linux.specs.Window.{IsOpen}
+use Rattle.uring_linux.proofs.Common.{IsOpen, LinuxDispatch, ShowsRequests, and_right, if◌then◌else◌, option_copied, posts_of, to_z-of_z}
 use Rattle.uring_linux.proofs.WindowCounts.{open_at}
 use Rattle.uring_linux.proofs.Standings.{shown, outside_idle}
 use Rattle.uring_linux.proofs.dispatch.LinuxDispatch.posted.Goals as goal

@@ -1,8 +1,5 @@
 use Rattle.std.proofs.Common.{sym, ◌∙◌, ap, subst, Some, None}
-use Rattle.std.specs.Prelude.{if◌then◌else◌}
-use Rattle.uring_entry.specs.Preparation.{operation_of}
-use Rattle.uring_entry.specs.Requests.{entry_of}
-use Rattle.uring_linux.specs.LinuxDispatch.{LinuxDispatch, ShowsRequests}
+use Rattle.uring_linux.proofs.Common.{LinuxDispatch, ShowsRequests, entry_of, if◌then◌else◌, operation_of}
 use Rattle.uring_linux.proofs.Standings.{shown, outside_idle}
 use Rattle.uring_linux.proofs.dispatch.LinuxDispatch.running_op.Goals as goal
 

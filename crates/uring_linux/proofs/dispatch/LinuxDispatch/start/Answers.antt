@@ -1,8 +1,5 @@
 use Rattle.std.proofs.Common.{arith, sym, ◌∙◌, subst, false}
-use Rattle.std.proofs.lemmas.Bool.{both_ways}
-use Rattle.uring_linux.specs.LinuxDispatch.{LinuxDispatch, ShowsRequests, dispatch_of}
-use Rattle.uring_linux.specs.Counts.{HasStarted}
-use Rattle.uring_linux.specs.Window.{IsOpen}
+use Rattle.uring_linux.proofs.Common.{HasStarted, IsOpen, LinuxDispatch, ShowsRequests, both_ways, dispatch_of}
 use Rattle.uring_linux.proofs.Tallies.{open_from, never_open, started_counts, started_dispatch}
 use Rattle.uring_linux.proofs.WindowCounts.{count_within, running_counts}
 use Rattle.uring_linux.proofs.WindowEvents.{at_within}

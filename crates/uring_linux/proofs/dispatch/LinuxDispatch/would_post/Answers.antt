@@ -1,9 +1,6 @@
 use Rattle.std.proofs.Common.{rules, w32, arith, true, false, sym, refl, ◌≡◌, ◌∙◌, ap, subst, Some, None, Bool, ℕ}
-use Rattle.std.specs.Prelude.{if◌then◌else◌}
-use Rattle.std.proofs.lemmas.Int.{to_z-of_z}
+use Rattle.uring_linux.proofs.Common.{LinuxDispatch, ShowsRequests, breaker_of, if◌then◌else◌, posts_after, to_z-of_z}
 use Rattle.uring_dispatch.specs.declared.answers.Posts.TheVariants.{Completion, Nothing}
-use Rattle.uring_linux.specs.LinuxDispatch.{LinuxDispatch, ShowsRequests}
-use Rattle.uring_linux.specs.LinuxRequests.{posts_after, breaker_of}
 use Rattle.uring_linux.specs.Posting.{is_completion}
 use Rattle.uring_linux.proofs.WindowEvents.{at_within}
 use Rattle.uring_linux.proofs.Standings.{shown, outside_ended, outstanding_ended, outstanding_going}

@@ -1,7 +1,6 @@
 use Rattle.std.proofs.Common.{sym, ◌∙◌, ap}
-use Rattle.std.specs.Prelude.{if◌then◌else◌}
+use Rattle.uring_linux.proofs.Common.{first_of, if◌then◌else◌}
 use Rattle.uring_entry.specs.Why.{failed_member_of}
-use Rattle.uring_linux.specs.LinuxRequests.{first_of}
 use Rattle.uring_linux.proofs.MemberLemmas.{first_is}
 use Rattle.uring_linux.proofs.group.Group.breaker.Goals as goal
 

@@ -1,6 +1,5 @@
 use Rattle.std.proofs.Common.{sym, ◌∙◌, ap}
-use Rattle.uring_entry.proofs.GroupLemmas.{first_member_inside}
-use Rattle.uring_linux.specs.Groups.{if_before}
+use Rattle.uring_linux.proofs.Common.{first_member_inside, if_before}
 use Rattle.uring_linux.proofs.MemberLemmas.{failed_is}
 use Rattle.uring_linux.proofs.group.Group.failed.Goals as goal
 

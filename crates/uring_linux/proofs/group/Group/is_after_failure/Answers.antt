@@ -1,6 +1,5 @@
 use Rattle.std.proofs.Common.{sym, ◌∙◌, ap}
-use Rattle.uring_entry.specs.Groups.{is_before}
-use Rattle.uring_entry.proofs.GroupLemmas.{after_is}
+use Rattle.uring_linux.proofs.Common.{after_is, is_before}
 use Rattle.uring_linux.proofs.group.Group.is_after_failure.Goals as goal
 
 pub returns-in-Some : goal.returns-in-Some

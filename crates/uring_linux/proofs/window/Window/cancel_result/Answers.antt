@@ -1,6 +1,5 @@
 use Rattle.std.proofs.Common.{true, false, is_some, sym, ◌∙◌, ap}
-use Rattle.uring_entry.specs.Layout.{addr_of}
-use Rattle.uring_entry.specs.Preparation.{is_cancel_all}
+use Rattle.uring_linux.proofs.Common.{addr_of, is_cancel_all}
 use Rattle.uring_linux.proofs.Standings.{cancelled_one}
 use Rattle.uring_linux.proofs.window.Window.cancel_result.Goals as goal
 

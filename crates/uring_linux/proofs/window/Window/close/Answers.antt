@@ -1,6 +1,5 @@
 use Rattle.std.proofs.Common.{arith, refl, sym, ◌∙◌, ap, subst}
-use Rattle.uring_entry.specs.Requests.{with_cut}
-use Rattle.uring_linux.specs.Window.{Window, unended_among, running_among, Shows}
+use Rattle.uring_linux.proofs.Common.{Shows, Window, running_among, unended_among, with_cut}
 use Rattle.uring_linux.proofs.WindowLemmas.{not_none}
 use Rattle.uring_linux.proofs.WindowCounts.{count_same, unended_counts, running_counts}
 use Rattle.uring_linux.proofs.GroupsShown.{cut_shows, cut_shows_none}

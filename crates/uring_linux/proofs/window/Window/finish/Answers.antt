@@ -1,6 +1,5 @@
 use Rattle.std.proofs.Common.{◌+◌, ◌∙◌, ap, subst, arith, length-set}
-use Rattle.uring_linux.specs.declared.request.Request.{Request}
-use Rattle.uring_linux.specs.Window.{Window, end_of}
+use Rattle.uring_linux.proofs.Common.{Request, Window, end_of}
 use Rattle.uring_linux.proofs.GroupsShown.{Regroups, finished_shows}
 use Rattle.uring_linux.proofs.Tallies.{lessens}
 use Rattle.uring_linux.proofs.WindowEvents.{at_within}

@@ -1,8 +1,5 @@
 use Rattle.std.proofs.Common.{◌&&◌, leb, sym, ◌∙◌, arith, below_more}
-use Rattle.std.proofs.lemmas.Bool.{and_left, and_right, and_from, lt-leb, le-leb}
-use Rattle.uring_entry.specs.Groups.{first_member}
-use Rattle.uring_linux.specs.Window.{said}
-use Rattle.uring_entry.proofs.BelowLemmas.{least_below_none, least_below_some}
+use Rattle.uring_linux.proofs.Common.{and_from, and_left, and_right, first_member, le-leb, least_below_none, least_below_some, lt-leb, said}
 use Rattle.uring_linux.proofs.window.Window.first_with.Goals as goal
 
 pub loop-n-init : goal.loop-n-init

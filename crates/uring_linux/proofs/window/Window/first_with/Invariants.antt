@@ -1,6 +1,5 @@
 use Rattle.std.proofs.Common.{◌≡◌, ℕ, ◌<◌, ◌≤◌, ◌&&◌, leb, false}
-use Rattle.uring_entry.specs.Requests.{Requests}
-use Rattle.uring_linux.specs.Window.{Shows, end_of, said}
+use Rattle.uring_linux.proofs.Common.{Requests, Shows, end_of, said}
 use Rattle.uring_linux.proofs.window.Window.first_with.Given as goal
 
 abbrev pub invariant-loop-n : goal.invariant-loop-n

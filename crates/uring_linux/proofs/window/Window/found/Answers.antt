@@ -1,9 +1,5 @@
 use Rattle.std.proofs.Common.{not, ◌==◌, length, sym, ◌∙◌, ap, arith}
-use Rattle.std.proofs.lemmas.Bool.{and_from, and_parts, ne_eqb}
-use Rattle.uring_entry.specs.Layout.{user_data_of}
-use Rattle.uring_entry.specs.Requests.{entry_of}
-use Rattle.uring_entry.proofs.BelowLemmas.{least_below_none, least_below_some}
-use Rattle.uring_linux.specs.LinuxRequests.{is_found, found_by}
+use Rattle.uring_linux.proofs.Common.{and_from, and_parts, entry_of, found_by, is_found, least_below_none, least_below_some, ne_eqb, user_data_of}
 use Rattle.uring_linux.proofs.window.Window.found.Goals as goal
 
 pub returns-then-passes : goal.returns-then-passes

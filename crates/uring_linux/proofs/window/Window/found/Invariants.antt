@@ -1,8 +1,5 @@
 use Rattle.std.proofs.Common.{◌≡◌, ℕ, ◌<◌, false}
-use Rattle.uring_entry.specs.Layout.{addr_of}
-use Rattle.uring_entry.specs.Requests.{Requests, entry_of}
-use Rattle.uring_linux.specs.LinuxRequests.{is_found}
-use Rattle.uring_linux.specs.Window.{Shows}
+use Rattle.uring_linux.proofs.Common.{Requests, Shows, addr_of, entry_of, is_found}
 use Rattle.uring_linux.proofs.window.Window.found.Given as goal
 
 abbrev pub invariant-loop-m : goal.invariant-loop-m

@@ -1,6 +1,5 @@
 use Rattle.std.proofs.Common.{not, ◌&&◌, length, ltb, sym, ◌∙◌, ap₂}
-use Rattle.std.proofs.lemmas.Bool.{and_left}
-use Rattle.uring_entry.specs.Requests.{has_ended, is_running}
+use Rattle.uring_linux.proofs.Common.{and_left, has_ended, is_running}
 use Rattle.uring_linux.proofs.Standings.{outside_ended, busy_waits}
 use Rattle.uring_linux.proofs.window.Window.is_idle.Goals as goal
 

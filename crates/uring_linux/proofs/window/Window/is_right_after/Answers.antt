@@ -1,6 +1,5 @@
 use Rattle.std.proofs.Common.{◌-◌, sym, ◌∙◌, arith}
-use Rattle.std.proofs.lemmas.Bool.{not-true}
-use Rattle.uring_linux.specs.Window.{IsWithin}
+use Rattle.uring_linux.proofs.Common.{IsWithin, not-true}
 use Rattle.uring_linux.proofs.MemberLemmas.{not_in_turn}
 use Rattle.uring_linux.proofs.window.Window.is_right_after.Goals as goal
 

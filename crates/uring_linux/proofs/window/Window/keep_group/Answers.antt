@@ -1,6 +1,5 @@
 use Rattle.std.proofs.Common.{◌≡◌, Some, refl, sym, ◌∙◌, ap}
-use Rattle.uring_linux.specs.declared.request.Request.{Request}
-use Rattle.uring_linux.specs.Window.{Window, at, unended_among, running_among}
+use Rattle.uring_linux.proofs.Common.{Request, Window, at, running_among, unended_among}
 use Rattle.uring_linux.proofs.WindowCounts.{count_same, unended_counts, running_counts}
 use Rattle.uring_linux.proofs.WindowEvents.{at_within, at_set_here, at_set_other}
 use Rattle.uring_linux.proofs.window.Window.keep_group.Goals as goal

@@ -1,6 +1,5 @@
 use Rattle.std.proofs.Common.{◌≡◌, Some, sym, ◌∙◌, ap, arith, inl, inr}
-use Rattle.std.proofs.lemmas.Bool.{cases_lt}
-use Rattle.uring_linux.specs.Window.{at}
+use Rattle.uring_linux.proofs.Common.{at, cases_lt}
 use Rattle.uring_linux.proofs.PassedOver.{least_ended, least_within}
 use Rattle.uring_linux.proofs.window.Window.least.Goals as goal
 

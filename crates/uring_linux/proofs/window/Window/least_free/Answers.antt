@@ -1,9 +1,5 @@
 use Rattle.std.proofs.Common.{not, ◌&&◌, length, sym, ◌∙◌, ap, arith}
-use Rattle.std.proofs.lemmas.Bool.{and_from, lt-ltb}
-use Rattle.uring_entry.specs.Requests.{is_outstanding}
-use Rattle.uring_entry.proofs.BelowLemmas.{least_below_none, least_below_some}
-use Rattle.uring_linux.specs.Drains.{Drains, is_in_some}
-use Rattle.uring_linux.specs.LinuxRequests.{is_deferred}
+use Rattle.uring_linux.proofs.Common.{Drains, and_from, is_deferred, is_in_some, is_outstanding, least_below_none, least_below_some, lt-ltb}
 use Rattle.uring_linux.proofs.window.Window.least_free.Goals as goal
 
 pub returns-then-not-is_deferred : goal.returns-then-not-is_deferred

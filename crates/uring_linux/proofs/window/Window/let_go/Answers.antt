@@ -1,6 +1,5 @@
 use Rattle.std.proofs.Common.{◌≡◌, sym, subst}
-use Rattle.uring_entry.specs.Requests.{Requests}
-use Rattle.uring_linux.specs.Window.{Window, unended_among, running_among, Shows, IsOver}
+use Rattle.uring_linux.proofs.Common.{IsOver, Requests, Shows, Window, running_among, unended_among}
 use Rattle.uring_linux.proofs.LettingGo.{left_from, left_shows, left_unended, left_running}
 use Rattle.uring_linux.proofs.window.Window.let_go.Goals as goal
 

@@ -1,6 +1,5 @@
 use Rattle.std.proofs.Common.{◌≡◌, ℕ, suc, ◌<◌, ◌≤◌, true, Some}
-use Rattle.uring_linux.specs.declared.request.Request.{Request}
-use Rattle.uring_linux.specs.Window.{at}
+use Rattle.uring_linux.proofs.Common.{Request, at}
 use Rattle.uring_linux.proofs.window.Window.over_to.Given as goal
 
 abbrev pub invariant-loop-n : goal.invariant-loop-n

@@ -1,6 +1,5 @@
 use Rattle.std.proofs.Common.{rules, w32, ◌∙◌, ap, arith}
-use Rattle.std.proofs.lemmas.Int.{to_z-of_z}
-use Rattle.uring_linux.specs.Issues.{posts_as}
+use Rattle.uring_linux.proofs.Common.{posts_as, to_z-of_z}
 use Rattle.uring_linux.proofs.window.Window.posts.Goals as goal
 
 pub returns : goal.returns

@@ -1,9 +1,5 @@
 use Rattle.std.proofs.Common.{length, ◌∙◌, ap, subst, ◌++◌, ◌∷◌, [], ◌≡◌}
-use Rattle.uring_entry.specs.Requests.{with_accepted}
-use Rattle.uring_linux.specs.declared.group.Group.{Group}
-use Rattle.uring_linux.specs.declared.request.Test.TheVariants.{Faulty}
-use Rattle.uring_linux.specs.Groups.{with_member}
-use Rattle.uring_linux.specs.Window.{unended_among, running_among}
+use Rattle.uring_linux.proofs.Common.{Faulty, Group, running_among, unended_among, with_accepted, with_member}
 use Rattle.uring_linux.proofs.GroupsShown.{Regroups, pushed_shows}
 use Rattle.uring_linux.proofs.WindowCounts.{count_pushed, unended_counts, running_counts}
 use Rattle.uring_linux.proofs.WindowLemmas.{agrees}

@@ -1,6 +1,5 @@
 use Rattle.std.proofs.Common.{◌≡◌, ◌-◌, List, slice_set, ap, subst}
-use Rattle.uring_linux.specs.declared.request.Request.{Request}
-use Rattle.uring_linux.specs.Window.{Window}
+use Rattle.uring_linux.proofs.Common.{Request, Window}
 use Rattle.uring_linux.proofs.window.Window.write.Goals as goal
 
 pub returns-clause-written : goal.returns-clause-written

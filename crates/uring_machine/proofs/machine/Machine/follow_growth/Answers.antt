@@ -1,8 +1,7 @@
 use Rattle.std.proofs.Common.{◌≡◌, ◌∷◌, refl, sym, ap, ◌∙◌, to_z, of_z, rules}
 use Rattle.std.specs.Int.{w32}
-use Rattle.std.proofs.lemmas.Bool.{both_ways}
+use Rattle.uring_machine.proofs.Common.{after, both_ways}
 use Rattle.std.proofs.lemmas.Int.{to_z-of_z}
-use Rattle.uring_files.specs.Operations.{after}
 use Rattle.uring_core.specs.declared.step.Step.TheVariants as step
 use Rattle.uring_machine.proofs.RecordedEnds.{followed_end, followed_failure, runs_so, growth_wrong, growth_called, growth_failed, growth_bytes, kept_fits, ended_alike}
 use Rattle.uring_machine.proofs.machine.Machine.follow_growth.Goals as goal

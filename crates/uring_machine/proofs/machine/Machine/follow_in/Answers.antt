@@ -1,9 +1,7 @@
-use Rattle.uring_core.specs.Histories.{world}
+use Rattle.uring_machine.proofs.Common.{IfErr-weaker, no_finish, on_ok_weaker, world}
 use Rattle.uring_machine.proofs.RecordedEnds.{follows_some, resumed_fits, refused_apart, lacks_apart}
 use Rattle.uring_machine.proofs.Fitting.{step_fits}
-use Rattle.uring_core.proofs.Following.{no_finish}
 use Rattle.uring_machine.proofs.machine.Machine.follow_in.Goals as goal
-use Rattle.std.proofs.lemmas.Result.{IfErr-weaker, on_ok_weaker}
 
 pub invariant_of-self : goal.invariant_of-self
 invariant_of-self g c =

@@ -1,8 +1,5 @@
 use Rattle.std.proofs.Common.{◌≡◌, ℕ, ◌≤◌}
-use Rattle.uring_core.specs.Histories.{History}
-use Rattle.uring_files.specs.Contents.{max_len}
-use Rattle.uring_machine.specs.Machine.{Fits}
-use Rattle.uring_machine.specs.Settling.{HasSettled}
+use Rattle.uring_machine.proofs.Common.{Fits, HasSettled, History, max_len}
 use Rattle.uring_machine.proofs.machine.Machine.settle_idle_in.Given as goal
 
 -- a request was settled each time

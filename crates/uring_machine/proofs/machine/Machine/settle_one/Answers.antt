@@ -1,9 +1,6 @@
 use Rattle.std.proofs.Common.{◌≡◌, ◌≤◌, ◌∷◌, Some, subst, sym, ◌∙◌}
-use Rattle.uring_entry.specs.Setup.{Setup}
-use Rattle.uring_entry.specs.Requests.{least_of}
-use Rattle.uring_core.specs.Histories.{History, world}
+use Rattle.uring_machine.proofs.Common.{Fits, History, IsUnrefused, Machine, Setup, least_of, world}
 use Rattle.uring_core.specs.declared.step.Step.TheVariants as step
-use Rattle.uring_machine.specs.Machine.{Machine, Fits, IsUnrefused}
 use Rattle.uring_machine.proofs.Settling.{some_least, next_fits, settled_run, settled_end, settled_finish}
 use Rattle.uring_machine.proofs.machine.Machine.settle_one.Goals as goal
 

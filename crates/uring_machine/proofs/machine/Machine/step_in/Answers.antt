@@ -1,7 +1,6 @@
 use Rattle.std.proofs.Common.{◌∷◌}
 use Rattle.uring_machine.proofs.Fitting.{step_fits, called_for, unrefused_apart, unrefused_finish, elements_apart}
-use Rattle.uring_core.specs.Histories.{world}
-use Rattle.uring_core.proofs.Following.{no_finish}
+use Rattle.uring_machine.proofs.Common.{no_finish, world}
 use Rattle.uring_machine.proofs.machine.Machine.step_in.Goals as goal
 
 pub invariant_of-self : goal.invariant_of-self

@@ -1,7 +1,5 @@
 use Rattle.std.proofs.Common.{◌≡◌, true, false, sym, subst, ap, ◌∙◌, inl, inr}
-use Rattle.std.specs.Prelude.{Contains, slice_get}
-use Rattle.std.proofs.lemmas.Bool.{cases_Bool}
-use Rattle.uring_outcomes.specs.Index.{HasPlace}
+use Rattle.uring_outcomes.proofs.Common.{Contains, HasPlace, cases_Bool, slice_get}
 use Rattle.uring_outcomes.proofs.Indexing.{place_of, known_place, no_place}
 use Rattle.uring_outcomes.proofs.endings.Endings.contains.Goals as goal
 

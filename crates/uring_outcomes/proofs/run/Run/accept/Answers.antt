@@ -1,8 +1,6 @@
 use Rattle.std.proofs.Common.{◌+◌, suc, Err, refl, ap, subst, arith}
-use Rattle.uring_entry.specs.Requests.{with_call}
-use Rattle.uring_dispatch.specs.Dispatch.{ShowsRequests}
+use Rattle.uring_outcomes.proofs.Common.{ShowsRequests, entries_of, with_call}
 use Rattle.uring_outcomes.specs.Faults.{fault_of}
-use Rattle.uring_outcomes.specs.Runs.{entries_of}
 use Rattle.uring_outcomes.proofs.Faulting.{next_among, told, refusal_reason}
 use Rattle.uring_outcomes.proofs.RunSteps.{accepts, call_there}
 use Rattle.uring_outcomes.proofs.run.Run.accept.Goals as goal

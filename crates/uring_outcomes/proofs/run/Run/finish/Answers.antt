@@ -1,8 +1,5 @@
 use Rattle.std.proofs.Common.{refl, sym, ap, ◌∙◌, of_z, to_z, rules, arith}
-use Rattle.std.specs.Int.{w32}
-use Rattle.std.proofs.lemmas.Int.{to_z-of_z}
-use Rattle.uring_entry.specs.declared.operation.Outcome.{Outcome}
-use Rattle.uring_files.specs.Contents.{max_len}
+use Rattle.uring_outcomes.proofs.Common.{Outcome, max_len, to_z-of_z, w32}
 use Rattle.uring_files.proofs.OperationCases.{result_granted}
 use Rattle.uring_outcomes.proofs.Moving.{called_for}
 use Rattle.uring_outcomes.proofs.RunSteps.{running_asks, running_told, finish_between, finishes}

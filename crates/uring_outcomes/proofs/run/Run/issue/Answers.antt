@@ -1,6 +1,5 @@
 use Rattle.std.proofs.Common.{refl, sym, ◌∙◌, rules}
-use Rattle.std.specs.Int.{w32}
-use Rattle.std.proofs.lemmas.Int.{to_z-of_z}
+use Rattle.uring_outcomes.proofs.Common.{to_z-of_z, w32}
 use Rattle.uring_outcomes.proofs.RunSteps.{issue_starts, issue_ends}
 use Rattle.uring_outcomes.proofs.run.Run.issue.Goals as goal
 

@@ -1,6 +1,5 @@
 use Rattle.std.proofs.Common.{◌≡◌, true, false, arith, rules}
-use Rattle.std.proofs.lemmas.Bool.{not-true, not-false}
-use Rattle.uring_outcomes.specs.Runs.{entries_of}
+use Rattle.uring_outcomes.proofs.Common.{entries_of, not-false, not-true}
 use Rattle.uring_outcomes.proofs.Replaying.{stands_on_at, led_on_at, led_nowhere_at}
 use Rattle.uring_outcomes.proofs.run.Run.replay.Goals as goal
 

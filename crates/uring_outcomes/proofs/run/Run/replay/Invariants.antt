@@ -1,6 +1,5 @@
 use Rattle.std.proofs.Common.{take}
-use Rattle.uring_outcomes.specs.Moments.{Moment}
-use Rattle.uring_outcomes.specs.Runs.{entries_of, Stands, StandsAt, LedTo}
+use Rattle.uring_outcomes.proofs.Common.{LedTo, Moment, Stands, StandsAt, entries_of}
 use Rattle.uring_outcomes.proofs.run.Run.replay.Given as goal
 
 -- the moves so far were made

@@ -1,7 +1,5 @@
 use Rattle.std.proofs.Common.{◌≡◌, ◌≤◌, refl, sym, subst, arith}
-use Rattle.uring_outcomes.specs.Moments.{starting, after_moves}
-use Rattle.uring_outcomes.specs.Runs.{entries_of, StandsAt, MadeAs}
-use Rattle.uring_outcomes.specs.Walks.{paths_of}
+use Rattle.uring_outcomes.proofs.Common.{MadeAs, StandsAt, after_moves, entries_of, paths_of, starting}
 use Rattle.uring_outcomes.proofs.Walking.{gone}
 use Rattle.uring_outcomes.proofs.walk.Walk.go_back.Goals as goal
 

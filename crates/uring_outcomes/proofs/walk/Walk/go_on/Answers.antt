@@ -1,7 +1,5 @@
 use Rattle.std.proofs.Common.{◌≡◌, true, refl, rules}
-use Rattle.std.proofs.lemmas.Bool.{not-false, both_ways}
-use Rattle.uring_outcomes.specs.Runs.{entries_of}
-use Rattle.uring_outcomes.specs.Walks.{paths_of}
+use Rattle.uring_outcomes.proofs.Common.{both_ways, entries_of, not-false, paths_of}
 use Rattle.uring_outcomes.proofs.Walking.{on_path, off_path, noted_end}
 use Rattle.uring_outcomes.proofs.walk.Walk.go_on.Goals as goal
 

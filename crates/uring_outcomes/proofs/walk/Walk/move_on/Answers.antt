@@ -1,6 +1,5 @@
 use Rattle.std.proofs.Common.{◌++◌, subst}
-use Rattle.uring_outcomes.specs.Runs.{entries_of}
-use Rattle.uring_outcomes.specs.Walks.{paths_of, longer_by, HasLonger}
+use Rattle.uring_outcomes.proofs.Common.{HasLonger, entries_of, longer_by, paths_of}
 use Rattle.uring_outcomes.proofs.Covering.{path_taken, none_noted}
 use Rattle.uring_outcomes.proofs.walk.Walk.move_on.Goals as goal
 

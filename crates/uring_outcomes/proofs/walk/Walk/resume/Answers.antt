@@ -1,6 +1,5 @@
 use Rattle.std.proofs.Common.{subst}
-use Rattle.uring_outcomes.specs.Runs.{entries_of}
-use Rattle.uring_outcomes.specs.Walks.{IsWalk}
+use Rattle.uring_outcomes.proofs.Common.{IsWalk, entries_of}
 use Rattle.uring_outcomes.proofs.Walking.{off_walk, popped}
 use Rattle.uring_outcomes.proofs.walk.Walk.resume.Goals as goal
 

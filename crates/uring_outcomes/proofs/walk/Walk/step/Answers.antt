@@ -1,9 +1,6 @@
 use Rattle.std.proofs.Common.{[], ◌∷◌, ◌++◌, refl, sym, subst, ap, ◌∙◌}
-use Rattle.std.specs.Option.{option_and_then}
-use Rattle.uring_outcomes.specs.Moments.{starting, moved}
+use Rattle.uring_outcomes.proofs.Common.{MadeAs, StandsAt, entries_of, moved, option_and_then, paths_of, starting}
 use Rattle.uring_outcomes.proofs.MovesLead.{one_move_more}
-use Rattle.uring_outcomes.specs.Runs.{entries_of, StandsAt, MadeAs}
-use Rattle.uring_outcomes.specs.Walks.{paths_of}
 use Rattle.uring_outcomes.proofs.Walking.{gone}
 use Rattle.uring_outcomes.proofs.walk.Walk.step.Goals as goal
 

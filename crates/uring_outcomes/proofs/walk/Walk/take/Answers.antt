@@ -1,6 +1,5 @@
 use Rattle.std.proofs.Common.{refl, subst, append-nil}
-use Rattle.uring_outcomes.specs.Runs.{entries_of}
-use Rattle.uring_outcomes.specs.Walks.{paths_of, IsWalk, IsBefore}
+use Rattle.uring_outcomes.proofs.Common.{IsBefore, IsWalk, entries_of, paths_of}
 use Rattle.uring_outcomes.proofs.Walking.{off_path}
 use Rattle.uring_outcomes.proofs.walk.Walk.take.Goals as goal
 

@@ -1,6 +1,5 @@
 use Rattle.std.proofs.Common.{[], ◌∷◌, ◌++◌, ℕ, Option, ap, sym, subst, ◌∙◌, min, ◌+◌, ◌-◌, ◌^◌}
-use Rattle.uring_pictures.specs.Moments.{does_count}
-use Rattle.uring_pictures.specs.Following.{Following}
+use Rattle.uring_pictures.proofs.Common.{Following, does_count}
 use Rattle.uring_pictures.proofs.Moments.{follows_line}
 use Rattle.uring_pictures.proofs.moment.Moment.end_counted.Goals as goal
 

@@ -1,6 +1,5 @@
 use Rattle.std.proofs.Common.{ℕ, Option, ap, sym, ◌∙◌}
-use Rattle.std.proofs.lemmas.Result.{on_ok_weaker}
-use Rattle.uring_pictures.specs.Moments.{does_count}
+use Rattle.uring_pictures.proofs.Common.{does_count, on_ok_weaker}
 use Rattle.uring_pictures.proofs.Moments.{followed_last, followed_passed}
 use Rattle.uring_pictures.proofs.moment.Moment.end_last.Goals as goal
 

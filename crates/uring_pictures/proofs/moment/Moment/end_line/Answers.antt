@@ -1,7 +1,5 @@
 use Rattle.std.proofs.Common.{[], ◌∷◌, ◌++◌, ℕ, Option, ap, sym, subst, ◌∙◌}
-use Rattle.std.proofs.lemmas.Result.{on_ok_weaker}
-use Rattle.uring_pictures.specs.Following.{Following}
-use Rattle.uring_pictures.specs.Moments.{does_count}
+use Rattle.uring_pictures.proofs.Common.{Following, does_count, on_ok_weaker}
 use Rattle.uring_pictures.proofs.Moments.{follows_passed}
 use Rattle.uring_pictures.proofs.moment.Moment.end_line.Goals as goal
 

@@ -1,6 +1,5 @@
 use Rattle.std.proofs.Common.{◌≡◌, ◌<◌, ◌+◌, ℕ, List, [], ◌∷◌, ◌++◌, length, take, get_or, sym, ap, subst, ◌∙◌, append_assoc, arith, rules}
-use Rattle.std.proofs.lemmas.List.{take_all, take_more}
-use Rattle.uring_pictures.specs.Following.{Follows}
+use Rattle.uring_pictures.proofs.Common.{Follows, take_all, take_more}
 use Rattle.uring_pictures.proofs.moment.Moment.feed_in.Goals as goal
 
 pub loop-byte-preserved : goal.loop-byte-preserved

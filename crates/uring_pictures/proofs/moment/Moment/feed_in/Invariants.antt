@@ -1,6 +1,5 @@
 use Rattle.std.proofs.Common.{ℕ, List, ◌++◌, take, Option}
-use Rattle.uring_entry.specs.Setup.{Setup}
-use Rattle.uring_pictures.specs.Following.{Follows}
+use Rattle.uring_pictures.proofs.Common.{Follows, Setup}
 use Rattle.uring_pictures.proofs.moment.Moment.feed_in.Given as goal
 
 -- what was taken in, as far as the loop has come

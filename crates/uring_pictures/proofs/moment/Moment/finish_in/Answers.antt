@@ -1,6 +1,5 @@
 use Rattle.std.proofs.Common.{◌≡◌, [], ℕ, List, false, refl}
-use Rattle.std.specs.Prelude.{IsTrue}
-use Rattle.std.proofs.lemmas.Result.{on_ok_weaker}
+use Rattle.uring_pictures.proofs.Common.{IsTrue, on_ok_weaker}
 use Rattle.uring_text.specs.KeptLine.{kept_of}
 use Rattle.uring_pictures.proofs.Moments.{followed_none}
 use Rattle.uring_pictures.proofs.moment.Moment.finish_in.Goals as goal

@@ -1,16 +1,11 @@
 use Rattle.std.proofs.Common.{◌≡◌, true, List, length, rules, ◌∙◌, sym, ap, subst, map}
-use Rattle.std.specs.Prelude.{is_some, IfSome}
+use Rattle.uring_power.proofs.Common.{IfSome, Log, MadeAs, StandsAt, called_in, finished_as, finished_of, is_some, length-map, moved, no_bytes, with_items_is}
 use Rattle.std.specs.Vec.{with_items}
 use Rattle.std.specs.Int.{w32}
 use Rattle.std.proofs.lemmas.Int.{to_z-of_z}
-use Rattle.std.proofs.lemmas.List.{with_items_is, length-map}
-use Rattle.uring_entry.specs.Requests.{no_bytes}
 use Rattle.uring_core.specs.declared.answer.Answer.{Answer}
 use Rattle.uring_core.specs.declared.answer.Answer.TheVariants as answer
-use Rattle.uring_epochs.specs.Logs.{Log, finished_of, finished_as}
-use Rattle.uring_outcomes.specs.Moments.{moved}
 use Rattle.uring_outcomes.specs.declared.move_of_calls.Move.TheVariants as move
-use Rattle.uring_outcomes.specs.Runs.{StandsAt, MadeAs, called_in}
 use Rattle.uring_power.proofs.Trying.{not_tried, tried, finish_logs}
 use Rattle.uring_power.proofs.trial.Trial.finish.Goals as goal
 

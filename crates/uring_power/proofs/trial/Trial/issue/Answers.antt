@@ -1,11 +1,7 @@
 use Rattle.std.proofs.Common.{◌≡◌, true, Some, List, length, ◌∙◌, sym, ap, subst, map}
 use Rattle.std.specs.Vec.{with_items}
-use Rattle.std.proofs.lemmas.List.{with_items_is}
-use Rattle.uring_epochs.specs.Logs.{Log, begun_of}
-use Rattle.uring_entry.specs.Requests.{operation_running}
-use Rattle.uring_outcomes.specs.Moments.{Moment, moved}
+use Rattle.uring_power.proofs.Common.{Log, MadeAs, Moment, StandsAt, begun_of, moved, operation_running, with_items_is}
 use Rattle.uring_outcomes.specs.declared.move_of_calls.Move.TheVariants as move
-use Rattle.uring_outcomes.specs.Runs.{StandsAt, MadeAs}
 use Rattle.uring_power.proofs.Trying.{not_tried, tried, issue_logs, stands_made, asks_all}
 use Rattle.uring_power.proofs.trial.Trial.issue.Goals as goal
 

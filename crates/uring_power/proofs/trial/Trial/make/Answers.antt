@@ -1,7 +1,6 @@
 use Rattle.std.proofs.Common.{refl}
-use Rattle.uring_epochs.proofs.Noted.{map_same}
+use Rattle.uring_power.proofs.Common.{entries_of, map_same}
 use Rattle.uring_outcomes.specs.declared.move_of_calls.Move.TheVariants as move
-use Rattle.uring_outcomes.specs.Runs.{entries_of}
 use Rattle.uring_power.proofs.Trying.{tried, if_ok_then}
 use Rattle.uring_power.proofs.trial.Trial.make.Goals as goal
 

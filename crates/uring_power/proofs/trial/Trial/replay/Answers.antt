@@ -1,7 +1,5 @@
 use Rattle.std.proofs.Common.{take, subst, arith}
-use Rattle.std.proofs.lemmas.List.{take_all}
-use Rattle.uring_outcomes.specs.Runs.{entries_of}
-use Rattle.uring_power.specs.Trials.{HasMade}
+use Rattle.uring_power.proofs.Common.{HasMade, entries_of, take_all}
 use Rattle.uring_power.proofs.Trying.{made_on, stopped_on, made_all}
 use Rattle.uring_power.proofs.trial.Trial.replay.Goals as goal
 

@@ -1,7 +1,5 @@
 use Rattle.std.proofs.Common.{ℕ, [], take}
-use Rattle.uring_entry.specs.Setup.{Setup}
-use Rattle.uring_outcomes.specs.Runs.{entries_of}
-use Rattle.uring_power.specs.Trials.{HasMade}
+use Rattle.uring_power.proofs.Common.{HasMade, Setup, entries_of}
 use Rattle.uring_power.proofs.trial.Trial.replay.Given as goal
 
 -- the moves so far were made

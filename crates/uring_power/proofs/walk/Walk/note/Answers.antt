@@ -1,12 +1,5 @@
 use Rattle.std.proofs.Common.{◌≡◌, List, ◌∷◌, ◌++◌, [], map, sym, subst, ap, ◌∙◌}
-use Rattle.uring_entry.specs.Layout.{Cqe}
-use Rattle.uring_epochs.specs.Logs.{Log}
-use Rattle.uring_outcomes.specs.declared.move_of_calls.Move.{Move}
-use Rattle.uring_outcomes.specs.Runs.{entries_of}
-use Rattle.uring_outcomes.specs.Walks.{paths_of}
-use Rattle.uring_power.specs.Found.{IsReason}
-use Rattle.uring_power.specs.Shown.{Crash}
-use Rattle.uring_power.specs.Trials.{logs_after, HasMade, AreShown, TakesPath}
+use Rattle.uring_power.proofs.Common.{AreShown, Cqe, Crash, HasMade, IsReason, Log, Move, TakesPath, entries_of, logs_after, paths_of}
 use Rattle.uring_power.proofs.Showing.{err_told, reason_of}
 use Rattle.uring_power.proofs.Taking.{path_taken}
 use Rattle.uring_power.proofs.walk.Walk.note.Goals as goal

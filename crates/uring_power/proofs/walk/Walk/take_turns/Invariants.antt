@@ -1,6 +1,4 @@
-use Rattle.uring_outcomes.specs.Runs.{entries_of}
-use Rattle.uring_outcomes.specs.Walks.{paths_of}
-use Rattle.uring_power.specs.Trials.{IsWalk}
+use Rattle.uring_power.proofs.Common.{IsWalk, entries_of, paths_of}
 use Rattle.uring_power.proofs.walk.Walk.take_turns.Given as goal
 
 abbrev pub invariant-turns : goal.invariant-turns

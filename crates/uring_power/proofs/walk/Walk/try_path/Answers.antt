@@ -1,5 +1,4 @@
-use Rattle.uring_outcomes.specs.Runs.{entries_of}
-use Rattle.uring_outcomes.specs.Walks.{paths_of}
+use Rattle.uring_power.proofs.Common.{entries_of, paths_of}
 use Rattle.uring_power.proofs.Taking.{no_path}
 use Rattle.uring_power.proofs.walk.Walk.try_path.Goals as goal
 

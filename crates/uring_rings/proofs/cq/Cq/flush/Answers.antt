@@ -1,6 +1,5 @@
 use Rattle.std.proofs.Common.{◌≡◌, ◌+◌, ℕ, ◌∙◌, subst, arith, add_assoc}
-use Rattle.uring_entry.specs.Completions.{put_by_flush}
-use Rattle.uring_rings.specs.Cq.{ShowsCompletions}
+use Rattle.uring_rings.proofs.Common.{ShowsCompletions, put_by_flush}
 use Rattle.uring_rings.proofs.CompletionSteps.{load_shows, all_moved}
 use Rattle.uring_rings.proofs.cq.Cq.flush.Goals as goal
 

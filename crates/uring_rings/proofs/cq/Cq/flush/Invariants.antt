@@ -1,7 +1,5 @@
 use Rattle.std.proofs.Common.{◌≡◌, ◌+◌, ◌≤◌, length}
-use Rattle.uring_entry.specs.Setup.{Setup}
-use Rattle.uring_entry.specs.Completions.{Completions}
-use Rattle.uring_rings.specs.Cq.{ShowsCompletions}
+use Rattle.uring_rings.proofs.Common.{Completions, Setup, ShowsCompletions}
 use Rattle.uring_rings.proofs.cq.Cq.flush.Given as goal
 
 -- as many completions have left the overflow list as were moved, and the ring shows them as put

@@ -1,6 +1,5 @@
 use Rattle.std.proofs.Common.{ℕ, ◌%◌, ◌<◌, sym, ap, ◌∙◌, arith}
-use Rattle.std.proofs.lemmas.Option.{get_or_from_slice_get}
-use Rattle.uring_rings.specs.Sq.{Sq}
+use Rattle.uring_rings.proofs.Common.{Sq, get_or_from_slice_get}
 use Rattle.uring_rings.proofs.Elements.{read_cell}
 use Rattle.uring_rings.proofs.SubmissionCalls.{takes_place, take_gives, take_drops, take_gives_shows, take_drops_shows}
 use Rattle.uring_rings.proofs.sq.Sq.take.Goals as goal

@@ -1,9 +1,6 @@
 use Rattle.std.proofs.Common.{◌∙◌, ap, sym, subst, arith}
-use Rattle.uring_entry.specs.Setup.{Setup, IsWithinLimits}
+use Rattle.uring_threads.proofs.Common.{CalledForApart, IsWithinLimits, Setup, history_of, history_of_snoc, world}
 use Rattle.uring_core.specs.Core.{FitsApart, elements_for}
-use Rattle.uring_core.specs.Histories.{history_of, world}
-use Rattle.uring_core.specs.StepAnswers.{CalledForApart}
-use Rattle.uring_core.proofs.Following.{history_of_snoc}
 use Rattle.uring_threads.proofs.kept.Kept.step_reserved_in.Goals as goal
 
 pub invariant_of-self : goal.invariant_of-self

@@ -1,10 +1,5 @@
 use Rattle.std.proofs.Common.{◌+◌, ◌*◌, ◌≤◌, length, sym, subst, arith, vec_capacity}
-use Rattle.std.proofs.lemmas.Bool.{false≢true}
-use Rattle.std.proofs.lemmas.Grind.{common_steps}
-use Rattle.uring_core.specs.World.{World}
-use Rattle.uring_entry.specs.Completions.{unreaped}
-use Rattle.uring_entry.specs.Setup.{Setup}
-use Rattle.uring_threads.specs.Kept.{now}
+use Rattle.uring_threads.proofs.Common.{Setup, World, common_steps, false≢true, now, unreaped}
 use Rattle.uring_threads.proofs.TraceSteps.{unmoved_now}
 use Rattle.uring_threads.proofs.Turning.{kernel_unmoved}
 use Rattle.uring_threads.proofs.kernel.Kernel.make_room.Goals as goal

@@ -1,8 +1,5 @@
 use Rattle.std.proofs.Common.{◌≡◌, ◌++◌, length, take, drop, arith, subst, ap, ◌∙◌}
-use Rattle.uring_entry.specs.Setup.{Setup}
-use Rattle.uring_workers.specs.WorkLanes.{AreSameLanes, numbers_of_lanes}
-use Rattle.uring_threads.specs.Kernel.{Kernel}
-use Rattle.uring_threads.specs.Served.{HasTurned}
+use Rattle.uring_threads.proofs.Common.{AreSameLanes, HasTurned, Kernel, Setup, numbers_of_lanes}
 use Rattle.uring_threads.proofs.Reporting.{take_whole}
 use Rattle.uring_threads.proofs.SameEnds.{same_numbers}
 use Rattle.uring_threads.proofs.kernel.Kernel.turn_in.Given.{Over}

@@ -1,12 +1,6 @@
 use Rattle.std.proofs.Common.{◌≡◌, ◌<◌, length, get_or, refl, sym, subst, ap, ap₂, ◌∙◌, arith, w32}
 use Rattle.std.proofs.lemmas.Int.{to_z-of_z}
-use Rattle.uring_entry.specs.Setup.{Setup}
-use Rattle.uring_files.specs.Operations.{byte_of}
-use Rattle.uring_core.specs.CalledFor.{files_of}
-use Rattle.uring_threads.specs.Kept.{now}
-use Rattle.uring_threads.specs.Report.{Report, left_by}
-use Rattle.uring_workers.specs.Work.{place_of_file}
-use Rattle.uring_workers.specs.Worker.{Worker, IsRight}
+use Rattle.uring_threads.proofs.Common.{IsRight, Report, Setup, Worker, byte_of, files_of, left_by, now, place_of_file}
 use Rattle.uring_threads.proofs.WorkerFiles.{file_at, byte_same}
 use Rattle.uring_threads.proofs.report.Report.byte.Goals as goal
 

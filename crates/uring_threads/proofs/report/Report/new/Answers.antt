@@ -1,7 +1,5 @@
 use Rattle.std.proofs.Common.{◌*◌, length, drop, sym, subst, ap, arith}
-use Rattle.uring_entry.specs.Setup.{Setup}
-use Rattle.uring_threads.specs.Dispatched.{HaveCarried}
-use Rattle.uring_threads.specs.SettledWorker.{HaveFiles, HaveLooked, HaveSeenAll}
+use Rattle.uring_threads.proofs.Common.{HaveCarried, HaveFiles, HaveLooked, HaveSeenAll, Setup}
 use Rattle.uring_threads.proofs.Reporting.{all_run, few_unreaped, settled_lawful, take_whole}
 use Rattle.uring_threads.proofs.SameEnds.{files_had}
 use Rattle.uring_threads.proofs.report.Report.new.Goals as goal

@@ -1,7 +1,5 @@
 use Rattle.std.proofs.Common.{true, false}
-use Rattle.std.proofs.lemmas.Result.{on_ok_weaker}
-use Rattle.std.specs.Prelude.{IsTrue}
-use Rattle.uring_trace.specs.Explanations.{telling_on}
+use Rattle.uring_trace.proofs.Common.{IsTrue, on_ok_weaker, telling_on}
 use Rattle.uring_trace.proofs.explainer.Explainer.feed_in.Goals as goal
 
 pub returns-clause-ok : goal.returns-clause-ok

@@ -1,6 +1,5 @@
 use Rattle.std.proofs.Common.{true, false, refl, arith}
-use Rattle.std.proofs.lemmas.Bool.{both_ways}
-use Rattle.uring_trace.specs.Explanations.{telling_on}
+use Rattle.uring_trace.proofs.Common.{both_ways, telling_on}
 use Rattle.uring_trace.proofs.ExplainLines.{explaining_none}
 use Rattle.uring_trace.proofs.explainer.Explainer.new_in.Goals as goal
 

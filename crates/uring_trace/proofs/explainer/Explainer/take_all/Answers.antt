@@ -1,7 +1,5 @@
 use Rattle.std.proofs.Common.{◌≡◌, ◌<◌, ◌+◌, ℕ, List, [], ◌∷◌, ◌++◌, length, take, get_or, sym, ap, subst, ◌∙◌, append_assoc, arith, rules}
-use Rattle.std.proofs.lemmas.List.{take_all, take_more}
-use Rattle.std.specs.Prelude.{string_bytes}
-use Rattle.uring_trace.specs.Explaining.{HasToldBy}
+use Rattle.uring_trace.proofs.Common.{HasToldBy, string_bytes, take_all, take_more}
 use Rattle.uring_trace.proofs.ExplainLines.{explain_byte}
 use Rattle.uring_trace.proofs.explainer.Explainer.take_all.Goals as goal
 use Rattle.uring_trace.proofs.explainer.Explainer.take_all.Goals.{then-byte-eq10+in_ok-end_line, else-byte-eq10}

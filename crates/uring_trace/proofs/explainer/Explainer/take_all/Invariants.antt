@@ -1,7 +1,5 @@
 use Rattle.std.proofs.Common.{ℕ, List, ◌++◌, take}
-use Rattle.std.specs.Prelude.{string_bytes}
-use Rattle.uring_trace.specs.Explanations.{Telling}
-use Rattle.uring_trace.specs.Explaining.{HasToldBy, IsGrantedTo}
+use Rattle.uring_trace.proofs.Common.{HasToldBy, IsGrantedTo, Telling, string_bytes}
 use Rattle.uring_trace.proofs.explainer.Explainer.take_all.Given as goal
 
 -- what was to be shown, as far as the loop has come

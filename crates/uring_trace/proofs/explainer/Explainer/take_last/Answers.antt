@@ -1,6 +1,5 @@
 use Rattle.std.proofs.Common.{◌≡◌, [], ℕ, List, false, refl}
-use Rattle.std.specs.Prelude.{IsTrue}
-use Rattle.uring_text.specs.KeptLine.{kept_of}
+use Rattle.uring_trace.proofs.Common.{IsTrue, kept_of}
 use Rattle.uring_trace.proofs.ExplainLines.{explain_last, explain_none}
 use Rattle.uring_trace.proofs.explainer.Explainer.take_last.Goals as goal
 

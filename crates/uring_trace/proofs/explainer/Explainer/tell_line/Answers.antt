@@ -1,9 +1,5 @@
 use Rattle.std.proofs.Common.{[], ◌∷◌, sym, ap, ◌∙◌, append_assoc}
-use Rattle.std.specs.Prelude.{string_bytes}
-use Rattle.std.proofs.lemmas.Result.{on_ok_weaker, IfOk-weaker}
-use Rattle.uring_core.specs.Histories.{world}
-use Rattle.uring_text.specs.Lines.{ended}
-use Rattle.uring_trace.specs.Shown.{shown}
+use Rattle.uring_trace.proofs.Common.{IfOk-weaker, ended, on_ok_weaker, shown, string_bytes, world}
 use Rattle.uring_trace.proofs.ExplainLines.{if_ok_both, line_made, line_asked, line_remark, line_bad}
 use Rattle.uring_trace.proofs.explainer.Explainer.tell_line.Goals as goal
 

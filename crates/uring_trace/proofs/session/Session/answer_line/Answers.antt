@@ -1,7 +1,5 @@
 use Rattle.std.proofs.Common.{◌≡◌, None, ◌∙◌, rules, arith}
-use Rattle.std.proofs.lemmas.Result.{on_ok_weaker}
-use Rattle.uring_core.specs.Histories.{world}
-use Rattle.uring_machine.specs.Machine.{elements_for_step}
+use Rattle.uring_trace.proofs.Common.{elements_for_step, on_ok_weaker, world}
 use Rattle.uring_trace.proofs.Sessions.{told_step, told_bad}
 use Rattle.uring_trace.proofs.session.Session.answer_line.Goals as goal
 

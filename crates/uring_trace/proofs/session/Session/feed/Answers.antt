@@ -1,6 +1,5 @@
 use Rattle.std.proofs.Common.{◌≡◌, ◌<◌, ◌+◌, ℕ, List, [], ◌∷◌, ◌++◌, length, take, get_or, sym, ap, subst, ◌∙◌, append_assoc, arith, rules}
-use Rattle.std.proofs.lemmas.List.{take_all, take_more}
-use Rattle.uring_trace.specs.Sessions.{Has}
+use Rattle.uring_trace.proofs.Common.{Has, take_all, take_more}
 use Rattle.uring_trace.proofs.Sessions.{took_byte}
 use Rattle.uring_trace.proofs.session.Session.feed.Goals as goal
 use Rattle.uring_trace.proofs.session.Session.feed.Goals.{then-byte-eq10+in_ok-end_line, else-byte-eq10}

@@ -1,6 +1,5 @@
 use Rattle.std.proofs.Common.{ℕ, List, ◌++◌, take}
-use Rattle.uring_trace.specs.Exchanges.{Manner}
-use Rattle.uring_trace.specs.Sessions.{Has, IsGranted}
+use Rattle.uring_trace.proofs.Common.{Has, IsGranted, Manner}
 use Rattle.uring_trace.proofs.session.Session.feed.Given as goal
 
 -- what was to be shown, as far as the loop has come

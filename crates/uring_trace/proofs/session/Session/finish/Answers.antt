@@ -1,6 +1,5 @@
 use Rattle.std.proofs.Common.{◌≡◌, ◌++◌, ◌∷◌, [], ℕ, List, false, rules}
-use Rattle.std.specs.Prelude.{IsTrue}
-use Rattle.uring_text.specs.KeptLine.{kept_of}
+use Rattle.uring_trace.proofs.Common.{IsTrue, kept_of}
 use Rattle.uring_trace.proofs.Sessions.{ended_last}
 use Rattle.uring_trace.proofs.session.Session.finish.Goals as goal
 

@@ -1,6 +1,5 @@
 use Rattle.std.proofs.Common.{◌≤◌, ◌+◌, length, ◌∷◌, ◌++◌, [], sym, ap, ◌∙◌, refl, reverse, arith}
-use Rattle.uring_volume.specs.Volume.{Volume, with_sync}
-use Rattle.uring_volume.specs.declared.event.Event.TheVariants.{SyncIssued}
+use Rattle.uring_volume.proofs.Common.{SyncIssued, Volume, with_sync}
 use Rattle.uring_volume.proofs.Numbers.{carried, held_sync, room_for}
 use Rattle.uring_volume.proofs.Results.{not_err, not_ok}
 use Rattle.uring_volume.proofs.Steps.{pushed}

@@ -1,6 +1,5 @@
 use Rattle.std.proofs.Common.{◌≤◌, ◌+◌, length, ◌∷◌, ◌++◌, [], sym, ap, ◌∙◌, refl, reverse, arith}
-use Rattle.uring_volume.specs.Volume.{Volume, with_write}
-use Rattle.uring_volume.specs.declared.event.Event.TheVariants.{WriteIssued}
+use Rattle.uring_volume.proofs.Common.{Volume, WriteIssued, with_write}
 use Rattle.uring_volume.proofs.Numbers.{carried, held_write, room_for}
 use Rattle.uring_volume.proofs.Results.{not_err, not_ok}
 use Rattle.uring_volume.proofs.Steps.{pushed}

@@ -1,7 +1,5 @@
 use Rattle.std.proofs.Common.{◌∙◌, refl, reverse, arith}
-use Rattle.std.proofs.lemmas.Bool.{cond-true}
-use Rattle.uring_volume.specs.Volume.{but, with_event}
-use Rattle.uring_volume.specs.declared.event.Event.TheVariants.{SyncEnded}
+use Rattle.uring_volume.proofs.Common.{SyncEnded, but, cond-true, with_event}
 use Rattle.uring_volume.proofs.Numbers.{carried, held_sync_end}
 use Rattle.uring_volume.proofs.Steps.{pushed}
 use Rattle.uring_volume.proofs.volume.Volume.end_sync.Goals as goal

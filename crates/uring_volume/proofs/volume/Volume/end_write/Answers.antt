@@ -1,7 +1,5 @@
 use Rattle.std.proofs.Common.{sym, ◌∙◌, refl, reverse, arith}
-use Rattle.std.proofs.lemmas.Bool.{cond-true}
-use Rattle.uring_volume.specs.Volume.{but, with_event}
-use Rattle.uring_volume.specs.declared.event.Event.TheVariants.{WriteEnded}
+use Rattle.uring_volume.proofs.Common.{WriteEnded, but, cond-true, with_event}
 use Rattle.uring_volume.proofs.Numbers.{carried, held_write_end}
 use Rattle.uring_volume.proofs.Steps.{pushed}
 use Rattle.uring_volume.proofs.volume.Volume.end_write.Goals as goal

@@ -1,7 +1,5 @@
 use Rattle.std.proofs.Common.{◌∙◌, refl, reverse, arith}
-use Rattle.std.proofs.lemmas.Bool.{cond-true}
-use Rattle.uring_volume.specs.Volume.{but, with_event}
-use Rattle.uring_volume.specs.declared.event.Event.TheVariants.{SyncFailed}
+use Rattle.uring_volume.proofs.Common.{SyncFailed, but, cond-true, with_event}
 use Rattle.uring_volume.proofs.Numbers.{carried, held_sync_failure}
 use Rattle.uring_volume.proofs.Steps.{pushed}
 use Rattle.uring_volume.proofs.volume.Volume.fail_sync.Goals as goal

@@ -1,7 +1,5 @@
 use Rattle.std.proofs.Common.{◌≡◌, length, subst, ap, sym, ◌∙◌, arith}
-use Rattle.std.specs.Prelude.{Ok}
-use Rattle.std.proofs.lemmas.List.{length-reverse}
-use Rattle.uring_volume.specs.Volume.{Volume, IsSound}
+use Rattle.uring_volume.proofs.Common.{IsSound, Ok, Volume, length-reverse}
 use Rattle.uring_volume.proofs.Folded.{folded_none, folded_more}
 use Rattle.uring_volume.proofs.FoldSearch.{none_in_nothing}
 use Rattle.uring_volume.proofs.volume.Volume.fold_in.Goals as goal

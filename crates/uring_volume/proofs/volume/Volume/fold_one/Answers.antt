@@ -1,6 +1,5 @@
 use Rattle.std.proofs.Common.{◌<◌, length, reverse, subst, ap, arith}
-use Rattle.uring_volume.specs.Volume.{Volume}
-use Rattle.uring_volume.specs.Folds.{IsFoldedFrom}
+use Rattle.uring_volume.proofs.Common.{IsFoldedFrom, Volume}
 use Rattle.uring_volume.proofs.Folded.{IsResult, made_of, held_result, folded_result, fewer_result, none_result}
 use Rattle.uring_volume.proofs.volume.Volume.fold_one.Goals as goal
 

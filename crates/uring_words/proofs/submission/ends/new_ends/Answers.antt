@@ -1,8 +1,7 @@
 use Rattle.std.proofs.Common.{◌≡◌, rules, refl, ap, ◌∙◌, arith, length}
 use Rattle.uring_words.specs.Sides.{app_part}
-use Rattle.uring_words.specs.Submission.Ends.{End, has_loaded}
+use Rattle.uring_words.proofs.Common.{End, Holder, has_loaded}
 use Rattle.uring_words.specs.Submission.Rule.{at_first}
-use Rattle.uring_words.specs.Submission.Steps.{Holder}
 use Rattle.uring_words.specs.declared.submission.view.Position.TheVariants as position
 use Rattle.uring_words.proofs.Plays.{opens}
 use Rattle.uring_words.proofs.SlotSeats.{splits}

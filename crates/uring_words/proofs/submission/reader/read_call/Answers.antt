@@ -1,6 +1,5 @@
 use Rattle.std.proofs.Common.{◌+◌, ◌<◌, length, arith, sym, ap, ◌∙◌, rules}
-use Rattle.uring_words.specs.Submission.Calls.{all_more}
-use Rattle.uring_words.specs.Submission.Ends.{known_of}
+use Rattle.uring_words.proofs.Common.{all_more, known_of}
 use Rattle.uring_words.proofs.Copying.{next_stands_first, one_read, front_more, reads_last, reads_close, call_ends}
 use Rattle.uring_words.proofs.submission.reader.read_call.Goals as goal
 

@@ -1,7 +1,5 @@
 use Rattle.std.proofs.Common.{◌≡◌, ◌+◌, ◌++◌, drop, length, take, vec_capacity, vec_len}
-use Rattle.uring_entry.specs.IndexWords.{word_of}
-use Rattle.uring_words.specs.Slots.{held_from}
-use Rattle.uring_words.specs.Submission.Calls.{all_more}
+use Rattle.uring_words.proofs.Common.{all_more, held_from, word_of}
 use Rattle.uring_words.proofs.submission.reader.read_call.Given as goal
 
 abbrev pub invariant-loop : goal.invariant-loop

@@ -1,7 +1,5 @@
 use Rattle.std.proofs.Common.{◌≡◌, ◌+◌, ◌<◌, [], ◌∷◌, ◌++◌, List, length, take, arith, sym, ap, ◌∙◌, append_assoc, append-nil, ⊎_elim}
-use Rattle.uring_ports.specs.declared.item.Item.{Item}
-use Rattle.uring_words.specs.Submission.Calls.{items_of}
-use Rattle.uring_words.specs.Submission.Ends.{known_of}
+use Rattle.uring_words.proofs.Common.{Item, items_of, known_of}
 use Rattle.uring_words.proofs.Copying.{next_stands_first, one_read, read_items_more}
 use Rattle.uring_words.proofs.submission.reader.read_items.Goals.{in-Close, in-More2}
 use Rattle.uring_words.proofs.submission.reader.read_items.Goals as goal

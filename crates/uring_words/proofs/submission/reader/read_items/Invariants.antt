@@ -1,7 +1,5 @@
 use Rattle.std.proofs.Common.{◌≡◌, ◌+◌, ◌-◌, ◌≤◌, ◌++◌, drop, length, take, vec_capacity, vec_len}
-use Rattle.uring_entry.specs.IndexWords.{word_of}
-use Rattle.uring_words.specs.Slots.{held_from}
-use Rattle.uring_words.specs.Submission.Calls.{items_of}
+use Rattle.uring_words.proofs.Common.{held_from, items_of, word_of}
 use Rattle.uring_words.proofs.submission.reader.read_items.Given as goal
 
 abbrev pub invariant-loop : goal.invariant-loop

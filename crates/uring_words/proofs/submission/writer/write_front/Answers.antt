@@ -1,6 +1,5 @@
 use Rattle.std.proofs.Common.{◌≡◌, ℕ, ◌+◌, ◌%◌, [], ◌∷◌, ◌++◌, take, length, arith, sym, ap, ◌∙◌, take_all, length-take-le}
-use Rattle.std.proofs.lemmas.List.{take_more}
-use Rattle.uring_words.specs.Submission.Calls.{all_more}
+use Rattle.uring_words.proofs.Common.{all_more, take_more}
 use Rattle.uring_words.specs.declared.submission.view.Position.TheVariants as position
 use Rattle.uring_words.proofs.CallLemmas.{more_length, more_append}
 use Rattle.uring_words.proofs.Handing.{held-length}

@@ -1,8 +1,5 @@
 use Rattle.std.proofs.Common.{◌≡◌, ◌+◌, List, ◌++◌, drop, length, take}
-use Rattle.uring_entry.specs.IndexWords.{word_of}
-use Rattle.uring_words.specs.Slots.{held_from}
-use Rattle.uring_words.specs.Submission.Calls.{all_more}
-use Rattle.uring_words.specs.declared.submission.view.Position.{Position}
+use Rattle.uring_words.proofs.Common.{Position, all_more, held_from, word_of}
 use Rattle.uring_words.proofs.submission.writer.write_front.Given as goal
 
 abbrev pub invariant-loop-item : goal.invariant-loop-item

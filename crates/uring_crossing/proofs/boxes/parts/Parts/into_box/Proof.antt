@@ -31,10 +31,8 @@ use denote.Triple.Spec.{triple_of}
 use denote.Triple.Statement.{Triple, Contract}
 use denote.Triple.Table.{entered}
 use denote.Triple.Walked.{says, Stays, stay_dropped, walk_of, ends_at, walk_Meets}
-use Rattle.std.proofs.alloc.Calls.{token, Goes-blank}
+use Rattle.uring_crossing.proofs.Common.{B, Bx, D, Goes-blank, P, R, args, box_in, box_out, box_ty, box_typed, token, word}
 use Rattle.std.specs.Box.Ownership.{box_owns}
-use Rattle.std.proofs.BoxSteps.Form.{Bx, D, R, P, B, args, box_ty, word, box_typed}
-use Rattle.std.proofs.BoxSteps.Steps.{box_out, box_in}
 use Rattle.uring_crossing.specs.contracts.boxes.parts.Parts as parts
 use Rattle.std.specs.contracts.boxed.Box.from_raw as Fr
 use Rattle.std.proofs.boxed.Box.from_raw.Symbol as raw_sym

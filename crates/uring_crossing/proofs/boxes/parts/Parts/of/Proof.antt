@@ -33,10 +33,8 @@ use denote.Triple.Spec.{triple_of}
 use denote.Triple.Statement.{Triple, Contract}
 use denote.Triple.Table.{entered}
 use denote.Triple.Walked.{says, Stays, stay_dropped, walk_of, ends_at, walk_Meets}
-use Rattle.std.proofs.alloc.Calls.{token, handle_tells, Goes-blank}
+use Rattle.uring_crossing.proofs.Common.{B, Bx, D, Goes-blank, P, R, box_in, box_out, box_typed, handle_tells, token, word, τ}
 use Rattle.std.specs.Box.Ownership.{box_owns}
-use Rattle.std.proofs.BoxSteps.Form.{Bx, D, τ, R, P, B, word, box_typed}
-use Rattle.std.proofs.BoxSteps.Steps.{box_out, box_in}
 use Rattle.uring_crossing.specs.contracts.boxes.parts.Parts as parts
 use Rattle.std.specs.contracts.boxed.Box.into_raw_with_allocator as Ra
 use Rattle.std.proofs.boxed.Box.into_raw_with_allocator.Symbol as raw_sym

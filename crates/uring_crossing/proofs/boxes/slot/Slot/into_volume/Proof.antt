@@ -1,7 +1,7 @@
 -- `into_volume` moves two fields, and what they own goes with them.
 use mathlib.Core.Path.{refl, sym, subst, ap}
 use mathlib.Core.List.{List, [], ◌∷◌, ◌++◌}
-use Rattle.std.specs.Prelude.{Option, IsSome}
+use Rattle.uring_crossing.proofs.Common.{D, Held, IsSome, Option, box_in, box_out, box_typed, volume_of, word}
 use seplogic.Ra.Ura.{Ura}
 use mir.Val.{Val}
 use base.Logic.{SProp, ent, id⊢}
@@ -23,9 +23,6 @@ use denote.Steps.{nothing, heard}
 use denote.Triple.Spec.{triple_of}
 use denote.Triple.Table.{entered}
 use denote.Triple.Walked.{says, Stays, stay_dropped, walk_of, ends_at, Goes-dropped, walk_Meets}
-use Rattle.std.proofs.BoxSteps.Form.{D, word, box_typed}
-use Rattle.std.proofs.BoxSteps.Steps.{box_out, box_in}
-use Rattle.uring_crossing.specs.Boxes.Slots.{Held, volume_of}
 use Rattle.uring_crossing.specs.contracts.boxes.slot.Slot as Slot
 use Rattle.uring_crossing.proofs.Holding.{volume_held, FromSlot as From}
 use Rattle.uring_crossing.proofs.VolumeBox.{E}

@@ -27,10 +27,9 @@ use denote.Struct.Struct.{within}
 use denote.Triple.Spec.{triple_of}
 use denote.Triple.Table.{entered}
 use denote.Triple.Walked.{says, Stays, stay_dropped, walk_of, ends_at, Goes-dropped, walk_Meets}
-use Rattle.std.specs.Prelude.{None}
+use Rattle.uring_crossing.proofs.Common.{None, handle_tells, α}
 use Rattle.std.specs.contracts.alloc.Global as Heap
 use Rattle.std.proofs.ResultValues.{and_tt}
-use Rattle.std.proofs.alloc.Calls.{α, handle_tells}
 use Rattle.uring_crossing.proofs.CoreBox.{E}
 use Rattle.uring_crossing.specs.contracts.boxes.slot.Slot as Slot
 use Rattle.uring_crossing.specs.contracts.boxes.slot.Slot.none as F

@@ -1,7 +1,7 @@
 -- `of_core` moves two fields, and what they own goes with them.
 use mathlib.Core.Path.{refl, sym, subst}
 use mathlib.Core.List.{List, [], ◌∷◌, ◌++◌}
-use Rattle.std.specs.Prelude.{Some}
+use Rattle.uring_crossing.proofs.Common.{B, D, Some, a_core, box_in, box_out, box_typed, word}
 use seplogic.Ra.Ura.{Ura}
 use mir.Val.{Val}
 use base.Logic.{SProp, ent, emp, id⊢}
@@ -23,9 +23,6 @@ use denote.Steps.{nothing}
 use denote.Triple.Spec.{triple_of}
 use denote.Triple.Table.{entered}
 use denote.Triple.Walked.{says, Stays, stay_dropped, walk_of, ends_at, Goes-dropped, walk_Meets}
-use Rattle.std.proofs.BoxSteps.Form.{D, B, word, box_typed}
-use Rattle.std.proofs.BoxSteps.Steps.{box_out, box_in}
-use Rattle.uring_crossing.specs.Boxes.Slots.{a_core}
 use Rattle.uring_crossing.proofs.CoreBox.{E, FromParts as From}
 use Rattle.uring_crossing.specs.contracts.boxes.slot.Slot.of_core as F
 use Rattle.uring_crossing.specs.contracts.boxes.slot.Slot.of_core.Key.{name as #self}

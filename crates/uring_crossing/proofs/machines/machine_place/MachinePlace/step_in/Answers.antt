@@ -1,6 +1,5 @@
 use Rattle.std.proofs.Common.{ℕ, ◌≤◌, subst, sym, ap, ◌∙◌}
-use Rattle.std.specs.Prelude.{IsSomeAnd}
-use Rattle.uring_core.specs.Histories.{History, world}
+use Rattle.uring_crossing.proofs.Common.{History, IsSomeAnd, world}
 use Rattle.uring_machine.specs.Machine.{Machine, Fits, IsUnrefused, elements_for_step}
 use Rattle.uring_crossing.specs.Boxes.Boxes.{boxed}
 use Rattle.uring_crossing.proofs.machines.machine_place.MachinePlace.step_in.Goals as goal

@@ -1,7 +1,6 @@
 use Rattle.std.proofs.Common.{Some, None, rules}
 use Rattle.std.proofs.lemmas.Int.{to_z-of_z}
-use Rattle.std.specs.Int.{w32}
-use Rattle.uring_operations.specs.Entries.Timeouts.{running}
+use Rattle.uring_enter.proofs.Common.{running, w32}
 use Rattle.uring_enter.proofs.TimesKept.{row_is, row_is_none, none_runs, none_ends, outcome_told}
 use Rattle.uring_enter.proofs.time.times.Times.end.Goals as goal
 

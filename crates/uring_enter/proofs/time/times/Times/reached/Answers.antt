@@ -1,6 +1,5 @@
-use Rattle.std.specs.Prelude.{ℕ}
+use Rattle.uring_enter.proofs.Common.{IsReachedOf, running, ℕ}
 use Rattle.std.proofs.Common.{subst}
-use Rattle.uring_operations.specs.Entries.Timeouts.{running, IsReachedOf}
 use Rattle.uring_enter.proofs.TimesKept.{at_running}
 use Rattle.uring_enter.proofs.time.times.Times.reached.Goals as goal
 

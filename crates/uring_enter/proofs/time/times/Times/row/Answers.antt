@@ -1,5 +1,4 @@
-use Rattle.std.specs.Prelude.{MatchOption}
-use Rattle.uring_operations.specs.Entries.Timeouts.{HasNone, IsRow}
+use Rattle.uring_enter.proofs.Common.{HasNone, IsRow, MatchOption}
 use Rattle.uring_enter.proofs.TimesKept.{at_running}
 use Rattle.uring_enter.proofs.time.times.Times.row.Goals as goal
 

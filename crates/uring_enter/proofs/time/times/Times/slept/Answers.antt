@@ -1,6 +1,5 @@
 use Rattle.std.proofs.Common.{◌∷◌, subst}
-use Rattle.uring_operations.specs.Entries.Timeouts.{Clock}
-use Rattle.uring_enter.specs.Time.Kept.{KeepsTime}
+use Rattle.uring_enter.proofs.Common.{Clock, KeepsTime}
 use Rattle.uring_enter.proofs.time.times.Times.slept.Goals as goal
 
 pub returns-then-is_real : goal.returns-then-is_real

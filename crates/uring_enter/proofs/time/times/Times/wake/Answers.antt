@@ -1,7 +1,6 @@
 use Rattle.std.proofs.Common.{rules, subst}
 use Rattle.std.proofs.lemmas.Int.{to_z-of_z}
-use Rattle.std.specs.Int.{w32}
-use Rattle.uring_enter.specs.Time.Kept.{KeepsTime}
+use Rattle.uring_enter.proofs.Common.{KeepsTime, w32}
 use Rattle.uring_enter.specs.Waiting.Sleeps.{after_end, reached}
 use Rattle.uring_enter.proofs.time.times.Times.wake.Goals as goal
 

@@ -1,10 +1,5 @@
 use Rattle.std.proofs.Common.{◌≡◌, ℕ, ◌+◌, false, ◌++◌, length, arith, sym, ap, ◌∙◌, subst, append_assoc, length-append}
-use Rattle.uring_entry.specs.IndexWords.{word_of}
-use Rattle.uring_ports.specs.Ports.{Pulls}
-use Rattle.uring_words.specs.Slots.{held_from}
-use Rattle.uring_words.specs.Submission.Calls.{AreWhole, has_close_mark, put_of}
-use Rattle.uring_words.specs.Submission.Ends.{AreRead, End, ReaderRests, kernel_knows, taken_of}
-use Rattle.uring_words.specs.Submission.Steps.{Holder}
+use Rattle.uring_words.proofs.Common.{AreRead, AreWhole, End, Holder, Pulls, ReaderRests, has_close_mark, held_from, kernel_knows, put_of, taken_of, word_of}
 use Rattle.uring_words.proofs.CallLemmas.{whole_both}
 use Rattle.uring_words.proofs.Copying.{head_allowed, head_taken, pulls}
 use Rattle.uring_words.proofs.submission.reader.CallReader.take_call.Goals as goal

@@ -1,7 +1,5 @@
 use Rattle.std.proofs.Common.{◌++◌, arith, sym, ap, ◌∙◌}
-use Rattle.uring_words.specs.Submission.Calls.{items_of}
-use Rattle.uring_words.specs.Submission.Ends.{End, published_of, taken_of}
-use Rattle.uring_words.specs.Submission.Steps.{Holder}
+use Rattle.uring_words.proofs.Common.{End, Holder, items_of, published_of, taken_of}
 use Rattle.uring_words.proofs.CallLemmas.{leaves}
 use Rattle.uring_words.proofs.SlotSeats.{kernel_joins}
 use Rattle.uring_words.proofs.submission.reader.CallReader.take_unsent.Goals as goal

@@ -1,7 +1,5 @@
 use Rattle.std.proofs.Common.{◌∷◌, ◌++◌, [], arith, ap, ◌∙◌}
-use Rattle.uring_words.specs.Submission.Calls.{all_more}
-use Rattle.uring_words.specs.Submission.Ends.{End, app_knows}
-use Rattle.uring_words.specs.Submission.Steps.{tail_stored}
+use Rattle.uring_words.proofs.Common.{End, all_more, app_knows, tail_stored}
 use Rattle.uring_words.proofs.Copying.{last_stands_first, publishes, tail_allowed, tail_published}
 use Rattle.uring_words.proofs.submission.writer.CallWriter.publish.Goals as goal
 

@@ -1,7 +1,5 @@
 use Rattle.std.proofs.Common.{false, arith, sym, ap, ◌∙◌}
-use Rattle.uring_ports.specs.Ports.{with_call}
-use Rattle.uring_words.specs.Submission.Calls.{put_of}
-use Rattle.uring_words.specs.Submission.Ends.{End}
+use Rattle.uring_words.proofs.Common.{End, put_of, with_call}
 use Rattle.uring_words.proofs.CallLemmas.{holds_call, places}
 use Rattle.uring_words.proofs.submission.writer.CallWriter.put_call.Goals as goal
 

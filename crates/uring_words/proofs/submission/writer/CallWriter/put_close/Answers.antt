@@ -1,6 +1,5 @@
 use Rattle.std.proofs.Common.{false, arith, ap}
-use Rattle.uring_words.specs.Submission.Calls.{put_of}
-use Rattle.uring_words.specs.Submission.Ends.{End}
+use Rattle.uring_words.proofs.Common.{End, put_of}
 use Rattle.uring_words.proofs.CallLemmas.{holds_close, places}
 use Rattle.uring_words.proofs.submission.writer.CallWriter.put_close.Goals as goal
 

@@ -1,0 +1,17 @@
+-- The names that several of these files cite, passed on from one place. Declares nothing.
+pub use Rattle.std.proofs.BoxSteps.Form.{B, Bx, D, P, R, args, box_ty, box_typed, word, τ}
+pub use Rattle.std.proofs.BoxSteps.Steps.{box_in, box_out}
+pub use Rattle.std.proofs.alloc.Calls.{Goes-blank, handle_tells, token, α}
+pub use Rattle.std.proofs.lemmas.Bool.{and_parts, both_ways, cases_Bool, eqb-false, eqb-true}
+pub use Rattle.std.proofs.lemmas.List.{append_assoc, drop_min, length-drop, length-map, length-take, map-append, take_min}
+pub use Rattle.std.proofs.lemmas.Result.{IfOk-weaker, on_ok_weaker}
+pub use Rattle.std.specs.Prelude.{All, IfSome, IsErrOf, IsSome, IsSomeAnd, None, Option, Some, bit_and, codes, nat_lt, string_bytes, sum_by}
+pub use Rattle.std.specs.contracts.impls.GlobalAllocator.TheImpl.{dict, ghosts}
+pub use Rattle.uring_core.specs.Histories.{Event, History, world}
+pub use Rattle.uring_core.specs.declared.step.Step.{Step}
+pub use Rattle.uring_crossing.specs.Boxes.Slots.{Held, a_core, a_crash_machine, a_machine, a_volume, core_of, core_row, crash_machine_of, crash_machine_row, machine_of, machine_row, outcomes_of, outcomes_row, some_outcomes, volume_of, volume_row}
+pub use Rattle.uring_crossing.specs.CoreWords.Cuts.{cut}
+pub use Rattle.uring_crossing.specs.Machines.Crashing.{AreShort, GoesOn, IsNoStart, TellsUnrefusedOn}
+pub use Rattle.uring_crossing.specs.Traces.SetupLines.{named_if, setup_line, setup_tokens, token_if}
+pub use Rattle.uring_entry.specs.Layout.{Sqe}
+pub use Rattle.uring_entry.specs.Setup.{Setup}
