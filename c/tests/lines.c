@@ -125,10 +125,12 @@ static void refusals(void)
 
 static void room(void)
 {
+    const struct wulgach_step step = {.kind = WULGACH_STORE_TAIL};
+    const struct wulgach_answer answer = {.kind = WULGACH_TAIL, .word = 5};
     uint8_t line[4] = "....";
     uint64_t length = 0;
-    check(wulgach_trace_line(&lines[4].step, &lines[4].answer, line, 3, &length) == 0, "less room");
-    check(length == strlen(lines[4].line) && memcmp(line, "tai.", 4) == 0, "what there is room for");
+    check(wulgach_trace_line(&step, &answer, line, 3, &length) == 0, "less room");
+    check(length == strlen("tail = tail 5") && memcmp(line, "tai.", 4) == 0, "what there is room for");
     check(wulgach_trace_setup(&setups[0].setup, line, 2, &length) == 0 && length == strlen(setups[0].line) && memcmp(line, "sei.", 4) == 0, "a set-up with less room");
 }
 
