@@ -64,8 +64,9 @@ int32_t wulgach_core_new(struct wulgach_core *core, const struct wulgach_setup *
 int32_t wulgach_core_step(struct wulgach_core *core, const struct wulgach_step *step, struct wulgach_answer *answer);
 
 /* Writes a step with its answer as the line of a trace, without its end: as much as there is room for, and how many bytes it has.
- * What stands before the answer is read as this step. -22 if the words give no step, or no answer, or the step has no such line, as
- * a FILL with other fields than its operation's form has; -12 if memory was refused. Then nothing is written. */
+ * What stands before the answer is read as this step. -22 if the words give no step, or no answer, or no such line is written, as of
+ * a FILL with other fields than its operation's form has, or of a write with its data; -12 if memory was refused. Then nothing is
+ * written. */
 enum { WULGACH_MOST_OF_LINE = 512 };
 int32_t wulgach_trace_line(const struct wulgach_step *step, const struct wulgach_answer *answer, uint8_t *line, size_t room, uint64_t *len);
 

@@ -19,7 +19,6 @@ static const struct {
     {"fill 0 nop 0 - = ok", {.kind = WULGACH_FILL}, {.kind = WULGACH_FILLED}},
     {"fill 0 nop 18446744073709551615 DLHAS = ok", {.kind = WULGACH_FILL, .entry = {[OP] = 0x5e00, [USER_DATA] = UINT64_MAX}}, {.kind = WULGACH_FILLED}},
     {"fill 0 read 7 L 1 3 4 = ok", {.kind = WULGACH_FILL, .entry = {[OP] = 4294968342, [OFF] = 3, [LEN] = 4, [USER_DATA] = 7}}, {.kind = WULGACH_FILLED}},
-    {"fill 0 write 1 - 0 0 61626364 = ok", {.kind = WULGACH_FILL, .entry = {[OP] = 23, [LEN] = 4, [USER_DATA] = 1, [DATA] = 1684234849}}, {.kind = WULGACH_FILLED}},
     {"fill 0 fsync 2 D -1 = ok", {.kind = WULGACH_FILL, .entry = {[OP] = 0xffffffff00000203, [USER_DATA] = 2}}, {.kind = WULGACH_FILLED}},
     {"fill 0 cancelall 8 - 5 = ok", {.kind = WULGACH_FILL, .entry = {[OP] = 14, [ADDR] = 5, [LEN] = 4294967296, [USER_DATA] = 8}}, {.kind = WULGACH_FILLED}},
     {"fill 0 op 99 5 S = ok", {.kind = WULGACH_FILL, .entry = {[OP] = 0x4063, [USER_DATA] = 5}}, {.kind = WULGACH_FILLED}},
@@ -109,6 +108,7 @@ static void refusals(void)
     want_refused((struct wulgach_step){.kind = 15}, ok, -22, "no step");
     want_refused(tail, (struct wulgach_answer){.kind = 29}, -22, "no answer");
     want_refused((struct wulgach_step){.kind = WULGACH_FILL, .entry = {[5] = 1}}, ok, -22, "a no-op with another field");
+    want_refused((struct wulgach_step){.kind = WULGACH_FILL, .entry = {[OP] = 23, [LEN] = 4, [USER_DATA] = 1, [DATA] = 1684234849}}, ok, -22, "a write with its data");
     want_no_setup((struct wulgach_setup){.sq = 0, .files = 1}, -22, "no set-up");
     want_no_setup((struct wulgach_setup){.sq = 4, .cq = 2, .files = 1, .has_cq = true}, -22, "a completion ring that is too small");
     want_no_setup((struct wulgach_setup){.sq = 4}, -22, "no files");
