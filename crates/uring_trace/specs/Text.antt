@@ -10,7 +10,7 @@ use Rattle.uring_text.specs.Completions.{completion_text}
 abbrev pub entry_text : Sqe → List ℕ
 entry_text e = codes "entry " ++ decimal (user_data_of e)
 
--- the words of an answer that says no more
+-- the words of an answer that says no more, and none of one that does
 abbrev pub word_of : Answer → List ℕ
 word_of answer.Filled = codes "ok"
 word_of answer.NoSlot = codes "no slot"
@@ -32,7 +32,15 @@ word_of answer.Unknown = codes "unknown"
 word_of answer.NotRunning = codes "not running"
 word_of answer.Nothing = codes "none"
 word_of answer.Shut = codes "ok"
-word_of _ = []
+word_of (answer.Tail _) = []
+word_of (answer.Head _) = []
+word_of (answer.Call _) = []
+word_of (answer.Entry _) = []
+word_of (answer.Taken _ _ _) = []
+word_of (answer.Ended _ _) = []
+word_of (answer.Moved _) = []
+word_of (answer.Reaped _) = []
+word_of (answer.Next _) = []
 
 -- the text of an answer
 abbrev pub text_of : Answer → List ℕ
