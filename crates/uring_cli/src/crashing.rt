@@ -3,23 +3,12 @@
 ghost use Rattle.std.specs.Prelude.{◌<◌};
 
 use crate::fault::Fault;
-use crate::outlet::Outlet;
-use crate::paged::read_trace;
-use crate::{BAD_LINE, status_after, unless_closed};
+use crate::streams::{Outlet, read_in, write_out};
+use crate::{BAD_LINE, DONE, NOT_SO, status_after};
 use std::alloc::{AllocError, Global};
-use std::io::{Read, Write};
-use uring_crash::{Asked, Question, Reply, TraceFault, ask, crash};
+use std::io::Read;
+use uring_crash::{Asked, Question, Reply, ask, crash};
 use uring_options::Setup;
-use uring_text::{push_number, push_text};
-
-/// The exit status if all went well.
-const DONE: u8 = 0;
-
-/// The exit status if not every image has the bytes.
-const NOT_SO: u8 = 1;
-
-/// The exit status if there are more images than may be listed.
-const UNKNOWN: u8 = 3;
 
 /// How many images are listed if the command line doesn't say.
 const DEFAULT_MOST: u32 = 1_000;
@@ -123,7 +112,7 @@ fn run_each(
 ) -> Result<u8, Fault>
     requires { 0 < asked.now.unit }
 {
-    let trace = read_trace(rt.alloc(), &mut rt.stdin())?;
+    let trace = read_in(rt)?;
     let told = tell_each(rt, trace.as_slice(), setup, asked, question, most);
     drop(trace);
     told
@@ -173,25 +162,10 @@ fn count_lines(text: &[u8]) -> u64 {
 
 /// Writes the line that stands above an answer.
 fn write_head(rt: &HostRuntime, line: u64) -> Result<(), Fault> {
-    let Ok(head) = head_of(rt.alloc(), line) else {
-        return Err(Fault::Trace(TraceFault::Memory));
-    };
-    let mut output = Outlet::new(rt.stdout());
-    let written = match output.write_all(head.as_bytes()) {
-        Ok(()) => Ok(()),
-        Err(_) => Err(TraceFault::Write),
-    };
+    let head = format!(in rt.alloc(); "after line {line}:\n")?;
+    let written = write_out(rt, head.as_bytes());
     drop(head);
-    unless_closed(&output, written)
-}
-
-/// The line that stands above the answer after this line.
-fn head_of(alloc: Global, line: u64) -> Result<String, AllocError> {
-    let mut head = String::new(alloc);
-    push_text(&alloc, &mut head, "after line ")?;
-    push_number(&alloc, &mut head, line)?;
-    push_text(&alloc, &mut head, ":\n")?;
-    Ok(head)
+    written
 }
 
 /// What is asked after the lines of a trace that count.
@@ -229,7 +203,7 @@ fn run_one<R: Read>(
         setup,
         asked,
     );
-    Ok(status_after(unless_closed(&output, left)?))
+    Ok(status_after(output.unless_closed(left)?))
 }
 
 /// What is asked of all images.
@@ -253,7 +227,7 @@ fn run_question<R: Read>(
         asked,
         question,
     );
-    match unless_closed(&output, replied)? {
+    match output.unless_closed(replied)? {
         Reply::Answered => Ok(DONE),
         Reply::NotKept => Ok(NOT_SO),
         Reply::BadLine => Ok(BAD_LINE),
@@ -269,14 +243,13 @@ fn wanted(alloc: Global, words: &[&str], most: u32) -> Result<Question, Fault> {
     let Ok(off) = off.parse::<u32>() else {
         return Err(Fault::NoBytes);
     };
-    match bytes_of(alloc, digits) {
-        Ok(Some(bytes)) => Ok(Question::Keeps {
+    match bytes_of(alloc, digits)? {
+        Some(bytes) => Ok(Question::Keeps {
             off: u64::from(off),
             bytes,
             most,
         }),
-        Ok(None) => Err(Fault::NoBytes),
-        Err(error) => Err(Fault::Trace(TraceFault::from(error))),
+        None => Err(Fault::NoBytes),
     }
 }
 

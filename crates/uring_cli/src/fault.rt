@@ -1,5 +1,6 @@
 //! What can go wrong in a run of the program.
 
+use std::alloc::{AllocError, AllocFailed};
 use uring_options::OptionsFault;
 use uring_play::PlayFault;
 use uring_trace::TraceFault;
@@ -59,5 +60,17 @@ impl From<PlayFault> for Fault {
 impl From<OptionsFault> for Fault {
     fn from(fault: OptionsFault) -> Fault {
         Fault::Options(fault)
+    }
+}
+
+impl From<AllocError> for Fault {
+    fn from(_error: AllocError) -> Fault {
+        Fault::Trace(TraceFault::Memory)
+    }
+}
+
+impl<T: Drop> From<AllocFailed<T>> for Fault {
+    fn from(_error: AllocFailed<T>) -> Fault {
+        Fault::Trace(TraceFault::Memory)
     }
 }

@@ -1,18 +1,14 @@
 //! The run that fills the gaps of what was seen.
 
 use crate::fault::Fault;
-use crate::outlet::Outlet;
-use crate::paged::read_trace;
-use crate::{BAD_LINE, unless_closed};
+use crate::streams::{read_in, write_out};
+use crate::{BAD_LINE, DONE, most_of};
 use std::io::Write;
 use uring_options::Setup;
 use uring_seen::{Told, Verdict, fill_text};
 use uring_trace::TraceFault;
 
-/// The exit status if a history was found.
-const FOUND: u8 = 0;
-
-/// The exit status if there is none.
+/// The exit status if there is no history.
 const NOTHING: u8 = 1;
 
 /// The exit status if the search gave up.
@@ -20,19 +16,10 @@ const GAVE_UP: u8 = 3;
 
 /// A history that shows what standard input has, by a search that looks at so many at most.
 pub(crate) fn run_fill(rt: &HostRuntime, setup: &Setup, most: Option<u32>) -> Result<u8, Fault> {
-    let most = match most {
-        Some(most) => u64::from(most),
-        None => u64::MAX,
-    };
-    let seen = read_trace(rt.alloc(), &mut rt.stdin())?;
-    let told = match fill_text(rt.alloc(), setup, seen.as_slice(), most) {
-        Ok(told) => told,
-        Err(error) => {
-            drop(seen);
-            return Err(Fault::Trace(TraceFault::from(error)));
-        }
-    };
+    let seen = read_in(rt)?;
+    let told = fill_text(rt.alloc(), setup, seen.as_slice(), most_of(most));
     drop(seen);
+    let told = told?;
     let ended = tell(rt, &told);
     drop(told);
     ended
@@ -40,17 +27,13 @@ pub(crate) fn run_fill(rt: &HostRuntime, setup: &Setup, most: Option<u32>) -> Re
 
 /// Writes what was found: of a bad line to standard error.
 fn tell(rt: &HostRuntime, told: &Told) -> Result<u8, Fault> {
-    if told.verdict == Verdict::Bad {
-        return tell_bad(rt, told.text.as_slice());
+    let text = told.text.as_slice();
+    match told.verdict {
+        Verdict::Bad => return tell_bad(rt, text),
+        _ => write_out(rt, text)?,
     }
-    let mut output = Outlet::new(rt.stdout());
-    let written = match output.write_all(told.text.as_slice()) {
-        Ok(()) => Ok(()),
-        Err(_) => Err(TraceFault::Write),
-    };
-    unless_closed(&output, written)?;
     Ok(match told.verdict {
-        Verdict::Found => FOUND,
+        Verdict::Found => DONE,
         Verdict::Nothing => NOTHING,
         _ => GAVE_UP,
     })

@@ -1,25 +1,13 @@
 //! The runs that tell what calls may come to.
 
 use crate::fault::Fault;
-use crate::outlet::Outlet;
 use crate::powered::run_crashes;
-use crate::unless_closed;
+use crate::streams::{Outlet, read_in, write_out};
+use crate::{DONE, NOT_SO, UNKNOWN, most_of};
 use std::alloc::Global;
-use std::io::{ErrorKind, Read, Write};
 use uring_histories::write_history;
-use uring_litmus::{
-    Chosen, Claim, Ending, Form, Judged, PlayFault, choose, judge, list, parts_of_line,
-};
+use uring_litmus::{Chosen, Claim, Ending, Form, Judged, choose, judge, list, parts_of_line};
 use uring_options::Setup;
-
-/// The exit status if all went well.
-pub(crate) const DONE: u8 = 0;
-
-/// The exit status if a claim isn't so.
-pub(crate) const NOT_SO: u8 = 1;
-
-/// The exit status if the walk stopped before its end, so that not all is known.
-pub(crate) const UNKNOWN: u8 = 3;
 
 /// What is asked of the outcomes.
 #[derive(Clone, Copy, Drop)]
@@ -57,10 +45,7 @@ pub(crate) fn run_outcomes(
     wanted: &Wanted,
     lines: &[&str],
 ) -> Result<u8, Fault> {
-    let most = match wanted.most {
-        Some(most) => u64::from(most),
-        None => u64::MAX,
-    };
+    let most = most_of(wanted.most);
     if let Some(unit) = wanted.unit {
         return run_crashes(rt, setup, wanted.claim, unit, lines, most);
     }
@@ -75,7 +60,7 @@ pub(crate) fn run_outcomes(
 fn run_list(rt: &HostRuntime, setup: &Setup, form: Form, most: u64) -> Result<u8, Fault> {
     let (mut input, mut output) = (rt.stdin(), Outlet::new(rt.stdout()));
     let listed = list(rt.alloc(), &mut input, &mut output, setup, form, most);
-    let is_all = unless_closed(&output, listed)?;
+    let is_all = output.unless_closed(listed)?;
     Ok(if is_all { DONE } else { UNKNOWN })
 }
 
@@ -87,68 +72,68 @@ fn run_claim(
     lines: &[&str],
     most: u64,
 ) -> Result<u8, Fault> {
-    let alloc = rt.alloc();
-    let lines = all_parts(alloc, lines)?;
-    let ended = match read_calls(alloc, &mut rt.stdin()) {
-        Ok(input) => judge_input(rt, input.as_slice(), setup, claim, lines.as_slice(), most),
-        Err(fault) => Err(Fault::Play(fault)),
-    };
+    let lines = all_parts(rt.alloc(), lines)?;
+    let ended = judge_lines(rt, setup, claim, lines.as_slice(), most);
     drop(lines);
     ended
 }
 
-/// A claim of lines of these calls.
-fn judge_input(
+/// A claim of these lines.
+fn judge_lines(
     rt: &HostRuntime,
-    input: &[u8],
     setup: &Setup,
     claim: Claim,
     lines: &[Vec<String>],
     most: u64,
 ) -> Result<u8, Fault> {
-    let alloc = rt.alloc();
-    let mut reader = input;
-    match judge(alloc, &mut reader, setup, claim, lines, most)? {
-        Judged::Holds { count } => {
-            tell(
-                rt,
-                &format!(in alloc; "so of outcomes {count}\n").map_err(PlayFault::from)?,
-            )?;
-            Ok(DONE)
-        }
-        Judged::Unknown { count } => {
-            tell(
-                rt,
-                &format!(in alloc;
-                    "not known, so of outcomes {count} or more: stopped after {most} paths\n"
-                ).map_err(PlayFault::from)?,
-            )?;
-            Ok(UNKNOWN)
-        }
-        Judged::Fails { ending } => {
-            write_shown(rt, input, setup, ending)?;
-            Ok(NOT_SO)
-        }
-    }
-}
-
-/// Writes a text to standard output.
-pub(crate) fn tell(rt: &HostRuntime, text: &str) -> Result<(), Fault> {
-    let mut output = Outlet::new(rt.stdout());
-    let written = match output.write_all(text.as_bytes()) {
-        Ok(()) => Ok(()),
-        Err(_) => Err(PlayFault::Write),
+    let input = read_in(rt)?;
+    let mut reader = input.as_slice();
+    let ended = match judge(rt.alloc(), &mut reader, setup, claim, lines, most)? {
+        Judged::Holds { count } => tell_holds(rt, "outcomes", count),
+        Judged::Unknown { count } => tell_unknown(rt, "outcomes", count, most),
+        Judged::Fails { ending } => write_shown(rt, input.as_slice(), setup, ending, NOT_SO),
     };
-    unless_closed(&output, written)
+    drop(input);
+    ended
 }
 
-/// Writes the history of an outcome of these calls.
-fn write_shown(rt: &HostRuntime, input: &[u8], setup: &Setup, ending: Ending) -> Result<(), Fault> {
+/// Tells that a claim is so of so many.
+pub(crate) fn tell_holds(rt: &HostRuntime, what: &str, count: usize) -> Result<u8, Fault> {
+    tell(rt, &format!(in rt.alloc(); "so of {what} {count}\n")?, DONE)
+}
+
+/// Tells that a claim is so of so many or more, and that the walk stopped after so many paths.
+pub(crate) fn tell_unknown(
+    rt: &HostRuntime,
+    what: &str,
+    count: usize,
+    most: u64,
+) -> Result<u8, Fault> {
+    let text = format!(in rt.alloc();
+        "not known, so of {what} {count} or more: stopped after {most} paths\n"
+    )?;
+    tell(rt, &text, UNKNOWN)
+}
+
+/// Writes a text to standard output, and returns a status.
+pub(crate) fn tell(rt: &HostRuntime, text: &str, status: u8) -> Result<u8, Fault> {
+    write_out(rt, text.as_bytes())?;
+    Ok(status)
+}
+
+/// Writes the history of an outcome of these calls, and returns a status.
+fn write_shown(
+    rt: &HostRuntime,
+    input: &[u8],
+    setup: &Setup,
+    ending: Ending,
+    status: u8,
+) -> Result<u8, Fault> {
     let mut output = Outlet::new(rt.stdout());
     let written = write_history(rt.alloc(), &mut output, setup, input, &ending);
     drop(ending);
-    if unless_closed(&output, written)? {
-        Ok(())
+    if output.unless_closed(written)? {
+        Ok(status)
     } else {
         Err(Fault::NoHistory)
     }
@@ -156,24 +141,28 @@ fn write_shown(rt: &HostRuntime, input: &[u8], setup: &Setup, ending: Ending) ->
 
 /// The parts of each of these lines.
 pub(crate) fn all_parts(alloc: Global, lines: &[&str]) -> Result<Vec<Vec<String>>, Fault> {
+    let mut all = Vec::new(alloc);
+    match push_parts(alloc, &mut all, lines) {
+        Ok(()) => Ok(all),
+        Err(fault) => {
+            drop(all);
+            Err(fault)
+        }
+    }
+}
+
+/// Appends the parts of each of these lines.
+fn push_parts(alloc: Global, all: &mut Vec<Vec<String>>, lines: &[&str]) -> Result<(), Fault> {
     if lines.is_empty() {
         return Err(Fault::NoLine(0));
     }
-    let mut all = Vec::new(alloc);
     for (at, line) in lines.iter().enumerate() {
-        match parts_of_line(alloc, line) {
-            Ok(Some(parts)) => all.push(parts).map_err(PlayFault::from)?,
-            Ok(None) => {
-                drop(all);
-                return Err(Fault::NoLine((at as u64).saturating_add(1)));
-            }
-            Err(error) => {
-                drop(all);
-                return Err(Fault::Play(PlayFault::from(error)));
-            }
+        match parts_of_line(alloc, line)? {
+            Some(parts) => all.push(parts)?,
+            None => return Err(Fault::NoLine((at as u64).saturating_add(1))),
         }
     }
-    Ok(all)
+    Ok(())
 }
 
 /// A history of one outcome.
@@ -184,15 +173,14 @@ fn run_explained(
     most: u64,
     number: u32,
 ) -> Result<u8, Fault> {
-    let input = read_calls(rt.alloc(), &mut rt.stdin())?;
+    let input = read_in(rt)?;
     let mut reader = input.as_slice();
-    match choose(rt.alloc(), &mut reader, setup, form, most, number)? {
-        Chosen::Outcome { ending, .. } => {
-            write_shown(rt, input.as_slice(), setup, ending)?;
-            Ok(DONE)
-        }
+    let ended = match choose(rt.alloc(), &mut reader, setup, form, most, number)? {
+        Chosen::Outcome { ending, .. } => write_shown(rt, input.as_slice(), setup, ending, DONE),
         Chosen::Missing { count, is_all } => Err(missing(number, count as u64, is_all)),
-    }
+    };
+    drop(input);
+    ended
 }
 
 /// That there is no outcome of this number, but so many, which are all or those that were found.
@@ -201,15 +189,5 @@ fn missing(number: u32, count: u64, is_all: bool) -> Fault {
         Fault::NoOutcome(number, count)
     } else {
         Fault::NotFound(number, count)
-    }
-}
-
-/// All that a reader has.
-fn read_calls<R: Read>(alloc: Global, reader: &mut R) -> Result<Vec<u8>, PlayFault> {
-    let mut calls = Vec::new(alloc);
-    match reader.read_to_end(&mut calls) {
-        Ok(_) => Ok(calls),
-        Err(error) if error.kind() == ErrorKind::OutOfMemory => Err(PlayFault::Memory),
-        Err(_) => Err(PlayFault::Read),
     }
 }

@@ -8,9 +8,9 @@ mod fault;
 mod filled;
 mod listing;
 mod moments;
-mod outlet;
 mod paged;
 mod powered;
+mod streams;
 mod strict;
 mod telling;
 
@@ -19,8 +19,8 @@ use crate::fault::Fault;
 use crate::filled::run_fill;
 use crate::listing::{Wanted, claim_of, run_outcomes};
 use crate::moments::run_early;
-use crate::outlet::Outlet;
 use crate::paged::{run_page, run_recorded_page};
+use crate::streams::Outlet;
 use crate::strict::StrictReader;
 use crate::telling::tell;
 use std::alloc::{AllocError, Global};
@@ -39,6 +39,12 @@ use uring_trace::{TraceFault, explain, trace};
 /// The exit status if all went well.
 pub(crate) const DONE: u8 = 0;
 
+/// The exit status if what is claimed isn't so.
+pub(crate) const NOT_SO: u8 = 1;
+
+/// The exit status if a search or a walk stopped before its end, so that not all is known.
+pub(crate) const UNKNOWN: u8 = 3;
+
 /// The exit status if an answer of a recorded trace isn't called for.
 pub(crate) const WRONG: u8 = 3;
 
@@ -48,7 +54,7 @@ pub(crate) const BAD_LINE: u8 = 4;
 fn main(rt: HostRuntime) -> ExitCode {
     match run(&rt, rt) {
         Ok(status) => ExitCode::from(status),
-        Err(fault) => ExitCode::from(tell(rt.alloc(), &mut rt.stderr(), &fault)),
+        Err(fault) => ExitCode::from(tell(&rt, &fault)),
     }
 }
 
@@ -57,9 +63,8 @@ fn run<R: Threads + Wait + Copy + Send + 'static>(
     rt: &HostRuntime,
     threads: R,
 ) -> Result<u8, Fault> {
-    let alloc = rt.alloc();
     let words = words(rt)?;
-    let Ok(texts) = texts(alloc, words.as_slice()) else {
+    let Ok(texts) = texts(rt.alloc(), words.as_slice()) else {
         drop(words);
         return Err(Fault::Trace(TraceFault::Memory));
     };
@@ -99,20 +104,21 @@ fn run_words<R: Threads + Wait + Copy + Send + 'static>(
     threads: R,
     words: &[&str],
 ) -> Result<u8, Fault> {
-    let alloc = rt.alloc();
     let count = count_options(words);
     let lines = after(words, count);
-    match options(alloc, &words[..count])? {
+    match options(rt.alloc(), &words[..count])? {
         Options::Play(setup, workers) => {
             let (mut input, mut output) = (rt.stdin(), Outlet::new(rt.stdout()));
+            let alloc = rt.alloc();
             let played = play(threads, alloc, &mut input, &mut output, &setup, workers);
-            unless_closed(&output, played)?;
+            output.unless_closed(played)?;
             Ok(DONE)
         }
         Options::Shared(setup, workers) => {
             let (mut input, mut output) = (rt.stdin(), Outlet::new(rt.stdout()));
+            let alloc = rt.alloc();
             let played = play_shared(threads, alloc, &mut input, &mut output, &setup, workers);
-            unless_closed(&output, played)?;
+            output.unless_closed(played)?;
             Ok(DONE)
         }
         Options::Trace {
@@ -186,18 +192,11 @@ fn texts(alloc: Global, words: &[String]) -> Result<Vec<&str>, AllocError> {
     Ok(texts)
 }
 
-/// What a command came to that wrote to this output, unless nobody reads it any more.
-fn unless_closed<W: Write + Drop, T: Drop, E: Drop>(
-    output: &Outlet<W>,
-    ended: Result<T, E>,
-) -> Result<T, Fault>
-where
-    Fault: From<E>,
-{
-    match ended {
-        Ok(done) => Ok(done),
-        Err(_) if output.is_closed() => Err(Fault::Closed),
-        Err(fault) => Err(Fault::from(fault)),
+/// The number of an option that bounds a search, or no bound.
+pub(crate) fn most_of(most: Option<u32>) -> u64 {
+    match most {
+        Some(most) => u64::from(most),
+        None => u64::MAX,
     }
 }
 
@@ -214,7 +213,7 @@ fn run_steps(rt: &HostRuntime, setup: &Setup, is_echo: bool, is_strict: bool) ->
 fn run_trace(rt: &HostRuntime, setup: &Setup, is_echo: bool) -> Result<u8, Fault> {
     let (mut input, mut output) = (rt.stdin(), Outlet::new(rt.stdout()));
     let traced = trace(rt.alloc(), &mut input, &mut output, setup, is_echo);
-    unless_closed(&output, traced)?;
+    output.unless_closed(traced)?;
     Ok(DONE)
 }
 
@@ -229,7 +228,7 @@ fn run_strict(rt: &HostRuntime, setup: &Setup, is_echo: bool) -> Result<u8, Faul
     if is_refused {
         return Err(Fault::Trace(TraceFault::Memory));
     }
-    unless_closed(&output, traced)?;
+    output.unless_closed(traced)?;
     told
 }
 
@@ -259,14 +258,14 @@ fn ends_of(is_apart: bool, has_results: bool) -> Ends {
 fn run_check(rt: &HostRuntime, setup: &Setup, is_all: bool, ends: Ends) -> Result<u8, Fault> {
     let (mut input, mut output) = (rt.stdin(), Outlet::new(rt.stdout()));
     let checked = check(rt.alloc(), &mut input, &mut output, setup, is_all, ends);
-    Ok(status_of(unless_closed(&output, checked)?))
+    Ok(status_of(output.unless_closed(checked)?))
 }
 
 /// An explained trace over the standard streams.
 fn run_explain(rt: &HostRuntime, setup: &Setup) -> Result<u8, Fault> {
     let (mut input, mut output) = (rt.stdin(), Outlet::new(rt.stdout()));
     let explained = explain(rt.alloc(), &mut input, &mut output, &mut rt.stderr(), setup);
-    Ok(status_after(unless_closed(&output, explained)?))
+    Ok(status_after(output.unless_closed(explained)?))
 }
 
 /// The graph of the trace that standard input has.
@@ -284,14 +283,14 @@ fn run_graph(rt: &HostRuntime, setup: &Setup, at: Option<u32>) -> Result<u8, Fau
         setup,
         at,
     );
-    Ok(status_after(unless_closed(&output, drawn)?))
+    Ok(status_after(output.unless_closed(drawn)?))
 }
 
 /// The timeline of the trace that standard input has.
 fn run_timeline(rt: &HostRuntime, setup: &Setup) -> Result<u8, Fault> {
     let (mut input, mut output) = (rt.stdin(), Outlet::new(rt.stdout()));
     let drawn = timeline(rt.alloc(), &mut input, &mut output, &mut rt.stderr(), setup);
-    Ok(status_after(unless_closed(&output, drawn)?))
+    Ok(status_after(output.unless_closed(drawn)?))
 }
 
 /// The exit status after lines of which some may have been bad.
@@ -311,10 +310,10 @@ fn status_of(verdict: Verdict) -> u8 {
 /// The words of the command line.
 fn words(rt: &HostRuntime) -> Result<Vec<String>, Fault> {
     match env::args(rt) {
-        Ok(args) => Ok(args.collect(rt.alloc()).map_err(TraceFault::from)?),
-        Err(error) => match error.kind() {
-            ErrorKind::OutOfMemory => Err(Fault::Trace(TraceFault::Memory)),
-            _ => Err(Fault::Options(not_text(rt.alloc()))),
-        },
+        Ok(args) => Ok(args.collect(rt.alloc())?),
+        Err(error) if error.kind() == ErrorKind::OutOfMemory => {
+            Err(Fault::Trace(TraceFault::Memory))
+        }
+        Err(_) => Err(Fault::Options(not_text(rt.alloc()))),
     }
 }

@@ -1,74 +1,45 @@
 //! The run that judges a recorded trace whose operations may take effect at any moment between issue and finish.
 
 use crate::fault::Fault;
-use crate::outlet::Outlet;
-use crate::paged::read_trace;
-use crate::{BAD_LINE, DONE, WRONG, unless_closed};
+use crate::streams::{read_in, write_out};
+use crate::{BAD_LINE, DONE, WRONG, most_of};
 use std::alloc::{AllocError, Global};
-use std::io::Write;
 use uring_options::Setup;
 use uring_seen::{Early, check_early};
-use uring_text::{KeptLine, push_number, push_text, push_visible_line};
-use uring_trace::{Language, TraceFault, push_line_flaw};
+use uring_text::{KeptLine, push_text, push_visible_line};
+use uring_trace::{Language, push_line_flaw};
 
 /// What standard input has, judged so, in so many moves at most.
 pub(crate) fn run_early(rt: &HostRuntime, setup: &Setup, most: Option<u32>) -> Result<u8, Fault> {
-    let most = match most {
-        Some(most) => u64::from(most),
-        None => u64::MAX,
-    };
-    let trace = read_trace(rt.alloc(), &mut rt.stdin())?;
-    let judged = judge(rt.alloc(), setup, trace.as_slice(), most);
+    let trace = read_in(rt)?;
+    let told = tell(rt, setup, trace.as_slice(), most_of(most));
     drop(trace);
-    let Ok((status, text)) = judged else {
-        return Err(Fault::Trace(TraceFault::Memory));
-    };
-    let written = write(rt, text.as_str());
+    told
+}
+
+/// Judges a trace, and tells what was found.
+fn tell(rt: &HostRuntime, setup: &Setup, trace: &[u8], most: u64) -> Result<u8, Fault> {
+    let found = check_early(rt.alloc(), setup, trace, most)?;
+    let text = text_of(rt.alloc(), trace, found)?;
+    let written = write_out(rt, text.as_bytes());
     drop(text);
     written?;
-    Ok(status)
-}
-
-/// The status, and what is told.
-fn judge(
-    alloc: Global,
-    setup: &Setup,
-    trace: &[u8],
-    most: u64,
-) -> Result<(u8, String), AllocError> {
-    let found = check_early(alloc, setup, trace, most)?;
-    let mut text = String::new(alloc);
-    push_found(alloc, &mut text, trace, found)?;
-    Ok((status_of(found), text))
-}
-
-/// The status that tells what was found.
-fn status_of(found: Early) -> u8 {
-    match found {
+    Ok(match found {
         Early::Lawful(_) => DONE,
         Early::Bad(_) => BAD_LINE,
         _ => WRONG,
-    }
+    })
 }
 
-/// Appends what was found.
-fn push_found(
-    alloc: Global,
-    text: &mut String,
-    trace: &[u8],
-    found: Early,
-) -> Result<(), AllocError> {
+/// What was found, in words.
+fn text_of(alloc: Global, trace: &[u8], found: Early) -> Result<String, AllocError> {
     match found {
-        Early::Lawful(steps) => {
-            push_text(&alloc, text, "lawful: ")?;
-            push_number(&alloc, text, steps)?;
-            push_text(&alloc, text, " steps\n")
-        }
-        Early::Wrong(number) => push_wrong(alloc, text, trace, number),
-        Early::Unlawful => push_text(&alloc, text, UNLAWFUL),
-        Early::Unexplained => push_text(&alloc, text, UNEXPLAINED),
-        Early::GaveUp => push_text(&alloc, text, GAVE_UP),
-        Early::Bad(number) => push_bad(alloc, text, trace, number),
+        Early::Lawful(steps) => format!(in alloc; "lawful: {steps} steps\n"),
+        Early::Wrong(number) => text_of_wrong(alloc, line_of(trace, number), number),
+        Early::Unlawful => String::from_str(alloc, UNLAWFUL),
+        Early::Unexplained => String::from_str(alloc, UNEXPLAINED),
+        Early::GaveUp => String::from_str(alloc, GAVE_UP),
+        Early::Bad(number) => text_of_bad(alloc, line_of(trace, number), number),
     }
 }
 
@@ -79,37 +50,31 @@ const UNEXPLAINED: &str =
 
 const GAVE_UP: &str = "gave up: moments may be left to be tried\n";
 
-/// Appends a wrong line.
-fn push_wrong(
-    alloc: Global,
-    text: &mut String,
-    trace: &[u8],
-    number: u64,
-) -> Result<(), AllocError> {
-    push_line(alloc, text, number)?;
-    push_visible_line(alloc, text, line_of(trace, number))?;
-    push_text(&alloc, text, "\nwanted: another answer\n")
+/// That the line of this number is wrong.
+fn text_of_wrong(alloc: Global, line: &[u8], number: u64) -> Result<String, AllocError> {
+    let mut text = format!(in alloc; "line {number}: ")?;
+    push_visible_line(alloc, &mut text, line)?;
+    push_text(&alloc, &mut text, "\nwanted: another answer\n")?;
+    Ok(text)
 }
 
-/// Appends that a line is bad, and why.
-fn push_bad(alloc: Global, text: &mut String, trace: &[u8], number: u64) -> Result<(), AllocError> {
-    push_line(alloc, text, number)?;
-    push_text(&alloc, text, "bad line\nwhy: ")?;
+/// That the line of this number is bad, and why.
+fn text_of_bad(alloc: Global, line: &[u8], number: u64) -> Result<String, AllocError> {
+    let mut text = format!(in alloc; "line {number}: bad line\nwhy: ")?;
+    push_flaw_of(alloc, &mut text, line)?;
+    push_text(&alloc, &mut text, "\n")?;
+    Ok(text)
+}
+
+/// Appends why a line is bad.
+fn push_flaw_of(alloc: Global, text: &mut String, line: &[u8]) -> Result<(), AllocError> {
     let mut kept = KeptLine::new(alloc)?;
-    for byte in line_of(trace, number) {
+    for byte in line {
         kept.push(*byte);
     }
     let pushed = push_line_flaw(alloc, text, &kept, Language::Records);
     drop(kept);
-    pushed?;
-    push_text(&alloc, text, "\n")
-}
-
-/// Appends the number of a line.
-fn push_line(alloc: Global, text: &mut String, number: u64) -> Result<(), AllocError> {
-    push_text(&alloc, text, "line ")?;
-    push_number(&alloc, text, number)?;
-    push_text(&alloc, text, ": ")
+    pushed
 }
 
 /// The line of this number, from 1 on.
@@ -122,14 +87,4 @@ fn line_of(trace: &[u8], number: u64) -> &[u8] {
         left -= 1;
     }
     b"".as_slice()
-}
-
-/// Writes to standard output.
-fn write(rt: &HostRuntime, text: &str) -> Result<(), Fault> {
-    let mut output = Outlet::new(rt.stdout());
-    let written = match output.write_all(text.as_bytes()) {
-        Ok(()) => Ok(()),
-        Err(_) => Err(TraceFault::Write),
-    };
-    unless_closed(&output, written)
 }

@@ -1,12 +1,10 @@
 //! The runs that tell what a power failure may show of calls.
 
 use crate::fault::Fault;
-use crate::listing::{DONE, NOT_SO, UNKNOWN, all_parts, tell};
-use crate::outlet::Outlet;
-use crate::unless_closed;
-use uring_litmus::{
-    Claim, CrashesJudged, CrashesListed, MOST_IMAGES, PlayFault, judge_crashes, list_crashes,
-};
+use crate::listing::{all_parts, tell, tell_holds, tell_unknown};
+use crate::streams::Outlet;
+use crate::{DONE, NOT_SO, UNKNOWN};
+use uring_litmus::{Claim, CrashesJudged, CrashesListed, MOST_IMAGES, judge_crashes, list_crashes};
 use uring_options::Setup;
 
 /// What a power failure may show of the calls that standard input has, in units of so many bytes: all, or whether a claim of lines is so of it.
@@ -28,7 +26,7 @@ pub(crate) fn run_crashes(
 fn run_list(rt: &HostRuntime, setup: &Setup, unit: u32, most: u64) -> Result<u8, Fault> {
     let (mut input, mut output) = (rt.stdin(), Outlet::new(rt.stdout()));
     let listed = list_crashes(rt.alloc(), &mut input, &mut output, setup, unit, most);
-    match unless_closed(&output, listed)? {
+    match output.unless_closed(listed)? {
         CrashesListed::All => Ok(DONE),
         CrashesListed::Stopped => Ok(UNKNOWN),
         CrashesListed::TooMany => Err(Fault::ManyLeft(MOST_IMAGES)),
@@ -44,11 +42,10 @@ fn run_claim(
     lines: &[&str],
     most: u64,
 ) -> Result<u8, Fault> {
-    let alloc = rt.alloc();
-    let lines = all_parts(alloc, lines)?;
+    let lines = all_parts(rt.alloc(), lines)?;
     let mut input = rt.stdin();
     let judged = judge_crashes(
-        alloc,
+        rt.alloc(),
         &mut input,
         setup,
         unit,
@@ -58,26 +55,9 @@ fn run_claim(
     );
     drop(lines);
     match judged? {
-        CrashesJudged::Holds { count } => {
-            tell(
-                rt,
-                &format!(in alloc; "so of crashes {count}\n").map_err(PlayFault::from)?,
-            )?;
-            Ok(DONE)
-        }
-        CrashesJudged::Unknown { count } => {
-            tell(
-                rt,
-                &format!(in alloc;
-                    "not known, so of crashes {count} or more: stopped after {most} paths\n"
-                ).map_err(PlayFault::from)?,
-            )?;
-            Ok(UNKNOWN)
-        }
-        CrashesJudged::Fails { line } => {
-            tell(rt, &format!(in alloc; "{line}\n").map_err(PlayFault::from)?)?;
-            Ok(NOT_SO)
-        }
+        CrashesJudged::Holds { count } => tell_holds(rt, "crashes", count),
+        CrashesJudged::Unknown { count } => tell_unknown(rt, "crashes", count, most),
+        CrashesJudged::Fails { line } => tell(rt, &format!(in rt.alloc(); "{line}\n")?, NOT_SO),
         CrashesJudged::TooMany => Err(Fault::ManyLeft(MOST_IMAGES)),
     }
 }

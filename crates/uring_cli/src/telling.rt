@@ -17,17 +17,23 @@ const UNKNOWN: u8 = 3;
 /// The line if memory was refused.
 const OUT_OF_MEMORY: &str = "uring: out of memory\n";
 
-/// Writes what a fault says to `writer`, and returns the exit status, 1, 2 or 3, also if the write fails: 2 for a fault of the command line or a call for help, whose text is clap's own, 3 for too many images, and 1 for any other, refused memory among them. Of a pipe that was closed it says nothing.
-pub fn tell<W: Write>(alloc: Global, writer: &mut W, fault: &Fault) -> u8 {
-    let (text, status) = match text_of(alloc, fault) {
-        Ok(text) => (text, status_of(fault)),
-        Err(_) => {
-            let _ = writer.write_all(OUT_OF_MEMORY.as_bytes());
-            return FAILED;
+/// Writes what a fault says to standard error, and returns the exit status, 1, 2 or 3, also if the write fails: 2 for a fault of the command line or a call for help, whose text is clap's own, 3 for too many images, and 1 for any other, refused memory among them. Of a pipe that was closed it says nothing.
+pub fn tell(rt: &HostRuntime, fault: &Fault) -> u8 {
+    match text_of(rt.alloc(), fault) {
+        Ok(text) => {
+            write(rt, text.as_str());
+            status_of(fault)
         }
-    };
-    let _ = writer.write_all(text.as_bytes());
-    status
+        Err(_) => {
+            write(rt, OUT_OF_MEMORY);
+            FAILED
+        }
+    }
+}
+
+/// Writes to standard error.
+fn write(rt: &HostRuntime, text: &str) {
+    let _ = rt.stderr().write_all(text.as_bytes());
 }
 
 /// The exit status of a fault.
@@ -50,7 +56,7 @@ fn text_of(alloc: Global, fault: &Fault) -> Result<String, AllocError> {
         Fault::NoFile(file, files) => {
             format!(in alloc; "uring: no file {file}: there are {files}, from 0 on\n")
         }
-        Fault::NoLine(0) => format!(in alloc; "uring: no line to look for after --\n"),
+        Fault::NoLine(0) => String::from_str(alloc, "uring: no line to look for after --\n"),
         Fault::NoLine(at) => format!(in alloc; "uring: line {at} after -- is none of an outcome\n"),
         Fault::NotFound(number, count) => {
             format!(in alloc;
@@ -61,8 +67,9 @@ fn text_of(alloc: Global, fault: &Fault) -> Result<String, AllocError> {
             format!(in alloc; "uring: no outcome {number}: there are {count}, from 1 on\n")
         }
         Fault::NoHistory => String::from_str(alloc, "uring: no history was found\n"),
-        Fault::NoBytes => format!(in alloc;
-            "uring: wanted after --: OFFSET HEX, a number up to 4294967295, and two lower case digits for each byte\n"
+        Fault::NoBytes => String::from_str(
+            alloc,
+            "uring: wanted after --: OFFSET HEX, a number up to 4294967295, and two lower case digits for each byte\n",
         ),
         Fault::TooMany(most) => {
             format!(in alloc;
