@@ -137,9 +137,6 @@ int32_t wulgach_times_end(struct wulgach_times *times, struct wulgach_timeout *r
 /* Whether it runs, and would end now by its count. */
 bool wulgach_times_has_counted(const struct wulgach_times *times, const struct wulgach_timeout *rows, size_t room, uint64_t number);
 
-/* Whether a timeout of this number runs. */
-bool wulgach_times_runs(const struct wulgach_times *times, const struct wulgach_timeout *rows, size_t room, uint64_t number);
-
 /* A request has ended, by this course of wulgach_course.h, and its completion was posted or skipped. It counts as one that was posted,
  * unless it is that of a timeout which its time or its count has ended; one of a timeout that was removed or cancelled counts. Says whether
  * it does. */

@@ -42,7 +42,7 @@ static void check_order(void)
     demand(wulgach_times_passing(&times, rows, ROOM, &sources, &next) == -2, "no timeout runs");
     demand(start(7, 20, 0, false) == 0 && start(4, 20, 0, false) == 0 && start(9, 10, 0, false) == 0, "three start");
     demand(start(11, 1, 0, false) == -12, "there is no room for a fourth");
-    demand(wulgach_times_runs(&times, rows, ROOM, 9) && !wulgach_times_runs(&times, rows, ROOM, 11), "they run");
+    demand(wulgach_times_nth(&times, rows, ROOM, 2, &next) == 0 && next.number == 9 && wulgach_times_nth(&times, rows, ROOM, 3, &next) == -2, "they run");
     demand(wulgach_times_due(&times, rows, ROOM, &next) == -2 && wulgach_times_end(&times, rows, ROOM, 9, &res) == -2 && res == 1, "none is over");
     for (uint64_t i = 0; i < ROOM; i++) {
         static const uint64_t order[ROOM] = {9, 4, 7};

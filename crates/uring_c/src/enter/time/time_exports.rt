@@ -6,7 +6,7 @@ ghost use Rattle.uring_enter.specs.declared.call.wait.Wait.{Wait};
 ghost use Rattle.uring_enter.specs.declared.call.wait.Woken.{Woken};
 ghost use Rattle.uring_operations.specs.Entries.Timeouts.{Event, Started, Posted, Changed, Stopped, Clock, Passed, Ended};
 ghost use Rattle.uring_operations.specs.Entries.Timeouts.{nanoseconds_of, running, outcome, is_over, cancelled_by, fires, linked_outcome};
-ghost use Rattle.uring_operations.specs.Entries.Timeouts.{posted, NoneIsOver, IsNext, IsReachedOf, AreApart, HasNone, IsRow, EndsNone};
+ghost use Rattle.uring_operations.specs.Entries.Timeouts.{posted, NoneIsOver, IsNext, IsReachedOf, AreApart, IsRow, EndsNone};
 ghost use Rattle.uring_enter.specs.Time.Held.{Posting, OfEnd, AtOnce, KeepsHeld, held_for};
 ghost use Rattle.uring_enter.specs.Time.Held.{is_at_once as posts_at_once};
 ghost use Rattle.uring_enter.specs.Time.Kept.{HasCounted, KeepsTime};
@@ -181,17 +181,6 @@ pub extern "C" fn wulgach_times_has_counted(times: &Times, rows: &[Timeout], num
         → HasCounted log number result }
 {
     times.has_counted(rows, number)
-}
-
-/// Whether a timeout of this number runs.
-#[unsafe(no_mangle)]
-pub extern "C" fn wulgach_times_runs(times: &Times, rows: &[Timeout], number: u64) -> bool
-    ensures runs { (log : List Event) → KeepsTime log times.now rows.now → result ≡ true
-        → (t : Timeout) × IsRow number (running log) t }
-    ensures none { (log : List Event) → KeepsTime log times.now rows.now → result ≡ false
-        → HasNone number (running log) }
-{
-    times.runs(rows, number)
 }
 
 /// A request has ended, by this course, and its completion was posted or skipped. It counts, unless it is that of a timeout which its time or its count has ended. Says whether it does.

@@ -233,40 +233,6 @@ pub extern "C" fn wulgach_is_shut(came: i32, events: u16) -> bool
     is_shut(came, events)
 }
 
-fn shutting_word(step: Shutting) -> u32
-    ensures { result ≡ word_of_shutting step }
-{
-    match step {
-        Shutting::Ends(_) => 0,
-        Shutting::AsksShut => 1,
-        Shutting::CallsAgain => 2,
-        Shutting::AsksWill => 3,
-        Shutting::AsksLocal => 4,
-    }
-}
-
-fn shutting_end(step: Shutting, old: i32) -> i32
-    ensures { result ≡ end_of_shutting step old }
-{
-    match step {
-        Shutting::Ends(res) => res,
-        _ => old,
-    }
-}
-
-/// What was done, by its word. `None`: the call itself.
-fn shutting(word: u32) -> Option<Shutting>
-    ensures { result ≡ shutting_of word }
-{
-    match word {
-        1 => Some(Shutting::AsksShut),
-        2 => Some(Shutting::CallsAgain),
-        3 => Some(Shutting::AsksWill),
-        4 => Some(Shutting::AsksLocal),
-        _ => None,
-    }
-}
-
 /// Returns what is next after a call of this entry, where what was done last came to `res`, and writes what the call came to, if that is known.
 #[unsafe(no_mangle)]
 pub extern "C" fn wulgach_shutting_next(
@@ -278,9 +244,23 @@ pub extern "C" fn wulgach_shutting_next(
     ensures next { result ≡ word_of_shutting (results.shutting_next entry.now (shutting_of last) res) }
     ensures end { end.new ≡ end_of_shutting (results.shutting_next entry.now (shutting_of last) res) end.old }
 {
-    let step = shutting_next(entry, shutting(last), res);
-    *end = shutting_end(step, *end);
-    shutting_word(step)
+    let done = match last {
+        1 => Some(Shutting::AsksShut),
+        2 => Some(Shutting::CallsAgain),
+        3 => Some(Shutting::AsksWill),
+        4 => Some(Shutting::AsksLocal),
+        _ => None,
+    };
+    match shutting_next(entry, done, res) {
+        Shutting::Ends(res) => {
+            *end = res;
+            0
+        }
+        Shutting::AsksShut => 1,
+        Shutting::CallsAgain => 2,
+        Shutting::AsksWill => 3,
+        Shutting::AsksLocal => 4,
+    }
 }
 
 /// Whether an operation has taken its provided buffer though it came to this, and moved nothing.

@@ -5,8 +5,8 @@ ghost use Rattle.uring_c.specs.Operations.Files.OpeningForm.{word_of_opening, wo
 ghost use Rattle.uring_c.specs.Registered.PinningForm.{known_of};
 
 use uring_operations::{
-    OpenHow, Opening, OpeningStep, Standing, Submission, found_how, has_writer, looking_how,
-    opening_next, opening_of, opens_again, polled_after_path, standing_after_path, unwilling_flags,
+    OpenHow, OpeningStep, Standing, Submission, found_how, has_writer, looking_how, opening_next,
+    opening_of, opens_again, polled_after_path, standing_after_path, unwilling_flags,
 };
 
 /// Writes how the path of an entry is looked up as its request starts.
@@ -54,11 +54,7 @@ pub extern "C" fn wulgach_standing_after_path(standing: &mut Standing, names_pip
 pub extern "C" fn wulgach_opening_of(entry: &Submission, how: u64, names_pipe: bool) -> u32
     ensures { result ≡ word_of_opening (opens.opening_of entry.now how names_pipe) }
 {
-    match opening_of(entry, how, names_pipe) {
-        Opening::Plain => 0,
-        Opening::AtOnce => 1,
-        Opening::Pipe => 2,
-    }
+    opening_of(entry, how, names_pipe) as u32
 }
 
 /// Whether an open that was asked not to wait, and came to this, is made once more without that.
@@ -78,40 +74,6 @@ pub extern "C" fn wulgach_has_writer(shows: bool, knows: bool, teed: i32) -> boo
     has_writer(shows, teed)
 }
 
-fn step_word(step: OpeningStep) -> u32
-    ensures { result ≡ word_of_opening_step step }
-{
-    match step {
-        OpeningStep::Ends(_) => 0,
-        OpeningStep::Waits => 1,
-        OpeningStep::ByPath => 2,
-        OpeningStep::ByLink => 3,
-        OpeningStep::AsksWriter => 4,
-    }
-}
-
-fn step_end(step: OpeningStep, old: i32) -> i32
-    ensures { result ≡ opening_end step old }
-{
-    match step {
-        OpeningStep::Ends(res) => res,
-        _ => old,
-    }
-}
-
-/// The step of a word. `None`: nothing was done.
-fn opening_step(word: u32) -> Option<OpeningStep>
-    ensures { result ≡ opening_step_of word }
-{
-    match word {
-        1 => Some(OpeningStep::Waits),
-        2 => Some(OpeningStep::ByPath),
-        3 => Some(OpeningStep::ByLink),
-        4 => Some(OpeningStep::AsksWriter),
-        _ => None,
-    }
-}
-
 /// Returns what is next of the open of a named pipe that was found, after what was done last, which came to `res`, and writes what it ends with, if it ends.
 #[unsafe(no_mangle)]
 pub extern "C" fn wulgach_opening_next(
@@ -125,7 +87,21 @@ pub extern "C" fn wulgach_opening_next(
     ensures next { result ≡ word_of_opening_step (opens.opening_next entry.now how opened (opening_step_of last) res) }
     ensures end { end.new ≡ opening_end (opens.opening_next entry.now how opened (opening_step_of last) res) end.old }
 {
-    let step = opening_next(entry, how, opened, opening_step(last), res);
-    *end = step_end(step, *end);
-    step_word(step)
+    let done = match last {
+        1 => Some(OpeningStep::Waits),
+        2 => Some(OpeningStep::ByPath),
+        3 => Some(OpeningStep::ByLink),
+        4 => Some(OpeningStep::AsksWriter),
+        _ => None,
+    };
+    match opening_next(entry, how, opened, done, res) {
+        OpeningStep::Ends(res) => {
+            *end = res;
+            0
+        }
+        OpeningStep::Waits => 1,
+        OpeningStep::ByPath => 2,
+        OpeningStep::ByLink => 3,
+        OpeningStep::AsksWriter => 4,
+    }
 }
