@@ -136,19 +136,14 @@ pub extern "C" fn wulgach_shown_flags(
     shown.flags(outstanding, is_readable, has_thread)
 }
 
-/// How many completions were posted so far, as a word.
+/// Whether any were posted since there were so many as this word says, which says then how many there are.
 #[unsafe(no_mangle)]
-pub extern "C" fn wulgach_shown_posted(shown: &Shown) -> u32
-    ensures { (log : List Change) → KeepsShown log shown.now → result ≡ posted log % 2 ^ 32 }
-{
-    shown.posted_word()
-}
-
-/// Whether any were posted since there were so many as this word says.
-#[unsafe(no_mangle)]
-pub extern "C" fn wulgach_shown_has_posted(shown: &Shown, since: u32) -> bool
-    ensures { (log : List Change) (n : ℕ) → KeepsShown log shown.now → WereSoMany log since n
+pub extern "C" fn wulgach_shown_has_posted(shown: &Shown, told: &mut u32) -> bool
+    ensures any { (log : List Change) (n : ℕ) → KeepsShown log shown.now → WereSoMany log told.old n
         → result ≡ nat_lt n (posted log) }
+    ensures told { (log : List Change) → KeepsShown log shown.now → told.new ≡ posted log % 2 ^ 32 }
 {
-    shown.has_posted_since(since)
+    let any = shown.has_posted_since(*told);
+    *told = shown.posted_word();
+    any
 }

@@ -355,30 +355,20 @@ pub extern "C" fn wulgach_timeout_fires(timeout: &Timeout, runs: bool, is_cancel
     timeout.fires(runs, is_cancellable)
 }
 
-/// Writes how long a call sleeps at most that is to sleep until then.
+/// Writes how long a call sleeps at most that is to sleep until then, and to when time moves on after such a sleep, where nothing has woken it, or that it doesn't.
 #[unsafe(no_mangle)]
 pub extern "C" fn wulgach_times_sleeps_for(
     times: &Times,
     until: &LimitWords,
     can_be_woken: bool,
     limit: &mut LimitWords,
-)
-    ensures { (log : List Event) (rows : List Timeout) → KeepsTime log times.now rows
-        → limit.new ≡ words_of_limit (lasts_at_most log (limit_of until.now) can_be_woken) }
-{
-    *limit = limit_words(times.sleeps_for(until.limit(), can_be_woken));
-}
-
-/// Writes to when time moves on after such a sleep, where nothing has woken it, or that it doesn't.
-#[unsafe(no_mangle)]
-pub extern "C" fn wulgach_times_comes_to(
-    times: &Times,
-    until: &LimitWords,
-    can_be_woken: bool,
     end: &mut LimitWords,
 )
-    ensures { (log : List Event) (rows : List Timeout) → KeepsTime log times.now rows
+    ensures lasts { (log : List Event) (rows : List Timeout) → KeepsTime log times.now rows
+        → limit.new ≡ words_of_limit (lasts_at_most log (limit_of until.now) can_be_woken) }
+    ensures end { (log : List Event) (rows : List Timeout) → KeepsTime log times.now rows
         → end.new ≡ words_of_limit (comes_to log (limit_of until.now) can_be_woken) }
 {
+    *limit = limit_words(times.sleeps_for(until.limit(), can_be_woken));
     *end = limit_words(times.comes_to(until.limit(), can_be_woken));
 }

@@ -25,14 +25,6 @@ pub extern "C" fn wulgach_found_how(entry: &Submission, how: &OpenHow, found: &m
     *found = found_how(entry, how);
 }
 
-/// Returns the descriptor that is polled for a request whose path was looked up, and names a pipe or doesn't, where this is its entry's.
-#[unsafe(no_mangle)]
-pub extern "C" fn wulgach_polled_after_path(fd: i32, names_pipe: bool) -> i32
-    ensures { result ≡ opens.polled_after_path fd names_pipe }
-{
-    polled_after_path(fd, names_pipe)
-}
-
 /// Returns with which flags a path is opened that is asked not to wait, whose open has these.
 #[unsafe(no_mangle)]
 pub extern "C" fn wulgach_unwilling_flags(flags: u64) -> u64
@@ -41,12 +33,18 @@ pub extern "C" fn wulgach_unwilling_flags(flags: u64) -> u64
     unwilling_flags(flags)
 }
 
-/// A request stands so whose path was looked up as it starts, and names a pipe or doesn't.
+/// A request stands so whose path was looked up as it starts, and names a pipe or doesn't. Returns the descriptor that is polled for it, where this is its entry's.
 #[unsafe(no_mangle)]
-pub extern "C" fn wulgach_standing_after_path(standing: &mut Standing, names_pipe: bool)
-    ensures { standing.new ≡ opens.standing_after_path standing.old names_pipe }
+pub extern "C" fn wulgach_standing_after_path(
+    standing: &mut Standing,
+    fd: i32,
+    names_pipe: bool,
+) -> i32
+    ensures standing { standing.new ≡ opens.standing_after_path standing.old names_pipe }
+    ensures polled { result ≡ opens.polled_after_path fd names_pipe }
 {
     *standing = standing_after_path(standing, names_pipe);
+    polled_after_path(fd, names_pipe)
 }
 
 /// Returns how the call of an entry is made whose path was found to name a pipe, or wasn't.
