@@ -331,9 +331,6 @@ struct wulgach_core_entry {
     uint8_t flags;      /* those that it is told, whatever fault the entry has */
 };
 
-/* Writes what the core is given of an entry that is this to it (enum wulgach_form). */
-void wulgach_core_entry_of(const struct wulgach_submission *entry, uint32_t form, struct wulgach_core_entry *made);
-
 /* An entry of a call, as far as what the core is told of the one beside it goes by it; all 0: there is none. */
 struct wulgach_beside {
     bool is_there;

@@ -21,13 +21,10 @@ struct wulgach_how {
 void wulgach_looking_how(const struct wulgach_submission *entry, const struct wulgach_how *how, struct wulgach_how *looking);
 void wulgach_found_how(const struct wulgach_submission *entry, const struct wulgach_how *how, struct wulgach_how *found);
 
-/* Returns the descriptor that is polled for a request whose path was looked up, and names a pipe or doesn't, where this is its entry's: none (-1) of a
- * pipe, since nothing tells that its other end is open. Our own rule. */
-int32_t wulgach_polled_after_path(int32_t fd, bool names_pipe);
-
 /* A request stands so whose path was looked up as it starts, and names a pipe or doesn't: if it does, it may have to wait for its descriptor, though
- * it has none. Our own rule. */
-void wulgach_standing_after_path(struct wulgach_standing *standing, bool names_pipe);
+ * it has none. Returns the descriptor that is polled for it, where this is its entry's: none (-1) of a pipe, since nothing tells that its other end is
+ * open. Our own rule. */
+int32_t wulgach_standing_after_path(struct wulgach_standing *standing, int32_t fd, bool names_pipe);
 
 /* How the call of an operation is made that may open a path. */
 enum wulgach_opening {

@@ -42,10 +42,9 @@ bool wulgach_has_thread(uint32_t flags);
 bool wulgach_asks_processor(uint32_t flags);
 bool wulgach_asks_shared(uint32_t flags);
 
-/* In how many cells, of 64 bytes, an entry of a ring with these flags stands: in two with IORING_SETUP_SQE128. And in how many, of 16, a completion: in
- * two with IORING_SETUP_CQE32. */
-uint32_t wulgach_entry_cells(uint32_t flags);
-uint32_t wulgach_completion_cells(uint32_t flags);
+/* Writes in how many cells, of 64 bytes, an entry of a ring with these flags stands: in two with IORING_SETUP_SQE128. And in how many, of 16, a
+ * completion: in two with IORING_SETUP_CQE32. */
+void wulgach_cells_of(uint32_t flags, uint32_t *entry, uint32_t *completion);
 
 /* What a ring can do (IORING_FEAT_..), whose rings stand in one mapping or in two. */
 uint32_t wulgach_features(bool is_one_mapping);

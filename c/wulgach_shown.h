@@ -80,10 +80,9 @@ uint32_t wulgach_shown_ready(const struct wulgach_shown *shown, uint32_t head);
  * outstanding or the ring's descriptor is readable; and IORING_SQ_NEED_WAKEUP if a thread takes entries, which sleeps. */
 uint32_t wulgach_shown_flags(const struct wulgach_shown *shown, uint64_t outstanding, bool is_readable, bool has_thread);
 
-/* How many completions were posted so far, as a word of 32 bits; and whether any were since there were so many as this word says, to which fewer
- * than 2^32 have come since. */
-uint32_t wulgach_shown_posted(const struct wulgach_shown *shown);
-bool wulgach_shown_has_posted(const struct wulgach_shown *shown, uint32_t since);
+/* Whether completions were posted since there were so many as this word of 32 bits says, to which fewer than 2^32 have come since. It says then how
+ * many were posted so far. */
+bool wulgach_shown_has_posted(const struct wulgach_shown *shown, uint32_t *told);
 
 /* Where it is heard what the application has reaped. */
 enum wulgach_occasion {

@@ -137,9 +137,6 @@ int32_t wulgach_times_end(struct wulgach_times *times, struct wulgach_timeout *r
 /* Whether it runs, and would end now by its count. */
 bool wulgach_times_has_counted(const struct wulgach_times *times, const struct wulgach_timeout *rows, size_t room, uint64_t number);
 
-/* Whether a timeout of this number runs. */
-bool wulgach_times_runs(const struct wulgach_times *times, const struct wulgach_timeout *rows, size_t room, uint64_t number);
-
 /* A request has ended, by this course of wulgach_course.h, and its completion was posted or skipped. It counts as one that was posted,
  * unless it is that of a timeout which its time or its count has ended; one of a timeout that was removed or cancelled counts. Says whether
  * it does. */
@@ -205,8 +202,9 @@ bool wulgach_timeout_fires(const struct wulgach_timeout *timeout, bool runs, boo
 void wulgach_times_deadline(const struct wulgach_times *times, struct wulgach_limit *limit);
 
 /* Writes how long a call sleeps at most that is to sleep until then: all that is left, but no longer than 10 milliseconds if no other
- * thread can wake it. */
-void wulgach_times_sleeps_for(const struct wulgach_times *times, const struct wulgach_limit *until, bool can_be_woken, struct wulgach_limit *limit);
+ * thread can wake it. And to when time moves on after such a sleep, where nothing has woken it; no limit: it was a nap, and only what a clock
+ * says has passed. To be asked before the sleep. */
+void wulgach_times_sleeps_for(const struct wulgach_times *times, const struct wulgach_limit *until, bool can_be_woken, struct wulgach_limit *limit, struct wulgach_limit *end);
 
 /* A time in whole seconds and what is left of it: struct timespec. */
 struct wulgach_span {
@@ -232,10 +230,6 @@ uint32_t wulgach_sleep_call(bool has_instance, uint32_t all, const struct wulgac
 /* What a sleep came to that was begun so (enum wulgach_sleep_call), where its system call came to this: an error is one; else 1, if one is ready of which the
  * instance doesn't tell. */
 int32_t wulgach_sleep_came(uint32_t call, int32_t came);
-
-/* Writes to when time moves on after such a sleep, where nothing has woken it; no limit: it was a nap, and only what a clock says has
- * passed. To be asked before the sleep. */
-void wulgach_times_comes_to(const struct wulgach_times *times, const struct wulgach_limit *until, bool can_be_woken, struct wulgach_limit *end);
 
 /* The sleep is over, and its system call has come to this: time moves on so if that is 0, and else not, since something has ended the sleep
  * before. */

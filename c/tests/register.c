@@ -135,7 +135,11 @@ static void take_lists(void)
     demand(wulgach_has_thread(2) && wulgach_has_thread(6) && !wulgach_has_thread(0xfffffffd), "a ring with a thread");
     demand(wulgach_asks_processor(6) && !wulgach_asks_processor(4) && !wulgach_asks_processor(2) && !wulgach_asks_processor(38), "a processor that matters");
     demand(wulgach_asks_shared(32) && !wulgach_asks_shared(0xffffffdf), "a ring that is shared");
-    demand(wulgach_entry_cells(1024) == 2 && wulgach_entry_cells(2048) == 1 && wulgach_completion_cells(2048) == 2 && wulgach_completion_cells(1024) == 1, "cells of large entries and completions");
+    uint32_t of_entry, of_completion;
+    wulgach_cells_of(1024, &of_entry, &of_completion);
+    demand(of_entry == 2 && of_completion == 1, "cells of large entries");
+    wulgach_cells_of(2048, &of_entry, &of_completion);
+    demand(of_entry == 1 && of_completion == 2, "cells of large completions");
 }
 
 static void look_at_rows(void)

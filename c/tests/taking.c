@@ -237,14 +237,14 @@ static void core_entries(void)
 {
     struct wulgach_core_entry made;
     struct wulgach_submission cancel = {.opcode = 14, .flags = 255, .user_data = 5, .addr = 6};
-    wulgach_core_entry_of(&cancel, WULGACH_FORM_CANCEL, &made);
+    wulgach_core_entry_between(&cancel, WULGACH_FORM_CANCEL, &nobody, &nobody, true, &made);
     demand(made.code == 14 && made.flags == 94 && made.user_data == 5 && made.target == 6, "a cancel of the core's");
-    wulgach_core_entry_of(&cancel, WULGACH_FORM_TOKEN, &made);
+    wulgach_core_entry_between(&cancel, WULGACH_FORM_TOKEN, &nobody, &nobody, true, &made);
     demand(made.code == 0 && made.flags == 94 && made.user_data == 5 && made.target == 0, "a token");
-    wulgach_core_entry_of(&cancel, WULGACH_FORM_REFUSED, &made);
+    wulgach_core_entry_between(&cancel, WULGACH_FORM_REFUSED, &nobody, &nobody, true, &made);
     demand(made.code == 255 && made.len == 0 && made.flags == 94, "an entry with a fault of its flags");
     cancel.flags = 94;
-    wulgach_core_entry_of(&cancel, WULGACH_FORM_REFUSED, &made);
+    wulgach_core_entry_between(&cancel, WULGACH_FORM_REFUSED, &nobody, &nobody, true, &made);
     demand(made.code == 22 && made.len == 65 && made.flags == 94, "an entry with another");
     struct wulgach_submission timeout = {.opcode = 15}, linked = {.opcode = 15, .flags = 4}, other = {.opcode = 11};
     demand(flags_before(70, &timeout, true) == 78 && flags_before(72, &timeout, true) == 72 && flags_before(66, &timeout, true) == 66, "before a linked timeout");

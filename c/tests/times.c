@@ -42,7 +42,7 @@ static void check_order(void)
     demand(wulgach_times_passing(&times, rows, ROOM, &sources, &next) == -2, "no timeout runs");
     demand(start(7, 20, 0, false) == 0 && start(4, 20, 0, false) == 0 && start(9, 10, 0, false) == 0, "three start");
     demand(start(11, 1, 0, false) == -12, "there is no room for a fourth");
-    demand(wulgach_times_runs(&times, rows, ROOM, 9) && !wulgach_times_runs(&times, rows, ROOM, 11), "they run");
+    demand(wulgach_times_nth(&times, rows, ROOM, 2, &next) == 0 && next.number == 9 && wulgach_times_nth(&times, rows, ROOM, 3, &next) == -2, "they run");
     demand(wulgach_times_due(&times, rows, ROOM, &next) == -2 && wulgach_times_end(&times, rows, ROOM, 9, &res) == -2 && res == 1, "none is over");
     for (uint64_t i = 0; i < ROOM; i++) {
         static const uint64_t order[ROOM] = {9, 4, 7};
@@ -167,17 +167,13 @@ static void check_sleeps(void)
     wulgach_times_deadline(&times, &unset);
     demand(until.is_set && until.at == times.time + 5 && !unset.is_set, "until when a call waits");
     struct wulgach_limit late = {.at = times.time + 20000000, .is_set = true}, limit, end;
-    wulgach_times_sleeps_for(&times, &late, true, &limit);
-    wulgach_times_comes_to(&times, &late, true, &end);
+    wulgach_times_sleeps_for(&times, &late, true, &limit, &end);
     demand(limit.is_set && limit.at == 20000000 && end.is_set && end.at == late.at, "a sleep");
-    wulgach_times_sleeps_for(&times, &late, false, &limit);
-    wulgach_times_comes_to(&times, &late, false, &end);
+    wulgach_times_sleeps_for(&times, &late, false, &limit, &end);
     demand(limit.is_set && limit.at == 10000000 && !end.is_set, "a nap");
-    wulgach_times_sleeps_for(&times, &until, false, &limit);
-    wulgach_times_comes_to(&times, &until, false, &end);
+    wulgach_times_sleeps_for(&times, &until, false, &limit, &end);
     demand(limit.is_set && limit.at == 5 && end.is_set && end.at == until.at, "one that isn't cut");
-    wulgach_times_sleeps_for(&times, &unset, true, &limit);
-    wulgach_times_comes_to(&times, &unset, true, &end);
+    wulgach_times_sleeps_for(&times, &unset, true, &limit, &end);
     demand(!limit.is_set && !end.is_set, "one without an end");
     uint64_t before = times.time;
     wulgach_times_wake(&times, &end, 0);

@@ -69,8 +69,7 @@ void look_for_pipe(struct request *request)
     } else if (fd >= 0) {
         close(fd);
     }
-    request->fd = wulgach_polled_after_path(request->fd, request->has_found_pipe);
-    wulgach_standing_after_path(&request->standing, request->has_found_pipe);
+    request->fd = wulgach_standing_after_path(&request->standing, request->fd, request->has_found_pipe);
 }
 
 static struct wulgach_how found_how_of(const struct request *request)

@@ -96,8 +96,7 @@ void plan_memory(struct memory *memory, bool is_single, uint32_t sq_entries, uin
     memory->cq_entries = cq_entries;
     memory->is_single = is_single;
     memory->sq_size = AFTER_WORDS + round_to_line(sq_entries * sizeof(uint32_t));
-    memory->entry_cells = wulgach_entry_cells(params->flags);
-    memory->completion_cells = wulgach_completion_cells(params->flags);
+    wulgach_cells_of(params->flags, &memory->entry_cells, &memory->completion_cells);
     memory->cq_size = AFTER_WORDS + cq_entries * memory->completion_cells * sizeof(struct io_uring_cqe);
     memory->entries_size = sq_entries * memory->entry_cells * sizeof(struct io_uring_sqe);
     tell_offsets(params, memory);

@@ -199,9 +199,7 @@ static void watch_streams(struct ring *ring)
 /* Whether completions were posted since the descriptor was told last. */
 static bool has_posted(struct ring *ring)
 {
-    bool has_posted = wulgach_shown_has_posted(&ring->completions.at, ring->told_posted);
-    ring->told_posted = wulgach_shown_posted(&ring->completions.at);
-    return has_posted;
+    return wulgach_shown_has_posted(&ring->completions.at, &ring->told_posted);
 }
 
 /* Finds out what the library wants to know of what a call would bring. */

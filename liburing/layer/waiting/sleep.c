@@ -149,8 +149,7 @@ __attribute__((noinline)) int sleep_until(struct ring *ring, const struct wulgac
         self->polled[count++] = (struct pollfd){.fd = ring->pipes.inotify, .events = POLLIN};
     struct wulgach_limit limit, end;
     bool can_be_woken = wulgach_can_be_woken(self->wake >= 0, naps);
-    wulgach_times_sleeps_for(&ring->times, until, can_be_woken, &limit);
-    wulgach_times_comes_to(&ring->times, until, can_be_woken, &end);
+    wulgach_times_sleeps_for(&ring->times, until, can_be_woken, &limit, &end);
     uint64_t start = real_time();
     int result = poll_unlocked(ring, self, join_polled(self->polled, count), &limit, masks);
     end_sleep(self);

@@ -24,31 +24,16 @@ pub extern "C" fn wulgach_enrolled_begin(rows: &mut [u64])
 pub extern "C" fn wulgach_enrolling_next(last: u32, res: i32) -> u32
     ensures { result ≡ word_of_row (numbering.next_of_row (row_stage_of last) res) }
 {
-    row_word(next_of_row(row_stage(last), res))
-}
-
-fn row_stage(word: u32) -> Option<RowStage>
-    ensures { result ≡ row_stage_of word }
-{
-    match word {
+    let stage = match last {
         0 => Some(RowStage::Reads),
         1 => Some(RowStage::Judges),
         2 => Some(RowStage::Places),
         3 => Some(RowStage::Fills),
         4 => Some(RowStage::Tells),
         _ => None,
-    }
-}
-
-fn row_word(onto: RowOnto) -> u32
-    ensures { result ≡ word_of_row onto }
-{
-    match onto {
-        RowOnto::Does(RowStage::Reads) => 0,
-        RowOnto::Does(RowStage::Judges) => 1,
-        RowOnto::Does(RowStage::Places) => 2,
-        RowOnto::Does(RowStage::Fills) => 3,
-        RowOnto::Does(RowStage::Tells) => 4,
+    };
+    match next_of_row(stage, res) {
+        RowOnto::Does(stage) => stage as u32,
         RowOnto::Fails(_) => 5,
         RowOnto::Empties(_) => 6,
         RowOnto::IsDone => 7,
@@ -130,18 +115,13 @@ pub extern "C" fn wulgach_known_after(
 ) -> u32
     ensures { result ≡ spec.known_after before process (deed_of deed to_submit has_thread) }
 {
-    known_after(before, process, deed_by(deed, to_submit, has_thread))
-}
-
-fn deed_by(word: u32, to_submit: u32, has_thread: bool) -> Deed
-    ensures { result ≡ deed_of word to_submit has_thread }
-{
-    match word {
+    let deed = match deed {
         0 => Deed::SetsUp,
         1 => Deed::Calls(to_submit, has_thread),
         2 => Deed::Enrolls,
         _ => Deed::Calls(0, has_thread),
-    }
+    };
+    known_after(before, process, deed)
 }
 
 /// Whether a thread is known in this process, which was known in that one last.

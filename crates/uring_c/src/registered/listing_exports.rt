@@ -5,7 +5,7 @@ ghost use Rattle.uring_register.specs.Tables.Placing as placing;
 ghost use Rattle.uring_c.specs.Registered.ListingForm.{word_of_listing, word_of_placing, placing_stage_of};
 
 use uring_register::{
-    Listing, PlacingOnto, PlacingStage, listing_of, next_of_placing, next_to_go, takes_next,
+    PlacingOnto, PlacingStage, listing_of, next_of_placing, next_to_go, takes_next,
 };
 
 /// Returns how the registration of a table of so many slots goes on, of whose rows so many were taken, the last with this fault or 0.
@@ -13,11 +13,7 @@ use uring_register::{
 pub extern "C" fn wulgach_table_listing(taken: u32, count: u32, has_lists: bool, fault: i32) -> u32
     ensures { result ≡ word_of_listing (spec.listing_of taken count has_lists fault) }
 {
-    match listing_of(taken, count, has_lists, fault) {
-        Listing::Takes => 0,
-        Listing::Puts => 1,
-        Listing::Drops => 2,
-    }
+    listing_of(taken, count, has_lists, fault) as u32
 }
 
 /// Whether an update, a placing or an enrolling of so many rows takes the next one, which has carried out so many, and come to this fault or 0.
@@ -48,29 +44,15 @@ pub extern "C" fn wulgach_next_to_go(count: u32, gone: u32, slot: &mut u32) -> b
 pub extern "C" fn wulgach_placing_next(last: u32, res: i32) -> u32
     ensures { result ≡ word_of_placing (placing.next_of_placing (placing_stage_of last) res) }
 {
-    placing_word(next_of_placing(placing_stage(last), res))
-}
-
-fn placing_stage(word: u32) -> Option<PlacingStage>
-    ensures { result ≡ placing_stage_of word }
-{
-    match word {
+    let stage = match last {
         0 => Some(PlacingStage::Reads),
         1 => Some(PlacingStage::Makes),
         2 => Some(PlacingStage::Puts),
         3 => Some(PlacingStage::Tells),
         _ => None,
-    }
-}
-
-fn placing_word(onto: PlacingOnto) -> u32
-    ensures { result ≡ word_of_placing onto }
-{
-    match onto {
-        PlacingOnto::Does(PlacingStage::Reads) => 0,
-        PlacingOnto::Does(PlacingStage::Makes) => 1,
-        PlacingOnto::Does(PlacingStage::Puts) => 2,
-        PlacingOnto::Does(PlacingStage::Tells) => 3,
+    };
+    match next_of_placing(stage, res) {
+        PlacingOnto::Does(stage) => stage as u32,
         PlacingOnto::Fails(_) => 4,
         PlacingOnto::TakesOut(_) => 5,
         PlacingOnto::IsDone => 6,

@@ -238,18 +238,13 @@ pub extern "C" fn wulgach_buffer_row(from: u64, size: u64, tag: u64, fault: &mut
 pub extern "C" fn wulgach_row_steps(row: u32, is_of_files: bool) -> u32
     ensures { result ≡ spec.steps_of (row_of_word row) is_of_files }
 {
-    row_steps(row_by_word(row), is_of_files)
-}
-
-fn row_by_word(word: u32) -> Row
-    ensures { result ≡ row_of_word word }
-{
-    match word {
+    let row = match row {
         0 => Row::Keeps,
         1 => Row::Empties,
         2 => Row::Fills,
         _ => Row::Refused(0),
-    }
+    };
+    row_steps(row, is_of_files)
 }
 
 fn row_word(row: Row) -> u32

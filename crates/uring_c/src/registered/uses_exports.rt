@@ -5,7 +5,7 @@ ghost use Rattle.uring_register.specs.Buffers.Bytes as spec;
 ghost use Rattle.uring_c.specs.Registered.UsesForm.{word_of_ending};
 
 use uring_register::{
-    Buffer, Ending, Uses, bytes_fault, flags_after, further_in, is_none, is_taken, part_of,
+    Buffer, Uses, bytes_fault, flags_after, further_in, is_none, is_taken, part_of,
 };
 
 /// One has a file or buffer, with a tag or without: a slot that is to get it, or a request.
@@ -44,17 +44,7 @@ pub extern "C" fn wulgach_uses_release(uses: &mut Uses) -> u32
     ensures given { (tag : Bool) (log : List Use) → KeepsUses tag log uses.old → 0 < requests log
         → KeepsUses tag (Given ∷ log) uses.new × (result ≡ word_of_ending (ending_of tag (Given ∷ log))) }
 {
-    ending_word(uses.release())
-}
-
-fn ending_word(ending: Ending) -> u32
-    ensures { result ≡ word_of_ending ending }
-{
-    match ending {
-        Ending::Stays => 0,
-        Ending::Goes => 1,
-        Ending::Tells => 2,
-    }
+    uses.release() as u32
 }
 
 /// The fault of so many bytes from there on, as a part of a registered buffer, or 0.

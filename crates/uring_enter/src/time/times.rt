@@ -215,16 +215,6 @@ impl Times {
         row_of(rows, self.count_in(rows), number)
     }
 
-    /// Whether a timeout of this number runs.
-    pub fn runs(&self, rows: &[Timeout], number: u64) -> bool
-        ensures runs { (log : List Event) → KeepsTime log self.now rows.now → result ≡ true
-            → (t : Timeout) × IsRow number (running log) t }
-        ensures none { (log : List Event) → KeepsTime log self.now rows.now → result ≡ false
-            → HasNone number (running log) }
-    {
-        self.row(rows, number).is_some()
-    }
-
     /// Whether the timeout of this number runs, and would end now by its count.
     pub fn has_counted(&self, rows: &[Timeout], number: u64) -> bool
         ensures { (log : List Event) → KeepsTime log self.now rows.now → AreApart (running log)

@@ -8,8 +8,8 @@ ghost use Rattle.uring_c.specs.Enter.Call.UnknownForm.{known_of};
 
 use crate::enter::going_on::duty_exports::bit;
 use uring_enter::{
-    CallSteps, Check, Passage, asks_mask, call_steps, is_extended, next_of_entering,
-    next_of_registering, sleep_fault,
+    Check, Passage, asks_mask, call_steps, is_extended, next_of_entering, next_of_registering,
+    sleep_fault,
 };
 
 /// Returns what comes next of a call of io_uring_enter(2) with these flags, after a check that came to `res`, or the steps of one that passes, or the error with which it is refused.
@@ -49,22 +49,16 @@ fn passage_word(passage: Passage, is_extended: bool) -> i32
 {
     match passage {
         Passage::IsRefused(fault) => fault,
-        Passage::Checks(Check::Number) => 0,
-        Passage::Checks(Check::Descriptor) => 1,
-        Passage::Checks(Check::Counts) => 2,
-        Passage::Checks(Check::Caller) => 3,
-        Passage::Checks(Check::Argument) => 4,
-        Passage::Passes => call_word(call_steps(passage, is_extended)).cast_signed(),
+        Passage::Checks(check) => check as i32,
+        Passage::Passes => {
+            let steps = call_steps(passage, is_extended);
+            let word = bit(8, steps.has_structure)
+                | bit(16, steps.begins)
+                | bit(32, steps.is_made)
+                | bit(64, steps.returns);
+            word.cast_signed()
+        }
     }
-}
-
-fn call_word(steps: CallSteps) -> u32
-    ensures { result ≡ word_of_call steps }
-{
-    bit(8, steps.has_structure)
-        | bit(16, steps.begins)
-        | bit(32, steps.is_made)
-        | bit(64, steps.returns)
 }
 
 /// Whether a call that is to sleep reads its signal mask, after so many sleeps, where its last argument has this fault, or 0.

@@ -18,18 +18,13 @@ pub extern "C" fn wulgach_blocks_at_begin(are_quiet: bool, gets: bool, min_compl
 pub extern "C" fn wulgach_blocks_before(doing: u32, is_read: bool, is_stream: bool) -> bool
     ensures { result ≡ spec.blocks_before (doing_of doing is_read is_stream) }
 {
-    blocks_before(doing_by(doing, is_read, is_stream))
-}
-
-fn doing_by(word: u32, is_read: bool, is_stream: bool) -> Doing
-    ensures { result ≡ doing_of word is_read is_stream }
-{
-    match word {
+    let doing = match doing {
         0 => Doing::Looks,
         1 => Doing::LooksUp,
         2 => Doing::AsksNotToWait,
         _ => Doing::CarriesOut(is_read, is_stream),
-    }
+    };
+    blocks_before(doing)
 }
 
 /// Whether a call is made once more, with signals blocked.

@@ -17,27 +17,16 @@ use uring_enter::{
 pub extern "C" fn wulgach_is_taken_so(matter_word: u32, knows: bool, is_so: bool) -> bool
     ensures { result ≡ unknown.is_taken_so (matter_of matter_word) (known_of knows is_so) }
 {
-    let known = if knows { Some(is_so) } else { None };
-    is_taken_so(matter(matter_word), known)
-}
-
-fn matter(word: u32) -> Matter
-    ensures { result ≡ matter_of word }
-{
-    match word {
+    let matter = match matter_word {
         0 => Matter::Reached,
         1 => Matter::Eventfd,
         2 => Matter::Counter,
         4 => Matter::SameFile,
         5 => Matter::Locked,
         _ => Matter::Processor,
-    }
-}
-
-fn number(knows: bool, number: u64) -> Option<u64>
-    ensures { result ≡ known_of knows number }
-{
-    if knows { Some(number) } else { None }
+    };
+    let known = if knows { Some(is_so) } else { None };
+    is_taken_so(matter, known)
 }
 
 /// Whether another thread of the process may make a call, where its folder of threads has so many links, if that is known.
@@ -45,7 +34,8 @@ fn number(knows: bool, number: u64) -> Option<u64>
 pub extern "C" fn wulgach_may_have_others(knows: bool, links: u64) -> bool
     ensures { result ≡ unknown.may_have_others (known_of knows links) }
 {
-    may_have_others(number(knows, links))
+    let links = if knows { Some(links) } else { None };
+    may_have_others(links)
 }
 
 /// Whether it matters to a call that waits whether another thread may make one.

@@ -7,19 +7,15 @@ ghost use Rattle.uring_enter.specs.Cancels.Seeking as seeking;
 ghost use Rattle.uring_c.specs.Enter.Cancels.CancellingForm.{word_of_cancelling, word_of_sought_file};
 
 use crate::enter::going_on::duty_exports::bit;
-use uring_enter::{Sought, SoughtFile, file_of};
-use uring_operations::{Cancelling, Course};
+use uring_enter::{Sought, file_of};
+use uring_operations::Course;
 
 /// Where the file is looked for that a cancel names.
 #[unsafe(no_mangle)]
 pub extern "C" fn wulgach_sought_file(sought: &Sought) -> u32
     ensures { result ≡ word_of_sought_file (seeking.file_of sought.now) }
 {
-    match file_of(sought) {
-        SoughtFile::NoFile => 0,
-        SoughtFile::OfSlot => 1,
-        SoughtFile::OfNumber => 2,
-    }
+    file_of(sought) as u32
 }
 
 /// What is done with a request that a cancel has found, as a set of steps.
@@ -27,12 +23,7 @@ pub extern "C" fn wulgach_sought_file(sought: &Sought) -> u32
 pub extern "C" fn wulgach_course_steps_at_cancel(course: &Course) -> u32
     ensures { (log : List Fact) → KeepsCourse log course.now → result ≡ word_of_cancelling (spec.at_cancel log) }
 {
-    cancelling_word(course.steps_at_cancel())
-}
-
-fn cancelling_word(steps: Cancelling) -> u32
-    ensures { result ≡ word_of_cancelling steps }
-{
+    let steps = course.steps_at_cancel();
     bit(1, steps.rouses)
         | bit(2, steps.looks_again)
         | bit(4, steps.stops_time)

@@ -6,7 +6,7 @@ ghost use Rattle.uring_enter.specs.Cancels.Updates.{HasLooked};
 ghost use Rattle.uring_c.specs.Enter.TakingUp.TakingForm.{word_of_removal};
 
 use uring_enter::{
-    Linked, LinkedUpdate, Removal, found_removal, poll_removal, removal_result, timeout_removal,
+    Linked, LinkedUpdate, found_removal, poll_removal, removal_result, timeout_removal,
     updated_poll, updated_timeout,
 };
 use uring_operations::Submission;
@@ -16,7 +16,7 @@ use uring_operations::Submission;
 pub extern "C" fn wulgach_poll_removal(entry: &Submission, is_found: bool) -> u32
     ensures { result ≡ word_of_removal (spec.found_removal (spec.poll_removal entry.now) is_found) }
 {
-    removal_word(found_removal(poll_removal(entry), is_found))
+    found_removal(poll_removal(entry), is_found) as u32
 }
 
 /// What the removal of a timeout does that has found what it names, or hasn't.
@@ -24,7 +24,7 @@ pub extern "C" fn wulgach_poll_removal(entry: &Submission, is_found: bool) -> u3
 pub extern "C" fn wulgach_timeout_removal(entry: &Submission, is_found: bool) -> u32
     ensures { result ≡ word_of_removal (spec.found_removal (spec.timeout_removal entry.now) is_found) }
 {
-    removal_word(found_removal(timeout_removal(entry), is_found))
+    found_removal(timeout_removal(entry), is_found) as u32
 }
 
 /// What a removal ends with, or an update, that has found what it names, or hasn't.
@@ -33,17 +33,6 @@ pub extern "C" fn wulgach_removal_result(is_found: bool) -> i32
     ensures { result ≡ spec.removal_result is_found }
 {
     removal_result(is_found)
-}
-
-fn removal_word(removal: Removal) -> u32
-    ensures { result ≡ word_of_removal removal }
-{
-    match removal {
-        Removal::Cancel => 0,
-        Removal::Update => 1,
-        Removal::UpdateLinked => 2,
-        Removal::Nothing => 3,
-    }
 }
 
 /// An update of the linked timeout with this user data, which hasn't looked at any.

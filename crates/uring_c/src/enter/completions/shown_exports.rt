@@ -6,7 +6,7 @@ ghost use Rattle.uring_enter.specs.declared.completions.posted.Posted.{Posted as
 ghost use Rattle.uring_enter.specs.Completions.Postings.{Posting, Reaped as RowsReaped, KeepsPosted};
 ghost use Rattle.uring_c.specs.Enter.Completions.ShownForm.{word_of_readable, words_of_store};
 
-use uring_enter::{Prospect, Readable, Shown, Store};
+use uring_enter::{Prospect, Shown, Store};
 
 /// What is to be stored next: `struct wulgach_store` of the header.
 #[repr(C)]
@@ -42,13 +42,7 @@ pub extern "C" fn wulgach_shown_store(shown: &mut Shown, tail: u32, store: &mut 
     ensures after { (log : List Change) (n : ℕ) → KeepsShown log shown.old → IsTold log tail n
         → n ≤ posted log → KeepsShown (after_store log n) shown.new }
 {
-    *store = store_words(shown.store(tail));
-}
-
-fn store_words(store: Store) -> StoreWords
-    ensures { result ≡ words_of_store store }
-{
-    match store {
+    *store = match shown.store(tail) {
         Store::Cell(place, position) => StoreWords {
             place,
             position,
@@ -59,7 +53,7 @@ fn store_words(store: Store) -> StoreWords
             position,
             is_cell: false,
         },
-    }
+    };
 }
 
 /// Writes how many completions the application has reaped, by the head that it has stored, and returns 0. Returns -22, and writes nothing, exactly if that is past the tail.
@@ -116,12 +110,7 @@ pub extern "C" fn wulgach_shown_readable(shown: &Shown, head: u32, known: &Prosp
     ensures { (log : List Change) (n : ℕ) → KeepsShown log shown.now → IsTold log head n
         → result ≡ word_of_readable (readable_of log n known.now) }
 {
-    match shown.readable(head, known) {
-        Readable::IsNot => 0,
-        Readable::Is => 1,
-        Readable::AsksRequests => 2,
-        Readable::AsksTime => 3,
-    }
+    shown.readable(head, known) as u32
 }
 
 /// How many completions stand in the ring that the application hasn't reaped, by the head that it has stored.
@@ -147,19 +136,14 @@ pub extern "C" fn wulgach_shown_flags(
     shown.flags(outstanding, is_readable, has_thread)
 }
 
-/// How many completions were posted so far, as a word.
+/// Whether any were posted since there were so many as this word says, which says then how many there are.
 #[unsafe(no_mangle)]
-pub extern "C" fn wulgach_shown_posted(shown: &Shown) -> u32
-    ensures { (log : List Change) → KeepsShown log shown.now → result ≡ posted log % 2 ^ 32 }
-{
-    shown.posted_word()
-}
-
-/// Whether any were posted since there were so many as this word says.
-#[unsafe(no_mangle)]
-pub extern "C" fn wulgach_shown_has_posted(shown: &Shown, since: u32) -> bool
-    ensures { (log : List Change) (n : ℕ) → KeepsShown log shown.now → WereSoMany log since n
+pub extern "C" fn wulgach_shown_has_posted(shown: &Shown, told: &mut u32) -> bool
+    ensures any { (log : List Change) (n : ℕ) → KeepsShown log shown.now → WereSoMany log told.old n
         → result ≡ nat_lt n (posted log) }
+    ensures told { (log : List Change) → KeepsShown log shown.now → told.new ≡ posted log % 2 ^ 32 }
 {
-    shown.has_posted_since(since)
+    let any = shown.has_posted_since(*told);
+    *told = shown.posted_word();
+    any
 }

@@ -4,7 +4,7 @@ ghost use Rattle.uring_enter.specs.GoingOn.Following as spec;
 ghost use Rattle.uring_c.specs.Enter.GoingOn.FollowingForm.{word_of_end};
 
 use crate::enter::going_on::duty_exports::bit;
-use uring_enter::{AfterEnd, duties_after_end};
+use uring_enter::duties_after_end;
 
 /// What is done after the end of a request, as a set of duties.
 #[unsafe(no_mangle)]
@@ -16,12 +16,7 @@ pub extern "C" fn wulgach_duties_after_end(
 ) -> u32
     ensures { result ≡ word_of_end (spec.after_end has_file has_instance is_stream is_draining) }
 {
-    end_word(duties_after_end(has_file, has_instance, is_stream, is_draining))
-}
-
-fn end_word(duties: AfterEnd) -> u32
-    ensures { result ≡ word_of_end duties }
-{
+    let duties = duties_after_end(has_file, has_instance, is_stream, is_draining);
     bit(1, duties.keeps_completion)
         | bit(2, duties.counts)
         | bit(4, duties.stops_timeout)

@@ -5,8 +5,8 @@ ghost use Rattle.uring_c.specs.Enter.Rings.RingForm.{known_by};
 ghost use Rattle.uring_c.specs.Enter.Waiting.SleepForm.{word_of_sleep, step_of};
 
 use uring_enter::{
-    BeforeSleep, Beginning, SleepOnto, asks_elapsed, is_gone, looked_at_after,
-    looked_at_before_sleep, may_name, next_before_sleep, tries_again, was_made_here,
+    BeforeSleep, SleepOnto, asks_elapsed, is_gone, looked_at_after, looked_at_before_sleep,
+    may_name, next_before_sleep, tries_again, was_made_here,
 };
 
 /// Whether a descriptor of this process may name a ring that was made by that one.
@@ -80,23 +80,14 @@ pub extern "C" fn wulgach_asks_elapsed(may_be_left: bool, rings: u32) -> bool
 pub extern "C" fn wulgach_sleep_next(last: u32, has_brought: bool, fault: i32) -> u32
     ensures { result ≡ word_of_sleep (spec.next_before_sleep (step_of last) has_brought fault) }
 {
-    match next_before_sleep(step(last), has_brought, fault) {
-        SleepOnto::Begins(Beginning::Fails) => 0,
-        SleepOnto::Begins(Beginning::Wakes) => 1,
-        SleepOnto::Begins(Beginning::Sleeps) => 2,
-        SleepOnto::Does(BeforeSleep::LetsOthersGo) => 3,
-        SleepOnto::Does(BeforeSleep::ReadsMask) => 4,
-        SleepOnto::Does(BeforeSleep::DoesDuties) => 5,
-    }
-}
-
-fn step(word: u32) -> Option<BeforeSleep>
-    ensures { result ≡ step_of word }
-{
-    match word {
+    let done = match last {
         3 => Some(BeforeSleep::LetsOthersGo),
         4 => Some(BeforeSleep::ReadsMask),
         5 => Some(BeforeSleep::DoesDuties),
         _ => None,
+    };
+    match next_before_sleep(done, has_brought, fault) {
+        SleepOnto::Begins(begins) => begins as u32,
+        SleepOnto::Does(next) => next as u32 + 3,
     }
 }

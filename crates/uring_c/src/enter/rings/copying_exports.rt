@@ -10,27 +10,14 @@ use uring_enter::{CopyOnto, Way, next_way};
 pub extern "C" fn wulgach_copying_next(last: u32, copied: i64, size: u64) -> u32
     ensures { result ≡ word_of_copy (spec.next_way (way_of last) copied size) }
 {
-    copy_word(next_way(way(last), copied, size))
-}
-
-fn way(word: u32) -> Option<Way>
-    ensures { result ≡ way_of word }
-{
-    match word {
+    let way = match last {
         0 => Some(Way::Process),
         1 => Some(Way::Pipe),
         2 => Some(Way::Plain),
         _ => None,
-    }
-}
-
-fn copy_word(onto: CopyOnto) -> u32
-    ensures { result ≡ word_of_copy onto }
-{
-    match onto {
-        CopyOnto::Goes(Way::Process) => 0,
-        CopyOnto::Goes(Way::Pipe) => 1,
-        CopyOnto::Goes(Way::Plain) => 2,
+    };
+    match next_way(way, copied, size) {
+        CopyOnto::Goes(way) => way as u32,
         CopyOnto::IsCopied => 3,
         CopyOnto::Fails => 4,
     }

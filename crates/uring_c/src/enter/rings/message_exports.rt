@@ -5,8 +5,7 @@ ghost use Rattle.uring_c.specs.Enter.Rings.MessageForm.{word_of_message, fault_o
 
 use crate::enter::going_on::duty_exports::bit;
 use uring_enter::{
-    Message, MessageSteps, Receiver, Sending, is_by_slot, may_be_ring, message_steps, sending_of,
-    told_of,
+    Message, Receiver, Sending, is_by_slot, may_be_ring, message_steps, sending_of, told_of,
 };
 use uring_operations::Submission;
 
@@ -33,26 +32,15 @@ pub extern "C" fn wulgach_sending_of(entry: &Submission, to: &Receiver, fault: &
     ensures fault { fault.new ≡ fault_of_sending (spec.sending_of entry.now to.now) }
 {
     let sending = sending_of(entry, *to);
-    *fault = sending_fault(sending);
-    steps_word(message_steps(sending))
-}
-
-fn steps_word(steps: MessageSteps) -> u32
-    ensures { result ≡ word_of_message steps }
-{
+    *fault = match sending {
+        Sending::Fails(fault) => fault,
+        _ => 0,
+    };
+    let steps = message_steps(sending);
     bit(1, steps.has_memory)
         | bit(2, steps.finds_file)
         | bit(4, steps.passes_file)
         | bit(8, steps.tells)
-}
-
-fn sending_fault(sending: Sending) -> i32
-    ensures { result ≡ fault_of_sending sending }
-{
-    match sending {
-        Sending::Fails(fault) => fault,
-        _ => 0,
-    }
 }
 
 /// Writes what the other ring is told, where a message does what it does with this result. False: nothing.

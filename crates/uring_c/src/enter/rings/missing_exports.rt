@@ -10,10 +10,18 @@ use uring_enter::{Missing, found_fault, missing_fault};
 pub extern "C" fn wulgach_missing_fault(what: u32) -> i32
     ensures { result ≡ missing_fault_of (missing_of what) }
 {
-    match missing(what) {
-        Some(missing) => missing_fault(missing),
-        None => 0,
-    }
+    let missing = match what {
+        0 => Missing::File,
+        1 => Missing::Buffer,
+        2 => Missing::Memory,
+        3 => Missing::OwnMemory,
+        4 => Missing::PathEnd,
+        5 => Missing::Room,
+        6 => Missing::Provided,
+        7 => Missing::Request,
+        _ => return 0,
+    };
+    missing_fault(missing)
 }
 
 /// The fault of looking for a file by its slot, which has one or hasn't, or by its number; or 0.
@@ -22,20 +30,4 @@ pub extern "C" fn wulgach_found_fault(is_of_slot: bool, has_file: bool, fd: i32)
     ensures { result ≡ spec.found_fault is_of_slot has_file fd }
 {
     found_fault(is_of_slot, has_file, fd)
-}
-
-fn missing(word: u32) -> Option<Missing>
-    ensures { result ≡ missing_of word }
-{
-    match word {
-        0 => Some(Missing::File),
-        1 => Some(Missing::Buffer),
-        2 => Some(Missing::Memory),
-        3 => Some(Missing::OwnMemory),
-        4 => Some(Missing::PathEnd),
-        5 => Some(Missing::Room),
-        6 => Some(Missing::Provided),
-        7 => Some(Missing::Request),
-        _ => None,
-    }
 }

@@ -6,8 +6,8 @@ ghost use Rattle.uring_register.specs.Tables.Holding as holding;
 ghost use Rattle.uring_c.specs.Enter.Rings.RingForm.{word_of_region, word_of_onto, stage_of, word_of_fate, known_if};
 
 use uring_enter::{
-    Fate, Mapping, Onto, Region, Stage, fate_of, mapping_fault, names_descriptor, next_stage,
-    placing_flags, protection_of, region_of,
+    Mapping, Onto, Stage, fate_of, mapping_fault, names_descriptor, next_stage, placing_flags,
+    protection_of, region_of,
 };
 use uring_register::{holding_fault, takes_instance, telling_fault};
 
@@ -18,8 +18,7 @@ pub extern "C" fn wulgach_region_of(offset: u64) -> u32
 {
     match region_of(offset) {
         None => 0,
-        Some(Region::Rings) => 1,
-        Some(Region::Entries) => 2,
+        Some(region) => region as u32 + 1,
     }
 }
 
@@ -60,31 +59,16 @@ pub extern "C" fn wulgach_mapping_protection(asked: &Mapping) -> u32
 pub extern "C" fn wulgach_set_up_next(last: u32, res: i32) -> u32
     ensures { result ≡ word_of_onto (spec.next_of (stage_of last) res) }
 {
-    onto_word(next_stage(stage(last), res))
-}
-
-fn stage(word: u32) -> Option<Stage>
-    ensures { result ≡ stage_of word }
-{
-    match word {
+    let stage = match last {
         0 => Some(Stage::Reads),
         1 => Some(Stage::AsksKernel),
         2 => Some(Stage::Makes),
         3 => Some(Stage::Tells),
         4 => Some(Stage::Opens),
         _ => None,
-    }
-}
-
-fn onto_word(onto: Onto) -> u32
-    ensures { result ≡ word_of_onto onto }
-{
-    match onto {
-        Onto::Does(Stage::Reads) => 0,
-        Onto::Does(Stage::AsksKernel) => 1,
-        Onto::Does(Stage::Makes) => 2,
-        Onto::Does(Stage::Tells) => 3,
-        Onto::Does(Stage::Opens) => 4,
+    };
+    match next_stage(stage, res) {
+        Onto::Does(stage) => stage as u32,
         Onto::Fails(_) => 5,
         Onto::Drops(_) => 6,
         Onto::IsDone => 7,
@@ -97,17 +81,7 @@ pub extern "C" fn wulgach_ring_fate(is_own: bool, calls: u32, knows: bool, is_op
     ensures { result ≡ word_of_fate (spec.fate_of is_own calls (known_if knows is_open)) }
 {
     let known = if knows { Some(is_open) } else { None };
-    fate_word(fate_of(is_own, calls, known))
-}
-
-fn fate_word(fate: Fate) -> u32
-    ensures { result ≡ word_of_fate fate }
-{
-    match fate {
-        Fate::Stays => 0,
-        Fate::Asks => 1,
-        Fate::Goes => 2,
-    }
+    fate_of(is_own, calls, known) as u32
 }
 
 /// The fault of a descriptor that a request is to close or to register, or 0.

@@ -77,18 +77,12 @@ pub extern "C" fn wulgach_asks_shared(flags: u32) -> bool
     asks_shared(flags)
 }
 
-/// In how many cells of a ring with these flags an entry stands.
+/// Writes in how many cells of a ring with these flags an entry stands, and a completion.
 #[unsafe(no_mangle)]
-pub extern "C" fn wulgach_entry_cells(flags: u32) -> u32
-    ensures { result ≡ spec.entry_cells flags }
+pub extern "C" fn wulgach_cells_of(flags: u32, entry: &mut u32, completion: &mut u32)
+    ensures entry { entry.new ≡ spec.entry_cells flags }
+    ensures completion { completion.new ≡ spec.completion_cells flags }
 {
-    entry_cells(flags)
-}
-
-/// And a completion.
-#[unsafe(no_mangle)]
-pub extern "C" fn wulgach_completion_cells(flags: u32) -> u32
-    ensures { result ≡ spec.completion_cells flags }
-{
-    completion_cells(flags)
+    *entry = entry_cells(flags);
+    *completion = completion_cells(flags);
 }

@@ -7,7 +7,7 @@ ghost use Rattle.uring_operations.specs.declared.requests.act.Fact.{Fact};
 ghost use Rattle.uring_operations.specs.Requests.Courses.{KeepsCourse};
 ghost use Rattle.uring_c.specs.Enter.TakingUp.DecisionForm.{word_of_when};
 
-use uring_enter::{Chain, Changes, Drains, WhenFound, asks_next, lets_others_start};
+use uring_enter::{Chain, Changes, Drains, asks_next, lets_others_start};
 use uring_operations::{Course, Member, Submission};
 
 /// The first member of a chain has these flags.
@@ -40,12 +40,7 @@ pub extern "C" fn wulgach_drains_find_file(
     ensures { (log : List Drainage) → KeepsDrains log drains.now
         → result ≡ word_of_when (when_found log request.now linux after_change knows_start may_start) }
 {
-    match drains.when_found(request, linux, after_change, knows_start, may_start) {
-        WhenFound::AtItsStart => 0,
-        WhenFound::ByTheCall => 1,
-        WhenFound::InItsTurn => 2,
-        WhenFound::AsksStart => 3,
-    }
+    drains.when_found(request, linux, after_change, knows_start, may_start) as u32
 }
 
 /// Begins the entries of a call, of which none was seen.

@@ -22,7 +22,9 @@ pub extern "C" fn wulgach_taking_begin(
     ensures cell { cell.new ≡ cell_of_next (next_of asked.now []) cell.old }
 {
     *taking = Taking::begin(*asked);
-    *cell = next_cell(taking.first(), *cell);
+    if let Onward::Takes(first) = taking.first() {
+        *cell = first;
+    }
     taking.left
 }
 
@@ -37,9 +39,14 @@ pub extern "C" fn wulgach_taking_took(taking: &mut Taking, item: &Item, cell: &m
     ensures after { (asked : Submitting) (taken : List Item) → KeepsTaking asked taken taking.old
         → KeepsTaking asked (item.now ∷ taken) taking.new }
 {
-    let next = taking.took(*item);
-    *cell = next_cell(next, *cell);
-    next_word(next)
+    match taking.took(*item) {
+        Onward::Takes(next) => {
+            *cell = next;
+            0
+        }
+        Onward::IsFull => 1,
+        Onward::HasEnded => 2,
+    }
 }
 
 /// The fault of a call that memory was refused after so many positions that it has staged, by the core or for the next one; 0: it submits these.
@@ -48,25 +55,6 @@ pub extern "C" fn wulgach_refusal_fault(staged: u32, is_core: bool) -> i32
     ensures { result ≡ refused staged is_core }
 {
     refusal_fault(staged, is_core)
-}
-
-fn next_word(next: Onward) -> u32
-    ensures { result ≡ word_of_next next }
-{
-    match next {
-        Onward::Takes(_) => 0,
-        Onward::IsFull => 1,
-        Onward::HasEnded => 2,
-    }
-}
-
-fn next_cell(next: Onward, old: u32) -> u32
-    ensures { result ≡ cell_of_next next old }
-{
-    match next {
-        Onward::Takes(cell) => cell,
-        _ => old,
-    }
 }
 
 /// How many ways a choice has.
@@ -83,30 +71,14 @@ pub extern "C" fn wulgach_ways_at(ways: &Ways, number: u32, place: &mut u32) -> 
     ensures kind { result ≡ word_of_way (way_of ways.now.ready ways.now.issuable ways.now.may_return number) }
     ensures place { place.new ≡ place_of_way (way_of ways.now.ready ways.now.issuable ways.now.may_return number) }
 {
-    let way = ways.at(number);
-    *place = way_place(way);
-    way_word(way)
-}
-
-fn way_word(way: Option<Way>) -> u32
-    ensures { result ≡ word_of_way way }
-{
-    match way {
-        None => 0,
-        Some(Way::Finish(_)) => 1,
-        Some(Way::Issue(_)) => 2,
-        Some(Way::Return) => 3,
-    }
-}
-
-fn way_place(way: Option<Way>) -> u32
-    ensures { result ≡ place_of_way way }
-{
-    match way {
-        Some(Way::Finish(place)) => place,
-        Some(Way::Issue(place)) => place,
-        _ => 0,
-    }
+    let (kind, at) = match ways.at(number) {
+        None => (0, 0),
+        Some(Way::Finish(at)) => (1, at),
+        Some(Way::Issue(at)) => (2, at),
+        Some(Way::Return) => (3, 0),
+    };
+    *place = at;
+    kind
 }
 
 /// No request was accepted.

@@ -6,7 +6,7 @@ ghost use Rattle.uring_enter.specs.declared.call.wait.Wait.{Wait};
 ghost use Rattle.uring_enter.specs.declared.call.wait.Woken.{Woken};
 ghost use Rattle.uring_operations.specs.Entries.Timeouts.{Event, Started, Posted, Changed, Stopped, Clock, Passed, Ended};
 ghost use Rattle.uring_operations.specs.Entries.Timeouts.{nanoseconds_of, running, outcome, is_over, cancelled_by, fires, linked_outcome};
-ghost use Rattle.uring_operations.specs.Entries.Timeouts.{posted, NoneIsOver, IsNext, IsReachedOf, AreApart, HasNone, IsRow, EndsNone};
+ghost use Rattle.uring_operations.specs.Entries.Timeouts.{posted, NoneIsOver, IsNext, IsReachedOf, AreApart, IsRow, EndsNone};
 ghost use Rattle.uring_enter.specs.Time.Held.{Posting, OfEnd, AtOnce, KeepsHeld, held_for};
 ghost use Rattle.uring_enter.specs.Time.Held.{is_at_once as posts_at_once};
 ghost use Rattle.uring_enter.specs.Time.Kept.{HasCounted, KeepsTime};
@@ -183,17 +183,6 @@ pub extern "C" fn wulgach_times_has_counted(times: &Times, rows: &[Timeout], num
     times.has_counted(rows, number)
 }
 
-/// Whether a timeout of this number runs.
-#[unsafe(no_mangle)]
-pub extern "C" fn wulgach_times_runs(times: &Times, rows: &[Timeout], number: u64) -> bool
-    ensures runs { (log : List Event) → KeepsTime log times.now rows.now → result ≡ true
-        → (t : Timeout) × IsRow number (running log) t }
-    ensures none { (log : List Event) → KeepsTime log times.now rows.now → result ≡ false
-        → HasNone number (running log) }
-{
-    times.runs(rows, number)
-}
-
 /// A request has ended, by this course, and its completion was posted or skipped. It counts, unless it is that of a timeout which its time or its count has ended. Says whether it does.
 #[unsafe(no_mangle)]
 pub extern "C" fn wulgach_times_count_end(
@@ -366,30 +355,20 @@ pub extern "C" fn wulgach_timeout_fires(timeout: &Timeout, runs: bool, is_cancel
     timeout.fires(runs, is_cancellable)
 }
 
-/// Writes how long a call sleeps at most that is to sleep until then.
+/// Writes how long a call sleeps at most that is to sleep until then, and to when time moves on after such a sleep, where nothing has woken it, or that it doesn't.
 #[unsafe(no_mangle)]
 pub extern "C" fn wulgach_times_sleeps_for(
     times: &Times,
     until: &LimitWords,
     can_be_woken: bool,
     limit: &mut LimitWords,
-)
-    ensures { (log : List Event) (rows : List Timeout) → KeepsTime log times.now rows
-        → limit.new ≡ words_of_limit (lasts_at_most log (limit_of until.now) can_be_woken) }
-{
-    *limit = limit_words(times.sleeps_for(until.limit(), can_be_woken));
-}
-
-/// Writes to when time moves on after such a sleep, where nothing has woken it, or that it doesn't.
-#[unsafe(no_mangle)]
-pub extern "C" fn wulgach_times_comes_to(
-    times: &Times,
-    until: &LimitWords,
-    can_be_woken: bool,
     end: &mut LimitWords,
 )
-    ensures { (log : List Event) (rows : List Timeout) → KeepsTime log times.now rows
+    ensures lasts { (log : List Event) (rows : List Timeout) → KeepsTime log times.now rows
+        → limit.new ≡ words_of_limit (lasts_at_most log (limit_of until.now) can_be_woken) }
+    ensures end { (log : List Event) (rows : List Timeout) → KeepsTime log times.now rows
         → end.new ≡ words_of_limit (comes_to log (limit_of until.now) can_be_woken) }
 {
+    *limit = limit_words(times.sleeps_for(until.limit(), can_be_woken));
     *end = limit_words(times.comes_to(until.limit(), can_be_woken));
 }

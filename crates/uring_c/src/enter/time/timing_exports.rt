@@ -12,10 +12,8 @@ ghost use Rattle.uring_c.specs.Enter.Time.ChangingForm.{word_of_changing};
 ghost use Rattle.uring_c.specs.Enter.Rings.RingForm.{word_of_timing, word_of_visit, word_of_awaited, word_of_turn};
 
 use crate::enter::going_on::duty_exports::bit;
-use uring_enter::{Awaiting, Receiver, Visit, posts_message, visit_of, visits_again};
-use uring_operations::{
-    Awaited, Changing, Course, Member, Timing, is_linked_timeout, is_timed, is_timeout,
-};
+use uring_enter::{Awaiting, Receiver, posts_message, visit_of, visits_again};
+use uring_operations::{Course, Member, is_linked_timeout, is_timed, is_timeout};
 
 /// Whether the operation of this code is a timeout.
 #[unsafe(no_mangle)]
@@ -52,7 +50,7 @@ pub extern "C" fn wulgach_timing_after_start(
         × ((log : List Happened) → is_found ≡ was_found timeout.now log
         → runs_after t (runs timeout.now log) ≡ runs timeout.now (Starts request.now ∷ log)) }
 {
-    timing_word(timeout.after_start(request, is_found))
+    timeout.after_start(request, is_found) as u32
 }
 
 /// The same when a cancel finds a request.
@@ -62,7 +60,7 @@ pub extern "C" fn wulgach_timing_after_finding(timeout: &Member, request: &Membe
         × ((log : List Happened)
         → runs_after t (runs timeout.now log) ≡ runs timeout.now (IsFound request.now ∷ log)) }
 {
-    timing_word(timeout.after_finding(request))
+    timeout.after_finding(request) as u32
 }
 
 /// The same when a request has ended.
@@ -72,17 +70,7 @@ pub extern "C" fn wulgach_timing_after_end(timeout: &Member, request: &Member) -
         × ((log : List Happened)
         → runs_after t (runs timeout.now log) ≡ runs timeout.now (Ends request.now ∷ log)) }
 {
-    timing_word(timeout.after_end(request))
-}
-
-fn timing_word(timing: Timing) -> u32
-    ensures { result ≡ word_of_timing timing }
-{
-    match timing {
-        Timing::Stays => 0,
-        Timing::Begins => 1,
-        Timing::Stops => 2,
-    }
+    timeout.after_end(request) as u32
 }
 
 /// Returns what the sender of a message to this ring does after one that has come to this result.
@@ -90,11 +78,7 @@ fn timing_word(timing: Timing) -> u32
 pub extern "C" fn wulgach_visit_of(to: &Receiver, res: i32) -> u32
     ensures { result ≡ word_of_visit (visits.visit_of to.now res) }
 {
-    match visit_of(*to, res) {
-        Visit::Nothing => 0,
-        Visit::Posts => 1,
-        Visit::Visits => 2,
-    }
+    visit_of(*to, res) as u32
 }
 
 /// Whether a message that a ring was sent is posted now, where there is one and a completion may be posted, or may not.
@@ -118,12 +102,7 @@ pub extern "C" fn wulgach_visits_again(is_there: bool, was_left: bool, could_pos
 pub extern "C" fn wulgach_course_steps_at_update(course: &Course) -> u32
     ensures { (log : List Fact) → KeepsCourse log course.now → result ≡ word_of_changing (afresh.at_update log) }
 {
-    changing_word(course.steps_at_update())
-}
-
-fn changing_word(steps: Changing) -> u32
-    ensures { result ≡ word_of_changing steps }
-{
+    let steps = course.steps_at_update();
     bit(1, steps.rouses)
         | bit(2, steps.delists)
         | bit(4, steps.changes)
@@ -166,7 +145,7 @@ pub extern "C" fn wulgach_awaiting_sees(
         → may_see looks number ≡ false → awaiting.new ≡ awaiting.old }
 {
     match awaiting.sees(number, course, may_start) {
-        Ok(awaited) => awaited_word(awaited),
+        Ok(awaited) => awaited as u32,
         Err(_) => 3,
     }
 }
@@ -178,14 +157,4 @@ pub extern "C" fn wulgach_awaiting_ends(awaiting: &mut Awaiting)
         → KeepsAwaiting (HasEnded ∷ looks) awaiting.new }
 {
     awaiting.ends();
-}
-
-fn awaited_word(awaited: Awaited) -> u32
-    ensures { result ≡ word_of_awaited awaited }
-{
-    match awaited {
-        Awaited::NotAwaited => 0,
-        Awaited::Runs => 1,
-        Awaited::Waits => 2,
-    }
 }

@@ -6,7 +6,7 @@ ghost use Rattle.uring_enter.specs.Completions.Storing as storing;
 ghost use Rattle.uring_c.specs.Enter.Waiting.HearingForm.{hearing_of, occasion_of, word_of_hearing, word_of_telling};
 
 use uring_enter::{
-    Hearing, Occasion, PipePoll, Telling, asks_overflow, has_event_first, may_take, next_at_begin,
+    Hearing, Occasion, PipePoll, asks_overflow, has_event_first, may_take, next_at_begin,
     next_at_rest, telling_of,
 };
 use uring_operations::{Needs, Standing};
@@ -46,12 +46,7 @@ fn hearing_word(next: Option<Hearing>) -> u32
 {
     match next {
         None => 0,
-        Some(Hearing::Adds) => 1,
-        Some(Hearing::Drops) => 2,
-        Some(Hearing::TellsOfGone) => 3,
-        Some(Hearing::Sorts) => 4,
-        Some(Hearing::Reads) => 5,
-        Some(Hearing::CountsAsHeard) => 6,
+        Some(next) => next as u32 + 1,
     }
 }
 
@@ -60,11 +55,7 @@ fn hearing_word(next: Option<Hearing>) -> u32
 pub extern "C" fn wulgach_telling_of(poll: &PipePoll, watch: u32, is_known: bool) -> u32
     ensures { result ≡ word_of_telling (spec.telling_of poll.now watch is_known) }
 {
-    match telling_of(poll, watch, is_known) {
-        Telling::PassesOver => 0,
-        Telling::Asks => 1,
-        Telling::Tells => 2,
-    }
+    telling_of(poll, watch, is_known) as u32
 }
 
 /// Whether an operation may take what polls wait for.
@@ -92,16 +83,11 @@ pub extern "C" fn wulgach_has_event_first(
 pub extern "C" fn wulgach_asks_overflow(occasion: u32) -> bool
     ensures { result ≡ storing.asks_overflow (occasion_of occasion) }
 {
-    asks_overflow(occasion_at(occasion))
-}
-
-fn occasion_at(word: u32) -> Occasion
-    ensures { result ≡ occasion_of word }
-{
-    match word {
+    let occasion = match occasion {
         0 => Occasion::Call(false),
         1 => Occasion::Call(true),
         2 => Occasion::Step,
         _ => Occasion::Posting,
-    }
+    };
+    asks_overflow(occasion)
 }

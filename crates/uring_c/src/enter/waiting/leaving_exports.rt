@@ -4,19 +4,14 @@ ghost use Rattle.uring_enter.specs.Waiting.Leaving as spec;
 ghost use Rattle.uring_c.specs.Enter.Waiting.LeavingForm.{word_of_left};
 
 use crate::enter::going_on::duty_exports::bit;
-use uring_enter::{Left, left_of};
+use uring_enter::left_of;
 
 /// Returns what this process leaves undone with a ring that was made by that one, as a set.
 #[unsafe(no_mangle)]
 pub extern "C" fn wulgach_left_of(maker: u32, process: u32) -> u32
     ensures { result ≡ word_of_left (spec.left_of maker process) }
 {
-    left_word(left_of(maker, process))
-}
-
-fn left_word(left: Left) -> u32
-    ensures { result ≡ word_of_left left }
-{
+    let left = left_of(maker, process);
     bit(1, left.lock)
         | bit(2, left.sleep)
         | bit(4, left.duties)

@@ -9,12 +9,9 @@ ghost use Rattle.uring_enter.specs.Waiting.Waiters.{Encounter, Around, WasSeen, 
 ghost use Rattle.uring_c.specs.Enter.Call.PassageForm.{word_of_glance, word_of_answered, word_of_enlisting, word_of_gone};
 ghost use Rattle.uring_c.specs.Enter.Rings.RingForm.{known_if};
 
-use uring_enter::{
-    Answered, Enlisting, Gone, Lookout, Waiter, answer_of, dormant_events, enlisting_after,
-    takes_descriptor,
-};
+use uring_enter::{Lookout, Waiter, answer_of, dormant_events, enlisting_after, takes_descriptor};
 use uring_operations::{
-    Glance, Submission, asks_breaking, asks_broken, glance_of, is_found_ready, unshown_glance,
+    Submission, asks_breaking, asks_broken, glance_of, is_found_ready, unshown_glance,
 };
 
 /// Returns what a poll(2), of one descriptor or of many, says of a request.
@@ -27,7 +24,7 @@ pub extern "C" fn wulgach_glance_of(
 ) -> u32
     ensures { result ≡ word_of_glance (glances.glance_of is_impatient is_of_many came events) }
 {
-    glance_word(glance_of(is_impatient, is_of_many, came, events))
+    glance_of(is_impatient, is_of_many, came, events) as u32
 }
 
 /// Returns what is found of a request whose descriptor has shown nothing, once more is known of it.
@@ -35,17 +32,7 @@ pub extern "C" fn wulgach_glance_of(
 pub extern "C" fn wulgach_unshown_glance(is_impatient: bool) -> u32
     ensures { result ≡ word_of_glance (glances.unshown_glance is_impatient) }
 {
-    glance_word(unshown_glance(is_impatient))
-}
-
-fn glance_word(glance: Glance) -> u32
-    ensures { result ≡ word_of_glance glance }
-{
-    match glance {
-        Glance::Unready => 0,
-        Glance::Ready => 1,
-        Glance::AsksAlone => 2,
-    }
+    unshown_glance(is_impatient) as u32
 }
 
 /// Whether a request whose socket was found unready, of this family and type, is ready all the same if that was shut down for writing.
@@ -113,11 +100,7 @@ pub extern "C" fn wulgach_dormant_events(events: u16) -> u32
 pub extern "C" fn wulgach_instance_answered(came: i32, most: i32) -> u32
     ensures { result ≡ word_of_answered (lying.answer_of came most) }
 {
-    match answer_of(came, most) {
-        Answered::IsDone => 0,
-        Answered::AsksAgain => 1,
-        Answered::RousesAll => 2,
-    }
+    answer_of(came, most) as u32
 }
 
 /// Whether the writes that are heard now are told to no poll.
@@ -135,11 +118,7 @@ pub extern "C" fn wulgach_waiter_gone(waiter: &Waiter, knows: bool, is_there: bo
         → result ≡ word_of_gone (missed.gone (has_heard log) (known_if knows is_there)) }
 {
     let known = if knows { Some(is_there) } else { None };
-    match waiter.gone(known) {
-        Gone::No => 0,
-        Gone::Asks => 1,
-        Gone::Yes => 2,
-    }
+    waiter.gone(known) as u32
 }
 
 /// What becomes of a descriptor whose adding to the epoll instance of those that wait came to this, itself or a duplicate.
@@ -147,9 +126,5 @@ pub extern "C" fn wulgach_waiter_gone(waiter: &Waiter, knows: bool, is_there: bo
 pub extern "C" fn wulgach_enlisting_after(came: i32, is_duplicate: bool) -> u32
     ensures { result ≡ word_of_enlisting (enlisting.enlisting_after came is_duplicate) }
 {
-    match enlisting_after(came, is_duplicate) {
-        Enlisting::Listed => 0,
-        Enlisting::AddsDuplicate => 1,
-        Enlisting::Unlisted => 2,
-    }
+    enlisting_after(came, is_duplicate) as u32
 }

@@ -5,7 +5,7 @@ ghost use Rattle.uring_enter.specs.Waiting.Watching as spec;
 ghost use Rattle.uring_c.specs.Enter.Rings.MessageForm.{enlisted_of, word_of_besides, word_of_enlisted, word_of_watch, watched_of};
 
 use crate::enter::going_on::duty_exports::bit;
-use uring_enter::{Enlisted, Watch, Watched, adds_after, enlisted_as, polls_besides, watch_of};
+use uring_enter::{Enlisted, Watched, adds_after, enlisted_as, polls_besides, watch_of};
 
 /// Begins a descriptor for which nobody waits.
 #[unsafe(no_mangle)]
@@ -57,25 +57,9 @@ pub extern "C" fn wulgach_watch_of(
     ensures { result ≡ word_of_watch (change_of (watched_of before.now was_watched)
         (watched_of after.now is_watched)) }
 {
-    let before = watched_if(*before, was_watched);
-    watch_word(watch_of(before, watched_if(*after, is_watched)))
-}
-
-fn watched_if(watched: Watched, has: bool) -> Option<Watched>
-    ensures { result ≡ watched_of watched has }
-{
-    if has { Some(watched) } else { None }
-}
-
-fn watch_word(watch: Watch) -> u32
-    ensures { result ≡ word_of_watch watch }
-{
-    match watch {
-        Watch::Stays => 0,
-        Watch::Adds => 1,
-        Watch::Removes => 2,
-        Watch::Renews => 3,
-    }
+    let before = if was_watched { Some(*before) } else { None };
+    let after = if is_watched { Some(*after) } else { None };
+    watch_of(before, after) as u32
 }
 
 /// Whether a descriptor is added whose renewal came to this.
@@ -91,11 +75,7 @@ pub extern "C" fn wulgach_watch_adds_after(res: i32) -> bool
 pub extern "C" fn wulgach_enlisted_with(all: u32, res: i32) -> u32
     ensures { result ≡ word_of_enlisted (spec.both (enlisted_of all) (spec.enlisted_as res)) }
 {
-    match enlisted(all).with(enlisted_as(res)) {
-        Enlisted::Tells => 0,
-        Enlisted::IsReady => 1,
-        Enlisted::CantTell => 2,
-    }
+    enlisted(all).with(enlisted_as(res)) as u32
 }
 
 /// What an instance makes of several descriptors, by its word in C.

@@ -6,7 +6,7 @@ ghost use Rattle.uring_operations.specs.Calls.Parts as parts;
 ghost use Rattle.uring_operations.specs.Files.Asking as asking;
 ghost use Rattle.uring_operations.specs.Requests.Readiness as ready;
 ghost use Rattle.uring_operations.specs.Calls.TransferCalls.{call_of};
-ghost use Rattle.uring_c.specs.Operations.Calls.MeansForm.{words, by_list, words_of_means, fault_of_word, can_have_one};
+ghost use Rattle.uring_c.specs.Operations.Calls.MeansForm.{words, words_of_means, fault_of_word, can_have_one};
 ghost use Rattle.uring_crossing.specs.LayerWords.WaitForm.{task_of};
 ghost use Rattle.uring_c.specs.Operations.Calls.ShuttingForm.{word_of_shutting, end_of_shutting, shutting_of};
 
@@ -33,7 +33,41 @@ pub struct MeansWords {
 pub extern "C" fn wulgach_means_of(entry: &Submission, held: &Held, means: &mut MeansWords)
     ensures { means.new ≡ words_of_means (spec.means_of entry.now held.now) }
 {
-    *means = means_words(means_of(entry, held));
+    *means = match means_of(entry, held) {
+        Means::Nothing => words(0, 0, NO_CALL),
+        Means::Transfer => words(1, 0, NO_CALL),
+        Means::Poll => words(2, 0, NO_CALL),
+        Means::Call(call) => words(3, 0, call),
+        Means::Opening(call, slot) => words(4, slot, call),
+        Means::Sync(call) => words(5, 0, call),
+        Means::Close(call) => words(6, 0, call),
+        Means::Connect(call) => words(7, 0, call),
+        Means::Splice(call) => words(8, 0, call),
+        Means::Send(call) => words(9, 0, call),
+        Means::Receive(call) => words(10, 0, call),
+        Means::ReceiveMessage(call) => words(11, 0, call),
+        Means::SlotRemoval(slot) => words(12, slot, NO_CALL),
+        Means::FilesPlacing(listed) => MeansWords {
+            kind: 13,
+            slot: 0,
+            listed,
+            call: NO_CALL,
+        },
+        Means::FilesUpdate(slot, listed) => MeansWords {
+            kind: 14,
+            slot,
+            listed,
+            call: NO_CALL,
+        },
+        Means::Timeout => words(15, 0, NO_CALL),
+        Means::LinkedTimeout => words(16, 0, NO_CALL),
+        Means::Provision => words(17, 0, NO_CALL),
+        Means::ProvisionRemoval => words(18, 0, NO_CALL),
+        Means::Message => words(19, 0, NO_CALL),
+        Means::Cancel => words(20, 0, NO_CALL),
+        Means::PollRemoval => words(21, 0, NO_CALL),
+        Means::TimeoutRemoval => words(22, 0, NO_CALL),
+    };
 }
 
 const NO_CALL: SystemCall = SystemCall {
@@ -59,47 +93,6 @@ fn words(kind: u32, slot: u32, call: SystemCall) -> MeansWords
         slot,
         listed: NO_LIST,
         call,
-    }
-}
-
-fn with_list(kind: u32, slot: u32, listed: Listed) -> MeansWords
-    ensures { result ≡ by_list kind slot listed }
-{
-    MeansWords {
-        kind,
-        slot,
-        listed,
-        call: NO_CALL,
-    }
-}
-
-fn means_words(means: Means) -> MeansWords
-    ensures { result ≡ words_of_means means }
-{
-    match means {
-        Means::Nothing => words(0, 0, NO_CALL),
-        Means::Transfer => words(1, 0, NO_CALL),
-        Means::Poll => words(2, 0, NO_CALL),
-        Means::Call(call) => words(3, 0, call),
-        Means::Opening(call, slot) => words(4, slot, call),
-        Means::Sync(call) => words(5, 0, call),
-        Means::Close(call) => words(6, 0, call),
-        Means::Connect(call) => words(7, 0, call),
-        Means::Splice(call) => words(8, 0, call),
-        Means::Send(call) => words(9, 0, call),
-        Means::Receive(call) => words(10, 0, call),
-        Means::ReceiveMessage(call) => words(11, 0, call),
-        Means::SlotRemoval(slot) => words(12, slot, NO_CALL),
-        Means::FilesPlacing(listed) => with_list(13, 0, listed),
-        Means::FilesUpdate(slot, listed) => with_list(14, slot, listed),
-        Means::Timeout => words(15, 0, NO_CALL),
-        Means::LinkedTimeout => words(16, 0, NO_CALL),
-        Means::Provision => words(17, 0, NO_CALL),
-        Means::ProvisionRemoval => words(18, 0, NO_CALL),
-        Means::Message => words(19, 0, NO_CALL),
-        Means::Cancel => words(20, 0, NO_CALL),
-        Means::PollRemoval => words(21, 0, NO_CALL),
-        Means::TimeoutRemoval => words(22, 0, NO_CALL),
     }
 }
 
@@ -233,40 +226,6 @@ pub extern "C" fn wulgach_is_shut(came: i32, events: u16) -> bool
     is_shut(came, events)
 }
 
-fn shutting_word(step: Shutting) -> u32
-    ensures { result ≡ word_of_shutting step }
-{
-    match step {
-        Shutting::Ends(_) => 0,
-        Shutting::AsksShut => 1,
-        Shutting::CallsAgain => 2,
-        Shutting::AsksWill => 3,
-        Shutting::AsksLocal => 4,
-    }
-}
-
-fn shutting_end(step: Shutting, old: i32) -> i32
-    ensures { result ≡ end_of_shutting step old }
-{
-    match step {
-        Shutting::Ends(res) => res,
-        _ => old,
-    }
-}
-
-/// What was done, by its word. `None`: the call itself.
-fn shutting(word: u32) -> Option<Shutting>
-    ensures { result ≡ shutting_of word }
-{
-    match word {
-        1 => Some(Shutting::AsksShut),
-        2 => Some(Shutting::CallsAgain),
-        3 => Some(Shutting::AsksWill),
-        4 => Some(Shutting::AsksLocal),
-        _ => None,
-    }
-}
-
 /// Returns what is next after a call of this entry, where what was done last came to `res`, and writes what the call came to, if that is known.
 #[unsafe(no_mangle)]
 pub extern "C" fn wulgach_shutting_next(
@@ -278,9 +237,23 @@ pub extern "C" fn wulgach_shutting_next(
     ensures next { result ≡ word_of_shutting (results.shutting_next entry.now (shutting_of last) res) }
     ensures end { end.new ≡ end_of_shutting (results.shutting_next entry.now (shutting_of last) res) end.old }
 {
-    let step = shutting_next(entry, shutting(last), res);
-    *end = shutting_end(step, *end);
-    shutting_word(step)
+    let done = match last {
+        1 => Some(Shutting::AsksShut),
+        2 => Some(Shutting::CallsAgain),
+        3 => Some(Shutting::AsksWill),
+        4 => Some(Shutting::AsksLocal),
+        _ => None,
+    };
+    match shutting_next(entry, done, res) {
+        Shutting::Ends(res) => {
+            *end = res;
+            0
+        }
+        Shutting::AsksShut => 1,
+        Shutting::CallsAgain => 2,
+        Shutting::AsksWill => 3,
+        Shutting::AsksLocal => 4,
+    }
 }
 
 /// Whether an operation has taken its provided buffer though it came to this, and moved nothing.

@@ -7,9 +7,9 @@ ghost use Rattle.uring_c.specs.Operations.Calls.CarryingForm.{res_of_source, wor
 ghost use Rattle.uring_c.specs.Operations.Calls.MeansForm.{fault_of_word};
 
 use crate::operations::calls::call_exports::fault_of;
-use uring_enter::{Calls, Source, calls_of, finish_steps, half_in, left_of_buffer, source_of};
+use uring_enter::{Source, calls_of, finish_steps, half_in, left_of_buffer, source_of};
 use uring_operations::{
-    Locked, Locking, ToldLock, asked_descriptors, asked_flags, flags_after, next_of_locking,
+    Locked, ToldLock, asked_descriptors, asked_flags, flags_after, next_of_locking,
 };
 
 /// Returns where the result of the operation of this code comes from, whose start has found this error, or 0, and which is given this fault, or none, and writes the result of a fault that it is given. Else nothing is written.
@@ -51,12 +51,7 @@ pub extern "C" fn wulgach_left_of_buffer(length: u64, all: u64, part: u64) -> u6
 pub extern "C" fn wulgach_calls_of(code: u8) -> u32
     ensures { result ≡ word_of_calls (spec.calls_of code) }
 {
-    match calls_of(code) {
-        Calls::OfTransfer => 0,
-        Calls::OfPoll => 1,
-        Calls::InTurn => 2,
-        Calls::Once => 3,
-    }
+    calls_of(code) as u32
 }
 
 /// Of how many descriptors of the operation of this code it is asked that they don't wait while its call is made.
@@ -135,11 +130,5 @@ pub extern "C" fn wulgach_asks_list_of_locks(told: &ToldLock) -> bool
 pub extern "C" fn wulgach_locking_next(locked: &Locked) -> u32
     ensures { result ≡ word_of_locking (asking.next_of_locking locked.now) }
 {
-    match next_of_locking(locked) {
-        Locking::Tries => 0,
-        Locking::Yields => 1,
-        Locking::Pauses => 2,
-        Locking::Holds => 3,
-        Locking::GoesWithout => 4,
-    }
+    next_of_locking(locked) as u32
 }

@@ -14,7 +14,7 @@ ghost use Rattle.uring_crossing.specs.LayerWords.CourseForm.{entry_of};
 
 use uring_crossing::course_words::entry_if;
 use uring_operations::{
-    Copying, Entry, Header, Piece, Submission, What, how_fault, is_address_alone, is_own_fault,
+    Copying, Entry, Header, Piece, Submission, how_fault, is_address_alone, is_own_fault,
     length_with, message_vectors, name_fault, next_message_piece, next_piece, one_buffer,
     open_fault, text_part, time_fault, vector_fault, wanted_of,
 };
@@ -90,26 +90,9 @@ fn piece_words(piece: &Piece) -> PieceWords
     ensures { result ≡ words_of_piece piece.now }
 {
     PieceWords {
-        what: what_word(piece.what),
+        what: piece.what as u32,
         from: piece.from,
         size: piece.size,
-    }
-}
-
-fn what_word(what: What) -> u32
-    ensures { result ≡ word_of_what what }
-{
-    match what {
-        What::Buffer => 0,
-        What::Vectors => 1,
-        What::Path => 2,
-        What::SecondPath => 3,
-        What::How => 4,
-        What::Time => 5,
-        What::Value => 6,
-        What::Message => 7,
-        What::Address => 8,
-        What::HowRest => 9,
     }
 }
 

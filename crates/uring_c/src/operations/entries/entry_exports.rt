@@ -9,8 +9,7 @@ ghost use Rattle.uring_c.specs.Enter.Rings.RingForm.{form_of_word};
 use crate::operations::entries::form_exports::form_word;
 use uring_crossing::whole_call_memory::EntryWords;
 use uring_enter::{
-    Beside, CoreEntry, beside_of, core_entry_between, core_entry_of, extra_of, is_one_chain,
-    slot_of, told_of_end,
+    Beside, CoreEntry, beside_of, core_entry_between, extra_of, is_one_chain, slot_of, told_of_end,
 };
 use uring_operations::{Form, Layout, Member, Submission, layout_of, no_op_result};
 
@@ -28,14 +27,6 @@ pub extern "C" fn wulgach_is_one_chain(one: &Member, other: &Member) -> bool
     ensures { result ≡ spec.is_one_chain one.now other.now }
 {
     is_one_chain(one, other)
-}
-
-/// Writes what the core is given of an entry that is this to it.
-#[unsafe(no_mangle)]
-pub extern "C" fn wulgach_core_entry_of(entry: &Submission, form: u32, made: &mut CoreEntry)
-    ensures { made.new ≡ spec.core_entry_of entry.now (form_of_word form) }
-{
-    *made = core_entry_of(entry, form_by_word(form));
 }
 
 /// Writes what is to be known of an entry to say what is told of the one beside it.

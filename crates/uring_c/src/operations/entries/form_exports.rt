@@ -26,7 +26,10 @@ pub extern "C" fn wulgach_form_of(
     ensures fault { fault.new ≡ fault_of_form (form_of entry.now refusal is_allowed) }
 {
     let form = form_of(entry, refusal, is_allowed);
-    *fault = form_fault(form);
+    *fault = match form {
+        Form::Refused(fault) => fault,
+        _ => 0,
+    };
     form_word(form)
 }
 
@@ -61,15 +64,6 @@ pub(crate) fn form_word(form: Form) -> u32
         Form::Token => 0,
         Form::Cancel => 1,
         Form::Refused(_) => 2,
-    }
-}
-
-fn form_fault(form: Form) -> i32
-    ensures { result ≡ fault_of_form form }
-{
-    match form {
-        Form::Refused(fault) => fault,
-        _ => 0,
     }
 }
 

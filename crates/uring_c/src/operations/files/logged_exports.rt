@@ -10,12 +10,11 @@ ghost use Rattle.uring_operations.specs.Files.Mapped.{IsChange};
 ghost use Rattle.uring_c.specs.Operations.Files.LoggedForm.{word_of_logged_call, word_of_written};
 
 use uring_operations::{
-    Bits, CallWords, FilePart, LastPart, LoggedCall, MappedMemory, SystemCall, Written, asked_at,
-    bits_of_call, changed_part, end_result, event_size, follows_link, has_synced_memory,
-    is_entry_name, is_made, last_part, linked_flags, log_goes_on, logged_call, logged_of_vector,
-    logs_names, looks_at_map, may_have_vectors, next_mapped_page, parts_alone, path_part,
-    readable_bytes, says_how, synced_part, takes_events, tells_file, whole_pages, words_of_call,
-    written_as,
+    Bits, CallWords, FilePart, LastPart, MappedMemory, SystemCall, asked_at, bits_of_call,
+    changed_part, end_result, event_size, follows_link, has_synced_memory, is_entry_name, is_made,
+    last_part, linked_flags, log_goes_on, logged_call, logged_of_vector, logs_names, looks_at_map,
+    may_have_vectors, next_mapped_page, parts_alone, path_part, readable_bytes, says_how,
+    synced_part, takes_events, tells_file, whole_pages, words_of_call, written_as,
 };
 
 /// Returns what the system call of this number is logged as.
@@ -23,24 +22,7 @@ use uring_operations::{
 pub extern "C" fn wulgach_logged_call(number: u64) -> u32
     ensures { result ≡ word_of_logged_call (calls.logged_call number) }
 {
-    match logged_call(number) {
-        LoggedCall::Nothing => 0,
-        LoggedCall::Write => 1,
-        LoggedCall::Copy => 2,
-        LoggedCall::Sync => 3,
-        LoggedCall::SyncAll => 4,
-        LoggedCall::Length => 5,
-        LoggedCall::Space => 6,
-        LoggedCall::Open => 7,
-        LoggedCall::MakeFolder => 8,
-        LoggedCall::MakeLink => 9,
-        LoggedCall::Link => 10,
-        LoggedCall::Rename => 11,
-        LoggedCall::Remove => 12,
-        LoggedCall::Map => 13,
-        LoggedCall::SyncMemory => 14,
-        LoggedCall::Exit => 15,
-    }
+    logged_call(number) as u32
 }
 
 /// Writes which bits of an argument it has some of, where it is logged only then. False, and nothing is written: it is logged whatever its arguments, or never.
@@ -77,11 +59,7 @@ pub extern "C" fn wulgach_is_made(number: u64) -> bool
 pub extern "C" fn wulgach_written_as(length: u64, is_on_disk: bool, is_output: bool) -> u32
     ensures { result ≡ word_of_written (logged.written_as length is_on_disk is_output) }
 {
-    match written_as(length, is_on_disk, is_output) {
-        Written::Nothing => 0,
-        Written::Print => 1,
-        Written::File => 2,
-    }
+    written_as(length, is_on_disk, is_output) as u32
 }
 
 /// Whether a call may have so many vectors.

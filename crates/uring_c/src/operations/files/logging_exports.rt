@@ -6,8 +6,8 @@ ghost use Rattle.uring_c.specs.Enter.Rings.RingForm.{form_of_word};
 
 use crate::operations::entries::entry_exports::form_by_word;
 use uring_operations::{
-    Begins, Logged, LoggedOpen, Submission, SyncedBytes, SyncedKind, Writing, is_logged_kind,
-    is_on_disk, logged_of, open_logged, synced_bytes, syncs_itself, unwaited, write_begins,
+    Submission, SyncedBytes, SyncedKind, Writing, is_logged_kind, is_on_disk, logged_of,
+    open_logged, synced_bytes, syncs_itself, unwaited, write_begins,
 };
 
 /// Whether what happens to a file is logged that is of this kind.
@@ -23,11 +23,7 @@ pub extern "C" fn wulgach_is_logged_kind(kind: &SyncedKind) -> bool
 pub extern "C" fn wulgach_logged_of(form: u32, code: u8, is_stream: bool) -> u32
     ensures { result ≡ word_of_logged (spec.logged_of (form_of_word form) code is_stream) }
 {
-    match logged_of(form_by_word(form), code, is_stream) {
-        Logged::Nothing => 0,
-        Logged::Write => 1,
-        Logged::Sync => 2,
-    }
+    logged_of(form_by_word(form), code, is_stream) as u32
 }
 
 /// Returns where a write begins.
@@ -35,11 +31,7 @@ pub extern "C" fn wulgach_logged_of(form: u32, code: u8, is_stream: bool) -> u32
 pub extern "C" fn wulgach_write_begins(writing: &Writing) -> u32
     ensures { result ≡ word_of_begins (spec.write_begins writing.now) }
 {
-    match write_begins(writing) {
-        Begins::AtOffset => 0,
-        Begins::AtPosition => 1,
-        Begins::AtEnd => 2,
-    }
+    write_begins(writing) as u32
 }
 
 /// Whether a sync of the bytes of a write follows it.
@@ -76,12 +68,7 @@ pub extern "C" fn wulgach_is_on_disk(begins_with_folder: bool, after: u8) -> boo
 pub extern "C" fn wulgach_open_logged(flags: u64, is_there: bool, is_regular: bool) -> u32
     ensures { result ≡ word_of_open (spec.open_logged flags is_there is_regular) }
 {
-    match open_logged(flags, is_there, is_regular) {
-        LoggedOpen::Plain => 0,
-        LoggedOpen::Names => 1,
-        LoggedOpen::Nameless => 2,
-        LoggedOpen::Cuts => 3,
-    }
+    open_logged(flags, is_there, is_regular) as u32
 }
 
 /// Writes with which flags an msync is made that needn't wait. False, and nothing is written: as it stands.

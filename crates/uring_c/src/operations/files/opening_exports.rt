@@ -5,8 +5,8 @@ ghost use Rattle.uring_c.specs.Operations.Files.OpeningForm.{word_of_opening, wo
 ghost use Rattle.uring_c.specs.Registered.PinningForm.{known_of};
 
 use uring_operations::{
-    OpenHow, Opening, OpeningStep, Standing, Submission, found_how, has_writer, looking_how,
-    opening_next, opening_of, opens_again, polled_after_path, standing_after_path, unwilling_flags,
+    OpenHow, OpeningStep, Standing, Submission, found_how, has_writer, looking_how, opening_next,
+    opening_of, opens_again, polled_after_path, standing_after_path, unwilling_flags,
 };
 
 /// Writes how the path of an entry is looked up as its request starts.
@@ -25,14 +25,6 @@ pub extern "C" fn wulgach_found_how(entry: &Submission, how: &OpenHow, found: &m
     *found = found_how(entry, how);
 }
 
-/// Returns the descriptor that is polled for a request whose path was looked up, and names a pipe or doesn't, where this is its entry's.
-#[unsafe(no_mangle)]
-pub extern "C" fn wulgach_polled_after_path(fd: i32, names_pipe: bool) -> i32
-    ensures { result ≡ opens.polled_after_path fd names_pipe }
-{
-    polled_after_path(fd, names_pipe)
-}
-
 /// Returns with which flags a path is opened that is asked not to wait, whose open has these.
 #[unsafe(no_mangle)]
 pub extern "C" fn wulgach_unwilling_flags(flags: u64) -> u64
@@ -41,12 +33,18 @@ pub extern "C" fn wulgach_unwilling_flags(flags: u64) -> u64
     unwilling_flags(flags)
 }
 
-/// A request stands so whose path was looked up as it starts, and names a pipe or doesn't.
+/// A request stands so whose path was looked up as it starts, and names a pipe or doesn't. Returns the descriptor that is polled for it, where this is its entry's.
 #[unsafe(no_mangle)]
-pub extern "C" fn wulgach_standing_after_path(standing: &mut Standing, names_pipe: bool)
-    ensures { standing.new ≡ opens.standing_after_path standing.old names_pipe }
+pub extern "C" fn wulgach_standing_after_path(
+    standing: &mut Standing,
+    fd: i32,
+    names_pipe: bool,
+) -> i32
+    ensures standing { standing.new ≡ opens.standing_after_path standing.old names_pipe }
+    ensures polled { result ≡ opens.polled_after_path fd names_pipe }
 {
     *standing = standing_after_path(standing, names_pipe);
+    polled_after_path(fd, names_pipe)
 }
 
 /// Returns how the call of an entry is made whose path was found to name a pipe, or wasn't.
@@ -54,11 +52,7 @@ pub extern "C" fn wulgach_standing_after_path(standing: &mut Standing, names_pip
 pub extern "C" fn wulgach_opening_of(entry: &Submission, how: u64, names_pipe: bool) -> u32
     ensures { result ≡ word_of_opening (opens.opening_of entry.now how names_pipe) }
 {
-    match opening_of(entry, how, names_pipe) {
-        Opening::Plain => 0,
-        Opening::AtOnce => 1,
-        Opening::Pipe => 2,
-    }
+    opening_of(entry, how, names_pipe) as u32
 }
 
 /// Whether an open that was asked not to wait, and came to this, is made once more without that.
@@ -78,40 +72,6 @@ pub extern "C" fn wulgach_has_writer(shows: bool, knows: bool, teed: i32) -> boo
     has_writer(shows, teed)
 }
 
-fn step_word(step: OpeningStep) -> u32
-    ensures { result ≡ word_of_opening_step step }
-{
-    match step {
-        OpeningStep::Ends(_) => 0,
-        OpeningStep::Waits => 1,
-        OpeningStep::ByPath => 2,
-        OpeningStep::ByLink => 3,
-        OpeningStep::AsksWriter => 4,
-    }
-}
-
-fn step_end(step: OpeningStep, old: i32) -> i32
-    ensures { result ≡ opening_end step old }
-{
-    match step {
-        OpeningStep::Ends(res) => res,
-        _ => old,
-    }
-}
-
-/// The step of a word. `None`: nothing was done.
-fn opening_step(word: u32) -> Option<OpeningStep>
-    ensures { result ≡ opening_step_of word }
-{
-    match word {
-        1 => Some(OpeningStep::Waits),
-        2 => Some(OpeningStep::ByPath),
-        3 => Some(OpeningStep::ByLink),
-        4 => Some(OpeningStep::AsksWriter),
-        _ => None,
-    }
-}
-
 /// Returns what is next of the open of a named pipe that was found, after what was done last, which came to `res`, and writes what it ends with, if it ends.
 #[unsafe(no_mangle)]
 pub extern "C" fn wulgach_opening_next(
@@ -125,7 +85,21 @@ pub extern "C" fn wulgach_opening_next(
     ensures next { result ≡ word_of_opening_step (opens.opening_next entry.now how opened (opening_step_of last) res) }
     ensures end { end.new ≡ opening_end (opens.opening_next entry.now how opened (opening_step_of last) res) end.old }
 {
-    let step = opening_next(entry, how, opened, opening_step(last), res);
-    *end = step_end(step, *end);
-    step_word(step)
+    let done = match last {
+        1 => Some(OpeningStep::Waits),
+        2 => Some(OpeningStep::ByPath),
+        3 => Some(OpeningStep::ByLink),
+        4 => Some(OpeningStep::AsksWriter),
+        _ => None,
+    };
+    match opening_next(entry, how, opened, done, res) {
+        OpeningStep::Ends(res) => {
+            *end = res;
+            0
+        }
+        OpeningStep::Waits => 1,
+        OpeningStep::ByPath => 2,
+        OpeningStep::ByLink => 3,
+        OpeningStep::AsksWriter => 4,
+    }
 }

@@ -10,7 +10,7 @@ use uring_operations::Remembered;
 pub extern "C" fn wulgach_remembered_after_status(was: u32, is_file: bool) -> u32
     ensures { result ≡ word_of_remembered (spec.after_status (remembered_of was) is_file) }
 {
-    remembered_word(remembered(was).after_status(is_file))
+    remembered(was).after_status(is_file) as u32
 }
 
 /// Whether the file of a number is asked for its seals after a call by it.
@@ -26,7 +26,7 @@ pub extern "C" fn wulgach_asks_seals(was: u32, is_at_once: bool, res: i32) -> bo
 pub extern "C" fn wulgach_remembered_after_call(was: u32, res: i32) -> u32
     ensures { result ≡ word_of_remembered (spec.after_call (remembered_of was) res) }
 {
-    remembered_word(remembered(was).after_call(res))
+    remembered(was).after_call(res) as u32
 }
 
 /// Whether it is asked for them before a call that may wait.
@@ -42,7 +42,7 @@ pub extern "C" fn wulgach_was_in_memory(was: u32) -> bool
 pub extern "C" fn wulgach_remembered_after_seals(was: u32, has_seals: bool) -> u32
     ensures { result ≡ word_of_remembered (spec.after_seals (remembered_of was) has_seals) }
 {
-    remembered_word(remembered(was).after_seals(has_seals))
+    remembered(was).after_seals(has_seals) as u32
 }
 
 fn remembered(word: u32) -> Remembered
@@ -53,16 +53,5 @@ fn remembered(word: u32) -> Remembered
         2 => Remembered::InMemory,
         3 => Remembered::Slow,
         _ => Remembered::Nothing,
-    }
-}
-
-fn remembered_word(what: Remembered) -> u32
-    ensures { result ≡ word_of_remembered what }
-{
-    match what {
-        Remembered::Nothing => 0,
-        Remembered::File => 1,
-        Remembered::InMemory => 2,
-        Remembered::Slow => 3,
     }
 }

@@ -20,11 +20,11 @@ ghost use Rattle.uring_c.specs.Enter.Completions.ShownForm.{word_of_part, word_o
 use uring_crossing::completion_words::CompletionWords;
 use uring_crossing::course_words::{act_res, act_word, fact, last, part};
 use uring_enter::{
-    Part, Posted, Shown, completion_flags, end_of_send, notifies_unsent, part_unsent, untold_after,
+    Posted, Shown, completion_flags, end_of_send, notifies_unsent, part_unsent, untold_after,
 };
 use uring_operations::{
-    Carried, Course, EndedCancel, EndedEarly, Entry, Fact, Member, SoughtAfter, Submission,
-    has_succeeded, notice_of, shown_of, sought_after,
+    Carried, Course, EndedCancel, EndedEarly, Entry, Fact, Member, Submission, has_succeeded,
+    notice_of, shown_of, sought_after,
 };
 
 /// A request that was accepted just now.
@@ -172,7 +172,7 @@ pub extern "C" fn wulgach_untold_after(of: u32, of_buffer: u32) -> u32
 pub extern "C" fn wulgach_end_of_send(is_posted: bool) -> u32
     ensures { result ≡ word_of_part (shots.end_of_send is_posted) }
 {
-    part_word(end_of_send(is_posted))
+    end_of_send(is_posted) as u32
 }
 
 /// Whether a request, which is a send without copies or isn't, and ends with this result before it is carried out, has a notice after that.
@@ -188,18 +188,7 @@ pub extern "C" fn wulgach_notifies_unsent(is_zero_copy: bool, res: i32) -> bool
 pub extern "C" fn wulgach_part_unsent(is_linked: bool) -> u32
     ensures { result ≡ word_of_part (unsent.part_unsent is_linked) }
 {
-    part_word(part_unsent(is_linked))
-}
-
-fn part_word(part: Part) -> u32
-    ensures { result ≡ word_of_part part }
-{
-    match part {
-        Part::Event => 0,
-        Part::Sent => 1,
-        Part::Notice => 2,
-        Part::Own => 3,
-    }
+    part_unsent(is_linked) as u32
 }
 
 /// What a cancel looks for next that the core has ended, and which ends with this.
@@ -207,11 +196,7 @@ fn part_word(part: Part) -> u32
 pub extern "C" fn wulgach_sought_after(cancel: &EndedCancel, res: i32) -> u32
     ensures { result ≡ word_of_sought (sought_after cancel.now res) }
 {
-    match sought_after(*cancel, res) {
-        SoughtAfter::Running => 0,
-        SoughtAfter::Next => 1,
-        SoughtAfter::Nothing => 2,
-    }
+    sought_after(*cancel, res) as u32
 }
 
 /// What is shown of a request that the core has ended with this result.
