@@ -284,9 +284,9 @@ pub extern "C" fn wulgach_core_free(alloc: Global, place: &mut CorePlace) -> i32
     ensures freed { core_in place.new ≡ None }
     ensures done { IsSome (core_in place.old) → result ≡ pos 0 }
 {
-    if place.take(alloc).is_some() {
-        0
-    } else {
-        -errno::EBADF
+    if !place.is_full {
+        return -errno::EBADF;
     }
+    *place = CorePlace::empty(alloc);
+    0
 }

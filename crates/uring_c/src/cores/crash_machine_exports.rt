@@ -350,9 +350,9 @@ pub extern "C" fn wulgach_crash_machine_free(alloc: Global, place: &mut CrashMac
     ensures freed { crash_machine_in place.new ≡ None }
     ensures done { IsSome (crash_machine_in place.old) → result ≡ pos 0 }
 {
-    if place.take(alloc).is_some() {
-        0
-    } else {
-        -errno::EBADF
+    if !place.is_full {
+        return -errno::EBADF;
     }
+    *place = CrashMachinePlace::empty(alloc);
+    0
 }

@@ -317,9 +317,9 @@ pub extern "C" fn wulgach_machine_free(alloc: Global, place: &mut MachinePlace) 
     ensures freed { machine_in place.new ≡ None }
     ensures done { IsSome (machine_in place.old) → result ≡ pos 0 }
 {
-    if place.take(alloc).is_some() {
-        0
-    } else {
-        -errno::EBADF
+    if !place.is_full {
+        return -errno::EBADF;
     }
+    *place = MachinePlace::empty(alloc);
+    0
 }

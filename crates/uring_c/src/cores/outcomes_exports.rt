@@ -148,9 +148,9 @@ pub extern "C" fn wulgach_outcomes_free(alloc: Global, place: &mut OutcomesPlace
     ensures freed { outcomes_in place.new ≡ None }
     ensures done { IsSome (outcomes_in place.old) → result ≡ pos 0 }
 {
-    if place.take(alloc).is_some() {
-        0
-    } else {
-        -errno::EBADF
+    if !place.is_full {
+        return -errno::EBADF;
     }
+    *place = OutcomesPlace::empty(alloc);
+    0
 }

@@ -309,9 +309,9 @@ pub extern "C" fn wulgach_volume_free(alloc: Global, place: &mut VolumePlace) ->
     ensures freed { volume_in place.new ≡ None }
     ensures done { IsSome (volume_in place.old) → result ≡ pos 0 }
 {
-    if place.take(alloc).is_some() {
-        0
-    } else {
-        -errno::EBADF
+    if !place.is_full {
+        return -errno::EBADF;
     }
+    *place = VolumePlace::empty(alloc);
+    0
 }

@@ -18,7 +18,6 @@ pub struct CorePlace {
 
 impl CorePlace {
     ghost use Rattle.uring_crossing.specs.Boxes.Places.{core_in};
-    ghost use Rattle.uring_crossing.specs.Boxes.Boxes.{boxed};
 
     /// A place with nothing in it.
     #[inline(always)]
@@ -28,19 +27,6 @@ impl CorePlace {
         CorePlace {
             slot: Slot::none(alloc),
             is_full: false,
-        }
-    }
-
-    /// The core of a place, which is empty from then on, if there is one.
-    #[inline(always)]
-    pub fn take(&mut self, alloc: Global) -> Option<Box<Core, Global>>
-        ensures taken { boxed result ≡ core_in self.old }
-        ensures empty { core_in self.new ≡ None }
-    {
-        if self.is_full {
-            Some(self.take_full(alloc))
-        } else {
-            None
         }
     }
 

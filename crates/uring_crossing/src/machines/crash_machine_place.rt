@@ -18,7 +18,6 @@ pub struct CrashMachinePlace {
 
 impl CrashMachinePlace {
     ghost use Rattle.uring_crossing.specs.Boxes.Places.{crash_machine_in};
-    ghost use Rattle.uring_crossing.specs.Boxes.Boxes.{boxed};
 
     /// A place with nothing in it.
     pub fn empty(alloc: Global) -> CrashMachinePlace
@@ -27,18 +26,6 @@ impl CrashMachinePlace {
         CrashMachinePlace {
             slot: Slot::none(alloc),
             is_full: false,
-        }
-    }
-
-    /// The machine of a place, which is empty from then on, if there is one.
-    pub fn take(&mut self, alloc: Global) -> Option<Box<CrashMachine, Global>>
-        ensures taken { boxed result ≡ crash_machine_in self.old }
-        ensures empty { crash_machine_in self.new ≡ None }
-    {
-        if self.is_full {
-            Some(self.take_full(alloc))
-        } else {
-            None
         }
     }
 

@@ -18,7 +18,6 @@ pub struct OutcomesPlace {
 
 impl OutcomesPlace {
     ghost use Rattle.uring_crossing.specs.Boxes.Places.{outcomes_in};
-    ghost use Rattle.uring_crossing.specs.Boxes.Boxes.{boxed};
 
     /// A place with nothing in it.
     pub fn empty(alloc: Global) -> OutcomesPlace
@@ -27,18 +26,6 @@ impl OutcomesPlace {
         OutcomesPlace {
             slot: Slot::none(alloc),
             is_full: false,
-        }
-    }
-
-    /// The outcomes of a place, which is empty from then on, if there are some.
-    pub fn take(&mut self, alloc: Global) -> Option<Box<OutcomeList, Global>>
-        ensures taken { boxed result ≡ outcomes_in self.old }
-        ensures empty { outcomes_in self.new ≡ None }
-    {
-        if self.is_full {
-            Some(self.take_full(alloc))
-        } else {
-            None
         }
     }
 

@@ -18,7 +18,6 @@ pub struct VolumePlace {
 
 impl VolumePlace {
     ghost use Rattle.uring_crossing.specs.Boxes.Places.{volume_in};
-    ghost use Rattle.uring_crossing.specs.Boxes.Boxes.{boxed};
 
     /// A place with nothing in it.
     pub fn empty(alloc: Global) -> VolumePlace
@@ -27,18 +26,6 @@ impl VolumePlace {
         VolumePlace {
             slot: Slot::none(alloc),
             is_full: false,
-        }
-    }
-
-    /// The volume of a place, which is empty from then on, if there is one.
-    pub fn take(&mut self, alloc: Global) -> Option<Box<Volume, Global>>
-        ensures taken { boxed result ≡ volume_in self.old }
-        ensures empty { volume_in self.new ≡ None }
-    {
-        if self.is_full {
-            Some(self.take_full(alloc))
-        } else {
-            None
         }
     }
 
