@@ -1,4 +1,3 @@
 -- What a C program's handle stands for, and what its place holds.
 pub mod Slots
-pub mod Boxes
 pub mod Places

@@ -18,8 +18,8 @@ pub use core_words::{
 pub use cores::{core_calls, core_memory, core_place, whole_call_memory, whole_calls};
 pub use layer_words::{course_words, enter_words, time_words, wait_words};
 pub use machines::{
-    crash_image_calls, crash_machine_calls, crash_machine_memory, crash_machine_place,
-    machine_calls, machine_memory, machine_place,
+    crash_machine_calls, crash_machine_memory, crash_machine_place, machine_calls, machine_memory,
+    machine_place,
 };
 pub use outcomes::{outcome_list, outcomes_calls, outcomes_memory, outcomes_place};
 pub use traces::{flag_letters, setup_lines, trace_lines, traced};

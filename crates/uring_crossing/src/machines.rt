@@ -1,6 +1,5 @@
 //! Machines, also those whose power may fail: the place of one, and the calls that are made on it.
 
-pub mod crash_image_calls;
 pub mod crash_machine_calls;
 pub mod crash_machine_memory;
 pub mod crash_machine_place;

@@ -1,5 +1,5 @@
 //! Lists of lists, which C gives in one piece with the length of each.
-ghost use Rattle.std.specs.Prelude.{◌≡◌, ℕ, ◌+◌, ◌-◌, ◌≤◌, min, map, length, IfOk, IsOk};
+ghost use Rattle.std.specs.Prelude.{◌≡◌, ◌↔◌, ℕ, ◌+◌, ◌-◌, ◌≤◌, All, min, map, length, IfOk, IsOk, IsTrue};
 ghost use Rattle.uring_crossing.specs.CoreWords.Cuts as spec;
 
 use std::alloc::{AllocError, Global};
@@ -14,8 +14,12 @@ pub fn copied<M: Memory, T: Copy>(
     ensures values { IfOk result (λ list. list.items ≡ values.now) }
     ensures granted { (n : ℕ) → M.grants memory.now n → length values.now ≤ n → IsOk result }
 {
-    let mut list = memory.list(alloc, values.len())?;
-    list.extend_from_slice(values)?;
+    let Ok(mut list) = memory.list(alloc, values.len()) else {
+        return Err(AllocError);
+    };
+    let Ok(()) = list.extend_from_slice(values) else {
+        return Err(AllocError);
+    };
     Ok(list)
 }
 
@@ -29,11 +33,16 @@ pub fn cut<M: Memory, T: Copy>(
     ensures parts { IfOk result (λ parts. map (λ p. p.items) parts.items ≡ spec.cut lens.now values.now) }
     ensures granted { ((n : ℕ) → M.grants memory.now n) → IsOk result }
 {
-    let mut parts = memory.list(alloc, lens.len())?;
+    let Ok(mut parts) = memory.list(alloc, lens.len()) else {
+        return Err(AllocError);
+    };
     let mut from = 0;
     for len in lens {
         let to = end_of_part(values, from, *len);
-        parts.push_reserved(copied(memory, alloc, &values[from..to])?);
+        let Ok(part) = copied(memory, alloc, &values[from..to]) else {
+            return Err(AllocError);
+        };
+        parts.push_reserved(part);
         from = to;
     }
     Ok(parts)
@@ -50,4 +59,11 @@ fn end_of_part<T: Copy>(values: &[T], from: usize, len: u64) -> usize
     } else {
         values.len()
     }
+}
+
+/// Whether no length is more than this.
+pub fn none_is_over(lens: &[u64], most: u64) -> bool
+    ensures { IsTrue result ↔ All (λ len. len ≤ most) lens.now }
+{
+    lens.iter().all(|len| *len <= most)
 }

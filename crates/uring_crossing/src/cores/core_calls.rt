@@ -1,5 +1,5 @@
 //! The calls of a core, made on the core in a place. Each takes the core out, and puts it back; its box doesn't move.
-ghost use Rattle.std.specs.Prelude.{◌≡◌, ℕ, ◌≤◌, [], IsSome, IfOk, IsOk, IsSomeAnd, slice_get, length};
+ghost use Rattle.std.specs.Prelude.{◌≡◌, ℕ, ◌≤◌, IsSome, IsSomeAnd, slice_get, length};
 ghost use Rattle.uring_entry.specs.Completions.{unreaped};
 ghost use Rattle.uring_entry.specs.Requests.{least_of, operation_running};
 ghost use Rattle.uring_rules.specs.Rules.{issuables_of, issuable_from, why_of};
@@ -10,25 +10,10 @@ ghost use Rattle.uring_core.specs.declared.answer.Answer.TheVariants as answer;
 ghost use Rattle.uring_crossing.specs.Boxes.Places.{core_in};
 ghost use Rattle.uring_crossing.specs.Cores.Stepping.{SteppedApart, FinishedApart};
 
-use crate::boxes::box_memory::BoxMemory;
 use crate::cores::core_place::CorePlace;
-use std::alloc::{AllocError, Global};
-use uring_machine::{Answer, Core, Counts, Cqe, Op, Outcome, Setup, Step, Why};
+use std::alloc::Global;
+use uring_machine::{Answer, Counts, Cqe, Op, Outcome, Step, Why};
 use uring_memory::Memory;
-
-/// A new core, in a box, by this memory. `AllocError`: out of memory. It doesn't come if the memory grants as many elements as either ring's size, and the box.
-pub fn new_core<M: BoxMemory>(
-    memory: &M,
-    alloc: Global,
-    setup: &Setup,
-) -> Result<Box<Core, Global>, AllocError>
-    ensures new { IfOk result (λ core. (core.value.setup ≡ setup.now) × FitsApart core.value []) }
-    ensures granted { (n : ℕ) → M.grants memory.now n → setup.now.sq ≤ n → setup.now.cq ≤ n
-        → 1 ≤ n → IsOk result }
-{
-    let core = Core::new_in(memory, alloc, setup)?;
-    memory.boxed(alloc, core)
-}
 
 impl CorePlace {
     /// Makes one step, by this memory.
@@ -42,9 +27,7 @@ impl CorePlace {
             (λ core. (h : History) (n : ℕ) → FitsApart core h → M.grants memory.now n
             → elements_for core (world core.setup h) step ≤ n → result ≡ answer.Again → ⊥) }
     {
-        let Some(mut core) = self.take(alloc) else {
-            unreachable!()
-        };
+        let mut core = self.take_full(alloc);
         let answer = core.step_in(memory, step);
         self.put(core);
         answer
@@ -57,9 +40,7 @@ impl CorePlace {
         ensures { IsSomeAnd (core_in self.old)
             (λ old. IsSomeAnd (core_in self.new) (FinishedApart number outcome result old)) }
     {
-        let Some(mut core) = self.take(alloc) else {
-            unreachable!()
-        };
+        let mut core = self.take_full(alloc);
         let answer = core.finish(number, outcome);
         self.put(core);
         answer
@@ -72,9 +53,7 @@ impl CorePlace {
         ensures counts { IsSomeAnd (core_in self.old)
             (λ core. (h : History) → FitsApart core h → IsCounts (world core.setup h) result) }
     {
-        let Some(core) = self.take(alloc) else {
-            unreachable!()
-        };
+        let core = self.take_full(alloc);
         let counts = core.counts();
         self.put(core);
         counts
@@ -89,9 +68,7 @@ impl CorePlace {
             (λ core. (h : History) → FitsApart core h
             → result ≡ slice_get (unreaped (world core.setup h).completions) place) }
     {
-        let Some(core) = self.take(alloc) else {
-            unreachable!()
-        };
+        let core = self.take_full(alloc);
         let completion = core.rest(place);
         self.put(core);
         completion
@@ -105,9 +82,7 @@ impl CorePlace {
             (λ core. (h : History) → FitsApart core h
             → result ≡ least_of (world core.setup h).requests) }
     {
-        let Some(core) = self.take(alloc) else {
-            unreachable!()
-        };
+        let core = self.take_full(alloc);
         let least = core.least();
         self.put(core);
         least
@@ -121,9 +96,7 @@ impl CorePlace {
             (λ core. (h : History) → FitsApart core h
             → result ≡ operation_running (world core.setup h).requests number) }
     {
-        let Some(core) = self.take(alloc) else {
-            unreachable!()
-        };
+        let core = self.take_full(alloc);
         let op = core.running_op(number);
         self.put(core);
         op
@@ -137,9 +110,7 @@ impl CorePlace {
             (λ core. (h : History) → FitsApart core h
             → result ≡ issuable_from core.setup.linux (requests_of (world core.setup h)) number) }
     {
-        let Some(core) = self.take(alloc) else {
-            unreachable!()
-        };
+        let core = self.take_full(alloc);
         let next = core.next_issuable(number);
         self.put(core);
         next
@@ -153,9 +124,7 @@ impl CorePlace {
             (λ core. (h : History) → FitsApart core h
             → result ≡ length (issuables_of core.setup.linux (requests_of (world core.setup h)))) }
     {
-        let Some(core) = self.take(alloc) else {
-            unreachable!()
-        };
+        let core = self.take_full(alloc);
         let count = core.issuable();
         self.put(core);
         count
@@ -169,9 +138,7 @@ impl CorePlace {
             (λ core. (h : History) → FitsApart core h
             → result ≡ slice_get (issuables_of core.setup.linux (requests_of (world core.setup h))) place) }
     {
-        let Some(core) = self.take(alloc) else {
-            unreachable!()
-        };
+        let core = self.take_full(alloc);
         let found = core.nth_issuable(place);
         self.put(core);
         found
@@ -185,9 +152,7 @@ impl CorePlace {
             (λ core. (h : History) → FitsApart core h
             → result ≡ why_of core.setup.linux (requests_of (world core.setup h)) number) }
     {
-        let Some(core) = self.take(alloc) else {
-            unreachable!()
-        };
+        let core = self.take_full(alloc);
         let why = core.why(number);
         self.put(core);
         why

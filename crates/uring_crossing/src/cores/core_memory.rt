@@ -12,11 +12,11 @@ ghost use Rattle.uring_crossing.specs.Cores.Stepping.{TellsStepApart};
 use crate::boxes::box_memory::BoxMemory;
 use crate::core_words::answer_words::{AnswerWords, answer_words};
 use crate::core_words::set_up_words::SetupWords;
-use crate::cores::core_calls::new_core;
 use crate::cores::core_place::CorePlace;
 use std::alloc::Global;
 use uring_core::StepWords;
 use uring_entry::errno;
+use uring_machine::Core;
 use uring_memory::Memory;
 
 /// What `wulgach_core_new` does, by this memory. If it grants as many elements as the rings of the set-up have entries, -12 isn't returned.
@@ -38,7 +38,10 @@ pub fn core_new_in<M: BoxMemory>(
     let Some(setup) = setup.without_files().set_up() else {
         return -errno::EINVAL;
     };
-    let Ok(core) = new_core(memory, alloc, &setup) else {
+    let Ok(core) = Core::new_in(memory, alloc, &setup) else {
+        return -errno::ENOMEM;
+    };
+    let Ok(core) = memory.boxed(alloc, core) else {
         return -errno::ENOMEM;
     };
     place.put(core);

@@ -1,5 +1,5 @@
 //! A C program's handle of a core.
-ghost use Rattle.std.specs.Prelude.{◌≡◌, None, Some, is_some};
+ghost use Rattle.std.specs.Prelude.{◌≡◌, None, Some, IsSome, is_some};
 ghost use Rattle.uring_crossing.specs.Boxes.Slots.{core_of};
 
 use crate::boxes::parts::Parts;
@@ -18,7 +18,6 @@ pub struct CorePlace {
 
 impl CorePlace {
     ghost use Rattle.uring_crossing.specs.Boxes.Places.{core_in};
-    ghost use Rattle.uring_crossing.specs.Boxes.Boxes.{boxed};
 
     /// A place with nothing in it.
     #[inline(always)]
@@ -31,37 +30,16 @@ impl CorePlace {
         }
     }
 
-    /// A place with this core.
+    /// The core of a full place, which is empty from then on.
     #[inline(always)]
-    pub fn full(core: Box<Core, Global>) -> CorePlace
-        ensures { core_in result ≡ Some core.value }
-    {
-        CorePlace {
-            slot: Slot::of_core(Parts::of(core)),
-            is_full: true,
-        }
-    }
-
-    /// The core of a place, if there is one.
-    #[inline(always)]
-    pub fn into_core(self) -> Option<Box<Core, Global>>
-        ensures { boxed result ≡ core_in self }
-    {
-        let CorePlace { slot, is_full } = self;
-        if is_full {
-            Some(slot.into_core().into_box())
-        } else {
-            None
-        }
-    }
-
-    /// The core of a place, which is empty from then on.
-    #[inline(always)]
-    pub fn take(&mut self, alloc: Global) -> Option<Box<Core, Global>>
-        ensures taken { boxed result ≡ core_in self.old }
+    pub fn take_full(&mut self, alloc: Global) -> Box<Core, Global>
+        requires { IsSome (core_in self.old) }
+        ensures taken { core_in self.old ≡ Some result.value }
         ensures empty { core_in self.new ≡ None }
     {
-        mem::replace(self, CorePlace::empty(alloc)).into_core()
+        let slot = mem::replace(&mut self.slot, Slot::none(alloc));
+        self.is_full = false;
+        slot.into_core().into_box()
     }
 
     /// Puts a core into a place. What was there is freed.
@@ -69,12 +47,18 @@ impl CorePlace {
     pub fn put(&mut self, core: Box<Core, Global>)
         ensures { core_in self.new ≡ Some core.value }
     {
-        *self = CorePlace::full(core);
+        *self = CorePlace {
+            slot: Slot::of_core(Parts::of(core)),
+            is_full: true,
+        };
     }
 }
 
 impl Drop for CorePlace {
     fn drop(self) {
-        drop(self.into_core());
+        let CorePlace { slot, is_full } = self;
+        if is_full {
+            drop(slot.into_core().into_box());
+        }
     }
 }

@@ -111,7 +111,9 @@ pub fn entries_of<M: Memory>(
     ensures entries { IfOk result (λ list. list.items ≡ map (λ e. e.words) entries.now) }
     ensures granted { (n : ℕ) → M.grants memory.now n → length entries.now ≤ n → IsOk result }
 {
-    let mut list = memory.list(alloc, entries.len())?;
+    let Ok(mut list) = memory.list(alloc, entries.len()) else {
+        return Err(AllocError);
+    };
     for entry in entries {
         list.push_reserved(Sqe::from_words(entry.words));
     }

@@ -8,7 +8,7 @@ ghost use Rattle.uring_crossing.specs.Cores.Whole.{SubmittedApart, submit_told, 
 
 use crate::cores::core_place::CorePlace;
 use std::alloc::Global;
-use uring_machine::{Answer, Core, Cqe, NotSubmitted, Sqe};
+use uring_machine::{Answer, Cqe, NotSubmitted, Sqe};
 use uring_memory::Memory;
 
 impl CorePlace {
@@ -26,10 +26,8 @@ impl CorePlace {
             (λ core. (h : History) (n : ℕ) → FitsApart core h → M.grants memory.now n
             → elements_for_call core (length entries.now) ≤ n → IsErrOf result (NotSubmitted.Begin answer.Again) → ⊥) }
     {
-        let Some(mut core) = self.take(alloc) else {
-            unreachable!()
-        };
-        let made = submit(memory, &mut *core, entries);
+        let mut core = self.take_full(alloc);
+        let made = core.submit_in(memory, entries);
         self.put(core);
         made
     }
@@ -43,33 +41,11 @@ impl CorePlace {
         ensures length { length into.new ≡ length into.old }
         ensures rest { drop result into.new ≡ drop result into.old }
     {
-        let Some(mut core) = self.take(alloc) else {
-            unreachable!()
-        };
-        let count = reap(&mut *core, into);
+        let mut core = self.take_full(alloc);
+        let count = core.reap_all(into);
         self.put(core);
         count
     }
-}
-
-/// Makes all steps of a submission call of these entries, by this memory.
-fn submit<M: Memory>(memory: &M, core: &mut Core, entries: &[Sqe]) -> Result<Answer, NotSubmitted>
-    ensures made { SubmittedApart entries.now result core.old core.new }
-    ensures granted { (h : History) (n : ℕ) → FitsApart core.old h → M.grants memory.now n
-        → elements_for_call core.old (length entries.now) ≤ n
-        → IsErrOf result (NotSubmitted.Begin answer.Again) → ⊥ }
-{
-    core.submit_in(memory, entries)
-}
-
-/// Reaps all completions that the ring shows, as far as there are places.
-fn reap(core: &mut Core, into: &mut [Cqe]) -> usize
-    ensures made { ReapedApart (length into.old) result (take result into.new) core.old core.new }
-    ensures within { result ≤ length into.old }
-    ensures length { length into.new ≡ length into.old }
-    ensures rest { drop result into.new ≡ drop result into.old }
-{
-    core.reap_all(into)
 }
 
 /// What C is answered about a whole call.

@@ -1,16 +1,15 @@
 //! The calls of a machine whose power may fail, made on the machine in a place. Each takes the machine out, and puts it back; its box doesn't move.
-ghost use Rattle.std.specs.Prelude.{◌≡◌, ℕ, ◌<◌, ◌≤◌, ◌-◌, [], List, true, false, Some, IsSome, is_some, IfOk, IsOk, IsSomeAnd, OnErr, map, slice_get, slice_index_or, length};
+ghost use Rattle.std.specs.Prelude.{◌≡◌, ℕ, ◌<◌, ◌-◌, List, true, false, Some, IsSome, IfOk, IsOk, IsSomeAnd, OnErr, map, slice_get, length};
 ghost use Rattle.std.specs.Option.{option_map};
 ghost use Rattle.uring_entry.specs.Completions.{unreaped};
 ghost use Rattle.uring_entry.specs.Requests.{operation_running};
-ghost use Rattle.uring_files.specs.Contents.{max_len};
 ghost use Rattle.uring_files.specs.Operations.{state_of, byte_of};
 ghost use Rattle.uring_rules.specs.Rules.{issuables_of};
 ghost use Rattle.uring_core.specs.World.{requests_of};
 ghost use Rattle.uring_core.specs.Core.{FitsApart, IsCounts};
 ghost use Rattle.uring_core.specs.Histories.{History, world};
 ghost use Rattle.uring_epochs.specs.Asked.{log_at, is_safe_of, IsUnrefusedOn};
-ghost use Rattle.uring_epochs.specs.Epochs.{Epoch, FitsRun, begun_on, first_files, files_from};
+ghost use Rattle.uring_epochs.specs.Epochs.{Epoch, FitsRun, files_from};
 ghost use Rattle.uring_crossing.specs.Machines.Crashing.{SteppedOn, GoesOn, IsLostFrom};
 ghost use Rattle.uring_crossing.specs.Boxes.Places.{crash_machine_in};
 
@@ -18,95 +17,20 @@ use crate::boxes::box_memory::BoxMemory;
 use crate::machines::crash_machine_place::CrashMachinePlace;
 use std::alloc::{AllocError, Global};
 use uring_epochs::CrashMachine;
-use uring_machine::{Answer, Counts, Cqe, FileState, Op, Setup, Step};
+use uring_machine::{Answer, Counts, Cqe, FileState, Op, Step};
 use uring_memory::Memory;
 
-/// A new machine that begins on these contents of its first files, in a box, by this memory. `AllocError`: out of memory.
-pub fn new_crash_machine<M: BoxMemory>(
-    memory: &M,
-    alloc: Global,
-    setup: &Setup,
-    unit: u64,
-    contents: &[Vec<u8>],
-) -> Result<Box<CrashMachine, Global>, AllocError>
-    requires some { 0 < unit }
-    requires few { length contents.now ≤ setup.now.files }
-    requires short { (place : ℕ)
-        → length (slice_index_or (map (λ b. b.items) contents.now) place []) ≤ max_len }
-    ensures setup { IfOk result (λ machine. machine.value.core.setup ≡ setup.now) }
-    ensures unit { IfOk result (λ machine. machine.value.unit ≡ unit) }
-    ensures ready { IfOk result (λ machine. machine.value.is_lost ≡ false) }
-    ensures fits { IfOk result
-        (λ machine. FitsRun machine.value (begun_on (first_files setup.now.files (map (λ b. b.items) contents.now))) []) }
-    ensures granted { ((n : ℕ) → M.grants memory.now n) → IsOk result }
-{
-    let machine = CrashMachine::on_in(memory, alloc, setup, unit, contents)?;
-    memory.boxed(alloc, machine)
-}
-
 impl CrashMachinePlace {
-    /// Makes one step, by this memory. `AllocError`: out of memory, and the machine is lost.
-    pub fn step_in<M: Memory>(
-        &mut self,
-        memory: &M,
-        alloc: Global,
-        step: Step,
-    ) -> Result<Answer, AllocError>
-        requires { IsSome (crash_machine_in self.old) }
-        ensures made { IsSomeAnd (crash_machine_in self.old)
-            (λ old. IsSomeAnd (crash_machine_in self.new) (λ new. IfOk result (λ answer. SteppedOn step answer old new))) }
-        ensures err { IsSomeAnd (crash_machine_in self.old)
-            (λ old. IsSomeAnd (crash_machine_in self.new) (λ new. OnErr result (IsLostFrom old new))) }
-        ensures granted { IsSomeAnd (crash_machine_in self.old)
-            (λ old. ((n : ℕ) → M.grants memory.now n) → old.is_lost ≡ false → IsOk result) }
-        ensures unrefused { IsSomeAnd (crash_machine_in self.old)
-            (λ old. ((n : ℕ) → M.grants memory.now n) → IfOk result (λ answer. (e : Epoch) (earlier : List Epoch)
-            → FitsRun old e earlier → IsUnrefusedOn old.files (world old.core.setup e.history) step answer)) }
-    {
-        let Some(mut machine) = self.take(alloc) else {
-            unreachable!()
-        };
-        let answer = stepped(memory, &mut *machine, step);
-        self.put(machine);
-        answer
-    }
-
     /// Whether memory was refused for a step, and so each further one is.
     pub fn is_lost(&mut self, alloc: Global) -> bool
         requires { IsSome (crash_machine_in self.old) }
         ensures kept { crash_machine_in self.new ≡ crash_machine_in self.old }
         ensures lost { IsSomeAnd (crash_machine_in self.old) (λ machine. result ≡ machine.is_lost) }
     {
-        let Some(machine) = self.take(alloc) else {
-            unreachable!()
-        };
+        let machine = self.take_full(alloc);
         let is_lost = machine.is_lost();
         self.put(machine);
         is_lost
-    }
-
-    /// A machine in a box that goes on from what a crash leaves, by this memory. `AllocError`: out of memory, or the machine is lost.
-    pub fn crash_in<M: BoxMemory>(
-        &mut self,
-        memory: &M,
-        alloc: Global,
-        choices: &[Vec<u64>],
-    ) -> Result<Box<CrashMachine, Global>, AllocError>
-        requires { IsSome (crash_machine_in self.old) }
-        ensures kept { crash_machine_in self.new ≡ crash_machine_in self.old }
-        ensures left { IsSomeAnd (crash_machine_in self.old)
-            (λ old. IfOk result (λ next. GoesOn (map (λ c. c.items) choices.now) old next.value)) }
-        ensures lost { IsSomeAnd (crash_machine_in self.old)
-            (λ old. old.is_lost ≡ true → IfOk result (λ next. ⊥)) }
-        ensures granted { IsSomeAnd (crash_machine_in self.old)
-            (λ old. ((n : ℕ) → M.grants memory.now n) → old.is_lost ≡ false → IsOk result) }
-    {
-        let Some(machine) = self.take(alloc) else {
-            unreachable!()
-        };
-        let next = crash(memory, alloc, &machine, choices);
-        self.put(machine);
-        next
     }
 
     /// How far the machine has come since its start.
@@ -117,9 +41,7 @@ impl CrashMachinePlace {
             (λ machine. (h : History) → FitsApart machine.core h
             → IsCounts (world machine.core.setup h) result) }
     {
-        let Some(machine) = self.take(alloc) else {
-            unreachable!()
-        };
+        let machine = self.take_full(alloc);
         let counts = machine.core().counts();
         self.put(machine);
         counts
@@ -133,9 +55,7 @@ impl CrashMachinePlace {
             (λ machine. (h : History) → FitsApart machine.core h
             → result ≡ slice_get (unreaped (world machine.core.setup h).completions) place) }
     {
-        let Some(machine) = self.take(alloc) else {
-            unreachable!()
-        };
+        let machine = self.take_full(alloc);
         let completion = machine.core().rest(place);
         self.put(machine);
         completion
@@ -149,9 +69,7 @@ impl CrashMachinePlace {
             (λ machine. (h : History) → FitsApart machine.core h
             → result ≡ operation_running (world machine.core.setup h).requests number) }
     {
-        let Some(machine) = self.take(alloc) else {
-            unreachable!()
-        };
+        let machine = self.take_full(alloc);
         let op = machine.core().running_op(number);
         self.put(machine);
         op
@@ -165,9 +83,7 @@ impl CrashMachinePlace {
             (λ machine. (h : History) → FitsApart machine.core h
             → result ≡ length (issuables_of machine.core.setup.linux (requests_of (world machine.core.setup h)))) }
     {
-        let Some(machine) = self.take(alloc) else {
-            unreachable!()
-        };
+        let machine = self.take_full(alloc);
         let count = machine.core().issuable();
         self.put(machine);
         count
@@ -181,9 +97,7 @@ impl CrashMachinePlace {
             (λ machine. (h : History) → FitsApart machine.core h
             → result ≡ slice_get (issuables_of machine.core.setup.linux (requests_of (world machine.core.setup h))) place) }
     {
-        let Some(machine) = self.take(alloc) else {
-            unreachable!()
-        };
+        let machine = self.take_full(alloc);
         let found = machine.core().nth_issuable(place);
         self.put(machine);
         found
@@ -197,9 +111,7 @@ impl CrashMachinePlace {
             (λ machine. (e : Epoch) (earlier : List Epoch) → FitsRun machine e earlier
             → result ≡ state_of (files_from e.first (world machine.core.setup e.history)) fd) }
     {
-        let Some(machine) = self.take(alloc) else {
-            unreachable!()
-        };
+        let machine = self.take_full(alloc);
         let state = machine.state(fd);
         self.put(machine);
         state
@@ -213,9 +125,7 @@ impl CrashMachinePlace {
             (λ machine. (e : Epoch) (earlier : List Epoch) → FitsRun machine e earlier
             → result ≡ byte_of (files_from e.first (world machine.core.setup e.history)) fd at) }
     {
-        let Some(machine) = self.take(alloc) else {
-            unreachable!()
-        };
+        let machine = self.take_full(alloc);
         let byte = machine.byte(fd, at);
         self.put(machine);
         byte
@@ -228,32 +138,15 @@ impl CrashMachinePlace {
         ensures safe { IsSomeAnd (crash_machine_in self.old)
             (λ machine. result ≡ option_map (is_safe_of number) (log_at machine.logs fd)) }
     {
-        let Some(machine) = self.take(alloc) else {
-            unreachable!()
-        };
+        let machine = self.take_full(alloc);
         let is_safe = has_safe(&machine, fd, number);
         self.put(machine);
         is_safe
     }
-
-    /// Whether there is a file of this descriptor.
-    pub fn has_file(&mut self, alloc: Global, fd: i32) -> bool
-        requires { IsSome (crash_machine_in self.old) }
-        ensures kept { crash_machine_in self.new ≡ crash_machine_in self.old }
-        ensures there { IsSomeAnd (crash_machine_in self.old)
-            (λ machine. result ≡ is_some (log_at machine.logs fd)) }
-    {
-        let Some(machine) = self.take(alloc) else {
-            unreachable!()
-        };
-        let has_file = machine.log(fd).is_some();
-        self.put(machine);
-        has_file
-    }
 }
 
 /// Makes one step, by this memory. `AllocError`: out of memory, and the machine is lost.
-fn stepped<M: Memory>(
+pub fn stepped<M: Memory>(
     memory: &M,
     machine: &mut CrashMachine,
     step: Step,
@@ -268,7 +161,7 @@ fn stepped<M: Memory>(
 }
 
 /// A machine in a box that goes on from what a crash leaves, by this memory. `AllocError`: out of memory, or the machine is lost.
-fn crash<M: BoxMemory>(
+pub fn crash<M: BoxMemory>(
     memory: &M,
     alloc: Global,
     machine: &CrashMachine,

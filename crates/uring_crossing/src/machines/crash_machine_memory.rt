@@ -1,7 +1,6 @@
 //! The calls of a machine whose power may fail that ask for memory, by any memory. What C calls is each of these at the program's own allocator.
-ghost use Rattle.std.specs.Prelude.{◌≡◌, ◌↔◌, ℕ, ◌<◌, ◌≤◌, ◌-◌, ◌^◌, min, true, false, MatchOption, pos, neg_ℤ, None, Some, IsSome, IfOk, IsOk, IsSomeAnd, IsTrue, [], slice_index_or, length, map};
+ghost use Rattle.std.specs.Prelude.{◌≡◌, ◌↔◌, ℕ, ◌<◌, ◌≤◌, ◌-◌, ◌^◌, min, true, false, MatchOption, pos, neg_ℤ, None, Some, IsSome, IsSomeAnd, length};
 ghost use Rattle.uring_entry.specs.declared.errno.TheConstants.{EBADF, EFBIG, EINVAL, ENOENT, ENOMEM};
-ghost use Rattle.uring_files.specs.Contents.{max_len};
 ghost use Rattle.uring_epochs.specs.Asked.{log_at};
 ghost use Rattle.uring_crossing.specs.Machines.Crashing.{IsNoStart, AreShort, BeginsOn, TellsStepOn, TellsUnrefusedOn, GoesOn, IsLostFrom};
 ghost use Rattle.uring_crossing.specs.CoreWords.Cuts as spec;
@@ -13,14 +12,15 @@ ghost use Rattle.uring_crossing.specs.declared.machines.crash_machine_memory.The
 
 use crate::boxes::box_memory::BoxMemory;
 use crate::core_words::answer_words::{AnswerWords, answer_words};
-use crate::core_words::cuts::cut;
+use crate::core_words::cuts::{cut, none_is_over};
 use crate::core_words::set_up_words::SetupWords;
-use crate::machines::crash_machine_calls::new_crash_machine;
+use crate::machines::crash_machine_calls::{crash, stepped};
 use crate::machines::crash_machine_place::CrashMachinePlace;
 use crate::volumes::volume_memory::{MOST_IMAGES, give, give_images};
-use std::alloc::{AllocError, Global};
+use std::alloc::Global;
 use uring_core::StepWords;
 use uring_entry::errno;
+use uring_epochs::CrashMachine;
 use uring_machine::Setup;
 use uring_memory::Memory;
 use uring_volume::ImagesError;
@@ -55,35 +55,20 @@ pub fn crash_machine_on_in<M: BoxMemory>(
     let Some(setup) = start_of(setup, unit, lens.len()) else {
         return -errno::EINVAL;
     };
-    if !are_short(lens) {
+    if !none_is_over(lens, MAX_LEN) {
         return -errno::EFBIG;
     }
-    let Ok(contents) = contents_of(memory, alloc, bytes, lens) else {
+    let Ok(contents) = cut(memory, alloc, bytes, lens) else {
         return -errno::ENOMEM;
     };
-    let Ok(machine) = new_crash_machine(memory, alloc, &setup, unit, &contents) else {
+    let Ok(machine) = CrashMachine::on_in(memory, alloc, &setup, unit, &contents) else {
+        return -errno::ENOMEM;
+    };
+    let Ok(machine) = memory.boxed(alloc, machine) else {
         return -errno::ENOMEM;
     };
     place.put(machine);
     0
-}
-
-/// The files that C gives in one piece, by this memory. `AllocError`: out of memory.
-fn contents_of<M: Memory>(
-    memory: &M,
-    alloc: Global,
-    bytes: &[u8],
-    lens: &[u64],
-) -> Result<Vec<Vec<u8>>, AllocError>
-    requires { AreShort lens.now }
-    ensures parts { IfOk result
-        (λ contents. map (λ b. b.items) contents.items ≡ spec.cut lens.now bytes.now) }
-    ensures many { IfOk result (λ contents. length contents.items ≡ length lens.now) }
-    ensures short { IfOk result (λ contents. (place : ℕ)
-        → length (slice_index_or (map (λ b. b.items) contents.items) place []) ≤ max_len) }
-    ensures granted { ((n : ℕ) → M.grants memory.now n) → IsOk result }
-{
-    cut(memory, alloc, bytes, lens)
 }
 
 /// The set-up of a machine that begins on so many files in units of so many bytes, if there is one.
@@ -100,13 +85,6 @@ fn start_of(setup: &SetupWords, unit: u64, count: usize) -> Option<Setup>
         return None;
     }
     Some(setup)
-}
-
-/// Whether no file is longer than files may be.
-fn are_short(lens: &[u64]) -> bool
-    ensures { IsTrue result ↔ AreShort lens.now }
-{
-    lens.iter().all(|len| *len <= MAX_LEN)
 }
 
 /// What `wulgach_crash_machine_step` does, by this memory. If it grants whatever is asked for, -12 isn't returned, and no answer says that memory was refused.
@@ -146,7 +124,10 @@ pub fn crash_machine_step_in<M: Memory>(
     if place.is_lost(alloc) {
         return -ENOTRECOVERABLE;
     }
-    let Ok(made) = place.step_in(memory, alloc, step) else {
+    let mut machine = place.take_full(alloc);
+    let made = stepped(memory, &mut *machine, step);
+    place.put(machine);
+    let Ok(made) = made else {
         return -errno::ENOMEM;
     };
     *answer = answer_words(&made);
@@ -182,7 +163,10 @@ pub fn crash_machine_crash_in<M: BoxMemory>(
     let Ok(choices) = cut(memory, alloc, numbers, lens) else {
         return -errno::ENOMEM;
     };
-    let Ok(left) = place.crash_in(memory, alloc, &choices) else {
+    let machine = place.take_full(alloc);
+    let left = crash(memory, alloc, &machine, &choices);
+    place.put(machine);
+    let Ok(left) = left else {
         return -errno::ENOMEM;
     };
     next.put(left);
@@ -206,10 +190,14 @@ pub fn refusal_of_file(place: &mut CrashMachinePlace, alloc: Global, fd: i32) ->
     if !place.is_full {
         return -errno::EBADF;
     }
-    if place.is_lost(alloc) {
+    let machine = place.take_full(alloc);
+    let is_lost = machine.is_lost();
+    let has_file = machine.log(fd).is_some();
+    place.put(machine);
+    if is_lost {
         return -ENOTRECOVERABLE;
     }
-    if !place.has_file(alloc, fd) {
+    if !has_file {
         return -errno::ENOENT;
     }
     0
@@ -244,7 +232,13 @@ pub fn crash_machine_image_in<M: Memory>(
     if refusal != 0 {
         return refusal;
     }
-    let Ok(now) = place.image_in(memory, alloc, fd, choice) else {
+    let machine = place.take_full(alloc);
+    let Some(log) = machine.log(fd) else {
+        unreachable!()
+    };
+    let made = log.crash_in(memory, choice);
+    place.put(machine);
+    let Ok(now) = made else {
         return -errno::ENOMEM;
     };
     *len = give(&now, bytes);
@@ -277,7 +271,13 @@ pub fn crash_machine_count_images_in<M: Memory>(
     if refusal != 0 {
         return refusal;
     }
-    let Ok(now) = place.count_images_in(memory, alloc, fd) else {
+    let machine = place.take_full(alloc);
+    let Some(log) = machine.log(fd) else {
+        unreachable!()
+    };
+    let made = log.volume().count_images_in(memory, alloc);
+    place.put(machine);
+    let Ok(now) = made else {
         return -errno::ENOMEM;
     };
     *count = now;
@@ -321,7 +321,13 @@ pub fn crash_machine_images_in<M: Memory>(
         return refusal;
     }
     let most = lens.len().min(MOST_IMAGES) as u32;
-    let images = match place.images_in(memory, alloc, fd, most) {
+    let machine = place.take_full(alloc);
+    let Some(log) = machine.log(fd) else {
+        unreachable!()
+    };
+    let made = log.volume().images_in(memory, alloc, most);
+    place.put(machine);
+    let images = match made {
         Ok(images) => images,
         Err(ImagesError::TooMany) => return -errno::EFBIG,
         Err(ImagesError::OutOfMemory) => return -errno::ENOMEM,

@@ -1,5 +1,5 @@
 //! The calls of a machine, made on the machine in a place. Each takes the machine out, and puts it back; its box doesn't move.
-ghost use Rattle.std.specs.Prelude.{◌≡◌, ℕ, ◌≤◌, [], IsSome, IfOk, IsOk, IsSomeAnd, slice_get, length};
+ghost use Rattle.std.specs.Prelude.{◌≡◌, ℕ, ◌≤◌, IsSome, IsSomeAnd, slice_get, length};
 ghost use Rattle.uring_entry.specs.Completions.{unreaped};
 ghost use Rattle.uring_entry.specs.Requests.{least_of, operation_running};
 ghost use Rattle.uring_rules.specs.Rules.{issuables_of, issuable_from, why_of};
@@ -12,26 +12,10 @@ ghost use Rattle.uring_files.specs.Operations.{state_of, byte_of};
 ghost use Rattle.uring_crossing.specs.Boxes.Places.{machine_in};
 ghost use Rattle.uring_crossing.specs.Cores.Stepping.{Stepped};
 
-use crate::boxes::box_memory::BoxMemory;
 use crate::machines::machine_place::MachinePlace;
-use std::alloc::{AllocError, Global};
-use uring_machine::{Answer, Counts, Cqe, FileState, Machine, Op, Setup, Step, Why};
+use std::alloc::Global;
+use uring_machine::{Answer, Counts, Cqe, FileState, Op, Step, Why};
 use uring_memory::Memory;
-
-/// A new machine, in a box, by this memory. `AllocError`: out of memory. It doesn't come if the memory grants as many elements as either ring's size, and as there are files.
-pub fn new_machine<M: BoxMemory>(
-    memory: &M,
-    alloc: Global,
-    setup: &Setup,
-) -> Result<Box<Machine, Global>, AllocError>
-    ensures new { IfOk result
-        (λ machine. (machine.value.core.setup ≡ setup.now) × Fits machine.value []) }
-    ensures granted { (n : ℕ) → M.grants memory.now n → setup.now.sq ≤ n → setup.now.cq ≤ n
-        → setup.now.files ≤ n → 1 ≤ n → IsOk result }
-{
-    let machine = Machine::new_in(memory, alloc, setup)?;
-    memory.boxed(alloc, machine)
-}
 
 impl MachinePlace {
     /// Makes one step, by this memory.
@@ -44,9 +28,7 @@ impl MachinePlace {
             → elements_for_step machine.core (world machine.core.setup h) step ≤ n
             → IsUnrefused machine.core.setup (world machine.core.setup h) step result) }
     {
-        let Some(mut machine) = self.take(alloc) else {
-            unreachable!()
-        };
+        let mut machine = self.take_full(alloc);
         let answer = machine.step_in(memory, step);
         self.put(machine);
         answer
@@ -60,9 +42,7 @@ impl MachinePlace {
             (λ machine. (h : History) → Fits machine h
             → IsCounts (world machine.core.setup h) result) }
     {
-        let Some(machine) = self.take(alloc) else {
-            unreachable!()
-        };
+        let machine = self.take_full(alloc);
         let counts = machine.counts();
         self.put(machine);
         counts
@@ -76,9 +56,7 @@ impl MachinePlace {
             (λ machine. (h : History) → Fits machine h
             → result ≡ slice_get (unreaped (world machine.core.setup h).completions) place) }
     {
-        let Some(machine) = self.take(alloc) else {
-            unreachable!()
-        };
+        let machine = self.take_full(alloc);
         let completion = machine.rest(place);
         self.put(machine);
         completion
@@ -92,9 +70,7 @@ impl MachinePlace {
             (λ machine. (h : History) → Fits machine h
             → result ≡ least_of (world machine.core.setup h).requests) }
     {
-        let Some(machine) = self.take(alloc) else {
-            unreachable!()
-        };
+        let machine = self.take_full(alloc);
         let least = machine.least();
         self.put(machine);
         least
@@ -108,9 +84,7 @@ impl MachinePlace {
             (λ machine. (h : History) → Fits machine h
             → result ≡ operation_running (world machine.core.setup h).requests number) }
     {
-        let Some(machine) = self.take(alloc) else {
-            unreachable!()
-        };
+        let machine = self.take_full(alloc);
         let op = machine.running_op(number);
         self.put(machine);
         op
@@ -124,9 +98,7 @@ impl MachinePlace {
             (λ machine. (h : History) → Fits machine h
             → result ≡ issuable_from machine.core.setup.linux (requests_of (world machine.core.setup h)) number) }
     {
-        let Some(machine) = self.take(alloc) else {
-            unreachable!()
-        };
+        let machine = self.take_full(alloc);
         let next = machine.next_issuable(number);
         self.put(machine);
         next
@@ -140,9 +112,7 @@ impl MachinePlace {
             (λ machine. (h : History) → Fits machine h
             → result ≡ length (issuables_of machine.core.setup.linux (requests_of (world machine.core.setup h)))) }
     {
-        let Some(machine) = self.take(alloc) else {
-            unreachable!()
-        };
+        let machine = self.take_full(alloc);
         let count = machine.issuable();
         self.put(machine);
         count
@@ -156,9 +126,7 @@ impl MachinePlace {
             (λ machine. (h : History) → Fits machine h
             → result ≡ slice_get (issuables_of machine.core.setup.linux (requests_of (world machine.core.setup h))) place) }
     {
-        let Some(machine) = self.take(alloc) else {
-            unreachable!()
-        };
+        let machine = self.take_full(alloc);
         let found = machine.nth_issuable(place);
         self.put(machine);
         found
@@ -172,9 +140,7 @@ impl MachinePlace {
             (λ machine. (h : History) → Fits machine h
             → result ≡ why_of machine.core.setup.linux (requests_of (world machine.core.setup h)) number) }
     {
-        let Some(machine) = self.take(alloc) else {
-            unreachable!()
-        };
+        let machine = self.take_full(alloc);
         let why = machine.why(number);
         self.put(machine);
         why
@@ -188,9 +154,7 @@ impl MachinePlace {
             (λ machine. (h : History) → Fits machine h
             → result ≡ state_of (files_of machine.core.setup (world machine.core.setup h)) fd) }
     {
-        let Some(machine) = self.take(alloc) else {
-            unreachable!()
-        };
+        let machine = self.take_full(alloc);
         let state = machine.state(fd);
         self.put(machine);
         state
@@ -204,9 +168,7 @@ impl MachinePlace {
             (λ machine. (h : History) → Fits machine h
             → result ≡ byte_of (files_of machine.core.setup (world machine.core.setup h)) fd at) }
     {
-        let Some(machine) = self.take(alloc) else {
-            unreachable!()
-        };
+        let machine = self.take_full(alloc);
         let byte = machine.byte(fd, at);
         self.put(machine);
         byte

@@ -11,11 +11,11 @@ ghost use Rattle.uring_crossing.specs.Cores.Stepping.{TellsStep, TellUnrefused};
 use crate::boxes::box_memory::BoxMemory;
 use crate::core_words::answer_words::{AnswerWords, answer_words};
 use crate::core_words::set_up_words::SetupWords;
-use crate::machines::machine_calls::new_machine;
 use crate::machines::machine_place::MachinePlace;
 use std::alloc::Global;
 use uring_core::StepWords;
 use uring_entry::errno;
+use uring_machine::Machine;
 use uring_memory::Memory;
 
 /// What `wulgach_machine_new` does, by this memory. If it grants as many elements as the rings of the set-up have entries, and as there are files, -12 isn't returned.
@@ -37,7 +37,10 @@ pub fn machine_new_in<M: BoxMemory>(
     let Some(setup) = setup.set_up() else {
         return -errno::EINVAL;
     };
-    let Ok(machine) = new_machine(memory, alloc, &setup) else {
+    let Ok(machine) = Machine::new_in(memory, alloc, &setup) else {
+        return -errno::ENOMEM;
+    };
+    let Ok(machine) = memory.boxed(alloc, machine) else {
         return -errno::ENOMEM;
     };
     place.put(machine);

@@ -1,5 +1,5 @@
 //! A C program's handle of a machine.
-ghost use Rattle.std.specs.Prelude.{◌≡◌, None, Some, is_some};
+ghost use Rattle.std.specs.Prelude.{◌≡◌, None, Some, IsSome, is_some};
 ghost use Rattle.uring_crossing.specs.Boxes.Slots.{machine_of};
 
 use crate::boxes::parts::Parts;
@@ -18,7 +18,6 @@ pub struct MachinePlace {
 
 impl MachinePlace {
     ghost use Rattle.uring_crossing.specs.Boxes.Places.{machine_in};
-    ghost use Rattle.uring_crossing.specs.Boxes.Boxes.{boxed};
 
     /// A place with nothing in it.
     pub fn empty(alloc: Global) -> MachinePlace
@@ -30,46 +29,33 @@ impl MachinePlace {
         }
     }
 
-    /// A place with this machine.
-    pub fn full(machine: Box<Machine, Global>) -> MachinePlace
-        ensures { machine_in result ≡ Some machine.value }
-    {
-        MachinePlace {
-            slot: Slot::of_machine(Parts::of(machine)),
-            is_full: true,
-        }
-    }
-
-    /// The machine of a place, if there is one.
-    pub fn into_machine(self) -> Option<Box<Machine, Global>>
-        ensures { boxed result ≡ machine_in self }
-    {
-        let MachinePlace { slot, is_full } = self;
-        if is_full {
-            Some(slot.into_machine().into_box())
-        } else {
-            None
-        }
-    }
-
-    /// The machine of a place, which is empty from then on.
-    pub fn take(&mut self, alloc: Global) -> Option<Box<Machine, Global>>
-        ensures taken { boxed result ≡ machine_in self.old }
+    /// The machine of a full place, which is empty from then on.
+    pub fn take_full(&mut self, alloc: Global) -> Box<Machine, Global>
+        requires { IsSome (machine_in self.old) }
+        ensures taken { machine_in self.old ≡ Some result.value }
         ensures empty { machine_in self.new ≡ None }
     {
-        mem::replace(self, MachinePlace::empty(alloc)).into_machine()
+        let slot = mem::replace(&mut self.slot, Slot::none(alloc));
+        self.is_full = false;
+        slot.into_machine().into_box()
     }
 
     /// Puts a machine into a place. What was there is freed.
     pub fn put(&mut self, machine: Box<Machine, Global>)
         ensures { machine_in self.new ≡ Some machine.value }
     {
-        *self = MachinePlace::full(machine);
+        *self = MachinePlace {
+            slot: Slot::of_machine(Parts::of(machine)),
+            is_full: true,
+        };
     }
 }
 
 impl Drop for MachinePlace {
     fn drop(self) {
-        drop(self.into_machine());
+        let MachinePlace { slot, is_full } = self;
+        if is_full {
+            drop(slot.into_machine().into_box());
+        }
     }
 }

@@ -21,9 +21,7 @@ impl OutcomesPlace {
         ensures kept { outcomes_in self.new ≡ outcomes_in self.old }
         ensures count { IsSomeAnd (outcomes_in self.old) (λ found. result ≡ length found.endings.items) }
     {
-        let Some(found) = self.take(alloc) else {
-            unreachable!()
-        };
+        let found = self.take_full(alloc);
         let count = found.endings.len() as u64;
         self.put(found);
         count
@@ -35,9 +33,7 @@ impl OutcomesPlace {
         ensures kept { outcomes_in self.new ≡ outcomes_in self.old }
         ensures all { IsSomeAnd (outcomes_in self.old) (λ found. result ≡ found.is_all) }
     {
-        let Some(found) = self.take(alloc) else {
-            unreachable!()
-        };
+        let found = self.take_full(alloc);
         let is_all = found.is_all;
         self.put(found);
         is_all
@@ -55,9 +51,7 @@ impl OutcomesPlace {
         ensures posted { IsSomeAnd (outcomes_in self.old)
             (λ found. MatchOption (slice_get found.endings.items index) ((result ≡ None) × (completions.new ≡ completions.old)) (λ e. IsSomeAnd result (ArePosted e.posted completions.old completions.new))) }
     {
-        let Some(found) = self.take(alloc) else {
-            unreachable!()
-        };
+        let found = self.take_full(alloc);
         let count = give_posted(&found, index, completions);
         self.put(found);
         count
@@ -70,9 +64,7 @@ impl OutcomesPlace {
         ensures state { IsSomeAnd (outcomes_in self.old)
             (λ found. result ≡ option_and_then (λ e. state_of e.files fd) (slice_get found.endings.items index)) }
     {
-        let Some(found) = self.take(alloc) else {
-            unreachable!()
-        };
+        let found = self.take_full(alloc);
         let state = state_at(&found, index, fd);
         self.put(found);
         state
@@ -85,9 +77,7 @@ impl OutcomesPlace {
         ensures byte { IsSomeAnd (outcomes_in self.old)
             (λ found. result ≡ option_and_then (λ e. byte_of e.files fd at) (slice_get found.endings.items index)) }
     {
-        let Some(found) = self.take(alloc) else {
-            unreachable!()
-        };
+        let found = self.take_full(alloc);
         let byte = byte_at(&found, index, fd, at);
         self.put(found);
         byte
@@ -118,7 +108,9 @@ pub fn found_in<M: MapMemory>(
 fn give_posted(found: &OutcomeList, index: u64, completions: &mut [CompletionWords]) -> Option<u64>
     ensures { MatchOption (slice_get found.now.endings.items index) ((result ≡ None) × (completions.new ≡ completions.old)) (λ e. IsSomeAnd result (ArePosted e.posted completions.old completions.new)) }
 {
-    let ending = found.endings.get(index as usize)?;
+    let Some(ending) = found.endings.get(index as usize) else {
+        return None;
+    };
     let posted = ending.posted();
     give_completions(posted, posted.len().min(completions.len()), completions);
     Some(posted.len() as u64)
@@ -128,7 +120,9 @@ fn give_posted(found: &OutcomeList, index: u64, completions: &mut [CompletionWor
 fn state_at(found: &OutcomeList, index: u64, fd: i32) -> Option<FileState>
     ensures { result ≡ option_and_then (λ e. state_of e.files fd) (slice_get found.now.endings.items index) }
 {
-    let ending = found.endings.get(index as usize)?;
+    let Some(ending) = found.endings.get(index as usize) else {
+        return None;
+    };
     ending.files().state(fd)
 }
 
@@ -136,6 +130,8 @@ fn state_at(found: &OutcomeList, index: u64, fd: i32) -> Option<FileState>
 fn byte_at(found: &OutcomeList, index: u64, fd: i32, at: u64) -> Option<u8>
     ensures { result ≡ option_and_then (λ e. byte_of e.files fd at) (slice_get found.now.endings.items index) }
 {
-    let ending = found.endings.get(index as usize)?;
+    let Some(ending) = found.endings.get(index as usize) else {
+        return None;
+    };
     ending.files().byte(fd, at)
 }

@@ -1,5 +1,5 @@
 //! The call of a list of outcomes that asks for memory, by any memory. What C calls is it at the program's own allocator.
-ghost use Rattle.std.specs.Prelude.{◌≡◌, ◌↔◌, ℕ, ◌≤◌, All, pos, neg_ℤ, IfOk, IsOk, IsSomeAnd, IsTrue, MatchOption, map};
+ghost use Rattle.std.specs.Prelude.{◌≡◌, ◌↔◌, ℕ, pos, neg_ℤ, IfOk, IsOk, IsSomeAnd, MatchOption, map};
 ghost use Rattle.uring_entry.specs.declared.errno.TheConstants.{EINVAL, ENOMEM};
 ghost use Rattle.uring_crossing.specs.CoreWords.Cuts as spec;
 ghost use Rattle.uring_crossing.specs.Outcomes.Outcomes.{IsNoWalk, TakesWhole, AreFound};
@@ -8,7 +8,7 @@ ghost use Rattle.uring_crossing.specs.CoreWords.SetUps.{IsAskedFor};
 ghost use Rattle.uring_crossing.specs.declared.core_words.set_up_words.SetupWords.{SetupWords};
 
 use crate::boxes::box_memory::BoxMemory;
-use crate::core_words::cuts::cut;
+use crate::core_words::cuts::{cut, none_is_over};
 use crate::core_words::set_up_words::SetupWords;
 use crate::cores::whole_call_memory::{EntryWords, entries_of};
 use crate::outcomes::outcome_list::OutcomeList;
@@ -68,17 +68,10 @@ fn ring_of(setup: &SetupWords, lens: &[u64]) -> Option<Setup>
     if setup.linux {
         return None;
     }
-    if !fit(lens, ring.sq()) {
+    if !none_is_over(lens, u64::from(ring.sq())) {
         return None;
     }
     Some(ring)
-}
-
-/// Whether a ring of this size has a slot for each entry of calls of these lengths.
-fn fit(lens: &[u64], size: u32) -> bool
-    ensures { IsTrue result ↔ All (λ len. len ≤ size) lens.now }
-{
-    lens.iter().all(|len| *len <= u64::from(size))
 }
 
 /// What these calls may come to, as far as so many paths show.

@@ -1,5 +1,5 @@
 //! A C program's handle of a list of outcomes.
-ghost use Rattle.std.specs.Prelude.{◌≡◌, None, Some, is_some};
+ghost use Rattle.std.specs.Prelude.{◌≡◌, None, Some, IsSome, is_some};
 ghost use Rattle.uring_crossing.specs.Boxes.Slots.{outcomes_of};
 
 use crate::boxes::parts::Parts;
@@ -18,7 +18,6 @@ pub struct OutcomesPlace {
 
 impl OutcomesPlace {
     ghost use Rattle.uring_crossing.specs.Boxes.Places.{outcomes_in};
-    ghost use Rattle.uring_crossing.specs.Boxes.Boxes.{boxed};
 
     /// A place with nothing in it.
     pub fn empty(alloc: Global) -> OutcomesPlace
@@ -30,46 +29,33 @@ impl OutcomesPlace {
         }
     }
 
-    /// A place with these outcomes.
-    pub fn full(outcomes: Box<OutcomeList, Global>) -> OutcomesPlace
-        ensures { outcomes_in result ≡ Some outcomes.value }
-    {
-        OutcomesPlace {
-            slot: Slot::of_outcomes(Parts::of(outcomes)),
-            is_full: true,
-        }
-    }
-
-    /// The outcomes of a place, if there are some.
-    pub fn into_outcomes(self) -> Option<Box<OutcomeList, Global>>
-        ensures { boxed result ≡ outcomes_in self }
-    {
-        let OutcomesPlace { slot, is_full } = self;
-        if is_full {
-            Some(slot.into_outcomes().into_box())
-        } else {
-            None
-        }
-    }
-
-    /// The outcomes of a place, which is empty from then on.
-    pub fn take(&mut self, alloc: Global) -> Option<Box<OutcomeList, Global>>
-        ensures taken { boxed result ≡ outcomes_in self.old }
+    /// The outcomes of a full place, which is empty from then on.
+    pub fn take_full(&mut self, alloc: Global) -> Box<OutcomeList, Global>
+        requires { IsSome (outcomes_in self.old) }
+        ensures taken { outcomes_in self.old ≡ Some result.value }
         ensures empty { outcomes_in self.new ≡ None }
     {
-        mem::replace(self, OutcomesPlace::empty(alloc)).into_outcomes()
+        let slot = mem::replace(&mut self.slot, Slot::none(alloc));
+        self.is_full = false;
+        slot.into_outcomes().into_box()
     }
 
     /// Puts outcomes into a place. What was there is freed.
     pub fn put(&mut self, outcomes: Box<OutcomeList, Global>)
         ensures { outcomes_in self.new ≡ Some outcomes.value }
     {
-        *self = OutcomesPlace::full(outcomes);
+        *self = OutcomesPlace {
+            slot: Slot::of_outcomes(Parts::of(outcomes)),
+            is_full: true,
+        };
     }
 }
 
 impl Drop for OutcomesPlace {
     fn drop(self) {
-        drop(self.into_outcomes());
+        let OutcomesPlace { slot, is_full } = self;
+        if is_full {
+            drop(slot.into_outcomes().into_box());
+        }
     }
 }

@@ -37,7 +37,9 @@ pub fn push_flags<M: TextMemory>(memory: &M, text: &mut String, flags: u8) -> Re
     ensures granted { ((n : ℕ) → M.grants memory.now n) → IsOk result }
 {
     let before = text.len();
-    push_letters(memory, text, flags)?;
+    if let Err(error) = push_letters(memory, text, flags) {
+        return Err(error);
+    }
     push_text(memory, text, if text.len() == before { "-" } else { "" })
 }
 

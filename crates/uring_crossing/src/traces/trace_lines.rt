@@ -57,14 +57,22 @@ fn write_line<M: TextMemory>(
         (λ is_line. is_line ≡ true → IsLineOf (string_bytes text.new) step.now answer.now) }
     ensures granted { ((n : ℕ) → M.grants memory.now n) → IsOk result }
 {
-    push_step(memory, text, step)?;
-    let is_read = spells_in(memory, alloc, text.as_bytes(), step)?;
+    if let Err(error) = push_step(memory, text, step) {
+        return Err(error);
+    }
+    let Ok(is_read) = spells_in(memory, alloc, text.as_bytes(), step) else {
+        return Err(AllocError);
+    };
     if !is_read {
         return Ok(false);
     }
-    push_text(memory, text, " = ")?;
-    push_answer_in(memory, text, answer)?;
-    Ok(true)
+    if let Err(error) = push_text(memory, text, " = ") {
+        return Err(error);
+    }
+    match push_answer_in(memory, text, answer) {
+        Ok(()) => Ok(true),
+        Err(error) => Err(error),
+    }
 }
 
 /// Appends a step as its line has it.
@@ -90,12 +98,24 @@ fn push_fill<M: TextMemory>(
 ) -> Result<(), AllocError>
     ensures granted { ((n : ℕ) → M.grants memory.now n) → IsOk result }
 {
-    push_named(memory, text, "fill ", u64::from(slot))?;
-    push_text(memory, text, " ")?;
-    push_operation(memory, text, entry)?;
-    push_named(memory, text, " ", entry.user_data())?;
-    push_text(memory, text, " ")?;
-    push_flags(memory, text, entry.flags())?;
+    if let Err(error) = push_named(memory, text, "fill ", u64::from(slot)) {
+        return Err(error);
+    }
+    if let Err(error) = push_text(memory, text, " ") {
+        return Err(error);
+    }
+    if let Err(error) = push_operation(memory, text, entry) {
+        return Err(error);
+    }
+    if let Err(error) = push_named(memory, text, " ", entry.user_data()) {
+        return Err(error);
+    }
+    if let Err(error) = push_text(memory, text, " ") {
+        return Err(error);
+    }
+    if let Err(error) = push_flags(memory, text, entry.flags()) {
+        return Err(error);
+    }
     push_fields(memory, text, entry)
 }
 
@@ -108,7 +128,9 @@ fn push_fields<M: TextMemory>(memory: &M, text: &mut String, entry: &Sqe) -> Res
     };
     let kinds = name.kinds();
     for i in 0..kinds.len() {
-        push_field(memory, text, entry, kinds[i])?;
+        if let Err(error) = push_field(memory, text, entry, kinds[i]) {
+            return Err(error);
+        }
     }
     Ok(())
 }
@@ -122,14 +144,17 @@ fn push_field<M: TextMemory>(
 ) -> Result<(), AllocError>
     ensures granted { ((n : ℕ) → M.grants memory.now n) → IsOk result }
 {
-    match kind {
+    let number = match kind {
         Kind::File => {
-            push_text(memory, text, " ")?;
-            push_signed(memory, text, entry.fd())
+            return match push_text(memory, text, " ") {
+                Ok(()) => push_signed(memory, text, entry.fd()),
+                Err(error) => Err(error),
+            };
         }
-        Kind::Offset => push_named(memory, text, " ", entry.off()),
-        Kind::Length => push_named(memory, text, " ", u64::from(entry.len())),
-        Kind::Target => push_named(memory, text, " ", entry.addr()),
-        _ => Ok(()),
-    }
+        Kind::Offset => entry.off(),
+        Kind::Length => u64::from(entry.len()),
+        Kind::Target => entry.addr(),
+        _ => return Ok(()),
+    };
+    push_named(memory, text, " ", number)
 }

@@ -10,12 +10,12 @@ ghost use Rattle.uring_volume.specs.Writes.{Write};
 ghost use Rattle.uring_volume.specs.Folds.{IsFoldable, IsFoldedFrom};
 
 use crate::boxes::box_memory::BoxMemory;
-use crate::volumes::volume_calls::{copied, new_volume};
+use crate::core_words::cuts::copied;
 use crate::volumes::volume_place::VolumePlace;
 use std::alloc::{AllocError, Global};
 use uring_entry::errno;
 use uring_memory::Memory;
-use uring_volume::{BeginError, ImagesError, SyncRange};
+use uring_volume::{BeginError, ImagesError, SyncRange, Volume};
 
 /// The most images that are listed.
 pub const MOST_IMAGES: usize = 0xffff_ffff;
@@ -73,7 +73,10 @@ pub fn volume_new_in<M: BoxMemory>(
     if unit == 0 {
         return -errno::EINVAL;
     }
-    let Ok(volume) = new_volume(memory, alloc, unit, first) else {
+    let Ok(bytes) = copied(memory, alloc, first) else {
+        return -errno::ENOMEM;
+    };
+    let Ok(volume) = memory.boxed(alloc, Volume::new(alloc, unit, bytes)) else {
         return -errno::ENOMEM;
     };
     place.put(volume);
@@ -116,7 +119,10 @@ pub fn volume_begin_write_in<M: Memory>(
     let Ok(copy) = copied(memory, alloc, bytes) else {
         return -errno::ENOMEM;
     };
-    tell(place.begin_write_in(memory, alloc, off, copy), number)
+    let mut volume = place.take_full(alloc);
+    let begun = volume.begin_write_in(memory, off, copy);
+    place.put(volume);
+    tell(begun, number)
 }
 
 /// What `wulgach_volume_begin_sync` and `wulgach_volume_begin_range_sync` do, by this memory. If it grants as many elements as Volume asks for as a sync begins, -12 isn't returned.
@@ -144,7 +150,10 @@ pub fn volume_begin_sync_in<M: Memory>(
     if !place.is_full {
         return -errno::EBADF;
     }
-    tell(place.begin_sync_in(memory, alloc, range), number)
+    let mut volume = place.take_full(alloc);
+    let begun = volume.begin_sync_in(memory, range);
+    place.put(volume);
+    tell(begun, number)
 }
 
 /// What `wulgach_volume_contents` does, by this memory. If it grants whatever is asked for, -12 isn't returned.
@@ -166,7 +175,10 @@ pub fn volume_contents_in<M: Memory>(
     if !place.is_full {
         return -errno::EBADF;
     }
-    let Ok(now) = place.contents_in(memory, alloc) else {
+    let volume = place.take_full(alloc);
+    let made = volume.contents_in(memory, alloc);
+    place.put(volume);
+    let Ok(now) = made else {
         return -errno::ENOMEM;
     };
     *len = give(&now, bytes);
@@ -194,7 +206,10 @@ pub fn volume_crash_in<M: Memory>(
     if !place.is_full {
         return -errno::EBADF;
     }
-    let Ok(now) = place.crash_in(memory, alloc, choice) else {
+    let volume = place.take_full(alloc);
+    let made = volume.crash_in(memory, alloc, choice);
+    place.put(volume);
+    let Ok(now) = made else {
         return -errno::ENOMEM;
     };
     *len = give(&now, bytes);
@@ -219,8 +234,12 @@ fn laid_out<M: Memory>(memory: &M, alloc: Global, lists: &[Vec<u8>]) -> Result<V
 {
     let mut all = Vec::new(alloc);
     for list in lists {
-        memory.reserve(&mut all, list.len())?;
-        all.extend_from_slice(list)?;
+        if let Err(error) = memory.reserve(&mut all, list.len()) {
+            return Err(error);
+        }
+        if let Err(error) = all.extend_from_slice(list) {
+            return Err(error);
+        }
     }
     Ok(all)
 }
@@ -231,10 +250,11 @@ fn lengths<M: Memory>(memory: &M, alloc: Global, lists: &[Vec<u8>]) -> Result<Ve
         ≡ map (λ bytes. length bytes) (map (λ b. b.items) lists.now)) }
     ensures granted { ((n : ℕ) → M.grants memory.now n) → IsOk result }
 {
-    let mut lengths = Vec::new(alloc);
+    let Ok(mut lengths) = memory.list(alloc, lists.len()) else {
+        return Err(AllocError);
+    };
     for list in lists {
-        memory.reserve(&mut lengths, 1)?;
-        lengths.push(list.len() as u64)?;
+        lengths.push_reserved(list.len() as u64);
     }
     Ok(lengths)
 }
@@ -255,8 +275,12 @@ pub fn give_images<M: Memory>(
         × (count.new ≡ count.old) × (total.new ≡ total.old)) }
     ensures granted { ((n : ℕ) → M.grants memory.now n) → IsOk result }
 {
-    let all = laid_out(memory, alloc, images)?;
-    let long = lengths(memory, alloc, images)?;
+    let Ok(all) = laid_out(memory, alloc, images) else {
+        return Err(AllocError);
+    };
+    let Ok(long) = lengths(memory, alloc, images) else {
+        return Err(AllocError);
+    };
     *count = give_numbers(&long, lens);
     *total = give(&all, bytes);
     Ok(())
@@ -279,7 +303,10 @@ pub fn volume_count_images_in<M: Memory>(
     if !place.is_full {
         return -errno::EBADF;
     }
-    let Ok(now) = place.count_images_in(memory, alloc) else {
+    let volume = place.take_full(alloc);
+    let made = volume.count_images_in(memory, alloc);
+    place.put(volume);
+    let Ok(now) = made else {
         return -errno::ENOMEM;
     };
     *count = now;
@@ -300,7 +327,10 @@ pub fn volume_fold_in<M: Memory>(memory: &M, alloc: Global, place: &mut VolumePl
     if !place.is_full {
         return -errno::EBADF;
     }
-    match place.fold_in(memory, alloc) {
+    let mut volume = place.take_full(alloc);
+    let folded = volume.fold_in(memory);
+    place.put(volume);
+    match folded {
         Ok(()) => 0,
         Err(_) => -errno::ENOMEM,
     }
@@ -332,8 +362,11 @@ pub fn volume_images_in<M: Memory>(
     if !place.is_full {
         return -errno::EBADF;
     }
+    let volume = place.take_full(alloc);
     let most = lens.len().min(MOST_IMAGES) as u32;
-    let images = match place.images_in(memory, alloc, most) {
+    let made = volume.images_in(memory, alloc, most);
+    place.put(volume);
+    let images = match made {
         Ok(images) => images,
         Err(ImagesError::TooMany) => return -errno::EFBIG,
         Err(ImagesError::OutOfMemory) => return -errno::ENOMEM,

@@ -1,5 +1,5 @@
 //! A C program's handle of a volume.
-ghost use Rattle.std.specs.Prelude.{◌≡◌, None, Some, is_some};
+ghost use Rattle.std.specs.Prelude.{◌≡◌, None, Some, IsSome, is_some};
 ghost use Rattle.uring_crossing.specs.Boxes.Slots.{volume_of};
 
 use crate::boxes::parts::Parts;
@@ -18,7 +18,6 @@ pub struct VolumePlace {
 
 impl VolumePlace {
     ghost use Rattle.uring_crossing.specs.Boxes.Places.{volume_in};
-    ghost use Rattle.uring_crossing.specs.Boxes.Boxes.{boxed};
 
     /// A place with nothing in it.
     pub fn empty(alloc: Global) -> VolumePlace
@@ -30,46 +29,33 @@ impl VolumePlace {
         }
     }
 
-    /// A place with this volume.
-    pub fn full(volume: Box<Volume, Global>) -> VolumePlace
-        ensures { volume_in result ≡ Some volume.value }
-    {
-        VolumePlace {
-            slot: Slot::of_volume(Parts::of(volume)),
-            is_full: true,
-        }
-    }
-
-    /// The volume of a place, if there is one.
-    pub fn into_volume(self) -> Option<Box<Volume, Global>>
-        ensures { boxed result ≡ volume_in self }
-    {
-        let VolumePlace { slot, is_full } = self;
-        if is_full {
-            Some(slot.into_volume().into_box())
-        } else {
-            None
-        }
-    }
-
-    /// The volume of a place, which is empty from then on.
-    pub fn take(&mut self, alloc: Global) -> Option<Box<Volume, Global>>
-        ensures taken { boxed result ≡ volume_in self.old }
+    /// The volume of a full place, which is empty from then on.
+    pub fn take_full(&mut self, alloc: Global) -> Box<Volume, Global>
+        requires { IsSome (volume_in self.old) }
+        ensures taken { volume_in self.old ≡ Some result.value }
         ensures empty { volume_in self.new ≡ None }
     {
-        mem::replace(self, VolumePlace::empty(alloc)).into_volume()
+        let slot = mem::replace(&mut self.slot, Slot::none(alloc));
+        self.is_full = false;
+        slot.into_volume().into_box()
     }
 
     /// Puts a volume into a place. What was there is freed.
     pub fn put(&mut self, volume: Box<Volume, Global>)
         ensures { volume_in self.new ≡ Some volume.value }
     {
-        *self = VolumePlace::full(volume);
+        *self = VolumePlace {
+            slot: Slot::of_volume(Parts::of(volume)),
+            is_full: true,
+        };
     }
 }
 
 impl Drop for VolumePlace {
     fn drop(self) {
-        drop(self.into_volume());
+        let VolumePlace { slot, is_full } = self;
+        if is_full {
+            drop(slot.into_volume().into_box());
+        }
     }
 }
