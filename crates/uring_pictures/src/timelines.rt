@@ -76,6 +76,8 @@ fn write_timeline<M: TextMemory, W: Write>(
     ensures granted { ((n : ℕ) → M.grants memory.now n) → result ≢ Err TraceFault.Memory }
 {
     let mut text = String::new(alloc);
-    timeline.push_rows(memory, &mut text)?;
-    write_all(writer, text.as_bytes(), &mut Calls::new())
+    match timeline.push_rows(memory, &mut text) {
+        Ok(()) => write_all(writer, text.as_bytes(), &mut Calls::new()),
+        Err(_) => Err(TraceFault::Memory),
+    }
 }
