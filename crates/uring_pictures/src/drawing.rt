@@ -73,8 +73,10 @@ fn draw_all<M: TextMemory, R: Read, W: Write, E: Write>(
     ensures granted { ((n : ℕ) → M.grants memory.now n) → result ≢ Err TraceFault.Memory }
 {
     let bad = watch_trace(memory, alloc, setup, moment, reader, errors)?;
-    write_graph(memory, alloc, moment.accepted(), writer)?;
-    Ok(bad)
+    match write_graph(memory, alloc, moment.accepted(), writer) {
+        Ok(()) => Ok(bad),
+        Err(fault) => Err(fault),
+    }
 }
 
 /// Writes the graph of the outstanding requests.
@@ -90,6 +92,8 @@ fn write_graph<M: TextMemory, W: Write>(
     ensures granted { ((n : ℕ) → M.grants memory.now n) → result ≢ Err TraceFault.Memory }
 {
     let mut text = String::new(alloc);
-    push_graph(memory, &mut text, accepted)?;
-    write_all(writer, text.as_bytes(), &mut Calls::new())
+    match push_graph(memory, &mut text, accepted) {
+        Ok(()) => write_all(writer, text.as_bytes(), &mut Calls::new()),
+        Err(_) => Err(TraceFault::Memory),
+    }
 }

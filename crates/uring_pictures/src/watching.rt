@@ -153,8 +153,10 @@ fn watch<M: TextMemory, W: Watcher, E: Write>(
 {
     let mut text = String::new(alloc);
     let mut notes = String::new(alloc);
-    watch_bytes(memory, explainer, watcher, bytes, &mut text, &mut notes)?;
-    write_all(errors, notes.as_bytes(), writes)
+    match watch_bytes(memory, explainer, watcher, bytes, &mut text, &mut notes) {
+        Ok(()) => write_all(errors, notes.as_bytes(), writes),
+        Err(fault) => Err(fault),
+    }
 }
 
 /// Takes in these bytes, and ends each line that they complete.

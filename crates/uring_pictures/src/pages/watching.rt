@@ -87,8 +87,10 @@ fn draw_all<M: TextMemory, R: Read, W: Write, E: Write>(
     ensures granted { ((n : ℕ) → M.grants memory.now n) → result ≢ Err TraceFault.Memory }
 {
     let bad = watch_trace(memory, alloc, setup, recorder, reader, errors)?;
-    write_form(memory, recorder, writer, form)?;
-    Ok(bad)
+    match write_form(memory, recorder, writer, form) {
+        Ok(()) => Ok(bad),
+        Err(fault) => Err(fault),
+    }
 }
 
 /// Writes what was recorded.
