@@ -14,8 +14,8 @@ use uring_trace::push_why_in;
 /// What stands in a form for a value.
 const MARK: u8 = b'@';
 
-/// A column without a number.
-const COLUMN: &[u8] = b"         ";
+/// How wide a column is.
+const WIDTH: usize = 9;
 
 /// The flags that are told, each with its letter.
 static LETTERS: [(SqeFlags, &str); 5] = [
@@ -134,7 +134,9 @@ fn push_wide<M: TextMemory>(
         Some(number) => buffer.format(number),
         None => "-",
     };
-    push_quoted(memory, text, COLUMN.get(digits.len()..).unwrap_or_default())?;
+    for _ in digits.len()..WIDTH {
+        push_plain(memory, text, b' ')?;
+    }
     push_text(memory, text, digits)
 }
 

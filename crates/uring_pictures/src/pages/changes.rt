@@ -156,9 +156,10 @@ impl Changes {
     {
         let mut kept: usize = 0;
         for place in 0..self.outstanding.len() {
-            let Some(number) = self.outstanding.get(place).copied() else {
+            let Some(number) = self.outstanding.get(place) else {
                 continue;
             };
+            let number = *number;
             let why = machine.why(number);
             self.look_at(memory, number, why, look)?;
             if !matches!(why, Why::HasEnded) {
@@ -275,9 +276,10 @@ impl Changes {
     {
         let mut kept: usize = 0;
         for place in 0..self.writes.len() {
-            let Some(number) = self.writes.get(place).copied() else {
+            let Some(number) = self.writes.get(place) else {
                 continue;
             };
+            let number = *number;
             if self.is_covered(number, sync) {
                 push_state(memory, &mut self.text, number, "safe")?;
             } else {
