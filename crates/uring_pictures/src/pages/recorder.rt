@@ -43,10 +43,9 @@ impl Recorder {
     ) -> Result<Recorder, AllocError>
         ensures { ((n : ℕ) → M.grants memory.now n) → IsOk result }
     {
-        let line = KeptLine::new_in(memory, alloc)?;
-        let submission = Submission::new(memory, alloc, setup.sq())?;
         let mut text = String::new(alloc);
         push_head(memory, &mut text, setup)?;
+        let line = KeptLine::new_in(memory, alloc)?;
         Ok(Recorder {
             alloc,
             setup: *setup,
@@ -54,7 +53,7 @@ impl Recorder {
             number: 1,
             step: None,
             found: None,
-            submission,
+            submission: Submission::new(memory, alloc, setup.sq())?,
             changes: Changes::new(alloc),
             text,
         })
