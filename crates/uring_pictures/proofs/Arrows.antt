@@ -31,11 +31,12 @@ labelled old a b c d e f new p q r s w k t u is_a is_b is_c is_d is_e is_f is =
     let front : d ≡ old ++ (p ++ q ++ r ++ s) = two_parts old c d (p ++ q ++ r) s (two_parts old b c (p ++ q) r (two_parts old a b p q is_a is_b) is_c) is_d in
     two_parts old f new (p ++ q ++ r ++ s ++ w ++ k ++ t) u (two_parts old e f (p ++ q ++ r ++ s ++ w ++ k) t (named_part old d e (p ++ q ++ r ++ s) w k front is_e) is_f) is
 
--- the parts of a node
-pub six_parts : (old a b c d e new p q r s t u : List ℕ) → a ≡ old ++ p → b ≡ a ++ q → c ≡ b ++ r → d ≡ c ++ s
-    → e ≡ d ++ t → new ≡ e ++ u → new ≡ old ++ (p ++ q ++ r ++ s ++ t ++ u)
-six_parts old a b c d e new p q r s t u is_a is_b is_c is_d is_e is =
-    two_parts old e new (p ++ q ++ r ++ s ++ t) u (two_parts old d e (p ++ q ++ r ++ s) t (two_parts old c d (p ++ q ++ r) s (two_parts old b c (p ++ q) r (two_parts old a b p q is_a is_b) is_c) is_d) is_e) is
+-- the parts of a node: the second has a shape between two words
+pub node_parts : (old a b c new p q r s t u : List ℕ) → a ≡ old ++ p → b ≡ a ++ (q ++ r ++ s) → c ≡ b ++ t
+    → new ≡ c ++ u → new ≡ old ++ (p ++ q ++ r ++ s ++ t ++ u)
+node_parts old a b c new p q r s t u is_a is_b is_c is =
+    let shaped : b ≡ ((a ++ q) ++ r) ++ s = is_b ∙ sym (append_assoc a (q ++ r) s) ∙ ap (λ (l : List ℕ). l ++ s) (sym (append_assoc a q r)) in
+    two_parts old c new (p ++ q ++ r ++ s ++ t) u (two_parts old b c (p ++ q ++ r ++ s) t (two_parts old ((a ++ q) ++ r) b (p ++ q ++ r) s (two_parts old (a ++ q) ((a ++ q) ++ r) (p ++ q) r (two_parts old a (a ++ q) p q is_a refl) refl) shaped) is_c) is
 
 -- one part more
 pub part_more : (f : ℕ → List ℕ) (part : List ℕ) (n : ℕ) (front so after : List ℕ) → so ≡ front ++ f n

@@ -11,7 +11,7 @@ pub use Rattle.uring_entry.specs.Setup.{Setup}
 pub use Rattle.uring_pictures.specs.Following.{Closes, Followed, Following, Follows, HasAll, HasFollowed, Keeping, Keeps, MakesStep, ReadsLine, is_linux_at, is_taken, linux_at, requests_at}
 pub use Rattle.uring_pictures.specs.Graphs.{arrows_below, arrows_text, call_of, first_of, flags_text, graph_of, in_chain, is_chained, label_text, line_text, member_before, node_text, nodes_below, placed_text, row_text, shape_of, standing_text}
 pub use Rattle.uring_pictures.specs.Moments.{does_count, up_to}
-pub use Rattle.uring_pictures.specs.Readings.{EndsBoth, EndsIn, EndsLine, ReadsAll, ReadsBoth, TakesBoth, TakesIn}
+pub use Rattle.uring_pictures.specs.Readings.{EndsIn, EndsLine, ReadsAll, TakesIn}
 pub use Rattle.uring_pictures.specs.declared.accepted.Accepted.{Accepted}
 pub use Rattle.uring_trace.specs.Explaining.{HasEnded, HasTold}
 pub use Rattle.uring_trace.specs.declared.explainer.Explainer.{Explainer}

@@ -1,6 +1,6 @@
 -- What is drawn of all that was read.
 use Rattle.std.proofs.Common.{◌≡◌, ℕ, Bool, List, [], ◌++◌, Option, Ok, Err, sym, ap, subst, ◌∙◌}
-use Rattle.uring_pictures.proofs.Common.{Accepted, Appends, Explainer, History, Keeps, OnOk, ReadsAll, ReadsBoth, Setup, graph_of, history_of, is_linux_at, linux_at, world}
+use Rattle.uring_pictures.proofs.Common.{Accepted, Appends, Explainer, HasFollowed, History, Keeps, OnOk, ReadsAll, Setup, graph_of, history_of, is_linux_at, linux_at, world}
 use Rattle.uring_core.specs.CalledFor.{IsLawful}
 use Rattle.uring_core.specs.World.{requests_of}
 use Rattle.uring_text.specs.Writing.{WritesText}
@@ -10,20 +10,19 @@ use Rattle.uring_pictures.specs.declared.moment.Moment.{Moment}
 use Rattle.uring_pictures.proofs.Streams.{Done, Known}
 
 -- what was read is drawn
-pub draws : (at : Option ℕ) (setup : Setup) (bad : Bool) (s : Explainer) (m : Moment) (drawn : Accepted) (a a' w w' x x' : Known)
-    → ReadsBoth at setup bad s m a a' x x' → drawn ≡ m.accepted
+pub draws : (at : Option ℕ) (setup : Setup) (bad : Bool) (m : Moment) (drawn : Accepted) (a a' w w' x x' : Known)
+    → (r : Reads setup bad a a' x x') × HasFollowed at setup m r.bytes → drawn ≡ m.accepted
     → ((h : History) → Keeps drawn h → Appends w w' (graph_of (is_linux_at drawn) (linux_at drawn h)))
     → Draws at setup bad a a' w w' x x'
-draws at setup bad s m drawn a a' w w' x x' both same writes =
+draws at setup bad m drawn a a' w w' x x' both same writes =
     let r = both.0 in
     let f = both.1 in
-    let whole = r.ended.0 in
     let h : History = history_of (events_of f.exchanges) in
     record {
       bytes = r.bytes;
       told = r.told;
       notes = r.notes;
-      explained = (whole.0, whole.1, whole.2, whole.3, whole.4, whole.5, r.is_bad ∙ whole.6);
+      explained = r.lines;
       consumed = r.consumed;
       at_end = r.at_end;
       noted = r.noted;
@@ -47,16 +46,19 @@ written_graph (Ok done) drawn text none w w' start tells x = λ h keeps.
 written_graph (Err f) drawn text none w w' start tells x = tt
 
 -- what was read, without a picture
-pub reads : (setup : Setup) (bad : Bool) (s : Explainer) (a a' x x' : Known)
-    → ReadsAll setup bad s a a' x x' → Reads setup bad a a' x x'
-reads setup bad s a a' x x' r =
-    let whole = r.ended.0 in
-    record {
-      bytes = r.bytes;
-      told = r.told;
-      notes = r.notes;
-      lines = (whole.0, whole.1, whole.2, whole.3, whole.4, whole.5, r.is_bad ∙ whole.6);
-      consumed = r.consumed;
-      at_end = r.at_end;
-      noted = r.noted;
-    }
+pub reads : (P : List ℕ → Type 0) (setup : Setup) (bad : Bool) (s : Explainer) (a a' x x' : Known)
+    → (r : ReadsAll setup bad s a a' x x') × P r.bytes → (r : Reads setup bad a a' x x') × P r.bytes
+reads P setup bad s a a' x x' both =
+    let r = both.0 in
+    let whole = r.ended.0 in (
+      record {
+        bytes = r.bytes;
+        told = r.told;
+        notes = r.notes;
+        lines = (whole.0, whole.1, whole.2, whole.3, whole.4, whole.5, r.is_bad ∙ whole.6);
+        consumed = r.consumed;
+        at_end = r.at_end;
+        noted = r.noted;
+      },
+      both.1,
+    )

@@ -1,39 +1,43 @@
--- What the explainer and the moment have taken in together.
-use Rattle.std.proofs.Common.{ℕ, Bool, List, [], Option, sym, subst}
-use Rattle.uring_pictures.proofs.Common.{Consumes, EndsBoth, Explainer, Follows, HasFollowed, HasTold, IsAtEnd, ReadsBoth, Setup, TakesBoth, append-nil}
+-- What the explainer and a watcher have taken in together.
+use Rattle.std.proofs.Common.{◌≡◌, ℕ, Bool, List, [], ◌++◌, Ok, Err, sym, subst}
+use Rattle.uring_pictures.proofs.Common.{Consumes, EndsIn, Explainer, HasTold, IsAtEnd, OnOk, ReadsAll, Setup, TakesIn, append-nil}
 use Rattle.std.specs.Io.KnownBytes.{Keeps}
-use Rattle.uring_pictures.specs.declared.moment.Moment.{Moment}
-use Rattle.uring_pictures.proofs.Streams.{Known, Far, far_start, far_again, far_on, far_end}
+use Rattle.uring_pictures.proofs.Streams.{Done, Known, Far, far_start, far_again, far_on, far_end}
 
--- What was read so far, by both.
-abbrev pub FarBoth : Option ℕ → Setup → Known → Known → Known → Known → Explainer → Moment → Type 0
-FarBoth at setup a r x e s m = (so : Far setup a r x e s) × Follows at setup m so.0
+-- What was read so far by the explainer, and holds of the watcher.
+abbrev pub FarWith : (List ℕ → Type 0) → Setup → Known → Known → Known → Known → Explainer → Type 0
+FarWith P setup a r x e s = (so : Far setup a r x e s) × P so.0
 
-pub both_start : (at : Option ℕ) (setup : Setup) (a x : Known) (s : Explainer) (m : Moment) → HasTold setup s [] [] []
-    → Follows at setup m [] → FarBoth at setup a a x x s m
+pub with_start : (P : List ℕ → Type 0) (setup : Setup) (a x : Known) (s : Explainer) → HasTold setup s [] [] []
+    → P [] → FarWith P setup a a x x s
 unfolding far_start
-both_start at setup a x s m h f = (far_start setup a x s h, f)
+with_start P setup a x s h p = (far_start setup a x s h, p)
 
 -- a read that was interrupted
-pub both_again : (at : Option ℕ) (setup : Setup) (a r r' x e : Known) (s : Explainer) (m : Moment) → Keeps r r'
-    → FarBoth at setup a r x e s m → FarBoth at setup a r' x e s m
+pub with_again : (P : List ℕ → Type 0) (setup : Setup) (a r r' x e : Known) (s : Explainer) → Keeps r r'
+    → FarWith P setup a r x e s → FarWith P setup a r' x e s
 unfolding far_again
-both_again at setup a r r' x e s m h so = (far_again setup a r r' x e s h so.0, so.1)
+with_again P setup a r r' x e s h so = (far_again setup a r r' x e s h so.0, so.1)
 
 -- bytes that were read
-pub both_on : (at : Option ℕ) (setup : Setup) (a r r' x e e' : Known) (s s' : Explainer) (m m' : Moment) (more : List ℕ)
-    → Consumes r r' more → TakesBoth s s' m m' more e e' → FarBoth at setup a r x e s m
-    → FarBoth at setup a r' x e' s' m'
+pub with_on : (P Q : List ℕ → Type 0) (setup : Setup) (a r r' x e e' : Known) (s s' : Explainer) (more : List ℕ)
+    → Consumes r r' more → TakesIn s s' more e e' → ((before : List ℕ) → P before → Q (before ++ more))
+    → FarWith P setup a r x e s → FarWith Q setup a r' x e' s'
 unfolding far_on
-both_on at setup a r r' x e e' s s' m m' more read takes so =
-    (far_on setup a r r' x e e' s s' more read takes.0 so.0, takes.1 at setup so.0.0 so.1)
+with_on P Q setup a r r' x e e' s s' more read takes on so =
+    (far_on setup a r r' x e e' s s' more read takes so.0, on so.0.0 so.1)
 
 -- the end of the input
-pub both_end : (at : Option ℕ) (setup : Setup) (bad : Bool) (a r r' x e e' : Known) (s s' : Explainer) (m m' : Moment)
-    → Consumes r r' [] → IsAtEnd r' → EndsBoth bad s s' m m' e e' → FarBoth at setup a r x e s m
-    → ReadsBoth at setup bad s' m' a r' x e'
+pub with_end : (P Q : List ℕ → Type 0) (setup : Setup) (bad : Bool) (a r r' x e e' : Known) (s s' : Explainer)
+    → Consumes r r' [] → IsAtEnd r' → EndsIn bad s s' e e' → ((bytes : List ℕ) → P bytes → Q bytes)
+    → FarWith P setup a r x e s → (all : ReadsAll setup bad s' a r' x e') × Q all.bytes
 unfolding far_end
-both_end at setup bad a r r' x e e' s s' m m' read end ends so = (
-  far_end setup bad a r r' x e e' s s' read end ends.0 so.0,
-  subst (λ (l : List ℕ). HasFollowed at setup m' l) (sym (append-nil so.0.0)) (ends.1 at setup so.0.0 so.1),
+with_end P Q setup bad a r r' x e e' s s' read end ends last so = (
+  far_end setup bad a r r' x e e' s s' read end ends so.0,
+  subst (λ (l : List ℕ). Q l) (sym (append-nil so.0.0)) (last so.0.0 so.1),
 )
+
+-- what holds whatever was written
+pub on_done : (result : Done) (P : Type 0) → P → OnOk result P
+on_done (Ok done) P p = p
+on_done (Err f) P p = tt

@@ -4,8 +4,6 @@ use Rattle.std.specs.Io.KnownBytes.{Consumes, Appends, IsAtEnd}
 use Rattle.uring_entry.specs.Setup.{Setup}
 use Rattle.uring_trace.specs.declared.explainer.Explainer.{Explainer}
 use Rattle.uring_trace.specs.Explaining.{HasTold, HasEnded}
-use Rattle.uring_pictures.specs.Following.{Follows, HasFollowed}
-use Rattle.uring_pictures.specs.declared.moment.Moment.{Moment}
 
 -- these bytes were taken in, and what is noted of them was written
 abbrev pub TakesIn : Explainer → Explainer → List ℕ → Option (List ℕ) → Option (List ℕ) → Type 0
@@ -35,20 +33,3 @@ pub record ReadsAll (setup : Setup) (bad : Bool) (s : Explainer) (left_before le
   pub noted : Appends notes_before notes_after notes
   pub is_bad : bad ≡ s.has_bad
   pub ended : HasEnded setup s bytes told notes
-
--- these bytes were taken in by the explainer and by the moment
-abbrev pub TakesBoth : Explainer → Explainer → Moment → Moment → List ℕ → Option (List ℕ) → Option (List ℕ)
-    → Type 0
-TakesBoth old new m m' bytes e e' = TakesIn old new bytes e e'
-    × ((at : Option ℕ) (setup : Setup) (before : List ℕ) → Follows at setup m before → Follows at setup m' (before ++ bytes))
-
--- the input was ended for both
-abbrev pub EndsBoth : Bool → Explainer → Explainer → Moment → Moment → Option (List ℕ) → Option (List ℕ) → Type 0
-EndsBoth bad old new m m' e e' = EndsIn bad old new e e'
-    × ((at : Option ℕ) (setup : Setup) (bytes : List ℕ) → Follows at setup m bytes → HasFollowed at setup m' bytes)
-
--- all was taken in by both
-abbrev pub ReadsBoth : Option ℕ → Setup → Bool → Explainer → Moment → Option (List ℕ) → Option (List ℕ) → Option (List ℕ)
-    → Option (List ℕ) → Type 0
-ReadsBoth at setup bad s m left_before left_after notes_before notes_after =
-    (r : ReadsAll setup bad s left_before left_after notes_before notes_after) × HasFollowed at setup m r.bytes

@@ -1,26 +1,20 @@
 //! The run of a trace of which a graph is drawn.
 
-ghost use Rattle.std.specs.Prelude.{◌≡◌, ◌≢◌, ◌++◌, ℕ, List, [], Option, IfErr, IfOk, OnOk, Err};
+ghost use Rattle.std.specs.Prelude.{◌≢◌, ℕ, [], Option, IfOk, OnOk, Err};
 ghost use Rattle.std.specs.Io.KnownBytes.{Appends};
-ghost use Rattle.uring_entry.specs.Setup.{Setup};
 ghost use Rattle.uring_core.specs.Histories.{History};
-ghost use Rattle.uring_trace.specs.Explaining.{HasTold};
 ghost use Rattle.uring_pictures.specs.Drawings.{Draws};
 ghost use Rattle.uring_pictures.specs.Following.{Follows, Keeps, is_linux_at, linux_at};
 ghost use Rattle.uring_pictures.specs.Graphs.{graph_of};
-ghost use Rattle.uring_pictures.specs.Readings.{ReadsBoth, TakesBoth, EndsBoth, EndsLine, TakesIn};
 
 use crate::accepted::Accepted;
 use crate::graph_text::push_graph;
 use crate::moment::Moment;
+use crate::watching::watch_trace;
 use std::alloc::Global;
 use std::io::{Read, Write};
 use uring_machine::Setup;
-use uring_text::{Calls, TextMemory, TraceFault, read_once, write_all};
-use uring_trace::Explainer;
-
-/// Most bytes that are read at once.
-const CHUNK: usize = 512;
+use uring_text::{Calls, TextMemory, TraceFault, write_all};
 
 /// Reads the lines of an explanation from `reader`, makes their steps on a new machine of this set-up, and writes to `writer`, once the input has ended, the graph of the requests that are outstanding after the line of this number, from 1 on, or after the last one, in Graphviz's language: no answers. `Ok` tells whether a line was bad.
 ///
@@ -57,70 +51,32 @@ pub fn graph_in<M: TextMemory, R: Read, W: Write, E: Write>(
         (λ bad. Draws at setup.now bad (R.remaining reader.old) (R.remaining reader.new) (W.contents writer.old) (W.contents writer.new) (E.contents errors.old) (E.contents errors.new)) }
     ensures granted { ((n : ℕ) → M.grants memory.now n) → result ≢ Err TraceFault.Memory }
 {
-    let mut explainer = Explainer::new_in(memory, alloc, setup)?;
-    let drawn = draw_moment(
-        memory,
-        alloc,
-        &mut explainer,
-        reader,
-        writer,
-        errors,
-        setup,
-        at,
-    );
-    drop(explainer);
-    drawn
-}
-
-/// Takes in all lines, and draws the graph of the moment after one of them.
-fn draw_moment<M: TextMemory, R: Read, W: Write, E: Write>(
-    memory: &M,
-    alloc: Global,
-    explainer: &mut Explainer,
-    reader: &mut R,
-    writer: &mut W,
-    errors: &mut E,
-    setup: &Setup,
-    at: Option<u64>,
-) -> Result<bool, TraceFault>
-    ensures drawn { IfOk result
-        (λ bad. HasTold setup.now explainer.old [] [] []
-        → Draws at setup.now bad (R.remaining reader.old) (R.remaining reader.new) (W.contents writer.old) (W.contents writer.new) (E.contents errors.old) (E.contents errors.new)) }
-    ensures granted { ((n : ℕ) → M.grants memory.now n) → result ≢ Err TraceFault.Memory }
-{
     let mut moment = Moment::new_in(memory, alloc, setup, at)?;
-    let drawn = draw_all(
-        memory,
-        alloc,
-        explainer,
-        &mut moment,
-        reader,
-        writer,
-        errors,
-    );
-    drop(moment);
+    let drawn = draw_all(memory, alloc, setup, &mut moment, reader, writer, errors);
+    moment.let_go();
     drawn
 }
 
-/// Takes in all lines, and draws the graph of the moment.
+/// Takes in all lines, and draws the graph of the moment. Returns whether a line was bad.
 fn draw_all<M: TextMemory, R: Read, W: Write, E: Write>(
     memory: &M,
     alloc: Global,
-    explainer: &mut Explainer,
+    setup: &Setup,
     moment: &mut Moment,
     reader: &mut R,
     writer: &mut W,
     errors: &mut E,
 ) -> Result<bool, TraceFault>
     ensures drawn { IfOk result
-        (λ bad. (setup : Setup) (at : Option ℕ) → HasTold setup explainer.old [] [] []
-        → Follows at setup moment.old []
-        → Draws at setup bad (R.remaining reader.old) (R.remaining reader.new) (W.contents writer.old) (W.contents writer.new) (E.contents errors.old) (E.contents errors.new)) }
+        (λ bad. (at : Option ℕ) → Follows at setup.now moment.old []
+        → Draws at setup.now bad (R.remaining reader.old) (R.remaining reader.new) (W.contents writer.old) (W.contents writer.new) (E.contents errors.old) (E.contents errors.new)) }
     ensures granted { ((n : ℕ) → M.grants memory.now n) → result ≢ Err TraceFault.Memory }
 {
-    let bad = read_all(memory, alloc, explainer, moment, reader, errors)?;
-    write_graph(memory, alloc, moment.accepted(), writer)?;
-    Ok(bad)
+    let bad = watch_trace(memory, alloc, setup, moment, reader, errors)?;
+    match write_graph(memory, alloc, moment.accepted(), writer) {
+        Ok(()) => Ok(bad),
+        Err(fault) => Err(fault),
+    }
 }
 
 /// Writes the graph of the outstanding requests.
@@ -136,115 +92,8 @@ fn write_graph<M: TextMemory, W: Write>(
     ensures granted { ((n : ℕ) → M.grants memory.now n) → result ≢ Err TraceFault.Memory }
 {
     let mut text = String::new(alloc);
-    push_graph(memory, &mut text, accepted)?;
-    write_all(writer, text.as_bytes(), &mut Calls::new())
-}
-
-/// Takes in all lines, and writes what is noted of them. Returns whether a line was bad.
-fn read_all<M: TextMemory, R: Read, E: Write>(
-    memory: &M,
-    alloc: Global,
-    explainer: &mut Explainer,
-    moment: &mut Moment,
-    reader: &mut R,
-    errors: &mut E,
-) -> Result<bool, TraceFault>
-    ensures read { IfOk result
-        (λ bad. (setup : Setup) (at : Option ℕ) → HasTold setup explainer.old [] [] []
-        → Follows at setup moment.old []
-        → ReadsBoth at setup bad explainer.new moment.new (R.remaining reader.old) (R.remaining reader.new) (E.contents errors.old) (E.contents errors.new)) }
-    ensures granted { ((n : ℕ) → M.grants memory.now n) → result ≢ Err TraceFault.Memory }
-{
-    let mut reads = Calls::new();
-    let mut writes = Calls::new();
-    let mut chunk = [0; CHUNK];
-    while !reads.are_over() {
-        match read_once(reader, &mut chunk, &mut reads) {
-            Ok(0) => return end_both(memory, alloc, explainer, moment, errors, &mut writes),
-            Ok(count) => take_both(
-                memory,
-                alloc,
-                explainer,
-                moment,
-                &chunk[..count],
-                errors,
-                &mut writes,
-            )?,
-            Err(_) => {}
-        }
+    match push_graph(memory, &mut text, accepted) {
+        Ok(()) => write_all(writer, text.as_bytes(), &mut Calls::new()),
+        Err(_) => Err(TraceFault::Memory),
     }
-    Err(TraceFault::Read)
-}
-
-/// Takes in these bytes, and writes what is noted of the lines that they complete.
-fn take_both<M: TextMemory, E: Write>(
-    memory: &M,
-    alloc: Global,
-    explainer: &mut Explainer,
-    moment: &mut Moment,
-    bytes: &[u8],
-    errors: &mut E,
-    writes: &mut Calls,
-) -> Result<(), TraceFault>
-    ensures taken { OnOk result
-        (TakesBoth explainer.old explainer.new moment.old moment.new bytes.now (E.contents errors.old) (E.contents errors.new)) }
-    ensures granted { ((n : ℕ) → M.grants memory.now n) → result ≢ Err TraceFault.Memory }
-{
-    moment.feed_in(memory, bytes)?;
-    take_in(memory, alloc, explainer, bytes, errors, writes)
-}
-
-/// Takes in these bytes, and writes what is noted of the lines that they complete.
-fn take_in<M: TextMemory, E: Write>(
-    memory: &M,
-    alloc: Global,
-    explainer: &mut Explainer,
-    bytes: &[u8],
-    errors: &mut E,
-    writes: &mut Calls,
-) -> Result<(), TraceFault>
-    ensures taken { OnOk result
-        (TakesIn explainer.old explainer.new bytes.now (E.contents errors.old) (E.contents errors.new)) }
-    ensures granted { ((n : ℕ) → M.grants memory.now n) → result ≢ Err TraceFault.Memory }
-{
-    let mut text = String::new(alloc);
-    let mut notes = String::new(alloc);
-    explainer.feed_in(memory, bytes, &mut text, &mut notes)?;
-    write_all(errors, notes.as_bytes(), writes)
-}
-
-/// Ends the input, and writes what is noted of a last line without an end. Returns whether a line was bad.
-fn end_both<M: TextMemory, E: Write>(
-    memory: &M,
-    alloc: Global,
-    explainer: &mut Explainer,
-    moment: &mut Moment,
-    errors: &mut E,
-    writes: &mut Calls,
-) -> Result<bool, TraceFault>
-    ensures ended { IfOk result
-        (λ bad. EndsBoth bad explainer.old explainer.new moment.old moment.new (E.contents errors.old) (E.contents errors.new)) }
-    ensures granted { ((n : ℕ) → M.grants memory.now n) → result ≢ Err TraceFault.Memory }
-{
-    moment.finish_in(memory)?;
-    note_last(memory, alloc, explainer, errors, writes)?;
-    Ok(explainer.has_bad())
-}
-
-/// Ends the input, and writes what is noted of a last line without an end.
-fn note_last<M: TextMemory, E: Write>(
-    memory: &M,
-    alloc: Global,
-    explainer: &mut Explainer,
-    errors: &mut E,
-    writes: &mut Calls,
-) -> Result<(), TraceFault>
-    ensures noted { OnOk result
-        (EndsLine explainer.old explainer.new (E.contents errors.old) (E.contents errors.new)) }
-    ensures granted { ((n : ℕ) → M.grants memory.now n) → result ≢ Err TraceFault.Memory }
-{
-    let mut text = String::new(alloc);
-    let mut notes = String::new(alloc);
-    explainer.finish_in(memory, &mut text, &mut notes)?;
-    write_all(errors, notes.as_bytes(), writes)
 }

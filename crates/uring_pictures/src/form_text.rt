@@ -41,14 +41,20 @@ pub(crate) enum Value<'a> {
     /// Printing bytes of ASCII and ends of lines, as a string of JSON has them.
     Quoted(&'a [u8]),
 
+    /// Bytes, each of which can be seen, as a string of JSON has them.
+    Seen(Global, &'a [u8]),
+
+    /// This text, then bytes and an end of a string, unless there are no bytes.
+    Told(&'a str, &'a [u8]),
+
     /// The operation of an entry, by its name in the trace language.
     Operation(&'a Sqe),
 
     /// The flags of an entry, by their letters.
     Flags(&'a Sqe),
 
-    /// The member `of`, after another, if there is a number.
-    Of(Option<u64>),
+    /// This text and a number, if there is one.
+    Member(&'a str, Option<u64>),
 
     /// Why a request stands as it does, in the words of `explain`.
     Reason(Why),
@@ -68,27 +74,15 @@ pub(crate) fn push_form<M: TextMemory>(
 {
     let mut place: usize = 0;
     for byte in form.as_bytes() {
-        push_part(memory, text, *byte, values.get(place))?;
-        if *byte == MARK {
-            place = place.saturating_add(1);
+        match values.get(place) {
+            Some(value) if *byte == MARK => {
+                push_value(memory, text, value)?;
+                place = place.saturating_add(1);
+            }
+            _ => push_plain(memory, text, *byte)?,
         }
     }
     Ok(())
-}
-
-/// Appends a byte of a form, or the value for which it stands.
-fn push_part<M: TextMemory>(
-    memory: &M,
-    text: &mut String,
-    byte: u8,
-    value: Option<&Value<'_>>,
-) -> Result<(), AllocError>
-    ensures { ((n : ℕ) → M.grants memory.now n) → IsOk result }
-{
-    match value {
-        Some(value) if byte == MARK => push_value(memory, text, value),
-        _ => push_plain(memory, text, byte),
-    }
 }
 
 /// Appends a value.
@@ -104,10 +98,12 @@ fn push_value<M: TextMemory>(
         Value::Signed(number) => push_signed(memory, text, *number),
         Value::Text(more) => push_text(memory, text, more),
         Value::Quoted(bytes) => push_quoted(memory, text, bytes),
+        Value::Seen(alloc, bytes) => push_seen(memory, *alloc, text, bytes),
+        Value::Told(name, bytes) => push_told(memory, text, name, bytes),
         Value::Operation(entry) => push_operation(memory, text, entry),
         Value::Flags(entry) => push_letters(memory, text, entry),
-        Value::Of(Some(number)) => push_named(memory, text, ",\"of\":", *number),
-        Value::Of(None) => Ok(()),
+        Value::Member(name, Some(number)) => push_named(memory, text, name, *number),
+        Value::Member(_, None) => Ok(()),
         Value::Reason(why) => push_why_in(memory, text, *why),
         Value::Wide(number) => push_wide(memory, text, *number),
     }
@@ -144,8 +140,8 @@ fn push_wide<M: TextMemory>(
     push_text(memory, text, digits)
 }
 
-/// Appends a string of JSON, in which each of these bytes can be seen, and none of which ends a script of HTML.
-pub(crate) fn push_string<M: TextMemory>(
+/// Appends bytes as a string of JSON has them, so that each can be seen, and none ends a script of HTML.
+fn push_seen<M: TextMemory>(
     memory: &M,
     alloc: Global,
     text: &mut String,
@@ -155,9 +151,26 @@ pub(crate) fn push_string<M: TextMemory>(
 {
     let mut seen = String::new(alloc);
     match push_visible_in(memory, &mut seen, bytes) {
-        Ok(()) => push_form(memory, text, "\"@\"", &[Value::Quoted(seen.as_bytes())]),
+        Ok(()) => push_quoted(memory, text, seen.as_bytes()),
         Err(fault) => Err(fault),
     }
+}
+
+/// Appends this text, then bytes and an end of a string, unless there are no bytes.
+fn push_told<M: TextMemory>(
+    memory: &M,
+    text: &mut String,
+    name: &str,
+    bytes: &[u8],
+) -> Result<(), AllocError>
+    ensures { ((n : ℕ) → M.grants memory.now n) → IsOk result }
+{
+    if bytes.is_empty() {
+        return Ok(());
+    }
+    push_text(memory, text, name)?;
+    push_quoted(memory, text, bytes)?;
+    push_plain(memory, text, b'"')
 }
 
 /// Appends printing bytes of ASCII, and ends of lines, as a string of JSON has them.

@@ -1,6 +1,6 @@
 //! The moment after some line of a trace: the requests as the lines up to it have left them.
 
-ghost use Rattle.std.specs.Prelude.{◌≡◌, ◌≢◌, ◌+◌, ◌-◌, ◌^◌, ◌++◌, ◌∷◌, [], ℕ, List, min, true, Option, IfOk, IsOk, OnOk, MatchOption};
+ghost use Rattle.std.specs.Prelude.{◌≡◌, ◌+◌, ◌-◌, ◌^◌, [], ℕ, List, min, Option, IfOk, IsOk, OnOk, MatchOption};
 ghost use Rattle.uring_entry.specs.Setup.{Setup};
 ghost use Rattle.uring_text.specs.KeptLine.{kept_of};
 ghost use Rattle.uring_trace.specs.Spelling.{IsStep, IsBad};
@@ -8,8 +8,9 @@ ghost use Rattle.uring_pictures.specs.Following.{Follows, HasFollowed, ReadsLine
 ghost use Rattle.uring_pictures.specs.Moments.{does_count};
 
 use crate::accepted::Accepted;
+use crate::watching::{Told, Watcher};
 use std::alloc::{AllocError, Global};
-use uring_machine::{Setup, Step};
+use uring_machine::{Machine, Setup, Step};
 use uring_memory::Memory;
 use uring_text::{KeptLine, TextMemory};
 use uring_trace::read_step_in;
@@ -54,73 +55,8 @@ impl Moment {
         &self.accepted
     }
 
-    /// Takes in the next bytes.
-    pub(crate) fn feed_in<M: TextMemory>(
-        &mut self,
-        memory: &M,
-        bytes: &[u8],
-    ) -> Result<(), AllocError>
-        ensures ok { OnOk result
-            ((at : Option ℕ) (setup : Setup) (before : List ℕ) → Follows at setup self.old before
-            → Follows at setup self.new (before ++ bytes.now)) }
-        ensures granted { ((n : ℕ) → M.grants memory.now n) → IsOk result }
-    {
-        for byte in bytes {
-            self.take(memory, *byte)?;
-        }
-        Ok(())
-    }
-
-    /// Ends the input.
-    pub(crate) fn finish_in<M: TextMemory>(&mut self, memory: &M) -> Result<(), AllocError>
-        ensures ok { OnOk result
-            ((at : Option ℕ) (setup : Setup) (bytes : List ℕ) → Follows at setup self.old bytes
-            → HasFollowed at setup self.new bytes) }
-        ensures granted { ((n : ℕ) → M.grants memory.now n) → IsOk result }
-    {
-        if self.line.is_empty() {
-            return Ok(());
-        }
-        self.end_last(memory)
-    }
-
-    /// Reads a last line that has no end, if it counts.
-    fn end_last<M: TextMemory>(&mut self, memory: &M) -> Result<(), AllocError>
-        ensures ok { OnOk result
-            (((line : List ℕ) → self.old.line ≡ kept_of line → line ≢ [])
-            → (at : Option ℕ) (setup : Setup) (bytes : List ℕ) → Follows at setup self.old bytes
-            → HasFollowed at setup self.new bytes) }
-        ensures granted { ((n : ℕ) → M.grants memory.now n) → IsOk result }
-    {
-        if self.counts() {
-            return self.read_line(memory);
-        }
-        Ok(())
-    }
-
-    /// Takes in one byte.
-    fn take<M: TextMemory>(&mut self, memory: &M, byte: u8) -> Result<(), AllocError>
-        ensures ok { OnOk result
-            ((at : Option ℕ) (setup : Setup) (before : List ℕ) → Follows at setup self.old before
-            → Follows at setup self.new (before ++ byte ∷ [])) }
-        ensures granted { ((n : ℕ) → M.grants memory.now n) → IsOk result }
-    {
-        if byte == b'\n' {
-            self.end_line(memory)?;
-        } else {
-            self.keep(byte);
-        }
-        Ok(())
-    }
-
-    /// Takes in one byte of a line, which isn't its end.
-    fn keep(&mut self, byte: u8)
-        requires { byte ≢ 10 }
-        ensures { (at : Option ℕ) (setup : Setup) (before : List ℕ) → Follows at setup self.old before
-            → Follows at setup self.new (before ++ byte ∷ []) }
-    {
-        self.line.push(byte);
-    }
+    /// Lets it go.
+    pub(crate) fn let_go(self) {}
 
     /// Whether the unfinished line counts.
     fn counts(&self) -> bool
@@ -130,33 +66,6 @@ impl Moment {
             Some(at) => self.number <= at,
             None => true,
         }
-    }
-
-    /// Reads the line if it counts, and begins the next one.
-    fn end_line<M: TextMemory>(&mut self, memory: &M) -> Result<(), AllocError>
-        ensures ok { OnOk result
-            ((at : Option ℕ) (setup : Setup) (before : List ℕ) → Follows at setup self.old before
-            → Follows at setup self.new (before ++ 10 ∷ [])) }
-        ensures granted { ((n : ℕ) → M.grants memory.now n) → IsOk result }
-    {
-        if self.counts() {
-            return self.end_counted(memory);
-        }
-        self.begin_line();
-        Ok(())
-    }
-
-    /// Reads the line, which counts, and begins the next one.
-    fn end_counted<M: TextMemory>(&mut self, memory: &M) -> Result<(), AllocError>
-        ensures ok { OnOk result
-            (does_count self.old.at self.old.number ≡ true
-            → (at : Option ℕ) (setup : Setup) (before : List ℕ) → Follows at setup self.old before
-            → Follows at setup self.new (before ++ 10 ∷ [])) }
-        ensures granted { ((n : ℕ) → M.grants memory.now n) → IsOk result }
-    {
-        self.read_line(memory)?;
-        self.begin_line();
-        Ok(())
     }
 
     /// Begins the next line.
@@ -184,6 +93,60 @@ impl Moment {
             Some(step) => self.accepted.step_in(memory, step),
             None => Ok(()),
         }
+    }
+}
+
+impl Watcher for Moment {
+    ghost follows = { λ first now bytes. (at : Option ℕ) (setup : Setup) → Follows at setup first []
+        → Follows at setup now bytes };
+
+    ghost ended = { λ first now bytes. (at : Option ℕ) (setup : Setup) → Follows at setup first []
+        → HasFollowed at setup now bytes };
+
+    /// Keeps a byte of a line.
+    fn take_byte<M: TextMemory>(
+        &mut self,
+        _memory: &M,
+        _machine: &Machine,
+        byte: u8,
+    ) -> Result<(), AllocError> {
+        if byte == b'\n' {
+            return Ok(());
+        }
+        self.line.push(byte);
+        Ok(())
+    }
+
+    /// Reads the line if it counts, and begins the next one.
+    fn end_line<M: TextMemory>(
+        &mut self,
+        memory: &M,
+        _machine: &Machine,
+        _told: Told<'_>,
+    ) -> Result<(), AllocError> {
+        if self.counts() {
+            self.read_line(memory)?;
+            self.begin_line();
+            return Ok(());
+        }
+        self.begin_line();
+        Ok(())
+    }
+
+    /// Reads a last line that has no end, if it counts.
+    fn end_input<M: TextMemory>(
+        &mut self,
+        memory: &M,
+        _machine: &Machine,
+        _told: Told<'_>,
+    ) -> Result<(), AllocError> {
+        if self.line.is_empty() {
+            return Ok(());
+        }
+        if self.counts() {
+            return self.read_line(memory);
+        }
+        Ok(())
     }
 }
 

@@ -1,6 +1,6 @@
 //! The node of an outstanding request in a graph, in the clusters of its call and its chain.
 
-ghost use Rattle.std.specs.Prelude.{◌≡◌, ◌++◌, ℕ, true, OnOk, IsOk, string_bytes};
+ghost use Rattle.std.specs.Prelude.{◌≡◌, ◌++◌, ℕ, true, OnOk, IsOk, codes, string_bytes};
 ghost use Rattle.uring_pictures.specs.Graphs.{placed_text, in_chain, node_text, label_text, flags_text, flag_text, shape_of, standing_text};
 
 use std::alloc::AllocError;
@@ -97,9 +97,7 @@ fn push_node<M: TextMemory>(
     ensures granted { ((n : ℕ) → M.grants memory.now n) → IsOk result }
 {
     push_number(memory, text, number)?;
-    push_text(memory, text, " [shape=")?;
-    push_text(memory, text, shape(why))?;
-    push_text(memory, text, ", label=\"")?;
+    push_text(memory, text, shaped(why))?;
     push_label(memory, text, number, entry, why)?;
     push_text(memory, text, "\"];")
 }
@@ -163,15 +161,15 @@ fn push_flag<M: TextMemory>(
     push_text(memory, text, name)
 }
 
-/// The shape that tells how a request stands.
-fn shape(why: Why) -> &'static str
-    ensures { result.now ≡ shape_of why }
+/// What stands between a number and a label, with the shape that tells how a request stands.
+fn shaped(why: Why) -> &'static str
+    ensures { result.now ≡ codes " [shape=" ++ shape_of why ++ codes ", label=\"" }
 {
     match why {
-        Why::Runs => "ellipse",
-        Why::IsDoomed(_) => "octagon",
-        Why::Waits { .. } => "box",
-        _ => "diamond",
+        Why::Runs => " [shape=ellipse, label=\"",
+        Why::IsDoomed(_) => " [shape=octagon, label=\"",
+        Why::Waits { .. } => " [shape=box, label=\"",
+        _ => " [shape=diamond, label=\"",
     }
 }
 

@@ -13,4 +13,5 @@ mod viewer;
 mod watching;
 
 pub use checked::{recorded_page, recorded_page_in};
+pub(crate) use submission::push_value;
 pub use watching::{Form, page, page_in};

@@ -1,8 +1,9 @@
 //! The timeline of all requests: at which line each was accepted, started, ended, and its completion posted and reaped.
 
-ghost use Rattle.std.specs.Prelude.{ℕ, IsOk};
+ghost use Rattle.std.specs.Prelude.{⊤, ℕ, IsOk};
 
 use crate::form_text::{Value, push_form};
+use crate::pages::push_value;
 use crate::watching::{Told, Watcher};
 use std::alloc::{AllocError, Global};
 use uring_machine::{Counts, Machine, Why};
@@ -82,23 +83,15 @@ impl Timeline {
         ensures granted { ((n : ℕ) → M.grants memory.now n) → IsOk result }
     {
         for _ in self.rows.len() as u64..accepted {
-            self.add_row(memory, line)?;
+            let row = Row {
+                accepted: line,
+                started: None,
+                ended: None,
+                posted: None,
+                reaped: None,
+            };
+            push_value(memory, &mut self.rows, row)?;
         }
-        Ok(())
-    }
-
-    /// Adds the row of a request that was accepted by this line.
-    fn add_row<M: Memory>(&mut self, memory: &M, line: u64) -> Result<(), AllocError>
-        ensures granted { ((n : ℕ) → M.grants memory.now n) → IsOk result }
-    {
-        memory.reserve(&mut self.rows, 1)?;
-        self.rows.push_reserved(Row {
-            accepted: line,
-            started: None,
-            ended: None,
-            posted: None,
-            reaped: None,
-        });
         Ok(())
     }
 
@@ -113,7 +106,6 @@ impl Timeline {
     ) -> Result<(), AllocError>
         ensures granted { ((n : ℕ) → M.grants memory.now n) → IsOk result }
     {
-        memory.reserve(&mut self.posters, 1)?;
         let Some(row) = self.rows.get_mut(number as usize) else {
             return Ok(());
         };
@@ -123,7 +115,7 @@ impl Timeline {
                 row.ended = Some(line);
                 if has_posted {
                     row.posted = Some(line);
-                    self.posters.push_reserved(number);
+                    return push_value(memory, &mut self.posters, number);
                 }
             }
             _ => {}
@@ -164,6 +156,10 @@ impl Timeline {
 }
 
 impl Watcher for Timeline {
+    ghost follows = { λ first now bytes. ⊤ };
+
+    ghost ended = { λ first now bytes. ⊤ };
+
     fn take_byte<M: TextMemory>(
         &mut self,
         _memory: &M,

@@ -62,8 +62,10 @@ fn draw_all<M: TextMemory, R: Read, W: Write, E: Write>(
     ensures granted { ((n : ℕ) → M.grants memory.now n) → result ≢ Err TraceFault.Memory }
 {
     let bad = watch_trace(memory, alloc, setup, timeline, reader, errors)?;
-    write_timeline(memory, alloc, timeline, writer)?;
-    Ok(bad)
+    match write_timeline(memory, alloc, timeline, writer) {
+        Ok(()) => Ok(bad),
+        Err(fault) => Err(fault),
+    }
 }
 
 /// Writes the timeline.
@@ -76,6 +78,8 @@ fn write_timeline<M: TextMemory, W: Write>(
     ensures granted { ((n : ℕ) → M.grants memory.now n) → result ≢ Err TraceFault.Memory }
 {
     let mut text = String::new(alloc);
-    timeline.push_rows(memory, &mut text)?;
-    write_all(writer, text.as_bytes(), &mut Calls::new())
+    match timeline.push_rows(memory, &mut text) {
+        Ok(()) => write_all(writer, text.as_bytes(), &mut Calls::new()),
+        Err(_) => Err(TraceFault::Memory),
+    }
 }

@@ -4,7 +4,7 @@ ghost use Rattle.std.specs.Prelude.{◌≡◌, ◌≢◌, ℕ, List, [], ◌∷�
 ghost use Rattle.uring_entry.specs.Setup.{Setup};
 ghost use Rattle.uring_trace.specs.Explaining.{HasTold, HasEnded};
 ghost use Rattle.uring_pictures.specs.Drawings.{Reads};
-ghost use Rattle.uring_pictures.specs.Readings.{ReadsAll, TakesIn, EndsIn, EndsLine};
+ghost use Rattle.uring_pictures.specs.Readings.{ReadsAll, TakesIn, EndsIn};
 
 use std::alloc::{AllocError, Global};
 use std::io::{Read, Write};
@@ -26,15 +26,27 @@ pub struct Told<'a> {
 }
 
 /// What looks at the machine as the lines of an explanation go by. If the memory grants whatever is asked for, no call ends with an error. Our own rule.
+///
+/// `follows first now bytes` says that what looks has come from `first` to `now` by taking in these bytes, and `ended` the same of a whole input.
 pub trait Watcher {
-    /// Takes in a byte, before it is explained: the machine stands as the lines before have left it. The input's end is taken in as the end of a line.
+    ghost follows: { Self → Self → List ℕ → Type 0 };
+
+    ghost ended: { Self → Self → List ℕ → Type 0 };
+
+    /// Takes in a byte, before it is explained: the machine stands as the lines before have left it. The input's end is taken in as the end of a line. What ends a line counts as taken in only once the line has ended.
     fn take_byte<M: TextMemory>(
         &mut self,
         memory: &M,
         machine: &Machine,
         byte: u8,
     ) -> Result<(), AllocError>
-        ensures { ((n : ℕ) → M.grants memory.now n) → IsOk result };
+        ensures mark { OnOk result
+            (byte ≡ 10 → (first : Self) (before : List ℕ) → follows first self.old before
+            → follows first self.new before) }
+        ensures taken { OnOk result
+            (byte ≢ 10 → (first : Self) (before : List ℕ) → follows first self.old before
+            → follows first self.new (before ++ byte ∷ [])) }
+        ensures granted { ((n : ℕ) → M.grants memory.now n) → IsOk result };
 
     /// Ends a line, of which this was told.
     fn end_line<M: TextMemory>(
@@ -43,7 +55,10 @@ pub trait Watcher {
         machine: &Machine,
         told: Told<'_>,
     ) -> Result<(), AllocError>
-        ensures { ((n : ℕ) → M.grants memory.now n) → IsOk result };
+        ensures taken { OnOk result
+            ((first : Self) (before : List ℕ) → follows first self.old before
+            → follows first self.new (before ++ 10 ∷ [])) }
+        ensures granted { ((n : ℕ) → M.grants memory.now n) → IsOk result };
 
     /// Ends the input, at whose end this was told of what stands after the last end of a line.
     fn end_input<M: TextMemory>(
@@ -52,7 +67,10 @@ pub trait Watcher {
         machine: &Machine,
         told: Told<'_>,
     ) -> Result<(), AllocError>
-        ensures { ((n : ℕ) → M.grants memory.now n) → IsOk result };
+        ensures taken { OnOk result
+            ((first : Self) (bytes : List ℕ) → follows first self.old bytes
+            → ended first self.new bytes) }
+        ensures granted { ((n : ℕ) → M.grants memory.now n) → IsOk result };
 }
 
 /// As `watch_all`, on a new machine of this set-up.
@@ -65,14 +83,17 @@ pub(crate) fn watch_trace<M: TextMemory, W: Watcher, R: Read, E: Write>(
     errors: &mut E,
 ) -> Result<bool, TraceFault>
     ensures lines { IfOk result
-        (λ bad. Reads setup.now bad (R.remaining reader.old) (R.remaining reader.new) (E.contents errors.old) (E.contents errors.new)) }
+        (λ bad. (r : Reads setup.now bad (R.remaining reader.old) (R.remaining reader.new) (E.contents errors.old) (E.contents errors.new)) × ((first : W) → W.follows first watcher.old [] → W.ended first watcher.new r.bytes)) }
     ensures granted { ((n : ℕ) → M.grants memory.now n) → result ≢ Err TraceFault.Memory }
 {
     let mut explainer = Explainer::new_in(memory, alloc, setup)?;
     let watched = watch_all(memory, alloc, &mut explainer, watcher, reader, errors);
-    drop(explainer);
+    let_go(explainer);
     watched
 }
+
+/// Lets an explainer go.
+pub(crate) fn let_go(_explainer: Explainer) {}
 
 /// Takes in all lines that `reader` gives, and writes what is noted of the bad ones to `errors`. Returns whether a line was bad.
 ///
@@ -89,7 +110,7 @@ pub fn watch_all<M: TextMemory, W: Watcher, R: Read, E: Write>(
 ) -> Result<bool, TraceFault>
     ensures lines { IfOk result
         (λ bad. (setup : Setup) → HasTold setup explainer.old [] [] []
-        → ReadsAll setup bad explainer.new (R.remaining reader.old) (R.remaining reader.new) (E.contents errors.old) (E.contents errors.new)) }
+        → (r : ReadsAll setup bad explainer.new (R.remaining reader.old) (R.remaining reader.new) (E.contents errors.old) (E.contents errors.new)) × ((first : W) → W.follows first watcher.old [] → W.ended first watcher.new r.bytes)) }
     ensures granted { ((n : ℕ) → M.grants memory.now n) → result ≢ Err TraceFault.Memory }
 {
     let mut reads = Calls::new();
@@ -125,12 +146,17 @@ fn watch<M: TextMemory, W: Watcher, E: Write>(
 ) -> Result<(), TraceFault>
     ensures taken { OnOk result
         (TakesIn explainer.old explainer.new bytes.now (E.contents errors.old) (E.contents errors.new)) }
+    ensures followed { OnOk result
+        ((first : W) (before : List ℕ) → W.follows first watcher.old before
+        → W.follows first watcher.new (before ++ bytes.now)) }
     ensures granted { ((n : ℕ) → M.grants memory.now n) → result ≢ Err TraceFault.Memory }
 {
     let mut text = String::new(alloc);
     let mut notes = String::new(alloc);
-    watch_bytes(memory, explainer, watcher, bytes, &mut text, &mut notes)?;
-    write_all(errors, notes.as_bytes(), writes)
+    match watch_bytes(memory, explainer, watcher, bytes, &mut text, &mut notes) {
+        Ok(()) => write_all(errors, notes.as_bytes(), writes),
+        Err(fault) => Err(fault),
+    }
 }
 
 /// Takes in these bytes, and ends each line that they complete.
@@ -146,6 +172,9 @@ pub(crate) fn watch_bytes<M: TextMemory, W: Watcher>(
         ((setup : Setup) (before told noted : List ℕ)
         → HasTold setup explainer.old before (told ++ string_bytes text.old) (noted ++ string_bytes notes.old)
         → HasTold setup explainer.new (before ++ bytes.now) (told ++ string_bytes text.new) (noted ++ string_bytes notes.new)) }
+    ensures followed { OnOk result
+        ((first : W) (before : List ℕ) → W.follows first watcher.old before
+        → W.follows first watcher.new (before ++ bytes.now)) }
     ensures granted { ((n : ℕ) → M.grants memory.now n) → result ≢ Err TraceFault.Memory }
 {
     for byte in bytes {
@@ -167,6 +196,9 @@ pub fn watch_byte<M: TextMemory, W: Watcher>(
         ((setup : Setup) (before told noted : List ℕ)
         → HasTold setup explainer.old before (told ++ string_bytes text.old) (noted ++ string_bytes notes.old)
         → HasTold setup explainer.new (before ++ byte ∷ []) (told ++ string_bytes text.new) (noted ++ string_bytes notes.new)) }
+    ensures followed { OnOk result
+        ((first : W) (before : List ℕ) → W.follows first watcher.old before
+        → W.follows first watcher.new (before ++ byte ∷ [])) }
     ensures granted { ((n : ℕ) → M.grants memory.now n) → result ≢ Err TraceFault.Memory }
 {
     let (told_before, noted_before) = (text.len(), notes.len());
@@ -198,30 +230,14 @@ fn watch_end<M: TextMemory, W: Watcher, E: Write>(
     writes: &mut Calls,
 ) -> Result<bool, TraceFault>
     ensures ended { IfOk result
-        (λ bad. EndsIn bad explainer.old explainer.new (E.contents errors.old) (E.contents errors.new)) }
-    ensures granted { ((n : ℕ) → M.grants memory.now n) → result ≢ Err TraceFault.Memory }
-{
-    watch_last(memory, alloc, explainer, watcher, errors, writes)?;
-    Ok(explainer.has_bad())
-}
-
-/// Ends the input, and writes what is noted of its last line.
-fn watch_last<M: TextMemory, W: Watcher, E: Write>(
-    memory: &M,
-    alloc: Global,
-    explainer: &mut Explainer,
-    watcher: &mut W,
-    errors: &mut E,
-    writes: &mut Calls,
-) -> Result<(), TraceFault>
-    ensures ended { OnOk result
-        (EndsLine explainer.old explainer.new (E.contents errors.old) (E.contents errors.new)) }
+        (λ bad. EndsIn bad explainer.old explainer.new (E.contents errors.old) (E.contents errors.new) × ((first : W) (bytes : List ℕ) → W.follows first watcher.old bytes → W.ended first watcher.new bytes)) }
     ensures granted { ((n : ℕ) → M.grants memory.now n) → result ≢ Err TraceFault.Memory }
 {
     let mut text = String::new(alloc);
     let mut notes = String::new(alloc);
     end_last(memory, explainer, watcher, &mut text, &mut notes)?;
-    write_all(errors, notes.as_bytes(), writes)
+    write_all(errors, notes.as_bytes(), writes)?;
+    Ok(explainer.has_bad())
 }
 
 /// Ends the input, and its last line.
@@ -236,6 +252,9 @@ fn end_last<M: TextMemory, W: Watcher>(
         ((setup : Setup) (before told noted : List ℕ)
         → HasTold setup explainer.old before (told ++ string_bytes text.old) (noted ++ string_bytes notes.old)
         → HasEnded setup explainer.new before (told ++ string_bytes text.new) (noted ++ string_bytes notes.new)) }
+    ensures followed { OnOk result
+        ((first : W) (bytes : List ℕ) → W.follows first watcher.old bytes
+        → W.ended first watcher.new bytes) }
     ensures granted { ((n : ℕ) → M.grants memory.now n) → result ≢ Err TraceFault.Memory }
 {
     watcher.take_byte(memory, explainer.machine(), b'\n')?;

@@ -9,9 +9,16 @@ use std::alloc::AllocError;
 use uring_machine::{Doom, Why};
 use uring_text::TextMemory;
 
-/// What stands before a change: a comma after another.
+/// The member that names another request.
+const OF: &str = ",\"of\":";
+
+/// What stands before a change: a comma after another, and the beginning of the array before the first.
 fn comma(text: &str) -> &'static str {
-    if text.is_empty() { "" } else { "," }
+    if text.is_empty() {
+        ",\"changes\":["
+    } else {
+        ","
+    }
 }
 
 /// Appends a change that has no more members.
@@ -43,7 +50,7 @@ pub(crate) fn push_end<M: TextMemory>(
     let values = [
         Value::Text(comma(text)),
         Value::Number(number),
-        Value::Of(look.found),
+        Value::Member(OF, look.found),
         Value::Signed(result_of(look.answer)),
     ];
     push_form(
@@ -68,7 +75,7 @@ pub(crate) fn push_standing<M: TextMemory>(
         Value::Text(comma(text)),
         Value::Number(number),
         Value::Text(state_of(why)),
-        Value::Of(other_of(why, look.moved)),
+        Value::Member(OF, other_of(why, look.moved)),
         Value::Reason(why),
     ];
     push_form(

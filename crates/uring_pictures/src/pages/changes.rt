@@ -31,7 +31,7 @@ pub(crate) struct Look<'a> {
 #[derive(Drop)]
 pub(crate) struct Changes {
     pub(crate) requests: Requests,
-    // What the line has changed, as elements of an array.
+    // What the line has changed, as a member with an array that isn't ended; nothing, if it has changed nothing.
     pub(crate) text: String,
     outstanding: Vec<u64>,
     // The requests whose completions were posted, in order.
@@ -90,7 +90,7 @@ impl Changes {
     ) -> Result<(), AllocError>
         ensures { ((n : ℕ) → M.grants memory.now n) → IsOk result }
     {
-        let number = self.requests.count();
+        let number = self.requests.all.len() as u64;
         self.requests.add(memory, entry, call, is_first)?;
         push_value(memory, &mut self.outstanding, number)?;
         push_state(memory, &mut self.text, number, "accepted")
@@ -138,7 +138,7 @@ impl Changes {
     /// Notes at which line a request was issued.
     fn note_issue(&mut self, look: &Look<'_>) {
         let Some(number) = look.moved else { return };
-        if let Some(request) = self.requests.get_mut(number) {
+        if let Some(request) = self.requests.all.get_mut(number as usize) {
             if request.issued.is_none() {
                 request.issued = Some(look.line);
             }
@@ -156,9 +156,10 @@ impl Changes {
     {
         let mut kept: usize = 0;
         for place in 0..self.outstanding.len() {
-            let Some(number) = self.outstanding.get(place).copied() else {
+            let Some(number) = self.outstanding.get(place) else {
                 continue;
             };
+            let number = *number;
             let why = machine.why(number);
             self.look_at(memory, number, why, look)?;
             if !matches!(why, Why::HasEnded) {
@@ -190,7 +191,7 @@ impl Changes {
 
     /// Notes how a request stands at this line. Returns whether that has changed.
     fn has_changed(&mut self, number: u64, why: Why, line: u64) -> bool {
-        let Some(request) = self.requests.get_mut(number) else {
+        let Some(request) = self.requests.all.get_mut(number as usize) else {
             return false;
         };
         if request.why == why {
@@ -261,7 +262,7 @@ impl Changes {
 
     /// The entry of a request, if it has ended at this line and has succeeded.
     fn succeeded_at(&self, number: u64, look: &Look<'_>) -> Option<Sqe> {
-        let request = self.requests.get(number)?;
+        let request = self.requests.all.get(number as usize)?;
         if request.ended == Some(look.line) && succeeded(&request.entry, result_of(look.answer)) {
             Some(request.entry)
         } else {
@@ -275,9 +276,10 @@ impl Changes {
     {
         let mut kept: usize = 0;
         for place in 0..self.writes.len() {
-            let Some(number) = self.writes.get(place).copied() else {
+            let Some(number) = self.writes.get(place) else {
                 continue;
             };
+            let number = *number;
             if self.is_covered(number, sync) {
                 push_state(memory, &mut self.text, number, "safe")?;
             } else {
@@ -290,7 +292,8 @@ impl Changes {
 
     /// Whether a write had ended when a sync of its file was issued.
     fn is_covered(&self, write: u64, sync: u64) -> bool {
-        match (self.requests.get(write), self.requests.get(sync)) {
+        let all = &self.requests.all;
+        match (all.get(write as usize), all.get(sync as usize)) {
             (Some(write), Some(sync)) => {
                 write.entry.fd() == sync.entry.fd()
                     && write.ended.unwrap_or(u64::MAX) < sync.issued.unwrap_or(0)

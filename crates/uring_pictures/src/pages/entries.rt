@@ -1,4 +1,4 @@
-//! Entries as JSON has them.
+//! What entries work on, as JSON has it.
 
 ghost use Rattle.std.specs.Prelude.{ℕ, IsOk};
 
@@ -8,30 +8,12 @@ use uring_entry::opcode;
 use uring_machine::Sqe;
 use uring_text::TextMemory;
 
-/// Appends the members of an entry, after another member. Numbers of 64 bits are strings, since many readers of JSON keep 53.
-pub(crate) fn push_entry<M: TextMemory>(
+/// Appends what an entry works on, after another member: a file, a range of it, or the requests that a cancel looks for. Numbers of 64 bits are strings, since many readers of JSON keep 53.
+pub(crate) fn push_place<M: TextMemory>(
     memory: &M,
     text: &mut String,
     entry: &Sqe,
 ) -> Result<(), AllocError>
-    ensures { ((n : ℕ) → M.grants memory.now n) → IsOk result }
-{
-    let values = [
-        Value::Number(entry.user_data()),
-        Value::Operation(entry),
-        Value::Flags(entry),
-    ];
-    push_form(
-        memory,
-        text,
-        ",\"user_data\":\"@\",\"operation\":\"@\",\"flags\":\"@\"",
-        &values,
-    )?;
-    push_place(memory, text, entry)
-}
-
-/// Appends what an entry works on: a file, a range of it, or the requests that a cancel looks for.
-fn push_place<M: TextMemory>(memory: &M, text: &mut String, entry: &Sqe) -> Result<(), AllocError>
     ensures { ((n : ℕ) → M.grants memory.now n) → IsOk result }
 {
     if entry.opcode() == opcode::ASYNC_CANCEL {

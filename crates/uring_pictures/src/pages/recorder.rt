@@ -1,8 +1,8 @@
 //! The lines of a run as data.
 
-ghost use Rattle.std.specs.Prelude.{ℕ, IsOk};
+ghost use Rattle.std.specs.Prelude.{⊤, ℕ, IsOk};
 
-use crate::form_text::{Value, push_form, push_string};
+use crate::form_text::{Value, push_form};
 use crate::moment::step_of;
 use crate::pages::changes::{Changes, Look};
 use crate::pages::line_parts::{last_number, split_at_mark};
@@ -24,18 +24,18 @@ pub(crate) struct Recorder {
     alloc: Global,
     setup: Setup,
     // The unfinished line, and its number, from 1 on.
-    line: KeptLine,
+    pub(crate) line: KeptLine,
     number: u64,
     // The step that it is, and the request that its cancel finds.
     step: Option<Step>,
     found: Option<u64>,
     submission: Submission,
     changes: Changes,
-    text: String,
+    pub(crate) text: String,
 }
 
 impl Recorder {
-    /// Before the first line.
+    /// Before the first line. The set-up is written.
     pub(crate) fn new<M: TextMemory>(
         memory: &M,
         alloc: Global,
@@ -43,6 +43,8 @@ impl Recorder {
     ) -> Result<Recorder, AllocError>
         ensures { ((n : ℕ) → M.grants memory.now n) → IsOk result }
     {
+        let mut text = String::new(alloc);
+        push_head(memory, &mut text, setup)?;
         let line = KeptLine::new_in(memory, alloc)?;
         Ok(Recorder {
             alloc,
@@ -53,21 +55,12 @@ impl Recorder {
             found: None,
             submission: Submission::new(memory, alloc, setup.sq())?,
             changes: Changes::new(alloc),
-            text: String::new(alloc),
+            text,
         })
     }
 
-    /// Writes the set-up, before the first line.
-    pub(crate) fn begin<M: TextMemory>(&mut self, memory: &M) -> Result<(), AllocError>
-        ensures { ((n : ℕ) → M.grants memory.now n) → IsOk result }
-    {
-        push_head(memory, &mut self.text, &self.setup)
-    }
-
-    /// Takes in a byte of a line, which isn't its end.
-    pub(crate) fn keep(&mut self, byte: u8) {
-        self.line.push(byte);
-    }
+    /// Lets it go.
+    pub(crate) fn let_go(self) {}
 
     /// Looks at the machine before the line is answered.
     fn look<M: TextMemory>(&mut self, memory: &M, machine: &Machine) -> Result<(), AllocError>
@@ -90,55 +83,60 @@ impl Recorder {
     ) -> Result<(), AllocError>
         ensures { ((n : ℕ) → M.grants memory.now n) → IsOk result }
     {
-        self.push_line(memory)?;
         let (answer, reason) = split_at_mark(told.text, b"  # ");
-        let text = &mut self.text;
-        push_some(memory, text, ",\"answer\":\"@\"", answer)?;
-        push_some(memory, text, ",\"reason\":\"@\"", reason)?;
-        push_some(memory, text, ",\"bad\":\"@\"", told.note)?;
+        self.push_line(memory)?;
+        let values = [
+            Value::Told(",\"answer\":\"", answer),
+            Value::Told(",\"reason\":\"", reason),
+            Value::Told(",\"bad\":\"", told.note),
+        ];
+        push_form(memory, &mut self.text, "@@@", &values)?;
         if let Some(step) = self.step {
             self.push_step(memory, machine, &step, answer)?;
         }
         push_text(memory, &mut self.text, "}")
     }
 
-    /// Appends a line of a recorded trace whose answer isn't called for, with what a check told of it.
-    pub(crate) fn push_wrong<M: TextMemory>(
-        &mut self,
-        memory: &M,
-        answer: &[u8],
-        report: &[u8],
-    ) -> Result<(), AllocError>
-        ensures { ((n : ℕ) → M.grants memory.now n) → IsOk result }
-    {
-        self.push_line(memory)?;
-        push_text(memory, &mut self.text, ",\"answer\":")?;
-        push_string(memory, self.alloc, &mut self.text, answer)?;
-        let values = [Value::Quoted(report)];
-        push_form(memory, &mut self.text, ",\"wrong\":\"@\"}", &values)
-    }
-
-    /// All that was written, ended.
-    pub(crate) fn end<M: TextMemory>(&mut self, memory: &M) -> Result<&str, AllocError>
-        ensures { ((n : ℕ) → M.grants memory.now n) → IsOk result }
-    {
-        push_text(memory, &mut self.text, "\n],\"requests\":[")?;
-        self.changes.requests.push_all(memory, &mut self.text)?;
-        push_text(memory, &mut self.text, "\n]}\n")?;
-        Ok(self.text.as_str())
-    }
-
     /// Begins the object of the line, with its number and itself: nothing, if it has more than 300 bytes.
     fn push_line<M: TextMemory>(&mut self, memory: &M) -> Result<(), AllocError>
         ensures { ((n : ℕ) → M.grants memory.now n) → IsOk result }
     {
+        let line = self.line.whole().unwrap_or_default();
         let values = [
             Value::Text(separator(self.number == 1)),
             Value::Number(self.number),
+            Value::Seen(self.alloc, line),
         ];
-        push_form(memory, &mut self.text, "@{\"line\":@,\"text\":", &values)?;
-        let line = self.line.whole().unwrap_or_default();
-        push_string(memory, self.alloc, &mut self.text, line)
+        push_form(
+            memory,
+            &mut self.text,
+            "@{\"line\":@,\"text\":\"@\"",
+            &values,
+        )
+    }
+
+    /// Appends a line of a recorded trace whose answer isn't called for, with what a check told of it.
+    pub(crate) fn push_wrong<'a, M: TextMemory>(
+        &mut self,
+        memory: &M,
+        answer: &'a [u8],
+        report: &'a [u8],
+    ) -> Result<(), AllocError>
+        ensures { ((n : ℕ) → M.grants memory.now n) → IsOk result }
+    {
+        self.push_line(memory)?;
+        let values = [Value::Seen(self.alloc, answer), Value::Quoted(report)];
+        let form = ",\"answer\":\"@\",\"wrong\":\"@\"}";
+        push_form(memory, &mut self.text, form, &values)
+    }
+
+    /// Ends all that was written.
+    pub(crate) fn end<M: TextMemory>(&mut self, memory: &M) -> Result<(), AllocError>
+        ensures { ((n : ℕ) → M.grants memory.now n) → IsOk result }
+    {
+        push_text(memory, &mut self.text, "\n],\"requests\":[")?;
+        self.changes.requests.push_all(memory, &mut self.text)?;
+        push_text(memory, &mut self.text, "\n]}\n")
     }
 
     /// Appends what a step has changed.
@@ -153,33 +151,12 @@ impl Recorder {
     {
         self.submission.take_in(memory, step, answer)?;
         let put = self.changes.put;
-        self.push_changes(memory, machine, step, answer)?;
-        self.push_index(memory, step, answer)?;
-        self.push_tail(memory, put)?;
-        self.push_file(memory, machine, step, answer)
-    }
-
-    /// Appends what a step has changed of requests and completions, if it has.
-    fn push_changes<M: TextMemory>(
-        &mut self,
-        memory: &M,
-        machine: &Machine,
-        step: &Step,
-        answer: &[u8],
-    ) -> Result<(), AllocError>
-        ensures { ((n : ℕ) → M.grants memory.now n) → IsOk result }
-    {
         self.note_changes(memory, machine, step, answer)?;
+        let (name, index) = index_of(step, answer);
+        let tail = self.tail_after(put);
         let changes = self.changes.text.as_str();
-        if changes.is_empty() {
-            return Ok(());
-        }
-        push_form(
-            memory,
-            &mut self.text,
-            ",\"changes\":[@]",
-            &[Value::Text(changes)],
-        )
+        push_effects(memory, &mut self.text, changes, name, index, tail)?;
+        self.push_file(memory, machine, step, answer)
     }
 
     /// Notes what a step has changed.
@@ -206,42 +183,13 @@ impl Recorder {
         self.changes.look(memory, machine, &look)
     }
 
-    /// Appends the head or tail that a step has stored or loaded.
-    fn push_index<M: TextMemory>(
-        &mut self,
-        memory: &M,
-        step: &Step,
-        answer: &[u8],
-    ) -> Result<(), AllocError>
-        ensures { ((n : ℕ) → M.grants memory.now n) → IsOk result }
-    {
-        let name = match step {
-            Step::StoreTail => "sq_tail",
-            Step::End if answer.starts_with(b"taken ") => "sq_head",
-            Step::LoadHead => "sq_head_seen",
-            Step::StoreCqHead => "cq_head",
-            Step::LoadCqTail => "cq_tail_seen",
-            _ => return Ok(()),
-        };
-        let values = [Value::Text(name), Value::Number(last_number(answer))];
-        push_form(memory, &mut self.text, ",\"@\":@", &values)
-    }
-
-    /// Appends the completion ring's tail, if it isn't that which so many completions had made.
-    fn push_tail<M: TextMemory>(&mut self, memory: &M, put: u64) -> Result<(), AllocError>
-        ensures { ((n : ℕ) → M.grants memory.now n) → IsOk result }
-    {
+    /// The completion ring's tail, if it isn't that which so many completions had made.
+    fn tail_after(&self, put: u64) -> Option<u64> {
         let now = self.changes.put;
         if now == put {
-            return Ok(());
+            return None;
         }
-        let tail = u64::from(self.setup.start()).wrapping_add(now) % WORDS;
-        push_form(
-            memory,
-            &mut self.text,
-            ",\"cq_tail\":@",
-            &[Value::Number(tail)],
-        )
+        Some(u64::from(self.setup.start()).wrapping_add(now) % WORDS)
     }
 
     /// Appends how the file of a request stands that a finish has ended.
@@ -257,7 +205,7 @@ impl Recorder {
         let Step::Finish { number } = step else {
             return Ok(());
         };
-        let Some(request) = self.changes.requests.get(*number) else {
+        let Some(request) = self.changes.requests.all.get(*number as usize) else {
             return Ok(());
         };
         let entry = &request.entry;
@@ -273,6 +221,10 @@ impl Recorder {
 }
 
 impl Watcher for Recorder {
+    ghost follows = { λ first now bytes. ⊤ };
+
+    ghost ended = { λ first now bytes. ⊤ };
+
     /// Keeps a byte of a line, or looks at the machine before the line is answered.
     fn take_byte<M: TextMemory>(
         &mut self,
@@ -283,7 +235,7 @@ impl Watcher for Recorder {
         if byte == b'\n' {
             self.look(memory, machine)
         } else {
-            self.keep(byte);
+            self.line.push(byte);
             Ok(())
         }
     }
@@ -335,17 +287,35 @@ fn found_number(found: Option<Found>) -> Option<u64> {
     }
 }
 
-/// Appends the form of a member with these bytes, unless there are none.
-fn push_some<M: TextMemory>(
+/// The head or tail that a step has stored or loaded, if it has, after the beginning of its member.
+fn index_of(step: &Step, answer: &[u8]) -> (&'static str, Option<u64>) {
+    let name = match step {
+        Step::StoreTail => ",\"sq_tail\":",
+        Step::End if answer.starts_with(b"taken ") => ",\"sq_head\":",
+        Step::LoadHead => ",\"sq_head_seen\":",
+        Step::StoreCqHead => ",\"cq_head\":",
+        Step::LoadCqTail => ",\"cq_tail_seen\":",
+        _ => return ("", None),
+    };
+    (name, Some(last_number(answer)))
+}
+
+/// Appends what a step has changed, the head or tail that it has stored or loaded, and the completion ring's tail.
+fn push_effects<M: TextMemory>(
     memory: &M,
     text: &mut String,
-    form: &str,
-    bytes: &[u8],
+    changes: &str,
+    name: &'static str,
+    index: Option<u64>,
+    tail: Option<u64>,
 ) -> Result<(), AllocError>
     ensures { ((n : ℕ) → M.grants memory.now n) → IsOk result }
 {
-    if bytes.is_empty() {
-        return Ok(());
-    }
-    push_form(memory, text, form, &[Value::Quoted(bytes)])
+    let values = [
+        Value::Text(changes),
+        Value::Text(if changes.is_empty() { "" } else { "]" }),
+        Value::Member(name, index),
+        Value::Member(",\"cq_tail\":", tail),
+    ];
+    push_form(memory, text, "@@@@", &values)
 }

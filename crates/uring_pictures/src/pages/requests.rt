@@ -3,7 +3,8 @@
 ghost use Rattle.std.specs.Prelude.{ℕ, IsOk};
 
 use crate::form_text::{Value, push_form};
-use crate::pages::entries::push_entry;
+use crate::pages::entries::push_place;
+use crate::pages::submission::push_value;
 use std::alloc::{AllocError, Global};
 use uring_machine::{Sqe, Why};
 use uring_text::TextMemory;
@@ -32,7 +33,7 @@ pub(crate) struct Request {
 /// All requests that were accepted, by their numbers.
 #[derive(Drop)]
 pub(crate) struct Requests {
-    all: Vec<Request>,
+    pub(crate) all: Vec<Request>,
 }
 
 impl Requests {
@@ -41,11 +42,6 @@ impl Requests {
         Requests {
             all: Vec::new(alloc),
         }
-    }
-
-    /// How many there are.
-    pub(crate) fn count(&self) -> u64 {
-        self.all.len() as u64
     }
 
     /// Adds the request that this call accepted next. `is_first`: it is the first of its call.
@@ -58,35 +54,23 @@ impl Requests {
     ) -> Result<(), AllocError>
         ensures { ((n : ℕ) → M.grants memory.now n) → IsOk result }
     {
-        let chain = self.next_chain(is_first);
-        memory.reserve(&mut self.all, 1)?;
-        self.all.push_reserved(Request {
+        let request = Request {
             entry: *entry,
             call,
-            chain,
+            chain: self.next_chain(is_first),
             why: Why::NeverAccepted,
             issued: None,
             ended: None,
-        });
-        Ok(())
+        };
+        push_value(memory, &mut self.all, request)
     }
 
     /// The first member of the chain of the next request: a chain ends with its call, and after an entry without a link.
     fn next_chain(&self, is_first: bool) -> u64 {
         match self.all.last() {
             Some(before) if !is_first && before.entry.is_linked() => before.chain,
-            _ => self.count(),
+            _ => self.all.len() as u64,
         }
-    }
-
-    /// A request.
-    pub(crate) fn get(&self, number: u64) -> Option<&Request> {
-        self.all.get(number as usize)
-    }
-
-    /// A request, to be changed.
-    pub(crate) fn get_mut(&mut self, number: u64) -> Option<&mut Request> {
-        self.all.get_mut(number as usize)
     }
 
     /// Appends all requests, as elements of an array.
@@ -120,13 +104,18 @@ fn push_request<M: TextMemory>(
 ) -> Result<(), AllocError>
     ensures { ((n : ℕ) → M.grants memory.now n) → IsOk result }
 {
+    let entry = &request.entry;
     let values = [
         Value::Text(separator(number == 0)),
         Value::Number(number),
+        Value::Number(entry.user_data()),
+        Value::Operation(entry),
+        Value::Flags(entry),
         Value::Number(request.call),
         Value::Number(request.chain),
     ];
-    push_form(memory, text, "@{\"request\":@", &values)?;
-    push_entry(memory, text, &request.entry)?;
-    push_form(memory, text, ",\"call\":@,\"chain\":@}", &values[2..])
+    let form = "@{\"request\":@,\"user_data\":\"@\",\"operation\":\"@\",\"flags\":\"@\"";
+    push_form(memory, text, form, &values)?;
+    push_place(memory, text, entry)?;
+    push_form(memory, text, ",\"call\":@,\"chain\":@}", &values[5..])
 }

@@ -51,7 +51,11 @@ impl Submission {
     {
         let is_done = is_name(answer, "ok");
         match step {
-            Step::Fill { slot, entry } if is_done => self.fill(*slot, entry),
+            Step::Fill { slot, entry } if is_done => {
+                if let Some(held) = self.slots.get_mut(*slot as usize) {
+                    *held = Some(*entry);
+                }
+            }
             Step::Index { word } if is_done => return push_value(memory, &mut self.staged, *word),
             Step::Begin { .. } if answer.starts_with(b"call ") => {
                 self.calls = self.calls.saturating_add(1);
@@ -69,31 +73,18 @@ impl Submission {
         self.calls.saturating_sub(1)
     }
 
-    /// Puts an entry into a slot.
-    fn fill(&mut self, slot: u32, entry: &Sqe) {
-        if let Some(held) = self.slots.get_mut(slot as usize) {
-            *held = Some(*entry);
-        }
-    }
-
     /// Takes the entry that the next word names.
     fn take<M: Memory>(&mut self, memory: &M) -> Result<(), AllocError>
         ensures { ((n : ℕ) → M.grants memory.now n) → IsOk result }
     {
-        let entry = self.next_entry();
-        self.taken = self.taken.saturating_add(1);
-        match entry {
-            Some(entry) => push_value(memory, &mut self.entries, entry),
-            None => Ok(()),
-        }
-    }
-
-    /// The entry that the next word names.
-    fn next_entry(&self) -> Option<Sqe> {
-        let word = self.staged.get(self.taken)?;
+        let place = self.taken;
+        self.taken = place.saturating_add(1);
+        let Some(word) = self.staged.get(place) else {
+            return Ok(());
+        };
         match self.slots.get(*word as usize) {
-            Some(entry) => *entry,
-            None => None,
+            Some(Some(entry)) => push_value(memory, &mut self.entries, *entry),
+            _ => Ok(()),
         }
     }
 }

@@ -18,9 +18,15 @@ pub(crate) fn write_page<W: Write>(
 ) -> Result<(), TraceFault>
     ensures { IfErr result (λ fault. fault ≡ TraceFault.Write) }
 {
-    write_all(writer, head_0::PIECE.as_bytes(), writes)?;
-    write_all(writer, data.as_bytes(), writes)?;
-    write_all(writer, tail_0::PIECE.as_bytes(), writes)?;
-    write_all(writer, tail_1::PIECE.as_bytes(), writes)?;
-    write_all(writer, tail_2::PIECE.as_bytes(), writes)
+    let pieces = [
+        head_0::PIECE,
+        data,
+        tail_0::PIECE,
+        tail_1::PIECE,
+        tail_2::PIECE,
+    ];
+    for piece in pieces {
+        write_all(writer, piece.as_bytes(), writes)?;
+    }
+    Ok(())
 }

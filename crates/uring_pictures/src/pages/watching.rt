@@ -67,7 +67,7 @@ pub fn page_in<M: TextMemory, R: Read, W: Write, E: Write>(
         errors,
         form,
     );
-    drop(recorder);
+    recorder.let_go();
     drawn
 }
 
@@ -86,10 +86,11 @@ fn draw_all<M: TextMemory, R: Read, W: Write, E: Write>(
         (λ bad. Reads setup.now bad (R.remaining reader.old) (R.remaining reader.new) (E.contents errors.old) (E.contents errors.new)) }
     ensures granted { ((n : ℕ) → M.grants memory.now n) → result ≢ Err TraceFault.Memory }
 {
-    recorder.begin(memory)?;
     let bad = watch_trace(memory, alloc, setup, recorder, reader, errors)?;
-    write_form(memory, recorder, writer, form)?;
-    Ok(bad)
+    match write_form(memory, recorder, writer, form) {
+        Ok(()) => Ok(bad),
+        Err(fault) => Err(fault),
+    }
 }
 
 /// Writes what was recorded.
@@ -101,7 +102,8 @@ pub(crate) fn write_form<M: TextMemory, W: Write>(
 ) -> Result<(), TraceFault>
     ensures { ((n : ℕ) → M.grants memory.now n) → result ≢ Err TraceFault.Memory }
 {
-    let text = recorder.end(memory)?;
+    recorder.end(memory)?;
+    let text = recorder.text.as_str();
     let mut writes = Calls::new();
     match form {
         Form::Json => write_all(writer, text.as_bytes(), &mut writes),

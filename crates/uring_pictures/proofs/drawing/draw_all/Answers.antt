@@ -1,5 +1,7 @@
 use Rattle.uring_pictures.proofs.Pictures.{draws}
 use Rattle.uring_pictures.proofs.drawing.draw_all.Goals as goal
 
-pub returns-clause-drawn : goal.returns-clause-drawn
-returns-clause-drawn g c = λ setup at h f. draws at setup _ _ c.read_all.new.moment _ _ _ _ _ _ _ (c.in_ok-bad.ensures.read setup at h f) c.accepted.ensures c.in_ok-write_graph.ensures.drawn
+pub returns-in-Ok-clause-drawn : goal.returns-in-Ok-clause-drawn
+returns-in-Ok-clause-drawn g c = λ at f.
+    let all = c.in_ok-bad.ensures.lines in
+    draws at c.args.setup.now _ c.watch_trace.new.watcher _ _ _ _ _ _ _ (all.0, all.1 c.args.moment.now (λ at setup f. f) at c.args.setup.now f) c.accepted.ensures c.in-Ok.ensures.drawn

@@ -1,5 +1,0 @@
-use Rattle.std.proofs.lemmas.Result.{IfOk-weaker}
-use Rattle.uring_pictures.proofs.drawing.draw_moment.Goals as goal
-
-pub returns-clause-drawn : goal.returns-clause-drawn
-returns-clause-drawn g c = IfOk-weaker c.draw_all-drawn.result _ _ (λ bad drawn told. drawn c.args.setup.now c.args.at told c.in_ok-moment.ensures.ok) c.draw_all-drawn.ensures.drawn

@@ -1,6 +1,0 @@
-use Rattle.uring_pictures.proofs.Streams.{took_in}
-use Rattle.uring_pictures.proofs.drawing.take_in.Goals as goal
-
-pub returns-clause-taken : goal.returns-clause-taken
-returns-clause-taken g c =
-    took_in c.write_all.result c.args.explainer.now _ _ _ _ _ _ _ _ c.new-text.ensures.bytes c.new-notes.ensures.bytes c.in_ok-feed_in.ensures.ok (rw c.as_bytes.ensures.value at c.write_all.ensures.text)
