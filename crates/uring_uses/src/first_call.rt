@@ -1,5 +1,6 @@
 //! The first example of the README.
 
+use crate::letting_go::let_machine_go;
 use anyhow::Result;
 use std::alloc::Global;
 use uring_machine::{Cqe, Machine, Setup, Sqe, Step};
@@ -22,6 +23,6 @@ pub fn one_no_op(alloc: Global) -> Result<Option<Cqe>> {
     }
     machine.settle_idle();
     let completion = machine.rest(0);
-    drop(machine);
+    let_machine_go(machine);
     Ok(completion)
 }

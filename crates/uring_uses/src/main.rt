@@ -1,10 +1,15 @@
 //! Four callers of the machine, each with a contract of its own: one step, a list of steps, a simulator with storage of its own, and settling. And one of a volume: a store with a log. The program prints what they do.
+//!
+//! And plays of all ends by one thread, of what no contract says and neither `uring` nor the library for C shows: the program prints which of them go otherwise than they should.
 #![tactic(auto)]
 
 mod disk;
 mod first_call;
+mod letting_go;
 mod lists;
 mod one_step;
+mod plays;
+mod recorded;
 mod settling;
 mod simulator;
 mod store;
@@ -12,24 +17,49 @@ mod submissions;
 
 use crate::disk::{BLOCKS, Disk};
 use crate::first_call::one_no_op;
+use crate::letting_go::{let_core_go, let_machine_go};
 use crate::lists::run_twice;
 use crate::one_step::starts;
+use crate::plays::{show_gates, show_growth, show_plays};
+use crate::recorded::are_lawful;
 use crate::settling::settled_rest;
 use crate::simulator::{break_chain, simulate};
 use crate::submissions::{submission, submit};
 use anyhow::Result;
 use bitflags::Flags;
 use std::alloc::{AllocError, Global};
+use std::env;
 use uring_machine::{Answer, Core, Cqe, Machine, Setup, Sqe, SqeFlags, Step, run};
 
 fn main(rt: HostRuntime) -> Result<()> {
-    show_first_call(&rt)?;
+    if has_word(&rt)? {
+        show_growth(&rt)?;
+        return Ok(());
+    }
+    show_uses(&rt)
+}
+
+/// Whether the program was given a word. With one it goes through the play that `growth/check` refuses memory, and nothing else.
+fn has_word(rt: &HostRuntime) -> Result<bool> {
+    let words = env::args(rt)?;
+    let is_given = words.len() > 1;
+    drop(words);
+    Ok(is_given)
+}
+
+/// What each caller does, and each play.
+fn show_uses(rt: &HostRuntime) -> Result<()> {
+    show_first_call(rt)?;
     let setup = Setup::new(8, None, 1, 0)?;
-    show_step(&rt, &setup)?;
-    show_list(&rt, &setup)?;
-    show_simulation(&rt, &setup)?;
-    show_broken_chain(&rt, &setup)?;
-    show_settling(&rt, &setup)
+    show_step(rt, &setup)?;
+    show_list(rt, &setup)?;
+    show_simulation(rt, &setup)?;
+    show_broken_chain(rt, &setup)?;
+    show_settling(rt, &setup)?;
+    show_recorded(rt, &setup)?;
+    show_gates(rt, &setup)?;
+    show_plays(rt)?;
+    Ok(())
 }
 
 /// A no-op alone.
@@ -47,7 +77,7 @@ fn show_step(rt: &HostRuntime, setup: &Setup) -> Result<()> {
     let steps = submission(rt.alloc(), &[Sqe::nop(10, link), Sqe::nop(11, 0)])?;
     let mut machine = Machine::new(rt.alloc(), setup)?;
     let printed = print_starts(rt, &mut machine, steps.as_slice());
-    drop(machine);
+    let_machine_go(machine);
     printed
 }
 
@@ -92,7 +122,7 @@ fn show_simulation(rt: &HostRuntime, setup: &Setup) -> Result<()> {
     submit(&mut core, &hard_chain());
     simulate(&mut core, &mut disk);
     let printed = print_simulated(rt, &core, &disk);
-    drop(core);
+    let_core_go(core);
     printed
 }
 
@@ -147,7 +177,7 @@ fn show_broken_chain(rt: &HostRuntime, setup: &Setup) -> Result<()> {
     submit(&mut core, &soft_chain());
     core.step(Step::Issue { number: 0 });
     let answer = break_chain(&mut core, 0);
-    drop(core);
+    let_core_go(core);
     print_injected(rt, answer)
 }
 
@@ -164,7 +194,7 @@ fn show_settling(rt: &HostRuntime, setup: &Setup) -> Result<()> {
     let steps = submission(rt.alloc(), &mixed_entries())?;
     let mut machine = Machine::new(rt.alloc(), setup)?;
     let printed = print_left(rt, &mut machine, steps.as_slice());
-    drop(machine);
+    let_machine_go(machine);
     printed
 }
 
@@ -181,6 +211,17 @@ fn print_completions(rt: &HostRuntime, completions: &[Cqe]) -> Result<()> {
     for completion in completions {
         print_completion(rt, completion)?;
     }
+    Ok(())
+}
+
+/// Recorded answers, and the same with one that isn't called for.
+fn show_recorded(rt: &HostRuntime, setup: &Setup) -> Result<()> {
+    let right = are_lawful(rt.alloc(), setup, 1)?;
+    let wrong = are_lawful(rt.alloc(), setup, 2)?;
+    println!(rt;
+        "recorded answers are lawful\n  with files: {}, apart: {}\n  with another tail: {}, {}",
+        right.0, right.1, wrong.0, wrong.1
+    )?;
     Ok(())
 }
 
