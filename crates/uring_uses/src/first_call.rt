@@ -1,6 +1,5 @@
 //! The first example of the README.
 
-use crate::letting_go::let_machine_go;
 use anyhow::Result;
 use std::alloc::Global;
 use uring_machine::{Cqe, Machine, Setup, Sqe, Step};
@@ -23,6 +22,6 @@ pub fn one_no_op(alloc: Global) -> Result<Option<Cqe>> {
     }
     machine.settle_idle();
     let completion = machine.rest(0);
-    let_machine_go(machine);
+    drop(machine);
     Ok(completion)
 }

@@ -5,7 +5,6 @@
 
 mod disk;
 mod first_call;
-mod letting_go;
 mod lists;
 mod one_step;
 mod plays;
@@ -17,7 +16,6 @@ mod submissions;
 
 use crate::disk::{BLOCKS, Disk};
 use crate::first_call::one_no_op;
-use crate::letting_go::{let_core_go, let_machine_go};
 use crate::lists::run_twice;
 use crate::one_step::starts;
 use crate::plays::{show_gates, show_growth, show_plays};
@@ -28,23 +26,21 @@ use crate::submissions::{submission, submit};
 use anyhow::Result;
 use bitflags::Flags;
 use std::alloc::{AllocError, Global};
-use std::env;
+use std::io::Read;
 use uring_machine::{Answer, Core, Cqe, Machine, Setup, Sqe, SqeFlags, Step, run};
 
 fn main(rt: HostRuntime) -> Result<()> {
-    if has_word(&rt)? {
+    if has_input(&rt)? {
         show_growth(&rt)?;
         return Ok(());
     }
     show_uses(&rt)
 }
 
-/// Whether the program was given a word. With one it goes through the play that `growth/check` refuses memory, and nothing else.
-fn has_word(rt: &HostRuntime) -> Result<bool> {
-    let words = env::args(rt)?;
-    let is_given = words.len() > 1;
-    drop(words);
-    Ok(is_given)
+/// Whether there is a byte on the standard input. If so the program goes through the play to which `growth/check` refuses memory, and nothing else: to look for a byte takes none.
+fn has_input(rt: &HostRuntime) -> Result<bool> {
+    let mut byte = [0];
+    Ok(rt.stdin().read(&mut byte)? > 0)
 }
 
 /// What each caller does, and each play.
@@ -77,7 +73,7 @@ fn show_step(rt: &HostRuntime, setup: &Setup) -> Result<()> {
     let steps = submission(rt.alloc(), &[Sqe::nop(10, link), Sqe::nop(11, 0)])?;
     let mut machine = Machine::new(rt.alloc(), setup)?;
     let printed = print_starts(rt, &mut machine, steps.as_slice());
-    let_machine_go(machine);
+    drop(machine);
     printed
 }
 
@@ -122,7 +118,7 @@ fn show_simulation(rt: &HostRuntime, setup: &Setup) -> Result<()> {
     submit(&mut core, &hard_chain());
     simulate(&mut core, &mut disk);
     let printed = print_simulated(rt, &core, &disk);
-    let_core_go(core);
+    drop(core);
     printed
 }
 
@@ -177,7 +173,7 @@ fn show_broken_chain(rt: &HostRuntime, setup: &Setup) -> Result<()> {
     submit(&mut core, &soft_chain());
     core.step(Step::Issue { number: 0 });
     let answer = break_chain(&mut core, 0);
-    let_core_go(core);
+    drop(core);
     print_injected(rt, answer)
 }
 
@@ -194,7 +190,7 @@ fn show_settling(rt: &HostRuntime, setup: &Setup) -> Result<()> {
     let steps = submission(rt.alloc(), &mixed_entries())?;
     let mut machine = Machine::new(rt.alloc(), setup)?;
     let printed = print_left(rt, &mut machine, steps.as_slice());
-    let_machine_go(machine);
+    drop(machine);
     printed
 }
 

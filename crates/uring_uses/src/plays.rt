@@ -264,7 +264,7 @@ fn go_all<K: Ports>(ends: &mut Ends<K, Open>, play: &Play) -> bool {
 fn ends_so<K: Ports>(alloc: Global, ends: Ends<K, Open>, end: End) -> bool {
     match end {
         End::LetGo => {
-            ends.let_go();
+            drop(ends);
             true
         }
         End::Without(gone) => go_on(ends, gone),

@@ -3,7 +3,6 @@ ghost use Rattle.std.specs.Prelude.{◌<◌, length};
 ghost use Rattle.uring_threads.specs.Report.{AreTogether};
 
 use super::rows::{Put, completion, items};
-use crate::letting_go::{let_app_go, let_kernel_go, let_workers_go};
 use std::alloc::Global;
 use uring_threads::{
     AppEnd, CloseRefusal, Gate, Kernel, KernelLanes, KernelPort, KernelWords, Open, Report, Setup,
@@ -11,6 +10,7 @@ use uring_threads::{
 };
 
 /// All ends of one set-up over ports of this kind.
+#[derive(Drop)]
 pub struct Ends<K: KernelPort, G: Gate> {
     pub app: AppEnd<K::App>,
     pub kernel: Kernel<K>,
@@ -111,18 +111,6 @@ impl<K: KernelPort, G: Gate> Ends<K, G> {
             return None;
         }
         Some(turn_at(&mut self.workers, place))
-    }
-
-    /// Lets all ends go.
-    pub fn let_go(self) {
-        let Ends {
-            app,
-            kernel,
-            workers,
-        } = self;
-        let_app_go(app);
-        let_kernel_go(kernel);
-        let_workers_go(workers);
     }
 
     /// What all ends leave, or the ends as they were: out of memory.

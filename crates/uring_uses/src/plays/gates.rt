@@ -70,7 +70,7 @@ fn goes_through<K: Ports, G: Gate>(ends: &mut Ends<K, G>, shown: &Shown) -> bool
 fn goes_through_these<K: Ports, G: Gate>(ends: Ends<K, G>, shown: &Shown) -> bool {
     let mut ends = ends;
     let right = goes_through(&mut ends, shown);
-    ends.let_go();
+    drop(ends);
     right
 }
 

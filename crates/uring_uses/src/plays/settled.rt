@@ -2,7 +2,6 @@
 
 use super::ends::{Ends, Ports};
 use super::rows::completion;
-use crate::letting_go::let_report_go;
 use std::alloc::Global;
 use uring_threads::{Counts, Item, Open, Report, Sqe};
 
@@ -35,11 +34,11 @@ pub fn settles_right<K: Ports>(alloc: Global, ends: Ends<K, Open>) -> bool {
     match settle(alloc, ends) {
         Ok(report) => {
             let right = is_right(&report);
-            let_report_go(report);
+            drop(report);
             right
         }
         Err(ends) => {
-            ends.let_go();
+            drop(ends);
             false
         }
     }

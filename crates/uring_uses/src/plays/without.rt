@@ -3,7 +3,6 @@
 use super::ends::Ends;
 use super::rows::Put::Nop;
 use super::rows::{completion, items, turn};
-use crate::letting_go::{let_app_go, let_kernel_go, let_workers_go};
 use uring_threads::Worked::Done;
 use uring_threads::{
     AppEnd, AppPort, CloseRefusal, Kernel, KernelPort, Open, SubmitRefusal, Turn, Worked, Worker,
@@ -69,10 +68,10 @@ fn goes_without_application<K: KernelPort>(ends: Ends<K, Open>) -> bool {
         mut kernel,
         mut workers,
     } = ends;
-    let_app_go(app);
+    drop(app);
     let right = carries_out_all(&mut kernel, &mut workers);
-    let_kernel_go(kernel);
-    let_workers_go(workers);
+    drop(kernel);
+    drop(workers);
     right
 }
 
@@ -83,10 +82,10 @@ fn goes_without_dispatcher<K: KernelPort>(ends: Ends<K, Open>) -> bool {
         kernel,
         mut workers,
     } = ends;
-    let_kernel_go(kernel);
+    drop(kernel);
     let right = works(&mut workers, Done(0)) && is_full_after_four(&mut app);
-    let_app_go(app);
-    let_workers_go(workers);
+    drop(app);
+    drop(workers);
     right
 }
 
@@ -99,9 +98,9 @@ fn goes_without_worker<K: KernelPort>(ends: Ends<K, Open>) -> bool {
     } = ends;
     workers.truncate(1);
     let right = brings_one_back(&mut app, &mut kernel, &mut workers);
-    let_app_go(app);
-    let_kernel_go(kernel);
-    let_workers_go(workers);
+    drop(app);
+    drop(kernel);
+    drop(workers);
     right
 }
 
