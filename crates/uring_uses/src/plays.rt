@@ -18,7 +18,6 @@ use lists::{
 use rows::{Row, go};
 use settled::settles_right;
 use std::alloc::Global;
-use std::io;
 use uring_threads::{KernelLanes, KernelWords, Open, Setup};
 use without::{Gone, go_on};
 
@@ -302,29 +301,29 @@ fn first_wrong<K: Ports>(alloc: Global, plays: &[Play]) -> &'static str {
     "none"
 }
 
-/// Tells which play goes otherwise than it should.
-pub fn show_plays(rt: &HostRuntime) -> io::Result<()> {
+/// Tells which play goes otherwise than it should. As of those below, whether it was printed.
+pub fn show_plays(rt: &HostRuntime) -> bool {
     let lanes = first_wrong::<KernelLanes>(rt.alloc(), &PLAYS);
     let words = first_wrong::<KernelWords>(rt.alloc(), &PLAYS);
     println!(rt;
         "plays by one thread that go otherwise\n  over lanes: {lanes}\n  over shared words: {words}"
-    )
+    ).is_ok()
 }
 
 /// The same of the play that `growth/check` refuses memory.
-pub fn show_growth(rt: &HostRuntime) -> io::Result<()> {
+pub fn show_growth(rt: &HostRuntime) -> bool {
     let lanes = first_wrong::<KernelLanes>(rt.alloc(), &GROWTH);
     let words = first_wrong::<KernelWords>(rt.alloc(), &GROWTH);
     println!(rt;
         "settling where memory was refused that goes otherwise\n  over lanes: {lanes}\n  over shared words: {words}"
-    )
+    ).is_ok()
 }
 
 /// Tells whether each gate is shown what it should.
-pub fn show_gates(rt: &HostRuntime, setup: &Setup) -> io::Result<()> {
+pub fn show_gates(rt: &HostRuntime, setup: &Setup) -> bool {
     let lanes = is_shown::<KernelLanes>(rt.alloc(), setup);
     let words = is_shown::<KernelWords>(rt.alloc(), setup);
     println!(rt;
         "gates are shown each job and the files\n  over lanes: {lanes}\n  over shared words: {words}"
-    )
+    ).is_ok()
 }
