@@ -5,3 +5,4 @@ pub mod Turns
 pub mod Broken
 pub mod Unreaped
 pub mod Committing
+mod Staying

@@ -1,12 +1,23 @@
-//! The first example of the README.
+//! The first call of a machine.
 
-use anyhow::Result;
 use std::alloc::Global;
 use uring_machine::{Cqe, Machine, Setup, Sqe, Step};
 
-/// A no-op from its entry to its completion, as the README shows it.
-pub fn one_no_op(alloc: Global) -> Result<Option<Cqe>> {
-    let mut machine = Machine::new(alloc, &Setup::new(4, None, 1, 0)?)?;
+/// A no-op from its entry to its completion. `None`: the system is out of memory.
+pub fn one_no_op(alloc: Global) -> Option<Cqe> {
+    let setup = Setup::new(4, None, 1, 0).ok()?;
+    match Machine::new(alloc, &setup) {
+        Ok(mut machine) => {
+            let completion = completion_of(&mut machine);
+            drop(machine);
+            completion
+        }
+        Err(_) => None,
+    }
+}
+
+/// Makes the steps of a no-op, and gives its completion.
+fn completion_of(machine: &mut Machine) -> Option<Cqe> {
     machine.step(Step::Fill {
         slot: 0,
         entry: Sqe::nop(7, 0),
@@ -21,7 +32,5 @@ pub fn one_no_op(alloc: Global) -> Result<Option<Cqe>> {
         machine.step(step);
     }
     machine.settle_idle();
-    let completion = machine.rest(0);
-    drop(machine);
-    Ok(completion)
+    machine.rest(0)
 }

@@ -29,5 +29,7 @@ fn answers_of(alloc: Global, setup: &Setup, steps: &[Step]) -> Result<Vec<Answer
         (λ answers. IsLawful setup.now (history_of (zip steps.now answers.items))) }
 {
     let mut machine = Machine::new(alloc, setup)?;
-    run(alloc, &mut machine, steps)
+    let answers = run(alloc, &mut machine, steps);
+    drop(machine);
+    answers
 }

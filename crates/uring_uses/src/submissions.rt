@@ -1,43 +1,8 @@
-//! Whole submissions, as steps and on a core.
+//! Whole submissions on a core, and on a machine: each entry goes into a slot, slots are staged and published, and a call takes and accepts them all. Loading the head frees the slots for the next submission.
 
-use std::alloc::{AllocError, Global};
-use uring_machine::{Core, Sqe, Step};
+use uring_machine::{Core, Machine, Sqe, Step};
 
-/// The steps of one whole submission: each entry goes into a slot, slots are staged and published, and a call takes and accepts them all. Loading the head frees the slots for the next submission.
-pub fn submission(alloc: Global, entries: &[Sqe]) -> Result<Vec<Step>, AllocError> {
-    let mut steps = Vec::new(alloc);
-    push_submission(entries, &mut steps)?;
-    Ok(steps)
-}
-
-/// Pushes the steps of one whole submission.
-fn push_submission(entries: &[Sqe], steps: &mut Vec<Step>) -> Result<(), AllocError> {
-    let count = stage(entries, steps)?;
-    steps.push(Step::StoreTail)?;
-    steps.push(Step::Begin { count })?;
-    for _ in entries {
-        steps.push(Step::Take)?;
-    }
-    steps.push(Step::End)?;
-    steps.push(Step::LoadHead)?;
-    Ok(())
-}
-
-/// Pushes the steps that stage the entries, and returns how many these are.
-fn stage(entries: &[Sqe], steps: &mut Vec<Step>) -> Result<u32, AllocError> {
-    let mut count: u32 = 0;
-    for entry in entries {
-        steps.push(Step::Fill {
-            slot: count,
-            entry: *entry,
-        })?;
-        steps.push(Step::Index { word: count })?;
-        count = count.saturating_add(1);
-    }
-    Ok(count)
-}
-
-/// The same on a core, step by step.
+/// Makes the steps of a submission on a core.
 pub fn submit(core: &mut Core, entries: &[Sqe]) {
     let mut count: u32 = 0;
     for entry in entries {
@@ -55,4 +20,24 @@ pub fn submit(core: &mut Core, entries: &[Sqe]) {
     }
     core.step(Step::End);
     core.step(Step::LoadHead);
+}
+
+/// The same on a machine.
+pub fn submit_to_machine(machine: &mut Machine, entries: &[Sqe]) {
+    let mut count: u32 = 0;
+    for entry in entries {
+        machine.step(Step::Fill {
+            slot: count,
+            entry: *entry,
+        });
+        machine.step(Step::Index { word: count });
+        count = count.saturating_add(1);
+    }
+    machine.step(Step::StoreTail);
+    machine.step(Step::Begin { count });
+    for _ in entries {
+        machine.step(Step::Take);
+    }
+    machine.step(Step::End);
+    machine.step(Step::LoadHead);
 }

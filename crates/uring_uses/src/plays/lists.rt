@@ -1,9 +1,10 @@
 //! The rows of each play.
 
-use super::super::Put::{Bad, Nop, Silent, Sync};
-use super::super::Row;
-use super::super::Row::{
-    Close, CloseRefused, Dropped, IsIdle, Job, NoWorker, Reap, Refused, Submit, Turn, Work,
+use super::rows::Put::{Bad, Nop, Silent, Sync, Write};
+use super::rows::Row;
+use super::rows::Row::{
+    Close, CloseRefused, Dropped, IsIdle, Job, NoWorker, Reap, Refused, Submit, Turn, TurnAgain,
+    Work,
 };
 use uring_threads::Worked::{Done, Idle};
 use uring_threads::{CloseRefusal, SubmitRefusal};
@@ -264,4 +265,41 @@ pub const FIVE_ROUNDS: &[Row] = &[
     Work(0, Done(4)),
     Turn(0, 0, 1, 1),
     Reap(Some(5)),
+];
+
+/// Two calls that the dispatcher hasn't taken in when the application goes.
+pub const TWO_CALLS: &[Row] = &[Submit(&[Nop(1)]), Submit(&[Nop(2), Nop(3)])];
+
+/// A job that is issued when the dispatcher goes.
+pub const ISSUED: &[Row] = &[Submit(&[Nop(1)]), Turn(1, 1, 0, 0)];
+
+/// A write that worker 1 has when it goes, and a no-op that worker 0 has.
+pub const BOTH_BUSY: &[Row] = &[Submit(&[Write(1, 1, 98), Nop(2)]), Turn(2, 2, 0, 0)];
+
+/// Four no-ops are taken in, carried out, delivered and reaped, each once, if memory is refused at most once to each turn.
+pub const FOUR: &[Row] = &[
+    Submit(&[Nop(1), Nop(2), Nop(3), Nop(4)]),
+    TurnAgain,
+    Job(0),
+    Job(0),
+    Job(0),
+    Job(0),
+    TurnAgain,
+    Reap(Some(1)),
+    Reap(Some(2)),
+    Reap(Some(3)),
+    Reap(Some(4)),
+    Reap(None),
+];
+
+/// Then one no-op is delivered and not reaped, two are issued of which the worker does the first, and a call stays.
+pub const MIDDLE: &[Row] = &[
+    Submit(&[Nop(1)]),
+    TurnAgain,
+    Job(0),
+    TurnAgain,
+    Submit(&[Nop(2), Nop(3)]),
+    TurnAgain,
+    Job(0),
+    Submit(&[Bad(9), Nop(4)]),
 ];

@@ -1,7 +1,7 @@
 use Rattle.std.proofs.Common.{subst, sym}
 use Rattle.uring_threads.specs.Report.{AreTogether}
 use Rattle.uring_threads.proofs.SameEnds.{together_same}
-use Rattle.uring_tests.proofs.tests.ends.Ends.settle.Goals as goal
+use Rattle.uring_uses.proofs.plays.ends.Ends.settle.Goals as goal
 
 pub invariant_of-result : goal.invariant_of-result
 invariant_of-result g c =

@@ -1,7 +1,7 @@
 use Rattle.std.proofs.Common.{sym, subst, ◌∙◌}
 use Rattle.uring_threads.specs.Report.{AreTogether}
-use Rattle.uring_tests.proofs.Staying.{same_many, written_back}
-use Rattle.uring_tests.proofs.tests.ends.Ends.work.Goals as goal
+use Rattle.uring_uses.proofs.Staying.{same_many, written_back}
+use Rattle.uring_uses.proofs.plays.ends.Ends.work.Goals as goal
 
 pub invariant_of-self : goal.invariant_of-self
 invariant_of-self g c =

@@ -2,13 +2,12 @@
 ghost use Rattle.std.specs.Prelude.{◌<◌, length};
 ghost use Rattle.uring_threads.specs.Report.{AreTogether};
 
+use super::rows::{Put, completion, items};
 use std::alloc::Global;
-use uring_entry::{Cqe, Setup};
 use uring_threads::{
-    AppEnd, CloseRefusal, Gate, Item, Kernel, KernelLanes, KernelPort, LanesFault, Open, Report,
+    AppEnd, CloseRefusal, Gate, Kernel, KernelLanes, KernelPort, KernelWords, Open, Report, Setup,
     SubmitRefusal, Turn, Worked, Worker, lanes, settle, words,
 };
-use uring_words::KernelWords;
 
 /// All ends of one set-up over ports of this kind.
 #[derive(Drop)]
@@ -21,30 +20,22 @@ pub struct Ends<K: KernelPort, G: Gate> {
 
 /// A kind of ports that all ends are made over: lanes, or shared words.
 pub trait Ports: KernelPort {
-    /// New ends, with a worker for each gate.
-    fn ends<G: Gate>(
-        alloc: Global,
-        setup: &Setup,
-        gates: Vec<G>,
-    ) -> Result<Ends<Self, G>, LanesFault>;
+    /// New ends, with a worker for each gate, if there can be such.
+    fn ends<G: Gate>(alloc: Global, setup: &Setup, gates: Vec<G>) -> Option<Ends<Self, G>>;
 
     /// What the application sees of this dropped word: over lanes there is none.
     fn shown(dropped: u32) -> Option<u32>;
 }
 
 impl Ports for KernelLanes {
-    fn ends<G: Gate>(
-        alloc: Global,
-        setup: &Setup,
-        gates: Vec<G>,
-    ) -> Result<Ends<KernelLanes, G>, LanesFault> {
+    fn ends<G: Gate>(alloc: Global, setup: &Setup, gates: Vec<G>) -> Option<Ends<KernelLanes, G>> {
         match lanes(alloc, setup, gates) {
-            Ok((app, kernel, workers)) => Ok(Ends {
+            Ok((app, kernel, workers)) => Some(Ends {
                 app,
                 kernel,
                 workers,
             }),
-            Err(fault) => Err(fault),
+            Err(_) => None,
         }
     }
 
@@ -54,18 +45,14 @@ impl Ports for KernelLanes {
 }
 
 impl Ports for KernelWords {
-    fn ends<G: Gate>(
-        alloc: Global,
-        setup: &Setup,
-        gates: Vec<G>,
-    ) -> Result<Ends<KernelWords, G>, LanesFault> {
+    fn ends<G: Gate>(alloc: Global, setup: &Setup, gates: Vec<G>) -> Option<Ends<KernelWords, G>> {
         match words(alloc, setup, gates) {
-            Ok((app, kernel, workers)) => Ok(Ends {
+            Ok((app, kernel, workers)) => Some(Ends {
                 app,
                 kernel,
                 workers,
             }),
-            Err(fault) => Err(fault),
+            Err(_) => None,
         }
     }
 
@@ -74,15 +61,11 @@ impl Ports for KernelWords {
     }
 }
 
-/// All ends of a set-up, with so many workers that nothing holds up, or why there are none.
-pub fn new_ends<K: Ports>(
-    alloc: Global,
-    setup: &Setup,
-    workers: usize,
-) -> Result<Ends<K, Open>, LanesFault> {
+/// All ends of a set-up, with so many workers that nothing holds up, if there can be such.
+pub fn new_ends<K: Ports>(alloc: Global, setup: &Setup, workers: usize) -> Option<Ends<K, Open>> {
     match vec![in alloc; Open; workers] {
         Ok(gates) => K::ends(alloc, setup, gates),
-        Err(_) => Err(LanesFault::NoMemory),
+        Err(_) => None,
     }
 }
 
@@ -96,34 +79,30 @@ fn turn_at<G: Gate>(workers: &mut [Worker<G>], k: usize) -> Worked
 }
 
 impl<K: KernelPort, G: Gate> Ends<K, G> {
-    /// Submits these items, or says why it can't.
-    pub fn submit(&mut self, items: &[Item]) -> Result<(), SubmitRefusal> {
-        self.app.submit(items)
+    /// Whether the submission of these items is answered so.
+    pub fn submits(&mut self, puts: &[Put], wanted: Result<(), SubmitRefusal>) -> bool {
+        let count = puts.len().min(5);
+        self.app.submit(&items(puts)[..count]) == wanted
     }
 
-    /// Closes the application's end, or says why it can't.
-    pub fn close(&mut self) -> Result<(), CloseRefusal> {
-        self.app.close()
+    /// Whether closing the application's end is answered so.
+    pub fn closes(&mut self, wanted: Result<(), CloseRefusal>) -> bool {
+        self.app.close() == wanted
     }
 
-    /// What the application reaps.
-    pub fn reap(&mut self) -> Option<Cqe> {
-        self.app.reap()
+    /// Whether the application reaps this completion, or finds none.
+    pub fn reaps(&mut self, wanted: Option<u64>) -> bool {
+        self.app.reap() == wanted.map(completion)
     }
 
-    /// The dropped word as the application sees it.
-    pub fn dropped(&mut self) -> Option<u32> {
-        self.app.dropped()
+    /// Whether this is the dropped word as the application sees it.
+    pub fn shows(&mut self, wanted: Option<u32>) -> bool {
+        self.app.dropped() == wanted
     }
 
     /// A turn of the dispatcher, unless the system is out of memory.
     pub fn turn(&mut self) -> Option<Turn> {
         self.kernel.turn().ok()
-    }
-
-    /// Whether nothing is left to the dispatcher.
-    pub fn idle(&self) -> bool {
-        self.kernel.idle()
     }
 
     /// A turn of the worker at this place, if there is one.

@@ -1,11 +1,7 @@
 //! What one thread has all ends do, row by row, with what should come of each.
 
-mod plays;
-
 use super::ends::{Ends, Ports};
-use super::turn;
-use uring_entry::{Cqe, Sqe};
-use uring_threads::{CloseRefusal, Item, Open, SubmitRefusal, Turn, Worked};
+use uring_threads::{CloseRefusal, Cqe, Gate, Item, Sqe, SubmitRefusal, Turn, Worked};
 
 /// An item of a call.
 #[derive(Clone, Copy)]
@@ -80,20 +76,10 @@ fn item(put: Put) -> Item {
 /// These items, and words that name no slot after them.
 pub fn items(puts: &[Put]) -> [Item; 5] {
     let mut items = [Item::Bad(u32::MAX); 5];
-    for (item_there, put) in items.iter_mut().zip(puts) {
-        *item_there = item(*put);
+    for k in 0..puts.len().min(5) {
+        items[k] = item(puts[k]);
     }
     items
-}
-
-/// Whether the submission of these items is answered so.
-fn submits<K: Ports>(
-    ends: &mut Ends<K, Open>,
-    puts: &[Put],
-    wanted: Result<(), SubmitRefusal>,
-) -> bool {
-    let count = puts.len().min(5);
-    ends.submit(&items(puts)[..count]) == wanted
 }
 
 /// The completion of a no-op, or of a sync.
@@ -101,57 +87,42 @@ pub fn completion(user_data: u64) -> Cqe {
     Cqe::new(user_data, 0, [0; 64])
 }
 
-/// Whether the application reaps this completion, or finds none.
-fn reaps<K: Ports>(ends: &mut Ends<K, Open>, wanted: Option<u64>) -> bool {
-    ends.reap() == wanted.map(completion)
-}
-
-/// Whether the dispatcher's turn is this.
-fn turns<K: Ports>(ends: &mut Ends<K, Open>, wanted: Turn) -> bool {
-    ends.turn() == Some(wanted)
-}
-
-/// Whether the dispatcher has a turn, if need be at the second try.
-fn turns_again<K: Ports>(ends: &mut Ends<K, Open>) -> bool {
-    ends.turn().is_some() || ends.turn().is_some()
-}
-
-/// Whether this is what the worker at this place does in its turn.
-fn works<K: Ports>(ends: &mut Ends<K, Open>, place: usize, wanted: Worked) -> bool {
-    ends.work(place) == Some(wanted)
-}
-
-/// Whether the worker at this place carries out a job.
-fn has_job<K: Ports>(ends: &mut Ends<K, Open>, place: usize) -> bool {
-    matches!(ends.work(place), Some(Worked::Done(_)))
+/// A turn with these numbers.
+pub fn turn(popped: u64, issued: u64, finished: u64, delivered: u64) -> Turn {
+    Turn {
+        popped,
+        issued,
+        finished,
+        delivered,
+    }
 }
 
 /// Has an end do this. Whether what should came of it.
-fn goes<K: Ports>(ends: &mut Ends<K, Open>, row: Row) -> bool {
+fn goes<K: Ports, G: Gate>(ends: &mut Ends<K, G>, row: Row) -> bool {
     match row {
-        Row::Submit(puts) => submits(ends, puts, Ok(())),
-        Row::Refused(puts, refusal) => submits(ends, puts, Err(refusal)),
-        Row::Close => ends.close().is_ok(),
-        Row::CloseRefused(refusal) => ends.close() == Err(refusal),
-        Row::Reap(wanted) => reaps(ends, wanted),
-        Row::Dropped(word) => ends.dropped() == K::shown(word),
+        Row::Submit(puts) => ends.submits(puts, Ok(())),
+        Row::Refused(puts, refusal) => ends.submits(puts, Err(refusal)),
+        Row::Close => ends.closes(Ok(())),
+        Row::CloseRefused(refusal) => ends.closes(Err(refusal)),
+        Row::Reap(wanted) => ends.reaps(wanted),
+        Row::Dropped(word) => ends.shows(K::shown(word)),
         Row::Turn(popped, issued, finished, delivered) => {
-            turns(ends, turn(popped, issued, finished, delivered))
+            ends.turn() == Some(turn(popped, issued, finished, delivered))
         }
-        Row::TurnAgain => turns_again(ends),
-        Row::IsIdle(wanted) => ends.idle() == wanted,
-        Row::Work(place, wanted) => works(ends, place, wanted),
-        Row::Job(place) => has_job(ends, place),
+        Row::TurnAgain => ends.turn().is_some() || ends.turn().is_some(),
+        Row::IsIdle(wanted) => ends.kernel.idle() == wanted,
+        Row::Work(place, wanted) => ends.work(place) == Some(wanted),
+        Row::Job(place) => matches!(ends.work(place), Some(Worked::Done(_))),
         Row::NoWorker(place) => ends.work(place).is_none(),
     }
 }
 
-/// The place of the first row of which something else came.
-pub fn first_wrong<K: Ports>(ends: &mut Ends<K, Open>, rows: &[Row]) -> Option<usize> {
-    for (place, row) in rows.iter().enumerate() {
+/// Whether what should came of each of these rows, one after the other.
+pub fn go<K: Ports, G: Gate>(ends: &mut Ends<K, G>, rows: &[Row]) -> bool {
+    for row in rows {
         if !goes(ends, *row) {
-            return Some(place);
+            return false;
         }
     }
-    None
+    true
 }

@@ -1,0 +1,329 @@
+//! All ends over lanes and over shared words, played by one thread; in threads of their own `uring play` plays them.
+
+mod ends;
+mod gates;
+mod lists;
+mod rows;
+mod settled;
+mod without;
+
+use End::{LetGo, Without};
+use ends::{Ends, Ports, new_ends};
+use gates::is_shown;
+use lists::{
+    AFTER_COMPLETIONS, BESIDE_A_RESULT, BOTH_BUSY, DROPPED, EACH_DELIVERY, EACH_LENGTH,
+    FIVE_ROUNDS, FOUR, FULL, HELD, ISSUED, MIDDLE, ONE_NO_OP, REFUSALS, ROUND, TWO_CALLS,
+    WITHOUT_A_JOB,
+};
+use rows::{Row, go};
+use settled::settles_right;
+use std::alloc::Global;
+use uring_threads::{KernelLanes, KernelWords, Open, Setup};
+use without::{Gone, go_on};
+
+/// Which rings a play has.
+#[derive(Clone, Copy)]
+enum Rings {
+    /// Of four, with two files.
+    OfFour,
+
+    /// The same, by Linux's rules.
+    OfFourByLinux,
+
+    /// Of two, with one file, that begin at the last index word: their counts wrap at once.
+    OfTwoAtTheWrap,
+}
+
+/// What comes after the rows of a play.
+#[derive(Clone, Copy)]
+enum End {
+    /// All ends are let go.
+    LetGo,
+
+    /// One is, and the others go on.
+    Without(Gone),
+
+    /// They are settled, and nothing is lost.
+    Settled,
+}
+
+/// Rows that are gone through so many times, with so many workers, then once these, and what comes last.
+#[derive(Clone, Copy)]
+struct Play {
+    name: &'static str,
+    rings: Rings,
+    workers: usize,
+    times: u64,
+    rows: &'static [Row],
+    then: &'static [Row],
+    end: End,
+}
+
+/// Six rounds of four no-ops, and then ends that are settled in the middle of a play. It goes so also where one growth of memory is refused, which `growth/check` does with each in turn.
+const SETTLED: Play = Play {
+    name: "settled in the middle",
+    rings: Rings::OfFour,
+    workers: 1,
+    times: 6,
+    rows: FOUR,
+    then: MIDDLE,
+    end: End::Settled,
+};
+
+/// That play alone.
+static GROWTH: [Play; 1] = [SETTLED];
+
+/// All plays.
+static PLAYS: [Play; 19] = [
+    Play {
+        name: "one no-op and a close",
+        rings: Rings::OfFour,
+        workers: 2,
+        times: 1,
+        rows: ONE_NO_OP,
+        then: &[],
+        end: LetGo,
+    },
+    Play {
+        name: "workers without a job are idle",
+        rings: Rings::OfFour,
+        workers: 8,
+        times: 1,
+        rows: WITHOUT_A_JOB,
+        then: &[],
+        end: LetGo,
+    },
+    Play {
+        name: "a thousand rounds with one worker",
+        rings: Rings::OfFour,
+        workers: 1,
+        times: 1000,
+        rows: ROUND,
+        then: &[],
+        end: LetGo,
+    },
+    Play {
+        name: "a thousand rounds with two workers",
+        rings: Rings::OfFour,
+        workers: 2,
+        times: 1000,
+        rows: ROUND,
+        then: &[],
+        end: LetGo,
+    },
+    Play {
+        name: "a thousand rounds with eight workers",
+        rings: Rings::OfFour,
+        workers: 8,
+        times: 1000,
+        rows: ROUND,
+        then: &[],
+        end: LetGo,
+    },
+    Play {
+        name: "calls of each length",
+        rings: Rings::OfFour,
+        workers: 1,
+        times: 250,
+        rows: EACH_LENGTH,
+        then: &[],
+        end: LetGo,
+    },
+    Play {
+        name: "as many completions",
+        rings: Rings::OfFour,
+        workers: 1,
+        times: 250,
+        rows: EACH_DELIVERY,
+        then: &[],
+        end: LetGo,
+    },
+    Play {
+        name: "refusals come in their order",
+        rings: Rings::OfFour,
+        workers: 1,
+        times: 1,
+        rows: REFUSALS,
+        then: &[],
+        end: LetGo,
+    },
+    Play {
+        name: "a held worker holds up no other",
+        rings: Rings::OfFour,
+        workers: 2,
+        times: 1,
+        rows: HELD,
+        then: &[],
+        end: LetGo,
+    },
+    Play {
+        name: "results are taken in beside a call",
+        rings: Rings::OfFour,
+        workers: 1,
+        times: 1,
+        rows: BESIDE_A_RESULT,
+        then: &[],
+        end: LetGo,
+    },
+    Play {
+        name: "calls are taken in while completions wait",
+        rings: Rings::OfFour,
+        workers: 1,
+        times: 1,
+        rows: AFTER_COMPLETIONS,
+        then: &[],
+        end: LetGo,
+    },
+    Play {
+        name: "words show what was dropped, and lanes do not",
+        rings: Rings::OfFour,
+        workers: 2,
+        times: 1,
+        rows: DROPPED,
+        then: &[],
+        end: LetGo,
+    },
+    Play {
+        name: "by Linux's rules a turn takes in what stands after them",
+        rings: Rings::OfFourByLinux,
+        workers: 2,
+        times: 1,
+        rows: DROPPED,
+        then: &[],
+        end: LetGo,
+    },
+    Play {
+        name: "a full ring looks at the head again",
+        rings: Rings::OfTwoAtTheWrap,
+        workers: 1,
+        times: 1,
+        rows: FULL,
+        then: &[],
+        end: LetGo,
+    },
+    Play {
+        name: "a ring of two goes round",
+        rings: Rings::OfTwoAtTheWrap,
+        workers: 1,
+        times: 1,
+        rows: FIVE_ROUNDS,
+        then: &[],
+        end: LetGo,
+    },
+    Play {
+        name: "without the application",
+        rings: Rings::OfFour,
+        workers: 2,
+        times: 1,
+        rows: TWO_CALLS,
+        then: &[],
+        end: Without(Gone::Application),
+    },
+    Play {
+        name: "without the dispatcher",
+        rings: Rings::OfFour,
+        workers: 2,
+        times: 1,
+        rows: ISSUED,
+        then: &[],
+        end: Without(Gone::Dispatcher),
+    },
+    Play {
+        name: "without a worker",
+        rings: Rings::OfFour,
+        workers: 2,
+        times: 1,
+        rows: BOTH_BUSY,
+        then: &[],
+        end: Without(Gone::Worker),
+    },
+    SETTLED,
+];
+
+/// The set-up of a play's rings.
+fn set_up(rings: Rings) -> Option<Setup> {
+    match rings {
+        Rings::OfFour => Setup::new(4, Some(4), 2, 0).ok(),
+        Rings::OfFourByLinux => Some(Setup::new(4, Some(4), 2, 0).ok()?.linux()),
+        Rings::OfTwoAtTheWrap => Setup::new(2, Some(2), 1, u32::MAX).ok(),
+    }
+}
+
+/// Whether each row of a play goes as it should, in each round.
+fn go_all<K: Ports>(ends: &mut Ends<K, Open>, play: &Play) -> bool {
+    for _ in 0..play.times {
+        if !go(ends, play.rows) {
+            return false;
+        }
+    }
+    go(ends, play.then)
+}
+
+/// Whether these ends do so after the rows of a play.
+fn ends_so<K: Ports>(alloc: Global, ends: Ends<K, Open>, end: End) -> bool {
+    match end {
+        End::LetGo => {
+            drop(ends);
+            true
+        }
+        End::Without(gone) => go_on(ends, gone),
+        End::Settled => settles_right(alloc, ends),
+    }
+}
+
+/// All ends of this set-up, if need be by a second try: where the first was refused nothing stood.
+fn make<K: Ports>(alloc: Global, setup: &Setup, workers: usize) -> Option<Ends<K, Open>> {
+    match new_ends(alloc, setup, workers) {
+        Some(ends) => Some(ends),
+        None => new_ends(alloc, setup, workers),
+    }
+}
+
+/// Whether a play goes as it should, with new ends of this set-up.
+fn goes<K: Ports>(alloc: Global, setup: &Setup, play: &Play) -> bool {
+    match make::<K>(alloc, setup, play.workers) {
+        Some(mut ends) => {
+            let right = go_all(&mut ends, play);
+            ends_so(alloc, ends, play.end) && right
+        }
+        None => false,
+    }
+}
+
+/// The name of the first of these plays that goes otherwise.
+fn first_wrong<K: Ports>(alloc: Global, plays: &[Play]) -> &'static str {
+    for play in plays {
+        match set_up(play.rings) {
+            Some(setup) if goes::<K>(alloc, &setup, play) => {}
+            _ => return play.name,
+        }
+    }
+    "none"
+}
+
+/// Tells which play goes otherwise than it should. As of those below, whether it was printed.
+pub fn show_plays(rt: &HostRuntime) -> bool {
+    let lanes = first_wrong::<KernelLanes>(rt.alloc(), &PLAYS);
+    let words = first_wrong::<KernelWords>(rt.alloc(), &PLAYS);
+    println!(rt;
+        "plays by one thread that go otherwise\n  over lanes: {lanes}\n  over shared words: {words}"
+    ).is_ok()
+}
+
+/// The same of the play that `growth/check` refuses memory.
+pub fn show_growth(rt: &HostRuntime) -> bool {
+    let lanes = first_wrong::<KernelLanes>(rt.alloc(), &GROWTH);
+    let words = first_wrong::<KernelWords>(rt.alloc(), &GROWTH);
+    println!(rt;
+        "settling where memory was refused that goes otherwise\n  over lanes: {lanes}\n  over shared words: {words}"
+    ).is_ok()
+}
+
+/// Tells whether each gate is shown what it should.
+pub fn show_gates(rt: &HostRuntime, setup: &Setup) -> bool {
+    let lanes = is_shown::<KernelLanes>(rt.alloc(), setup);
+    let words = is_shown::<KernelWords>(rt.alloc(), setup);
+    println!(rt;
+        "gates are shown each job and the files\n  over lanes: {lanes}\n  over shared words: {words}"
+    ).is_ok()
+}
