@@ -7,10 +7,13 @@ pub use Rattle.std.proofs.lemmas.List.{append_assoc, drop_min, length-drop, leng
 pub use Rattle.std.proofs.lemmas.Result.{IfOk-weaker, on_ok_weaker}
 pub use Rattle.std.specs.Prelude.{All, IfSome, IsErrOf, IsSome, IsSomeAnd, None, Option, Some, bit_and, codes, nat_lt, string_bytes, sum_by}
 pub use Rattle.std.specs.contracts.impls.GlobalAllocator.TheImpl.{dict, ghosts}
+pub use Rattle.uring_core.specs.Core.{Core, FitsApart, elements_for, elements_for_call}
 pub use Rattle.uring_core.specs.Histories.{Event, History, world}
 pub use Rattle.uring_core.specs.declared.step.Step.{Step}
+pub use Rattle.uring_crossing.specs.Boxes.Places.{core_in}
 pub use Rattle.uring_crossing.specs.Boxes.Slots.{Held, a_core, a_crash_machine, a_machine, a_volume, core_of, core_row, crash_machine_of, crash_machine_row, machine_of, machine_row, outcomes_of, outcomes_row, some_outcomes, volume_of, volume_row}
 pub use Rattle.uring_crossing.specs.CoreWords.Cuts.{cut}
+pub use Rattle.uring_crossing.specs.Cores.Whole.{ReapedApart, SubmittedApart, submit_told}
 pub use Rattle.uring_crossing.specs.Machines.Crashing.{AreShort, GoesOn, IsNoStart, TellsUnrefusedOn}
 pub use Rattle.uring_crossing.specs.Traces.SetupLines.{named_if, setup_line, setup_tokens, token_if}
 pub use Rattle.uring_entry.specs.Layout.{Sqe}

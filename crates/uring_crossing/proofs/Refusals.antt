@@ -1,9 +1,8 @@
 -- Which words tell that memory was refused.
 use Rattle.std.proofs.Common.{◌≡◌, ℕ, ◌≤◌, Bool, true, false, List, length, Option, Some, None, Result, Ok, Err, if◌then◌else◌, refl, sym, ap, subst, arith}
-use Rattle.uring_crossing.proofs.Common.{History, IfSome, IsErrOf, IsSomeAnd, Setup, Sqe, Step, TellsUnrefusedOn, nat_lt, world}
+use Rattle.uring_crossing.proofs.Common.{Core, FitsApart, History, IfSome, IsErrOf, IsSomeAnd, Setup, Sqe, Step, SubmittedApart, TellsUnrefusedOn, elements_for, elements_for_call, nat_lt, submit_told, world}
 use Rattle.uring_entry.specs.Submission.{Call}
 use Rattle.uring_core.specs.World.{World}
-use Rattle.uring_core.specs.Core.{Core, FitsApart, elements_for, elements_for_call}
 use Rattle.uring_core.specs.StepAnswers.{end_answer_in}
 use Rattle.uring_core.specs.WholeCalls.{after_taken, after_published}
 use Rattle.uring_core.specs.declared.answer.Answer.{Answer}
@@ -16,7 +15,6 @@ use Rattle.uring_epochs.specs.Asked.{IsUnrefusedOn}
 use Rattle.uring_epochs.specs.Epochs.{CrashMachine, Epoch, FitsRun}
 use Rattle.uring_crossing.specs.CoreWords.AnswerForm.{kind_of, words_of, IsAgain}
 use Rattle.uring_crossing.specs.Cores.Stepping.{TellUnrefused}
-use Rattle.uring_crossing.specs.Cores.Whole.{SubmittedApart, submit_told}
 use Rattle.uring_crossing.specs.declared.core_words.answer_words.AnswerWords.{AnswerWords}
 
 -- no other answer has the kind of Again

@@ -1,10 +1,9 @@
 -- All ends go on to be of one set-up whatever a worker does.
 use Rattle.std.proofs.Common.{◌≡◌, ℕ, List, ◌++◌, length, take, drop, sym, subst, ap, ◌∙◌}
 use Rattle.std.proofs.Math.Seq.{take-append_seam}
-use Rattle.std.proofs.lemmas.List.{length-map}
+use Rattle.uring_uses.proofs.Common.{AreTogether, length-map}
 use Rattle.uring_ports.specs.AppEnd.{AppEnd}
 use Rattle.uring_threads.specs.Kernel.{Kernel}
-use Rattle.uring_threads.specs.Report.{AreTogether}
 use Rattle.uring_workers.specs.Worker.{Worker}
 
 -- two lists of workers of one set-up are equally long

@@ -1,7 +1,6 @@
 use Rattle.std.proofs.Common.{length, ap, sym, ◌∙◌}
-use Rattle.std.proofs.lemmas.List.{length-map}
+use Rattle.uring_crossing.proofs.Common.{core_in, length-map}
 use Rattle.uring_crossing.specs.CoreWords.AnswerForm.{words_of}
-use Rattle.uring_crossing.specs.Boxes.Places.{core_in}
 use Rattle.uring_crossing.proofs.Refusals.{submit_granted}
 use Rattle.uring_crossing.proofs.cores.whole_call_memory.core_submit_in.Goals as goal
 

@@ -1,5 +1,5 @@
 use Rattle.std.proofs.Common.{sym, ap, ◌∙◌}
-use Rattle.uring_crossing.proofs.Common.{Some}
+use Rattle.std.specs.Prelude.{Some}
 use Rattle.uring_crossing.proofs.Refusals.{crash_unrefused}
 use Rattle.uring_crossing.proofs.machines.crash_machine_memory.crash_machine_step_in.Goals as goal
 

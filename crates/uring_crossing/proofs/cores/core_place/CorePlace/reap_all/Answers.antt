@@ -1,8 +1,5 @@
 use Rattle.std.proofs.Common.{length, take, subst, sym}
-use Rattle.uring_crossing.proofs.Common.{IsSomeAnd}
-use Rattle.uring_core.specs.Core.{Core}
-use Rattle.uring_crossing.specs.Boxes.Places.{core_in}
-use Rattle.uring_crossing.specs.Cores.Whole.{ReapedApart}
+use Rattle.uring_crossing.proofs.Common.{Core, IsSomeAnd, ReapedApart, core_in}
 use Rattle.uring_crossing.proofs.cores.core_place.CorePlace.reap_all.Goals as goal
 
 pub returns-clause-made : goal.returns-clause-made

@@ -1,8 +1,5 @@
 use Rattle.std.proofs.Common.{subst, sym}
-use Rattle.uring_crossing.proofs.Common.{IsSomeAnd}
-use Rattle.uring_core.specs.Core.{Core}
-use Rattle.uring_crossing.specs.Boxes.Places.{core_in}
-use Rattle.uring_crossing.specs.Cores.Whole.{SubmittedApart}
+use Rattle.uring_crossing.proofs.Common.{Core, IsSomeAnd, SubmittedApart, core_in}
 use Rattle.uring_crossing.proofs.cores.core_place.CorePlace.submit_in.Goals as goal
 
 pub returns-clause-made : goal.returns-clause-made
