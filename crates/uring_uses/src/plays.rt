@@ -301,22 +301,25 @@ fn first_wrong<K: Ports>(alloc: Global, plays: &[Play]) -> &'static str {
     "none"
 }
 
-/// Tells which play goes otherwise than it should. As of those below, whether it was printed.
+/// Tells which of these plays goes otherwise than it should, over lanes and over shared words. As of those below, whether it was printed.
+fn show(rt: &HostRuntime, plays: &[Play], which: &str) -> bool {
+    let lanes = first_wrong::<KernelLanes>(rt.alloc(), plays);
+    let words = first_wrong::<KernelWords>(rt.alloc(), plays);
+    println!(rt; "{which}\n  over lanes: {lanes}\n  over shared words: {words}").is_ok()
+}
+
+/// The same of all plays.
 pub fn show_plays(rt: &HostRuntime) -> bool {
-    let lanes = first_wrong::<KernelLanes>(rt.alloc(), &PLAYS);
-    let words = first_wrong::<KernelWords>(rt.alloc(), &PLAYS);
-    println!(rt;
-        "plays by one thread that go otherwise\n  over lanes: {lanes}\n  over shared words: {words}"
-    ).is_ok()
+    show(rt, &PLAYS, "plays by one thread that go otherwise")
 }
 
 /// The same of the play that `growth/check` refuses memory.
 pub fn show_growth(rt: &HostRuntime) -> bool {
-    let lanes = first_wrong::<KernelLanes>(rt.alloc(), &GROWTH);
-    let words = first_wrong::<KernelWords>(rt.alloc(), &GROWTH);
-    println!(rt;
-        "settling where memory was refused that goes otherwise\n  over lanes: {lanes}\n  over shared words: {words}"
-    ).is_ok()
+    show(
+        rt,
+        &GROWTH,
+        "settling where memory was refused that goes otherwise",
+    )
 }
 
 /// Tells whether each gate is shown what it should.
