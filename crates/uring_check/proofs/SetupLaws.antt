@@ -1,15 +1,13 @@
 -- What a first line says of a set-up, and what follows of the lines that are taken in.
-use Rattle.std.proofs.Common.{◌≡◌, ℕ, ◌≤◌, inl, inr, true, List, ◌∷◌, Option, Some, Result, Err, refl, sym, ap, subst, ◌∙◌, Bor, arith}
-use Rattle.uring_check.proofs.Common.{IsBadCq, IsBadFiles, IsBadSq, IsErrOf, IsOutside, IsSaidBy, IsSaidOf, IsSetupFor, MissesSetup, Setup, begins_setup, codes, named_number, sizes_in, sizes_of, sizes_said, ◌↔◌}
+use Rattle.std.proofs.Common.{◌≡◌, ℕ, ◌≤◌, inl, inr, true, List, ◌∷◌, Option, Some, Result, Err, refl, sym, ap, subst, ◌∙◌, arith}
+use Rattle.uring_check.proofs.Common.{IsBadCq, IsBadFiles, IsBadSq, IsErrOf, IsOutside, IsSaidBy, IsSaidOf, IsSetupFor, MissesSetup, Setup, begins_setup, codes, sizes_in, sizes_said, ◌↔◌}
 use Rattle.std.specs.Str.{bytes_eq}
-use Rattle.std.proofs.Math.ListN.{get_or}
 use Rattle.std.specs.Int.{IsNextPowerOfTwo}
 use Rattle.uring_entry.specs.declared.bad_setup.BadSetup.{BadSetup}
 use Rattle.uring_entry.specs.declared.bad_setup.BadSetup.TheVariants.{BadSq, BadCq, BadFiles}
 use Rattle.uring_check.specs.declared.setup_line.Said.{Said}
 use Rattle.uring_check.specs.declared.setup_line.Said.TheVariants.{Nothing, Says, Misses}
 use Rattle.uring_check.specs.declared.setup_line.Sizes.{Sizes}
-use Rattle.uring_check.specs.declared.setup_line.Asked.{Asked}
 
 -- a number within limits isn't out of them
 within_limits : (low high n : ℕ) → low ≤ n → n ≤ high → IsOutside low high n → ⊥
@@ -69,13 +67,3 @@ pub set_up : (tokens : List (List ℕ)) (sign name : List ℕ) (rest : List (Lis
     → IsSaidBy tokens said
 set_up tokens sign name rest said are one two of =
     subst (λ (l : List (List ℕ)). IsSaidBy l said) (sym are) (begun (sign ∷ name ∷ rest) said (rw (one, two) refl) of)
-
--- ---- the tokens of sizes, each at its place
-
-abbrev pub Tokens : Type 0
-Tokens = List (Bor (List ℕ))
-
--- what eight tokens say, with what the words after them do
-abbrev pub sizes_at : Option Asked → Bor (List ℕ) → Tokens → Option Sizes
-sizes_at asked d xs =
-    sizes_of asked (named_number (codes "--sq") (get_or xs 0 d).now (get_or xs 1 d).now) (named_number (codes "--cq") (get_or xs 2 d).now (get_or xs 3 d).now) (named_number (codes "--files") (get_or xs 4 d).now (get_or xs 5 d).now) (named_number (codes "--start") (get_or xs 6 d).now (get_or xs 7 d).now)

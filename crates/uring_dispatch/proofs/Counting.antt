@@ -1,6 +1,6 @@
 -- Counts below a bound: what one change does to them, the bits of a block, and the list of all that are counted.
 use Rattle.std.proofs.Common.{◌≡◌, ◌≢◌, ℕ, zero, suc, ◌+◌, ◌-◌, ◌*◌, ◌/◌, ◌%◌, ◌^◌, ◌<◌, ◌≤◌, ◌==◌, cond, count_ones, Bool, true, false, List, [], ◌∷◌, ◌++◌, length, slice_get, Some, None, refl, sym, ◌∙◌, ap, arith, inl, inr, length-append}
-use Rattle.uring_dispatch.proofs.Common.{all_below, bit_at, bit_at-suc, bit_at_lowest, cases_eq, count_below, eq-eqb, ne_eqb, one_if, same_Some}
+use Rattle.uring_dispatch.proofs.Common.{all_below, bit_at, bit_at-suc, bit_at_lowest, cases_eq, count_below, eq-eqb, ne_eqb, one_if}
 use Rattle.std.specs.Int.Count.{ones_step}
 use Rattle.std.proofs.lemmas.Nat.{ones_le_self}
 
@@ -120,12 +120,6 @@ get_all_below p (suc n) m lt e =
           ∙ ap (slice_get (all_below p n ++ n ∷ [])) (sym (length_all_below p n)) ∙ get_last (all_below p n) n ∙ ap Some (sym same)
       | inr other ↦ get_left (all_below p n) _ (count_below p m) m (get_all_below p n m (omega arith) e)
     ]
-
-get_one : (holds : Bool) (n j x : ℕ) → slice_get (cond holds (n ∷ []) []) j ≡ Some x
-    → (n ≡ x) × (holds ≡ true)
-get_one false n j x e = absurd (let f : None ≡ Some x = e in cc)
-get_one true n zero x e = (same_Some n x e, refl)
-get_one true n (suc j) x e = absurd (let f : None ≡ Some x = e in cc)
 
 -- The numbers of a block of 64.
 

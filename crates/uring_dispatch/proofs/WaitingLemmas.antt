@@ -19,10 +19,6 @@ keeps_both w g s t u a b = record {
   doomed = omega (arith, a.doomed, b.doomed);
 }
 
-pub listed_same : (w : Window) (g : Groups) (s : Waiting) (n m : ℕ) → n ≡ m → IsListedAt w g s n
-    → IsListedAt w g s m
-listed_same w g s n m e l = let P : ℕ → Type 0 = λ j. IsListedAt w g s j in subst P e l
-
 pub tell_kept : (w : Window) (g : Groups) (s t : Waiting) (n : ℕ) → CanTell s n → Keeps w g s t
     → CanTell t n
 tell_kept w g s t n c k = omega (arith, c, k.heads, k.doomed)

@@ -1,28 +1,8 @@
 -- The operations that may take effect before an end are those that are added for each that runs.
 use Rattle.std.proofs.Common.{◌≡◌, ◌==◌, ◌<◌, ◌+◌, ℕ, Bool, true, false, List, [], ◌∷◌, ◌++◌, Option, Some, None, if◌then◌else◌, refl, sym, ap, subst, ◌∙◌, ◌⊎◌, inl, inr, arith, negsuc, map}
 use Rattle.uring_early.proofs.Common.{Adds, AreTakers, Contains, End, FileContents, FitsEnd, IsForFiles, IsOutcome, Mark, MayTake, Op, Outcome, Running, Taker, awaits, both_ways, end_in, ended_with, eq-eqb, eqb-true, is_lengthening, is_some, look, plain, result_of, same_Some}
-use Rattle.std.proofs.lemmas.List.Elements.{Contains-append_left, Contains-append_right, Contains-push, Contains-push_cases}
+use Rattle.std.proofs.lemmas.List.Elements.{Contains-append_left, Contains-append_right, Contains-push_cases}
 use Rattle.uring_early.proofs.Plain.{outcome_back, outcome_plain}
-
--- nothing was added, as nothing has the property
-pub adds_none : (P : Taker → Type 0) (old : List Taker) → ((x : Taker) → P x → ⊥) → Adds P old old
-adds_none P old none = record {
-  kept = λ x there. there;
-  right = λ x there. inl there;
-  all = λ x has. absurd (none x has);
-}
-
--- one was added
-pub adds_one : (P : Taker → Type 0) (old new : List Taker) (one : Taker) → new ≡ old ++ one ∷ [] → P one
-    → ((x : Taker) → P x → one ≡ x) → Adds P old new
-adds_one P old new one is has alone = record {
-  kept = λ x there. subst (λ (xs : List Taker). Contains xs x) (sym is) (Contains-append_left old (one ∷ []) x there);
-  right = λ x there. elim (Contains-push_cases old one x (subst (λ (xs : List Taker). Contains xs x) is there)) [
-    | inl before ↦ inl before
-    | inr same ↦ inr (subst P same has)
-  ];
-  all = λ x has_it. subst (λ (xs : List Taker). Contains xs x) (sym is) (subst (Contains (old ++ one ∷ [])) (alone x has_it) (Contains-push old one));
-}
 
 -- those of one kind were added, and then those of another
 pub adds_both : (P Q R : Taker → Type 0) (old mid new : List Taker) → Adds P old mid → Adds Q mid new
@@ -185,9 +165,6 @@ adds_refused files running left n op old mid new ready longer first second =
 pub record SoFar (files : List FileContents) (running : List Running) (left : List Mark) (awaited : ℕ) (some : List Running) (takers : List Taker) : Type 0 where
   pub right : (x : Taker) → Contains takers x → MayTake (record { files = map plain files; running = running }) left x.number x.outcome
   pub all : (x : Taker) → MayTake (record { files = map plain files; running = running }) left x.number x.outcome → (one : Running) → Contains some one → one.number ≡ x.number → (x.number ≡ awaited → ⊥) → Contains takers x
-
-none_there : {X : Type 0} (x : X) → Contains [] x → ⊥
-none_there x there = let low : there.0 < 0 = there.1 in omega (arith, low)
 
 adds_right : (files : List FileContents) (running : List Running) (left : List Mark) (n : ℕ) (old new : List Taker)
     → Adds (MayBe files running left n) old new

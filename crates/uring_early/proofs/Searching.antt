@@ -184,10 +184,6 @@ pub found : (count : ℕ) (marks : List Mark) (rest : List Seat) (s : Seat)
 found count marks rest s search over =
     (search.right s (Contains-push rest s)).1 (record { moves = []; walk = drop_all s.place marks (omega (arith, over)) })
 
-pub none_left : (count : ℕ) (marks : List Mark) → IsSearch count marks [] → Goes (at_first count) marks → ⊥
-none_left count marks search goes =
-    let one : OneGoes marks [] = search.all goes in none_there one.seat one.there
-
 pub begins : (count : ℕ) (marks : List Mark) (s : Seat) → s ≡ record { standing = at_first count; place = 0 }
     → IsSearch count marks (s ∷ [])
 begins count marks s is =

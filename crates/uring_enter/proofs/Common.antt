@@ -3,7 +3,7 @@ pub use Rattle.std.proofs.lemmas.Bool.{and_cases, and_left, and_parts, and_right
 pub use Rattle.std.proofs.lemmas.List.{append_assoc, drop-append-le, drop-drop, drop-map, get_or-map, get_or-take, get_or_default, length-append, length-drop, length-map, length-set, length-take-le, map-append, take_more, take_more_set}
 pub use Rattle.std.proofs.lemmas.List.Elements.{All-cons, All-contains, All-contains_itself, All-filter, All-map, All-nil, All-push, All-weaker, Contains-append_left, Contains-append_right, Contains-get_or, Contains-push, Contains-push_cases, filter_passes}
 pub use Rattle.std.specs.Int.{bit_at, w32}
-pub use Rattle.std.specs.Prelude.{All, Contains, IsSome, MatchOption, is_some, max, min, ℕ}
+pub use Rattle.std.specs.Prelude.{All, Contains, IsSome, MatchOption, max, min, ℕ}
 pub use Rattle.uring_enter.specs.Call.Due.{due, ended, go_by, going, hearing, is_lazy, is_reply_to, least_over, leaving, looking, returned, stuck, unless_ready, waiting}
 pub use Rattle.uring_enter.specs.Call.Laws.{EndsForAReason, GivesUpInVain, IsInVain, LeavesNothing, ReturnsWhatWasSubmitted, SleepsInVain, SubmitsOnce, is_run, is_stuck, saw_enough}
 pub use Rattle.uring_enter.specs.Call.Replies.{has_taken_all, is_enough, is_none, looks, submission, waits}

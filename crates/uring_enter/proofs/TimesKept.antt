@@ -1,6 +1,6 @@
 -- What is kept of the timeouts of a ring, and what is told of it.
 use Rattle.std.proofs.Common.{◌≡◌, ℕ, ◌≤◌, ◌<◌, ◌+◌, min, ℤ, Bool, true, false, ◌&&◌, eqb, ltb, leb, length, take, set, zero, suc, List, [], ◌∷◌, ◌++◌, inl, inr, Option, Some, None, map, filter, refl, sym, ap, subst, arith, ◌∙◌, if◌then◌else◌}
-use Rattle.uring_enter.proofs.Common.{AreApart, Changed, Contains, EndsNone, Event, HasCounted, HasNone, IsDueOf, IsEarliest, IsNext, IsNextOf, IsRow, MatchOption, NoneIsOver, Timeout, cases_order, counted_found, due_of, earliest_of, ends_before, false≢true, has_counted, is_other, is_over, is_some, later, leb-false, leb-true, lt-ltb, ltb-false, or_parts, outcome, outcome_at, posted, running, take_more_set, time, with_expiry}
+use Rattle.uring_enter.proofs.Common.{AreApart, Changed, Contains, EndsNone, Event, HasCounted, HasNone, IsDueOf, IsEarliest, IsNext, IsNextOf, IsRow, MatchOption, NoneIsOver, Timeout, cases_order, counted_found, due_of, earliest_of, ends_before, has_counted, is_other, is_over, later, leb-false, leb-true, lt-ltb, ltb-false, or_parts, outcome, outcome_at, posted, running, take_more_set, time, with_expiry}
 use Rattle.uring_enter.specs.declared.call.wait.WakeSources.{WakeSources}
 use Rattle.uring_enter.specs.declared.call.wait.Woken.{Woken}
 use Rattle.uring_enter.specs.declared.call.wait.Woken.TheVariants.{TimedOut, Other}
@@ -95,18 +95,6 @@ pub earliest_is : (rows : List Timeout) (next : Option Timeout) (limit result : 
     → result ≡ earliest_of next limit → IsEarliest rows limit result
 earliest_is rows next limit result is made =
     subst (IsEarliest rows limit) (sym made) (earliest_at rows next limit is)
-
--- what is told of a row that was found
-pub runs_when : (number : ℕ) (rows : List Timeout) (found : Option Timeout)
-    → MatchOption found (HasNone number rows) (IsRow number rows) → is_some found ≡ true
-    → (t : Timeout) × IsRow number rows t
-runs_when number rows None none is = absurd (false≢true is)
-runs_when number rows (Some t) row is = (t, row)
-
-pub none_when : (number : ℕ) (rows : List Timeout) (found : Option Timeout)
-    → MatchOption found (HasNone number rows) (IsRow number rows) → is_some found ≡ false → HasNone number rows
-none_when number rows None none is = none
-none_when number rows (Some t) row is = absurd (false≢true (sym is))
 
 -- the rest that have its number are it
 pub none_ends : (log : List Event) (number : ℕ) (t : Timeout) → AreApart (running log) → IsRow number (running log) t

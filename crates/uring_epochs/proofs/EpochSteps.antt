@@ -1,5 +1,5 @@
 -- That a machine fits an epoch with one event more, and a run with one epoch more.
-use Rattle.std.proofs.Common.{◌≡◌, ℕ, List, ◌∷◌, length, map, Bool, true, false, Option, Some, None, if◌then◌else◌, refl, sym, subst, ◌∙◌, ap}
+use Rattle.std.proofs.Common.{◌≡◌, ℕ, List, ◌∷◌, length, map, Option, Some, if◌then◌else◌, refl, sym, subst, ◌∙◌, ap}
 use Rattle.uring_epochs.proofs.Common.{Answer, CalledForFrom, CrashMachine, EndsOn, Epoch, FileContents, FitsApart, FitsRun, History, IsFinished, IsLawfulApart, IsNoFinish, IsOutcome, IsRun, Log, Op, Requests, Setup, Step, World, after, entry_of, files_from, finished_as, issued_as, log_from, logged, logs_on, operation_of, operation_running, result_of, with_step, world}
 use Rattle.uring_entry.specs.declared.operation.Outcome.{Outcome}
 use Rattle.uring_core.specs.StepAnswers.{CalledForApart}
@@ -113,12 +113,6 @@ finish_fits m m' n a op outcome e earlier same units allowed leaves logs goes fi
     let p = parts_finish g m.unit m.files m'.files m.logs e earlier n op outcome is allowed leaves (parts_of m e earlier f) in
     built m' g m.unit m'.files _ (with_step (step.Finish n) a e) earlier same units refl logs (goes e.history f.core)
     (subst (λ (b : Answer). Parts g m.unit m'.files (map (λ log. finished_as n (Some op) b log) m.logs) (with_step (step.Finish n) b e) earlier) (sym ends) p)
-
--- what has no operation to carry out isn't running
-not_running : {X : Type 0} (op : X) (running : Bool) → None ≡ (if running then Some op else None)
-    → running ≡ false
-not_running op true e = absurd cc
-not_running op false e = refl
 
 logged_other : (r q : Requests) (s : Step) (a : Answer) (log : Log) → ((n : ℕ) → s ≡ step.Issue n → ⊥)
     → ((n : ℕ) → s ≡ step.Finish n → ⊥) → log ≡ logged r q s a log

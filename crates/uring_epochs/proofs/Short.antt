@@ -1,12 +1,6 @@
 -- That no file of a volume gets longer than files may be, and so no image does.
 use Rattle.std.proofs.Common.{◌≤◌, ◌+◌, ◌==◌, ℕ, max, List, [], ◌∷◌, length, refl, sym, subst, inl, inr, arith}
-use Rattle.uring_epochs.proofs.Common.{IsImage, IsIn, IsShort, Volume, Write, cases_Bool, cond-false, cond-true, end_of, length_over, max_len, writes}
-
-ends_by : (w : Write) → w.off + length w.bytes ≤ max_len → end_of w ≤ max_len
-ends_by w short = elim (cases_Bool (length w.bytes == 0)) [
-  | inl none ↦ omega (arith, cond-true (length w.bytes == 0) 0 (w.off + length w.bytes) none)
-  | inr some ↦ omega (arith, short, cond-false (length w.bytes == 0) 0 (w.off + length w.bytes) some)
-]
+use Rattle.uring_epochs.proofs.Common.{IsImage, IsIn, IsShort, Volume, Write, end_of, length_over, max_len, writes}
 
 longest : (len : ℕ) (order : List Write) → len ≤ max_len → ((w : Write) → IsIn w order → end_of w ≤ max_len)
     → length_over len order ≤ max_len

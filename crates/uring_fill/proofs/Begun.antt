@@ -1,5 +1,5 @@
 -- Lists that begin with others.
-use Rattle.std.proofs.Common.{◌≡◌, ℕ, List, [], ◌∷◌, ◌++◌, length, Some, None, refl, sym, ap, subst, ◌∙◌, append_assoc, append-nil, arith}
+use Rattle.std.proofs.Common.{◌≡◌, List, [], ◌∷◌, ◌++◌, length, Some, None, refl, sym, ap, subst, ◌∙◌, append_assoc, append-nil}
 use Rattle.uring_fill.proofs.Common.{Begins, slice_get}
 
 pub begins_itself : {X : Type 0} (xs : List X) → Begins xs xs
@@ -40,14 +40,3 @@ pub begins_next : {X : Type 0} (xs : List X) (x : X) (all : List X) → Begins x
     → slice_get all (length xs) ≡ Some x → Begins (xs ++ x ∷ []) all
 begins_next xs x all b e =
     subst (λ l. Begins (xs ++ x ∷ []) l) (sym b.is) (first_after xs b.rest x (sym (ap (λ l. slice_get l (length xs)) b.is) ∙ e))
-
--- a beginning that is as long as the list is the list
-same_long : {X : Type 0} (xs rest : List X) → length xs ≡ length (xs ++ rest) → xs ≡ xs ++ rest
-same_long [] [] e = refl
-same_long [] (y ∷ rest) e = absurd (let f : ◌≡◌ {A = ℕ} 0 (length (y ∷ rest)) = e in omega (arith, f))
-same_long (y ∷ xs) rest e =
-    ap (λ l. y ∷ l) (same_long xs rest (let f : length (y ∷ xs) ≡ length (y ∷ (xs ++ rest)) = e in omega (arith, f)))
-
-pub begins_whole : {X : Type 0} (xs all : List X) → Begins xs all → length xs ≡ length all → xs ≡ all
-begins_whole xs all b e =
-    same_long xs b.rest (e ∙ ap (λ l. length l) b.is) ∙ sym b.is

@@ -14,7 +14,7 @@ pub use Rattle.uring_entry.specs.Below.{all_below, count_below, found_or, least_
 pub use Rattle.uring_entry.specs.Groups.{IsGroup, earlier_of, first_broken, is_before}
 unfoldable pub use Rattle.uring_entry.specs.Groups.{first_member}
 pub use Rattle.uring_entry.specs.Layout.{Sqe, addr_of, user_data_of}
-pub use Rattle.uring_entry.specs.Preparation.{fault_of, is_cancel, is_cancel_all, is_faulty, operation_of}
+pub use Rattle.uring_entry.specs.Preparation.{fault_of, is_cancel_all, is_faulty, operation_of}
 pub use Rattle.uring_entry.specs.Requests.{Requests, entry_of, has_ended, has_failed, has_started, is_drain, is_in_group, is_last, is_linked, is_outstanding, is_running, is_soft, least_of, no_bytes, no_request, outstanding_in, running_in, with_accepted, with_cut, with_ended, with_started}
 unfoldable pub use Rattle.uring_entry.specs.Requests.{is_after_failure, is_joined}
 pub use Rattle.uring_entry.specs.Success.{is_success}

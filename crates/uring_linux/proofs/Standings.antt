@@ -1,6 +1,6 @@
 -- How a request stands, from what is kept of it, and what its issue is answered.
 use Rattle.std.proofs.Common.{◌≡◌, ℕ, ◌<◌, ℤ, length, Bool, true, false, not, ◌&&◌, ◌||◌, leb, Option, Some, None, is_some, refl, sym, ◌∙◌, ap, subst, arith, inl, inr, List, set, ◌-◌, ◌≤◌, ◌⊎◌}
-use Rattle.uring_linux.proofs.Common.{Drains, KeptDrains, LinuxDispatch, LinuxRequests, Request, Requests, Shows, ShowsRequests, Tells, Window, after_going_on, and_from, and_left, and_parts, and_right, at, both_ways, cancel_result, cases_Bool, cases_lt, comes_past, dispatch_of, doomed_result, end_of, ended_with, entry_of, fault_of, first_member, found_by, has_ended, has_fault, if◌then◌else◌, is_cancel, is_cancel_all, is_deferred, is_doomed, is_faulty, is_in_faulty_group, is_in_group, is_in_own_group, is_in_turn, is_issuable, is_let_in, is_outstanding, is_running, issued, issued_ready, le-leb, le-ltb, least_below, least_below_same, least_of, lt-leb, lt-ltb, neg_ℤ, not-true, one_if, operation_of, or_left, or_parts, some_below_some}
+use Rattle.uring_linux.proofs.Common.{Drains, KeptDrains, LinuxDispatch, LinuxRequests, Request, Requests, Shows, ShowsRequests, Tells, Window, after_going_on, and_from, and_left, and_parts, and_right, at, both_ways, cancel_result, cases_Bool, cases_lt, comes_past, dispatch_of, doomed_result, end_of, ended_with, entry_of, fault_of, first_member, found_by, has_ended, has_fault, if◌then◌else◌, is_cancel_all, is_deferred, is_doomed, is_faulty, is_in_faulty_group, is_in_group, is_in_own_group, is_in_turn, is_issuable, is_let_in, is_outstanding, is_running, issued, issued_ready, le-leb, le-ltb, least_below, least_below_same, least_of, lt-leb, lt-ltb, neg_ℤ, not-true, one_if, or_left, or_parts, some_below_some}
 use Rattle.uring_linux.specs.LinuxRequests.{with_started, with_ended}
 use Rattle.uring_entry.specs.declared.fault.Fault.{Fault}
 use Rattle.uring_entry.specs.Success as success
@@ -8,8 +8,7 @@ use Rattle.uring_entry.specs.Requests as manual
 use Rattle.uring_entry.specs.declared.errno.TheConstants.{ENOENT, EALREADY}
 use Rattle.uring_dispatch.specs.declared.answers.Posts.{Posts}
 use Rattle.uring_linux.specs.declared.answers.Issued.{Issued}
-use Rattle.uring_linux.specs.declared.answers.Issued.TheVariants.{Run, Ended, NotReady, Running, Unknown}
-use Rattle.uring_linux.specs.Laws.{is_refusal}
+use Rattle.uring_linux.specs.declared.answers.Issued.TheVariants.{Ended, NotReady, Running, Unknown}
 use Rattle.uring_linux.proofs.WindowLemmas.{not_none}
 use Rattle.uring_linux.proofs.WindowCounts.{dispatch_shows}
 use Rattle.uring_linux.proofs.WindowEvents.{at_within, roomed}
@@ -148,25 +147,6 @@ dispatch_ended s t d k b room left between amid l n q res bytes failed h here go
     (f r shows ∙ ap (λ (x : Drains). record x { deferred = after_going_on r x.deferred }) h.held.drains) h.held.skipped
 
 -- What can be issued.
-
-issuable_asked : (o run turn doomed deferred cancel : Bool) (x y : Issued) → is_refusal x ≡ false → is_refusal y ≡ false
-    → (o && (not run && (turn && (doomed || not deferred)))) ≡ not (is_refusal (ask o run turn doomed deferred x y))
-issuable_asked false run turn doomed deferred cancel x y a b = refl
-issuable_asked true true turn doomed deferred cancel x y a b = refl
-issuable_asked true false false doomed deferred cancel x y a b = refl
-issuable_asked true false true true deferred cancel x y a b = sym (ap not a)
-issuable_asked true false true false true cancel x y a b = refl
-issuable_asked true false true false false cancel x y a b = sym (ap not b)
-
-ready_goes : (r : Requests) (n : ℕ) → is_refusal (issued_ready r n) ≡ false
-ready_goes r n = go (is_cancel (entry_of r n))
-  where
-    go : (b : Bool) → is_refusal (if b then ended_with r n (cancel_result r n) else Run (operation_of (entry_of r n))) ≡ false
-    go true = refl
-    go false = refl
-
-pub issuable_is : (l : LinuxRequests) (n : ℕ) → is_issuable l n ≡ not (is_refusal (issued l n))
-issuable_is l n = issuable_asked (is_outstanding l.requests n) (is_running l.requests n) (is_in_turn l.requests n) (is_doomed l.requests n) (is_deferred l n) false (ended_with l.requests n (doomed_result l.requests n)) (issued_ready l.requests n) refl (ready_goes l.requests n)
 
 pub some_running : (b : Bool) (p q : Posts) → Some q ≡ (if b then Some p else None) → b ≡ true
 some_running true p q e = refl

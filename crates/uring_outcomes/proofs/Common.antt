@@ -19,7 +19,6 @@ pub use Rattle.uring_core.specs.declared.answer.Answer.{Answer}
 pub use Rattle.uring_dispatch.specs.Dispatch.{Dispatch, FinishCounts, ShowsRequests}
 pub use Rattle.uring_entry.proofs.BelowLemmas.{least_below_same, least_below_some, least_below_tells}
 pub use Rattle.uring_entry.proofs.RequestLemmas.{is_doomed_own_fault, list_any_push}
-pub use Rattle.uring_entry.specs.Completions.{Completions, completion_for, next_to_reap, put_by_flush, with_end, with_flushed, with_head_stored, with_reaped, with_tail_loaded}
 pub use Rattle.uring_entry.specs.Layout.{Cqe, Sqe, addr_of, user_data_of, zero_entry}
 pub use Rattle.uring_entry.specs.Preparation.{fault_of, is_cancel, is_cancel_all, is_faulty, operation_of}
 pub use Rattle.uring_entry.specs.Requests.{Requests, cancel_result, chosen_by, count_result, doomed_result, entry_of, entry_outstanding, has_ended, has_started, is_candidate, is_issuable, is_outstanding, is_running, is_target, no_bytes, no_request, operation_running, outstanding_in, result_for, with_call, with_ended, with_issued_end, with_started}

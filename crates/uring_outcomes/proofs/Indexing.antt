@@ -2,15 +2,12 @@
 use Rattle.std.proofs.Common.{◌≡◌, ℕ, ◌+◌, Bool, true, false, List, [], ◌∷◌, ◌++◌, Some, None, refl, sym, subst, ap, ◌∙◌, cond}
 use Rattle.uring_outcomes.proofs.Common.{Contains, Contains-append_left, Contains-push, Ending, Global, HasPlace, IsSomeAnd, NotesPlace, Vec, both_ways, eq-eqb, eqb-true, nat_eq, slice_get}
 use Rattle.std.specs.HashMap.{HashMap, get}
-use Rattle.std.proofs.lemmas.Option.{slice_get-get_or, slice_get_within, get_or_from_slice_get}
+use Rattle.std.proofs.lemmas.Option.{slice_get-get_or}
 
 -- what stands in a list stands at a place of it
 pub place_of : (xs : List Ending) (e : Ending) → Contains xs e → (k : ℕ) × (slice_get xs k ≡ Some e)
 place_of xs e there =
     (there.0, slice_get-get_or xs there.0 e there.1 ∙ ap (λ x. Some x) there.2)
-
-pub at_place : (xs : List Ending) (e : Ending) (k : ℕ) → slice_get xs k ≡ Some e → Contains xs e
-at_place xs e k is = (k, slice_get_within xs k e is, get_or_from_slice_get xs k e e is)
 
 -- the places that were known for a mark, and one more, are noted for it
 pub noted_more : {S : Type 0} (old mid new : HashMap ℕ (Vec ℕ Global) S) (known more : Vec ℕ Global) (mark place : ℕ)

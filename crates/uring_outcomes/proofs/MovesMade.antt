@@ -1,6 +1,7 @@
 -- Each list of moves is made by some lawful history of the manual pages' rules: from a world that shows the moment, move by move.
 use Rattle.std.proofs.Common.{◌≡◌, ℕ, ◌+◌, ◌-◌, ◌^◌, ◌≤◌, ℤ, Bool, true, false, not, ◌&&◌, ◌||◌, nat_lt, List, [], ◌∷◌, ◌++◌, length, map, Some, None, if◌then◌else◌, refl, sym, subst, ap, ◌∙◌, arith, append_assoc, append-nil}
-use Rattle.uring_outcomes.proofs.Common.{All, All-head, All-tail, Answer, Completions, FileContents, Moment, Move, Outcome, Published, Requests, Setup, Sqe, Submission, World, after, after_moves, and_parts, bad_word, by_manual, cancel_result, doomed_result, ended_at_once, entries_from, entries_in, entry_of, finished, happens, is_cancel, is_doomed, is_finishable, is_issuable, is_outstanding, is_ready, is_running, issue_answer, issued, items_in, le-ltb, length-append, length-map, map-append, no_bytes, operation_of, option_and_then, posted_with, published_items, result_of, started, taken, unwrap_or, with_call, with_end, with_entry, with_event}
+use Rattle.uring_outcomes.proofs.Common.{All, All-head, All-tail, Answer, FileContents, Moment, Move, Outcome, Published, Requests, Setup, Sqe, Submission, World, after, after_moves, and_parts, bad_word, by_manual, cancel_result, doomed_result, ended_at_once, entries_from, entries_in, entry_of, finished, happens, is_cancel, is_doomed, is_finishable, is_issuable, is_outstanding, is_ready, is_running, issue_answer, issued, items_in, le-ltb, length-append, length-map, map-append, no_bytes, operation_of, option_and_then, posted_with, published_items, result_of, started, taken, unwrap_or, with_call, with_entry, with_event}
+use Rattle.uring_entry.specs.Completions.{Completions, with_end}
 use Rattle.uring_core.specs.declared.step.Step.TheVariants as step
 use Rattle.uring_core.specs.declared.answer.Answer.TheVariants as answer
 use Rattle.uring_laws.specs.Standing.{Stands, with_item, with_items, after_call}

@@ -75,18 +75,6 @@ issue_moves m n a is =
     subst (λ x. IssueMoves m n x (moved m (move.Issue n))) (sym is)
     (moves_by m n (is_outstanding r n) (is_running r n) (is_doomed r n) (is_ready r n) (is_cancel (entry_of r n)) (doomed_result r n) (cancel_result r n) (operation_of (entry_of r n)))
 
-ended_by : (outstanding running doomed ready cancel : Bool) (as_doomed as_cancel res : ℤ) (op : Op)
-    → Ended res ≡ answer_by outstanding running doomed ready cancel as_doomed as_cancel op
-    → outstanding ≡ true
-ended_by true running doomed ready cancel as_doomed as_cancel res op e = refl
-ended_by false running doomed ready cancel as_doomed as_cancel res op e = absurd cc
-
--- what ended as it was issued was outstanding
-pub ended_outstanding : (r : Requests) (n : ℕ) (res : ℤ) → Ended res ≡ asked.issued r n
-    → is_outstanding r n ≡ true
-ended_outstanding r n res e =
-    ended_by (is_outstanding r n) (is_running r n) (is_doomed r n) (is_ready r n) (is_cancel (entry_of r n)) (doomed_result r n) (cancel_result r n) res (operation_of (entry_of r n)) e
-
 -- the entry that is told of a request
 entry_by : (outstanding : Bool) (e told : Sqe) → Some told ≡ (if outstanding then Some e else None) → told ≡ e
 entry_by true e told is = cc

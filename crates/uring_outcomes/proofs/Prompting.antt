@@ -161,11 +161,6 @@ follow_by named g calls m next there x f made idle s is fewer named_too = record
   named_too = named_too;
 }
 
--- who runs where fewer started runs
-idle_there : (r : Requests) (s : List ℕ) (n : ℕ) → (has_started r n ≡ true → IsAmong s n)
-    → is_running (with_starts r s) n ≡ false → is_running r n ≡ false
-idle_there r s n fewer idle = grind arith
-
 run_same : (named : ℕ → Bool) (g : Setup) (calls : List (List Sqe)) (m : Moment) (f : IsFollowed named g calls m)
     → RunSame named f.there.requests f.starts
 run_same named g calls m f k names = grind (arith, f.fewer k, f.named_too k names)

@@ -1,6 +1,7 @@
 -- The application reaps all that was posted, one completion after the other: each time the dispatcher flushes, and the application loads the tail, reaps, and stores the head.
 use Rattle.std.proofs.Common.{◌≡◌, ℕ, ◌+◌, ◌-◌, ◌≤◌, List, [], ◌∷◌, ◌++◌, length, Some, None, if◌then◌else◌, refl, sym, ap, ◌∙◌, arith, append_assoc, append-nil, slice_get}
-use Rattle.uring_outcomes.proofs.Common.{Answer, Completions, Cqe, FileContents, Move, Setup, World, happens, length-append, ne_eqb, next_to_reap, put_by_flush, reap_answer_of, with_flushed, with_head_stored, with_reaped, with_tail_loaded}
+use Rattle.uring_outcomes.proofs.Common.{Answer, Cqe, FileContents, Move, Setup, World, happens, length-append, ne_eqb, reap_answer_of}
+use Rattle.uring_entry.specs.Completions.{Completions, next_to_reap, put_by_flush, with_flushed, with_head_stored, with_reaped, with_tail_loaded}
 use Rattle.uring_entry.specs.IndexWords.{word_of}
 use Rattle.uring_core.specs.declared.step.Step.TheVariants as step
 use Rattle.uring_core.specs.declared.answer.Answer.TheVariants as answer

@@ -4,7 +4,7 @@ use Rattle.uring_outcomes.proofs.Common.{Contains, HasBelow, HasNext, IsNextUnna
 use Rattle.uring_outcomes.specs.declared.move_of_calls.Move.TheVariants as move
 use Rattle.uring_outcomes.proofs.MovesLead.{one_move_more}
 use Rattle.uring_outcomes.proofs.Covering.{moves_after}
-use Rattle.uring_outcomes.proofs.Moving.{not_made, issue_can, finish_can, issuable_accepted, finishable_tells}
+use Rattle.uring_outcomes.proofs.Moving.{not_made}
 
 -- what is so of a move that was made, and of one that wasn't
 pub record IsMade (P : Moment → Type 0) (o : Option Moment) : Type 0 where
@@ -80,12 +80,6 @@ led_nowhere_at calls m path k d old new made low led is makes =
 
 -- What can be made next.
 
-pub none_below : (m : Moment) (xs : List Move) → HasBelow m 0 xs
-none_below m xs = record {
-  issues = λ n low can. absurd (omega (arith, low));
-  finishes = λ n low can. absurd (omega (arith, low));
-}
-
 pub more_below : (m : Moment) (k : ℕ) (old new : List Move) → HasBelow m k old
     → ((x : Move) → Contains old x → Contains new x)
     → (is_issuable m.requests k ≡ true → Contains new (move.Issue k))
@@ -105,20 +99,6 @@ more_below m k old new below kept issue finish = record {
         subst (λ j. Contains new (move.Finish j)) same (finish (subst (λ j. is_finishable m.requests j ≡ true) (sym same) can))
   ];
 }
-
-pub has_all : (m : Moment) (count : ℕ) (xs : List Move) → length m.requests.accepted ≤ count
-    → ((next : Moment) → moved m move.Accept ≡ Some next → Contains xs move.Accept)
-    → HasBelow m count xs
-    → (x : Move) (next : Moment) → moved m x ≡ Some next → Contains xs x
-has_all m count xs all accepts below move.Accept next is = accepts next is
-has_all m count xs all accepts below (move.Issue n) next is =
-    let can : is_issuable m.requests n ≡ true = issue_can m next n is in
-    let low : n < length m.requests.accepted = issuable_accepted m.requests n can in
-    below.issues n (omega arith) can
-has_all m count xs all accepts below (move.Finish n) next is =
-    let can : is_finishable m.requests n ≡ true = finish_can m next n is in
-    let low : n < length m.requests.accepted = (finishable_tells m.requests n can).0 in
-    below.finishes n (omega arith) can
 
 -- every move that can be made is among these, and so each direct one
 pub next_any : (names : List ℕ) (m : Moment) (xs : List Move)

@@ -2,10 +2,8 @@
 use Rattle.std.proofs.Common.{◌≡◌, ℕ, ◌+◌, ◌<◌, ◌≤◌, ℤ, true, List, [], ◌∷◌, ◌++◌, length, drop, get_or, Option, Some, None, if◌then◌else◌, refl, sym, subst, ap, ap₂, ◌∙◌, arith}
 use Rattle.std.specs.Borrow.{Bor}
 use Rattle.std.specs.Slice.{IsItemAt}
-use Rattle.uring_outcomes.proofs.Common.{Cqe, Dispatch, FinishCounts, Global, IsForFiles, MadeAs, Moment, Move, Op, Outcome, Requests, Run, Setup, ShowsRequests, Sqe, StandsAt, Vec, after, completion_for, empty_files, ended_at_once, entries_of, entry_of, entry_outstanding, finished, is_running, moved, no_bytes, no_request, operation_of, operation_running, posted_with, result_of, started, starting, with_call, with_ended, with_issued_end, with_started}
-use Rattle.uring_entry.specs.Success.{posts_completion}
+use Rattle.uring_outcomes.proofs.Common.{Dispatch, FinishCounts, Global, IsForFiles, MadeAs, Moment, Move, Op, Outcome, Requests, Run, Setup, ShowsRequests, Sqe, StandsAt, Vec, after, empty_files, ended_at_once, entries_of, entry_of, entry_outstanding, finished, is_running, moved, no_bytes, no_request, operation_of, operation_running, posted_with, result_of, started, starting, with_call, with_ended, with_issued_end, with_started}
 use Rattle.uring_dispatch.specs.IssueAndFinish as asked
-use Rattle.uring_dispatch.specs.declared.answers.Issued.{Issued}
 use Rattle.uring_dispatch.specs.declared.answers.Issued.TheVariants as answer
 use Rattle.uring_dispatch.specs.declared.answers.Finished.{Finished}
 use Rattle.uring_dispatch.specs.declared.answers.Finished.TheVariants as finish
@@ -81,12 +79,6 @@ issue_ends calls old new m n res entry at is told shows between posted files nex
     (posted ∙ ap₂ (λ ps e. posted_with ps e res no_bytes) at.posted (entry_told m.requests n entry told))
     (files ∙ at.files) (at.left ∙ ap (λ k. drop k calls) (sym next))
 
--- an issue that is refused
-abbrev pub IsRefused : Issued → Type 0
-IsRefused (answer.Run op) = ⊥
-IsRefused (answer.Ended res) = ⊥
-IsRefused _ = Unit {0}
-
 -- A finish.
 
 -- what runs can be asked of files
@@ -139,14 +131,6 @@ pub finish_between : (a : Finished) (old new : Dispatch) → FinishCounts a old 
 finish_between finish.Ended old new counts between = counts.between ∙ between
 finish_between finish.NotRunning old new counts between =
     ap (λ (d : Dispatch). d.is_between_calls) counts ∙ between
-
--- What the end of a request posts.
-
-pub posts : (old : List Cqe) (entry : Sqe) (res : ℤ) (bytes : List ℕ) (c : Cqe)
-    → posts_completion entry res ≡ true → c ≡ completion_for entry res bytes
-    → old ++ c ∷ [] ≡ posted_with old entry res bytes
-posts old entry res bytes c told is =
-    ap (λ x. old ++ x ∷ []) is ∙ sym (ap (λ b. if b then old ++ completion_for entry res bytes ∷ [] else old) told)
 
 -- the call that is got
 pub call_there : (calls : List (Vec Sqe Global)) (k : ℕ) (call : Bor (Vec Sqe Global))

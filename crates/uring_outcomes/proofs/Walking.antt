@@ -15,11 +15,6 @@ pub both_ok : {T E : Type 0} (r : Result T E) (P Q R : T → Type 0) → ((x : T
 both_ok (Ok x) P Q R f p q = f x p q
 both_ok (Err e) P Q R f p q = tt
 
-pub path_pushed : (old new : List (Vec Move Global)) (v : Vec Move Global) (path : List Move)
-    → new ≡ old ++ v ∷ [] → v.items ≡ path → paths_of new ≡ paths_of old ++ path ∷ []
-path_pushed old new v path is holds =
-    ap paths_of is ∙ map-append (λ (p : Vec Move Global). p.items) old (v ∷ []) ∙ ap (λ p. paths_of old ++ p ∷ []) holds
-
 -- The user data that cancels name.
 
 pub among_kept : (names more : List ℕ) (u : ℕ) → among names u ≡ true → among (names ++ more) u ≡ true

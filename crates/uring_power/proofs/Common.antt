@@ -15,7 +15,6 @@ pub use Rattle.uring_outcomes.specs.Moments.{Moment, after_moves, ended_at_once,
 pub use Rattle.uring_outcomes.specs.Runs.{MadeAs, StandsAt, called_in, entries_of}
 pub use Rattle.uring_outcomes.specs.Walks.{BeginsIn, paths_of}
 pub use Rattle.uring_outcomes.specs.declared.move_of_calls.Move.{Move}
-pub use Rattle.uring_power.specs.Found.{AreAllCrashes, IsReason}
 pub use Rattle.uring_power.specs.Moves.{CanShow, log_along, log_moved, log_past}
 pub use Rattle.uring_power.specs.Shown.{AreLeft, Crash, HasBegun}
 pub use Rattle.uring_power.specs.Trials.{AreLeftOf, AreShown, HasMade, HasTried, IsCrowdedBy, IsShownAfter, IsTooMany, IsWalk, Shows, TakesPath, Widens, logs_after, spread_over, with_file}

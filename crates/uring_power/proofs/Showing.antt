@@ -1,6 +1,7 @@
 -- What may be left of files, with one file more; and what is shown after moves, by the logs that they make.
 use Rattle.std.proofs.Common.{◌≡◌, ℕ, suc, ◌+◌, ◌<◌, pos, Bool, true, false, ◌||◌, inl, inr, List, [], ◌∷◌, ◌++◌, length, get_or, map, Option, Some, None, Result, Ok, Err, if◌then◌else◌, refl, sym, subst, ap, ap₂, ◌∙◌, arith}
-use Rattle.uring_power.proofs.Common.{AreLeftOf, AreShown, Contains, Cqe, Crash, HasMade, IfErr, IsCrowdedBy, IsErrAnd, IsImage, IsIn, IsReason, IsShownAfter, IsTooMany, Log, Moment, Move, Op, Setup, Shows, Sqe, Widens, empty_log, entry_of, file_at, first_at, first_files, first_many, get_or_append_left, is_cancel, is_doomed, length-append, length-map, log_along, log_moved, log_on, log_past, logs_after, logs_at, logs_on, moved, operation_of, option_map, result_of, slice_get, slice_index_or, spread_over, starting, with_file}
+use Rattle.uring_power.proofs.Common.{AreLeftOf, AreShown, Contains, Cqe, Crash, HasMade, IfErr, IsCrowdedBy, IsErrAnd, IsImage, IsIn, IsShownAfter, IsTooMany, Log, Moment, Move, Op, Setup, Shows, Sqe, Widens, empty_log, entry_of, file_at, first_at, first_files, first_many, get_or_append_left, is_cancel, is_doomed, length-append, length-map, log_along, log_moved, log_on, log_past, logs_after, logs_at, logs_on, moved, operation_of, option_map, result_of, slice_get, slice_index_or, spread_over, starting, with_file}
+use Rattle.uring_power.specs.Found.{IsReason}
 use Rattle.std.proofs.Math.Seq.{get_or-append_seam}
 use Rattle.std.proofs.lemmas.Option.{slice_get-map, slice_get_within, slice_get_read}
 use Rattle.uring_files.specs.Contents.{FileContents}

@@ -1,21 +1,13 @@
 -- That a walk covers all lists of moves: `path_taken` when a path is taken, `no_path` when it can't be made, and `all_found` when none is left.
-use Rattle.std.proofs.Common.{◌≡◌, ℕ, List, [], ◌∷◌, ◌++◌, map, Option, Some, None, refl, sym, subst, ap, ◌∙◌, arith, ◌⊎◌, inl, inr, append_assoc, append-nil}
-use Rattle.uring_power.proofs.Common.{AreAllCrashes, AreShown, BeginsIn, Contains, Crash, IsShownAfter, IsWalk, Moment, Move, Setup, Sqe, TakesPath, after_moves, logs_after, moved, option_and_then, starting}
+use Rattle.std.proofs.Common.{◌≡◌, ℕ, List, [], ◌∷◌, ◌++◌, map, Option, Some, None, refl, sym, subst, ap, ◌∙◌, ◌⊎◌, inl, inr, append_assoc, append-nil}
+use Rattle.uring_power.proofs.Common.{AreShown, BeginsIn, Contains, Crash, IsShownAfter, Moment, Move, Setup, Sqe, TakesPath, after_moves, logs_after, moved, option_and_then, starting}
 use Rattle.std.proofs.lemmas.List.Elements.{Contains-append_left, Contains-append_right, Contains-append_cases, Contains-push_cases}
 use Rattle.uring_outcomes.proofs.Covering.{moves_after}
-use Rattle.uring_power.proofs.Lists.{none_there, contained, is_in, in_map}
+use Rattle.uring_power.proofs.Lists.{contained, is_in, in_map}
 use Rattle.uring_power.proofs.Showing.{shown_after, shows_after}
 
 same_some : (m n : Moment) → Some m ≡ Some n → m ≡ n
 same_some m n e = cc
-
--- The beginning.
-
-pub at_first : (unit : ℕ) (g : Setup) (calls : List (List Sqe)) → IsWalk unit g calls ([] ∷ []) []
-at_first unit g calls = record {
-  covered = λ moves last c leads shown. inr (record { path = []; rest = moves; there = (0, omega arith, refl); is = refl });
-  right = λ c there. absurd (none_there c there);
-}
 
 -- A path is taken, whose moves lead to this moment.
 
@@ -90,13 +82,3 @@ no_path unit g calls path todo found none walk = record {
 }
 
 -- None is left.
-
-pub all_found : (unit : ℕ) (g : Setup) (calls : List (List Sqe)) (found : List Crash) → IsWalk unit g calls [] found
-    → AreAllCrashes unit g calls found
-all_found unit g calls found walk c = (
-  walk.right c,
-  λ can. elim (walk.covered can.moves can.last c can.leads (record { posts = can.posts; left = can.left })) [
-    | inl there ↦ there
-    | inr b ↦ absurd (none_there b.path b.there)
-  ],
-)

@@ -2,4 +2,3 @@ pub mod Views
 pub mod Calls
 pub mod IssueLemmas
 pub mod RulesLemmas
-pub mod RulesEvents

@@ -1,5 +1,5 @@
 -- What is kept stays in its place, so that events that were recorded stay as they are.
-use Rattle.std.proofs.Common.{◌≡◌, ℕ, zero, suc, ◌+◌, ◌<◌, ◌≤◌, List, [], ◌∷◌, ◌++◌, length, get_or, refl, sym, ap, subst, arith, ◌∙◌, length-append, inl, inr}
+use Rattle.std.proofs.Common.{◌≡◌, ℕ, ◌+◌, ◌<◌, ◌≤◌, List, [], ◌∷◌, ◌++◌, length, refl, sym, ap, subst, arith, ◌∙◌, length-append, inl, inr}
 use Rattle.uring_threads.proofs.Common.{AllByRecursion, Event, Sqe, cases_eq, eq-eqb, length-map, map-append, ne_eqb, vec_capacity}
 use Rattle.uring_core.specs.declared.step.Step.TheVariants as step
 use Rattle.uring_core.specs.declared.answer.Answer.TheVariants as answer
@@ -214,11 +214,3 @@ pub events_more : (s u : Store) (briefs now : List Brief) (b : Brief) (event : E
     → events_of u now ≡ events_of s briefs ++ event ∷ []
 events_more s u briefs now b event stays all is told =
     ap (events_of u) is ∙ map-append (event_of u) briefs (b ∷ []) ∙ (λ i. events_stay s u briefs stays all i ++ told i ∷ [])
-
--- what is so of all is so of each
-all_at : {A : Type 0} (P : A → Type 0) (xs : List A) (d : A) (place : ℕ) → AllByRecursion P xs
-    → place < length xs
-    → P (get_or xs place d)
-all_at P [] d place all within = absurd (omega (arith, within))
-all_at P (x ∷ xs) d zero all within = all.0
-all_at P (x ∷ xs) d (suc place) all within = all_at P xs d place all.1 (omega (arith, within))

@@ -1,6 +1,6 @@
 -- The parts of a turn put together: what went through the dispatcher's hands stays tied to its trace, and what they appended adds up.
 use Rattle.std.proofs.Common.{add-zero, zero-add, ◌≡◌, ℕ, List, [], ◌++◌, refl, sym, subst, ap, ◌∙◌, arith, false, true}
-use Rattle.uring_threads.proofs.Common.{Appends, AreOfTurn, AreSameLanes, AreTies, ClosesOnce, Counts, Cqe, HasServed, HaveCarried, IfOk, IfOk-from_err, IfOk-weaker, Intake, IsDelivered, IsErr, IsGivenUpAsSpent, IsKernel, IsOk, IsUnmoved, KeepsAllBut, Kept, Kernel, Ok, OnErr, OnlyPosts, Put, Records, RecordsIntake, RecordsTurn, Repeats, Requests, Result, Setup, Sizes, Sqe, Stands, Submission, TakesFewResults, TakesIn, Tally, Tied, Turn, Turns, WorkLanes, World, calls_left, delivery_row, false≢true, finishes_counted, issues_counted, length, nat_lt, next_in, next_of, now, published_items, reaps_counted, requests_of, waiting_in, ◌+◌, ◌-◌, ◌^◌}
+use Rattle.uring_threads.proofs.Common.{Appends, AreOfTurn, AreSameLanes, AreTies, ClosesOnce, Counts, Cqe, HasServed, HaveCarried, IfOk, IfOk-from_err, IfOk-weaker, Intake, IsDelivered, IsErr, IsGivenUpAsSpent, IsKernel, IsOk, IsUnmoved, KeepsAllBut, Kept, Kernel, OnErr, OnlyPosts, Put, Records, RecordsIntake, RecordsTurn, Repeats, Requests, Result, Setup, Sizes, Sqe, Stands, Submission, TakesFewResults, TakesIn, Tally, Tied, Turn, Turns, WorkLanes, World, calls_left, delivery_row, false≢true, finishes_counted, issues_counted, length, nat_lt, next_in, next_of, now, published_items, reaps_counted, requests_of, waiting_in, ◌+◌, ◌-◌, ◌^◌}
 use Rattle.uring_linux.specs.Drains.{Drains}
 use Rattle.uring_core.specs.declared.step.Step.TheVariants as step
 use Rattle.uring_threads.specs.declared.intake.Intake.TheVariants as intake

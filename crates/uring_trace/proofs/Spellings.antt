@@ -1,7 +1,6 @@
 -- What is read of a line's tokens is what they spell.
 use Rattle.std.proofs.Common.{◌≡◌, ℕ, ◌^◌, ◌<◌, ◌≤◌, Bool, true, false, cond, eqb, List, [], ◌∷◌, length, Option, Some, None, refl, sym, ap, subst, ◌∙◌, arith, inl, inr}
-use Rattle.uring_trace.proofs.Common.{Decides, IsBad, IsStep, MatchOption, Spells, Sqe, Step, bytes_eq-Decides, codes, decimal, eqb-true, find, name_of, nil_from_length, steps}
-use Rattle.std.specs.Option.{option_map}
+use Rattle.uring_trace.proofs.Common.{Decides, IsBad, IsStep, MatchOption, Spells, Sqe, Step, bytes_eq-Decides, codes, decimal, eqb-true, find, name_of, nil_from_length, option_map, steps}
 use Rattle.std.specs.Bool.{MatchBool}
 use Rattle.std.specs.Str.{bytes_eq}
 use Rattle.std.proofs.lemmas.Option.{same_Some}

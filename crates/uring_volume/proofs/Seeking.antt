@@ -35,16 +35,6 @@ painted k now old w same done =
     ext_get_or 0 now (bytes_over k old w) (same ∙ sym (length_bytes_over k old w))
     (λ j within. done j (omega arith) ∙ sym (bytes_over_at k old w j (omega arith)))
 
-pub one_byte_more : (first : List ℕ) (k n : ℕ)
-    → bytes_from first k (n + 1) ≡ bytes_from first k n ++ get_or first (k + n) 0 ∷ []
-one_byte_more first k zero =
-    let here : k ≡ k + 0 = omega arith in ap (λ j. get_or first j 0 ∷ []) here
-one_byte_more first k (suc n) =
-    let more : suc n + 1 ≡ suc (n + 1) = omega arith in
-    let there : suc k + n ≡ k + suc n = omega arith in
-    ap (bytes_from first k) more
-    ∙ ap (λ bs. get_or first k 0 ∷ bs) (one_byte_more first (suc k) n ∙ ap (λ j. bytes_from first (suc k) n ++ get_or first j 0 ∷ []) there)
-
 -- two lists of references, from index i on
 pub pairs_from : {X Y : Type 0} (f : X → Y) (same : Y → Y → Bool) (xs ys : List X) (i : ℕ) (x y : X)
     → i < length xs → length xs ≡ length ys → x ≡ get_or xs i x → y ≡ get_or ys i y

@@ -1,6 +1,6 @@
 -- Lists of references, and which of their writes a choice takes.
 use Rattle.std.proofs.Common.{◌≡◌, ◌<◌, ◌≤◌, ◌+◌, ◌-◌, ℕ, zero, suc, Bool, true, false, List, [], ◌∷◌, ◌++◌, length, get_or, map, take, drop, take-add, append_assoc, refl, sym, subst, ap, ◌∙◌, inl, inr, add-one, arith}
-use Rattle.uring_volume.proofs.Common.{History, Write, append-nil, cases_Bool, chosen, cond-false, cond-true, drop_all, filter, has_safe, is_safe, length-drop, length-map, length-take-le, list_any, list_any-append, map-append, named, or_from, or_left, or_right, take-map, take_all, take_more, up_to_safe, waits_for_one, without}
+use Rattle.uring_volume.proofs.Common.{History, Write, append-nil, cases_Bool, chosen, cond-false, cond-true, drop_all, filter, has_safe, is_safe, length-drop, length-map, length-take-le, list_any, map-append, named, or_from, or_left, or_right, take-map, take_all, up_to_safe, waits_for_one, without}
 use Rattle.std.proofs.Math.Seq.{drop-cons}
 use borrow.Rule.Slice.PartMut.{put_mid}
 use Rattle.uring_volume.proofs.Sorting.{past_first, after_first}
@@ -71,16 +71,6 @@ one_less f p xs n i x e within at out none =
     ∙ or_from (p (get_or (map f xs) i (f x))) (list_any p (drop (suc i) (map f xs)))
     (ap p (get_map f xs i x ∙ ap f (sym at)) ∙ out)
     (subst (λ j. list_any p (drop j (map f xs)) ≡ false) e none)
-
-pub one_more : {X : Type 0} (f : X → Write) (p : Write → Bool) (xs : List X) (i : ℕ) (x : X)
-    → i < length xs → x ≡ get_or xs i x → p (f x) ≡ false
-    → list_any p (map f (take i xs)) ≡ false → list_any p (map f (take (i + 1) xs)) ≡ false
-one_more f p xs i x within at out none =
-    ap (λ ys. list_any p (map f ys)) (take_more xs i x within)
-    ∙ ap (list_any p) (map-append f (take i xs) (get_or xs i x ∷ []))
-    ∙ list_any-append p (map f (take i xs)) (f (get_or xs i x) ∷ [])
-    ∙ or_from (list_any p (map f (take i xs))) (list_any p (f (get_or xs i x) ∷ [])) none
-    (or_from (p (f (get_or xs i x))) false (ap (λ y. p (f y)) (sym at) ∙ out) refl)
 
 pub one_found : {X : Type 0} (f : X → Write) (p : Write → Bool) (xs : List X) (i : ℕ) (x : X)
     → i < length xs → x ≡ get_or xs i x → p (f x) ≡ true → list_any p (map f xs) ≡ true

@@ -1,5 +1,6 @@
 use Rattle.std.proofs.Common.{◌≡◌, List, ◌∷◌, ◌++◌, [], map, sym, subst, ap, ◌∙◌}
-use Rattle.uring_power.proofs.Common.{AreShown, Cqe, Crash, HasMade, IsReason, Log, Move, TakesPath, entries_of, logs_after, paths_of}
+use Rattle.uring_power.proofs.Common.{AreShown, Cqe, Crash, HasMade, Log, Move, TakesPath, entries_of, logs_after, paths_of}
+use Rattle.uring_power.specs.Found.{IsReason}
 use Rattle.uring_power.proofs.Showing.{err_told, reason_of}
 use Rattle.uring_power.proofs.Taking.{path_taken}
 use Rattle.uring_power.proofs.walk.Walk.note.Goals as goal
