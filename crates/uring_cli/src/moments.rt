@@ -5,9 +5,10 @@ use crate::lines::{line_of, push_flaw_of};
 use crate::streams::{read_in, write_out};
 use crate::{BAD_LINE, DONE, WRONG, most_of};
 use std::alloc::{AllocError, Global};
+use std::fmt::Write;
 use uring_options::Setup;
 use uring_seen::{Early, check_early};
-use uring_text::{push_named, push_visible_line};
+use uring_text::push_visible_line;
 use uring_trace::Language;
 
 /// What standard input has, judged so, in so many moves at most.
@@ -46,13 +47,9 @@ fn push_found(
     found: Early,
 ) -> Result<(), AllocError> {
     match found {
-        Early::Lawful(steps) => {
-            push_named(&alloc, text, "lawful: ", steps)?;
-            text.push_str(" steps\n")
-        }
+        Early::Lawful(steps) => write!(text, "lawful: {steps} steps\n"),
         Early::Wrong(number) => {
-            push_named(&alloc, text, "line ", number)?;
-            text.push_str(": ")?;
+            write!(text, "line {number}: ")?;
             let line = line_of(alloc, trace, number)?;
             push_visible_line(alloc, text, line.whole().unwrap_or_default())?;
             text.push_str("\nwanted: another answer\n")
@@ -61,8 +58,7 @@ fn push_found(
         Early::Unexplained => text.push_str(UNEXPLAINED),
         Early::GaveUp => text.push_str(GAVE_UP),
         Early::Bad(number) => {
-            push_named(&alloc, text, "line ", number)?;
-            text.push_str(": bad line\nwhy: ")?;
+            write!(text, "line {number}: bad line\nwhy: ")?;
             push_flaw_of(alloc, text, trace, number, Language::Records)
         }
     }

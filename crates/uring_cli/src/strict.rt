@@ -6,8 +6,8 @@ use crate::streams::write_error;
 use crate::{BAD_LINE, DONE};
 use std::alloc::{AllocError, Global};
 use std::cmp::min;
+use std::fmt::Write;
 use std::io::{self, BufRead, BufReader, ErrorKind, Read, Stdin};
-use uring_text::push_named;
 use uring_trace::{Language, TraceFault, read_step};
 
 /// Most bytes of a line that is handed on, its end among them: a longer one is bad.
@@ -103,10 +103,9 @@ pub(crate) fn tell_bad_step(rt: &HostRuntime, input: &StrictReader) -> Result<u8
     if !input.is_bad {
         return Ok(DONE);
     }
-    let alloc = rt.alloc();
+    let (alloc, number) = (rt.alloc(), input.number);
     let mut note = String::new(alloc);
-    push_named(&alloc, &mut note, "uring: line ", input.number)?;
-    note.push_str(": bad line: ")?;
+    write!(note, "uring: line {number}: bad line: ")?;
     push_flaw_of(alloc, &mut note, input.line.as_slice(), 1, Language::Steps)?;
     write_error(rt, note.as_bytes(), BAD_LINE)
 }
