@@ -78,13 +78,11 @@ pub(crate) fn run_crash(
     }
     let most = most.unwrap_or(DEFAULT_MOST);
     let question = question_of(rt.alloc(), kind, most, words)?;
-    let told = if is_each {
+    if is_each {
         run_each(rt, setup, asked, &question, most)
     } else {
         run_once(rt, &mut rt.stdin(), setup, asked, &question, most)
-    };
-    drop(question);
-    told
+    }
 }
 
 /// The question of all images that is asked, if one is.
@@ -94,12 +92,12 @@ fn question_of(
     most: u32,
     words: &[&str],
 ) -> Result<Option<Question>, Fault> {
-    match kind {
-        Kind::One => Ok(None),
-        Kind::Count => Ok(Some(Question::Count)),
-        Kind::All => Ok(Some(Question::All { most })),
-        Kind::Holds => Ok(Some(wanted(alloc, words, most)?)),
-    }
+    Ok(match kind {
+        Kind::One => None,
+        Kind::Count => Some(Question::Count),
+        Kind::All => Some(Question::All { most }),
+        Kind::Holds => Some(wanted(alloc, words, most)?),
+    })
 }
 
 /// Answers after each line of the trace that standard input has, up to that of the crash.
@@ -161,14 +159,12 @@ fn count_lines(text: &[u8]) -> u64 {
 }
 
 /// Writes the line that stands above an answer.
-fn write_head(rt: &HostRuntime, line: u64) -> Result<(), Fault> {
+fn write_head(rt: &HostRuntime, line: u64) -> Result<u8, Fault> {
     let head = format!(in rt.alloc(); "after line {line}:\n")?;
-    let written = write_out(rt, head.as_bytes());
-    drop(head);
-    written
+    write_out(rt, head.as_bytes(), DONE)
 }
 
-/// What is asked after the lines of a trace that count.
+/// What a crash leaves, or what is asked of all images, after the lines of a trace that count.
 fn run_once<R: Read>(
     rt: &HostRuntime,
     input: &mut R,
@@ -179,50 +175,17 @@ fn run_once<R: Read>(
 ) -> Result<u8, Fault>
     requires { 0 < asked.now.unit }
 {
-    match question {
-        Some(question) => run_question(rt, input, setup, asked, question, most),
-        None => run_one(rt, input, setup, asked),
-    }
-}
-
-/// What a crash leaves.
-fn run_one<R: Read>(
-    rt: &HostRuntime,
-    input: &mut R,
-    setup: &Setup,
-    asked: &Asked,
-) -> Result<u8, Fault>
-    requires { 0 < asked.now.unit }
-{
-    let mut output = Outlet::new(rt.stdout());
-    let left = crash(
-        rt.alloc(),
-        input,
-        &mut output,
-        &mut rt.stderr(),
-        setup,
-        asked,
-    );
-    Ok(status_after(output.unless_closed(left)?))
-}
-
-/// What is asked of all images.
-fn run_question<R: Read>(
-    rt: &HostRuntime,
-    input: &mut R,
-    setup: &Setup,
-    asked: &Asked,
-    question: &Question,
-    most: u32,
-) -> Result<u8, Fault>
-    requires { 0 < asked.now.unit }
-{
-    let mut output = Outlet::new(rt.stdout());
+    let (mut output, mut errors) = (Outlet::new(rt), rt.stderr());
+    let alloc = rt.alloc();
+    let Some(question) = question else {
+        let left = crash(alloc, input, &mut output, &mut errors, setup, asked);
+        return Ok(status_after(output.unless_closed(left)?));
+    };
     let replied = ask(
-        rt.alloc(),
+        alloc,
         input,
         &mut output,
-        &mut rt.stderr(),
+        &mut errors,
         setup,
         asked,
         question,
@@ -255,16 +218,16 @@ fn wanted(alloc: Global, words: &[&str], most: u32) -> Result<Question, Fault> {
 
 /// The bytes of which these are the digits, two for each, if they are that of some.
 fn bytes_of(alloc: Global, digits: &str) -> Result<Option<Vec<u8>>, AllocError> {
-    let mut bytes = Vec::new(alloc);
     let (pairs, rest) = digits.as_bytes().as_chunks::<2>();
+    if !rest.is_empty() || pairs.is_empty() {
+        return Ok(None);
+    }
+    let mut bytes = Vec::new(alloc);
     for pair in pairs {
         match (digit(pair[0]), digit(pair[1])) {
             (Some(high), Some(low)) => bytes.push(high.wrapping_mul(16).wrapping_add(low))?,
             _ => return Ok(None),
         }
-    }
-    if !rest.is_empty() || bytes.is_empty() {
-        return Ok(None);
     }
     Ok(Some(bytes))
 }

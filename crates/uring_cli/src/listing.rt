@@ -1,10 +1,11 @@
 //! The runs that tell what calls may come to.
 
 use crate::fault::Fault;
-use crate::powered::run_crashes;
+use crate::powered::{judge_failures, list_failures};
 use crate::streams::{Outlet, read_in, write_out};
 use crate::{DONE, NOT_SO, UNKNOWN, most_of};
 use std::alloc::Global;
+use std::fmt::Write;
 use uring_histories::write_history;
 use uring_litmus::{Chosen, Claim, Ending, Form, Judged, choose, judge, list, parts_of_line};
 use uring_options::Setup;
@@ -38,7 +39,7 @@ pub(crate) fn claim_of(is_never: bool, is_always: bool) -> Option<Claim> {
     }
 }
 
-/// The outcomes of the calls that standard input has: all, or what is asked of them.
+/// The outcomes of the calls that standard input has, or what a power failure may show of them: all, or what is asked of them.
 pub(crate) fn run_outcomes(
     rt: &HostRuntime,
     setup: &Setup,
@@ -46,40 +47,42 @@ pub(crate) fn run_outcomes(
     lines: &[&str],
 ) -> Result<u8, Fault> {
     let most = most_of(wanted.most);
-    if let Some(unit) = wanted.unit {
-        return run_crashes(rt, setup, wanted.claim, unit, lines, most);
-    }
-    match (wanted.claim, wanted.number) {
-        (Some(claim), _) => run_claim(rt, setup, claim, lines, most),
-        (None, Some(number)) => run_explained(rt, setup, wanted.form, most, number),
-        (None, None) => run_list(rt, setup, wanted.form, most),
+    match (wanted.claim, wanted.unit, wanted.number) {
+        (Some(claim), unit, _) => run_claim(rt, setup, claim, unit, lines, most),
+        (None, Some(unit), _) => list_failures(rt, setup, unit, most),
+        (None, None, Some(number)) => run_explained(rt, setup, wanted.form, most, number),
+        (None, None, None) => run_list(rt, setup, wanted.form, most),
     }
 }
 
 /// The list of outcomes.
 fn run_list(rt: &HostRuntime, setup: &Setup, form: Form, most: u64) -> Result<u8, Fault> {
-    let (mut input, mut output) = (rt.stdin(), Outlet::new(rt.stdout()));
+    let (mut input, mut output) = (rt.stdin(), Outlet::new(rt));
     let listed = list(rt.alloc(), &mut input, &mut output, setup, form, most);
     let is_all = output.unless_closed(listed)?;
     Ok(if is_all { DONE } else { UNKNOWN })
 }
 
-/// A claim of lines.
+/// A claim of lines, of all outcomes or of what a power failure in such units may show.
 fn run_claim(
     rt: &HostRuntime,
     setup: &Setup,
     claim: Claim,
+    unit: Option<u32>,
     lines: &[&str],
     most: u64,
 ) -> Result<u8, Fault> {
     let lines = all_parts(rt.alloc(), lines)?;
-    let ended = judge_lines(rt, setup, claim, lines.as_slice(), most);
+    let ended = match unit {
+        Some(unit) => judge_failures(rt, setup, claim, unit, lines.as_slice(), most),
+        None => judge_outcomes(rt, setup, claim, lines.as_slice(), most),
+    };
     drop(lines);
     ended
 }
 
-/// A claim of these lines.
-fn judge_lines(
+/// Whether a claim of these lines is so of all outcomes.
+fn judge_outcomes(
     rt: &HostRuntime,
     setup: &Setup,
     claim: Claim,
@@ -89,36 +92,36 @@ fn judge_lines(
     let input = read_in(rt)?;
     let mut reader = input.as_slice();
     let ended = match judge(rt.alloc(), &mut reader, setup, claim, lines, most)? {
-        Judged::Holds { count } => tell_holds(rt, "outcomes", count),
-        Judged::Unknown { count } => tell_unknown(rt, "outcomes", count, most),
+        Judged::Holds { count } => tell_so(rt, "outcomes", count, None),
+        Judged::Unknown { count } => tell_so(rt, "outcomes", count, Some(most)),
         Judged::Fails { ending } => write_shown(rt, input.as_slice(), setup, ending, NOT_SO),
     };
     drop(input);
     ended
 }
 
-/// Tells that a claim is so of so many.
-pub(crate) fn tell_holds(rt: &HostRuntime, what: &str, count: usize) -> Result<u8, Fault> {
-    tell(rt, &format!(in rt.alloc(); "so of {what} {count}\n")?, DONE)
-}
-
-/// Tells that a claim is so of so many or more, and that the walk stopped after so many paths.
-pub(crate) fn tell_unknown(
+/// Tells that a claim is so of so many, or of so many or more if the walk stopped after this many paths.
+pub(crate) fn tell_so(
     rt: &HostRuntime,
     what: &str,
     count: usize,
-    most: u64,
+    stopped: Option<u64>,
 ) -> Result<u8, Fault> {
-    let text = format!(in rt.alloc();
-        "not known, so of {what} {count} or more: stopped after {most} paths\n"
-    )?;
-    tell(rt, &text, UNKNOWN)
-}
-
-/// Writes a text to standard output, and returns a status.
-pub(crate) fn tell(rt: &HostRuntime, text: &str, status: u8) -> Result<u8, Fault> {
-    write_out(rt, text.as_bytes())?;
-    Ok(status)
+    let mut text = String::new(rt.alloc());
+    let status = match stopped {
+        None => {
+            write!(text, "so of {what} {count}\n")?;
+            DONE
+        }
+        Some(most) => {
+            write!(
+                text,
+                "not known, so of {what} {count} or more: stopped after {most} paths\n"
+            )?;
+            UNKNOWN
+        }
+    };
+    write_out(rt, text.as_bytes(), status)
 }
 
 /// Writes the history of an outcome of these calls, and returns a status.
@@ -129,7 +132,7 @@ fn write_shown(
     ending: Ending,
     status: u8,
 ) -> Result<u8, Fault> {
-    let mut output = Outlet::new(rt.stdout());
+    let mut output = Outlet::new(rt);
     let written = write_history(rt.alloc(), &mut output, setup, input, &ending);
     drop(ending);
     if output.unless_closed(written)? {
@@ -140,7 +143,7 @@ fn write_shown(
 }
 
 /// The parts of each of these lines.
-pub(crate) fn all_parts(alloc: Global, lines: &[&str]) -> Result<Vec<Vec<String>>, Fault> {
+fn all_parts(alloc: Global, lines: &[&str]) -> Result<Vec<Vec<String>>, Fault> {
     let mut all = Vec::new(alloc);
     match push_parts(alloc, &mut all, lines) {
         Ok(()) => Ok(all),
@@ -156,10 +159,12 @@ fn push_parts(alloc: Global, all: &mut Vec<Vec<String>>, lines: &[&str]) -> Resu
     if lines.is_empty() {
         return Err(Fault::NoLine(0));
     }
-    for (at, line) in lines.iter().enumerate() {
+    let mut number = 0u64;
+    for line in lines {
+        number = number.saturating_add(1);
         match parts_of_line(alloc, line)? {
             Some(parts) => all.push(parts)?,
-            None => return Err(Fault::NoLine((at as u64).saturating_add(1))),
+            None => return Err(Fault::NoLine(number)),
         }
     }
     Ok(())
@@ -177,17 +182,12 @@ fn run_explained(
     let mut reader = input.as_slice();
     let ended = match choose(rt.alloc(), &mut reader, setup, form, most, number)? {
         Chosen::Outcome { ending, .. } => write_shown(rt, input.as_slice(), setup, ending, DONE),
-        Chosen::Missing { count, is_all } => Err(missing(number, count as u64, is_all)),
+        Chosen::Missing {
+            count,
+            is_all: true,
+        } => Err(Fault::NoOutcome(number, count as u64)),
+        Chosen::Missing { count, .. } => Err(Fault::NotFound(number, count as u64)),
     };
     drop(input);
     ended
-}
-
-/// That there is no outcome of this number, but so many, which are all or those that were found.
-fn missing(number: u32, count: u64, is_all: bool) -> Fault {
-    if is_all {
-        Fault::NoOutcome(number, count)
-    } else {
-        Fault::NotFound(number, count)
-    }
 }

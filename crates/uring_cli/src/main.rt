@@ -1,11 +1,10 @@
 //! `uring`: the rings of io_uring, step by step, over lines of text.
 #![tactic(auto)]
 
-ghost use Rattle.std.specs.Prelude.{◌≤◌, length};
-
 mod crashing;
 mod fault;
 mod filled;
+mod lines;
 mod listing;
 mod moments;
 mod paged;
@@ -19,20 +18,20 @@ use crate::fault::Fault;
 use crate::filled::run_fill;
 use crate::listing::{Wanted, claim_of, run_outcomes};
 use crate::moments::run_early;
-use crate::paged::{run_page, run_recorded_page};
+use crate::paged::run_recorded_page;
 use crate::streams::Outlet;
-use crate::strict::StrictReader;
-use crate::telling::tell;
+use crate::strict::{StrictReader, tell_bad_step};
+use crate::telling::tell_fault;
 use std::alloc::{AllocError, Global};
 use std::env;
-use std::io::{ErrorKind, Read, Write};
+use std::io::ErrorKind;
 use std::process::ExitCode;
 use std::sync::Wait;
 use std::thread::Threads;
 use uring_check::{Ends, Verdict, check};
-use uring_litmus::Form as Shown;
+use uring_litmus::Form as ListForm;
 use uring_options::{Options, Setup, not_text, options};
-use uring_pictures::{Form, graph, timeline};
+use uring_pictures::{Form, graph, page, timeline};
 use uring_play::{play, play_shared};
 use uring_trace::{TraceFault, explain, trace};
 
@@ -54,7 +53,7 @@ pub(crate) const BAD_LINE: u8 = 4;
 fn main(rt: HostRuntime) -> ExitCode {
     match run(&rt, rt) {
         Ok(status) => ExitCode::from(status),
-        Err(fault) => ExitCode::from(tell(&rt, &fault)),
+        Err(fault) => ExitCode::from(tell_fault(&rt, &fault)),
     }
 }
 
@@ -74,28 +73,21 @@ fn run<R: Threads + Wait + Copy + Send + 'static>(
     ended
 }
 
-/// How many of these words are options: all, but those before a word `--` of `uring outcomes`, which the lines of a claim follow, and of `uring crash --holds`, which bytes follow.
-fn count_options(words: &[&str]) -> usize
-    ensures { result ≤ length words.now }
-{
-    let has_bytes = matches!(words, [_, "crash", ..]) && words.contains(&"--holds");
-    if !has_bytes && !matches!(words, [_, "outcomes", ..]) {
-        return words.len();
-    }
-    for at in 0..words.len() {
-        if words[at] == "--" {
-            return at;
+/// These words in two parts: the options, and what comes after a word `--`, if it is of `uring outcomes`, which the lines of a claim follow, or of `uring crash --holds`, which bytes follow.
+fn parts_of<'a, 'b>(words: &'b [&'a str]) -> (&'b [&'a str], &'b [&'a str]) {
+    let is_parted = match words {
+        [_, "outcomes", ..] => true,
+        [_, "crash", ..] => words.contains(&"--holds"),
+        _ => false,
+    };
+    if is_parted {
+        for at in 0..words.len() {
+            if words[at] == "--" {
+                return (&words[..at], &words[at + 1..]);
+            }
         }
     }
-    words.len()
-}
-
-/// The words after the one at this place.
-fn after<'a, 'b>(words: &'b [&'a str], place: usize) -> &'b [&'a str] {
-    if place < words.len() {
-        return &words[place + 1..];
-    }
-    &words[..0]
+    (words, &words[..0])
 }
 
 /// Does what these words ask for, and returns the exit status.
@@ -104,18 +96,17 @@ fn run_words<R: Threads + Wait + Copy + Send + 'static>(
     threads: R,
     words: &[&str],
 ) -> Result<u8, Fault> {
-    let count = count_options(words);
-    let lines = after(words, count);
-    match options(rt.alloc(), &words[..count])? {
+    let (words, lines) = parts_of(words);
+    match options(rt.alloc(), words)? {
         Options::Play(setup, workers) => {
-            let (mut input, mut output) = (rt.stdin(), Outlet::new(rt.stdout()));
+            let (mut input, mut output) = (rt.stdin(), Outlet::new(rt));
             let alloc = rt.alloc();
             let played = play(threads, alloc, &mut input, &mut output, &setup, workers);
             output.unless_closed(played)?;
             Ok(DONE)
         }
         Options::Shared(setup, workers) => {
-            let (mut input, mut output) = (rt.stdin(), Outlet::new(rt.stdout()));
+            let (mut input, mut output) = (rt.stdin(), Outlet::new(rt));
             let alloc = rt.alloc();
             let played = play_shared(threads, alloc, &mut input, &mut output, &setup, workers);
             output.unless_closed(played)?;
@@ -133,11 +124,11 @@ fn run_words<R: Threads + Wait + Copy + Send + 'static>(
             has_results,
         } => run_check(rt, &setup, is_all, ends_of(is_apart, has_results)),
         Options::CheckEarly { setup, most } => run_early(rt, &setup, most),
-        Options::Explain(setup) => run_explain(rt, &setup),
-        Options::Graph { setup, at } => run_graph(rt, &setup, at),
-        Options::Timeline(setup) => run_timeline(rt, &setup),
-        Options::Page(setup) => run_page(rt, &setup, Form::Page),
-        Options::Json(setup) => run_page(rt, &setup, Form::Json),
+        Options::Explain(setup) => show(rt, &setup, Shown::Explained),
+        Options::Graph { setup, at } => show(rt, &setup, Shown::Graph(at)),
+        Options::Timeline(setup) => show(rt, &setup, Shown::Timeline),
+        Options::Page(setup) => show(rt, &setup, Shown::Page(Form::Page)),
+        Options::Json(setup) => show(rt, &setup, Shown::Page(Form::Json)),
         Options::CheckPage(setup) => run_recorded_page(rt, &setup, Form::Page),
         Options::CheckJson(setup) => run_recorded_page(rt, &setup, Form::Json),
         Options::Crash {
@@ -170,7 +161,7 @@ fn run_words<R: Threads + Wait + Copy + Send + 'static>(
         } => {
             let wanted = Wanted {
                 unit: is_crash.then_some(unit),
-                form: Shown {
+                form: ListForm {
                     is_sorted,
                     has_files,
                 },
@@ -211,7 +202,7 @@ fn run_steps(rt: &HostRuntime, setup: &Setup, is_echo: bool, is_strict: bool) ->
 
 /// A trace over the standard streams.
 fn run_trace(rt: &HostRuntime, setup: &Setup, is_echo: bool) -> Result<u8, Fault> {
-    let (mut input, mut output) = (rt.stdin(), Outlet::new(rt.stdout()));
+    let (mut input, mut output) = (rt.stdin(), Outlet::new(rt));
     let traced = trace(rt.alloc(), &mut input, &mut output, setup, is_echo);
     output.unless_closed(traced)?;
     Ok(DONE)
@@ -219,28 +210,17 @@ fn run_trace(rt: &HostRuntime, setup: &Setup, is_echo: bool) -> Result<u8, Fault
 
 /// A trace over the standard streams that ends at the first bad line.
 fn run_strict(rt: &HostRuntime, setup: &Setup, is_echo: bool) -> Result<u8, Fault> {
-    let mut input = StrictReader::new(rt.alloc(), rt.stdin())?;
-    let mut output = Outlet::new(rt.stdout());
+    let mut input = StrictReader::new(rt)?;
+    let mut output = Outlet::new(rt);
     let traced = trace(rt.alloc(), &mut input, &mut output, setup, is_echo);
-    let is_refused = input.is_refused();
-    let told = tell_strict(rt, &input);
+    let is_refused = input.is_refused;
+    let told = tell_bad_step(rt, &input);
     drop(input);
     if is_refused {
         return Err(Fault::Trace(TraceFault::Memory));
     }
     output.unless_closed(traced)?;
     told
-}
-
-/// Tells the bad line that a strict trace met, if it met one, and returns the exit status.
-fn tell_strict<R: Read + Drop>(rt: &HostRuntime, input: &StrictReader<R>) -> Result<u8, Fault> {
-    let Some(note) = input.note() else {
-        return Ok(DONE);
-    };
-    match rt.stderr().write_all(note.as_bytes()) {
-        Ok(()) => Ok(BAD_LINE),
-        Err(_) => Err(Fault::Trace(TraceFault::Write)),
-    }
 }
 
 /// What is asked of the ends of running requests: with `--results` they are apart from files too.
@@ -256,41 +236,44 @@ fn ends_of(is_apart: bool, has_results: bool) -> Ends {
 
 /// A check of the trace that standard input has.
 fn run_check(rt: &HostRuntime, setup: &Setup, is_all: bool, ends: Ends) -> Result<u8, Fault> {
-    let (mut input, mut output) = (rt.stdin(), Outlet::new(rt.stdout()));
+    let (mut input, mut output) = (rt.stdin(), Outlet::new(rt));
     let checked = check(rt.alloc(), &mut input, &mut output, setup, is_all, ends);
     Ok(status_of(output.unless_closed(checked)?))
 }
 
-/// An explained trace over the standard streams.
-fn run_explain(rt: &HostRuntime, setup: &Setup) -> Result<u8, Fault> {
-    let (mut input, mut output) = (rt.stdin(), Outlet::new(rt.stdout()));
-    let explained = explain(rt.alloc(), &mut input, &mut output, &mut rt.stderr(), setup);
-    Ok(status_after(output.unless_closed(explained)?))
+/// What is shown of a trace.
+#[derive(Clone, Copy)]
+enum Shown {
+    /// Its steps, explained.
+    Explained,
+
+    /// A graph of it after this line, or after all.
+    Graph(Option<u32>),
+
+    /// A timeline of it.
+    Timeline,
+
+    /// A page of it, or its data.
+    Page(Form),
 }
 
-/// The graph of the trace that standard input has.
-fn run_graph(rt: &HostRuntime, setup: &Setup, at: Option<u32>) -> Result<u8, Fault> {
-    let at = match at {
-        Some(line) => Some(u64::from(line)),
-        None => None,
+/// Shows this of the trace that standard input has.
+fn show(rt: &HostRuntime, setup: &Setup, shown: Shown) -> Result<u8, Fault> {
+    let (mut input, mut output) = (rt.stdin(), Outlet::new(rt));
+    let (alloc, mut errors) = (rt.alloc(), rt.stderr());
+    let ended = match shown {
+        Shown::Explained => explain(alloc, &mut input, &mut output, &mut errors, setup),
+        Shown::Graph(at) => {
+            let at = match at {
+                Some(line) => Some(u64::from(line)),
+                None => None,
+            };
+            graph(alloc, &mut input, &mut output, &mut errors, setup, at)
+        }
+        Shown::Timeline => timeline(alloc, &mut input, &mut output, &mut errors, setup),
+        Shown::Page(form) => page(alloc, &mut input, &mut output, &mut errors, setup, form),
     };
-    let (mut input, mut output) = (rt.stdin(), Outlet::new(rt.stdout()));
-    let drawn = graph(
-        rt.alloc(),
-        &mut input,
-        &mut output,
-        &mut rt.stderr(),
-        setup,
-        at,
-    );
-    Ok(status_after(output.unless_closed(drawn)?))
-}
-
-/// The timeline of the trace that standard input has.
-fn run_timeline(rt: &HostRuntime, setup: &Setup) -> Result<u8, Fault> {
-    let (mut input, mut output) = (rt.stdin(), Outlet::new(rt.stdout()));
-    let drawn = timeline(rt.alloc(), &mut input, &mut output, &mut rt.stderr(), setup);
-    Ok(status_after(output.unless_closed(drawn)?))
+    Ok(status_after(output.unless_closed(ended)?))
 }
 
 /// The exit status after lines of which some may have been bad.

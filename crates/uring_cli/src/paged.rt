@@ -1,28 +1,14 @@
 //! The runs of which a page or its data are written.
 
 use crate::fault::Fault;
+use crate::lines::line_of;
+use crate::status_of;
 use crate::streams::{Outlet, read_in};
-use crate::{status_after, status_of};
 use std::alloc::{AllocError, Global};
 use uring_check::{Ends, Said, Verdict, check, said_by};
 use uring_options::Setup;
-use uring_pictures::{Form, page, recorded_page};
-use uring_text::KeptLine;
+use uring_pictures::{Form, recorded_page};
 use uring_trace::TraceFault;
-
-/// A page of the trace that standard input has, or its data.
-pub(crate) fn run_page(rt: &HostRuntime, setup: &Setup, form: Form) -> Result<u8, Fault> {
-    let (mut input, mut output) = (rt.stdin(), Outlet::new(rt.stdout()));
-    let drawn = page(
-        rt.alloc(),
-        &mut input,
-        &mut output,
-        &mut rt.stderr(),
-        setup,
-        form,
-    );
-    Ok(status_after(output.unless_closed(drawn)?))
-}
 
 /// A page of the recorded trace that standard input has, or its data.
 pub(crate) fn run_recorded_page(rt: &HostRuntime, setup: &Setup, form: Form) -> Result<u8, Fault> {
@@ -38,7 +24,7 @@ fn draw_recorded(rt: &HostRuntime, trace: &[u8], setup: &Setup, form: Form) -> R
     let mut report = Vec::new(alloc);
     let verdict = verdict_on(alloc, trace, &mut report, setup)?;
     let setup = judged_by(alloc, trace, setup)?;
-    let mut output = Outlet::new(rt.stdout());
+    let mut output = Outlet::new(rt);
     let written = recorded_page(alloc, trace, report.as_slice(), &mut output, &setup, form);
     drop(report);
     output.unless_closed(written)?;
@@ -47,19 +33,11 @@ fn draw_recorded(rt: &HostRuntime, trace: &[u8], setup: &Setup, form: Form) -> R
 
 /// The set-up by which a recorded trace is judged: the one that its first line says, else this one.
 fn judged_by(alloc: Global, trace: &[u8], setup: &Setup) -> Result<Setup, AllocError> {
-    let mut line = KeptLine::new(alloc)?;
-    for byte in trace {
-        if *byte == b'\n' {
-            break;
-        }
-        line.push(*byte);
+    let line = line_of(alloc, trace, 1)?;
+    match said_by(alloc, &line)? {
+        Said::Says(said) => Ok(said),
+        Said::Nothing | Said::Misses => Ok(*setup),
     }
-    let said = said_by(alloc, &line);
-    drop(line);
-    Ok(match said? {
-        Said::Says(said) => said,
-        Said::Nothing | Said::Misses => *setup,
-    })
 }
 
 /// The verdict on a recorded trace, and what is reported of it up to the first line that isn't lawful.

@@ -1,21 +1,21 @@
 //! The standard streams: all of the input, and an output of which it is known whether its reader has gone.
 
 use crate::fault::Fault;
-use std::io::{self, ErrorKind, Read, Write};
+use std::io::{self, ErrorKind, Read, Stdout, Write};
 use uring_trace::TraceFault;
 
-/// A writer that remembers that nobody reads what it writes: its pipe was closed at the other end.
+/// Standard output, with whether nobody reads it any more: its pipe was closed at the other end.
 #[derive(Drop)]
-pub struct Outlet<W: Write + Drop> {
-    writer: W,
+pub struct Outlet {
+    writer: Stdout,
     is_closed: bool,
 }
 
-impl<W: Write + Drop> Outlet<W> {
-    /// Over this writer.
-    pub fn new(writer: W) -> Outlet<W> {
+impl Outlet {
+    /// Standard output, of which nothing is known yet.
+    pub fn new(rt: &HostRuntime) -> Outlet {
         Outlet {
-            writer,
+            writer: rt.stdout(),
             is_closed: false,
         }
     }
@@ -33,7 +33,7 @@ impl<W: Write + Drop> Outlet<W> {
     }
 }
 
-impl<W: Write + Drop> Write for Outlet<W> {
+impl Write for Outlet {
     fn write(&mut self, buf: &[u8]) -> io::Result<usize> {
         match self.writer.write(buf) {
             Ok(count) => Ok(count),
@@ -51,12 +51,20 @@ impl<W: Write + Drop> Write for Outlet<W> {
     }
 }
 
-/// Writes to standard output.
-pub(crate) fn write_out(rt: &HostRuntime, bytes: &[u8]) -> Result<(), Fault> {
-    let mut output = Outlet::new(rt.stdout());
+/// Writes to standard output, and returns this exit status.
+pub(crate) fn write_out(rt: &HostRuntime, bytes: &[u8], status: u8) -> Result<u8, Fault> {
+    let mut output = Outlet::new(rt);
     match output.write_all(bytes) {
-        Ok(()) => Ok(()),
+        Ok(()) => Ok(status),
         Err(_) if output.is_closed => Err(Fault::Closed),
+        Err(_) => Err(Fault::Trace(TraceFault::Write)),
+    }
+}
+
+/// Writes to standard error, and returns this exit status.
+pub(crate) fn write_error(rt: &HostRuntime, bytes: &[u8], status: u8) -> Result<u8, Fault> {
+    match rt.stderr().write_all(bytes) {
+        Ok(()) => Ok(status),
         Err(_) => Err(Fault::Trace(TraceFault::Write)),
     }
 }

@@ -1,121 +1,79 @@
 //! The lines of a strict trace: those before the first bad one.
 
+use crate::fault::Fault;
+use crate::lines::push_flaw_of;
+use crate::streams::write_error;
+use crate::{BAD_LINE, DONE};
 use std::alloc::{AllocError, Global};
 use std::cmp::min;
 use std::fmt::Write;
-use std::io::{self, BufReader, ErrorKind, Read};
-use uring_text::KeptLine;
-use uring_trace::{Language, TraceFault, push_line_flaw, read_step};
+use std::io::{self, BufRead, BufReader, ErrorKind, Read, Stdin};
+use uring_trace::{Language, TraceFault, read_step};
 
-/// Most bytes of a line that are handed on, its end among them: a longer one is bad.
+/// Most bytes of a line that is handed on, its end among them: a longer one is bad.
 const LONGEST: usize = 301;
 
-/// A reader that ends before the first line of another that is no step.
+/// A reader of standard input that ends before the first line that is no step.
 #[derive(Drop)]
-pub struct StrictReader<R: Read + Drop> {
+pub(crate) struct StrictReader {
     alloc: Global,
-    reader: BufReader<R>,
-    // The line that is handed on, with its end, and how much of it was.
+    reader: BufReader<Stdin>,
+    // The line that is handed on, with its end, and how much of it was. A bad one stays, and none of it is handed on.
     line: Vec<u8>,
     given: usize,
-    // The same line as it is judged.
-    kept: KeptLine,
     // Its number, from 1 on.
     number: u64,
-    // What is told of the bad line, if there was one.
-    note: Option<String>,
-    // Whether memory was refused.
-    is_refused: bool,
+    is_bad: bool,
+    /// Whether memory was refused.
+    pub is_refused: bool,
 }
 
-impl<R: Read + Drop> StrictReader<R> {
-    /// A reader of the lines of `reader`, before the first one.
-    pub fn new(alloc: Global, reader: R) -> Result<StrictReader<R>, TraceFault> {
-        let Ok(reader) = BufReader::new(alloc, reader) else {
-            return Err(TraceFault::Memory);
+impl StrictReader {
+    /// A reader of its lines, before the first one.
+    pub fn new(rt: &HostRuntime) -> Result<StrictReader, Fault> {
+        let alloc = rt.alloc();
+        let Ok(reader) = BufReader::new(alloc, rt.stdin()) else {
+            return Err(Fault::Trace(TraceFault::Memory));
         };
         Ok(StrictReader {
             alloc,
             reader,
             line: Vec::with_capacity(alloc, LONGEST)?,
             given: 0,
-            kept: KeptLine::new(alloc)?,
             number: 0,
-            note: None,
+            is_bad: false,
             is_refused: false,
         })
     }
 
-    /// Whether memory was refused.
-    pub fn is_refused(&self) -> bool {
-        self.is_refused
-    }
-
-    /// What is told of the bad line, if there was one: `uring: line N: bad line: ` and what is wrong with it.
-    pub fn note(&self) -> Option<&str> {
-        match &self.note {
-            Some(note) => Some(note.as_str()),
-            None => None,
-        }
-    }
-
     /// Takes in the next line. Nothing is left to hand on at the end, and from the first bad line on.
     fn next_line(&mut self) -> io::Result<()> {
+        if self.is_bad {
+            return Ok(());
+        }
         self.line.clear();
         self.given = 0;
-        if self.note.is_some() {
-            return Ok(());
-        }
         self.number = self.number.saturating_add(1);
-        self.kept.clear();
-        self.read_line()?;
-        if self.line.is_empty() {
+        let mut reader = self.reader.by_ref().take(LONGEST as u64);
+        if reader.read_until(b'\n', &mut self.line)? == 0 {
             return Ok(());
         }
-        if self.judge().is_err() {
-            self.is_refused = true;
-            return Err(io::Error::from(ErrorKind::OutOfMemory));
-        }
-        Ok(())
-    }
-
-    /// Reads to the end of the line or of the input.
-    fn read_line(&mut self) -> io::Result<()> {
-        for _ in 0..u64::MAX {
-            let mut byte = [0];
-            match self.reader.read(&mut byte) {
-                Ok(0) => return Ok(()),
-                Ok(_) => {}
-                Err(error) if error.kind() == ErrorKind::Interrupted => continue,
-                Err(error) => return Err(error),
+        match is_step(self.alloc, self.line.as_slice()) {
+            Ok(true) => {}
+            Ok(false) => {
+                self.is_bad = true;
+                self.given = self.line.len();
             }
-            if self.line.len() < LONGEST {
-                self.line.push(byte[0])?;
+            Err(_) => {
+                self.is_refused = true;
+                return Err(io::Error::from(ErrorKind::OutOfMemory));
             }
-            if byte[0] == b'\n' {
-                return Ok(());
-            }
-            self.kept.push(byte[0]);
         }
-        Ok(())
-    }
-
-    /// Keeps the line if it is a step; else notes what is wrong with it.
-    fn judge(&mut self) -> Result<(), AllocError> {
-        if is_step(self.alloc, &self.kept)? {
-            return Ok(());
-        }
-        self.line.clear();
-        let number = self.number;
-        let mut note = format!(in self.alloc; "uring: line {number}: bad line: ")?;
-        push_line_flaw(self.alloc, &mut note, &self.kept, Language::Steps)?;
-        note.push_str("\n")?;
-        self.note = Some(note);
         Ok(())
     }
 }
 
-impl<R: Read + Drop> Read for StrictReader<R> {
+impl Read for StrictReader {
     fn read(&mut self, buf: &mut [u8]) -> io::Result<usize> {
         if self.given >= self.line.len() {
             self.next_line()?;
@@ -128,10 +86,26 @@ impl<R: Read + Drop> Read for StrictReader<R> {
     }
 }
 
-/// Whether a line is a step.
-fn is_step(alloc: Global, line: &KeptLine) -> Result<bool, AllocError> {
-    match line.whole() {
-        Some(bytes) => Ok(read_step(alloc, bytes)?.is_some()),
-        None => Ok(false),
+/// Whether a line is a step, its end left out.
+fn is_step(alloc: Global, line: &[u8]) -> Result<bool, AllocError> {
+    let bytes = match line {
+        [bytes @ .., b'\n'] => bytes,
+        _ => line,
+    };
+    if bytes.len() >= LONGEST {
+        return Ok(false);
     }
+    Ok(read_step(alloc, bytes)?.is_some())
+}
+
+/// Tells the bad line that a strict trace met, if it met one, and returns the exit status.
+pub(crate) fn tell_bad_step(rt: &HostRuntime, input: &StrictReader) -> Result<u8, Fault> {
+    if !input.is_bad {
+        return Ok(DONE);
+    }
+    let (alloc, number) = (rt.alloc(), input.number);
+    let mut note = String::new(alloc);
+    write!(note, "uring: line {number}: bad line: ")?;
+    push_flaw_of(alloc, &mut note, input.line.as_slice(), 1, Language::Steps)?;
+    write_error(rt, note.as_bytes(), BAD_LINE)
 }

@@ -12,13 +12,13 @@ const FAILED: u8 = 1;
 const REFUSED: u8 = 2;
 
 /// The exit status if there are too many images to list.
-const UNKNOWN: u8 = 3;
+const TOO_MANY: u8 = 3;
 
 /// The line if memory was refused.
 const OUT_OF_MEMORY: &str = "uring: out of memory\n";
 
 /// Writes what a fault says to standard error, and returns the exit status, 1, 2 or 3, also if the write fails: 2 for a fault of the command line or a call for help, whose text is clap's own, 3 for too many images, and 1 for any other, refused memory among them. Of a pipe that was closed it says nothing.
-pub fn tell(rt: &HostRuntime, fault: &Fault) -> u8 {
+pub fn tell_fault(rt: &HostRuntime, fault: &Fault) -> u8 {
     match text_of(rt.alloc(), fault) {
         Ok(text) => {
             write(rt, text.as_str());
@@ -42,7 +42,7 @@ fn status_of(fault: &Fault) -> u8 {
         Fault::Options(fault) if !fault.is_memory() => REFUSED,
         Fault::NoFile(..) | Fault::NoLine(_) | Fault::NoOutcome(..) => REFUSED,
         Fault::NotFound(..) | Fault::NoBytes => REFUSED,
-        Fault::TooMany(_) | Fault::ManyLeft(_) => UNKNOWN,
+        Fault::TooMany(_) | Fault::ManyLeft(_) => TOO_MANY,
         _ => FAILED,
     }
 }

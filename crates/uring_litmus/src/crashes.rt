@@ -2,9 +2,10 @@
 
 use crate::calls::entries_in;
 use crate::claims::{Claim, shows_some, so_by};
-use crate::lines::{join, push_copy, sort_once};
+use crate::lines::{join, sort_once};
 use crate::listing::{listed, write_text};
 use crate::parts::{add_completions, push_hex};
+use crate::wanted::split_parts;
 use std::alloc::{AllocError, Global};
 use std::io::{Read, Write};
 use uring_entry::Setup;
@@ -154,17 +155,23 @@ fn parts_of_crash(alloc: Global, crash: &Crash) -> Result<Vec<String>, AllocErro
     let mut parts = Vec::new(alloc);
     add_completions(alloc, &mut parts, crash.posted())?;
     for (fd, bytes) in crash.left().iter().enumerate() {
-        parts.push(text_of_left(alloc, fd, bytes.as_slice())?)?;
+        add_left(alloc, &mut parts, fd, bytes.as_slice())?;
     }
     Ok(parts)
 }
 
-/// What is left of a file, as text.
-fn text_of_left(alloc: Global, fd: usize, bytes: &[u8]) -> Result<String, AllocError> {
+/// Adds the text of what is left of a file.
+fn add_left(
+    alloc: Global,
+    parts: &mut Vec<String>,
+    fd: usize,
+    bytes: &[u8],
+) -> Result<(), AllocError> {
     let len = bytes.len();
     let mut text = format!(in alloc; "file {fd} len {len} data ")?;
     push_hex(alloc, &mut text, bytes)?;
-    Ok(text)
+    parts.push(text)?;
+    Ok(())
 }
 
 /// The first of these lines of which the claim isn't so, if there is one.
@@ -189,10 +196,7 @@ fn is_so_of(
     claim: Claim,
     lines: &[Vec<String>],
 ) -> Result<bool, AllocError> {
-    let mut parts = Vec::new(alloc);
-    for part in line.split(", ") {
-        push_copy(alloc, &mut parts, part)?;
-    }
+    let parts = split_parts(alloc, line)?;
     let is_shown = shows_some(parts.as_slice(), lines);
     drop(parts);
     Ok(so_by(claim, is_shown))

@@ -6,15 +6,22 @@ use uring_text::{spelled_long, spelled_number, spelled_signed, split_tokens};
 
 /// The parts of a line, if each is one that an outcome may have, or what a power failure shows: a completion, a file, or `none`.
 pub fn parts_of_line(alloc: Global, line: &str) -> Result<Option<Vec<String>>, AllocError> {
-    let mut parts = Vec::new(alloc);
-    for part in line.split(", ") {
-        if !is_part(alloc, part)? {
-            drop(parts);
+    let parts = split_parts(alloc, line)?;
+    for part in parts.as_slice() {
+        if !is_part(alloc, part.as_str())? {
             return Ok(None);
         }
-        push_copy(alloc, &mut parts, part)?;
     }
     Ok(Some(parts))
+}
+
+/// A line cut at each comma with a blank after it.
+pub(crate) fn split_parts(alloc: Global, line: &str) -> Result<Vec<String>, AllocError> {
+    let mut parts = Vec::new(alloc);
+    for part in line.split(", ") {
+        push_copy(alloc, &mut parts, part)?;
+    }
+    Ok(parts)
 }
 
 /// What a part may be: words, and values in brackets.
@@ -31,15 +38,14 @@ const FILE: [&str; 10] = [
 /// Whether an outcome may have this part.
 fn is_part(alloc: Global, part: &str) -> Result<bool, AllocError> {
     let tokens = split_tokens(alloc, part.as_bytes())?;
-    let is_part = match tokens.len() {
-        1 => fit(tokens.as_slice(), &NONE),
-        4 => fit(tokens.as_slice(), &COMPLETION),
-        6 => fit(tokens.as_slice(), &LEFT),
-        10 => fit(tokens.as_slice(), &FILE),
-        _ => false,
+    let wanted = match tokens.len() {
+        1 => NONE.as_slice(),
+        4 => COMPLETION.as_slice(),
+        6 => LEFT.as_slice(),
+        10 => FILE.as_slice(),
+        _ => return Ok(false),
     };
-    drop(tokens);
-    Ok(is_part)
+    Ok(fit(tokens.as_slice(), wanted))
 }
 
 /// Whether these tokens are such words and values, each in its place.
