@@ -25,14 +25,6 @@ at_place (y ∷ xs) (suc k) x at =
     let r = at_place xs k x at in
     (suc r.0, omega arith, r.2)
 
--- what is in the list is at some place
-pub place_of : {X : Type 0} (xs : List X) (x : X) → Contains xs x → (k : ℕ) × (slice_get xs k ≡ Some x)
-place_of [] x (k, low, is) = absurd (omega arith)
-place_of (y ∷ xs) x (zero, low, is) = (zero, ap Some is)
-place_of (y ∷ xs) x (suc k, low, is) =
-    let r = place_of xs x (k, omega arith, is) in
-    (suc r.0, r.1)
-
 -- what has a line at a place
 pub zip_at : {X Y : Type 0} (R : X → Y → Type 0) (xs : List X) (ys : List Y) (k : ℕ) (y : Y) → AllZip R xs ys
     → slice_get ys k ≡ Some y → (x : X) × (slice_get xs k ≡ Some x) × R x y
