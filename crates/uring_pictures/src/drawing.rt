@@ -53,7 +53,7 @@ pub fn graph_in<M: TextMemory, R: Read, W: Write, E: Write>(
 {
     let mut moment = Moment::new_in(memory, alloc, setup, at)?;
     let drawn = draw_all(memory, alloc, setup, &mut moment, reader, writer, errors);
-    moment.let_go();
+    drop(moment);
     drawn
 }
 

@@ -55,9 +55,6 @@ impl Moment {
         &self.accepted
     }
 
-    /// Lets it go.
-    pub(crate) fn let_go(self) {}
-
     /// Whether the unfinished line counts.
     fn counts(&self) -> bool
         ensures { result ≡ does_count self.now.at self.now.number }

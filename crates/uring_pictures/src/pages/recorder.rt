@@ -59,9 +59,6 @@ impl Recorder {
         })
     }
 
-    /// Lets it go.
-    pub(crate) fn let_go(self) {}
-
     /// Looks at the machine before the line is answered.
     fn look<M: TextMemory>(&mut self, memory: &M, machine: &Machine) -> Result<(), AllocError>
         ensures { ((n : ℕ) → M.grants memory.now n) → IsOk result }

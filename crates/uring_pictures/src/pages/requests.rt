@@ -108,7 +108,7 @@ fn push_request<M: TextMemory>(
     let values = [
         Value::Text(separator(number == 0)),
         Value::Number(number),
-        Value::Number(entry.user_data()),
+        Value::Data(entry),
         Value::Operation(entry),
         Value::Flags(entry),
         Value::Number(request.call),
