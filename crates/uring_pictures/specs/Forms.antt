@@ -1,10 +1,10 @@
 -- Glue. What a form with values writes, where a clause of ours says it of each value.
-use Rattle.std.specs.Prelude.{ℕ, Bool, true, false, ◌&&◌, nat_lt, nat_eq, List, [], ◌∷◌, ◌++◌, Some, None, if◌then◌else◌}
+use Rattle.std.specs.Prelude.{ℕ, Bool, true, false, ◌&&◌, nat_lt, nat_eq, List, [], ◌∷◌, ◌++◌, Some, if◌then◌else◌}
 use Rattle.std.specs.Fmt.{decimal, signed_decimal}
-use Rattle.uring_entry.specs.Layout.{has, user_data_of}
+use Rattle.uring_entry.specs.Layout.{has}
 use Rattle.uring_text.specs.Forms.{operation_text}
 use Rattle.uring_trace.specs.Reasons.{why_text, since_text}
-use Rattle.uring_pictures.specs.Graphs.{shape_of, standing_text}
+use Rattle.uring_pictures.specs.Graphs.{standing_text}
 use Rattle.uring_pictures.specs.declared.form_text.Value.{Value}
 use Rattle.uring_pictures.specs.declared.form_text.Value.TheVariants as value
 
@@ -16,9 +16,7 @@ value_text (value.Text more) = more.now
 value_text (value.Operation e) = operation_text e.now
 value_text (value.Flag e flag name) = if has flag.0 e.now then name.now else []
 value_text (value.Member name (Some n)) = name.now ++ decimal n
-value_text (value.Data e) = decimal (user_data_of e.now)
 value_text (value.Reason why) = why_text why
-value_text (value.Shape why) = shape_of why
 value_text (value.Standing why) = standing_text why
 value_text (value.Since m since) = since_text m since
 value_text _ = []
@@ -30,9 +28,7 @@ is_known (value.Text more) = true
 is_known (value.Operation e) = true
 is_known (value.Flag e flag name) = true
 is_known (value.Member name number) = true
-is_known (value.Data e) = true
 is_known (value.Reason why) = true
-is_known (value.Shape why) = true
 is_known (value.Standing why) = true
 is_known (value.Since m since) = true
 is_known _ = false

@@ -73,7 +73,7 @@ fn draw_all<M: TextMemory, R: Read, W: Write, E: Write>(
     ensures granted { ((n : ℕ) → M.grants memory.now n) → result ≢ Err TraceFault.Memory }
 {
     let bad = watch_trace(memory, alloc, setup, moment, reader, errors)?;
-    match write_graph(memory, alloc, moment.accepted(), writer) {
+    match write_graph(memory, alloc, &moment.accepted, writer) {
         Ok(()) => Ok(bad),
         Err(fault) => Err(fault),
     }

@@ -3,7 +3,6 @@
 ghost use Rattle.std.specs.Prelude.{◌≡◌, ◌++◌, ◌∷◌, ◌<◌, [], ℕ, true, IsOk, OnOk, string_bytes};
 ghost use Rattle.uring_pictures.specs.Forms.{form_text, is_known, is_told, value_text};
 
-use crate::node_text::shape_of;
 use itoa::Buffer;
 use std::alloc::{AllocError, Global};
 use uring_entry::{Sqe, SqeFlags};
@@ -61,17 +60,11 @@ pub(crate) enum Value<'a> {
     /// This text, if the entry has this flag.
     Flag(&'a Sqe, SqeFlags, &'a str),
 
-    /// The user data of an entry.
-    Data(&'a Sqe),
-
     /// Why a request stands as it does, in the words of `explain`.
     Reason(Why),
 
     /// The same in a graph, where arrows tell for whom it waits.
     Standing(Why),
-
-    /// The shape of the node of a request that stands so.
-    Shape(Why),
 
     /// Why this request is waited for.
     Since(u64, Since),
@@ -128,11 +121,9 @@ fn push_value<M: TextMemory>(
         Value::Member(_, None) => Ok(()),
         Value::Flag(entry, flag, name) if entry.has(*flag) => push_text(memory, text, name),
         Value::Flag(..) => Ok(()),
-        Value::Data(entry) => push_number(memory, text, entry.user_data()),
         Value::Reason(why) => push_why_in(memory, text, *why),
         Value::Standing(Why::Waits { .. }) => push_text(memory, text, "waits"),
         Value::Standing(why) => push_why_in(memory, text, *why),
-        Value::Shape(why) => push_text(memory, text, shape_of(*why)),
         Value::Since(least, since) => push_since_in(memory, text, *least, *since),
         Value::Wide(number) => push_wide(memory, text, *number),
     }

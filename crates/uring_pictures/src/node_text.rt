@@ -72,7 +72,7 @@ fn push_node<M: TextMemory>(
 {
     let values = [
         Value::Number(number),
-        Value::Shape(why),
+        Value::Text(shape_of(why)),
         Value::Number(number),
         Value::Operation(entry),
         Value::Flag(entry, SqeFlags::IO_DRAIN, ", drain"),
@@ -80,7 +80,7 @@ fn push_node<M: TextMemory>(
         Value::Flag(entry, SqeFlags::IO_HARDLINK, ", hard link"),
         Value::Flag(entry, SqeFlags::ASYNC, ", async"),
         Value::Flag(entry, SqeFlags::CQE_SKIP_SUCCESS, ", skip success"),
-        Value::Data(entry),
+        Value::Number(entry.user_data()),
         Value::Standing(why),
     ];
     let form = "@ [shape=@, label=\"@: @@@@@@\\nuser data @\\n@\"];";
@@ -88,7 +88,7 @@ fn push_node<M: TextMemory>(
 }
 
 /// The shape of a node that stands so.
-pub(crate) fn shape_of(why: Why) -> &'static str
+fn shape_of(why: Why) -> &'static str
     ensures { result.now ≡ shape_of why }
 {
     match why {
